@@ -1,0 +1,193 @@
+-- What may follow what: each fact by the kind of one byte.
+use Rattle.std.proofs.Common.{ℕ, List, [], ◌∷◌, ◌++◌, ◌≡◌, refl, ap}
+use Rattle.std.specs.Prelude.{Bool, true, false, Some, None, eqb}
+use Rattle.std.proofs.lemmas.Bool.{eqb-true, both_ways, false_from_ne_true}
+use Rattle.cbor_edn_parts.specs.declared.bytes.Kind.{Kind}
+use Rattle.cbor_edn_parts.specs.declared.bytes.Kind.TheVariants.{Blank, Tab, Lf, Slash, Hash, Comma, Open, Close, Plus, Minus, Zero, Digit, HexLetter, X}
+use Rattle.cbor_edn_parts.specs.Bytes.{kind, follows, closing, begins, Follow, Closes, Begins, is_closed}
+use Rattle.cbor_edn_parts.specs.Lex.{munch, is_token}
+use Rattle.cbor_edn_parts.specs.SpaceTokens.{space, separator, space_step, space_final, separator_step, separator_final, before, after, is_msc}
+use Rattle.cbor_edn_parts.specs.NumberTokens.{number, number_step, number_final}
+use Rattle.cbor_edn_parts.specs.declared.space.Within.{Within}
+use Rattle.cbor_edn_parts.specs.declared.space.Within.TheVariants.{Between}
+use Rattle.cbor_edn_parts.specs.declared.space.Around.{Around}
+use Rattle.cbor_edn_parts.specs.declared.space.Around.TheVariants.{Before, After}
+use Rattle.cbor_edn_parts.specs.declared.number.Reached.{Reached}
+use Rattle.cbor_edn_parts.specs.declared.number.Reached.TheVariants.{Start}
+use Rattle.cbor_edn_core.specs.Items.{Row, Elements}
+use Rattle.cbor_edn_core.specs.Spelling.{ending}
+use Rattle.cbor_edn_core.specs.Trees.{OneItem, OneEntry, Rest, Tree, NumberTree, ListTree, ElementTree, LastTree, MoreTree, onto, Valid}
+use Rattle.cbor_edn_parts.proofs.Tokens.{Halts, token_texts}
+
+-- A byte of a kind is none of another kind.
+pub differs : (p : Kind → Bool) (c b : ℕ) → p (kind c) ≡ true → p (kind b) ≡ false → eqb c b ≡ false
+differs p c b h n = false_from_ne_true (eqb c b) (λ e. both_ways (p (kind b)) n (rw (eqb-true c b e) at h))
+
+-- What begins no space and no separator.
+abbrev pub solid : Kind → Bool
+solid Blank = false
+solid Tab = false
+solid Lf = false
+solid Slash = false
+solid Hash = false
+solid Comma = false
+solid _ = true
+
+abbrev pub Solid : List ℕ → Type 0
+Solid [] = Unit {0}
+Solid (c ∷ r) = solid (kind c) ≡ true
+
+-- What a number begins with.
+abbrev pub numeric : Kind → Bool
+numeric Plus = true
+numeric Minus = true
+numeric Zero = true
+numeric Digit = true
+numeric _ = false
+
+space_stop : (k : Kind) (m : Within) → space_final m ≡ true → solid k ≡ true → space_step k m ≡ None
+space_stop Blank m e h = cc
+space_stop Tab m e h = cc
+space_stop Lf m e h = cc
+space_stop Slash m e h = cc
+space_stop Hash m e h = cc
+space_stop Comma m e h = cc
+space_stop _ Between e h = refl
+space_stop _ _ e h = cc
+
+separator_stop : (k : Kind) (m : Around) → separator_final m ≡ true → solid k ≡ true → separator_step k m ≡ None
+separator_stop Comma m e h = cc
+separator_stop k (Before m) e h = ap before (space_stop k m e h)
+separator_stop k (After m) e h = ap after (space_stop k m e h)
+
+number_stop : (k : Kind) (m : Reached) → number_final m ≡ true → follows k ≡ true → number_step k m ≡ None
+number_stop Plus m e h = cc
+number_stop Minus m e h = cc
+number_stop Zero m e h = cc
+number_stop Digit m e h = cc
+number_stop HexLetter m e h = cc
+number_stop X m e h = cc
+number_stop _ m e h = refl
+
+closing-solid : (k : Kind) → closing k ≡ true → solid k ≡ true
+closing-solid Close h = refl
+closing-solid _ h = cc
+
+closing-follows : (k : Kind) → closing k ≡ true → follows k ≡ true
+closing-follows Close h = refl
+closing-follows _ h = cc
+
+begins-solid : (k : Kind) → begins k ≡ true → solid k ≡ true
+begins-solid Open h = refl
+begins-solid Plus h = refl
+begins-solid Minus h = refl
+begins-solid Zero h = refl
+begins-solid Digit h = refl
+begins-solid _ h = cc
+
+begins-open : (k : Kind) → begins k ≡ true → closing k ≡ false
+begins-open Close h = cc
+begins-open _ h = refl
+
+numeric-begins : (k : Kind) → numeric k ≡ true → begins k ≡ true
+numeric-begins Plus h = refl
+numeric-begins Minus h = refl
+numeric-begins Zero h = refl
+numeric-begins Digit h = refl
+numeric-begins _ h = cc
+
+number_first : (k : Kind) (n : Reached) → number_step k Start ≡ Some n → numeric k ≡ true
+number_first Plus n h = refl
+number_first Minus n h = refl
+number_first Zero n h = refl
+number_first Digit n h = refl
+number_first _ n h = cc
+
+space_first : (k : Kind) (n : Within) → space_step k Between ≡ Some n → follows k ≡ true
+space_first Blank n h = refl
+space_first Tab n h = refl
+space_first Lf n h = refl
+space_first Slash n h = refl
+space_first Hash n h = refl
+space_first _ n h = cc
+
+separator_first : (k : Kind) (n : Around) → separator_step k (Before Between) ≡ Some n → follows k ≡ true
+separator_first Blank n h = refl
+separator_first Tab n h = refl
+separator_first Lf n h = refl
+separator_first Slash n h = refl
+separator_first Hash n h = refl
+separator_first Comma n h = refl
+separator_first _ n h = cc
+
+-- The same over lists.
+pub halts_space : (r : List ℕ) → Solid r → Halts space r
+halts_space [] h = tt
+halts_space (c ∷ r) h = λ m e. space_stop (kind c) m e h
+
+pub halts_separator : (r : List ℕ) → Solid r → Halts separator r
+halts_separator [] h = tt
+halts_separator (c ∷ r) h = λ m e. separator_stop (kind c) m e h
+
+pub halts_number : (r : List ℕ) → Follow r → Halts number r
+halts_number [] h = tt
+halts_number (c ∷ r) h = λ m e. number_stop (kind c) m e h
+
+pub closes_solid : (r : List ℕ) → Closes r → Solid r
+closes_solid [] h = tt
+closes_solid (c ∷ r) h = closing-solid (kind c) h
+
+pub closes_follow : (r : List ℕ) → Closes r → Follow r
+closes_follow [] h = tt
+closes_follow (c ∷ r) h = closing-follows (kind c) h
+
+pub closes_closed : (r : List ℕ) → Closes r → is_closed r ≡ true
+closes_closed [] h = refl
+closes_closed (c ∷ r) h = h
+
+pub begins_solid : (r : List ℕ) → Begins r → Solid r
+begins_solid [] h = tt
+begins_solid (c ∷ r) h = begins-solid (kind c) h
+
+pub begins_open : (r : List ℕ) → Begins r → is_closed r ≡ false
+begins_open [] h = absurd h
+begins_open (c ∷ r) h = begins-open (kind c) h
+
+pub space_follow : (s r : List ℕ) → is_token space s ≡ true → Follow r → Follow (s ++ r)
+space_follow [] r v h = h
+space_follow (c ∷ s) r v h = let a = (token_texts space (c ∷ s)).1 v in space_first (kind c) a.0 a.1
+
+pub separator_follow : (s r : List ℕ) → is_token separator s ≡ true → Follow r → Follow (s ++ r)
+separator_follow [] r v h = h
+separator_follow (c ∷ s) r v h = let a = (token_texts separator (c ∷ s)).1 v in separator_first (kind c) a.0 a.1
+
+pub msc_follow : (s r : List ℕ) → is_msc s ≡ true → Follow (s ++ r)
+msc_follow [] r v = absurd (cc)
+msc_follow (c ∷ s) r v = let a = (token_texts separator (c ∷ s)).1 v in separator_first (kind c) a.0 a.1
+
+pub numeric_start : (c : ℕ) (x : List ℕ) → is_token number (c ∷ x) ≡ true → numeric (kind c) ≡ true
+numeric_start c x v = let a = (token_texts number (c ∷ x)).1 v in number_first (kind c) a.0 a.1
+
+pub number_some : is_token number [] ≡ true → ⊥
+unfolding munch
+number_some v = both_ways false refl v
+
+-- Trees.
+pub ending_closes : (k : Row) (r : List ℕ) → Closes (ending k ∷ r)
+unfolding kind
+ending_closes Elements r = refl
+
+pub item_begins : (w : Tree OneItem) (r : List ℕ) → Valid w → Begins (onto w r)
+unfolding onto Valid kind
+item_begins (NumberTree []) r v = absurd (number_some v)
+item_begins (NumberTree (c ∷ x)) r v = numeric-begins (kind c) (numeric_start c x v)
+item_begins (ListTree Elements w) r v = refl
+
+pub entry_begins : {k : Row} (e : Tree (OneEntry k)) (r : List ℕ) → Valid e → Begins (onto e r)
+unfolding onto Valid
+entry_begins (ElementTree w) r v = item_begins w r v
+
+pub rest_begins : {k : Row} (m : Tree (Rest k)) (r : List ℕ) → Valid m → Begins (onto m r)
+unfolding onto Valid
+rest_begins (LastTree e s) r v = entry_begins e _ v.0
+rest_begins (MoreTree e s m) r v = entry_begins e _ v.0

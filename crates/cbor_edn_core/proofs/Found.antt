@@ -1,0 +1,119 @@
+-- What is read is valid, its text is what was taken, and it nests no deeper than the limit; where it is too deep, the
+-- text has more opening marks than the limit.
+use Rattle.std.proofs.Common.{ℕ, zero, suc, List, [], ◌∷◌, ◌++◌, ◌≡◌, ◌≤◌, ◌<◌, refl, ap, arith}
+use Rattle.std.specs.Prelude.{Bool, true, false, cond, Option, Result, Ok, Err, eqb}
+use Rattle.std.proofs.lemmas.Bool.{eqb-true, cond_both}
+use Rattle.cbor_edn_parts.specs.declared.error.ParseErrorKind.{ParseErrorKind}
+use Rattle.cbor_edn_parts.specs.declared.error.ParseErrorKind.TheVariants.{Invalid, TooDeep}
+use Rattle.cbor_edn_parts.specs.Bytes.{is_closed}
+use Rattle.cbor_edn_parts.specs.Lex as lex
+use Rattle.cbor_edn_parts.specs.Lex.{Table, is_token}
+use Rattle.cbor_edn_parts.specs.SpaceTokens.{space, separator, is_empty}
+use Rattle.cbor_edn_parts.specs.NumberTokens.{number}
+use Rattle.cbor_edn_core.specs.Items.{Row, Elements}
+use Rattle.cbor_edn_core.specs.Spelling.{opening}
+use Rattle.cbor_edn_core.specs.Trees.{Rule, OneItem, OneEntry, Inside, Rest, Seq, Standalone, Tree, onto, Valid, depth}
+use Rattle.cbor_edn_core.specs.Reading.{◌>>=◌, Reader, or_invalid, token, byte, not_empty, number_item, list_item, item, entry, inside, more, rest, sequence, standalone, rule, read}
+use Rattle.cbor_edn_core.specs.Marks.{marks}
+use Rattle.cbor_edn_parts.proofs.Tokens.{Holds, nothing, just, munch-found, token_texts}
+use Rattle.cbor_edn_core.proofs.Marking.{marks_end, marks_onto}
+
+-- Of an answer: what holds of the value, or what holds where it is too deep.
+pub data Meets {A : Type 0} (P : A → Type 0) (Deep : Type 0) : Result A ParseErrorKind → Type 0 where
+  invalid : Meets P Deep (Err Invalid)
+  deep : Deep → Meets P Deep (Err TooDeep)
+  fine : {x : A} → P x → Meets P Deep (Ok x)
+
+pub bound : {A B : Type 0} {P : A → Type 0} {Q : B → Type 0} {Deep : Type 0} {m : Result A ParseErrorKind} (f : A → Result B ParseErrorKind) → Meets P Deep m → ((x : A) → P x → Meets Q Deep (f x)) → Meets Q Deep (m >>= f)
+unfolding ◌>>=◌
+bound f invalid k = invalid
+bound f (deep d) k = deep d
+bound f (fine p) k = k _ p
+
+pub chosen : {A : Type 0} {P : A → Type 0} {Deep : Type 0} (b : Bool) (x y : Result A ParseErrorKind) → (b ≡ true → Meets P Deep x) → (b ≡ false → Meets P Deep y) → Meets P Deep (cond b x y)
+chosen {P = P} {Deep = Deep} b x y h k = cond_both b x y (Meets P Deep) h k
+
+pub weaker : {A : Type 0} {P Q : A → Type 0} {Deep Deeper : Type 0} {o : Result A ParseErrorKind} → ((x : A) → P x → Q x) → (Deep → Deeper) → Meets P Deep o → Meets Q Deeper o
+weaker h k invalid = invalid
+weaker h k (deep d) = deep (k d)
+weaker h k (fine p) = fine (h _ p)
+
+-- A token is never too deep.
+told : {A : Type 0} {P Q : A → Type 0} {Deep : Type 0} (o : Option A) → ((x : A) → P x → Q x) → Holds P o → Meets Q Deep (or_invalid o)
+told _ h nothing = invalid
+told _ h (just p) = fine (h _ p)
+
+abbrev pub Took : {State : Type 0} → Table State → List ℕ → List ℕ × List ℕ → Type 0
+Took T xs p = (is_token T p.0 ≡ true) × (xs ≡ p.0 ++ p.1)
+
+pub taken : {State Deep : Type 0} (T : Table State) (xs : List ℕ) → Meets (Took T xs) Deep (token T xs)
+taken T xs = told (lex.token T xs) (λ p t. ((token_texts T p.0).0 t.0, t.1)) (munch-found T T.start xs)
+
+pub byte-found : {Deep : Type 0} (b : ℕ) (xs : List ℕ) → Meets (λ r. xs ≡ b ∷ r) Deep (byte b xs)
+unfolding byte
+byte-found b [] = invalid
+byte-found b (c ∷ xs) = chosen (eqb c b) _ _ (λ e. fine (ap (λ x. x ∷ xs) (eqb-true c b e))) (λ e. invalid)
+
+pub not_empty-found : {Deep : Type 0} (s : List ℕ) → Meets (λ t. (t ≡ s) × (is_empty t ≡ false)) Deep (not_empty s)
+unfolding not_empty
+not_empty-found [] = invalid
+not_empty-found (c ∷ s) = fine (refl, refl)
+
+abbrev pub Sound : ℕ → (s : Rule) → List ℕ → Tree s × List ℕ → Type 0
+Sound limit s xs p = Valid p.0 × (xs ≡ onto p.0 p.1) × (depth p.0 ≤ limit)
+
+-- What every answer of a reader meets.
+abbrev pub IsSound : ℕ → (s : Rule) → List ℕ → Result (Tree s × List ℕ) ParseErrorKind → Type 0
+IsSound limit s xs o = Meets (Sound limit s xs) (limit < marks xs) o
+
+module _ (g : ℕ → (s : Rule) → Reader s) (gs : (limit : ℕ) (s : Rule) (xs : List ℕ) → IsSound limit s xs (g limit s xs)) where
+  -- a read of what a text ends with
+  later : (limit : ℕ) (s : Rule) (xs ys : List ℕ) → marks ys ≤ marks xs → Meets (Sound limit s ys) (limit < marks xs) (g limit s ys)
+  later limit s xs ys h = weaker (λ p v. v) (λ d. omega arith) (gs limit s ys)
+
+  number-found : (limit : ℕ) (xs : List ℕ) → IsSound limit OneItem xs (number_item g xs)
+  unfolding number_item onto Valid
+  number-found limit xs = bound _ (taken number xs) (λ x v. fine (v.0, v.1, omega arith))
+
+  list-found : (limit : ℕ) (k : Row) (xs : List ℕ) → IsSound limit OneItem (opening k ∷ xs) (list_item g limit k xs)
+  unfolding list_item onto Valid
+  list-found zero Elements xs = deep (omega arith)
+  list-found (suc limit) Elements xs = bound _ (weaker (λ p v. v) (λ d. omega arith) (gs limit (Inside Elements) xs)) (λ w v. bound _ (byte-found 93 w.1) (λ r e. fine (v.0, cc, omega (arith, v.2))))
+
+  item-found : (limit : ℕ) (xs : List ℕ) → IsSound limit OneItem xs (item g limit xs)
+  unfolding item
+  item-found limit [] = invalid
+  item-found limit (c ∷ xs) = chosen (eqb c 91) _ _ (λ e. rw (eqb-true c 91 e) (list-found limit Elements xs)) (λ n. number-found limit (c ∷ xs))
+
+  entry-found : (limit : ℕ) (k : Row) (xs : List ℕ) → IsSound limit (OneEntry k) xs (entry g limit k xs)
+  unfolding entry onto Valid
+  entry-found limit Elements xs = bound _ (gs limit OneItem xs) (λ w v. fine v)
+
+  inside-found : (limit : ℕ) (k : Row) (xs : List ℕ) → IsSound limit (Inside k) xs (inside g limit k xs)
+  unfolding inside onto Valid
+  inside-found limit k xs = bound _ (taken space xs) (λ s v. chosen (is_closed s.1) _ _ (λ e. fine (v.0, v.1, omega arith)) (λ e. bound _ (later limit (Rest k) xs s.1 (rw v.1 (marks_end s.0 s.1))) (λ m vm. fine ((v.0, vm.0), cc, vm.2))))
+
+  rest-found : (limit : ℕ) (k : Row) (xs : List ℕ) → IsSound limit (Rest k) xs (rest g limit k xs)
+  unfolding rest more onto Valid
+  rest-found limit k xs = bound _ (gs limit (OneEntry k) xs) (λ e ve. bound _ (taken separator e.1) (λ s vs. chosen (is_closed s.1) _ _ (λ c. fine ((ve.0, vs.0), cc, ve.2)) (λ c. bound _ (not_empty-found s.0) (λ t n. bound _ (later limit (Rest k) xs s.1 (rw (ve.1, vs.1) (omega (arith, marks_end s.0 s.1, marks_onto e.0 (s.0 ++ s.1))))) (λ m vm. fine ((ve.0, rw n.1 (rw n.0 vs.0), vm.0), cc, omega (arith, ve.2, vm.2)))))))
+
+  sequence-found : (limit : ℕ) (xs : List ℕ) → IsSound limit Seq xs (sequence g limit xs)
+  unfolding sequence onto Valid
+  sequence-found limit xs = bound _ (taken space xs) (λ s v. chosen (is_closed s.1) _ _ (λ e. fine (v.0, v.1, omega arith)) (λ e. bound _ (later limit (Rest Elements) xs s.1 (rw v.1 (marks_end s.0 s.1))) (λ m vm. fine ((v.0, vm.0), cc, vm.2))))
+
+  standalone-found : (limit : ℕ) (xs : List ℕ) → IsSound limit Standalone xs (standalone g limit xs)
+  unfolding standalone onto Valid
+  standalone-found limit xs = bound _ (taken space xs) (λ s vs. bound _ (later limit OneItem xs s.1 (rw vs.1 (marks_end s.0 s.1))) (λ w vw. bound _ (taken space w.1) (λ t vt. fine ((vs.0, vw.0, vt.0), cc, vw.2))))
+
+  rule-found : (limit : ℕ) (s : Rule) (xs : List ℕ) → IsSound limit s xs (rule g limit s xs)
+  rule-found limit OneItem xs = item-found limit xs
+  rule-found limit (OneEntry k) xs = entry-found limit k xs
+  rule-found limit (Inside k) xs = inside-found limit k xs
+  rule-found limit (Rest k) xs = rest-found limit k xs
+  rule-found limit Seq xs = sequence-found limit xs
+  rule-found limit Standalone xs = standalone-found limit xs
+
+pub found : (f limit : ℕ) (s : Rule) (xs : List ℕ) → IsSound limit s xs (read f limit s xs)
+unfolding read
+found zero limit s xs = invalid
+found (suc f) limit s xs = rule-found (read f) (found f) limit s xs

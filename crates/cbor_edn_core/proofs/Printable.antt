@@ -1,0 +1,61 @@
+-- Each text of a declared tree is in its set.
+use Rattle.std.proofs.Common.{◌≡◌, ℕ, List, Option, None, Some, subst, sym}
+use Rattle.cbor_edn_parts.specs.Leaves.{s_bytes}
+use Rattle.cbor_edn_parts.specs.declared.space.S.{S}
+use Rattle.cbor_edn_parts.specs.declared.space.Msc.{Msc}
+use Rattle.cbor_edn_parts.specs.declared.space.Soc.{Soc}
+use Rattle.cbor_edn_parts.specs.declared.number.Number.{Number}
+use Rattle.cbor_edn_core.specs.declared.tree.Texts.{Texts}
+use Rattle.cbor_edn_core.specs.declared.tree.InnerItem.{InnerItem}
+use Rattle.cbor_edn_core.specs.declared.tree.InnerItem.TheVariants as inner
+use Rattle.cbor_edn_core.specs.declared.tree.ItemList.{ItemList}
+use Rattle.cbor_edn_core.specs.declared.tree.ItemList.TheVariants as item_list
+use Rattle.cbor_edn_core.specs.declared.tree.Items.{Items, Items', Row_of-Items-row-2, end_of-Items-row-2, more_of-Items-row-2}
+use Rattle.cbor_edn_core.specs.Items.{Elements}
+use Rattle.cbor_edn_core.specs.Trees.{Tree, Rest, Valid, items, text}
+use Rattle.cbor_edn_core.specs.Spelling.{Spells, SpellsSequence, SpellsOne}
+use Rattle.cbor_edn_core.proofs.Spelled.{tells}
+use Rattle.cbor_edn_core.specs.View.{texts, view_inner, view_list, view_items, view_row, view_some, Item, StandaloneItem, Sequence, item_tree, standalone_tree, sequence_tree}
+
+mutual
+  unfolding Valid
+
+  inner_valid : (x : InnerItem Texts S Msc Soc Number) → Valid (view_inner texts x)
+  inner_valid (inner.Number n) = n.spelled
+  inner_valid (inner.Array list) = list_valid list
+
+  list_valid : (x : ItemList Texts S Msc Soc Number) → Valid (view_list texts x)
+  list_valid (item_list.Present s items) = (s.spelled, items_valid items)
+  list_valid (item_list.Absent s) = s.spelled
+
+  items_valid : (x : Items Texts S Msc Soc Number) → Valid (view_items texts x)
+  items_valid (Items' n row p last soc) = row_valid row _ (inner_valid last, soc.spelled)
+
+  row_valid : {n : _} (row : Row_of-Items-row-2 Texts S Msc Soc Number n) (m : Tree (Rest Elements)) → Valid m → Valid (view_row texts row m)
+  row_valid end_of-Items-row-2 m v = v
+  row_valid (more_of-Items-row-2 item separator row) m v = (inner_valid item, separator.spelled, row_valid row m v)
+
+pub item_valid : (x : Item) → Valid (item_tree x)
+item_valid x = inner_valid x.inner
+
+pub standalone_valid : (x : StandaloneItem) → Valid (standalone_tree x)
+unfolding Valid
+standalone_valid x = (x.before.spelled, inner_valid x.item.inner, x.after.spelled)
+
+some_valid : (s : S) (x : Option (Items Texts S Msc Soc Number)) → Valid (view_some texts (s_bytes s) x)
+unfolding Valid
+some_valid s None = s.spelled
+some_valid s (Some items) = (s.spelled, items_valid items)
+
+pub sequence_valid : (x : Sequence) → Valid (sequence_tree x)
+sequence_valid x = some_valid x.before x.items
+
+-- What is the text of a declared tree spells its items.
+pub item_spelled : (x : Item) (t : List ℕ) → t ≡ text (item_tree x) → Spells (items (item_tree x)) t
+item_spelled x t e = subst (λ u. Spells (items (item_tree x)) u) (sym e) (tells (item_tree x) (item_valid x))
+
+pub standalone_spelled : (x : StandaloneItem) (t : List ℕ) → t ≡ text (standalone_tree x) → SpellsOne (items (standalone_tree x)) t
+standalone_spelled x t e = subst (λ u. SpellsOne (items (standalone_tree x)) u) (sym e) (tells (standalone_tree x) (standalone_valid x))
+
+pub sequence_spelled : (x : Sequence) (t : List ℕ) → t ≡ text (sequence_tree x) → SpellsSequence (items (sequence_tree x)) t
+sequence_spelled x t e = subst (λ u. SpellsSequence (items (sequence_tree x)) u) (sym e) (tells (sequence_tree x) (sequence_valid x))

@@ -1,0 +1,179 @@
+-- What is spelled is the text of a valid tree with these items, and a valid tree's text spells its items.
+use Rattle.std.proofs.Common.{ℕ, suc, List, [], ◌∷◌, ◌++◌, ◌≡◌, refl, ap, sym, arith, ◌∙◌, append_assoc}
+use Rattle.std.proofs.lemmas.List.{append-nil}
+use Rattle.cbor_edn_parts.specs.Space.{IsS, IsMsc, IsSoc}
+use Rattle.cbor_edn_core.specs.Items.{Row, Elements, Sort, Item, Entry, Entries, Node, Number, Listed, Element, End, Then, Items, nesting}
+use Rattle.cbor_edn_core.specs.Spelling.{opening, ending, Spells, SpellsSequence, SpellsOne}
+use Rattle.cbor_edn_core.specs.Trees.{Rule, OneItem, OneEntry, Inside, Rest, Seq, Standalone, Tree, NumberTree, ListTree, ElementTree, EmptyTree, FullTree, LastTree, MoreTree, NothingTree, SequenceTree, StandaloneTree, onto, text, Of, items, depth, Valid}
+use Rattle.cbor_edn_parts.proofs.SpaceTexts.{s_texts, soc_texts, msc_texts}
+use Rattle.cbor_edn_parts.proofs.NumberTexts.{number_texts}
+
+-- How deep the items of a use of a rule nest.
+abbrev pub nesting_of : (s : Rule) → Of s → ℕ
+nesting_of OneItem x = nesting x
+nesting_of (OneEntry k) x = nesting x
+nesting_of (Inside k) x = nesting x
+nesting_of (Rest k) x = nesting x
+nesting_of Seq x = nesting x
+nesting_of Standalone x = nesting x
+
+pub nested : {s : Rule} (w : Tree s) → depth w ≡ nesting_of s (items w)
+unfolding items
+nested (NumberTree x) = refl
+nested (ListTree k w) = ap suc (nested w)
+nested (ElementTree w) = nested w
+nested (EmptyTree s) = refl
+nested (FullTree s m) = nested m
+nested (LastTree e s) = let h = nested e in omega arith
+nested (MoreTree e s m) = rw (nested e, nested m)
+nested (NothingTree s) = refl
+nested (SequenceTree s m) = nested m
+nested (StandaloneTree s w t) = nested w
+
+-- A tree's text stands in front of what follows it.
+pub onto-append : {s : Rule} (w : Tree s) (q r : List ℕ) → onto w (q ++ r) ≡ onto w q ++ r
+unfolding onto
+onto-append (NumberTree x) q r = simp append_assoc
+onto-append (ListTree k w) q r = ap (opening k ∷◌) (onto-append w (ending k ∷ q) r)
+onto-append (ElementTree w) q r = onto-append w q r
+onto-append (EmptyTree s) q r = simp append_assoc
+onto-append (FullTree s m) q r = ap (s ++◌) (onto-append m q r) ∙ sym (append_assoc s (onto m q) r)
+onto-append (LastTree e s) q r = ap (onto e) (sym (append_assoc s q r)) ∙ onto-append e (s ++ q) r
+onto-append (MoreTree e s m) q r = ap (λ (x : List ℕ). onto e (s ++ x)) (onto-append m q r) ∙ ap (onto e) (sym (append_assoc s (onto m q) r)) ∙ onto-append e (s ++ onto m q) r
+onto-append (NothingTree s) q r = simp append_assoc
+onto-append (SequenceTree s m) q r = ap (s ++◌) (onto-append m q r) ∙ sym (append_assoc s (onto m q) r)
+onto-append (StandaloneTree s w t) q r = ap (λ (x : List ℕ). s ++ onto w x) (sym (append_assoc t q r)) ∙ ap (s ++◌) (onto-append w (t ++ q) r) ∙ sym (append_assoc s (onto w (t ++ q)) r)
+
+pub parted : {s : Rule} (w : Tree s) (r : List ℕ) → onto w r ≡ text w ++ r
+parted w r = onto-append w [] r
+
+-- A valid tree with these items and this text.
+pub record HasTree (s : Rule) (x : Of s) (t : List ℕ) : Type 0 where
+  pub tree : Tree s
+  pub valid : Valid tree
+  pub same : items tree ≡ x
+  pub text_is : (r : List ℕ) → onto tree r ≡ t ++ r
+
+-- The same of an entry, other entries, and the text behind the first.
+pub record Continues {k : Row} (e : Tree (OneEntry k)) (x : Node (Entries k)) (t : List ℕ) : Type 0 where
+  pub tree : Tree (Rest k)
+  pub valid : Valid tree
+  pub same : items tree ≡ Then (items e) x
+  pub text_is : (r : List ℕ) → onto tree r ≡ onto e (t ++ r)
+
+abbrev pub Given : (s : Sort) → Node s → List ℕ → Type 0
+Given Item x t = HasTree OneItem x t
+Given (Entry k) x t = HasTree (OneEntry k) x t
+Given (Entries k) x t = (e : Tree (OneEntry k)) → Valid e → Continues e x t
+
+end_given : {k : Row} (t : List ℕ) (e : Tree (OneEntry k)) → Valid e → Spells (End {k = k}) t → Continues e End t
+unfolding Spells onto Valid items
+end_given t e v h = record { tree = LastTree e t; valid = (v, (soc_texts t).0 h); same = refl; text_is = λ r. refl }
+
+full_given : (k : Row) (e : Node (Entry k)) (m : Node (Entries k)) (s a b : List ℕ) → IsS s → (v : HasTree (OneEntry k) e a) → Continues v.tree m b → HasTree OneItem (Listed k (Then e m)) (opening k ∷ (s ++ (a ++ (b ++ (ending k ∷ [])))))
+unfolding onto Valid items
+full_given k e m s a b h v w = record {
+  tree = ListTree k (FullTree s w.tree);
+  valid = ((s_texts s).0 h, w.valid);
+  same = ap (Listed k) (w.same ∙ ap (λ (x : Node (Entry k)). Then x m) v.same);
+  text_is = λ r. rw (w.text_is (ending k ∷ r), v.text_is (b ++ (ending k ∷ r))) (simp append_assoc);
+}
+
+more_given : {k : Row} (e : Node (Entry k)) (m : Node (Entries k)) (c a b : List ℕ) (u : Tree (OneEntry k)) → Valid u → IsMsc c → (v : HasTree (OneEntry k) e a) → Continues v.tree m b → Continues u (Then e m) (c ++ (a ++ b))
+unfolding onto Valid items
+more_given {k} e m c a b u vu h v w = record {
+  tree = MoreTree u c w.tree;
+  valid = (vu, (msc_texts c).0 h, w.valid);
+  same = ap (Then (items u)) (w.same ∙ ap (λ (x : Node (Entry k)). Then x m) v.same);
+  text_is = λ r. rw (w.text_is r, v.text_is (b ++ r)) (ap (onto u) (simp append_assoc));
+}
+
+pub spelled : {s : Sort} (x : Node s) (t : List ℕ) → Spells x t → Given s x t
+unfolding Spells onto Valid items
+spelled (Number x) t h = record { tree = NumberTree x; valid = (number_texts x).0 h.0; same = refl; text_is = λ r. rw h.1 }
+spelled (Listed k End) t h = record { tree = ListTree k (EmptyTree h.0); valid = (s_texts h.0).0 h.1; same = refl; text_is = λ r. rw h.2 (simp append_assoc) }
+spelled (Listed k (Then e m)) t h = let v = spelled e h.1 h.4 in rw h.6 (full_given k e m h.0 h.1 h.2 h.3 v (spelled m h.2 h.5 v.tree v.valid))
+spelled (Element w) t h = let v = spelled w t h in record { tree = ElementTree v.tree; valid = v.valid; same = ap Element v.same; text_is = v.text_is }
+spelled End t h = λ e v. end_given t e v h
+spelled (Then e m) t h = λ u vu. let v = spelled e h.1 h.4 in rw h.6 (more_given e m h.0 h.1 h.2 u vu h.3 v (spelled m h.2 h.5 v.tree v.valid))
+
+pub spelled_sequence : (x : Items) (t : List ℕ) → SpellsSequence x t → HasTree Seq x t
+unfolding SpellsSequence onto Valid items
+spelled_sequence End t h = record { tree = NothingTree t; valid = (s_texts t).0 h; same = refl; text_is = λ r. refl }
+spelled_sequence (Then e m) t h = let a = spelled e h.1 h.4 in let w = spelled m h.2 h.5 a.tree a.valid in record {
+  tree = SequenceTree h.0 w.tree;
+  valid = ((s_texts h.0).0 h.3, w.valid);
+  same = w.same ∙ ap (λ (y : Node (Entry Elements)). Then y m) a.same;
+  text_is = λ r. rw (h.6, w.text_is r, a.text_is (h.2 ++ r)) (simp append_assoc);
+}
+
+pub spelled_one : (x : Node Item) (t : List ℕ) → SpellsOne x t → HasTree Standalone x t
+unfolding SpellsOne onto Valid items
+spelled_one x t h = let a = spelled x h.1 h.4 in record {
+  tree = StandaloneTree h.0 a.tree h.2;
+  valid = ((s_texts h.0).0 h.3, a.valid, (s_texts h.2).0 h.5);
+  same = a.same;
+  text_is = λ r. rw h.6 (simp (a.text_is, append_assoc));
+}
+
+-- The first entry of a row and the others, with the texts that spell them.
+pub record Told {k : Row} (m : Tree (Rest k)) : Type 0 where
+  pub first : Node (Entry k)
+  pub others : Node (Entries k)
+  pub front : List ℕ
+  pub back : List ℕ
+  pub same : items m ≡ Then first others
+  pub first_spelled : Spells first front
+  pub others_spelled : Spells others back
+  pub text_is : (r : List ℕ) → onto m r ≡ front ++ (back ++ r)
+
+-- Spelling by a tree's text.
+abbrev pub Tells : (s : Rule) → Tree s → Type 0
+Tells OneItem w = Spells (items w) (text w)
+Tells (OneEntry k) w = Spells (items w) (text w)
+Tells (Inside k) w = Spells (Listed k (items w)) (opening k ∷ onto w (ending k ∷ []))
+Tells (Rest k) w = Told w
+Tells Seq w = SpellsSequence (items w) (text w)
+Tells Standalone w = SpellsOne (items w) (text w)
+
+tells_full : (k : Row) (s : List ℕ) (m : Tree (Rest k)) → IsS s → Told m → Spells (Listed k (items m)) (opening k ∷ (s ++ onto m (ending k ∷ [])))
+unfolding Spells
+tells_full k s m v h = rw h.same (s, h.front, h.back, v, h.first_spelled, h.others_spelled, rw (h.text_is (ending k ∷ [])) refl)
+
+tells_last : (k : Row) (e : Tree (OneEntry k)) (s : List ℕ) → IsSoc s → Spells (items e) (text e) → Told (LastTree e s)
+unfolding Spells onto items
+tells_last k e s v h = record { first = items e; others = End; front = text e; back = s; same = refl; first_spelled = h; others_spelled = v; text_is = λ r. parted e (s ++ r) }
+
+others_told : {k : Row} (c : List ℕ) (e : Node (Entry k)) (m : Node (Entries k)) (a b : List ℕ) → IsMsc c → Spells e a → Spells m b → Spells (Then e m) (c ++ (a ++ b))
+unfolding Spells
+others_told c e m a b v h t = (c, a, b, v, h, t, refl)
+
+tells_more : (k : Row) (e : Tree (OneEntry k)) (s : List ℕ) (m : Tree (Rest k)) → IsMsc s → Spells (items e) (text e) → Told m → Told (MoreTree e s m)
+unfolding onto items
+tells_more k e s m v h t = record {
+  first = items e;
+  others = items m;
+  front = text e;
+  back = s ++ (t.front ++ t.back);
+  same = refl;
+  first_spelled = h;
+  others_spelled = rw t.same (others_told s t.first t.others t.front t.back v t.first_spelled t.others_spelled);
+  text_is = λ r. rw (t.text_is r, parted e (s ++ (t.front ++ (t.back ++ r)))) (simp append_assoc);
+}
+
+tells_sequence : (s : List ℕ) (m : Tree (Rest Elements)) → IsS s → Told m → SpellsSequence (items m) (s ++ text m)
+unfolding SpellsSequence
+tells_sequence s m v h = rw h.same (s, h.front, h.back, v, h.first_spelled, h.others_spelled, rw (h.text_is []) (simp append-nil))
+
+pub tells : {s : Rule} (w : Tree s) → Valid w → Tells s w
+unfolding Valid onto items Spells SpellsSequence SpellsOne
+tells (NumberTree x) v = ((number_texts x).1 v, simp append-nil)
+tells (ListTree k w) v = tells w v
+tells (ElementTree w) v = tells w v
+tells (EmptyTree s) v = (s, (s_texts s).1 v, refl)
+tells (FullTree {k = k} s m) v = tells_full k s m ((s_texts s).1 v.0) (tells m v.1)
+tells (LastTree {k = k} e s) v = tells_last k e s ((soc_texts s).1 v.1) (tells e v.0)
+tells (MoreTree {k = k} e s m) v = tells_more k e s m ((msc_texts s).1 v.1) (tells e v.0) (tells m v.2)
+tells (NothingTree s) v = rw append-nil ((s_texts s).1 v)
+tells (SequenceTree s m) v = tells_sequence s m ((s_texts s).1 v.0) (tells m v.1)
+tells (StandaloneTree s w t) v = (s, text w, t, (s_texts s).1 v.0, tells w v.1, (s_texts t).1 v.2, ap (s ++◌) (parted w _ ∙ ap (text w ++◌) (append-nil t)))

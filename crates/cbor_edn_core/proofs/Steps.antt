@@ -1,0 +1,154 @@
+-- How many steps a text takes at most, that more steps change nothing, and the laws of reading without steps.
+use Rattle.std.proofs.Common.{ℕ, zero, suc, List, [], ◌∷◌, ◌++◌, ◌≡◌, ◌≤◌, ◌<◌, ◌+◌, ◌*◌, length, refl, ap, arith, ◌∙◌, length-append}
+use Rattle.std.specs.Prelude.{true, cond, Result}
+use Rattle.cbor_edn_parts.specs.declared.error.ParseErrorKind.{ParseErrorKind}
+use Rattle.cbor_edn_parts.specs.Bytes.{is_closed}
+use Rattle.cbor_edn_parts.specs.Lex.{Table}
+use Rattle.cbor_edn_parts.specs.SpaceTokens.{space, separator}
+use Rattle.cbor_edn_parts.specs.NumberTokens.{is_number}
+use Rattle.cbor_edn_core.specs.Items.{Row, Elements}
+use Rattle.cbor_edn_core.specs.Spelling.{ending}
+use Rattle.cbor_edn_core.specs.Trees.{Rule, OneItem, OneEntry, Inside, Rest, Seq, Standalone, Tree, NumberTree, ListTree, ElementTree, EmptyTree, FullTree, LastTree, MoreTree, NothingTree, SequenceTree, StandaloneTree, onto, Valid, FollowOf, depth}
+use Rattle.cbor_edn_core.specs.Reading.{◌>>=◌, Reader, token, number_item, list_item, item, entry, inside, more, rest, sequence, standalone, rule, read, reads, outcome}
+use Rattle.cbor_edn_core.proofs.Follows.{number_some}
+use Rattle.cbor_edn_core.proofs.Again.{size, positive, again}
+use Rattle.cbor_edn_core.proofs.Found.{Meets, invalid, deep, fine, weaker, taken, Sound, IsSound, found, not_empty-found}
+
+-- how many fewer steps a use of a rule takes than four a byte
+abbrev extra : Rule → ℕ
+extra OneItem = 4
+extra (OneEntry k) = 3
+extra (Rest k) = 2
+extra _ = 0
+
+number_length : (x : List ℕ) → is_number x ≡ true → 0 < length x
+number_length [] v = absurd (number_some v)
+number_length (c ∷ x) v = omega arith
+
+pub size_fits : {s : Rule} (w : Tree s) (r : List ℕ) → Valid w → size w + extra s + 4 * length r ≤ 4 * length (onto w r) + 1
+unfolding size onto Valid
+size_fits (NumberTree x) r v = omega (arith, number_length x v, length-append x r)
+size_fits (ListTree k w) r v = omega (arith, size_fits w (ending k ∷ r) v)
+size_fits (ElementTree w) r v = omega (arith, size_fits w r v)
+size_fits (EmptyTree s) r v = omega (arith, length-append s r)
+size_fits (FullTree s m) r v = omega (arith, length-append s (onto m r), size_fits m r v.1)
+size_fits (LastTree e s) r v = omega (arith, length-append s r, size_fits e (s ++ r) v.0)
+size_fits (MoreTree e s m) r v = omega (arith, length-append s (onto m r), size_fits m r v.2, size_fits e (s ++ onto m r) v.0)
+size_fits (NothingTree s) r v = omega (arith, length-append s r)
+size_fits (SequenceTree s m) r v = omega (arith, length-append s (onto m r), size_fits m r v.1)
+size_fits (StandaloneTree s w t) r v = omega (arith, length-append t r, size_fits w (t ++ r) v.1, length-append s (onto w (t ++ r)))
+
+-- A valid tree's text is read as that tree, whatever follows that may follow it, where it nests within the limit.
+pub reads-again : (limit : ℕ) {s : Rule} (w : Tree s) (r : List ℕ) → Valid w → FollowOf s r → reads limit s (onto w r) ≡ outcome (depth w) limit (w, r)
+unfolding reads
+reads-again limit w r v h = again _ limit w r v h (omega (arith, size_fits w r v))
+
+pub reads-found : (limit : ℕ) (s : Rule) (xs : List ℕ) → IsSound limit s xs (reads limit s xs)
+unfolding reads
+reads-found limit s xs = found _ limit s xs
+
+-- What is left is shorter.
+abbrev least : Rule → ℕ
+least OneItem = 1
+least (OneEntry k) = 1
+least (Rest k) = 1
+least _ = 0
+
+abbrev Shorter : (s : Rule) → List ℕ → Tree s × List ℕ → Type 0
+Shorter s xs p = length p.1 + least s ≤ length xs
+
+abbrev Shortens : (s : Rule) → List ℕ → Result (Tree s × List ℕ) ParseErrorKind → Type 0
+Shortens s xs o = Meets (Shorter s xs) (Unit {0}) o
+
+sound-shorter : (limit : ℕ) (s : Rule) (xs : List ℕ) (p : Tree s × List ℕ) → Sound limit s xs p → Shorter s xs p
+sound-shorter limit s xs p v = rw v.1 (left s p.0 p.1 v.0)
+  where
+    left : (s : Rule) (w : Tree s) (r : List ℕ) → Valid w → length r + least s ≤ length (onto w r)
+    left OneItem w r v = omega (arith, size_fits w r v)
+    left (OneEntry k) w r v = omega (arith, size_fits w r v)
+    left (Rest k) w r v = omega (arith, size_fits w r v, positive w)
+    left (Inside k) w r v = omega (arith, size_fits w r v, positive w)
+    left Seq w r v = omega (arith, size_fits w r v, positive w)
+    left Standalone w r v = omega (arith, size_fits w r v, positive w)
+
+token-shorter : {State : Type 0} (T : Table State) (xs : List ℕ) → Meets (λ p. length p.1 ≤ length xs) (Unit {0}) (token T xs)
+token-shorter T xs = weaker {Deep = Unit {0}} (λ p t. rw t.1 (omega (arith, length-append p.0 p.1))) (λ d. tt) (taken T xs)
+
+same_then : {A B : Type 0} {P : A → Type 0} {Deep : Type 0} {m n : Result A ParseErrorKind} (f h : A → Result B ParseErrorKind) → m ≡ n → Meets P Deep m → ((x : A) → P x → f x ≡ h x) → (m >>= f) ≡ (n >>= h)
+unfolding ◌>>=◌
+same_then f h e invalid k = rw (← e)
+same_then f h e (deep d) k = rw (← e)
+same_then f h e (fine p) k = rw (← e) (k _ p)
+
+abbrev rank : Rule → ℕ
+rank OneItem = 0
+rank (OneEntry k) = 1
+rank (Rest k) = 2
+rank _ = 3
+
+-- A rule's reading depends on shorter readings alone.
+module _ (g h : ℕ → (s : Rule) → Reader s) (gs : (limit : ℕ) (s : Rule) (xs : List ℕ) → Shortens s xs (g limit s xs)) where
+  abbrev Agree : ℕ → Type 0
+  Agree n = (limit : ℕ) (s : Rule) (ys : List ℕ) → 4 * length ys + rank s < n → g limit s ys ≡ h limit s ys
+
+  -- one rule that is a reading of another, put into a tree
+  alike : {B : Type 0} (limit : ℕ) (s : Rule) (xs : List ℕ) (f : Tree s × List ℕ → Result B ParseErrorKind) → g limit s xs ≡ h limit s xs → (g limit s xs >>= f) ≡ (h limit s xs >>= f)
+  alike limit s xs f e = same_then f f e (gs limit s xs) (λ w l. refl)
+
+  list-same : (limit : ℕ) (k : Row) (xs : List ℕ) → Agree (4 * length xs + 4) → list_item g limit k xs ≡ list_item h limit k xs
+  unfolding list_item
+  list-same zero k xs a = refl
+  list-same (suc limit) k xs a = alike limit (Inside k) xs _ (a limit (Inside k) xs (omega arith))
+
+  item-same : (limit : ℕ) (xs : List ℕ) → Agree (4 * length xs) → item g limit xs ≡ item h limit xs
+  unfolding item number_item
+  item-same limit [] a = refl
+  item-same limit (c ∷ xs) a = rw (list-same limit Elements xs (λ l s ys b. a l s ys (omega arith)))
+
+  entry-same : (limit : ℕ) (k : Row) (xs : List ℕ) → Agree (4 * length xs + 1) → entry g limit k xs ≡ entry h limit k xs
+  unfolding entry
+  entry-same limit Elements xs a = alike limit OneItem xs _ (a limit OneItem xs (omega arith))
+
+  inside-same : (limit : ℕ) (k : Row) (xs : List ℕ) → Agree (4 * length xs + 3) → inside g limit k xs ≡ inside h limit k xs
+  unfolding inside
+  inside-same limit k xs a = same_then _ _ refl (token-shorter space xs) (λ s ls. ap (cond (is_closed s.1) _) (alike limit (Rest k) s.1 _ (a limit (Rest k) s.1 (omega arith))))
+
+  rest-same : (limit : ℕ) (k : Row) (xs : List ℕ) → Agree (4 * length xs + 2) → rest g limit k xs ≡ rest h limit k xs
+  unfolding rest more
+  rest-same limit k xs a = same_then _ _ (a limit (OneEntry k) xs (omega arith)) (gs limit (OneEntry k) xs) (λ e le. same_then _ _ refl (token-shorter separator e.1) (λ s ls. ap (cond (is_closed s.1) _) (same_then _ _ refl (not_empty-found {Deep = Unit {0}} s.0) (λ t n. alike limit (Rest k) s.1 _ (a limit (Rest k) s.1 (omega arith))))))
+
+  sequence-same : (limit : ℕ) (xs : List ℕ) → Agree (4 * length xs + 3) → sequence g limit xs ≡ sequence h limit xs
+  unfolding sequence
+  sequence-same limit xs a = same_then _ _ refl (token-shorter space xs) (λ s ls. ap (cond (is_closed s.1) _) (alike limit (Rest Elements) s.1 _ (a limit (Rest Elements) s.1 (omega arith))))
+
+  standalone-same : (limit : ℕ) (xs : List ℕ) → Agree (4 * length xs + 3) → standalone g limit xs ≡ standalone h limit xs
+  unfolding standalone
+  standalone-same limit xs a = same_then _ _ refl (token-shorter space xs) (λ s ls. alike limit OneItem s.1 _ (a limit OneItem s.1 (omega arith)))
+
+  rule-same : (limit : ℕ) (s : Rule) (xs : List ℕ) → Agree (4 * length xs + rank s) → rule g limit s xs ≡ rule h limit s xs
+  rule-same limit OneItem xs a = item-same limit xs (λ l s ys b. a l s ys (omega arith))
+  rule-same limit (OneEntry k) xs a = entry-same limit k xs a
+  rule-same limit (Inside k) xs a = inside-same limit k xs a
+  rule-same limit (Rest k) xs a = rest-same limit k xs a
+  rule-same limit Seq xs a = sequence-same limit xs a
+  rule-same limit Standalone xs a = standalone-same limit xs a
+
+read-shorter : (f limit : ℕ) (s : Rule) (xs : List ℕ) → Shortens s xs (read f limit s xs)
+read-shorter f limit s xs = weaker (sound-shorter limit s xs) (λ d. tt) (found f limit s xs)
+
+agree : (f d limit : ℕ) (s : Rule) (xs : List ℕ) → 4 * length xs + rank s < f → 4 * length xs + rank s < d → read f limit s xs ≡ read d limit s xs
+unfolding read
+agree zero d limit s xs a b = absurd (omega arith)
+agree (suc f) zero limit s xs a b = absurd (omega arith)
+agree (suc f) (suc d) limit s xs a b = rule-same (read f) (read d) (read-shorter f) limit s xs (λ l t ys q. agree f d l t ys (omega arith) (omega arith))
+
+-- Reading is its rules, with no word of steps.
+pub reads-rule : (limit : ℕ) (s : Rule) (xs : List ℕ) → reads limit s xs ≡ rule reads limit s xs
+unfolding reads read
+reads-rule limit s xs = agree (4 * length xs + 4) (suc (4 * length xs + rank s)) limit s xs (enough s (length xs)) (omega arith) ∙ rule-same (read (4 * length xs + rank s)) reads (read-shorter _) limit s xs (λ l t ys q. agree _ _ l t ys q (enough t (length ys)))
+  where
+    enough : (s : Rule) (n : ℕ) → 4 * n + rank s < 4 * n + 4
+    enough OneItem n = omega arith
+    enough (OneEntry k) n = omega arith
+    enough (Rest k) n = omega arith
+    enough _ n = omega arith

@@ -1,0 +1,6 @@
+use Rattle.std.proofs.Common.{◌≡◌, map, take}
+use Rattle.cbor_edn_core.specs.View.{texts, seen}
+use Rattle.cbor_edn_core.proofs.clone.+copy.Given as goal
+
+abbrev pub invariant-clone_row-loop-item : goal.invariant-clone_row-loop-item
+invariant-clone_row-loop-item l = map (seen texts) l.copy.items ≡ map (seen texts) (take l.item-index l.item-items)

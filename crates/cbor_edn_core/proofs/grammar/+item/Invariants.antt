@@ -1,0 +1,30 @@
+use Rattle.std.proofs.Common.{◌≡◌, ◌+◌, ◌-◌, ◌*◌, ◌≤◌, length, drop}
+use Rattle.std.specs.Str.{IsCharBoundary}
+use Rattle.cbor_edn_core.specs.Borrowed.{BorrowsEach}
+use Rattle.cbor_edn_core.specs.Items.{Elements}
+use Rattle.cbor_edn_core.specs.Reading.{reads}
+use Rattle.cbor_edn_core.specs.Trees.{Rest}
+use Rattle.cbor_edn_core.proofs.Turns.{with_row}
+use Rattle.cbor_edn_core.proofs.grammar.+item.Given as goal
+
+abbrev pub decreases-item : goal.decreases-item
+decreases-item l = 3 * l.limit
+
+abbrev pub decreases-items : goal.decreases-items
+decreases-items l = 3 * l.limit + 1
+
+abbrev pub decreases-inside : goal.decreases-inside
+decreases-inside l = 3 * l.limit + 2
+
+abbrev pub invariant-items-items : goal.invariant-items-items
+invariant-items-items l = record {
+  order : l.fn.from ≤ l.at;
+  place : IsCharBoundary l.text.all.now l.at;
+  cost : l.looks.count + 8 * l.fn.from ≤ l.fn.looks.count + 8 * l.at;
+  least : l.fn.looks.count + l.at ≤ l.looks.count + l.fn.from;
+  borrowed : BorrowsEach l.row.items;
+  reads : reads l.limit (Rest Elements) (drop l.fn.from l.text.all.now) ≡ with_row l.row.items (reads l.limit (Rest Elements) (drop l.at l.text.all.now));
+}
+
+abbrev pub decreases-items-items : goal.decreases-items-items
+decreases-items-items l = length l.text.all.now + 1 - l.at

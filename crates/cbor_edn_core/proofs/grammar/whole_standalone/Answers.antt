@@ -1,0 +1,18 @@
+use Rattle.std.proofs.Common.{◌≡◌, sym, ◌∙◌, refl}
+use Rattle.std.proofs.lemmas.Result.{err_from_is_err_and}
+use Rattle.cbor_edn_core.specs.Trees.{Standalone}
+use Rattle.cbor_edn_core.proofs.Turns.{whole_fails, whole_trails, whole_read}
+use Rattle.cbor_edn_core.proofs.grammar.whole_standalone.Goals as goal
+
+pub returns-in_err-item-clause-value : goal.returns-in_err-item-clause-value
+returns-in_err-item-clause-value c =
+    let p = err_from_is_err_and c.from_residual.result c.from_residual.ensures.1 in
+    rw (p.1, p.2) (whole_fails c.in_err-item.field-0.0 c.args.limit Standalone _ c.in_err-item.ensures.value)
+
+pub returns-in_err-ends-clause-value : goal.returns-in_err-ends-clause-value
+returns-in_err-ends-clause-value c =
+    let p = err_from_is_err_and c.from_residual-in_err-ends.result c.from_residual-in_err-ends.ensures.1 in
+    rw (p.1, p.2, c.in_err-ends.ensures.more.1) (whole_trails c.args.limit Standalone _ _ _ c.in_ok-item.ensures.value c.in_err-ends.ensures.more.0)
+
+pub returns-clause-value : goal.returns-clause-value
+returns-clause-value c = whole_read c.args.limit Standalone _ _ _ c.in_ok-item.ensures.value c.in_ok-ends.ensures.end

@@ -1,0 +1,21 @@
+-- The laws of the grammar, as the contracts name them.
+use Rattle.std.specs.Prelude.{List, ℕ, ◌≡◌}
+use Rattle.cbor_edn_core.specs.Items.{Node, Item, Items}
+use Rattle.cbor_edn_core.specs.Spelling.{SpellsSequence, SpellsOne}
+use Rattle.cbor_edn_core.specs.Trees.{Seq, Standalone, Tree, Valid, text, items}
+
+-- A text spells at most one list of items, and at most one item.
+abbrev pub UniqueItems : Type 0
+UniqueItems = ((x y : Items) (t : List ℕ) → SpellsSequence x t → SpellsSequence y t → x ≡ y) × ((x y : Node Item) (t : List ℕ) → SpellsOne x t → SpellsOne y t → x ≡ y)
+
+-- Two trees of one rule with the same text, each of whose texts is in its set, have the same items and spaces: they are the same.
+abbrev pub UniqueSpaces : Type 0
+UniqueSpaces = ((w v : Tree Seq) → Valid w → Valid v → text w ≡ text v → w ≡ v) × ((w v : Tree Standalone) → Valid w → Valid v → text w ≡ text v → w ≡ v)
+
+-- What a text spells are the items of one tree whose text it is; and the text of such a tree spells its items.
+abbrev pub SpelledByTrees : Type 0
+SpelledByTrees =
+    ((x : Items) (t : List ℕ) → SpellsSequence x t → (w : Tree Seq) × Valid w × (items w ≡ x) × (text w ≡ t))
+    × ((x : Node Item) (t : List ℕ) → SpellsOne x t → (w : Tree Standalone) × Valid w × (items w ≡ x) × (text w ≡ t))
+    × ((w : Tree Seq) → Valid w → SpellsSequence (items w) (text w))
+    × ((w : Tree Standalone) → Valid w → SpellsOne (items w) (text w))

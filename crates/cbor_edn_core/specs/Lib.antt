@@ -1,0 +1,16 @@
+pub mod Borrowed
+pub mod CborLaws
+pub mod Encoding
+pub mod Items
+pub mod Laws
+pub mod Marks
+pub mod Meaning
+pub mod ParserResults
+pub mod Parsing
+pub mod Reading
+pub mod Refusals
+pub mod Same
+pub mod Spelling
+pub mod Trees
+pub mod Value
+pub mod View

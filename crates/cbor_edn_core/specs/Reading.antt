@@ -1,0 +1,102 @@
+-- The plain reader on lists, rule by rule. It knows how deep lists may nest.
+use Rattle.std.specs.Prelude.{ℕ, suc, zero, cond, eqb, nat_le, List, [], ◌∷◌, Option, Some, None, Result, Ok, Err, ◌+◌, ◌*◌, length}
+use Rattle.cbor_edn_parts.specs.declared.error.ParseErrorKind.{ParseErrorKind}
+use Rattle.cbor_edn_parts.specs.declared.error.ParseErrorKind.TheVariants.{Invalid, TooDeep}
+use Rattle.cbor_edn_parts.specs.Bytes.{is_closed}
+use Rattle.cbor_edn_parts.specs.Lex as lex
+use Rattle.cbor_edn_parts.specs.Lex.{Table}
+use Rattle.cbor_edn_parts.specs.SpaceTokens.{space, separator}
+use Rattle.cbor_edn_parts.specs.NumberTokens.{number}
+use Rattle.cbor_edn_core.specs.Items.{Row, Elements}
+use Rattle.cbor_edn_core.specs.Spelling.{ending}
+use Rattle.cbor_edn_core.specs.Trees.{Rule, OneItem, OneEntry, Inside, Rest, Seq, Standalone, Tree, NumberTree, ListTree, ElementTree, EmptyTree, FullTree, LastTree, MoreTree, NothingTree, SequenceTree, StandaloneTree}
+
+infixl 10 ◌>>=◌
+unfoldable pub ◌>>=◌ : {A B : Type 0} → Result A ParseErrorKind → (A → Result B ParseErrorKind) → Result B ParseErrorKind
+(Ok x) >>= f = f x
+(Err e) >>= f = Err e
+
+-- what is read, and the text behind it
+abbrev pub Read : Type 0 → Type 0
+Read A = Result (A × List ℕ) ParseErrorKind
+
+abbrev pub Reader : Rule → Type 0
+Reader s = List ℕ → Read (Tree s)
+
+abbrev pub or_invalid : {A : Type 0} → Option A → Result A ParseErrorKind
+or_invalid None = Err Invalid
+or_invalid (Some x) = Ok x
+
+-- One token, as far as it goes.
+abbrev pub token : {State : Type 0} → Table State → List ℕ → Read (List ℕ)
+token T xs = or_invalid (lex.token T xs)
+
+-- One byte.
+unfoldable pub byte : ℕ → List ℕ → Result (List ℕ) ParseErrorKind
+byte b [] = Err Invalid
+byte b (c ∷ xs) = cond (eqb c b) (Ok xs) (Err Invalid)
+
+unfoldable pub not_empty : List ℕ → Result (List ℕ) ParseErrorKind
+not_empty [] = Err Invalid
+not_empty (c ∷ s) = Ok (c ∷ s)
+
+-- Each rule, by readers for a smaller text: `g n` for what nests at most n deep.
+module _ (g : ℕ → (s : Rule) → Reader s) where
+  unfoldable pub number_item : Reader OneItem
+  number_item xs = token number xs >>= λ x. Ok (NumberTree x.0, x.1)
+
+  -- behind the opening byte
+  unfoldable pub list_item : (limit : ℕ) → Row → Reader OneItem
+  list_item zero k xs = Err TooDeep
+  list_item (suc limit) k xs = g limit (Inside k) xs >>= λ w. byte (ending k) w.1 >>= λ r. Ok (ListTree k w.0, r)
+
+  unfoldable pub item : ℕ → Reader OneItem
+  item limit [] = Err Invalid
+  item limit (c ∷ xs) = cond (eqb c 91) (list_item limit Elements xs) (number_item (c ∷ xs))
+
+  unfoldable pub entry : ℕ → (k : Row) → Reader (OneEntry k)
+  entry limit Elements xs = g limit OneItem xs >>= λ w. Ok (ElementTree w.0, w.1)
+
+  unfoldable pub inside : ℕ → (k : Row) → Reader (Inside k)
+  inside limit k xs = token space xs >>= λ s. cond (is_closed s.1) (Ok (EmptyTree s.0, s.1)) (g limit (Rest k) s.1 >>= λ m. Ok (FullTree s.0 m.0, m.1))
+
+  unfoldable pub more : ℕ → (k : Row) → Tree (OneEntry k) → List ℕ → Reader (Rest k)
+  more limit k e s xs = not_empty s >>= λ s. g limit (Rest k) xs >>= λ m. Ok (MoreTree e s m.0, m.1)
+
+  unfoldable pub rest : ℕ → (k : Row) → Reader (Rest k)
+  rest limit k xs = g limit (OneEntry k) xs >>= λ e. token separator e.1 >>= λ s. cond (is_closed s.1) (Ok (LastTree e.0 s.0, s.1)) (more limit k e.0 s.0 s.1)
+
+  unfoldable pub sequence : ℕ → Reader Seq
+  sequence limit xs = token space xs >>= λ s. cond (is_closed s.1) (Ok (NothingTree s.0, s.1)) (g limit (Rest Elements) s.1 >>= λ m. Ok (SequenceTree s.0 m.0, m.1))
+
+  unfoldable pub standalone : ℕ → Reader Standalone
+  standalone limit xs = token space xs >>= λ s. g limit OneItem s.1 >>= λ w. token space w.1 >>= λ t. Ok (StandaloneTree s.0 w.0 t.0, t.1)
+
+  abbrev pub rule : ℕ → (s : Rule) → Reader s
+  rule limit OneItem = item limit
+  rule limit (OneEntry k) = entry limit k
+  rule limit (Inside k) = inside limit k
+  rule limit (Rest k) = rest limit k
+  rule limit Seq = sequence limit
+  rule limit Standalone = standalone limit
+
+-- with so many steps at most
+unfoldable pub read : ℕ → ℕ → (s : Rule) → Reader s
+read zero limit s xs = Err Invalid
+read (suc steps) limit s xs = rule (read steps) limit s xs
+
+-- Enough steps for every text.
+unfoldable pub reads : ℕ → (s : Rule) → Reader s
+reads limit s xs = read (4 * length xs + 4) limit s xs
+
+-- what is read, where it nests at most so deep
+abbrev pub outcome : {A : Type 0} → ℕ → ℕ → A → Result A ParseErrorKind
+outcome depth limit x = cond (nat_le depth limit) (Ok x) (Err TooDeep)
+
+-- a use of a rule that is all of a text
+abbrev pub at_end : {A : Type 0} → A × List ℕ → Result A ParseErrorKind
+at_end (x, []) = Ok x
+at_end (x, c ∷ r) = Err Invalid
+
+unfoldable pub reads_all : ℕ → (s : Rule) → List ℕ → Result (Tree s) ParseErrorKind
+reads_all limit s xs = reads limit s xs >>= at_end

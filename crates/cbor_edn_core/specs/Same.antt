@@ -1,0 +1,90 @@
+-- A test of two trees with their spaces, which is true exactly where they are the same tree.
+use Rattle.std.specs.Prelude.{◌≡◌, ◌↔◌, ℕ, List, Bool, true, false, ◌&&◌, IsTrue, nat_eq, [], ◌∷◌, refl}
+use Rattle.std.specs.Cmp.{IsPartialEquivalence}
+use Rattle.std.specs.Cmp.Lexicographic.{pointwise, same_text}
+use Rattle.std.specs.Cmp.Derive.{both_true}
+use Rattle.std.proofs.Common.{sym, ◌∙◌, subst}
+use Rattle.std.proofs.lemmas.Bool.{false≢true}
+use Rattle.std.proofs.lemmas.Cmp.{nat_list_eq_equiv}
+use Rattle.cbor_edn_core.specs.Items.{Elements}
+use Rattle.cbor_edn_core.specs.Trees.{Rule, OneItem, Tree, NumberTree, ListTree, ElementTree, EmptyTree, FullTree, LastTree, MoreTree, NothingTree, SequenceTree, StandaloneTree}
+
+abbrev pub same_bytes : List ℕ → List ℕ → Bool
+same_bytes = pointwise nat_eq
+
+-- Whether two trees of one rule are the same, spaces included.
+abbrev pub same : {s : Rule} → Tree s → Tree s → Bool
+same (NumberTree x) (NumberTree y) = same_bytes x y
+same (ListTree Elements w) (ListTree Elements v) = same w v
+same (ElementTree w) (ElementTree v) = same w v
+same (EmptyTree s) (EmptyTree t) = same_bytes s t
+same (FullTree s m) (FullTree t n) = same_bytes s t && same m n
+same (LastTree e s) (LastTree f t) = same e f && same_bytes s t
+same (MoreTree e s m) (MoreTree f t n) = same e f && (same_bytes s t && same m n)
+same (NothingTree s) (NothingTree t) = same_bytes s t
+same (SequenceTree s m) (SequenceTree t n) = same_bytes s t && same m n
+same (StandaloneTree s w t) (StandaloneTree u v r) = same_bytes s u && (same w v && same_bytes t r)
+same _ _ = false
+
+-- Whether two rows of items, each with the separator behind it, are the same.
+abbrev pub same_entries : List (Tree OneItem × List ℕ) → List (Tree OneItem × List ℕ) → Bool
+same_entries [] [] = true
+same_entries (p ∷ ps) (q ∷ qs) = same p.0 q.0 && (same_bytes p.1 q.1 && same_entries ps qs)
+same_entries _ _ = false
+
+both : {A B : Type 0} {a b : Bool} → (a ≡ true → A) → (b ≡ true → B) → (a && b) ≡ true → A × B
+both {a = true} {b = true} f g e = (f refl, g refl)
+both {a = true} {b = false} f g e = absurd (false≢true e)
+both {a = false} f g e = absurd (false≢true e)
+
+bytes_are : (t u : List ℕ) → same_bytes t u ≡ true → t ≡ u
+bytes_are t u e = same_text t u (sym e)
+
+pub same_are : {s : Rule} (a b : Tree s) → same a b ≡ true → a ≡ b
+same_are (NumberTree x) (NumberTree y) e = λ i. NumberTree (bytes_are x y e i)
+same_are (ListTree Elements w) (ListTree Elements v) e = λ i. ListTree Elements (same_are w v e i)
+same_are (ElementTree w) (ElementTree v) e = λ i. ElementTree (same_are w v e i)
+same_are (EmptyTree s) (EmptyTree t) e = λ i. EmptyTree (bytes_are s t e i)
+same_are (FullTree s m) (FullTree t n) e = let h = both (bytes_are s t) (same_are m n) e in λ i. FullTree (h.0 i) (h.1 i)
+same_are (LastTree e s) (LastTree f t) p = let h = both (same_are e f) (bytes_are s t) p in λ i. LastTree (h.0 i) (h.1 i)
+same_are (MoreTree e s m) (MoreTree f t n) p = let h = both (same_are e f) (both (bytes_are s t) (same_are m n)) p in λ i. MoreTree (h.0 i) (h.1.0 i) (h.1.1 i)
+same_are (NothingTree s) (NothingTree t) e = λ i. NothingTree (bytes_are s t e i)
+same_are (SequenceTree s m) (SequenceTree t n) e = let h = both (bytes_are s t) (same_are m n) e in λ i. SequenceTree (h.0 i) (h.1 i)
+same_are (StandaloneTree s w t) (StandaloneTree u v r) e =
+    let h = both (bytes_are s u) (both (same_are w v) (bytes_are t r)) e in λ i. StandaloneTree (h.0 i) (h.1.0 i) (h.1.1 i)
+same_are _ _ e = absurd (false≢true e)
+
+bytes_refl : (t : List ℕ) → same_bytes t t ≡ true
+bytes_refl t = nat_list_eq_equiv.refl t
+
+same_refl : {s : Rule} (a : Tree s) → same a a ≡ true
+same_refl (NumberTree x) = bytes_refl x
+same_refl (ListTree Elements w) = same_refl w
+same_refl (ElementTree w) = same_refl w
+same_refl (EmptyTree s) = bytes_refl s
+same_refl (FullTree s m) = both_true (bytes_refl s) (same_refl m)
+same_refl (LastTree e s) = both_true (same_refl e) (bytes_refl s)
+same_refl (MoreTree e s m) = both_true (same_refl e) (both_true (bytes_refl s) (same_refl m))
+same_refl (NothingTree s) = bytes_refl s
+same_refl (SequenceTree s m) = both_true (bytes_refl s) (same_refl m)
+same_refl (StandaloneTree s w t) = both_true (bytes_refl s) (both_true (same_refl w) (bytes_refl t))
+
+pub same_if : {s : Rule} (a b : Tree s) → a ≡ b → same a b ≡ true
+same_if a b e = subst (λ c. same a c ≡ true) e (same_refl a)
+
+-- what an answer of the test says
+pub same_exactly : {s : Rule} (a b : Tree s) (answer : Bool) → answer ≡ same a b → IsTrue answer ↔ (a ≡ b)
+same_exactly a b answer e = (λ t. same_are a b (sym e ∙ t), λ p. e ∙ same_if a b p)
+
+equal_if : (a b : Bool) → (a ≡ true → b ≡ true) → (b ≡ true → a ≡ true) → a ≡ b
+equal_if true true f g = refl
+equal_if true false f g = sym (f refl)
+equal_if false true f g = g refl
+equal_if false false f g = refl
+
+-- the test, at what a function reads of two values
+pub same_laws : {K : Type 0} {s : Rule} (f : K → Tree s) → IsPartialEquivalence (λ (x y : K). same (f x) (f y))
+same_laws f = record {
+  symm = λ x y. equal_if _ _ (λ e. same_if _ _ (sym (same_are (f x) (f y) e))) (λ e. same_if _ _ (sym (same_are (f y) (f x) e)));
+  trans = λ x y z p q. same_if _ _ (same_are (f x) (f y) p ∙ same_are (f y) (f z) q);
+}

@@ -1,0 +1,164 @@
+-- CBOR data items with the form of each head, and their encodings (RFC 8949, section 3).
+use Rattle.std.specs.Prelude.{◌≡◌, ℕ, ◌+◌, ◌*◌, ◌^◌, ◌<◌, List, [], ◌∷◌, ◌++◌, length, max, Option, Some, None, All}
+use Rattle.std.specs.Int.{w8, w16, w32, w64, to_be_bytes}
+use Rattle.cbor_edn_core.specs.declared.cbor.Width.{Width}
+use Rattle.cbor_edn_core.specs.declared.cbor.Width.TheVariants.{Immediate, One, Two, Four, Eight}
+
+-- a byte string of definite length: the width of its length, and its bytes
+abbrev pub Chunk : Type 0
+Chunk = Width × List ℕ
+
+-- Data items (section 3.1) of the major types 0, 1, 2, 4, 5 and 6.
+-- Each width is that of the argument. A list without one has indefinite length (section 3.2).
+mutual
+  pub data Value : Type 0 where
+    -- the integer n, as `unsigned One 10` for 10
+    unsigned : Width → ℕ → Value
+    -- the integer -1 - n, as `negative Immediate 0` for -1
+    negative : Width → ℕ → Value
+    byte_string : Width → List ℕ → Value
+    -- a byte string of indefinite length
+    chunks : List Chunk → Value
+    array : Option Width → Values → Value
+    -- a map: `map` is a function on lists
+    object : Option Width → Pairs → Value
+    tag : Width → ℕ → Value → Value
+
+  pub data Values : Type 0 where
+    no_values : Values
+    value : Value → Values → Values
+
+  -- keys with their values
+  pub data Pairs : Type 0 where
+    no_pairs : Pairs
+    pair : Value → Value → Pairs → Pairs
+
+abbrev pub values_len : Values → ℕ
+values_len no_values = 0
+values_len (value v vs) = values_len vs + 1
+
+abbrev pub pairs_len : Pairs → ℕ
+pairs_len no_pairs = 0
+pairs_len (pair k v ps) = pairs_len ps + 1
+
+-- A head (section 3): the first byte has the major type in its high 3 bits. Its low 5 bits are the argument,
+-- or say that the argument stands in the 1, 2, 4 or 8 bytes behind it, the high byte first.
+-- `head 0 Immediate 10` is 0a, and `head 0 Two 500` is 19 01 f4.
+unfoldable pub head : ℕ → Width → ℕ → List ℕ
+head major Immediate n = (32 * major + n) ∷ []
+head major One n = (32 * major + 24) ∷ to_be_bytes w8 n
+head major Two n = (32 * major + 25) ∷ to_be_bytes w16 n
+head major Four n = (32 * major + 26) ∷ to_be_bytes w32 n
+head major Eight n = (32 * major + 27) ∷ to_be_bytes w64 n
+
+-- what the arguments of a width are below
+abbrev pub limit_of : Width → ℕ
+limit_of Immediate = 24
+limit_of One = 2 ^ 8
+limit_of Two = 2 ^ 16
+limit_of Four = 2 ^ 32
+limit_of Eight = 2 ^ 64
+
+abbrev pub ArgumentFits : Width → ℕ → Type 0
+ArgumentFits w n = n < limit_of w
+
+-- the head of an item with indefinite length (section 3.2)
+abbrev pub open_head : ℕ → ℕ
+open_head major = 32 * major + 31
+
+-- the byte that ends it (section 3.2.1)
+abbrev pub break : ℕ
+break = 255
+
+-- a list of n parts, with their encodings
+abbrev pub list_encoding : ℕ → Option Width → ℕ → List ℕ → List ℕ
+list_encoding major (Some w) n parts = head major w n ++ parts
+list_encoding major None n parts = open_head major ∷ parts ++ break ∷ []
+
+abbrev pub LengthFits : Option Width → ℕ → Type 0
+LengthFits (Some w) n = ArgumentFits w n
+LengthFits None n = Unit {0}
+
+abbrev pub AreBytes : List ℕ → Type 0
+AreBytes bs = All (λ b. b < 256) bs
+
+-- the argument of a byte string counts its bytes
+abbrev pub chunk_encoding : Chunk → List ℕ
+chunk_encoding c = head 2 c.0 (length c.1) ++ c.1
+
+abbrev pub chunk_encodings : List Chunk → List ℕ
+chunk_encodings [] = []
+chunk_encodings (c ∷ cs) = chunk_encoding c ++ chunk_encodings cs
+
+abbrev pub ChunkFits : Chunk → Type 0
+ChunkFits c = ArgumentFits c.0 (length c.1) × AreBytes c.1
+
+abbrev pub ChunksFit : List Chunk → Type 0
+ChunksFit [] = Unit {0}
+ChunksFit (c ∷ cs) = ChunkFits c × ChunksFit cs
+
+-- The encoding of a value, where it has one.
+-- `array (Some Immediate) (value (unsigned Immediate 1) no_values)` is 81 01, and with None for the width 9f 01 ff.
+abbrev mutual
+  pub encoding : Value → List ℕ
+  encoding (unsigned w n) = head 0 w n
+  encoding (negative w n) = head 1 w n
+  encoding (byte_string w bs) = chunk_encoding (w, bs)
+  encoding (chunks cs) = open_head 2 ∷ chunk_encodings cs ++ break ∷ []
+  encoding (array w vs) = list_encoding 4 w (values_len vs) (encodings vs)
+  encoding (object w ps) = list_encoding 5 w (pairs_len ps) (pair_encodings ps)
+  encoding (tag w n v) = head 6 w n ++ encoding v
+
+  pub encodings : Values → List ℕ
+  encodings no_values = []
+  encodings (value v vs) = encoding v ++ encodings vs
+
+  pub pair_encodings : Pairs → List ℕ
+  pair_encodings no_pairs = []
+  pair_encodings (pair k v ps) = encoding k ++ encoding v ++ pair_encodings ps
+
+-- Each argument fits its width, and byte strings are of bytes: the value has an encoding.
+abbrev mutual
+  pub Fits : Value → Type 0
+  Fits (unsigned w n) = ArgumentFits w n
+  Fits (negative w n) = ArgumentFits w n
+  Fits (byte_string w bs) = ChunkFits (w, bs)
+  Fits (chunks cs) = ChunksFit cs
+  Fits (array w vs) = LengthFits w (values_len vs) × ValuesFit vs
+  Fits (object w ps) = LengthFits w (pairs_len ps) × PairsFit ps
+  Fits (tag w n v) = ArgumentFits w n × Fits v
+
+  pub ValuesFit : Values → Type 0
+  ValuesFit no_values = Unit {0}
+  ValuesFit (value v vs) = Fits v × ValuesFit vs
+
+  pub PairsFit : Pairs → Type 0
+  PairsFit no_pairs = Unit {0}
+  PairsFit (pair k v ps) = Fits k × Fits v × PairsFit ps
+
+-- How deep arrays, maps and tags nest: 0 for 1, 1 for [1].
+abbrev mutual
+  pub nesting : Value → ℕ
+  nesting (unsigned w n) = 0
+  nesting (negative w n) = 0
+  nesting (byte_string w bs) = 0
+  nesting (chunks cs) = 0
+  nesting (array w vs) = values_nesting vs + 1
+  nesting (object w ps) = pairs_nesting ps + 1
+  nesting (tag w n v) = nesting v + 1
+
+  pub values_nesting : Values → ℕ
+  values_nesting no_values = 0
+  values_nesting (value v vs) = max (nesting v) (values_nesting vs)
+
+  pub pairs_nesting : Pairs → ℕ
+  pairs_nesting no_pairs = 0
+  pairs_nesting (pair k v ps) = max (max (nesting k) (nesting v)) (pairs_nesting ps)
+
+-- The bytes are an encoding of the value.
+abbrev pub Enc : List ℕ → Value → Type 0
+Enc bs v = Fits v × (bs ≡ encoding v)
+
+-- The bytes are encodings of the values, one behind the other.
+abbrev pub EncAll : List ℕ → Values → Type 0
+EncAll bs vs = ValuesFit vs × (bs ≡ encodings vs)

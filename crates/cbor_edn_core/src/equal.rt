@@ -1,0 +1,122 @@
+//! Whether two trees are written the same, spaces included.
+ghost use Rattle.std.specs.Prelude.{◌≡◌, ◌↔◌, IsTrue, map};
+ghost use Rattle.cbor_edn_core.specs.Same.{same, same_entries, same_laws};
+ghost use Rattle.cbor_edn_core.specs.View.{texts, view_list, view_items, seen, item_tree, standalone_tree, sequence_tree};
+
+use crate::tree::{InnerItem, Item, ItemList, Items, Sequence, StandaloneItem, Texts};
+use cbor_edn_parts::space::Msc;
+
+impl PartialEq for Item<'_> {
+    ghost eq = { λ a b. same (item_tree a) (item_tree b) };
+
+    ghost laws = { same_laws item_tree };
+
+    fn eq(&self, other: &Self) -> bool {
+        same_item(self, other)
+    }
+}
+
+impl PartialEq for StandaloneItem<'_> {
+    ghost eq = { λ a b. same (standalone_tree a) (standalone_tree b) };
+
+    ghost laws = { same_laws standalone_tree };
+
+    fn eq(&self, other: &Self) -> bool {
+        self.before == other.before
+            && same_item(&self.item, &other.item)
+            && self.after == other.after
+    }
+}
+
+impl PartialEq for Sequence<'_> {
+    ghost eq = { λ a b. same (sequence_tree a) (sequence_tree b) };
+
+    ghost laws = { same_laws sequence_tree };
+
+    fn eq(&self, other: &Self) -> bool {
+        match (&self.items, &other.items) {
+            (None, None) => self.before == other.before,
+            (Some(a), Some(b)) => self.before == other.before && same_items(a, b),
+            _ => false,
+        }
+    }
+}
+
+#[cycle(same)]
+fn same_item(a: &Item<'_>, b: &Item<'_>) -> bool
+    ensures { result ≡ same (item_tree a.now) (item_tree b.now) }
+{
+    match (&a.inner, &b.inner) {
+        (InnerItem::Number(x), InnerItem::Number(y)) => *x == *y,
+        (InnerItem::Array(x), InnerItem::Array(y)) => same_list(x, y),
+        _ => false,
+    }
+}
+
+#[cycle(same)]
+fn same_list(a: &ItemList<Texts<'_>>, b: &ItemList<Texts<'_>>) -> bool
+    ensures { result ≡ same (view_list texts a.now) (view_list texts b.now) }
+{
+    match (a, b) {
+        (ItemList::Present { s, items: x }, ItemList::Present { s: t, items: y }) => {
+            *s == *t && same_items(x, y)
+        }
+        (ItemList::Absent { s }, ItemList::Absent { s: t }) => *s == *t,
+        _ => false,
+    }
+}
+
+#[cycle(same)]
+#[tactic(auto, using(crate::proofs::Views::view_items_is, crate::proofs::Rows::same_lists))]
+fn same_items(a: &Items<Texts<'_>>, b: &Items<Texts<'_>>) -> bool
+    ensures { result ≡ same (view_items texts a.now) (view_items texts b.now) }
+{
+    same_row(&a.row, &b.row) && same_item(&a.last, &b.last) && a.soc == b.soc
+}
+
+#[cycle(same)]
+#[tactic(auto, using(crate::proofs::Rows::rows_as_long))]
+fn same_row(a: &[(Item<'_>, Msc<'_>)], b: &[(Item<'_>, Msc<'_>)]) -> bool
+    ensures { result ≡ same_entries (map (seen texts) a.now) (map (seen texts) b.now) }
+{
+    if a.len() != b.len() {
+        return false;
+    }
+    for i in 0..a.len() {
+        let (x, s) = &a[i];
+        let (y, t) = &b[i];
+        if !(same_item(x, y) && *s == *t) {
+            return false;
+        }
+    }
+    true
+}
+
+impl<'a> Item<'a> {
+    /// Whether the items are the same and are written the same, as `==` tests.
+    #[tactic(auto, using(crate::specs::Same::same_are, crate::specs::Same::same_if))]
+    pub fn is_same(&self, other: &Item<'a>) -> bool
+        ensures { IsTrue result ↔ (item_tree self.now ≡ item_tree other.now) }
+    {
+        *self == *other
+    }
+}
+
+impl<'a> StandaloneItem<'a> {
+    /// Whether the items and the spaces round them are written the same, as `==` tests.
+    pub fn is_same(&self, other: &StandaloneItem<'a>) -> bool
+        ensures { IsTrue result ↔ (standalone_tree self.now ≡ standalone_tree other.now) }
+    {
+        *self == *other
+    }
+}
+
+impl<'a> Sequence<'a> {
+    /// Whether the items and the spaces round them are written the same, as `==` tests.
+    #[tactic(auto, using(crate::specs::Same::same_are, crate::specs::Same::same_if))]
+    pub fn is_same(&self, other: &Sequence<'a>) -> bool
+        ensures { IsTrue result ↔ (sequence_tree self.now ≡ sequence_tree other.now) }
+    {
+        *self == *other
+    }
+}

@@ -1,0 +1,163 @@
+//! The public calls that read a text.
+ghost use Rattle.std.specs.Prelude.{◌≡◌, ◌≤◌, ◌+◌, ◌*◌, length, IfOk, OnOk};
+ghost use Rattle.cbor_edn_parts.specs.Errors.{error_kind, error_offset, error_line, error_column};
+ghost use Rattle.cbor_edn_parts.specs.Place.{IsPlace};
+ghost use Rattle.cbor_edn_core.specs.Borrowed.{BorrowsSequence, BorrowsStandalone};
+ghost use Rattle.cbor_edn_core.specs.Parsing.{IsAccepted, IsInvalid, IsTooDeep};
+ghost use Rattle.cbor_edn_core.specs.Refusals.{IfTold};
+ghost use Rattle.cbor_edn_core.specs.Spelling.{SpellsOne, SpellsSequence};
+ghost use Rattle.cbor_edn_core.specs.Trees.{items, text};
+ghost use Rattle.cbor_edn_core.specs.View.{sequence_tree, standalone_tree};
+
+use crate::grammar::{whole_sequence, whole_standalone};
+use crate::location::located;
+use crate::tree::{Sequence, StandaloneItem};
+use cbor_edn_parts::error::{Fault, ParseError, ParseErrorKind};
+use cbor_edn_parts::looks::Looks;
+use cbor_edn_parts::text::Text;
+use std::alloc::Global;
+
+/// How deep a text may nest where no limit is given.
+pub const NESTING_LIMIT: usize = 512;
+
+impl<'a> Sequence<'a> {
+    /// The items of a text, with their spaces: arrays may nest [`NESTING_LIMIT`] deep.
+    pub fn parse(alloc: Global, input: &'a str) -> Result<Sequence<'a>, Fault<ParseError>>
+        ensures text { IfOk result (λ t. text (sequence_tree t) ≡ input.now) }
+        ensures accepted { IfOk result (λ t. IsAccepted SpellsSequence NESTING_LIMIT input.now (items (sequence_tree t))) }
+        ensures borrowed { IfOk result BorrowsSequence }
+        ensures invalid { IfTold result (λ e. error_kind e ≡ ParseErrorKind.Invalid → IsInvalid SpellsSequence input.now) }
+        ensures too_deep { IfTold result (λ e. error_kind e ≡ ParseErrorKind.TooDeep → IsTooDeep SpellsSequence NESTING_LIMIT input.now) }
+        ensures place { IfTold result (λ e. IsPlace input.now (error_offset e) (error_line e) (error_column e)) }
+    {
+        Sequence::parse_within(alloc, input, NESTING_LIMIT)
+    }
+
+    /// The same for arrays that nest `limit` deep at most. The stack has to hold that many levels.
+    pub fn parse_within(
+        alloc: Global,
+        input: &'a str,
+        limit: usize,
+    ) -> Result<Sequence<'a>, Fault<ParseError>>
+        ensures text { IfOk result (λ t. text (sequence_tree t) ≡ input.now) }
+        ensures accepted { IfOk result (λ t. IsAccepted SpellsSequence limit input.now (items (sequence_tree t))) }
+        ensures borrowed { IfOk result BorrowsSequence }
+        ensures invalid { IfTold result (λ e. error_kind e ≡ ParseErrorKind.Invalid → IsInvalid SpellsSequence input.now) }
+        ensures too_deep { IfTold result (λ e. error_kind e ≡ ParseErrorKind.TooDeep → IsTooDeep SpellsSequence limit input.now) }
+        ensures place { IfTold result (λ e. IsPlace input.now (error_offset e) (error_line e) (error_column e)) }
+    {
+        Sequence::parse_looking(alloc, input, limit, &mut Looks::new())
+    }
+
+    /// As `parse`, with a look for each read of a byte: at most 16 for each byte of the text and 16 more.
+    pub fn parse_counted(
+        alloc: Global,
+        input: &'a str,
+        looks: &mut Looks,
+    ) -> Result<Sequence<'a>, Fault<ParseError>>
+        ensures text { IfOk result (λ t. text (sequence_tree t) ≡ input.now) }
+        ensures accepted { IfOk result (λ t. IsAccepted SpellsSequence NESTING_LIMIT input.now (items (sequence_tree t))) }
+        ensures borrowed { IfOk result BorrowsSequence }
+        ensures invalid { IfTold result (λ e. error_kind e ≡ ParseErrorKind.Invalid → IsInvalid SpellsSequence input.now) }
+        ensures too_deep { IfTold result (λ e. error_kind e ≡ ParseErrorKind.TooDeep → IsTooDeep SpellsSequence NESTING_LIMIT input.now) }
+        ensures place { IfTold result (λ e. IsPlace input.now (error_offset e) (error_line e) (error_column e)) }
+        ensures most { looks.new.count ≤ looks.old.count + 16 * length input.now + 16 }
+        ensures least { OnOk result (looks.old.count + length input.now ≤ looks.new.count) }
+    {
+        Sequence::parse_looking(alloc, input, NESTING_LIMIT, looks)
+    }
+
+    fn parse_looking(
+        alloc: Global,
+        input: &'a str,
+        limit: usize,
+        looks: &mut Looks,
+    ) -> Result<Sequence<'a>, Fault<ParseError>>
+        ensures text { IfOk result (λ t. text (sequence_tree t) ≡ input.now) }
+        ensures accepted { IfOk result (λ t. IsAccepted SpellsSequence limit input.now (items (sequence_tree t))) }
+        ensures borrowed { IfOk result BorrowsSequence }
+        ensures invalid { IfTold result (λ e. error_kind e ≡ ParseErrorKind.Invalid → IsInvalid SpellsSequence input.now) }
+        ensures too_deep { IfTold result (λ e. error_kind e ≡ ParseErrorKind.TooDeep → IsTooDeep SpellsSequence limit input.now) }
+        ensures place { IfTold result (λ e. IsPlace input.now (error_offset e) (error_line e) (error_column e)) }
+        ensures most { looks.new.count ≤ looks.old.count + 16 * length input.now + 16 }
+        ensures least { OnOk result (looks.old.count + length input.now ≤ looks.new.count) }
+    {
+        let text = Text::new(input);
+        match whole_sequence(alloc, &text, limit, looks) {
+            Ok(sequence) => Ok(sequence),
+            Err(Fault::Memory(refused)) => Err(Fault::Memory(refused)),
+            Err(Fault::Told(refusal)) => Err(Fault::Told(located(&text, refusal, looks))),
+        }
+    }
+}
+
+impl<'a> StandaloneItem<'a> {
+    /// The one item of a text, with its spaces: arrays may nest [`NESTING_LIMIT`] deep.
+    pub fn parse(alloc: Global, input: &'a str) -> Result<StandaloneItem<'a>, Fault<ParseError>>
+        ensures text { IfOk result (λ t. text (standalone_tree t) ≡ input.now) }
+        ensures accepted { IfOk result (λ t. IsAccepted SpellsOne NESTING_LIMIT input.now (items (standalone_tree t))) }
+        ensures borrowed { IfOk result BorrowsStandalone }
+        ensures invalid { IfTold result (λ e. error_kind e ≡ ParseErrorKind.Invalid → IsInvalid SpellsOne input.now) }
+        ensures too_deep { IfTold result (λ e. error_kind e ≡ ParseErrorKind.TooDeep → IsTooDeep SpellsOne NESTING_LIMIT input.now) }
+        ensures place { IfTold result (λ e. IsPlace input.now (error_offset e) (error_line e) (error_column e)) }
+    {
+        StandaloneItem::parse_within(alloc, input, NESTING_LIMIT)
+    }
+
+    /// The same for arrays that nest `limit` deep at most. The stack has to hold that many levels.
+    pub fn parse_within(
+        alloc: Global,
+        input: &'a str,
+        limit: usize,
+    ) -> Result<StandaloneItem<'a>, Fault<ParseError>>
+        ensures text { IfOk result (λ t. text (standalone_tree t) ≡ input.now) }
+        ensures accepted { IfOk result (λ t. IsAccepted SpellsOne limit input.now (items (standalone_tree t))) }
+        ensures borrowed { IfOk result BorrowsStandalone }
+        ensures invalid { IfTold result (λ e. error_kind e ≡ ParseErrorKind.Invalid → IsInvalid SpellsOne input.now) }
+        ensures too_deep { IfTold result (λ e. error_kind e ≡ ParseErrorKind.TooDeep → IsTooDeep SpellsOne limit input.now) }
+        ensures place { IfTold result (λ e. IsPlace input.now (error_offset e) (error_line e) (error_column e)) }
+    {
+        StandaloneItem::parse_looking(alloc, input, limit, &mut Looks::new())
+    }
+
+    /// As `parse`, with a look for each read of a byte: at most 16 for each byte of the text and 16 more.
+    pub fn parse_counted(
+        alloc: Global,
+        input: &'a str,
+        looks: &mut Looks,
+    ) -> Result<StandaloneItem<'a>, Fault<ParseError>>
+        ensures text { IfOk result (λ t. text (standalone_tree t) ≡ input.now) }
+        ensures accepted { IfOk result (λ t. IsAccepted SpellsOne NESTING_LIMIT input.now (items (standalone_tree t))) }
+        ensures borrowed { IfOk result BorrowsStandalone }
+        ensures invalid { IfTold result (λ e. error_kind e ≡ ParseErrorKind.Invalid → IsInvalid SpellsOne input.now) }
+        ensures too_deep { IfTold result (λ e. error_kind e ≡ ParseErrorKind.TooDeep → IsTooDeep SpellsOne NESTING_LIMIT input.now) }
+        ensures place { IfTold result (λ e. IsPlace input.now (error_offset e) (error_line e) (error_column e)) }
+        ensures most { looks.new.count ≤ looks.old.count + 16 * length input.now + 16 }
+        ensures least { OnOk result (looks.old.count + length input.now ≤ looks.new.count) }
+    {
+        StandaloneItem::parse_looking(alloc, input, NESTING_LIMIT, looks)
+    }
+
+    fn parse_looking(
+        alloc: Global,
+        input: &'a str,
+        limit: usize,
+        looks: &mut Looks,
+    ) -> Result<StandaloneItem<'a>, Fault<ParseError>>
+        ensures text { IfOk result (λ t. text (standalone_tree t) ≡ input.now) }
+        ensures accepted { IfOk result (λ t. IsAccepted SpellsOne limit input.now (items (standalone_tree t))) }
+        ensures borrowed { IfOk result BorrowsStandalone }
+        ensures invalid { IfTold result (λ e. error_kind e ≡ ParseErrorKind.Invalid → IsInvalid SpellsOne input.now) }
+        ensures too_deep { IfTold result (λ e. error_kind e ≡ ParseErrorKind.TooDeep → IsTooDeep SpellsOne limit input.now) }
+        ensures place { IfTold result (λ e. IsPlace input.now (error_offset e) (error_line e) (error_column e)) }
+        ensures most { looks.new.count ≤ looks.old.count + 16 * length input.now + 16 }
+        ensures least { OnOk result (looks.old.count + length input.now ≤ looks.new.count) }
+    {
+        let text = Text::new(input);
+        match whole_standalone(alloc, &text, limit, looks) {
+            Ok(item) => Ok(item),
+            Err(Fault::Memory(refused)) => Err(Fault::Memory(refused)),
+            Err(Fault::Told(refusal)) => Err(Fault::Told(located(&text, refusal, looks))),
+        }
+    }
+}

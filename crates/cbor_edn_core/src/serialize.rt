@@ -1,0 +1,116 @@
+//! The text of a tree.
+ghost use Rattle.std.specs.Prelude.{◌≡◌, ◌++◌, OnOk, IfOk};
+ghost use Rattle.std.specs.String.{string_bytes};
+ghost use Rattle.cbor_edn_core.specs.Trees.{text, items};
+ghost use Rattle.cbor_edn_core.specs.Spelling.{Spells, SpellsSequence, SpellsOne};
+ghost use Rattle.cbor_edn_core.specs.View.{texts, view_list, view_items, row_text, item_tree, standalone_tree, sequence_tree};
+
+use crate::tree::{InnerItem, Item, ItemList, Items, Sequence, StandaloneItem, Texts};
+use cbor_edn_parts::space::Msc;
+use std::alloc::{AllocError, Global};
+
+impl Item<'_> {
+    /// The text of the item, in the order of its parts. Fails where memory runs out.
+    pub fn serialize(&self, alloc: Global) -> Result<String, AllocError>
+        ensures text { IfOk result (λ s. string_bytes s ≡ text (item_tree self.now)) }
+        ensures spells { IfOk result (λ s. Spells (items (item_tree self.now)) (string_bytes s)) }
+    {
+        let mut out = String::new(alloc);
+        push_item(&mut out, self)?;
+        Ok(out)
+    }
+}
+
+impl StandaloneItem<'_> {
+    /// The text of the item, with the spaces round it. Fails where memory runs out.
+    pub fn serialize(&self, alloc: Global) -> Result<String, AllocError>
+        ensures text { IfOk result (λ s. string_bytes s ≡ text (standalone_tree self.now)) }
+        ensures spells { IfOk result (λ s. SpellsOne (items (standalone_tree self.now)) (string_bytes s)) }
+    {
+        let mut out = String::new(alloc);
+        push_standalone(&mut out, self)?;
+        Ok(out)
+    }
+}
+
+impl Sequence<'_> {
+    /// The text of the items, with the spaces round them. Fails where memory runs out.
+    pub fn serialize(&self, alloc: Global) -> Result<String, AllocError>
+        ensures text { IfOk result (λ s. string_bytes s ≡ text (sequence_tree self.now)) }
+        ensures spells { IfOk result (λ s. SpellsSequence (items (sequence_tree self.now)) (string_bytes s)) }
+    {
+        let mut out = String::new(alloc);
+        push_sequence(&mut out, self)?;
+        Ok(out)
+    }
+}
+
+#[tactic(auto, using(crate::proofs::Texts::text_nothing, crate::proofs::Texts::text_sequence, std::proofs::Common::append_assoc))]
+fn push_sequence(out: &mut String, sequence: &Sequence<'_>) -> Result<(), AllocError>
+    ensures { OnOk result (string_bytes out.new ≡ string_bytes out.old ++ text (sequence_tree sequence.now)) }
+{
+    out.push_str(sequence.before.as_str())?;
+    match &sequence.items {
+        None => Ok(()),
+        Some(items) => push_items(out, items),
+    }
+}
+
+#[tactic(auto, using(crate::proofs::Texts::text_standalone, std::proofs::Common::append_assoc))]
+fn push_standalone(out: &mut String, item: &StandaloneItem<'_>) -> Result<(), AllocError>
+    ensures { OnOk result (string_bytes out.new ≡ string_bytes out.old ++ text (standalone_tree item.now)) }
+{
+    out.push_str(item.before.as_str())?;
+    push_item(out, &item.item)?;
+    out.push_str(item.after.as_str())
+}
+
+#[cycle(push)]
+#[tactic(auto, using(crate::proofs::Texts::text_number, crate::proofs::Texts::text_list, std::proofs::Common::append_assoc))]
+fn push_item(out: &mut String, item: &Item<'_>) -> Result<(), AllocError>
+    ensures { OnOk result (string_bytes out.new ≡ string_bytes out.old ++ text (item_tree item.now)) }
+{
+    match &item.inner {
+        InnerItem::Number(number) => out.push_str(number.as_str()),
+        InnerItem::Array(list) => {
+            out.push_str("[")?;
+            push_list(out, list)?;
+            out.push_str("]")
+        }
+    }
+}
+
+#[cycle(push)]
+#[tactic(auto, using(crate::proofs::Texts::text_empty, crate::proofs::Texts::text_full, std::proofs::Common::append_assoc))]
+fn push_list(out: &mut String, list: &ItemList<Texts<'_>>) -> Result<(), AllocError>
+    ensures { OnOk result (string_bytes out.new ≡ string_bytes out.old ++ text (view_list texts list.now)) }
+{
+    match list {
+        ItemList::Present { s, items } => {
+            out.push_str(s.as_str())?;
+            push_items(out, items)
+        }
+        ItemList::Absent { s } => out.push_str(s.as_str()),
+    }
+}
+
+#[cycle(push)]
+#[tactic(auto, using(crate::proofs::Views::view_items_is, crate::proofs::Views::text_row, crate::proofs::Texts::text_last, crate::proofs::Texts::text_element, std::proofs::Common::append_assoc))]
+fn push_items(out: &mut String, items: &Items<Texts<'_>>) -> Result<(), AllocError>
+    ensures { OnOk result (string_bytes out.new ≡ string_bytes out.old ++ text (view_items texts items.now)) }
+{
+    push_row(out, &items.row)?;
+    push_item(out, &items.last)?;
+    out.push_str(items.soc.as_str())
+}
+
+#[cycle(push)]
+fn push_row(out: &mut String, row: &[(Item<'_>, Msc<'_>)]) -> Result<(), AllocError>
+    ensures { OnOk result (string_bytes out.new ≡ string_bytes out.old ++ row_text texts row.now) }
+{
+    for (item, separator) in row {
+        push_item(out, item)?;
+        out.push_str(separator.as_str())?;
+    }
+    Ok(())
+}

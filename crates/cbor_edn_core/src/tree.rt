@@ -1,0 +1,110 @@
+//! Items of a text with the spaces between their tokens.
+//!
+//! The types are generic in their leaves; the rest of the crate speaks of `Item`, `StandaloneItem` and `Sequence`.
+ghost use Rattle.std.specs.Prelude.{List, ℕ};
+ghost use Rattle.cbor_edn_parts.specs.Leaves.{s_bytes, msc_bytes, soc_bytes, number_bytes};
+
+use cbor_edn_parts::number::Number;
+use cbor_edn_parts::space::{Msc, S, Soc};
+use std::fmt::Debug;
+use std::marker::PhantomData;
+
+/// The types of the leaves of a tree, and the bytes that each stands for.
+pub trait Leaves {
+    /// Optional space.
+    type Space: Debug + Drop;
+    /// What stands between two items.
+    type Separator: Debug + Drop;
+    /// The end of a list.
+    type End: Debug + Drop;
+    /// A number.
+    type Number: Debug + Drop;
+
+    ghost space: { Self.Space → List ℕ };
+
+    ghost separator: { Self.Separator → List ℕ };
+
+    ghost end: { Self.End → List ℕ };
+
+    ghost number: { Self.Number → List ℕ };
+}
+
+/// The leaves of a text.
+#[derive(Debug)]
+pub struct Texts<'a> {
+    text: PhantomData<&'a str>,
+}
+
+impl<'a> Leaves for Texts<'a> {
+    type Space = S<'a>;
+
+    type Separator = Msc<'a>;
+
+    type End = Soc<'a>;
+
+    type Number = Number<'a>;
+
+    ghost space = { s_bytes };
+
+    ghost separator = { msc_bytes };
+
+    ghost end = { soc_bytes };
+
+    ghost number = { number_bytes };
+}
+
+/// An item.
+pub type Item<'a> = ItemOf<Texts<'a>>;
+
+/// An item with the spaces round it.
+pub type StandaloneItem<'a> = StandaloneItemOf<Texts<'a>>;
+
+/// A CBOR sequence: any number of items, with the spaces round them.
+pub type Sequence<'a> = SequenceOf<Texts<'a>>;
+
+/// An item over any leaves.
+#[cycle(tree)]
+#[derive(Debug, Drop)]
+pub struct ItemOf<L: Leaves> {
+    pub(crate) inner: InnerItem<L>,
+}
+
+/// The forms of items.
+#[cycle(tree)]
+#[derive(Debug, Drop)]
+pub enum InnerItem<L: Leaves> {
+    Number(L::Number),
+    Array(ItemList<L>),
+}
+
+/// What stands between the brackets of an array.
+#[cycle(tree)]
+#[derive(Debug, Drop)]
+pub enum ItemList<L: Leaves> {
+    Present { s: L::Space, items: Items<L> },
+    Absent { s: L::Space },
+}
+
+/// One item or more: each but the last with the separator behind it, the last with the end of the list.
+#[cycle(tree)]
+#[derive(Debug, Drop)]
+pub struct Items<L: Leaves> {
+    pub(crate) row: Vec<(ItemOf<L>, L::Separator)>,
+    pub(crate) last: Box<ItemOf<L>>,
+    pub(crate) soc: L::End,
+}
+
+/// An item with the spaces round it, over any leaves.
+#[derive(Debug, Drop)]
+pub struct StandaloneItemOf<L: Leaves> {
+    pub(crate) before: L::Space,
+    pub(crate) item: ItemOf<L>,
+    pub(crate) after: L::Space,
+}
+
+/// A sequence over any leaves.
+#[derive(Debug, Drop)]
+pub struct SequenceOf<L: Leaves> {
+    pub(crate) before: L::Space,
+    pub(crate) items: Option<Items<L>>,
+}

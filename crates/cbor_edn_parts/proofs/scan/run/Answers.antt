@@ -1,0 +1,53 @@
+use Rattle.std.proofs.Common.{ℕ, ◌≡◌, ◌≤◌, ◌<◌, ◌+◌, ◌∷◌, List, length, get_or, drop, Option, Some, None, add-zero, refl, sym, ap, ◌∙◌, arith}
+use Rattle.std.specs.Str.{IsCharBoundary}
+use Rattle.std.proofs.lemmas.List.{get_or-drop}
+use Rattle.std.proofs.lemmas.Str.{IsCharBoundary-before_ascii}
+use Rattle.cbor_edn_parts.specs.Bytes.{Kind, Other, kind}
+use Rattle.cbor_edn_parts.specs.Lex.{Table}
+use Rattle.cbor_edn_parts.specs.Text.{text_bytes}
+use Rattle.cbor_edn_parts.proofs.ByteKinds.{ascii_or_other}
+use Rattle.cbor_edn_parts.proofs.Scans.{begun, going, stopped, ended}
+use Rattle.cbor_edn_parts.proofs.scan.run.Goals as goal
+
+before : (text : List ℕ) (at c : ℕ) (rest : List ℕ) → drop at text ≡ c ∷ rest → at < length text → c < 128 → IsCharBoundary text at
+before text at c rest here within ascii =
+    let same : get_or (drop at text) 0 0 ≡ c = rw here refl in
+    let is : get_or text at 0 ≡ c = rw (get_or-drop at text 0 0, add-zero) at same in
+    IsCharBoundary-before_ascii text at within (rw is ascii)
+
+pub bytes-init : goal.bytes-init
+bytes-init g c = record {
+  order = omega arith;
+  within = omega arith;
+  place = λ e. c.requires;
+  reads = begun g.T.State.table c.args.start (text_bytes c.args.text.now) c.args.from;
+  cost = refl;
+}
+
+pub returns-in_default-clause-value : goal.returns-in_default-clause-value
+returns-in_default-clause-value g c =
+    ended g.T.State.table _ (text_bytes c.args.text.now) c.args.from c.bytes.at _ c.in_default.ensures.value c.bytes.invariant.reads
+
+pub returns-in_default-step-clause-value : goal.returns-in_default-step-clause-value
+returns-in_default-step-clause-value g c =
+    stopped g.T.State.table _ (text_bytes c.args.text.now) c.args.from c.bytes.at _ _ _ c.in-Some.ensures.value.0 (rw c.of.ensures at (sym c.in_default-step.ensures)) c.bytes.invariant.reads
+
+pub returns-in_default-step-clause-place : goal.returns-in_default-step-clause-place
+returns-in_default-step-clause-place g c =
+    let small : c.in-Some.byte < 256 = omega arith in
+    let none : g.T.State.table.step (kind c.in-Some.byte) c.bytes.state ≡ None = rw c.of.ensures at (sym c.in_default-step.ensures) in
+    ascii_or_other c.in-Some.byte small (before _ _ _ _ c.in-Some.ensures.value.0 c.in-Some.ensures.value.1)
+    (λ other. c.bytes.invariant.place (rw other at none))
+
+pub bytes-preserved : goal.bytes-preserved
+bytes-preserved g c =
+    let small : c.in-Some.byte < 256 = omega arith in
+    let some : g.T.State.table.step (kind c.in-Some.byte) c.bytes.state ≡ Some c.in-Some-step.next = rw c.of.ensures at (sym c.in-Some-step.ensures) in
+    record {
+      order = omega arith;
+      within = omega (arith, c.in-Some.ensures.value.1);
+      place = λ none. ascii_or_other c.in-Some.byte small c.in-Some.ensures.behind
+          (λ other. let stays = g.met.T.State.stays _ _ (rw other at some) in absurd (cc));
+      reads = going g.T.State.table _ _ _ _ _ _ _ c.bytes.invariant.order c.in-Some.ensures.value.0 some c.bytes.invariant.reads;
+      cost = omega arith;
+    }

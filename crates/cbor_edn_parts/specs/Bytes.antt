@@ -1,0 +1,71 @@
+-- The kinds of bytes that the grammar tells apart. A text is the list of its UTF-8 bytes, each below 256.
+use Rattle.std.specs.Prelude.{ℕ, Bool, true, false, not, cond, eqb, leb, ltb, ◌||◌, ◌&&◌, List, [], ◌∷◌, ◌≡◌}
+pub use Rattle.cbor_edn_parts.specs.declared.bytes.Kind.{Kind}
+pub use Rattle.cbor_edn_parts.specs.declared.bytes.Kind.TheVariants.{Blank, Tab, Lf, Control, Slash, Hash, Comma, Open, Close, Plus, Minus, Zero, Digit, HexLetter, X, Other}
+
+abbrev pub is_close : ℕ → Bool
+is_close c = eqb c 93 || eqb c 125 || eqb c 41 || eqb c 62
+
+abbrev pub is_hex_letter : ℕ → Bool
+is_hex_letter c = (leb 97 c && leb c 102) || (leb 65 c && leb c 70)
+
+-- a number from 256 on is no byte, and of no use as one
+unfoldable pub kind : ℕ → Kind
+kind c =
+    cond (eqb c 32 || eqb c 13) Blank (
+    cond (eqb c 9) Tab (
+    cond (eqb c 10) Lf (
+    cond (ltb c 32 || leb 256 c) Control (
+    cond (eqb c 47) Slash (
+    cond (eqb c 35) Hash (
+    cond (eqb c 44) Comma (
+    cond (eqb c 91) Open (
+    cond (is_close c) Close (
+    cond (eqb c 43) Plus (
+    cond (eqb c 45) Minus (
+    cond (eqb c 48) Zero (
+    cond (leb 49 c && leb c 57) Digit (
+    cond (is_hex_letter c) HexLetter (
+    cond (eqb c 120 || eqb c 88) X Other))))))))))))))
+
+-- What may stand after a token of an item: a space, a separator or a closing byte.
+abbrev pub follows : Kind → Bool
+follows Blank = true
+follows Tab = true
+follows Lf = true
+follows Slash = true
+follows Hash = true
+follows Comma = true
+follows Close = true
+follows _ = false
+
+-- What may stand after a list of items.
+abbrev pub closing : Kind → Bool
+closing Close = true
+closing _ = false
+
+-- What an item may begin with.
+abbrev pub begins : Kind → Bool
+begins Open = true
+begins Plus = true
+begins Minus = true
+begins Zero = true
+begins Digit = true
+begins _ = false
+
+abbrev pub Follow : List ℕ → Type 0
+Follow [] = Unit {0}
+Follow (c ∷ r) = follows (kind c) ≡ true
+
+abbrev pub Closes : List ℕ → Type 0
+Closes [] = Unit {0}
+Closes (c ∷ r) = closing (kind c) ≡ true
+
+abbrev pub Begins : List ℕ → Type 0
+Begins [] = ⊥
+Begins (c ∷ r) = begins (kind c) ≡ true
+
+-- Whether a list of items is at its end: nothing or a closing byte follows.
+abbrev pub is_closed : List ℕ → Bool
+is_closed [] = true
+is_closed (c ∷ r) = closing (kind c)

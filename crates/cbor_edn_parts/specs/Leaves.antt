@@ -1,0 +1,38 @@
+-- The bytes of each leaf of a tree, and that they are borrowed from the text.
+use Rattle.std.specs.Prelude.{ℕ, ℤ, pos, negsuc, List}
+use Rattle.std.specs.Cow.{cow_str_bytes, IsBorrowedStr}
+use Rattle.cbor_edn_parts.specs.declared.space.S.{S}
+use Rattle.cbor_edn_parts.specs.declared.space.Msc.{Msc}
+use Rattle.cbor_edn_parts.specs.declared.space.Soc.{Soc}
+use Rattle.cbor_edn_parts.specs.declared.number.Number.{Number}
+use Rattle.cbor_edn_parts.specs.declared.number.Integer.{Integer}
+use Rattle.cbor_edn_parts.specs.declared.number.Integer.TheVariants.{Positive, Negative}
+
+abbrev pub s_bytes : S → List ℕ
+s_bytes s = cow_str_bytes s.text
+
+abbrev pub msc_bytes : Msc → List ℕ
+msc_bytes s = cow_str_bytes s.text
+
+abbrev pub soc_bytes : Soc → List ℕ
+soc_bytes s = cow_str_bytes s.text
+
+abbrev pub number_bytes : Number → List ℕ
+number_bytes n = cow_str_bytes n.text
+
+abbrev pub BorrowsS : S → Type 0
+BorrowsS s = IsBorrowedStr s.text
+
+abbrev pub BorrowsMsc : Msc → Type 0
+BorrowsMsc s = IsBorrowedStr s.text
+
+abbrev pub BorrowsSoc : Soc → Type 0
+BorrowsSoc s = IsBorrowedStr s.text
+
+abbrev pub BorrowsNumber : Number → Type 0
+BorrowsNumber n = IsBorrowedStr n.text
+
+-- the integer of a value
+abbrev pub integer : Integer → ℤ
+integer (Positive n) = pos n
+integer (Negative n) = negsuc n

@@ -1,0 +1,13 @@
+pub mod Bytes
+pub mod Lex
+pub mod Space
+pub mod SpaceTokens
+pub mod Number
+pub mod NumberTokens
+pub mod Place
+pub mod Scans
+pub mod Text
+pub mod Leaves
+pub mod Inside
+pub mod Errors
+pub mod Laws

@@ -1,0 +1,27 @@
+-- How a scan's result stands to the tokens of a text, and what it costs in looks.
+use Rattle.std.specs.Prelude.{ℕ, ◌+◌, ◌*◌, ◌≡◌, ◌≤◌, ◌<◌, List, [], ◌∷◌, length, drop, Option, Some, None, MatchOption, Result, Ok, Err, MatchResult, IfOk}
+use Rattle.std.specs.Str.{IsCharBoundary}
+use Rattle.cbor_edn_parts.specs.declared.error.ParseErrorKind.{ParseErrorKind}
+use Rattle.cbor_edn_parts.specs.declared.error.ParseErrorKind.TheVariants.{Invalid, TooDeep}
+use Rattle.cbor_edn_parts.specs.declared.error.Refusal.{Refusal}
+use Rattle.cbor_edn_parts.specs.declared.error.Fault.{Fault}
+use Rattle.cbor_edn_parts.specs.declared.error.Fault.TheVariants.{Memory, Told}
+
+-- what stands at this place: nothing, or this byte
+abbrev pub IsAt : List ℕ → ℕ → Option ℕ → Type 0
+IsAt text at byte = MatchOption byte (drop at text ≡ []) (λ c. (drop at text ≡ c ∷ drop (at + 1) text) × (at < length text))
+
+-- A scanned token, seen by `view`, and the place behind it are what the table takes; a refusal says that it takes nothing.
+abbrev pub Scans : {X : Type 0} → (X → List ℕ) → List ℕ → Result (X × ℕ) Refusal → Option (List ℕ × List ℕ) → Type 0
+Scans view text (Ok p) read = read ≡ Some (view p.0, drop p.1 text)
+Scans view text (Err r) read = (read ≡ None) × (r.kind ≡ Invalid)
+
+-- A place behind is one where a character begins, and so is that of a refusal.
+abbrev pub Lands : {X : Type 0} → List ℕ → ℕ → Result (X × ℕ) Refusal → Type 0
+Lands text at r = MatchResult r (λ p. (at ≤ p.1) × IsCharBoundary text p.1) (λ e. IsCharBoundary text e.at)
+
+-- At most `rate` looks a byte and k more, or `failed` more where it is refused, and at least one look a byte.
+abbrev pub Costs : {X E : Type 0} → ℕ → ℕ → ℕ → List ℕ → ℕ → ℕ → ℕ → Result (X × ℕ) E → Type 0
+Costs rate k failed text at old new r = MatchResult r
+    (λ p. (new + rate * at ≤ old + rate * p.1 + k) × (old + p.1 ≤ new + at))
+    (λ _. new + rate * at ≤ old + rate * length text + failed)

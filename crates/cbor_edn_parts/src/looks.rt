@@ -1,0 +1,41 @@
+//! A count of the reads of a text that only proofs see.
+//!
+//! It takes no bytes, and its methods do nothing at run time. What `new` and `next` make is proved by hand, and such
+//! a proof could set the count to anything: so this file has these functions alone.
+ghost use Rattle.std.specs.Prelude.{◌≡◌, ℕ, ◌+◌};
+ghost use Rattle.std.specs.Borrow.{ftrue};
+
+use std::marker::Model;
+
+/// How many bytes of a text were looked at.
+#[derive(Drop)]
+pub struct Looks {
+    pub ghost count: { ℕ },
+}
+
+impl Model for Looks {
+    ghost also_owns = { λ _. ftrue };
+}
+
+impl Looks {
+    /// No look yet.
+    pub fn new() -> Looks
+        ensures { result.count ≡ 0 }
+    {
+        Looks {}
+    }
+
+    /// One look more.
+    pub fn look(&mut self)
+        ensures { self.new.count ≡ self.old.count + 1 }
+    {
+        *self = self.next();
+    }
+
+    #[inline(always)]
+    fn next(&self) -> Looks
+        ensures { result.count ≡ self.now.count + 1 }
+    {
+        Looks {}
+    }
+}

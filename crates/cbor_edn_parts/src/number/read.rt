@@ -1,0 +1,32 @@
+//! The integer literal at a place of a text.
+ghost use Rattle.std.specs.Prelude.{IfOk, drop};
+ghost use Rattle.std.specs.Str.{IsCharBoundary};
+ghost use Rattle.cbor_edn_parts.specs.Lex.{token};
+ghost use Rattle.cbor_edn_parts.specs.Leaves.{number_bytes, BorrowsNumber};
+ghost use Rattle.cbor_edn_parts.specs.NumberTokens as tokens;
+ghost use Rattle.cbor_edn_parts.specs.Scans.{Scans, Lands, Costs};
+ghost use Rattle.cbor_edn_parts.specs.Text.{text_bytes};
+
+use super::{Number, Reached};
+use crate::error::Refusal;
+use crate::looks::Looks;
+use crate::scan::scan;
+use crate::text::Text;
+use std::borrow::CowStr;
+
+/// The integer literal at a place, and the place behind it.
+pub fn number_at<'a>(
+    text: &Text<'a>,
+    from: usize,
+    looks: &mut Looks,
+) -> Result<(Number<'a>, usize), Refusal>
+    requires { IsCharBoundary (text_bytes text.now) from }
+    ensures value { Scans number_bytes (text_bytes text.now) result (token tokens.number (drop from (text_bytes text.now))) }
+    ensures borrowed { IfOk result (λ p. BorrowsNumber p.0) }
+    ensures place { Lands (text_bytes text.now) from result }
+    ensures cost { Costs 1 1 1 (text_bytes text.now) from looks.old.count looks.new.count result }
+{
+    let (text, to) = scan(Reached::Start, text, from, looks)?;
+    let text = CowStr::Borrowed(text);
+    Ok((Number { text }, to))
+}

@@ -1,0 +1,72 @@
+//! The longest token at a place of a text.
+ghost use Rattle.std.specs.Prelude.{◌≡◌, ◌≤◌, ◌+◌, Bool, cond, Option, Some, None, true, false, drop, length, slice_range, IsTrue};
+ghost use Rattle.std.specs.Str.{IsCharBoundary};
+ghost use Rattle.cbor_edn_parts.specs.Bytes.{Other};
+ghost use Rattle.cbor_edn_parts.specs.Lex.{Table, munch};
+ghost use Rattle.cbor_edn_parts.specs.Scans.{Scans, Lands, Costs};
+ghost use Rattle.cbor_edn_parts.specs.Text.{text_bytes};
+
+use crate::bytes::Kind;
+use crate::error::Refusal;
+use crate::looks::Looks;
+use crate::text::Text;
+
+/// Where the scan of a token stands.
+pub(crate) trait State: Copy {
+    ghost table: { Table Self };
+
+    /// The state behind one more byte, or none where the token ends in front of it.
+    fn step(self, kind: Kind) -> Option<Self>
+        ensures { result ≡ table.step kind self };
+
+    /// Whether the token may end here.
+    fn is_final(self) -> bool
+        ensures { result ≡ table.final self };
+
+    // A byte of a longer character leads to where more of them are taken, and never to an end.
+    ghost stays: { (m n : Self) → table.step Other m ≡ Some n → table.step Other n ≡ Some n };
+
+    ghost inside: { (m : Self) → table.final m ≡ true → table.step Other m ≡ None };
+}
+
+/// The token at a place, and the place behind it.
+pub(crate) fn scan<'a, T: State>(
+    start: T,
+    text: &Text<'a>,
+    from: usize,
+    looks: &mut Looks,
+) -> Result<(&'a str, usize), Refusal>
+    requires { IsCharBoundary (text_bytes text.now) from }
+    ensures value { Scans (λ s. s.now) (text_bytes text.now) result (munch T.table start (drop from (text_bytes text.now))) }
+    ensures place { Lands (text_bytes text.now) from result }
+    ensures cost { Costs 1 1 1 (text_bytes text.now) from looks.old.count looks.new.count result }
+{
+    let (state, at) = run(start, text, from, looks);
+    if state.is_final() {
+        Ok((text.slice(from, at), at))
+    } else {
+        Err(Refusal::invalid(at))
+    }
+}
+
+/// The state in front of the first byte that leads no further, and the place of that byte.
+fn run<T: State>(start: T, text: &Text<'_>, from: usize, looks: &mut Looks) -> (T, usize)
+    requires { IsCharBoundary (text_bytes text.now) from }
+    ensures value { munch T.table start (drop from (text_bytes text.now)) ≡ cond (T.table.final result.0) (Some (slice_range (text_bytes text.now) from result.1, drop result.1 (text_bytes text.now))) None }
+    ensures order { from ≤ result.1 }
+    ensures place { IsCharBoundary (text_bytes text.now) result.1 }
+    ensures cost { looks.new.count + from ≡ looks.old.count + result.1 + 1 }
+{
+    let mut state = start;
+    let mut at = from;
+    'bytes: loop {
+        let Some(byte) = text.byte(at, looks) else {
+            return (state, at);
+        };
+        let Some(next) = state.step(Kind::of(byte)) else {
+            return (state, at);
+        };
+        state = next;
+        at += 1;
+    }
+}

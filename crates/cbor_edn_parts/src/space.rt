@@ -1,0 +1,187 @@
+//! Space texts: optional space (S), mandatory space (MS), separators (MSC) and the ends of lists (SOC).
+ghost use Rattle.std.specs.Prelude.{◌≡◌, ◌↔◌, IsTrue, [], IfOk, IfSome, IsNone, drop, true};
+ghost use Rattle.std.specs.Cow.{cow_str_bytes};
+ghost use Rattle.cbor_edn_parts.specs.SpaceTokens as tokens;
+ghost use Rattle.cbor_edn_parts.specs.SpaceTokens.{is_s, is_msc, is_soc};
+ghost use Rattle.cbor_edn_parts.specs.Inside.{space_stays, space_inside, separator_stays, separator_inside};
+
+use crate::bytes::Kind;
+use crate::scan::State;
+pub use read::{separator, space};
+use std::alloc::AllocError;
+use std::borrow::CowStr;
+
+mod read;
+
+/// Optional space (S): blanks and comments.
+#[derive(Debug, PartialEq, Drop)]
+pub struct S<'a> {
+    text: CowStr<'a>,
+    pub ghost spelled: { IsTrue (is_s (cow_str_bytes text)) },
+}
+
+/// A separator (MSC): a comma, space, or both.
+#[derive(Debug, PartialEq, Drop)]
+pub struct Msc<'a> {
+    text: CowStr<'a>,
+    pub ghost spelled: { IsTrue (is_msc (cow_str_bytes text)) },
+}
+
+/// The end of a list (SOC): space with at most one comma.
+#[derive(Debug, PartialEq, Drop)]
+pub struct Soc<'a> {
+    text: CowStr<'a>,
+    pub ghost spelled: { IsTrue (is_soc (cow_str_bytes text)) },
+}
+
+impl<'a> S<'a> {
+    ghost use Rattle.cbor_edn_parts.specs.Leaves.{s_bytes};
+
+    /// No space.
+    pub fn empty() -> S<'a>
+        ensures { s_bytes result ≡ [] }
+    {
+        let text = CowStr::Borrowed("");
+        S { text }
+    }
+
+    /// The text as it is written.
+    pub fn as_str(&self) -> &str
+        ensures { result.now ≡ s_bytes self.now }
+    {
+        self.text.as_str()
+    }
+
+    /// The same text. Fails where memory runs out, as a borrowed text never does.
+    pub fn clone(&self) -> Result<S<'a>, AllocError>
+        ensures { IfOk result (λ t. s_bytes t ≡ s_bytes self.now) }
+    {
+        let text = self.text.clone()?;
+        Ok(S { text })
+    }
+}
+
+impl<'a> Msc<'a> {
+    ghost use Rattle.cbor_edn_parts.specs.Leaves.{msc_bytes};
+
+    /// The text as it is written.
+    pub fn as_str(&self) -> &str
+        ensures { result.now ≡ msc_bytes self.now }
+    {
+        self.text.as_str()
+    }
+
+    /// The same text. Fails where memory runs out, as a borrowed text never does.
+    pub fn clone(&self) -> Result<Msc<'a>, AllocError>
+        ensures { IfOk result (λ t. msc_bytes t ≡ msc_bytes self.now) }
+    {
+        let text = self.text.clone()?;
+        Ok(Msc { text })
+    }
+}
+
+impl<'a> Soc<'a> {
+    ghost use Rattle.cbor_edn_parts.specs.Leaves.{msc_bytes, soc_bytes, BorrowsMsc, BorrowsSoc};
+
+    /// No space and no comma.
+    pub fn empty() -> Soc<'a>
+        ensures { soc_bytes result ≡ [] }
+    {
+        let text = CowStr::Borrowed("");
+        Soc { text }
+    }
+
+    /// The text as it is written.
+    pub fn as_str(&self) -> &str
+        ensures { result.now ≡ soc_bytes self.now }
+    {
+        self.text.as_str()
+    }
+
+    /// The same text. Fails where memory runs out, as a borrowed text never does.
+    pub fn clone(&self) -> Result<Soc<'a>, AllocError>
+        ensures { IfOk result (λ t. soc_bytes t ≡ soc_bytes self.now) }
+    {
+        let text = self.text.clone()?;
+        Ok(Soc { text })
+    }
+
+    /// The text as a separator, or none where it is empty.
+    pub fn into_msc(self) -> Option<Msc<'a>>
+        ensures none { IsNone result ↔ (soc_bytes self.entry ≡ []) }
+        ensures same { IfSome result (λ s. msc_bytes s ≡ soc_bytes self.entry) }
+        ensures borrowed { BorrowsSoc self.entry → IfSome result (λ s. BorrowsMsc s) }
+    {
+        let text = self.text;
+        if text.as_str().is_empty() {
+            None
+        } else {
+            Some(Msc { text })
+        }
+    }
+}
+
+/// Where a scan of space stands: between comments or inside one.
+#[derive(Clone, Copy, Debug, PartialEq)]
+pub enum Within {
+    Between,
+    InSlashes,
+    InHash,
+}
+
+/// Where a scan of a separator stands: before its comma or behind it.
+#[derive(Clone, Copy, Debug, PartialEq)]
+pub enum Around {
+    Before(Within),
+    After(Within),
+}
+
+impl State for Within {
+    ghost table = { tokens.space };
+
+    fn step(self, kind: Kind) -> Option<Within> {
+        match (kind, self) {
+            (Kind::Blank | Kind::Tab, _) => Some(self),
+            (Kind::Lf, Within::InHash) => Some(Within::Between),
+            (Kind::Lf, _) => Some(self),
+            (Kind::Control, _) => None,
+            (Kind::Slash, Within::Between) => Some(Within::InSlashes),
+            (Kind::Slash, Within::InSlashes) => Some(Within::Between),
+            (Kind::Hash, Within::Between) => Some(Within::InHash),
+            (_, Within::Between) => None,
+            _ => Some(self),
+        }
+    }
+
+    fn is_final(self) -> bool {
+        matches!(self, Within::Between)
+    }
+
+    ghost stays = { space_stays };
+
+    ghost inside = { space_inside };
+}
+
+impl State for Around {
+    ghost table = { tokens.separator };
+
+    fn step(self, kind: Kind) -> Option<Around> {
+        match (kind, self) {
+            (Kind::Comma, Around::Before(Within::Between)) => {
+                Some(Around::After(Within::Between))
+            }
+            (_, Around::Before(within)) => Some(Around::Before(within.step(kind)?)),
+            (_, Around::After(within)) => Some(Around::After(within.step(kind)?)),
+        }
+    }
+
+    fn is_final(self) -> bool {
+        match self {
+            Around::Before(within) | Around::After(within) => within.is_final(),
+        }
+    }
+
+    ghost stays = { separator_stays };
+
+    ghost inside = { separator_inside };
+}

@@ -1,0 +1,45 @@
+//! Space texts at a place of a text.
+ghost use Rattle.std.specs.Prelude.{IfOk, drop};
+ghost use Rattle.std.specs.Str.{IsCharBoundary};
+ghost use Rattle.cbor_edn_parts.specs.Lex.{token};
+ghost use Rattle.cbor_edn_parts.specs.Leaves.{s_bytes, soc_bytes, BorrowsS, BorrowsSoc};
+ghost use Rattle.cbor_edn_parts.specs.Scans.{Scans, Lands, Costs};
+ghost use Rattle.cbor_edn_parts.specs.SpaceTokens as tokens;
+ghost use Rattle.cbor_edn_parts.specs.Text.{text_bytes};
+
+use super::{Around, S, Soc, Within};
+use crate::error::Refusal;
+use crate::looks::Looks;
+use crate::scan::scan;
+use crate::text::Text;
+use std::borrow::CowStr;
+
+/// The optional space at a place, and the place behind it.
+pub fn space<'a>(text: &Text<'a>, from: usize, looks: &mut Looks) -> Result<(S<'a>, usize), Refusal>
+    requires { IsCharBoundary (text_bytes text.now) from }
+    ensures value { Scans s_bytes (text_bytes text.now) result (token tokens.space (drop from (text_bytes text.now))) }
+    ensures borrowed { IfOk result (λ p. BorrowsS p.0) }
+    ensures place { Lands (text_bytes text.now) from result }
+    ensures cost { Costs 1 1 1 (text_bytes text.now) from looks.old.count looks.new.count result }
+{
+    let (text, to) = scan(Within::Between, text, from, looks)?;
+    let text = CowStr::Borrowed(text);
+    Ok((S { text }, to))
+}
+
+/// The space with at most one comma at a place, and the place behind it.
+pub fn separator<'a>(
+    text: &Text<'a>,
+    from: usize,
+    looks: &mut Looks,
+) -> Result<(Soc<'a>, usize), Refusal>
+    requires { IsCharBoundary (text_bytes text.now) from }
+    ensures value { Scans soc_bytes (text_bytes text.now) result (token tokens.separator (drop from (text_bytes text.now))) }
+    ensures borrowed { IfOk result (λ p. BorrowsSoc p.0) }
+    ensures place { Lands (text_bytes text.now) from result }
+    ensures cost { Costs 1 1 1 (text_bytes text.now) from looks.old.count looks.new.count result }
+{
+    let (text, to) = scan(Around::Before(Within::Between), text, from, looks)?;
+    let text = CowStr::Borrowed(text);
+    Ok((Soc { text }, to))
+}

@@ -1,0 +1,69 @@
+//! The text that is parsed.
+ghost use Rattle.std.specs.Prelude.{◌≡◌, ◌+◌, ◌-◌, ◌≤◌, length, drop, take, slice_range, ◌<◌, IfSome, ◌^◌};
+ghost use Rattle.std.specs.Str.{IsCharBoundary};
+ghost use Rattle.cbor_edn_parts.specs.Scans.{IsAt};
+ghost use Rattle.cbor_edn_parts.specs.Text.{text_bytes};
+
+use crate::looks::Looks;
+
+/// A text whose bytes are read one at a time, each with a look.
+#[derive(Clone, Copy)]
+pub struct Text<'a> {
+    all: &'a str,
+}
+
+impl<'a> Text<'a> {
+    pub fn new(all: &'a str) -> Text<'a>
+        ensures { text_bytes result ≡ all.now }
+    {
+        Text { all }
+    }
+
+    pub fn len(&self) -> usize
+        ensures len { result ≡ length (text_bytes self.now) }
+        ensures small { result < 2 ^ 63 }
+    {
+        self.as_str().as_bytes().len()
+    }
+
+    /// The place in front.
+    pub fn start(&self) -> usize
+        ensures zero { result ≡ 0 }
+        ensures place { IsCharBoundary (text_bytes self.now) result }
+    {
+        let _text = self.as_str();
+        0
+    }
+
+    fn as_str(&self) -> &'a str
+        ensures { result.now ≡ text_bytes self.now }
+    {
+        self.all
+    }
+
+    /// The byte at a place, for one look.
+    pub fn byte(&self, at: usize, looks: &mut Looks) -> Option<u8>
+        ensures value { IsAt (text_bytes self.now) at result }
+        ensures behind { IfSome result (λ c. c < 128 → IsCharBoundary (text_bytes self.now) (at + 1)) }
+        ensures count { looks.new.count ≡ looks.old.count + 1 }
+    {
+        looks.look();
+        byte_of(self.as_str(), at)
+    }
+
+    /// A piece, for no look.
+    pub fn slice(&self, from: usize, to: usize) -> &'a str
+        requires order { from ≤ to }
+        requires starts { IsCharBoundary (text_bytes self.now) from }
+        requires ends { IsCharBoundary (text_bytes self.now) to }
+        ensures { result.now ≡ slice_range (text_bytes self.now) from to }
+    {
+        &self.all[from..to]
+    }
+}
+
+fn byte_of(text: &str, at: usize) -> Option<u8>
+    ensures { IsAt text.now at result }
+{
+    text.as_bytes().get(at).copied()
+}
