@@ -1,12 +1,11 @@
 -- What is written is read again, where it nests no deeper than it may; else it is refused as too deep.
-use Rattle.std.proofs.Common.{◌≡◌, ℕ, zero, suc, ◌+◌, ◌-◌, ◌*◌, ◌^◌, ◌<◌, ◌≤◌, Bool, true, false, cond, leb, ltb, eqb, max, List, [], ◌∷◌, ◌++◌, length, take, drop, Option, Some, None, Result, Ok, Err, refl, sym, ap, subst, ◌∙◌, ◌⊎◌, append_assoc, arith, inl, inr}
+use Rattle.std.proofs.Common.{◌≡◌, ℕ, zero, suc, ◌+◌, ◌-◌, ◌*◌, ◌<◌, ◌≤◌, true, false, cond, leb, ltb, eqb, max, List, [], ◌∷◌, ◌++◌, length, Option, Some, None, Result, Ok, Err, refl, sym, ap, ◌∙◌, ◌⊎◌, append_assoc, arith, inl, inr}
 use Rattle.std.proofs.lemmas.Bool.{cases_lt, le-leb, lt-leb, le-ltb, ne_eqb}
-use Rattle.std.proofs.lemmas.Bool.Decides.{nat_tests}
 use Rattle.std.proofs.lemmas.List.{take_at, drop_at, length-append}
 use Rattle.cbor_edn_core.specs.declared.cbor.Width.{Width}
 use Rattle.cbor_edn_core.specs.declared.cbor.Width.TheVariants.{Immediate, One, Two, Four, Eight}
 use Rattle.cbor_edn_core.specs.Value.{Value, unsigned, negative, byte_string, chunks, array, object, tag, Values, no_values, value, Pairs, no_pairs, pair, Chunk, head, ArgumentFits, LengthFits, open_head, break, list_encoding, chunk_encoding, chunk_encodings, ChunksFit, encoding, encodings, pair_encodings, values_len, pairs_len, Fits, ValuesFit, PairsFit, nesting, values_nesting, pairs_nesting}
-use Rattle.cbor_edn_core.proofs.CborReading.{ReadFault, TooDeep, values_of, pairs_of, ◌>>=◌, Reads, Reader, Head, head_at, many, until_break, after_break, turn, pair_at, string_at, chunk_at, chunk_by, item_by, item_at, inner}
+use Rattle.cbor_edn_core.proofs.CborReading.{ReadFault, TooDeep, values_of, pairs_of, ◌>>=◌, Reads, Reader, Head, head_at, many, until_break, after_break, pair_at, string_at, chunk_at, item_by, item_at, inner}
 use Rattle.cbor_edn_core.proofs.CborHeads.{head_again, open_again}
 
 -- x, where n is no more than the limit
@@ -28,9 +27,9 @@ outcome_then n m limit x k z next =
     elim (cases_lt limit n) [
       | inl lt ↦ ap (λ r. r >>= k) (beyond n limit x lt) ∙ sym (beyond (max n m) limit z (omega arith))
       | inr le ↦ ap (λ r. r >>= k) (within n limit x le) ∙ next ∙ (elim (cases_lt limit m) [
-          | inl lt ↦ beyond m limit z lt ∙ sym (beyond (max n m) limit z (omega arith))
-          | inr also ↦ within m limit z also ∙ sym (within (max n m) limit z (omega arith))
-        ])
+        | inl lt ↦ beyond m limit z lt ∙ sym (beyond (max n m) limit z (omega arith))
+        | inr also ↦ within m limit z also ∙ sym (within (max n m) limit z (omega arith))
+      ])
     ]
 
 outcome_map : {X Y : Type 0} → (n limit : ℕ) (x : X) (f : X → Y) → (outcome n limit x >>= λ y. Ok (f y)) ≡ outcome n limit (f x)
@@ -55,7 +54,7 @@ more : {A : Type 0} → (one : Reader A) (limit n m count : ℕ) (bytes after re
     → many one (count + 1) bytes ≡ outcome (max n m) limit (x ∷ xs, rest)
 more {A} one limit n m count bytes after rest x xs first others =
     let next : (many one count after >>= λ (ys : List A × List ℕ). Ok (x ∷ ys.0, ys.1)) ≡ outcome m limit (x ∷ xs, rest) =
-        ap (λ r. r >>= λ (ys : List A × List ℕ). Ok (x ∷ ys.0, ys.1)) others ∙ outcome_map m limit (xs, rest) (λ ys. (x ∷ ys.0, ys.1)) in
+    ap (λ r. r >>= λ (ys : List A × List ℕ). Ok (x ∷ ys.0, ys.1)) others ∙ outcome_map m limit (xs, rest) (λ ys. (x ∷ ys.0, ys.1)) in
     many_step one count bytes ∙ ap (λ r. r >>= λ (y : A × List ℕ). many one count y.1 >>= λ xs. Ok (y.0 ∷ xs.0, xs.1)) first ∙ outcome_then n m limit (x, after) _ (x ∷ xs, rest) next
 
 until_step : {A : Type 0} → (one : Reader A) (n : ℕ) (bytes : List ℕ) → after_break bytes ≡ None → until_break one (n + 1) bytes ≡ (one bytes >>= λ x. until_break one n x.1 >>= λ xs. Ok (x.0 ∷ xs.0, xs.1))
@@ -66,7 +65,7 @@ until_more : {A : Type 0} → (one : Reader A) (limit n m turns : ℕ) (bytes af
     → until_break one turns after ≡ outcome m limit (xs, rest) → until_break one (turns + 1) bytes ≡ outcome (max n m) limit (x ∷ xs, rest)
 until_more {A} one limit n m turns bytes after rest x xs going first others =
     let next : (until_break one turns after >>= λ (ys : List A × List ℕ). Ok (x ∷ ys.0, ys.1)) ≡ outcome m limit (x ∷ xs, rest) =
-        ap (λ r. r >>= λ (ys : List A × List ℕ). Ok (x ∷ ys.0, ys.1)) others ∙ outcome_map m limit (xs, rest) (λ ys. (x ∷ ys.0, ys.1)) in
+    ap (λ r. r >>= λ (ys : List A × List ℕ). Ok (x ∷ ys.0, ys.1)) others ∙ outcome_map m limit (xs, rest) (λ ys. (x ∷ ys.0, ys.1)) in
     until_step one turns bytes going ∙ ap (λ r. r >>= λ (y : A × List ℕ). until_break one turns y.1 >>= λ xs. Ok (y.0 ∷ xs.0, xs.1)) first ∙ outcome_then n m limit (x, after) _ (x ∷ xs, rest) next
 
 until_end : {A : Type 0} → (one : Reader A) (n : ℕ) (rest : List ℕ) → until_break one (n + 1) (255 ∷ rest) ≡ Ok ([], rest)
@@ -127,7 +126,7 @@ chunks_again (c ∷ cs) rest turns lt fits =
     let regrouped : chunk_encodings (c ∷ cs) ++ (255 ∷ rest) ≡ chunk_encoding c ++ tail = append_assoc (chunk_encoding c) (chunk_encodings cs) (255 ∷ rest) in
     ap (until_break chunk_at turns) regrouped
     ∙ until_more_at chunk_at 0 0 0 turns (chunk_encoding c ++ tail) tail rest c cs (omega arith) (chunk_going c tail fits.0.0) (chunk_again c tail fits.0.0 ∙ sym (none 0 (c, tail)))
-      (chunks_again cs rest (turns - 1) (omega arith) fits.1 ∙ sym (none 0 (cs, rest)))
+    (chunks_again cs rest (turns - 1) (omega arith) fits.1 ∙ sym (none 0 (cs, rest)))
     ∙ none 0 (c ∷ cs, rest)
 
 chunks_many : (cs : List Chunk) → length cs ≤ length (chunk_encodings cs)
@@ -225,10 +224,10 @@ too_deep_list : (major : ℕ) (w : Option Width) (n : ℕ) (contents rest : List
 unfolding item_by
 too_deep_list major (Some w) n contents rest which fits =
     ap (item_at 0) (append_assoc (head major w n) contents rest) ∙ item_at_ok 0 (head major w n ++ (contents ++ rest)) (contents ++ rest) (major, Some (w, n)) (head_again major w n (contents ++ rest) fits)
-    ∙ (elim which [ | inl e ↦ rw e refl | inr e ↦ rw e refl ])
+    ∙ (elim which [ inl e ↦ rw e refl | inr e ↦ rw e refl ])
 too_deep_list major None n contents rest which fits =
     item_at_ok 0 (open_head major ∷ ((contents ++ break ∷ []) ++ rest)) ((contents ++ break ∷ []) ++ rest) (major, None) (open_again major ((contents ++ break ∷ []) ++ rest))
-    ∙ (elim which [ | inl e ↦ rw e refl | inr e ↦ rw e refl ])
+    ∙ (elim which [ inl e ↦ rw e refl | inr e ↦ rw e refl ])
 
 array_again : (limit : ℕ) (w : Option Width) (vs : Values) (rest : List ℕ) → LengthFits w (values_len vs) → ManyAgain vs → UntilAgain vs
     → item_at limit (list_encoding 4 w (values_len vs) (encodings vs) ++ rest) ≡ outcome (values_nesting vs + 1) limit (array w vs, rest)
@@ -289,7 +288,7 @@ number_again : (limit : ℕ) (w : Width) (n : ℕ) (rest : List ℕ) → Argumen
 unfolding item_by
 number_again limit w n rest fits = (
   item_at_ok limit (head 0 w n ++ rest) rest (0, Some (w, n)) (head_again 0 w n rest fits),
-  item_at_ok limit (head 1 w n ++ rest) rest (1, Some (w, n)) (head_again 1 w n rest fits)
+  item_at_ok limit (head 1 w n ++ rest) rest (1, Some (w, n)) (head_again 1 w n rest fits),
 )
 
 bytes_again : (limit : ℕ) (w : Width) (bs rest : List ℕ) → ArgumentFits w (length bs) → item_at limit ((head 2 w (length bs) ++ bs) ++ rest) ≡ Ok (byte_string w bs, rest)
@@ -343,7 +342,7 @@ mutual
       let tail = pair_encodings ps ++ rest in
       ap (many (pair_at (item_at limit)) (pairs_len ps + 1)) (append_assoc (encoding k ++ encoding v) (pair_encodings ps) rest ∙ append_assoc (encoding k) (encoding v) tail)
       ∙ more (pair_at (item_at limit)) limit (max (nesting k) (nesting v)) (pairs_nesting ps) (pairs_len ps) (encoding k ++ (encoding v ++ tail)) tail rest (k, v) (pair_list_of ps)
-        (pair_again limit k v tail (item_again k limit (encoding v ++ tail) fits.0) (item_again v limit tail fits.1)) (pairs_again ps fits.2 limit rest)
+      (pair_again limit k v tail (item_again k limit (encoding v ++ tail) fits.0) (item_again v limit tail fits.1)) (pairs_again ps fits.2 limit rest)
 
   pairs_until : (ps : Pairs) → PairsFit ps → UntilPairsAgain ps
   pairs_until no_pairs fits limit turns rest lt = until_end_at (pair_at (item_at limit)) turns limit rest (omega arith)
@@ -351,4 +350,4 @@ mutual
       let tail = pair_encodings ps ++ (255 ∷ rest) in
       ap (until_break (pair_at (item_at limit)) turns) (append_assoc (encoding k ++ encoding v) (pair_encodings ps) (255 ∷ rest) ∙ append_assoc (encoding k) (encoding v) tail)
       ∙ until_more_at (pair_at (item_at limit)) limit (max (nesting k) (nesting v)) (pairs_nesting ps) turns (encoding k ++ (encoding v ++ tail)) tail rest (k, v) (pair_list_of ps) (omega arith) (going k (encoding v ++ tail) fits.0)
-        (pair_again limit k v tail (item_again k limit (encoding v ++ tail) fits.0) (item_again v limit tail fits.1)) (pairs_until ps fits.2 limit (turns - 1) rest (omega arith))
+      (pair_again limit k v tail (item_again k limit (encoding v ++ tail) fits.0) (item_again v limit tail fits.1)) (pairs_until ps fits.2 limit (turns - 1) rest (omega arith))

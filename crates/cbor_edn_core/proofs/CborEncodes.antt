@@ -1,20 +1,18 @@
 -- What is pushed by parts is the encoding of the whole.
-use Rattle.std.proofs.Common.{◌≡◌, ℕ, ℤ, pos, negsuc, zero, suc, ◌+◌, ◌^◌, ◌<◌, ◌≤◌, Bool, true, false, cond, ltb, List, [], ◌∷◌, ◌++◌, length, map, drop, get_or, drop-cons, add-one, Option, Some, None, Result, Ok, Err, refl, sym, ap, subst, ◌∙◌, append_assoc, arith}
+use Rattle.std.proofs.Common.{◌≡◌, ℕ, ℤ, zero, suc, ◌+◌, ◌^◌, ◌<◌, ◌≤◌, Bool, true, false, cond, ltb, List, [], ◌∷◌, ◌++◌, length, map, drop, get_or, drop-cons, add-one, Option, Some, None, Result, Ok, Err, refl, sym, ap, ◌∙◌, append_assoc, arith}
 use Rattle.std.proofs.lemmas.Bool.{le-ltb}
 use Rattle.std.proofs.lemmas.List.{append-nil}
 use Rattle.cbor_edn_parts.specs.declared.error.Fault.{Fault}
 use Rattle.cbor_edn_parts.specs.declared.error.Fault.TheVariants.{Memory, Told}
 use Rattle.cbor_edn_parts.specs.declared.error.InconsistentEdn.{InconsistentEdn}
-use Rattle.cbor_edn_parts.specs.declared.error.InconsistentEdn.TheVariants.{NumberWithoutEncoding}
 use Rattle.cbor_edn_parts.specs.Number.{Sign, NoSign, PlusSign, MinusSign, signed, sign_of, is_numeral, radix, base_of, digits_of, magnitude_of, integer_of}
-use Rattle.cbor_edn_core.specs.declared.cbor.Width.{Width}
 use Rattle.cbor_edn_core.specs.declared.cbor.Width.TheVariants.{Immediate}
-use Rattle.cbor_edn_core.specs.Items.{Elements, Node, Item, Entries, Number, Listed, Element, End, Then, Items}
-use Rattle.cbor_edn_core.specs.Trees.{Tree, OneItem, Inside, Rest, LastTree, ElementTree, EmptyTree, FullTree, items}
+use Rattle.cbor_edn_core.specs.Items.{Elements, Node, Item, Number, Listed, End, Items}
+use Rattle.cbor_edn_core.specs.Trees.{Tree, OneItem, Rest, LastTree, ElementTree, EmptyTree, FullTree, items}
 use Rattle.cbor_edn_core.specs.View.{entries_onto}
 use Rattle.cbor_edn_core.specs.Value.{Value, array, Values, no_values, value, values_len, head, encoding, encodings, Enc, EncAll}
-use Rattle.cbor_edn_core.specs.Meaning.{◌>>=◌, shortest, with_argument, means_integer, listed, means}
-use Rattle.cbor_edn_core.specs.Encoding.{Encodes, NoEncoding, row_items}
+use Rattle.cbor_edn_core.specs.Meaning.{◌>>=◌, shortest, with_argument, means_integer, means}
+use Rattle.cbor_edn_core.specs.Encoding.{Encodes, row_items}
 use Rattle.cbor_edn_core.proofs.Meanings.{with_argument_is, both_steps, meaning_fits}
 
 abbrev pub Pushed : Type 0
@@ -117,10 +115,11 @@ pub array_encoded : (before : List ℕ) (m : Tree (Rest Elements)) (ps : List (T
     → middle ≡ old ++ head 4 (shortest n) n → Encodes encodings (means (items m)) middle new r → Encodes encoding (means (Listed Elements (items (FullTree before m)))) old new r
 unfolding means items
 array_encoded before m ps w s n old middle new (Ok u) m_is count lt opened (vs, meant, is) =
-    let len : values_len vs ≡ n = row_len ps w s vs (ap (λ t. means (items t)) (sym m_is) ∙ meant) ∙ sym count in
-    (array (Some (shortest n)) vs,
+    let len : values_len vs ≡ n = row_len ps w s vs (ap (λ t. means (items t)) (sym m_is) ∙ meant) ∙ sym count in (
+      array (Some (shortest n)) vs,
       rw meant (rw len (with_argument_is n _ lt)),
-      is ∙ ap (λ (l : List ℕ). l ++ encodings vs) opened ∙ append_assoc old (head 4 (shortest n) n) (encodings vs) ∙ ap (λ k. old ++ (head 4 (shortest n) k ++ encodings vs)) (sym len))
+      is ∙ ap (λ (l : List ℕ). l ++ encodings vs) opened ∙ append_assoc old (head 4 (shortest n) n) (encodings vs) ∙ ap (λ k. old ++ (head 4 (shortest n) k ++ encodings vs)) (sym len),
+    )
 array_encoded before m ps w s n old middle new (Err (Told e)) m_is count lt opened row = (row.0, rw row.1 refl)
 array_encoded before m ps w s n old middle new (Err (Memory e)) m_is count lt opened row = tt
 

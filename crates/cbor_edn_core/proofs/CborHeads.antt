@@ -1,5 +1,5 @@
 -- A head that was written is read again.
-use Rattle.std.proofs.Common.{◌≡◌, ℕ, ◌+◌, ◌*◌, ◌/◌, ◌%◌, ◌^◌, ◌<◌, ◌≤◌, true, false, ltb, List, ◌∷◌, ◌++◌, length, Option, Some, None, Ok, refl, ◌∙◌, arith}
+use Rattle.std.proofs.Common.{◌≡◌, ℕ, ◌+◌, ◌*◌, ◌/◌, ◌%◌, ◌^◌, ◌<◌, true, false, ltb, List, ◌∷◌, ◌++◌, length, Some, None, Ok, refl, ◌∙◌, arith}
 use Rattle.std.specs.Int.{w8, w16, w32, w64, byte_len, from_be_bytes, to_be_bytes}
 use Rattle.std.specs.Int.{Width as Bits}
 use Rattle.std.proofs.lemmas.Bool.{lt-ltb, le-ltb}

@@ -1,5 +1,5 @@
 -- A reader of CBOR on lists: items from left to right, with the first fault that is met.
-use Rattle.std.proofs.Common.{ℕ, zero, suc, ◌+◌, ◌-◌, ◌/◌, ◌%◌, List, [], ◌∷◌, length, take, drop, Option, Some, None, Result, Ok, Err}
+use Rattle.std.proofs.Common.{ℕ, zero, suc, ◌-◌, ◌/◌, ◌%◌, List, [], ◌∷◌, length, take, drop, Option, Some, None, Result, Ok, Err}
 use Rattle.std.specs.Prelude.{nat_lt, ◌==◌, if◌then◌else◌}
 use Rattle.std.specs.Int.{w8, w16, w32, w64, byte_len, from_be_bytes}
 use Rattle.std.specs.Int.{Width as Bits}
@@ -9,16 +9,25 @@ use Rattle.cbor_edn_core.specs.Value.{Value, unsigned, negative, byte_string, ch
 
 -- why bytes are refused
 pub data ReadFault : Type 0 where
+  -- no byte where a head has to stand
   OutOfData : ReadFault
   -- the additional information 28, 29 or 30
   Reserved : ReadFault
+  -- fewer bytes than the argument takes
   MissingArgument : ReadFault
+  -- in a string of indefinite length: an item of another major type
   OtherChunk : ReadFault
+  -- in a string of indefinite length: another such string
   OpenChunk : ReadFault
+  -- an integer or a tag with indefinite length
   OpenNumber : ReadFault
+  -- a break where an item has to stand
   MisplacedBreak : ReadFault
+  -- a text string, or an item of major type 7
   Unbuilt : ReadFault
+  -- fewer bytes than a string's length
   MissingBytes : ReadFault
+  -- an array, a map or a tag deeper than the limit
   TooDeep : ReadFault
 
 -- what is read, and the bytes behind it

@@ -11,7 +11,6 @@ pub mod Found
 pub mod GrammarLaws
 pub mod Marking
 pub mod Meanings
-pub mod OntoAppend
 pub mod Outcomes
 pub mod Places
 pub mod Printable

@@ -1,5 +1,5 @@
 -- What items mean can be encoded.
-use Rattle.std.proofs.Common.{◌≡◌, ℕ, ℤ, pos, negsuc, ◌+◌, ◌^◌, ◌<◌, ◌≤◌, ◌++◌, List, Bool, true, false, cond, ltb, Option, Some, None, refl, sym, ap, subst, ◌∙◌, arith, inl, inr}
+use Rattle.std.proofs.Common.{◌≡◌, ℕ, ℤ, pos, negsuc, ◌^◌, ◌<◌, ◌++◌, List, Bool, true, false, cond, ltb, Option, Some, None, refl, subst, inl, inr}
 use Rattle.std.proofs.lemmas.Bool.{cases_lt, lt-ltb, le-ltb, ltb-true}
 use Rattle.cbor_edn_parts.specs.Number.{integer_of}
 use Rattle.cbor_edn_parts.specs.Leaves as leaves
@@ -7,8 +7,8 @@ use Rattle.cbor_edn_parts.specs.declared.number.Integer.{Integer}
 use Rattle.cbor_edn_parts.specs.declared.number.Integer.TheVariants.{Positive, Negative}
 use Rattle.cbor_edn_core.specs.declared.cbor.Width.{Width}
 use Rattle.cbor_edn_core.specs.declared.cbor.Width.TheVariants.{Immediate, One, Two, Four, Eight}
-use Rattle.cbor_edn_core.specs.Items.{Row, Elements, Sort, Item, Entry, Entries, Node, Number, Listed, Element, End, Then, Items}
-use Rattle.cbor_edn_core.specs.Value.{Value, unsigned, negative, array, Values, no_values, value, values_len, head, encoding, ArgumentFits, Fits, ValuesFit}
+use Rattle.cbor_edn_core.specs.Items.{Row, Elements, Sort, Item, Entry, Entries, Node, Number, Listed, Element, End, Then}
+use Rattle.cbor_edn_core.specs.Value.{Value, unsigned, negative, array, values_len, head, encoding, ArgumentFits, Fits, ValuesFit}
 use Rattle.cbor_edn_core.specs.Meaning.{◌>>=◌, shortest, with_argument, means_integer, MeaningOf, RowOf, listed, no_entries, one_more, means}
 
 narrow : (n limit : ℕ) (w x : Width) → (n < limit → ArgumentFits w n) → ArgumentFits x n → ArgumentFits (cond (ltb n limit) w x) n

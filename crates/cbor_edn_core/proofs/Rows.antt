@@ -1,5 +1,5 @@
 -- When two lists of items are the same.
-use Rattle.std.proofs.Common.{◌≡◌, ◌≢◌, ℕ, List, [], ◌∷◌, Bool, true, false, ◌&&◌, length, map, refl, ap, ◌∙◌, sym, arith}
+use Rattle.std.proofs.Common.{◌≡◌, ◌≢◌, ℕ, List, [], ◌∷◌, Bool, true, false, ◌&&◌, length, map, refl, ap, ◌∙◌, arith}
 use Rattle.cbor_edn_core.specs.declared.tree.ItemOf.{ItemOf}
 use Rattle.cbor_edn_core.specs.declared.tree.Leaves.{Ghosts}
 use Rattle.cbor_edn_core.specs.Trees.{Tree, OneItem, ElementTree, LastTree}

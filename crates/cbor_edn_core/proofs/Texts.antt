@@ -3,7 +3,7 @@ use Rattle.std.proofs.Common.{◌≡◌, ℕ, List, [], ◌∷◌, ◌++◌, ref
 use Rattle.std.proofs.lemmas.List.{append-nil}
 use Rattle.cbor_edn_core.specs.Items.{Row, Elements}
 use Rattle.cbor_edn_core.specs.Spelling.{opening, ending}
-use Rattle.cbor_edn_core.specs.Trees.{Rule, OneItem, OneEntry, Inside, Rest, Tree, NumberTree, ListTree, ElementTree, EmptyTree, FullTree, LastTree, MoreTree, NothingTree, SequenceTree, StandaloneTree, onto, text}
+use Rattle.cbor_edn_core.specs.Trees.{OneItem, OneEntry, Inside, Rest, Tree, NumberTree, ListTree, ElementTree, EmptyTree, FullTree, LastTree, MoreTree, NothingTree, SequenceTree, StandaloneTree, onto, text}
 use Rattle.cbor_edn_core.proofs.Spelled.{parted}
 
 pub text_number : (x : List ℕ) → text (NumberTree x) ≡ x

@@ -8,8 +8,8 @@ use Rattle.cbor_edn_core.specs.declared.cbor.Width.TheVariants.{Immediate, One, 
 abbrev pub Chunk : Type 0
 Chunk = Width × List ℕ
 
--- Data items (section 3.1) of the major types 0, 1, 2, 4, 5 and 6.
--- Each width is that of the argument. A list without one has indefinite length (section 3.2).
+-- Data items (section 3.1) of the major types 0, 1, 2, 4, 5 and 6, with the width of each argument.
+-- An array or a map without one has indefinite length (section 3.2).
 mutual
   pub data Value : Type 0 where
     -- the integer n, as `unsigned One 10` for 10
@@ -17,7 +17,7 @@ mutual
     -- the integer -1 - n, as `negative Immediate 0` for -1
     negative : Width → ℕ → Value
     byte_string : Width → List ℕ → Value
-    -- a byte string of indefinite length
+    -- a byte string of indefinite length (section 3.2.3)
     chunks : List Chunk → Value
     array : Option Width → Values → Value
     -- a map: `map` is a function on lists

@@ -42,7 +42,12 @@ pub(crate) fn shortest_width(argument: u64) -> Width
 
 /// Writes a head at the end.
 #[tactic(auto, unfolding(crate::specs::Value::head))]
-pub(crate) fn push_head(out: &mut Vec<u8>, major: u8, width: Width, argument: u64) -> Result<(), AllocError>
+pub(crate) fn push_head(
+    out: &mut Vec<u8>,
+    major: u8,
+    width: Width,
+    argument: u64,
+) -> Result<(), AllocError>
     requires major { major < 8 }
     requires fits { ArgumentFits width argument }
     ensures { OnOk result (out.new.items ≡ out.old.items ++ head major width argument) }

@@ -13,5 +13,5 @@ mod parse;
 mod serialize;
 mod to_cbor;
 pub mod tree;
-
-pub use parse::NESTING_LIMIT;
+#[cfg(test)]
+mod tree_tests;

@@ -11,14 +11,11 @@ ghost use Rattle.cbor_edn_core.specs.View.{sequence_tree, standalone_tree};
 
 use crate::grammar::{whole_sequence, whole_standalone};
 use crate::location::located;
-use crate::tree::{Sequence, StandaloneItem};
+use crate::tree::{NESTING_LIMIT, Sequence, StandaloneItem};
 use cbor_edn_parts::error::{Fault, ParseError, ParseErrorKind};
 use cbor_edn_parts::looks::Looks;
 use cbor_edn_parts::text::Text;
 use std::alloc::Global;
-
-/// How deep a text may nest where no limit is given.
-pub const NESTING_LIMIT: usize = 512;
 
 impl<'a> Sequence<'a> {
     /// The items of a text, with their spaces: arrays may nest [`NESTING_LIMIT`] deep.

@@ -9,6 +9,9 @@ use cbor_edn_parts::space::{Msc, S, Soc};
 use std::fmt::Debug;
 use std::marker::PhantomData;
 
+/// How deep arrays may nest where no limit is given.
+pub const NESTING_LIMIT: usize = 512;
+
 /// The types of the leaves of a tree, and the bytes that each stands for.
 pub trait Leaves {
     /// Optional space.

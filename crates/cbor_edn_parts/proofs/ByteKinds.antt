@@ -1,8 +1,8 @@
 -- What the kind of a byte says of it.
 use Rattle.std.proofs.Common.{ℕ, ◌≡◌, ◌≤◌, ◌<◌, arith, Bool, true, false, refl, sym, ap, ◌∙◌, subst, ◌⊎◌, inl, inr}
-use Rattle.std.specs.Prelude.{eqb, ltb, ◌||◌, ◌&&◌}
+use Rattle.std.specs.Prelude.{eqb, ltb, ◌||◌}
 use Rattle.std.specs.Char.{digit_value}
-use Rattle.std.proofs.lemmas.Bool.{cases_lt, agree_below, agree_below_at, eqb-true, ltb-true, lt-ltb, le-ltb, or_cases}
+use Rattle.std.proofs.lemmas.Bool.{cases_lt, agree_below_at, eqb-true, or_cases}
 use Rattle.std.proofs.lemmas.Bool.Decides.{nat_tests}
 use Rattle.cbor_edn_parts.specs.Bytes.{Kind, Control, Comma, Plus, Minus, Zero, Digit, HexLetter, X, Other, kind}
 use mathlib.Core.Logic.{⊎_elim}

@@ -1,11 +1,11 @@
 -- A reader of an integer literal finds its parts.
-use Rattle.std.proofs.Common.{ℕ, zero, suc, ◌<◌, ◌≤◌, ◌≡◌, ◌≢◌, ◌^◌, List, [], ◌∷◌, ◌++◌, length, drop, Bool, true, false, Option, Some, None, refl, sym, ap, ◌∙◌, subst, arith}
-use Rattle.std.specs.Prelude.{◌||◌, ◌&&◌, if◌then◌else◌, ◌==◌, ◌↔◌, IsTrue, pos, neg_ℤ, slice_index, nat_lt}
+use Rattle.std.proofs.Common.{ℕ, ◌<◌, ◌≤◌, ◌≡◌, ◌≢◌, ◌^◌, List, [], ◌∷◌, ◌++◌, length, drop, Bool, true, false, Some, None, inl, inr, refl, sym, ap, ◌∙◌, subst, arith}
+use Rattle.std.specs.Prelude.{eqb, ◌||◌, ◌⊎◌, ℤ, if◌then◌else◌, ◌↔◌, IsTrue, pos, neg_ℤ, nat_lt}
 use mathlib.Core.Logic.{⊎_elim}
 use Rattle.std.specs.Char.{digit_value}
 use Rattle.std.specs.List.{list_all}
 use Rattle.std.specs.Str.Parse.{digits_value, AllDigits, IsNumeral, without_leading_plus}
-use Rattle.std.proofs.lemmas.Bool.{cases_lt, false≢true, ne_eqb, lt-ltb, and_right, or_from, and_from}
+use Rattle.std.proofs.lemmas.Bool.{cases_lt, eqb-true, ltb-true, and_parts, or_cases, false≢true, ne_eqb, lt-ltb, and_right, or_from, and_from}
 use Rattle.cbor_edn_parts.specs.Space.{Each, end, next}
 use Rattle.cbor_edn_parts.proofs.NumberTexts.{number_is}
 use Rattle.cbor_edn_parts.specs.Number.{Sign, NoSign, PlusSign, MinusSign, sign_text, Base, Decimal, Hexadecimal, radix, IsPrefixOf, IsDigitOf, IsNumber, number_of, signed, sign_of, unsigned, names_hexadecimal, base_of, digits_of, is_numeral, magnitude_of, integer_of}
@@ -157,3 +157,73 @@ too_large t digits base r d b none =
   where
     small_value : {v m n : ℕ} → v ≡ m → m < n → v < n
     small_value e l = omega arith
+
+-- What has an integer is a literal.
+sign_text_is : (c : ℕ) (y : List ℕ) (minus plus : Bool) → eqb c 45 ≡ minus → eqb c 43 ≡ plus → c ∷ y ≡ sign_text (sign_of (c ∷ y)) ++ unsigned (c ∷ y)
+sign_text_is c y true plus m p = rw m (ap (◌∷ y) (eqb-true c 45 m))
+sign_text_is c y false true m p = rw (m, p) (ap (◌∷ y) (eqb-true c 43 p))
+sign_text_is c y false false m p = rw (m, p) refl
+
+signed_text : (t : List ℕ) → t ≡ sign_text (sign_of t) ++ unsigned t
+signed_text [] = refl
+signed_text (c ∷ y) = sign_text_is c y (eqb c 45) (eqb c 43) refl refl
+
+abbrev based : Bool → Base
+based n = if n then Hexadecimal else Decimal
+
+abbrev behind_base : Bool → List ℕ → List ℕ
+behind_base n u = if n then drop 2 u else u
+
+record Prefixed (n : Bool) (u : List ℕ) : Type 0 where
+  prefix : List ℕ
+  prefix_is : IsPrefixOf (based n) prefix
+  spelled : u ≡ prefix ++ behind_base n u
+
+unprefixed : (u : List ℕ) → Prefixed false u
+unprefixed u = record { prefix = []; prefix_is = refl; spelled = refl }
+
+prefixed_at : (c d : ℕ) (u : List ℕ) → c ≡ 48 → (d ≡ 120) ⊎ (d ≡ 88) → Prefixed true (c ∷ d ∷ u)
+prefixed_at c d u e x = record { prefix = c ∷ d ∷ []; prefix_is = ⊎_elim (λ h. inl (cc)) (λ h. inr (cc)) x; spelled = refl }
+
+named : (u : List ℕ) → names_hexadecimal u ≡ true → Prefixed true u
+named [] e = absurd (false≢true e)
+named (c ∷ []) e = absurd (false≢true (and_parts (eqb c 48) false e).1)
+named (c ∷ d ∷ u) e =
+    let h = and_parts (eqb c 48) (eqb d 120 || eqb d 88) e in
+    let x : (d ≡ 120) ⊎ (d ≡ 88) = ⊎_elim (λ k. inl (eqb-true d 120 k)) (λ k. inr (eqb-true d 88 k)) (or_cases (eqb d 120) (eqb d 88) h.1) in
+    prefixed_at c d u (eqb-true c 48 h.0) x
+
+prefixed_by : (u : List ℕ) (n : Bool) → names_hexadecimal u ≡ n → Prefixed n u
+prefixed_by u true e = named u e
+prefixed_by u false e = unprefixed u
+
+each_of : (b : Base) (x : List ℕ) → list_all (λ c. nat_lt (digit_value c) (radix b)) x ≡ true → Each (IsDigitOf b) x
+each_of b [] e = end
+each_of b (c ∷ x) e = let h = and_parts (nat_lt (digit_value c) (radix b)) _ e in next (ltb-true (digit_value c) (radix b) h.0) (each_of b x h.1)
+
+digits_from : (b : Base) (x : List ℕ) → is_numeral (radix b) x ≡ true → (x ≢ []) × Each (IsDigitOf b) x
+digits_from b [] e = absurd (false≢true e)
+digits_from b (c ∷ x) e = (λ q. cc, each_of b (c ∷ x) e)
+
+literal : (t : List ℕ) → is_numeral (radix (base_of t)) (digits_of t) ≡ true → IsNumber t
+literal t e =
+    let p = prefixed_by (unsigned t) (names_hexadecimal (unsigned t)) refl in
+    let h = digits_from (base_of t) (digits_of t) e in
+    record {
+      sign = sign_of t;
+      base = base_of t;
+      prefix = p.prefix;
+      digits = digits_of t;
+      prefix_is = p.prefix_is;
+      some = h.0;
+      each = h.1;
+      spelled = signed_text t ∙ ap (λ u. sign_text (sign_of t) ++ u) p.spelled;
+    }
+
+literal_if : (t : List ℕ) (z : ℤ) (b : Bool) → is_numeral (radix (base_of t)) (digits_of t) ≡ b → integer_of t ≡ Some z → IsNumber t
+unfolding integer_of
+literal_if t z true e h = literal t e
+literal_if t z false e h = let none : None ≡ Some z = rw e at h in absurd (cc)
+
+pub has_integer : (t : List ℕ) (z : ℤ) → integer_of t ≡ Some z → IsNumber t
+has_integer t z = literal_if t z (is_numeral (radix (base_of t)) (digits_of t)) refl

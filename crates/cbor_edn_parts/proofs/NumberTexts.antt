@@ -1,17 +1,14 @@
 -- The texts of integer literals are those that the table accepts, and a reader of them finds their parts.
-use Rattle.std.proofs.Common.{ℕ, zero, suc, ◌+◌, ◌*◌, ◌^◌, ◌<◌, ◌≤◌, ◌≡◌, ◌≢◌, ◌⊎◌, inl, inr, List, [], ◌∷◌, ◌++◌, length, drop, get_or, Bool, true, false, Option, Some, None, refl, sym, ap, ◌∙◌, subst, arith, append_assoc}
-use Rattle.std.specs.Prelude.{eqb, ltb, ◌||◌, ◌&&◌, if◌then◌else◌, ◌==◌, slice_index}
+use Rattle.std.proofs.Common.{ℕ, ◌+◌, ◌*◌, ◌^◌, ◌≡◌, ◌≢◌, ◌⊎◌, inl, inr, List, [], ◌∷◌, ◌++◌, length, true, Some, refl, sym, ap, ◌∙◌, subst, arith}
 use Rattle.std.specs.Char.{digit_value}
-use Rattle.std.specs.List.{list_all}
-use Rattle.std.specs.Str.Parse.{digits_value, digits_value_after, AllDigits, IsNumeral, without_leading_plus}
+use Rattle.std.specs.Str.Parse.{digits_value, digits_value_after}
 use mathlib.Core.Logic.{⊎_elim}
 use Rattle.std.proofs.Math.Nat.{pow-zero, pow-suc}
-use Rattle.std.proofs.lemmas.Bool.{false≢true, ltb-true, lt-ltb, eqb-true, and_from}
-use Rattle.std.proofs.lemmas.Bool.Decides.{nat_tests}
-use Rattle.cbor_edn_parts.specs.Bytes.{Kind, Blank, Tab, Lf, Control, Slash, Hash, Comma, Open, Close, Plus, Minus, Zero, Digit, HexLetter, X, Other, kind}
+use Rattle.std.proofs.lemmas.Bool.{false≢true, ltb-true, lt-ltb}
+use Rattle.cbor_edn_parts.specs.Bytes.{Kind, Plus, Minus, Zero, Digit, HexLetter, X, kind}
 use Rattle.cbor_edn_parts.specs.Lex.{Accepts, Is}
 use Rattle.cbor_edn_parts.specs.Space.{Each, end, next}
-use Rattle.cbor_edn_parts.specs.Number.{Sign, NoSign, PlusSign, MinusSign, sign_text, Base, Decimal, Hexadecimal, radix, IsPrefixOf, IsDigitOf, IsNumber, number_of, signed, sign_of, unsigned, names_hexadecimal, base_of, digits_of, is_numeral, magnitude_of, integer_of}
+use Rattle.cbor_edn_parts.specs.Number.{Sign, NoSign, PlusSign, MinusSign, sign_text, Base, Decimal, Hexadecimal, IsPrefixOf, IsDigitOf, IsNumber, number_of}
 use Rattle.cbor_edn_parts.specs.NumberTokens as tokens
 use Rattle.cbor_edn_parts.specs.NumberTokens.{number_step, is_number}
 use Rattle.cbor_edn_parts.specs.declared.number.Reached.{Reached}

@@ -1,8 +1,8 @@
 -- The space texts of the grammar are those that the tables accept.
 use Rattle.std.proofs.Common.{ℕ, ◌≡◌, ◌≢◌, ◌≤◌, ◌<◌, ◌⊎◌, inl, inr, List, [], ◌∷◌, ◌++◌, Bool, true, false, Option, Some, None, refl, sym, ap, ◌∙◌, subst, arith}
-use Rattle.std.specs.Prelude.{not, eqb, leb, ltb, ◌||◌, ◌&&◌}
+use Rattle.std.specs.Prelude.{not, eqb, ltb, ◌||◌, ◌&&◌}
 use mathlib.Core.Logic.{⊎_elim}
-use Rattle.std.proofs.lemmas.Bool.{cases_lt, agree_below_at, false≢true, and_left, and_parts, and_from}
+use Rattle.std.proofs.lemmas.Bool.{agree_below_at, false≢true, and_parts, and_from}
 use Rattle.std.proofs.lemmas.Bool.Decides.{nat_tests, Decides-or, Decides-and, Decides-not, Decides-eqb, Decides-ltb, Decides-like}
 use Rattle.std.specs.Bool.{Decides}
 use Rattle.cbor_edn_parts.specs.Bytes.{Kind, Control, Comma, kind}

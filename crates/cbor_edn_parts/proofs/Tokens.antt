@@ -1,10 +1,9 @@
 -- A token's text is taken back, whatever follows that the token does not take in.
-use Rattle.std.proofs.Common.{ℕ, List, [], ◌∷◌, ◌++◌, ◌≡◌, Bool, true, false, cond, Option, Some, None, IsTrue, Result, Ok, Err, drop, refl, sym, ap, ◌∙◌, subst}
-use Rattle.std.specs.Prelude.{IfOk}
+use Rattle.std.proofs.Common.{ℕ, List, [], ◌∷◌, ◌++◌, ◌≡◌, true, cond, Option, Some, None, refl, sym, ap, ◌∙◌, subst}
 use Rattle.std.proofs.lemmas.Bool.{cond_both, false≢true}
 use Rattle.std.proofs.lemmas.List.{append-nil}
 use Rattle.cbor_edn_parts.specs.Bytes.{kind}
-use Rattle.cbor_edn_parts.specs.Lex.{Table, Accepts, Is, push, munch, token, is_all, is_token}
+use Rattle.cbor_edn_parts.specs.Lex.{Table, Accepts, Is, push, munch, is_all, is_token}
 
 pub data Holds {A : Type 0} (P : A → Type 0) : Option A → Type 0 where
   nothing : Holds P None

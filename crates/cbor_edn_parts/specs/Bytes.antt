@@ -1,5 +1,5 @@
 -- The kinds of bytes that the grammar tells apart. A text is the list of its UTF-8 bytes, each below 256.
-use Rattle.std.specs.Prelude.{ℕ, Bool, true, false, not, cond, eqb, leb, ltb, ◌||◌, ◌&&◌, List, [], ◌∷◌, ◌≡◌}
+use Rattle.std.specs.Prelude.{ℕ, Bool, true, false, cond, eqb, leb, ltb, ◌||◌, ◌&&◌, List, [], ◌∷◌, ◌≡◌}
 pub use Rattle.cbor_edn_parts.specs.declared.bytes.Kind.{Kind}
 pub use Rattle.cbor_edn_parts.specs.declared.bytes.Kind.TheVariants.{Blank, Tab, Lf, Control, Slash, Hash, Comma, Open, Close, Plus, Minus, Zero, Digit, HexLetter, X, Other}
 
@@ -9,7 +9,7 @@ is_close c = eqb c 93 || eqb c 125 || eqb c 41 || eqb c 62
 abbrev pub is_hex_letter : ℕ → Bool
 is_hex_letter c = (leb 97 c && leb c 102) || (leb 65 c && leb c 70)
 
--- a number from 256 on is no byte, and of no use as one
+-- a number that is no byte is taken for a control byte
 unfoldable pub kind : ℕ → Kind
 kind c =
     cond (eqb c 32 || eqb c 13) Blank (

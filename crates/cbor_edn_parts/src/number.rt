@@ -97,7 +97,7 @@ impl<'a> Number<'a> {
         self.text.as_str()
     }
 
-    /// The same text. Fails where memory runs out, as a borrowed text never does.
+    /// The same text. Fails where memory runs out.
     pub fn clone(&self) -> Result<Number<'a>, AllocError>
         ensures { IfOk result (λ t. number_bytes t ≡ number_bytes self.now) }
     {

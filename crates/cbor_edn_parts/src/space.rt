@@ -1,4 +1,4 @@
-//! Space texts: optional space (S), mandatory space (MS), separators (MSC) and the ends of lists (SOC).
+//! Space texts: optional space (S), separators (MSC) and the ends of lists (SOC).
 ghost use Rattle.std.specs.Prelude.{◌≡◌, ◌↔◌, IsTrue, [], IfOk, IfSome, IsNone, drop, true};
 ghost use Rattle.std.specs.Cow.{cow_str_bytes};
 ghost use Rattle.cbor_edn_parts.specs.SpaceTokens as tokens;
@@ -38,6 +38,7 @@ impl<'a> S<'a> {
     ghost use Rattle.cbor_edn_parts.specs.Leaves.{s_bytes};
 
     /// No space.
+    #[tactic(auto, unfolding(crate::specs::Lex::munch, crate::specs::Lex::push, crate::specs::Bytes::kind))]
     pub fn empty() -> S<'a>
         ensures { s_bytes result ≡ [] }
     {
@@ -52,7 +53,7 @@ impl<'a> S<'a> {
         self.text.as_str()
     }
 
-    /// The same text. Fails where memory runs out, as a borrowed text never does.
+    /// The same text. Fails where memory runs out.
     pub fn clone(&self) -> Result<S<'a>, AllocError>
         ensures { IfOk result (λ t. s_bytes t ≡ s_bytes self.now) }
     {
@@ -71,7 +72,7 @@ impl<'a> Msc<'a> {
         self.text.as_str()
     }
 
-    /// The same text. Fails where memory runs out, as a borrowed text never does.
+    /// The same text. Fails where memory runs out.
     pub fn clone(&self) -> Result<Msc<'a>, AllocError>
         ensures { IfOk result (λ t. msc_bytes t ≡ msc_bytes self.now) }
     {
@@ -84,6 +85,7 @@ impl<'a> Soc<'a> {
     ghost use Rattle.cbor_edn_parts.specs.Leaves.{msc_bytes, soc_bytes, BorrowsMsc, BorrowsSoc};
 
     /// No space and no comma.
+    #[tactic(auto, unfolding(crate::specs::Lex::munch, crate::specs::Lex::push, crate::specs::Bytes::kind))]
     pub fn empty() -> Soc<'a>
         ensures { soc_bytes result ≡ [] }
     {
@@ -98,7 +100,7 @@ impl<'a> Soc<'a> {
         self.text.as_str()
     }
 
-    /// The same text. Fails where memory runs out, as a borrowed text never does.
+    /// The same text. Fails where memory runs out.
     pub fn clone(&self) -> Result<Soc<'a>, AllocError>
         ensures { IfOk result (λ t. soc_bytes t ≡ soc_bytes self.now) }
     {

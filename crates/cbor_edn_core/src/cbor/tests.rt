@@ -14,9 +14,18 @@ fn integers(rt: HostRuntime) {
         (Integer::Positive(100), b"\x18\x64"),
         (Integer::Positive(1000), b"\x19\x03\xe8"),
         (Integer::Positive(1_000_000), b"\x1a\x00\x0f\x42\x40"),
-        (Integer::Positive(1_000_000_000_000), b"\x1b\x00\x00\x00\xe8\xd4\xa5\x10\x00"),
-        (Integer::Positive(18_446_744_073_709_551_615), b"\x1b\xff\xff\xff\xff\xff\xff\xff\xff"),
-        (Integer::Negative(18_446_744_073_709_551_615), b"\x3b\xff\xff\xff\xff\xff\xff\xff\xff"),
+        (
+            Integer::Positive(1_000_000_000_000),
+            b"\x1b\x00\x00\x00\xe8\xd4\xa5\x10\x00",
+        ),
+        (
+            Integer::Positive(18_446_744_073_709_551_615),
+            b"\x1b\xff\xff\xff\xff\xff\xff\xff\xff",
+        ),
+        (
+            Integer::Negative(18_446_744_073_709_551_615),
+            b"\x3b\xff\xff\xff\xff\xff\xff\xff\xff",
+        ),
         (Integer::Negative(0), b"\x20"),
         (Integer::Negative(9), b"\x29"),
         (Integer::Negative(99), b"\x38\x63"),
@@ -53,7 +62,8 @@ fn heads(rt: HostRuntime) -> Result<(), AllocError> {
     push_head(&mut out, 0, Width::Two, 10)?;
     push_head(&mut out, 0, Width::Four, 10)?;
     push_head(&mut out, 7, Width::Eight, 10)?;
-    let wanted = b"\x83\x98\x19\x19\x00\x0a\x1a\x00\x00\x00\x0a\xfb\x00\x00\x00\x00\x00\x00\x00\x0a";
+    let wanted =
+        b"\x83\x98\x19\x19\x00\x0a\x1a\x00\x00\x00\x0a\xfb\x00\x00\x00\x00\x00\x00\x00\x0a";
     assert!(rt; out.as_slice() == wanted.as_slice());
     Ok(())
 }

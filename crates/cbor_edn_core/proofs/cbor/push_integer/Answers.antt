@@ -1,4 +1,4 @@
-use Rattle.std.proofs.Common.{◌+◌, ◌^◌, ◌<◌, arith}
+use Rattle.std.proofs.Common.{◌^◌, ◌<◌, arith}
 use Rattle.cbor_edn_core.proofs.Meanings.{positive_encoded, negative_encoded}
 use Rattle.cbor_edn_core.proofs.cbor.push_integer.Goals as goal
 use Rattle.cbor_edn_core.proofs.cbor.push_integer.Goals.{in-Positive, in-Negative}

@@ -1,11 +1,7 @@
-use Rattle.std.proofs.Common.{◌≡◌, ℕ, ◌+◌, ◌^◌, ◌<◌, List, [], ◌∷◌, ◌++◌, length, map, drop, Ok, Err, Some, refl, sym, ap, subst, ◌∙◌, arith}
-use Rattle.cbor_edn_core.specs.Items as nodes
-use Rattle.cbor_edn_core.specs.Trees as trees
-use Rattle.cbor_edn_core.specs.View.{texts, view_list, view_items, seen, item_tree, standalone_tree, sequence_tree}
-use Rattle.cbor_edn_core.specs.Value.{Value, Values, head, encoding, encodings, Enc, EncAll}
-use Rattle.cbor_edn_core.specs.Meaning.{means, shortest}
-use Rattle.cbor_edn_core.specs.Encoding.{Encodes, NoEncoding, row_items}
-use Rattle.cbor_edn_core.specs.Refusals.{IfTold}
+use Rattle.std.proofs.Common.{◌≡◌, ◌+◌, ◌^◌, ◌<◌, ◌++◌, length, map, drop, ap, subst, ◌∙◌, arith}
+use Rattle.cbor_edn_core.specs.View.{texts, seen, item_tree}
+use Rattle.cbor_edn_core.specs.Value.{head}
+use Rattle.cbor_edn_core.specs.Meaning.{shortest}
 use Rattle.cbor_edn_core.proofs.CborEncodes.{empty_array, array_encoded, row_then_last, row_stops, next_pushed, next_stops, all_pushed, rest_at, PushesRest}
 use Rattle.std.proofs.lemmas.Result.{err_from_is_err_and}
 use Rattle.std.proofs.lemmas.List.{drop_all, length-map}
@@ -25,7 +21,7 @@ push_array-returns-in_ok-push_head-in-Present t c =
     let row = (out-Items _ _ _ _ _ c.in-Present.items).row in
     let count : n ≡ length (map (seen texts) row.items) + 1 = simp length-map (ap (λ k. k + 1) (c.len.ensures ∙ row.ok.0)) in
     let below : n < 2 ^ 64 = omega (arith, c.len.ensures, row.ok, row.small) in
-    let opened : c.push_head-in-Present.new.out.items ≡ c.args.out.now.items ++ head 4 (shortest n) n = rw (← c.shortest_width.ensures) c.in_ok-push_head-in-Present.ensures in
+    let opened : c.push_head-in-Present.new.out.items ≡ c.args.out.now.items ++ head 4 (shortest n) n = subst (λ w. c.push_head-in-Present.new.out.items ≡ c.args.out.now.items ++ head 4 w n) c.shortest_width.ensures c.in_ok-push_head-in-Present.ensures in
     rw c.in-Present.is (array_encoded (s_bytes c.in-Present.s) _ _ _ _ n _ _ _ _ (view_items_is texts c.in-Present.items) count below opened c.push_items.ensures)
 
 pub push_items-returns-in_err-push_row : goal.push_items-returns-in_err-push_row
@@ -39,7 +35,7 @@ push_items-returns t c =
     let items = out-Items _ _ _ _ _ c.args.items.now in
     rw (view_items_is texts c.args.items.now)
     (row_then_last (map (seen texts) items.row.items) (item_tree items.last.value) (soc_bytes items.soc) c.args.out.now.items c.push_row.new.out.items c.push_item.new.out.items c.push_item.result
-      (rw (← c.deref.ensures.value) c.in_ok-push_row.ensures) (rw (← c.deref-2.ensures) c.push_item.ensures))
+    (rw (← c.deref.ensures.value) c.in_ok-push_row.ensures) (rw (← c.deref-2.ensures) c.push_item.ensures))
 
 pub push_row-returns-in_err-push_item : goal.push_row-returns-in_err-push_item
 push_row-returns-in_err-push_item t c =

@@ -1,9 +1,8 @@
-use Rattle.std.proofs.Common.{ℕ, ◌≡◌, ◌≤◌, ◌<◌, ◌+◌, ◌∷◌, List, length, get_or, drop, Option, Some, None, add-zero, refl, sym, ap, ◌∙◌, arith}
+use Rattle.std.proofs.Common.{ℕ, ◌≡◌, ◌<◌, ◌∷◌, List, length, get_or, drop, Option, Some, None, add-zero, refl, sym, arith}
 use Rattle.std.specs.Str.{IsCharBoundary}
 use Rattle.std.proofs.lemmas.List.{get_or-drop}
 use Rattle.std.proofs.lemmas.Str.{IsCharBoundary-before_ascii}
-use Rattle.cbor_edn_parts.specs.Bytes.{Kind, Other, kind}
-use Rattle.cbor_edn_parts.specs.Lex.{Table}
+use Rattle.cbor_edn_parts.specs.Bytes.{Kind, kind}
 use Rattle.cbor_edn_parts.specs.Text.{text_bytes}
 use Rattle.cbor_edn_parts.proofs.ByteKinds.{ascii_or_other}
 use Rattle.cbor_edn_parts.proofs.Scans.{begun, going, stopped, ended}
@@ -14,6 +13,9 @@ before text at c rest here within ascii =
     let same : get_or (drop at text) 0 0 ≡ c = rw here refl in
     let is : get_or text at 0 ≡ c = rw (get_or-drop at text 0 0, add-zero) at same in
     IsCharBoundary-before_ascii text at within (rw is ascii)
+
+stepped : {State : Type 0} (step : Kind → State → Option State) (m : State) (c : ℕ) {k : Kind} {o : Option State} → k ≡ kind c → o ≡ step k m → step (kind c) m ≡ o
+stepped step m c e h = rw e at (sym h)
 
 pub bytes-init : goal.bytes-init
 bytes-init g c = record {
@@ -30,19 +32,19 @@ returns-in_default-clause-value g c =
 
 pub returns-in_default-step-clause-value : goal.returns-in_default-step-clause-value
 returns-in_default-step-clause-value g c =
-    stopped g.T.State.table _ (text_bytes c.args.text.now) c.args.from c.bytes.at _ _ _ c.in-Some.ensures.value.0 (rw c.of.ensures at (sym c.in_default-step.ensures)) c.bytes.invariant.reads
+    stopped g.T.State.table _ (text_bytes c.args.text.now) c.args.from c.bytes.at _ _ _ c.in-Some.ensures.value.0 (stepped g.T.State.table.step c.bytes.state c.in-Some.byte c.of.ensures c.in_default-step.ensures) c.bytes.invariant.reads
 
 pub returns-in_default-step-clause-place : goal.returns-in_default-step-clause-place
 returns-in_default-step-clause-place g c =
     let small : c.in-Some.byte < 256 = omega arith in
-    let none : g.T.State.table.step (kind c.in-Some.byte) c.bytes.state ≡ None = rw c.of.ensures at (sym c.in_default-step.ensures) in
+    let none : g.T.State.table.step (kind c.in-Some.byte) c.bytes.state ≡ None = stepped g.T.State.table.step c.bytes.state c.in-Some.byte c.of.ensures c.in_default-step.ensures in
     ascii_or_other c.in-Some.byte small (before _ _ _ _ c.in-Some.ensures.value.0 c.in-Some.ensures.value.1)
     (λ other. c.bytes.invariant.place (rw other at none))
 
 pub bytes-preserved : goal.bytes-preserved
 bytes-preserved g c =
     let small : c.in-Some.byte < 256 = omega arith in
-    let some : g.T.State.table.step (kind c.in-Some.byte) c.bytes.state ≡ Some c.in-Some-step.next = rw c.of.ensures at (sym c.in-Some-step.ensures) in
+    let some : g.T.State.table.step (kind c.in-Some.byte) c.bytes.state ≡ Some c.in-Some-step.next = stepped g.T.State.table.step c.bytes.state c.in-Some.byte c.of.ensures c.in-Some-step.ensures in
     record {
       order = omega arith;
       within = omega (arith, c.in-Some.ensures.value.1);

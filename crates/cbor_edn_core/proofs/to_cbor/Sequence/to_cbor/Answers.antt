@@ -1,4 +1,3 @@
-use Rattle.std.proofs.Common.{ap, ◌∙◌}
 use Rattle.cbor_edn_core.specs.Trees.{items}
 use Rattle.cbor_edn_core.specs.View.{texts, view_items}
 use Rattle.cbor_edn_core.proofs.CborEncodes.{items_encoded, nothing_encoded}

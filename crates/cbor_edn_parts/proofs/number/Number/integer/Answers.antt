@@ -1,6 +1,5 @@
-use Rattle.std.proofs.Common.{ℕ, ◌≡◌, ◌∙◌, List, drop, IsTrue, true, ap, sym, Some}
+use Rattle.std.proofs.Common.{ℕ, ◌≡◌, ◌∙◌, List, drop, IsTrue, ap, sym, Some}
 use Rattle.std.specs.Prelude.{ℤ, pos, neg_ℤ, Bool, if◌then◌else◌, ◌↔◌}
-use Rattle.std.specs.Str.Parse.{digits_value, without_leading_plus}
 use Rattle.cbor_edn_parts.specs.Leaves.{number_bytes}
 use Rattle.cbor_edn_parts.specs.Number.{IsNumber, Decimal, Hexadecimal, MinusSign, radix, sign_of, unsigned, names_hexadecimal, base_of, digits_of, magnitude_of, integer_of}
 use Rattle.cbor_edn_parts.specs.NumberTokens.{is_number}

@@ -1,0 +1,26 @@
+-- What was written, by what was read.
+use Rattle.std.proofs.Common.{◌≡◌, List, ℕ, [], Option, Some, None, Result, Ok, Err, IfSome, OnOk, IfErr, sym, subst, ◌∙◌, ap, append-nil, ◌++◌}
+use Rattle.std.specs.Io.KnownBytes.{Consumes, IsAtEnd, Appends}
+use Rattle.cbor_edn.specs.Devices.{AppendsBeginning}
+use Rattle.cbor_edn.specs.Runs.{IsOutput, Wrote}
+use Rattle.cbor_edn.specs.declared.engine.RunError.{RunError}
+use Rattle.cbor_edn.specs.declared.engine.RunError.TheVariants.{Write}
+
+-- what was read to the end is what was known
+of_all : (known left : Option (List ℕ)) (read input out : List ℕ) → Consumes known left read → IsAtEnd left → input ≡ read → IsOutput input out
+    → IfSome known (λ i. IsOutput i out)
+of_all None left read input out gone end is made = tt
+of_all (Some xs) None read input out gone end is made = absurd gone
+of_all (Some xs) (Some ys) read input out gone end is made =
+    let IsFrom : List ℕ → Type 0 = λ i. IsOutput i out in
+    subst IsFrom (is ∙ sym (gone ∙ ap (λ l. read ++ l) end ∙ append-nil read)) made
+
+pub wrote : (r : Result (Unit {0}) RunError) (known left old new : Option (List ℕ)) (bytes out input read : List ℕ)
+    → OnOk r (Appends old new bytes) → IfErr r (λ e. (e ≡ Write) × AppendsBeginning old new bytes)
+    → bytes ≡ out → IsOutput input out → input ≡ read → Consumes known left read → IsAtEnd left
+    → Wrote r known old new
+wrote (Ok _) known left old new bytes out input read all some is made from gone end =
+    (out, of_all known left read input out gone end from made, subst (Appends old new) is all)
+wrote (Err e) known left old new bytes out input read all some is made from gone end =
+    let P : RunError → Type 0 = λ e. Wrote (Err e) known old new in
+    subst P (sym some.0) (out, of_all known left read input out gone end from made, subst (AppendsBeginning old new) is some.1)

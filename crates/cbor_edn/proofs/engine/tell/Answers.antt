@@ -1,0 +1,8 @@
+-- Where there is no line, none of any line was written.
+use Rattle.std.proofs.Common.{[], ◌∷◌, refl, List, ℕ}
+use Rattle.std.specs.Prelude.{codes}
+use Rattle.std.proofs.KnownBytes.{Appends-nil}
+use Rattle.cbor_edn.proofs.engine.tell.Goals as goal
+
+pub returns-in_default : goal.returns-in_default
+returns-in_default g c = (_, ([], refl), ([], _, refl, Appends-nil _))

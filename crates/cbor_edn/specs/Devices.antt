@@ -1,0 +1,7 @@
+-- Words on devices.
+use Rattle.std.specs.Prelude.{◌≡◌, ℕ, ◌++◌, List, Option}
+use Rattle.std.specs.Io.KnownBytes.{Appends}
+
+-- known bytes grow by a beginning of bs, all of it or none of it too
+abbrev pub AppendsBeginning : Option (List ℕ) → Option (List ℕ) → List ℕ → Type 0
+AppendsBeginning old new bs = (front rest : List ℕ) × (bs ≡ front ++ rest) × Appends old new front

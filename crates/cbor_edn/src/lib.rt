@@ -1,0 +1,9 @@
+//! The Extended Diagnostic Notation (EDN) of CBOR, read, edited and written without loss.
+#![tactic(auto)]
+
+pub mod engine;
+
+pub use cbor_edn_core::laws;
+pub use cbor_edn_core::tree::{Item, NESTING_LIMIT, Sequence, StandaloneItem};
+pub use cbor_edn_parts::error::{Fault, InconsistentEdn, ParseError};
+pub use cbor_edn_parts::looks::Looks;

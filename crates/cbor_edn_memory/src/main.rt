@@ -1,0 +1,138 @@
+//! Calls that take memory, one after the other, for a script that has each of their allocations refused in turn.
+//!
+//! Standard input has a number: so many allocations are made before the calls, which moves the one that is refused from
+//! call to call. Each call prints its name and what came of it: `done` where it answered as it must, `refused` where it
+//! answered want of memory, and `wrong` at any other answer.
+#![tactic(auto)]
+
+use cbor_edn::engine::{Command, Options, RunError, StdSink, StdSource, run, serve};
+use cbor_edn::{Fault, Sequence};
+use std::alloc::Global;
+use std::fmt;
+use std::io;
+use std::io::Read;
+
+const TEXT: &str = "[1, 0x1f, []]";
+
+const BYTES: &[u8] = b"\x83\x01\x18\x1f\x80";
+
+const DIAG_TO_CBOR: Options = Options {
+    command: Command::Diag2Cbor,
+};
+
+// What came of a call.
+#[derive(Clone, Copy, Debug, PartialEq, Eq)]
+enum Outcome {
+    Done,
+    Refused,
+    Wrong,
+}
+
+impl Outcome {
+    // A call that answers must answer rightly.
+    fn of_answer(right: bool) -> Outcome {
+        if right { Outcome::Done } else { Outcome::Wrong }
+    }
+
+    // The texts here are right, so that only want of memory is an answer beside the right one.
+    fn of_fault<E: Drop>(fault: Fault<E>) -> Outcome {
+        match fault {
+            Fault::Memory(_) => Outcome::Refused,
+            Fault::Told(_) => Outcome::Wrong,
+        }
+    }
+}
+
+impl fmt::Display for Outcome {
+    fn fmt<W: fmt::Write>(&self, f: &mut fmt::Formatter<W>) -> fmt::Result {
+        match self {
+            Outcome::Done => f.write_str("done"),
+            Outcome::Refused => f.write_str("refused"),
+            Outcome::Wrong => f.write_str("wrong"),
+        }
+    }
+}
+
+fn parse(alloc: Global) -> Outcome {
+    match Sequence::parse(alloc, TEXT) {
+        Ok(_) => Outcome::Done,
+        Err(fault) => Outcome::of_fault(fault),
+    }
+}
+
+fn to_cbor(alloc: Global) -> Outcome {
+    match Sequence::parse(alloc, TEXT) {
+        Ok(sequence) => match sequence.to_cbor(alloc) {
+            Ok(bytes) => Outcome::of_answer(bytes.as_slice() == BYTES),
+            Err(fault) => Outcome::of_fault(fault),
+        },
+        Err(fault) => Outcome::of_fault(fault),
+    }
+}
+
+// Where memory was refused nothing may have been written. The sink takes memory too, and fails where that is refused.
+fn run_once(alloc: Global) -> Outcome {
+    let mut sink = StdSink::new(Vec::new(alloc));
+    let result = run(
+        alloc,
+        &DIAG_TO_CBOR,
+        &mut StdSource::new(TEXT.as_bytes()),
+        &mut sink,
+    );
+    let written = sink.into_inner();
+    match result {
+        Ok(()) => Outcome::of_answer(written.as_slice() == BYTES),
+        Err(RunError::Memory(_) | RunError::Write) if written.is_empty() => Outcome::Refused,
+        Err(_) => Outcome::Wrong,
+    }
+}
+
+// A fault of a run that has no text to its line, where memory for that is refused.
+fn serve_fault(alloc: Global) -> Outcome {
+    let mut sink = StdSink::new(Vec::new(alloc));
+    let mut errors = StdSink::new(Vec::new(alloc));
+    let status = serve(
+        alloc,
+        &DIAG_TO_CBOR,
+        &mut StdSource::new(b"\xff".as_slice()),
+        &mut sink,
+        &mut errors,
+    );
+    let told = errors.into_inner();
+    if status != 1 || !sink.into_inner().is_empty() {
+        return Outcome::Wrong;
+    }
+    match told.as_slice() {
+        b"" | b"cbor-edn: Out of memory\n" => Outcome::Refused,
+        line => Outcome::of_answer(line == b"cbor-edn: Error processing input file\n".as_slice()),
+    }
+}
+
+// The number that the input begins with, in decimal digits.
+fn number(reader: &mut impl Read) -> io::Result<u32> {
+    let mut bytes = [0u8; 8];
+    let n = reader.read(&mut bytes)?;
+    Ok(bytes[..n].iter().take_while(|b| b.is_ascii_digit()).fold(0u32, |sum, b| {
+        sum.wrapping_mul(10).wrapping_add(u32::from(*b & 15))
+    }))
+}
+
+// Makes so many allocations. The one that is refused may be among them.
+fn spend(alloc: Global, allocations: u32) {
+    for _ in 0..allocations {
+        let _ = Vec::<u8>::with_capacity(alloc, 1);
+    }
+}
+
+fn main(rt: HostRuntime) -> io::Result<()> {
+    spend(rt.alloc(), number(&mut rt.reader())?);
+    for (name, outcome) in [
+        ("parse", parse(rt.alloc())),
+        ("to_cbor", to_cbor(rt.alloc())),
+        ("run", run_once(rt.alloc())),
+        ("serve", serve_fault(rt.alloc())),
+    ] {
+        println!(rt; "{name}: {outcome}")?;
+    }
+    Ok(())
+}

@@ -1,0 +1,11 @@
+//! Tests of the library through its public calls: rows of texts and bytes, limits, copies and refusals.
+#![tactic(auto)]
+
+#[cfg(test)]
+mod limits;
+#[cfg(test)]
+mod refusals;
+#[cfg(test)]
+mod rows;
+#[cfg(test)]
+mod trees;
