@@ -8,8 +8,8 @@
 # refuses the same allocation in each run, the last of a window, and the number moves it back from there: so one build
 # serves for all. The window grows until a run in it ends without a refusal.
 #
-# Where one of the calls' allocations is refused, exactly one line must say so, and no line may say `wrong`; behind the
-# last of them each line must say `done`. The last line is 'N passed, M failed', over the runs.
+# Where one of the calls' allocations is refused, exactly one line must say so, and no line may say `wrong`. Where none
+# is, each line must say `done`. The last line is 'N passed, M failed', over the runs.
 set -euo pipefail
 
 cd "$(dirname "$(readlink -f "$0")")/.."
@@ -29,56 +29,61 @@ give_up() {
   exit 1
 }
 
-# Runs with each allocation of the window refused in turn: a line for each, its number and how often each word came.
+# Runs with each allocation of the window refused in turn, and as run 0 with none of the calls'. Prints a line for each
+# run, with its number and how often each word came.
 sweep() {
   local window=$1 k
   rm -rf "$work/cases"
   mkdir "$work/cases"
-  for ((k = 1; k <= window; k++)); do
+  for ((k = 0; k <= window; k++)); do
     echo "$((window - k))" > "$work/cases/$k"
   done
-  rt try --fail-alloc "$window" --cases "$work/cases" > "$work/output" 2> "$work/said" || return 1
-  awk '
-    /^== [0-9]+$/ { run = $2; next }
-    / *: refused$/ { refused[run]++; next }
-    / *: done$/ { done[run]++; next }
-    { wrong[run]++ }
-    END { for (k = 1; k <= '"$window"'; k++) print k, done[k] + 0, refused[k] + 0, wrong[k] + 0 }
-  ' "$work/output" > "$work/runs"
-}
-
-for ((window = 64; ; window *= 4)); do
-  [ "$window" -le 65536 ] || give_up "memory was refused in each of 65536 runs"
-  if ! sweep "$window"; then
+  if ! rt try --fail-alloc "$window" --cases "$work/cases" > "$work/output" 2> "$work/said"; then
     tail -n 20 "$work/said"
     give_up "rt try failed"
   fi
-  # whether the last run ended without a refusal
-  ! tail -n 1 "$work/runs" | awk '{ exit $3 > 0 ? 0 : 1 }' || continue
-  break
+  awk -v window="$window" '
+    /^== [0-9]+$/ { run = $2; next }
+    /: refused$/ { refused[run]++; next }
+    /: done$/ { done[run]++; next }
+    { wrong[run]++ }
+    END { for (k = 0; k <= window; k++) print k, done[k] + 0, refused[k] + 0, wrong[k] + 0 }
+  ' "$work/output" > "$work/runs"
+}
+
+# Prints what the calls of a run said.
+show() {
+  awk -v run="$1" '/^== /{ on = $2 == run } on' "$work/output"
+}
+
+for ((window = 64; ; window *= 4)); do
+  sweep "$window"
+  read -r _ calls refused wrong < "$work/runs"
+  if [ "$calls" = 0 ] || [ "$refused" != 0 ] || [ "$wrong" != 0 ]; then
+    show 0
+    give_up "a call fails where no memory is refused"
+  fi
+  read -r _ _ refused _ < <(tail -n 1 "$work/runs")
+  [ "$refused" != 0 ] || break
+  [ "$window" -le 16384 ] || give_up "memory is refused in more than $window runs"
 done
 
-# Up to the last run with a refusal each has one. The runs behind it are all alike, and count as one.
-awk '
-  { calls = $2 + $3 + $4; done[NR] = $2; refused[NR] = $3; wrong[NR] = $4; all[NR] = calls; if ($3 > 0) last = NR }
+# The runs behind the last refusal are all alike, and are run 0 again.
+awk -v calls="$calls" '
+  { done[$1] = $2; refused[$1] = $3; wrong[$1] = $4 }
+  $3 > 0 || $4 > 0 { last = $1 }
   END {
-    expected = all[NR]
-    for (k = 1; k <= NR; k++) {
-      good = expected > 0 && wrong[k] == 0 && all[k] == expected && refused[k] == (k <= last ? 1 : 0)
-      if (!good) { failed++; print "allocation " k ": " done[k] " done, " refused[k] " refused, " wrong[k] " wrong, of " expected " calls" }
-      else if (k <= last + 1) passed++
+    for (k = 0; k <= last; k++) {
+      if (wrong[k] == 0 && refused[k] == (k > 0) && done[k] + refused[k] == calls) passed++
+      else { failed++; print "allocation " k ": " done[k] " done, " refused[k] " refused, " wrong[k] " wrong, of " calls " calls" }
     }
     if (last == 0) { failed++; print "no allocation was refused" }
     print passed + 0 " passed, " failed + 0 " failed"
-    exit failed > 0
   }
-' "$work/runs" > "$work/verdict" || failed=1
-if [ "${failed:-0}" = 1 ]; then
-  # the first outputs in which something is wrong
-  sed -n 's/^allocation \([0-9]*\):.*/\1/p' "$work/verdict" | head -n 3 | while read -r k; do
-    awk -v k="$k" '/^== /{ on = $2 == k } on' "$work/output"
-  done
-fi
+' "$work/runs" > "$work/verdict"
+sed -n 's/^allocation \([0-9]*\):.*/\1/p' "$work/verdict" | head -n 3 | while read -r run; do
+  show "$run"
+done
 echo "refuse-memory: $crate: each allocation refused in turn"
 cat "$work/verdict"
-exit "${failed:-0}"
+tail -n 1 "$work/verdict" | grep -q ' 0 failed$'

@@ -1,5 +1,5 @@
 -- What was written, by what was read.
-use Rattle.std.proofs.Common.{◌≡◌, List, ℕ, [], Option, Some, None, Result, Ok, Err, IfSome, OnOk, IfErr, sym, subst, ◌∙◌, ap, append-nil, ◌++◌}
+use Rattle.std.proofs.Common.{◌≡◌, List, ℕ, Option, Some, None, Result, Ok, Err, IfSome, OnOk, IfErr, sym, subst, ◌∙◌, ap, append-nil, ◌++◌}
 use Rattle.std.specs.Io.KnownBytes.{Consumes, IsAtEnd, Appends}
 use Rattle.cbor_edn.specs.Devices.{AppendsBeginning}
 use Rattle.cbor_edn.specs.Runs.{IsOutput, Wrote}

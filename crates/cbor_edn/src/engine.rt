@@ -1,5 +1,5 @@
 //! A whole run: from a reader, through a text in EDN, to a writer.
-ghost use Rattle.std.specs.Prelude.{◌≡◌, ℕ, ◌+◌, List, Result, IfOk, OnOk, IfErr, string_bytes};
+ghost use Rattle.std.specs.Prelude.{◌≡◌, ◌+◌, Result, IfOk, OnOk, IfErr, string_bytes};
 ghost use Rattle.std.specs.Io.KnownBytes.{IsAtEnd, Appends, Consumes, Keeps};
 ghost use Rattle.cbor_edn.specs.Devices.{AppendsBeginning};
 ghost use Rattle.cbor_edn.specs.Runs.{IsOutput, IsRefused, IsReadFault, Wrote, HasReadAll, IsFaultLine, IsTold, read_faults, write_faults, status, told_as};
@@ -11,13 +11,10 @@ mod devices;
 #[cfg(test)]
 mod tests;
 
-
-
-pub use count::Count;
-pub use devices::{DeviceFault, Sink, Source, StdSink, StdSource};
-
 use cbor_edn_core::tree::Sequence;
 use cbor_edn_parts::error::{Fault, InconsistentEdn, ParseError};
+pub use count::Count;
+pub use devices::{DeviceFault, Sink, Source, StdSink, StdSource};
 use std::alloc::{AllocError, Global};
 use thiserror::Error;
 
@@ -183,13 +180,11 @@ pub fn serve<R: Source, W: Sink, E: Sink>(
     sink: &mut W,
     errors: &mut E,
 ) -> u8
-    ensures ran {
-        (r : Result (Unit {0}) RunError) × (result ≡ status r)
+    ensures ran { (r : Result (Unit {0}) RunError) × (result ≡ status r)
         × Wrote r (R.remaining source.old) (W.contents sink.old) (W.contents sink.new)
         × (HasReadAll r → IsAtEnd (R.remaining source.new))
         × (R.failures source.new ≡ R.failures source.old + read_faults r)
-        × (W.failures sink.new ≡ W.failures sink.old + write_faults r)
-    }
+        × (W.failures sink.new ≡ W.failures sink.old + write_faults r) }
     ensures quiet { result ≡ 0 → Keeps (E.contents errors.old) (E.contents errors.new) × (E.failures errors.new ≡ E.failures errors.old) }
     ensures told { result ≡ 1 → IsTold (E.contents errors.old) (E.contents errors.new) }
 {

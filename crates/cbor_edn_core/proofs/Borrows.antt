@@ -1,5 +1,5 @@
 -- A list that is made of borrowed parts is borrowed.
-use Rattle.std.proofs.Common.{◌≡◌, List, [], ◌∷◌, ◌++◌, subst, refl, sym, ap, ◌∙◌}
+use Rattle.std.proofs.Common.{◌≡◌, List, [], ◌∷◌, ◌++◌, subst, sym, ap, ◌∙◌}
 use Rattle.cbor_edn_parts.specs.Leaves.{BorrowsMsc, BorrowsSoc}
 use Rattle.cbor_edn_parts.specs.declared.space.S.{S}
 use Rattle.cbor_edn_parts.specs.declared.space.Msc.{Msc}
@@ -15,10 +15,11 @@ borrows_row end_of-Items-row-2 h = tt
 borrows_row (more_of-Items-row-2 item separator row) h = (h.0, h.1, borrows_row row h.2)
 
 borrows_out : (x : Items Texts S Msc Soc Number) → BorrowsEach (out-Items Texts S Msc Soc Number x).row.items → BorrowsItem (out-Items Texts S Msc Soc Number x).last.value → BorrowsSoc (out-Items Texts S Msc Soc Number x).soc → BorrowsItems x
-borrows_out (Items' n row p last soc) each one end =
-    (borrows_row row (subst BorrowsEach (ap (λ f. f.row.items) (outs-Items' n row p last soc) ∙ items_shown-the_row-Items-row-2-0 Texts S Msc Soc Number n row) each),
-    subst BorrowsItem (ap (λ f. f.last.value) (outs-Items' n row p last soc)) one,
-    subst BorrowsSoc (ap (λ f. f.soc) (outs-Items' n row p last soc)) end)
+borrows_out (Items' n row p last soc) each one end = (
+  borrows_row row (subst BorrowsEach (ap (λ f. f.row.items) (outs-Items' n row p last soc) ∙ items_shown-the_row-Items-row-2-0 Texts S Msc Soc Number n row) each),
+  subst BorrowsItem (ap (λ f. f.last.value) (outs-Items' n row p last soc)) one,
+  subst BorrowsSoc (ap (λ f. f.soc) (outs-Items' n row p last soc)) end,
+)
 
 pub borrows_made : (x : Items Texts S Msc Soc Number) (f : _) → x ≡ roll-Items Texts S Msc Soc Number f → BorrowsEach f.row.items → BorrowsItem f.last.value → BorrowsSoc f.soc → BorrowsItems x
 borrows_made x f is each one end =

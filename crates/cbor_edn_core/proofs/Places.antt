@@ -1,10 +1,9 @@
 -- Lines and columns, byte by byte.
-use Rattle.std.proofs.Common.{◌≡◌, ℕ, zero, suc, ◌+◌, ◌<◌, ◌≤◌, Bool, true, false, ◌||◌, ◌==◌, List, [], ◌∷◌, ◌++◌, length, take, drop, refl, sym, ap, ◌∙◌, arith, ◌⊎◌, inl, inr, Option, Some, None, length-drop}
+use Rattle.std.proofs.Common.{◌≡◌, ℕ, zero, suc, ◌+◌, ◌<◌, ◌≤◌, Bool, true, false, ◌||◌, List, [], ◌∷◌, ◌++◌, length, take, drop, refl, ap, ◌∙◌, arith, ◌⊎◌, inl, inr, Option, Some, None, length-drop}
 use Rattle.std.specs.Prelude.{IfSome}
 use Rattle.cbor_edn_parts.specs.Scans.{IsAt}
 use Rattle.std.specs.Prelude.{count_by, if◌then◌else◌, cond}
 use Rattle.std.specs.List.{list_any}
-use Rattle.std.proofs.lemmas.Grind.{common_steps}
 use Rattle.std.proofs.lemmas.List.Folds.{list_any-append}
 use Rattle.std.proofs.lemmas.List.Sums.{sum_by-append}
 use Rattle.cbor_edn_parts.specs.Place.{is_line_feed, is_start, last_line, place_behind}
@@ -74,7 +73,6 @@ IsPlaceAt-next text at c line column p here lines columns is =
     let more : at + 1 ≡ suc at = omega arith in
     let front : take (at + 1) text ≡ take at text ++ c ∷ [] = rw more (take_next at text c (drop (at + 1) text) here) in
     rw front (next (take at text) c line column p (bool_cases (is_line_feed c)) (bool_cases (is_start c)) lines columns is)
-
 
 -- the same where the byte was looked at
 pub turn : (text : List ℕ) (at line column : ℕ) (r : Option ℕ) (p : ℕ × ℕ) → IsAt text at r → at < length text

@@ -1,7 +1,6 @@
 -- What the calls answer that encode what items mean.
 use Rattle.std.specs.Prelude.{◌≡◌, List, [], ◌∷◌, ℕ, ◌++◌, Option, Some, None, Result, Ok, Err}
 use Rattle.cbor_edn_parts.specs.declared.error.Fault.{Fault}
-use Rattle.cbor_edn_parts.specs.declared.error.Fault.TheVariants.{Memory, Told}
 use Rattle.cbor_edn_parts.specs.declared.error.InconsistentEdn.{InconsistentEdn}
 use Rattle.cbor_edn_parts.specs.declared.error.InconsistentEdn.TheVariants.{NumberWithoutEncoding}
 use Rattle.cbor_edn_core.specs.Refusals.{IfTold}

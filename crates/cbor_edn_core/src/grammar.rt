@@ -209,4 +209,3 @@ pub(crate) fn whole_standalone<'a>(
     ends(text, to)?;
     Ok(item)
 }
-

@@ -51,4 +51,3 @@ pub(crate) fn ends(text: &Text<'_>, at: usize) -> Result<(), Fault<Refusal>>
     }
     Ok(())
 }
-

@@ -8,9 +8,8 @@
 use cbor_edn::engine::{Command, Options, RunError, StdSink, StdSource, run, serve};
 use cbor_edn::{Fault, Sequence};
 use std::alloc::Global;
-use std::fmt;
-use std::io;
 use std::io::Read;
+use std::{fmt, io};
 
 const TEXT: &str = "[1, 0x1f, []]";
 
@@ -60,12 +59,33 @@ fn parse(alloc: Global) -> Outcome {
     }
 }
 
-fn to_cbor(alloc: Global) -> Outcome {
+fn serialize(sequence: &Sequence<'_>, alloc: Global) -> Outcome {
+    match sequence.serialize(alloc) {
+        Ok(text) => Outcome::of_answer(text.as_str() == TEXT),
+        Err(_) => Outcome::Refused,
+    }
+}
+
+fn clone(sequence: &Sequence<'_>) -> Outcome {
+    match sequence.clone() {
+        Ok(copy) => Outcome::of_answer(copy == *sequence),
+        Err(_) => Outcome::Refused,
+    }
+}
+
+fn to_cbor(sequence: &Sequence<'_>, alloc: Global) -> Outcome {
+    match sequence.to_cbor(alloc) {
+        Ok(bytes) => Outcome::of_answer(bytes.as_slice() == BYTES),
+        Err(fault) => Outcome::of_fault(fault),
+    }
+}
+
+// The call on the sequence of the text, for which memory is asked too.
+fn on_sequence<Call: Fn(&Sequence<'_>) -> Outcome>(alloc: Global, call: Call) -> Outcome
+    requires { Call.IsAlwaysCallable call }
+{
     match Sequence::parse(alloc, TEXT) {
-        Ok(sequence) => match sequence.to_cbor(alloc) {
-            Ok(bytes) => Outcome::of_answer(bytes.as_slice() == BYTES),
-            Err(fault) => Outcome::of_fault(fault),
-        },
+        Ok(sequence) => call(&sequence),
         Err(fault) => Outcome::of_fault(fault),
     }
 }
@@ -112,9 +132,14 @@ fn serve_fault(alloc: Global) -> Outcome {
 fn number(reader: &mut impl Read) -> io::Result<u32> {
     let mut bytes = [0u8; 8];
     let n = reader.read(&mut bytes)?;
-    Ok(bytes[..n].iter().take_while(|b| b.is_ascii_digit()).fold(0u32, |sum, b| {
-        sum.wrapping_mul(10).wrapping_add(u32::from(*b & 15))
-    }))
+    Ok(
+        bytes[..n]
+            .iter()
+            .take_while(|b| b.is_ascii_digit())
+            .fold(0u32, |sum, b| {
+                sum.wrapping_mul(10).wrapping_add(u32::from(*b & 15))
+            }),
+    )
 }
 
 // Makes so many allocations. The one that is refused may be among them.
@@ -128,7 +153,15 @@ fn main(rt: HostRuntime) -> io::Result<()> {
     spend(rt.alloc(), number(&mut rt.reader())?);
     for (name, outcome) in [
         ("parse", parse(rt.alloc())),
-        ("to_cbor", to_cbor(rt.alloc())),
+        (
+            "serialize",
+            on_sequence(rt.alloc(), |s| serialize(s, rt.alloc())),
+        ),
+        ("clone", on_sequence(rt.alloc(), clone)),
+        (
+            "to_cbor",
+            on_sequence(rt.alloc(), |s| to_cbor(s, rt.alloc())),
+        ),
         ("run", run_once(rt.alloc())),
         ("serve", serve_fault(rt.alloc())),
     ] {

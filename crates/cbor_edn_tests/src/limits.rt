@@ -15,7 +15,11 @@ fn answer_of(alloc: Global, text: &str, limit: usize) -> Result<Answer, Fail> {
     match Sequence::parse_within(alloc, text, limit) {
         Ok(_) => Ok(Answer::Accepted),
         Err(Fault::Told(refused)) => {
-            if refused.too_deep() { Ok(Answer::TooDeep) } else { Ok(Answer::Invalid) }
+            if refused.too_deep() {
+                Ok(Answer::TooDeep)
+            } else {
+                Ok(Answer::Invalid)
+            }
         }
         Err(Fault::Memory(refused)) => Err(Fail::from(refused)),
     }
@@ -69,7 +73,10 @@ fn copies_the_deepest(rt: HostRuntime) -> Result<(), Fail> {
 fn refuses_what_is_deeper(rt: HostRuntime) -> Result<(), Fail> {
     let alloc = rt.alloc();
     let deeper = nested(alloc, 513)?;
-    assert_eq!(rt; answer_of(alloc, deeper.as_str(), NESTING_LIMIT)?, Answer::TooDeep);
+    assert_eq!(rt;
+        answer_of(alloc, deeper.as_str(), NESTING_LIMIT)?,
+        Answer::TooDeep
+    );
     assert!(rt; StandaloneItem::parse(alloc, deeper.as_str()).is_err());
     assert!(rt; StandaloneItem::parse_within(alloc, deeper.as_str(), 513).is_ok());
     Ok(())
@@ -81,7 +88,10 @@ fn refuses_many_open_arrays(rt: HostRuntime) -> Result<(), Fail> {
     for _ in 0..100000 {
         open.push_str("[")?;
     }
-    assert_eq!(rt; answer_of(rt.alloc(), open.as_str(), NESTING_LIMIT)?, Answer::TooDeep);
+    assert_eq!(rt;
+        answer_of(rt.alloc(), open.as_str(), NESTING_LIMIT)?,
+        Answer::TooDeep
+    );
     Ok(())
 }
 

@@ -20,10 +20,16 @@ fn names_its_place(rt: HostRuntime) -> Result<(), Fail> {
     assert_eq!(rt; refused.column(), 5);
     assert_eq!(rt; refused.offset(), 9);
     assert!(rt; !refused.too_deep());
-    assert_eq!(rt; refused.to_string(alloc)?.as_str(), "Invalid EDN in line 2 column 5 (byte 9)");
+    assert_eq!(rt;
+        refused.to_string(alloc)?.as_str(),
+        "Invalid EDN in line 2 column 5 (byte 9)"
+    );
     let refused = refusal(alloc, "[[]]", 1)?;
     assert!(rt; refused.too_deep());
-    assert_eq!(rt; refused.to_string(alloc)?.as_str(), "EDN nested too deeply in line 1 column 2 (byte 1)");
+    assert_eq!(rt;
+        refused.to_string(alloc)?.as_str(),
+        "EDN nested too deeply in line 1 column 2 (byte 1)"
+    );
     Ok(())
 }
 
@@ -34,7 +40,10 @@ fn tells_what_has_no_encoding(rt: HostRuntime) -> Result<(), Fail> {
     match sequence.to_cbor(alloc) {
         Err(Fault::Told(refused)) => {
             assert_eq!(rt; refused, InconsistentEdn::NumberWithoutEncoding);
-            assert_eq!(rt; refused.to_string(alloc)?.as_str(), "Number has no encoding");
+            assert_eq!(rt;
+                refused.to_string(alloc)?.as_str(),
+                "Number has no encoding"
+            );
         }
         _ => assert!(rt; false, "no refusal"),
     }

@@ -59,7 +59,10 @@ const ROWS: [(&str, &str); 24] = [
     ("[1, [2, 3], [4, 5]]", "8301820203820405"),
     ("1000000000000", "1b000000e8d4a51000"),
     ("-1000", "3903e7"),
-    ("[1, 2, 3, 4, 5, 6, 7, 8, 9, 10, 11, 12, 13, 14, 15, 16, 17, 18, 19, 20, 21, 22, 23, 24, 25]", "98190102030405060708090a0b0c0d0e0f101112131415161718181819"),
+    (
+        "[1, 2, 3, 4, 5, 6, 7, 8, 9, 10, 11, 12, 13, 14, 15, 16, 17, 18, 19, 20, 21, 22, 23, 24, 25]",
+        "98190102030405060708090a0b0c0d0e0f101112131415161718181819",
+    ),
     ("[\t0x0A\r\n]", "810a"),
     ("-0XfF", "38fe"),
 ];
@@ -67,7 +70,11 @@ const ROWS: [(&str, &str); 24] = [
 #[test]
 fn encodes_rows(rt: HostRuntime) -> Result<(), Fail> {
     for (text, bytes) in ROWS {
-        assert_eq!(rt; bytes_of(rt.alloc(), text)?.as_str(), bytes, "the bytes of {text:?}");
+        assert_eq!(rt;
+            bytes_of(rt.alloc(), text)?.as_str(),
+            bytes,
+            "the bytes of {text:?}"
+        );
         assert!(rt; prints_itself(rt.alloc(), text)?, "the text of {text:?}");
     }
     Ok(())
@@ -75,16 +82,26 @@ fn encodes_rows(rt: HostRuntime) -> Result<(), Fail> {
 
 #[test]
 fn encodes_standalone_items(rt: HostRuntime) -> Result<(), Fail> {
-    assert_eq!(rt; item_bytes_of(rt.alloc(), " [1, 0x1f, []] # c\n")?.as_str(), "8301181f80");
+    assert_eq!(rt;
+        item_bytes_of(rt.alloc(), " [1, 0x1f, []] # c\n")?.as_str(),
+        "8301181f80"
+    );
     assert_eq!(rt; item_bytes_of(rt.alloc(), "")?.as_str(), "parse");
     assert_eq!(rt; item_bytes_of(rt.alloc(), "1 2")?.as_str(), "parse");
-    assert_eq!(rt; item_bytes_of(rt.alloc(), "18446744073709551616")?.as_str(), "to_cbor");
+    assert_eq!(rt;
+        item_bytes_of(rt.alloc(), "18446744073709551616")?.as_str(),
+        "to_cbor"
+    );
     Ok(())
 }
 
 #[test]
 fn refuses_numbers_without_encoding(rt: HostRuntime) -> Result<(), Fail> {
-    for text in ["18446744073709551616", "-18446744073709551617", "[1, 0x10000000000000000]"] {
+    for text in [
+        "18446744073709551616",
+        "-18446744073709551617",
+        "[1, 0x10000000000000000]",
+    ] {
         assert_eq!(rt; bytes_of(rt.alloc(), text)?.as_str(), "to_cbor", "{text:?}");
         assert!(rt; prints_itself(rt.alloc(), text)?, "{text:?}");
     }
@@ -94,9 +111,40 @@ fn refuses_numbers_without_encoding(rt: HostRuntime) -> Result<(), Fail> {
 #[test]
 fn refuses_texts(rt: HostRuntime) -> Result<(), Fail> {
     for text in [
-        "[,]", "[1,,2]", ",1", "0x", "1 # c", "/", "#", "\u{a0}1", "\u{feff}1", "\u{0}1", "[1", "1]", "]", "[1}",
-        "1x", "--1", "+", "0x1g", "[1 2", "12[", "[][]", "/\u{1}/1", "1 2,,", "{}", "\"a\"", "1(2)", "true", "1.0",
-        "0b1", "0o7", "1_0", "_", "((", "<<1>>",
+        "[,]",
+        "[1,,2]",
+        ",1",
+        "0x",
+        "1 # c",
+        "/",
+        "#",
+        "\u{a0}1",
+        "\u{feff}1",
+        "\u{0}1",
+        "[1",
+        "1]",
+        "]",
+        "[1}",
+        "1x",
+        "--1",
+        "+",
+        "0x1g",
+        "[1 2",
+        "12[",
+        "[][]",
+        "/\u{1}/1",
+        "1 2,,",
+        "{}",
+        "\"a\"",
+        "1(2)",
+        "true",
+        "1.0",
+        "0b1",
+        "0o7",
+        "1_0",
+        "_",
+        "((",
+        "<<1>>",
     ] {
         assert_eq!(rt; bytes_of(rt.alloc(), text)?.as_str(), "parse", "{text:?}");
     }

@@ -7,7 +7,10 @@ fn copies_sequences(rt: HostRuntime) -> Result<(), Fail> {
     let sequence = Sequence::parse(rt.alloc(), " [1, /c/ 2 ,] 3 # d\n")?;
     let copy = sequence.clone()?;
     assert!(rt; copy == sequence);
-    assert_eq!(rt; copy.serialize(rt.alloc())?.as_str(), " [1, /c/ 2 ,] 3 # d\n");
+    assert_eq!(rt;
+        copy.serialize(rt.alloc())?.as_str(),
+        " [1, /c/ 2 ,] 3 # d\n"
+    );
     Ok(())
 }
 
@@ -23,7 +26,10 @@ fn copies_standalone_items(rt: HostRuntime) -> Result<(), Fail> {
 #[test]
 fn spaces_tell_trees_apart(rt: HostRuntime) -> Result<(), Fail> {
     let alloc = rt.alloc();
-    let texts = ["[1,2]", "[1 2]", "[ 1,2]", "[1,2 ]", " [1,2]", "[1,2] ", "[1,2,]", "[01,2]", "[1]", "[]", "1,2", ""];
+    let texts = [
+        "[1,2]", "[1 2]", "[ 1,2]", "[1,2 ]", " [1,2]", "[1,2] ", "[1,2,]", "[01,2]", "[1]", "[]",
+        "1,2", "",
+    ];
     for (i, one) in texts.iter().enumerate() {
         for (j, other) in texts.iter().enumerate() {
             let a = Sequence::parse(alloc, one)?;

@@ -77,7 +77,10 @@ impl Sink for SlowSink {
     fn write(&mut self, bytes: &[u8]) -> Result<usize, DeviceFault> {
         self.calls = self.calls.saturating_add(1);
         let n = self.step.min(bytes.len());
-        if n == 0 || counts_down(&mut self.calls_before_fault) || self.taken.extend_from_slice(&bytes[..n]).is_err() {
+        if n == 0
+            || counts_down(&mut self.calls_before_fault)
+            || self.taken.extend_from_slice(&bytes[..n]).is_err()
+        {
             self.failed.raise();
             return Err(DeviceFault);
         }
@@ -170,7 +173,13 @@ fn served(rt: HostRuntime) {
         let mut source = SlowSource::new(text, 4, None);
         let mut sink = SlowSink::new(rt.alloc(), 4, None);
         let mut errors = SlowSink::new(rt.alloc(), 4, None);
-        let answer = serve(rt.alloc(), &DIAG_TO_CBOR, &mut source, &mut sink, &mut errors);
+        let answer = serve(
+            rt.alloc(),
+            &DIAG_TO_CBOR,
+            &mut source,
+            &mut sink,
+            &mut errors,
+        );
         assert_eq!(rt; errors.taken.as_slice(), line.as_bytes());
         assert_eq!(rt; answer, status);
         assert_eq!(rt; sink.taken.as_slice(), bytes);
@@ -187,7 +196,13 @@ fn served_by_failing_devices(rt: HostRuntime) {
             let mut source = SlowSource::new(TEXT, 4, read_fault);
             let mut sink = SlowSink::new(rt.alloc(), 4, write_fault);
             let mut errors = SlowSink::new(rt.alloc(), 4, tell_fault);
-            let answer = serve(rt.alloc(), &DIAG_TO_CBOR, &mut source, &mut sink, &mut errors);
+            let answer = serve(
+                rt.alloc(),
+                &DIAG_TO_CBOR,
+                &mut source,
+                &mut sink,
+                &mut errors,
+            );
             assert_eq!(rt; answer, 1);
             let told = match tell_fault {
                 None => line.as_bytes(),

@@ -1,5 +1,5 @@
 -- What was read is what the source lost, and the bytes fit in memory, so the turns end.
-use Rattle.std.proofs.Common.{◌≡◌, ℕ, ◌-◌, ◌^◌, vec_len}
+use Rattle.std.proofs.Common.{◌≡◌, ◌-◌, ◌^◌, vec_len}
 use Rattle.std.specs.Io.KnownBytes.{Consumes}
 use Rattle.cbor_edn.proofs.engine.read_all.Given as goal
 

@@ -1,6 +1,5 @@
 -- Where there is no line, none of any line was written.
-use Rattle.std.proofs.Common.{[], ◌∷◌, refl, List, ℕ}
-use Rattle.std.specs.Prelude.{codes}
+use Rattle.std.proofs.Common.{[], refl}
 use Rattle.std.proofs.KnownBytes.{Appends-nil}
 use Rattle.cbor_edn.proofs.engine.tell.Goals as goal
 

@@ -16,7 +16,7 @@ turns-preserved g c =
       bytes = (
         front ++ take n rest,
         cut_on n c.args.bytes.now front rest (take n rest) _ c.turns.invariant.bytes.1 (λ _. take n rest) c.split_at.ensures.back,
-        Appends-trans _ _ _ front (take n rest) c.turns.invariant.bytes.2 c.in-Ok.ensures.bytes
+        Appends-trans _ _ _ front (take n rest) c.turns.invariant.bytes.2 c.in-Ok.ensures.bytes,
       );
       counted = search rules;
     }

@@ -1,11 +1,11 @@
-use Rattle.std.proofs.Common.{length-drop, ◌≡◌, ◌≢◌, ℕ, ◌+◌, ◌-◌, ◌≤◌, ◌<◌, [], length, drop, arith, sym, ◌∙◌, refl, ap, true, false, Some}
+use Rattle.std.proofs.Common.{length-drop, ◌≡◌, ◌≢◌, ◌+◌, ◌<◌, [], length, drop, arith, sym, ◌∙◌, refl}
 use Rattle.std.proofs.lemmas.Bool.{false≢true}
 use Rattle.std.proofs.lemmas.Result.{err_from_is_err_and}
 use Rattle.cbor_edn_parts.specs.declared.error.Fault.TheVariants.{Told}
 use Rattle.cbor_edn_parts.specs.SpaceTokens.{space, separator}
 use Rattle.cbor_edn_parts.specs.NumberTokens.{number}
 use Rattle.cbor_edn_parts.specs.Leaves.{msc_bytes, soc_bytes}
-use Rattle.cbor_edn_core.proofs.Turns.{scan_fails, scan_read, number_fails, number_read, list_too_deep, list_fails, list_open, list_read, inside_fails, inside_empty, inside_rest_fails, inside_full, rest_fails, rest_fails_behind, rest_end, rest_broken, token_length, some_length, rest_turn, with_none, with_fails, fails_at}
+use Rattle.cbor_edn_core.proofs.Turns.{scan_fails, scan_read, number_fails, number_read, list_too_deep, list_fails, list_open, list_read, inside_fails, inside_empty, inside_rest_fails, inside_full, rest_fails, rest_fails_behind, rest_end, rest_broken, token_length, some_length, rest_turn, with_fails, fails_at}
 use Rattle.cbor_edn_core.specs.View.{texts}
 use Rattle.cbor_edn_core.proofs.Views.{view_items_made}
 use Rattle.cbor_edn_core.proofs.Borrows.{borrows_made, borrows_push}

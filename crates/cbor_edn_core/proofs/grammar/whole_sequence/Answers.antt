@@ -1,4 +1,3 @@
-use Rattle.std.proofs.Common.{◌≡◌, sym, ◌∙◌, refl}
 use Rattle.std.proofs.lemmas.Result.{err_from_is_err_and}
 use Rattle.cbor_edn_core.specs.Trees.{Seq}
 use Rattle.cbor_edn_core.proofs.Turns.{whole_fails, whole_trails, whole_read}

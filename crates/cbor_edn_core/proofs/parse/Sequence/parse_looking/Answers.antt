@@ -1,6 +1,4 @@
-use Rattle.std.proofs.Common.{◌≡◌, ap, sym, ◌∙◌, Err}
-use Rattle.cbor_edn_parts.specs.declared.error.ParseErrorKind.{ParseErrorKind}
-use Rattle.cbor_edn_core.specs.Reading.{reads_all}
+use Rattle.std.proofs.Common.{ap, sym, ◌∙◌, Err}
 use Rattle.cbor_edn_core.proofs.Whole.{sequence_accepted, sequence_invalid, sequence_too_deep}
 use Rattle.cbor_edn_core.proofs.parse.Sequence.parse_looking.Goals as goal
 

@@ -1,6 +1,4 @@
-use Rattle.std.proofs.Common.{◌≡◌, ap, sym, ◌∙◌, Err}
-use Rattle.cbor_edn_parts.specs.declared.error.ParseErrorKind.{ParseErrorKind}
-use Rattle.cbor_edn_core.specs.Reading.{reads_all}
+use Rattle.std.proofs.Common.{ap, sym, ◌∙◌, Err}
 use Rattle.cbor_edn_core.proofs.Whole.{standalone_accepted, standalone_invalid, standalone_too_deep}
 use Rattle.cbor_edn_core.proofs.parse.StandaloneItem.parse_looking.Goals as goal
 
