@@ -1,148 +1,245 @@
 -- What is pushed by parts is the encoding of the whole.
-use Rattle.std.proofs.Common.{◌≡◌, ℕ, ℤ, zero, suc, ◌+◌, ◌^◌, ◌<◌, ◌≤◌, Bool, true, false, cond, ltb, List, [], ◌∷◌, ◌++◌, length, map, drop, get_or, drop-cons, add-one, Option, Some, None, Result, Ok, Err, refl, sym, ap, ◌∙◌, append_assoc, arith}
+use Rattle.std.proofs.Common.{◌≡◌, ℕ, ℤ, zero, suc, ◌+◌, ◌^◌, ◌<◌, ◌≤◌, Bool, true, false, cond, ltb, List, [], ◌∷◌, ◌++◌, length, map, drop, get_or, drop-cons, add-one, Option, Some, None, Result, Ok, Err, refl, sym, ap, subst, ◌∙◌, append_assoc, arith}
 use Rattle.std.proofs.lemmas.Bool.{le-ltb}
 use Rattle.std.proofs.lemmas.List.{append-nil}
 use Rattle.cbor_edn_parts.specs.declared.error.Fault.{Fault}
 use Rattle.cbor_edn_parts.specs.declared.error.Fault.TheVariants.{Memory, Told}
 use Rattle.cbor_edn_parts.specs.declared.error.InconsistentEdn.{InconsistentEdn}
+use Rattle.cbor_edn_parts.specs.declared.indicator.Indicator.{Indicator}
 use Rattle.cbor_edn_parts.specs.Number.{Sign, NoSign, PlusSign, MinusSign, signed, sign_of, is_numeral, radix, base_of, digits_of, magnitude_of, integer_of}
-use Rattle.cbor_edn_core.specs.declared.cbor.Width.TheVariants.{Immediate}
-use Rattle.cbor_edn_core.specs.Items.{Elements, Node, Item, Number, Listed, End, Items}
-use Rattle.cbor_edn_core.specs.Trees.{Tree, OneItem, Rest, LastTree, ElementTree, EmptyTree, FullTree, items}
+use Rattle.cbor_edn_core.specs.declared.cbor.Width.{Width}
+use Rattle.cbor_edn_core.specs.Items.{Row, Elements, Pairs, Node, Item, Number, Listed, End, Items}
+use Rattle.cbor_edn_core.specs.Trees.{Tree, OneItem, OneEntry, Rest, LastTree, ElementTree, PairTree, EmptyTree, FullTree, Head, mark, items}
 use Rattle.cbor_edn_core.specs.View.{entries_onto}
-use Rattle.cbor_edn_core.specs.Value.{Value, array, Values, no_values, value, values_len, head, encoding, encodings, Enc, EncAll}
-use Rattle.cbor_edn_core.specs.Meaning.{◌>>=◌, shortest, with_argument, means_integer, means}
-use Rattle.cbor_edn_core.specs.Encoding.{Encodes, row_items}
-use Rattle.cbor_edn_core.proofs.Meanings.{with_argument_is, both_steps, meaning_fits}
+use Rattle.cbor_edn_core.specs.Value.{Value, array, object, Values, values_len, head, open_head, break, list_encoding, encoding, encodings, Enc, EncAll}
+use Rattle.cbor_edn_core.specs.Meaning.{◌>>=◌, length_of, means_integer, EntryOf, RowOf, row_len, list_value, listed, no_entries, one_more, means}
+use Rattle.cbor_edn_core.specs.Encoding.{Encodes, Finds, list_head, list_end, major_of, entry_encoding, row_encoding, row_items}
+use Rattle.cbor_edn_core.proofs.MeaningSteps.{both_steps, some_is}
+use Rattle.cbor_edn_core.proofs.Meanings.{meaning_fits}
 
 abbrev pub Pushed : Type 0
 Pushed = Result (Unit {0}) (Fault InconsistentEdn)
 
 -- ---- numbers
 
-beyond : (n : ℕ) (v : Value) → 2 ^ 64 ≤ n → with_argument n v ≡ None
-beyond n v le = let is : ltb n (2 ^ 64) ≡ false = le-ltb n (2 ^ 64) le in rw is refl
+abbrev if_small : Bool → Option Value → Option Value
+if_small small v = cond small v None
 
-too_large : (sign : Sign) (n : ℕ) → 2 ^ 64 < n → means_integer (signed sign n) ≡ None
-too_large NoSign n lt = beyond n _ (omega arith)
-too_large PlusSign n lt = beyond n _ (omega arith)
-too_large MinusSign zero lt = absurd (omega arith)
-too_large MinusSign (suc n) lt = beyond n _ (omega arith)
+if_large : (n limit : ℕ) (v : Option Value) → limit ≤ n → if_small (ltb n limit) v ≡ None
+if_large n limit v le = let is : ltb n limit ≡ false = le-ltb n limit le in rw is refl
 
-numeral_too_large : (numeral : Bool) (z : ℤ) → means_integer z ≡ None → (cond numeral (Some z) None >>= means_integer) ≡ None
-numeral_too_large true z none = none
-numeral_too_large false z none = refl
+not_small : (n : ℕ) (v w : Option Value) → 2 ^ 64 ≤ n → cond (ltb n (2 ^ 64)) v w ≡ w
+not_small n v w le = let is : ltb n (2 ^ 64) ≡ false = le-ltb n (2 ^ 64) le in rw is refl
 
-pub large_number : (x : List ℕ) → 2 ^ 128 ≤ magnitude_of x → means (Number x) ≡ None
+pub too_large : (i : Option Indicator) (sign : Sign) (n : ℕ) → 2 ^ 128 ≤ n → means_integer i (signed sign n) ≡ None
+too_large i NoSign n le = not_small n _ _ (omega arith) ∙ if_large n (2 ^ 128) _ le
+too_large i PlusSign n le = not_small n _ _ (omega arith) ∙ if_large n (2 ^ 128) _ le
+too_large i MinusSign zero le = absurd (omega arith)
+too_large i MinusSign (suc n) le = not_small n _ _ (omega arith) ∙ if_large (n + 1) (2 ^ 128) _ (omega arith)
+
+numeral_too_large : (numeral : Bool) (i : Option Indicator) (z : ℤ) → means_integer i z ≡ None → (cond numeral (Some z) None >>= means_integer i) ≡ None
+numeral_too_large true i z none = none
+numeral_too_large false i z none = refl
+
+-- a literal of that magnitude, or what is no literal
+pub no_number : (x : List ℕ) (i : Option Indicator) → ((z : ℤ) → integer_of x ≡ Some z → 2 ^ 128 ≤ magnitude_of x) → means (Number x i) ≡ None
 unfolding means integer_of
-large_number x le = numeral_too_large (is_numeral (radix (base_of x)) (digits_of x)) (signed (sign_of x) (magnitude_of x)) (too_large (sign_of x) (magnitude_of x) (omega arith))
+no_number x i large = by_test (is_numeral (radix (base_of x)) (digits_of x)) (large (signed (sign_of x) (magnitude_of x)))
+  where
+    by_test : (numeral : Bool) → (cond numeral (Some (signed (sign_of x) (magnitude_of x))) None ≡ Some (signed (sign_of x) (magnitude_of x)) → 2 ^ 128 ≤ magnitude_of x) → (cond numeral (Some (signed (sign_of x) (magnitude_of x))) None >>= means_integer i) ≡ None
+    by_test true le = too_large i (sign_of x) (magnitude_of x) (le refl)
+    by_test false le = refl
 
-pub number_means : (x : List ℕ) (z : ℤ) → integer_of x ≡ Some z → means (Number x) ≡ means_integer z
+pub number_means : (x : List ℕ) (i : Option Indicator) (z : ℤ) → integer_of x ≡ Some z → means (Number x i) ≡ means_integer i z
 unfolding means
-number_means x z e = rw e refl
+number_means x i z e = rw e refl
 
--- ---- one value, and more
+-- ---- one entry, and more
 
-abbrev more : Option Value → Option Values → Option Values
-more o p = o >>= λ v. p >>= λ vs. Some (value v vs)
+abbrev more : (k : Row) → Option (EntryOf k) → Option (RowOf k) → Option (RowOf k)
+more k o p = o >>= λ x. p >>= λ r. Some (one_more k x r)
 
-pub then_encoded : (o : Option Value) (p : Option Values) (old middle new : List ℕ) (r : Pushed) → Encodes encoding o old middle (Ok tt) → Encodes encodings p middle new r → Encodes encodings (more o p) old new r
-then_encoded o p old middle new (Ok u) first others =
-    (value first.0 others.0, rw (first.1, others.1) refl, others.2 ∙ ap (λ (l : List ℕ). l ++ encodings others.0) first.2 ∙ append_assoc old (encoding first.0) (encodings others.0))
-then_encoded o p old middle new (Err (Told e)) first others = (others.0, rw (first.1, others.1) refl)
-then_encoded o p old middle new (Err (Memory e)) first others = tt
+one_more_encoding : (k : Row) (x : EntryOf k) (r : RowOf k) → row_encoding k (one_more k x r) ≡ entry_encoding k x ++ row_encoding k r
+one_more_encoding Elements v vs = refl
+one_more_encoding Pairs p ps = refl
 
-pub stops : (o : Option Value) (p : Option Values) (old middle new : List ℕ) (f : Fault InconsistentEdn) → Encodes encoding o old middle (Err f) → Encodes encodings (more o p) old new (Err f)
-stops o p old middle new (Told e) first = (first.0, rw first.1 refl)
-stops o p old middle new (Memory e) first = tt
+no_encoding : (k : Row) → row_encoding k (no_entries k) ≡ []
+no_encoding Elements = refl
+no_encoding Pairs = refl
 
--- nothing, and the last value
-last_encoded : (o : Option Value) (old middle new : List ℕ) (r : Pushed) → middle ≡ old → Encodes encoding o middle new r → Encodes encodings (o >>= λ v. Some (value v no_values)) old new r
-last_encoded o old middle new (Ok u) same last =
-    (value last.0 no_values, rw last.1 refl, last.2 ∙ ap (λ (l : List ℕ). l ++ encoding last.0) same ∙ ap (λ (l : List ℕ). old ++ l) (sym (append-nil (encoding last.0))))
-last_encoded o old middle new (Err (Told e)) same last = (last.0, rw last.1 refl)
-last_encoded o old middle new (Err (Memory e)) same last = tt
+one_more_len : (k : Row) (x : EntryOf k) (r : RowOf k) → row_len k (one_more k x r) ≡ row_len k r + 1
+one_more_len Elements v vs = refl
+one_more_len Pairs p ps = refl
+
+no_len : (k : Row) → row_len k (no_entries k) ≡ 0
+no_len Elements = refl
+no_len Pairs = refl
+
+then_encoded : (k : Row) (o : Option (EntryOf k)) (p : Option (RowOf k)) (old middle new : List ℕ) (r : Pushed) → Encodes (entry_encoding k) o old middle (Ok tt) → Encodes (row_encoding k) p middle new r → Encodes (row_encoding k) (more k o p) old new r
+then_encoded k o p old middle new (Ok u) first others = (
+  one_more k first.0 others.0,
+  rw (first.1, others.1) refl,
+  others.2 ∙ ap (λ (l : List ℕ). l ++ row_encoding k others.0) first.2 ∙ append_assoc old (entry_encoding k first.0) (row_encoding k others.0) ∙ ap (λ (l : List ℕ). old ++ l) (sym (one_more_encoding k first.0 others.0)),
+)
+then_encoded k o p old middle new (Err (Told e)) first others = rw (first.1, others) refl
+then_encoded k o p old middle new (Err (Memory e)) first others = tt
+
+stops : (k : Row) (o : Option (EntryOf k)) (p : Option (RowOf k)) (old middle new : List ℕ) (f : Fault InconsistentEdn) → Encodes (entry_encoding k) o old middle (Err f) → Encodes (row_encoding k) (more k o p) old new (Err f)
+stops k o p old middle new (Told e) first = rw first refl
+stops k o p old middle new (Memory e) first = tt
+
+-- nothing, and the last entry
+last_encoded : (k : Row) (o : Option (EntryOf k)) (old middle new : List ℕ) (r : Pushed) → middle ≡ old → Encodes (entry_encoding k) o middle new r → Encodes (row_encoding k) (more k o (Some (no_entries k))) old new r
+last_encoded k o old middle new (Ok u) same last =
+    let whole : row_encoding k (one_more k last.0 (no_entries k)) ≡ entry_encoding k last.0 = one_more_encoding k last.0 (no_entries k) ∙ ap (λ (l : List ℕ). entry_encoding k last.0 ++ l) (no_encoding k) ∙ append-nil (entry_encoding k last.0) in
+    (one_more k last.0 (no_entries k), rw last.1 refl, last.2 ∙ ap (λ (l : List ℕ). l ++ entry_encoding k last.0) same ∙ ap (λ (l : List ℕ). old ++ l) (sym whole))
+last_encoded k o old middle new (Err (Told e)) same last = rw last refl
+last_encoded k o old middle new (Err (Memory e)) same last = tt
 
 -- ---- rows
 
-done : {A : Type 0} (x y : A) → (let o : Option A = Some x in o) ≡ Some y → x ≡ y
-done x y e = cc
-
-pub row_then_last : (ps : List (Tree OneItem × List ℕ)) (w : Tree OneItem) (s old middle new : List ℕ) (r : Pushed) → Encodes encodings (means (row_items ps)) old middle (Ok tt) → Encodes encoding (means (items w)) middle new r
-    → Encodes encodings (means (items (entries_onto ps (LastTree (ElementTree w) s)))) old new r
+pub row_then_last : (k : Row) (ps : List (Tree (OneEntry k) × List ℕ)) (w : Tree (OneEntry k)) (s old middle new : List ℕ) (r : Pushed) → Encodes (row_encoding k) (means (row_items ps)) old middle (Ok tt) → Encodes (entry_encoding k) (means (items w)) middle new r
+    → Encodes (row_encoding k) (means (items (entries_onto ps (LastTree w s)))) old new r
 unfolding means items
-row_then_last [] w s old middle new r row last =
-    let none : no_values ≡ row.0 = done no_values row.0 row.1 in
-    last_encoded (means (items w)) old middle new r (row.2 ∙ ap (λ vs. old ++ encodings vs) (sym none) ∙ append-nil old) last
-row_then_last (p ∷ ps) w s old middle new r row last =
-    let a = both_steps (means (items p.0)) (λ v. means (row_items ps) >>= λ vs. Some (value v vs)) row.0 row.1 in
-    let b = both_steps (means (row_items ps)) (λ vs. Some (value a.0 vs)) row.0 a.2 in
-    let whole : value a.0 b.0 ≡ row.0 = done (value a.0 b.0) row.0 b.2 in
-    let others = row_then_last ps w s (old ++ encoding a.0) middle new r (b.0, b.1, row.2 ∙ ap (λ vs. old ++ encodings vs) (sym whole) ∙ sym (append_assoc old (encoding a.0) (encodings b.0))) last in
-    then_encoded (means (items p.0)) (means (items (entries_onto ps (LastTree (ElementTree w) s)))) old (old ++ encoding a.0) new r (a.0, a.1, refl) others
+row_then_last k [] w s old middle new r row last =
+    let none : no_entries k ≡ row.0 = some_is (no_entries k) row.0 row.1 in
+    last_encoded k (means (items w)) old middle new r (row.2 ∙ ap (λ vs. old ++ row_encoding k vs) (sym none) ∙ ap (λ (l : List ℕ). old ++ l) (no_encoding k) ∙ append-nil old) last
+row_then_last k (p ∷ ps) w s old middle new r row last =
+    let a = both_steps (means (items p.0)) (λ v. means (row_items ps) >>= λ vs. Some (one_more k v vs)) row.0 row.1 in
+    let b = both_steps (means (row_items ps)) (λ vs. Some (one_more k a.0 vs)) row.0 a.2 in
+    let whole : one_more k a.0 b.0 ≡ row.0 = some_is (one_more k a.0 b.0) row.0 b.2 in
+    let behind : middle ≡ (old ++ entry_encoding k a.0) ++ row_encoding k b.0 = row.2 ∙ ap (λ vs. old ++ row_encoding k vs) (sym whole) ∙ ap (λ (l : List ℕ). old ++ l) (one_more_encoding k a.0 b.0) ∙ sym (append_assoc old (entry_encoding k a.0) (row_encoding k b.0)) in
+    let others = row_then_last k ps w s (old ++ entry_encoding k a.0) middle new r (b.0, b.1, behind) last in
+    then_encoded k (means (items p.0)) (means (items (entries_onto ps (LastTree w s)))) old (old ++ entry_encoding k a.0) new r (a.0, a.1, refl) others
 
-none_more : (o : Option Value) (p q : Option Values) → (p ≡ None → q ≡ None) → more o p ≡ None → more o q ≡ None
-none_more None p q next e = refl
-none_more (Some v) None q next e = rw (next refl) refl
-none_more (Some v) (Some vs) q next e = absurd cc
+none_more : (k : Row) (o : Option (EntryOf k)) (p q : Option (RowOf k)) → (p ≡ None → q ≡ None) → more k o p ≡ None → more k o q ≡ None
+none_more k None p q next e = refl
+none_more k (Some v) None q next e = rw (next refl) refl
+none_more k (Some v) (Some vs) q next e = absurd cc
 
-row_none : (ps : List (Tree OneItem × List ℕ)) (m : Tree (Rest Elements)) → means (row_items ps) ≡ None → means (items (entries_onto ps m)) ≡ None
+row_none : (k : Row) (ps : List (Tree (OneEntry k) × List ℕ)) (m : Tree (Rest k)) → means (row_items ps) ≡ None → means (items (entries_onto ps m)) ≡ None
 unfolding means items
-row_none [] m e = absurd cc
-row_none (p ∷ ps) m e = none_more (means (items p.0)) (means (row_items ps)) (means (items (entries_onto ps m))) (row_none ps m) e
+row_none k [] m e = absurd cc
+row_none k (p ∷ ps) m e = none_more k (means (items p.0)) (means (row_items ps)) (means (items (entries_onto ps m))) (row_none k ps m) e
 
-pub row_stops : (ps : List (Tree OneItem × List ℕ)) (m : Tree (Rest Elements)) (old middle new : List ℕ) (f : Fault InconsistentEdn) → Encodes encodings (means (row_items ps)) old middle (Err f) → Encodes encodings (means (items (entries_onto ps m))) old new (Err f)
-row_stops ps m old middle new (Told e) row = (row.0, row_none ps m row.1)
-row_stops ps m old middle new (Memory e) row = tt
+pub row_stops : (k : Row) (ps : List (Tree (OneEntry k) × List ℕ)) (m : Tree (Rest k)) (old middle new : List ℕ) (f : Fault InconsistentEdn) → Encodes (row_encoding k) (means (row_items ps)) old middle (Err f) → Encodes (row_encoding k) (means (items (entries_onto ps m))) old new (Err f)
+row_stops k ps m old middle new (Told e) row = row_none k ps m row
+row_stops k ps m old middle new (Memory e) row = tt
 
--- ---- arrays
+-- ---- lists
 
-pub empty_array : (s old new : List ℕ) → new ≡ old ++ head 4 Immediate 0 → (v : Value) × (means (Listed Elements (items (EmptyTree s))) ≡ Some v) × (new ≡ old ++ encoding v)
+row_length : (k : Row) (ps : List (Tree (OneEntry k) × List ℕ)) (w : Tree (OneEntry k)) (s : List ℕ) (r : RowOf k) → means (items (entries_onto ps (LastTree w s))) ≡ Some r → row_len k r ≡ length ps + 1
 unfolding means items
-empty_array s old new e = (array (Some Immediate) no_values, refl, e ∙ ap (λ (l : List ℕ). old ++ l) (sym (append-nil (head 4 Immediate 0))))
+row_length k [] w s r e =
+    let a = both_steps (means (items w)) (λ v. Some (one_more k v (no_entries k))) r e in
+    ap (row_len k) (sym (some_is (one_more k a.0 (no_entries k)) r a.2)) ∙ one_more_len k a.0 (no_entries k) ∙ ap (λ n. n + 1) (no_len k)
+row_length k (p ∷ ps) w s r e =
+    let a = both_steps (means (items p.0)) (λ v. means (items (entries_onto ps (LastTree w s))) >>= λ us. Some (one_more k v us)) r e in
+    let b = both_steps (means (items (entries_onto ps (LastTree w s)))) (λ us. Some (one_more k a.0 us)) r a.2 in
+    ap (row_len k) (sym (some_is (one_more k a.0 b.0) r b.2)) ∙ one_more_len k a.0 b.0 ∙ omega (arith, row_length k ps w s b.0 b.1)
 
-row_len : (ps : List (Tree OneItem × List ℕ)) (w : Tree OneItem) (s : List ℕ) (vs : Values) → means (items (entries_onto ps (LastTree (ElementTree w) s))) ≡ Some vs → values_len vs ≡ length ps + 1
-unfolding means items
-row_len [] w s vs e =
-    let a = both_steps (means (items w)) (λ v. Some (value v no_values)) vs e in
-    ap values_len (sym (done (value a.0 no_values) vs a.2))
-row_len (p ∷ ps) w s vs e =
-    let a = both_steps (means (items p.0)) (λ v. means (items (entries_onto ps (LastTree (ElementTree w) s))) >>= λ us. Some (value v us)) vs e in
-    let b = both_steps (means (items (entries_onto ps (LastTree (ElementTree w) s)))) (λ us. Some (value a.0 us)) vs a.2 in
-    ap values_len (sym (done (value a.0 b.0) vs b.2)) ∙ omega (arith, row_len ps w s b.0 b.1)
+-- a row of so many entries, if it means any
+abbrev Counts : (k : Row) → Option (RowOf k) → ℕ → Type 0
+Counts k o n = (r : RowOf k) → o ≡ Some r → row_len k r ≡ n
 
-pub array_encoded : (before : List ℕ) (m : Tree (Rest Elements)) (ps : List (Tree OneItem × List ℕ)) (w : Tree OneItem) (s : List ℕ) (n : ℕ) (old middle new : List ℕ) (r : Pushed) → m ≡ entries_onto ps (LastTree (ElementTree w) s) → n ≡ length ps + 1 → n < 2 ^ 64
-    → middle ≡ old ++ head 4 (shortest n) n → Encodes encodings (means (items m)) middle new r → Encodes encoding (means (Listed Elements (items (FullTree before m)))) old new r
+list_parts : (k : Row) (w : Option Width) (r : RowOf k) → encoding (list_value k w r) ≡ list_head (major_of k) w (row_len k r) ++ (row_encoding k r ++ list_end w)
+list_parts Elements (Some w) r = ap (λ (l : List ℕ). head 4 w (row_len Elements r) ++ l) (sym (append-nil (row_encoding Elements r)))
+list_parts Elements None r = refl
+list_parts Pairs (Some w) r = ap (λ (l : List ℕ). head 5 w (row_len Pairs r) ++ l) (sym (append-nil (row_encoding Pairs r)))
+list_parts Pairs None r = refl
+
+list_encoded : (k : Row) (i : Option Indicator) (o : Option (RowOf k)) (n : ℕ) (w : Option Width) (old first second new : List ℕ) → Counts k o n → length_of i n ≡ Some w → first ≡ old ++ list_head (major_of k) w n → Encodes (row_encoding k) o first second (Ok tt) → new ≡ second ++ list_end w
+    → Encodes encoding (o >>= listed k i) old new (Ok tt)
+list_encoded k i o n w old first second new counts width opened (r, meant, is) ended =
+    let len : row_len k r ≡ n = counts r meant in
+    let listed_is : listed k i r ≡ Some (list_value k w r) = ap (λ o. o >>= λ v. Some (list_value k v r)) (ap (length_of i) len ∙ width) in
+    let before : first ≡ old ++ list_head (major_of k) w (row_len k r) = opened ∙ ap (λ m. old ++ list_head (major_of k) w m) (sym len) in
+    let whole : new ≡ old ++ encoding (list_value k w r) =
+    ended ∙ ap (λ (l : List ℕ). l ++ list_end w) (is ∙ ap (λ (l : List ℕ). l ++ row_encoding k r) before) ∙ append_assoc (old ++ list_head (major_of k) w (row_len k r)) (row_encoding k r) (list_end w) ∙ append_assoc old (list_head (major_of k) w (row_len k r)) (row_encoding k r ++ list_end w)
+    ∙ ap (λ (l : List ℕ). old ++ l) (sym (list_parts k w r)) in
+    (list_value k w r, ap (λ q. q >>= listed k i) meant ∙ listed_is, whole)
+
+list_stops : (k : Row) (i : Option Indicator) (o : Option (RowOf k)) (old first second new : List ℕ) (f : Fault InconsistentEdn) → Encodes (row_encoding k) o first second (Err f) → Encodes encoding (o >>= listed k i) old new (Err f)
+list_stops k i o old first second new (Told e) row = rw row refl
+list_stops k i o old first second new (Memory e) row = tt
+
+none_listed : (k : Row) (i : Option Indicator) (o : Option (RowOf k)) (n : ℕ) → Counts k o n → length_of i n ≡ None → (o >>= listed k i) ≡ None
+none_listed k i None n counts none = refl
+none_listed k i (Some r) n counts none = ap (λ q. q >>= λ w. Some (list_value k w r)) (ap (length_of i) (counts r refl) ∙ none)
+
+list_unfit : (k : Row) (i : Option Indicator) (o : Option (RowOf k)) (n : ℕ) (old new : List ℕ) (f : Fault InconsistentEdn) → Counts k o n → Finds (length_of i n) (Err f) → Encodes encoding (o >>= listed k i) old new (Err f)
+list_unfit k i o n old new (Told e) counts found = none_listed k i o n counts found
+list_unfit k i o n old new (Memory e) counts found = tt
+
+-- a list with entries
+module _ (k : Row) (h : Head) (s : List ℕ) (m : Tree (Rest k)) (ps : List (Tree (OneEntry k) × List ℕ)) (w : Tree (OneEntry k)) (t : List ℕ) (m_is : m ≡ entries_onto ps (LastTree w t)) (n : ℕ) (count : n ≡ length ps + 1) where
+  counts : Counts k (means (items m)) n
+  counts r meant = row_length k ps w t r (ap (λ t. means (items t)) (sym m_is) ∙ meant) ∙ sym count
+
+  pub full_encoded : (v : Option Width) (old first second new : List ℕ) → length_of (mark h) n ≡ Some v → first ≡ old ++ list_head (major_of k) v n → Encodes (row_encoding k) (means (items m)) first second (Ok tt) → new ≡ second ++ list_end v
+      → Encodes encoding (means (Listed k (items (FullTree h s m)).0 (items (FullTree h s m)).1)) old new (Ok tt)
+  unfolding means items
+  full_encoded v old first second new width opened row ended = list_encoded k (mark h) (means (items m)) n v old first second new counts width opened row ended
+
+  pub full_stops : (old first second new : List ℕ) (f : Fault InconsistentEdn) → Encodes (row_encoding k) (means (items m)) first second (Err f) → Encodes encoding (means (Listed k (items (FullTree h s m)).0 (items (FullTree h s m)).1)) old new (Err f)
+  unfolding means items
+  full_stops old first second new f row = list_stops k (mark h) (means (items m)) old first second new f row
+
+  pub full_unfit : (old new : List ℕ) (f : Fault InconsistentEdn) → Finds (length_of (mark h) n) (Err f) → Encodes encoding (means (Listed k (items (FullTree h s m)).0 (items (FullTree h s m)).1)) old new (Err f)
+  unfolding means items
+  full_unfit old new f found = list_unfit k (mark h) (means (items m)) n old new f counts found
+
+-- a list without entries
+abbrev pub empty_encoding : Row → Option Width → List ℕ
+empty_encoding k w = list_head (major_of k) w 0 ++ list_end w
+
+pub empty_encoded : (k : Row) (i : Option Indicator) (s old new : List ℕ) (r : Pushed) → Encodes (empty_encoding k) (length_of i 0) old new r → Encodes encoding (means (Listed k (items (EmptyTree {k = k} i s)).0 (items (EmptyTree {k = k} i s)).1)) old new r
 unfolding means items
-array_encoded before m ps w s n old middle new (Ok u) m_is count lt opened (vs, meant, is) =
-    let len : values_len vs ≡ n = row_len ps w s vs (ap (λ t. means (items t)) (sym m_is) ∙ meant) ∙ sym count in (
-      array (Some (shortest n)) vs,
-      rw meant (rw len (with_argument_is n _ lt)),
-      is ∙ ap (λ (l : List ℕ). l ++ encodings vs) opened ∙ append_assoc old (head 4 (shortest n) n) (encodings vs) ∙ ap (λ k. old ++ (head 4 (shortest n) k ++ encodings vs)) (sym len),
-    )
-array_encoded before m ps w s n old middle new (Err (Told e)) m_is count lt opened row = (row.0, rw row.1 refl)
-array_encoded before m ps w s n old middle new (Err (Memory e)) m_is count lt opened row = tt
+empty_encoded k i s old new (Ok u) (w, width, is) =
+    let counts : Counts k (Some (no_entries k)) 0 = λ r e. ap (row_len k) (sym (some_is (no_entries k) r e)) ∙ no_len k in
+    list_encoded k i (Some (no_entries k)) 0 w old (old ++ list_head (major_of k) w 0) (old ++ list_head (major_of k) w 0) new counts width refl
+    (no_entries k, refl, sym (append-nil (old ++ list_head (major_of k) w 0)) ∙ ap (λ (l : List ℕ). (old ++ list_head (major_of k) w 0) ++ l) (sym (no_encoding k))) (is ∙ sym (append_assoc old (list_head (major_of k) w 0) (list_end w)))
+empty_encoded k i s old new (Err (Told e)) none = none_listed k i (Some (no_entries k)) 0 (λ r e. ap (row_len k) (sym (some_is (no_entries k) r e)) ∙ no_len k) none
+empty_encoded k i s old new (Err (Memory e)) none = tt
+
+-- ---- entries
+
+pub element_encoded : (w : Tree OneItem) (old new : List ℕ) (r : Pushed) → Encodes encoding (means (items w)) old new r → Encodes (entry_encoding Elements) (means (items (ElementTree w))) old new r
+unfolding means items
+element_encoded w old new r pushed = pushed
+
+pub pair_encoded : (v w : Tree OneItem) (s t old middle new : List ℕ) (r : Pushed) → Encodes encoding (means (items v)) old middle (Ok tt) → Encodes encoding (means (items w)) middle new r → Encodes (entry_encoding Pairs) (means (items (PairTree v s t w))) old new r
+unfolding means items
+pair_encoded v w s t old middle new (Ok u) key value =
+    ((key.0, value.0), rw (key.1, value.1) refl, value.2 ∙ ap (λ (l : List ℕ). l ++ encoding value.0) key.2 ∙ append_assoc old (encoding key.0) (encoding value.0))
+pair_encoded v w s t old middle new (Err (Told e)) key value = rw (key.1, value) refl
+pair_encoded v w s t old middle new (Err (Memory e)) key value = tt
+
+pub pair_stops : (v w : Tree OneItem) (s t old middle new : List ℕ) (f : Fault InconsistentEdn) → Encodes encoding (means (items v)) old middle (Err f) → Encodes (entry_encoding Pairs) (means (items (PairTree v s t w))) old new (Err f)
+unfolding means items
+pair_stops v w s t old middle new (Told e) key = rw key refl
+pair_stops v w s t old middle new (Memory e) key = tt
 
 -- ---- a loop over a row
 
 -- Whatever is then put behind gives what pushing the whole row gives.
-abbrev pub PushesRest : List (Tree OneItem × List ℕ) → List (Tree OneItem × List ℕ) → List ℕ → List ℕ → Type 0
-PushesRest left all middle old = (r : Pushed) (new : List ℕ) → Encodes encodings (means (row_items left)) middle new r → Encodes encodings (means (row_items all)) old new r
+abbrev pub PushesRest : {k : Row} → List (Tree (OneEntry k) × List ℕ) → List (Tree (OneEntry k) × List ℕ) → List ℕ → List ℕ → Type 0
+PushesRest {k} left all middle old = (r : Pushed) (new : List ℕ) → Encodes (row_encoding k) (means (row_items left)) middle new r → Encodes (row_encoding k) (means (row_items all)) old new r
 
-means_step : (p : Tree OneItem × List ℕ) (ps : List (Tree OneItem × List ℕ)) → means (row_items (p ∷ ps)) ≡ more (means (items p.0)) (means (row_items ps))
+means_step : {k : Row} (p : Tree (OneEntry k) × List ℕ) (ps : List (Tree (OneEntry k) × List ℕ)) → means (row_items (p ∷ ps)) ≡ more k (means (items p.0)) (means (row_items ps))
 unfolding means
 means_step p ps = refl
 
-pub next_pushed : (p : Tree OneItem × List ℕ) (left all : List (Tree OneItem × List ℕ)) (old middle after : List ℕ) → Encodes encoding (means (items p.0)) middle after (Ok tt) → PushesRest (p ∷ left) all middle old → PushesRest left all after old
-next_pushed p left all old middle after one rest r new others = rest r new (rw (means_step p left) (then_encoded (means (items p.0)) (means (row_items left)) middle after new r one others))
+pub next_pushed : {k : Row} (p : Tree (OneEntry k) × List ℕ) (left all : List (Tree (OneEntry k) × List ℕ)) (old middle after : List ℕ) → Encodes (entry_encoding k) (means (items p.0)) middle after (Ok tt) → PushesRest (p ∷ left) all middle old → PushesRest left all after old
+next_pushed {k} p left all old middle after one rest r new others = rest r new (rw (means_step p left) (then_encoded k (means (items p.0)) (means (row_items left)) middle after new r one others))
 
-pub next_stops : (p : Tree OneItem × List ℕ) (left all : List (Tree OneItem × List ℕ)) (old middle after : List ℕ) (f : Fault InconsistentEdn) → Encodes encoding (means (items p.0)) middle after (Err f) → PushesRest (p ∷ left) all middle old
-    → Encodes encodings (means (row_items all)) old after (Err f)
-next_stops p left all old middle after f one rest = rest (Err f) after (rw (means_step p left) (stops (means (items p.0)) (means (row_items left)) middle after after f one))
+pub next_stops : {k : Row} (p : Tree (OneEntry k) × List ℕ) (left all : List (Tree (OneEntry k) × List ℕ)) (old middle after : List ℕ) (f : Fault InconsistentEdn) → Encodes (entry_encoding k) (means (items p.0)) middle after (Err f) → PushesRest (p ∷ left) all middle old
+    → Encodes (row_encoding k) (means (row_items all)) old after (Err f)
+next_stops {k} p left all old middle after f one rest = rest (Err f) after (rw (means_step p left) (stops k (means (items p.0)) (means (row_items left)) middle after after f one))
 
-pub all_pushed : (all : List (Tree OneItem × List ℕ)) (old new : List ℕ) → PushesRest [] all new old → Encodes encodings (means (row_items all)) old new (Ok tt)
+pub all_pushed : {k : Row} (all : List (Tree (OneEntry k) × List ℕ)) (old new : List ℕ) → PushesRest [] all new old → Encodes (row_encoding k) (means (row_items all)) old new (Ok tt)
 unfolding means
-all_pushed all old new rest = rest (Ok tt) new (no_values, refl, sym (append-nil new))
+all_pushed {k} all old new rest = rest (Ok tt) new (no_entries k, refl, sym (append-nil new) ∙ ap (λ (l : List ℕ). new ++ l) (sym (no_encoding k)))
 
 pub rest_at : {A B : Type 0} (f : A → B) (xs : List A) (i : ℕ) (x : A) → i < length xs → x ≡ get_or xs i x → map f (drop i xs) ≡ f x ∷ map f (drop (i + 1) xs)
 rest_at f xs i x lt is = ap (map f) (drop-cons xs i x lt) ∙ rw (← is, add-one) refl
@@ -157,4 +254,4 @@ items_encoded m old new empty pushed = (pushed.0, pushed.1, (meaning_fits m push
 
 pub nothing_encoded : (new : List ℕ) → new ≡ [] → (vs : Values) × (means (End {k = Elements}) ≡ Some vs) × EncAll new vs
 unfolding means
-nothing_encoded new empty = (no_values, refl, (tt, empty))
+nothing_encoded new empty = (no_entries Elements, refl, (tt, empty))

@@ -1,10 +1,12 @@
 -- What may follow what: each fact by the kind of one byte.
 use Rattle.std.proofs.Common.{ℕ, List, [], ◌∷◌, ◌++◌, ◌≡◌, refl, ap}
-use Rattle.std.specs.Prelude.{Bool, true, false, Some, None, eqb}
-use Rattle.std.proofs.lemmas.Bool.{eqb-true, both_ways, false_from_ne_true}
+use Rattle.std.specs.Prelude.{Bool, true, false, Option, Some, None}
+use Rattle.std.proofs.lemmas.Bool.{both_ways}
 use Rattle.cbor_edn_parts.specs.declared.bytes.Kind.{Kind}
-use Rattle.cbor_edn_parts.specs.declared.bytes.Kind.TheVariants.{Blank, Tab, Lf, Slash, Hash, Comma, Open, Close, Plus, Minus, Zero, Digit, HexLetter, X}
+use Rattle.cbor_edn_parts.specs.declared.bytes.Kind.TheVariants.{Blank, Tab, Lf, Slash, Hash, Comma, Open, Close, Plus, Minus, Zero, One, TwoToSeven, EightOrNine, Dot, B, E, HexLetter, O, P, X}
+use Rattle.cbor_edn_parts.specs.declared.indicator.Indicator.{Indicator}
 use Rattle.cbor_edn_parts.specs.Bytes.{kind, follows, closing, begins, Follow, Closes, Begins, is_closed}
+use Rattle.cbor_edn_parts.specs.Indicator.{indicator_text}
 use Rattle.cbor_edn_parts.specs.Lex.{munch, is_token}
 use Rattle.cbor_edn_parts.specs.SpaceTokens.{space, separator, space_step, space_final, separator_step, separator_final, before, after, is_msc}
 use Rattle.cbor_edn_parts.specs.NumberTokens.{number, number_step, number_final}
@@ -14,14 +16,11 @@ use Rattle.cbor_edn_parts.specs.declared.space.Around.{Around}
 use Rattle.cbor_edn_parts.specs.declared.space.Around.TheVariants.{Before, After}
 use Rattle.cbor_edn_parts.specs.declared.number.Reached.{Reached}
 use Rattle.cbor_edn_parts.specs.declared.number.Reached.TheVariants.{Start}
-use Rattle.cbor_edn_core.specs.Items.{Row, Elements}
+use Rattle.cbor_edn_core.specs.Items.{Row, Elements, Pairs}
 use Rattle.cbor_edn_core.specs.Spelling.{ending}
-use Rattle.cbor_edn_core.specs.Trees.{OneItem, OneEntry, Rest, Tree, NumberTree, ListTree, ElementTree, LastTree, MoreTree, onto, Valid}
+use Rattle.cbor_edn_core.specs.Trees.{OneItem, OneEntry, Rest, Tree, NumberTree, ListTree, ElementTree, PairTree, LastTree, MoreTree, onto, Valid}
+use Rattle.cbor_edn_parts.proofs.Indicators.{Plain, begins-plain, Follow-plain}
 use Rattle.cbor_edn_parts.proofs.Tokens.{Halts, token_texts}
-
--- A byte of a kind is none of another kind.
-pub differs : (p : Kind → Bool) (c b : ℕ) → p (kind c) ≡ true → p (kind b) ≡ false → eqb c b ≡ false
-differs p c b h n = false_from_ne_true (eqb c b) (λ e. both_ways (p (kind b)) n (rw (eqb-true c b e) at h))
 
 -- What begins no space and no separator.
 abbrev pub solid : Kind → Bool
@@ -42,7 +41,10 @@ abbrev pub numeric : Kind → Bool
 numeric Plus = true
 numeric Minus = true
 numeric Zero = true
-numeric Digit = true
+numeric One = true
+numeric TwoToSeven = true
+numeric EightOrNine = true
+numeric Dot = true
 numeric _ = false
 
 space_stop : (k : Kind) (m : Within) → space_final m ≡ true → solid k ≡ true → space_step k m ≡ None
@@ -64,8 +66,15 @@ number_stop : (k : Kind) (m : Reached) → number_final m ≡ true → follows k
 number_stop Plus m e h = cc
 number_stop Minus m e h = cc
 number_stop Zero m e h = cc
-number_stop Digit m e h = cc
+number_stop One m e h = cc
+number_stop TwoToSeven m e h = cc
+number_stop EightOrNine m e h = cc
+number_stop Dot m e h = cc
+number_stop B m e h = cc
+number_stop E m e h = cc
 number_stop HexLetter m e h = cc
+number_stop O m e h = cc
+number_stop P m e h = cc
 number_stop X m e h = cc
 number_stop _ m e h = refl
 
@@ -82,7 +91,10 @@ begins-solid Open h = refl
 begins-solid Plus h = refl
 begins-solid Minus h = refl
 begins-solid Zero h = refl
-begins-solid Digit h = refl
+begins-solid One h = refl
+begins-solid TwoToSeven h = refl
+begins-solid EightOrNine h = refl
+begins-solid Dot h = refl
 begins-solid _ h = cc
 
 begins-open : (k : Kind) → begins k ≡ true → closing k ≡ false
@@ -93,14 +105,20 @@ numeric-begins : (k : Kind) → numeric k ≡ true → begins k ≡ true
 numeric-begins Plus h = refl
 numeric-begins Minus h = refl
 numeric-begins Zero h = refl
-numeric-begins Digit h = refl
+numeric-begins One h = refl
+numeric-begins TwoToSeven h = refl
+numeric-begins EightOrNine h = refl
+numeric-begins Dot h = refl
 numeric-begins _ h = cc
 
 number_first : (k : Kind) (n : Reached) → number_step k Start ≡ Some n → numeric k ≡ true
 number_first Plus n h = refl
 number_first Minus n h = refl
 number_first Zero n h = refl
-number_first Digit n h = refl
+number_first One n h = refl
+number_first TwoToSeven n h = refl
+number_first EightOrNine n h = refl
+number_first Dot n h = refl
 number_first _ n h = cc
 
 space_first : (k : Kind) (n : Within) → space_step k Between ≡ Some n → follows k ≡ true
@@ -153,9 +171,12 @@ pub begins_open : (r : List ℕ) → Begins r → is_closed r ≡ false
 begins_open [] h = absurd h
 begins_open (c ∷ r) h = begins-open (kind c) h
 
+pub space_before : (c : ℕ) (s r : List ℕ) → is_token space (c ∷ s) ≡ true → Follow (c ∷ r)
+space_before c s r v = let a = (token_texts space (c ∷ s)).1 v in space_first (kind c) a.0 a.1
+
 pub space_follow : (s r : List ℕ) → is_token space s ≡ true → Follow r → Follow (s ++ r)
 space_follow [] r v h = h
-space_follow (c ∷ s) r v h = let a = (token_texts space (c ∷ s)).1 v in space_first (kind c) a.0 a.1
+space_follow (c ∷ s) r v h = space_before c s (s ++ r) v
 
 pub separator_follow : (s r : List ℕ) → is_token separator s ≡ true → Follow r → Follow (s ++ r)
 separator_follow [] r v h = h
@@ -172,20 +193,44 @@ pub number_some : is_token number [] ≡ true → ⊥
 unfolding munch
 number_some v = both_ways false refl v
 
+-- A space and an item begin with no indicator.
+pub space_plain : (s r : List ℕ) → is_token space s ≡ true → Begins r → Plain (s ++ r)
+space_plain [] [] v h = tt
+space_plain [] (c ∷ r) v h = begins-plain (kind c) h
+space_plain (c ∷ s) r v h = Follow-plain (c ∷ s) (space_before c s s v)
+
+-- No number goes on with an indicator.
+pub halts_marked : (i : Option Indicator) (r : List ℕ) → Follow r → Halts number (indicator_text i ++ r)
+unfolding kind
+halts_marked None r h = halts_number r h
+halts_marked (Some i) r h = λ m e. refl
+
+-- A key's colon.
+pub colon_solid : (r : List ℕ) → Solid (58 ∷ r)
+unfolding kind
+colon_solid r = refl
+
+pub colon_follow : (r : List ℕ) → Follow (58 ∷ r)
+unfolding kind
+colon_follow r = refl
+
 -- Trees.
 pub ending_closes : (k : Row) (r : List ℕ) → Closes (ending k ∷ r)
 unfolding kind
 ending_closes Elements r = refl
+ending_closes Pairs r = refl
 
 pub item_begins : (w : Tree OneItem) (r : List ℕ) → Valid w → Begins (onto w r)
 unfolding onto Valid kind
-item_begins (NumberTree []) r v = absurd (number_some v)
-item_begins (NumberTree (c ∷ x)) r v = numeric-begins (kind c) (numeric_start c x v)
+item_begins (NumberTree [] i) r v = absurd (number_some v)
+item_begins (NumberTree (c ∷ x) i) r v = numeric-begins (kind c) (numeric_start c x v)
 item_begins (ListTree Elements w) r v = refl
+item_begins (ListTree Pairs w) r v = refl
 
 pub entry_begins : {k : Row} (e : Tree (OneEntry k)) (r : List ℕ) → Valid e → Begins (onto e r)
 unfolding onto Valid
 entry_begins (ElementTree w) r v = item_begins w r v
+entry_begins (PairTree v s t w) r h = item_begins v _ h.0
 
 pub rest_begins : {k : Row} (m : Tree (Rest k)) (r : List ℕ) → Valid m → Begins (onto m r)
 unfolding onto Valid

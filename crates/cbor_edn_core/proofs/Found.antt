@@ -1,22 +1,25 @@
--- What is read is valid, its text is what was taken, and it nests no deeper than the limit; where it is too deep, the
--- text has more opening marks than the limit.
-use Rattle.std.proofs.Common.{ℕ, zero, suc, List, [], ◌∷◌, ◌++◌, ◌≡◌, ◌≤◌, ◌<◌, refl, ap, arith}
-use Rattle.std.specs.Prelude.{Bool, true, false, cond, Option, Result, Ok, Err, eqb}
+-- What is read is valid and joined, its text is what was taken, and it nests no deeper than the limit; where it is too
+-- deep, the text has more opening marks than the limit.
+use Rattle.std.proofs.Common.{ℕ, zero, suc, List, [], ◌∷◌, ◌++◌, ◌≡◌, ◌≤◌, ◌<◌, refl, ap, sym, arith, ◌∙◌, append_assoc}
+use Rattle.std.specs.Prelude.{Bool, true, false, cond, Option, Some, None, Result, Ok, Err, eqb}
 use Rattle.std.proofs.lemmas.Bool.{eqb-true, cond_both}
 use Rattle.cbor_edn_parts.specs.declared.error.ParseErrorKind.{ParseErrorKind}
 use Rattle.cbor_edn_parts.specs.declared.error.ParseErrorKind.TheVariants.{Invalid, TooDeep}
+use Rattle.cbor_edn_parts.specs.declared.indicator.Indicator.{Indicator}
 use Rattle.cbor_edn_parts.specs.Bytes.{is_closed}
+use Rattle.cbor_edn_parts.specs.Indicator.{indicator_text, indicator_at}
 use Rattle.cbor_edn_parts.specs.Lex as lex
-use Rattle.cbor_edn_parts.specs.Lex.{Table, is_token}
-use Rattle.cbor_edn_parts.specs.SpaceTokens.{space, separator, is_empty}
+use Rattle.cbor_edn_parts.specs.Lex.{Table, is_token, munch}
+use Rattle.cbor_edn_parts.specs.SpaceTokens.{space, separator, is_empty, is_s}
 use Rattle.cbor_edn_parts.specs.NumberTokens.{number}
-use Rattle.cbor_edn_core.specs.Items.{Row, Elements}
-use Rattle.cbor_edn_core.specs.Spelling.{opening}
-use Rattle.cbor_edn_core.specs.Trees.{Rule, OneItem, OneEntry, Inside, Rest, Seq, Standalone, Tree, onto, Valid, depth}
-use Rattle.cbor_edn_core.specs.Reading.{◌>>=◌, Reader, or_invalid, token, byte, not_empty, number_item, list_item, item, entry, inside, more, rest, sequence, standalone, rule, read}
+use Rattle.cbor_edn_core.specs.Items.{Row, Elements, Pairs}
+use Rattle.cbor_edn_core.specs.Spelling.{opening, ending}
+use Rattle.cbor_edn_core.specs.Trees.{Rule, OneItem, OneEntry, Inside, Rest, Seq, Standalone, Head, head_text, Tree, onto, IsHead, Valid, IsJoined, Joined, depth}
+use Rattle.cbor_edn_core.specs.Reading.{◌>>=◌, Reader, or_invalid, token, byte, not_empty, head_of, number_item, list_item, item, entry, inside_full, inside, more, rest, sequence, standalone, rule, read}
 use Rattle.cbor_edn_core.specs.Marks.{marks}
+use Rattle.cbor_edn_parts.proofs.Indicators.{spec-found}
 use Rattle.cbor_edn_parts.proofs.Tokens.{Holds, nothing, just, munch-found, token_texts}
-use Rattle.cbor_edn_core.proofs.Marking.{marks_end, marks_onto}
+use Rattle.cbor_edn_core.proofs.Marking.{marks_next, marks_end, marks_onto}
 
 -- Of an answer: what holds of the value, or what holds where it is too deep.
 pub data Meets {A : Type 0} (P : A → Type 0) (Deep : Type 0) : Result A ParseErrorKind → Type 0 where
@@ -59,8 +62,22 @@ unfolding not_empty
 not_empty-found [] = invalid
 not_empty-found (c ∷ s) = fine (refl, refl)
 
+pub no_space : is_s [] ≡ true
+unfolding munch
+no_space = refl
+
+-- An indicator and a space, parted into a head and the space behind it.
+abbrev Opened : Option Indicator → List ℕ → Head × List ℕ → Type 0
+Opened i s h = IsHead h.0 × (is_s h.1 ≡ true) × IsJoined h.0 h.1 × ((r : List ℕ) → indicator_text i ++ (s ++ r) ≡ head_text h.0 ++ (h.1 ++ r))
+
+head-found : {Deep : Type 0} (i : Option Indicator) (s : List ℕ) → is_s s ≡ true → Meets (Opened i s) Deep (head_of i s)
+unfolding head_of
+head-found None s v = fine (tt, v, tt, λ r. refl)
+head-found (Some i) [] v = invalid
+head-found (Some i) (c ∷ s) v = fine (v, no_space, refl, λ r. sym (append_assoc (indicator_text (Some i)) (c ∷ s) r))
+
 abbrev pub Sound : ℕ → (s : Rule) → List ℕ → Tree s × List ℕ → Type 0
-Sound limit s xs p = Valid p.0 × (xs ≡ onto p.0 p.1) × (depth p.0 ≤ limit)
+Sound limit s xs p = Valid p.0 × Joined p.0 × (xs ≡ onto p.0 p.1) × (depth p.0 ≤ limit)
 
 -- What every answer of a reader meets.
 abbrev pub IsSound : ℕ → (s : Rule) → List ℕ → Result (Tree s × List ℕ) ParseErrorKind → Type 0
@@ -72,38 +89,52 @@ module _ (g : ℕ → (s : Rule) → Reader s) (gs : (limit : ℕ) (s : Rule) (x
   later limit s xs ys h = weaker (λ p v. v) (λ d. omega arith) (gs limit s ys)
 
   number-found : (limit : ℕ) (xs : List ℕ) → IsSound limit OneItem xs (number_item g xs)
-  unfolding number_item onto Valid
-  number-found limit xs = bound _ (taken number xs) (λ x v. fine (v.0, v.1, omega arith))
+  unfolding number_item onto Valid Joined
+  number-found limit xs = bound _ (taken number xs) (λ x v. fine (v.0, tt, v.1 ∙ ap (x.0 ++◌) (spec-found x.1), omega arith))
 
   list-found : (limit : ℕ) (k : Row) (xs : List ℕ) → IsSound limit OneItem (opening k ∷ xs) (list_item g limit k xs)
-  unfolding list_item onto Valid
+  unfolding list_item onto Valid Joined
   list-found zero Elements xs = deep (omega arith)
-  list-found (suc limit) Elements xs = bound _ (weaker (λ p v. v) (λ d. omega arith) (gs limit (Inside Elements) xs)) (λ w v. bound _ (byte-found 93 w.1) (λ r e. fine (v.0, cc, omega (arith, v.2))))
+  list-found zero Pairs xs = deep (omega arith)
+  list-found (suc limit) k xs = bound _ (weaker (λ p v. v) (opened limit k xs) (gs limit (Inside k) xs)) (λ w v. bound _ (byte-found (ending k) w.1) (λ r e. fine (v.0, v.1, cc, omega (arith, v.3))))
+    where
+      opened : (limit : ℕ) (k : Row) (xs : List ℕ) → limit < marks xs → suc limit < marks (opening k ∷ xs)
+      opened limit Elements xs d = omega arith
+      opened limit Pairs xs d = omega arith
 
   item-found : (limit : ℕ) (xs : List ℕ) → IsSound limit OneItem xs (item g limit xs)
   unfolding item
   item-found limit [] = invalid
-  item-found limit (c ∷ xs) = chosen (eqb c 91) _ _ (λ e. rw (eqb-true c 91 e) (list-found limit Elements xs)) (λ n. number-found limit (c ∷ xs))
+  item-found limit (c ∷ xs) = chosen (eqb c 91) _ _ (λ e. rw (eqb-true c 91 e) (list-found limit Elements xs)) (λ n. chosen (eqb c 123) _ _ (λ e. rw (eqb-true c 123 e) (list-found limit Pairs xs)) (λ n. number-found limit (c ∷ xs)))
+
+  -- a value behind a key, a space and a colon
+  value-marks : (v : Tree OneItem) (s r t xs ys : List ℕ) → xs ≡ onto v (s ++ (58 ∷ r)) → r ≡ t ++ ys → marks ys ≤ marks xs
+  value-marks v s r t xs ys e d = rw (e, d) (omega (arith, marks_end t ys, marks_next 58 (t ++ ys), marks_end s (58 ∷ (t ++ ys)), marks_onto v (s ++ (58 ∷ (t ++ ys)))))
 
   entry-found : (limit : ℕ) (k : Row) (xs : List ℕ) → IsSound limit (OneEntry k) xs (entry g limit k xs)
-  unfolding entry onto Valid
+  unfolding entry onto Valid Joined
   entry-found limit Elements xs = bound _ (gs limit OneItem xs) (λ w v. fine v)
+  entry-found limit Pairs xs = bound _ (gs limit OneItem xs) (λ v vv. bound _ (taken space v.1) (λ s vs. bound _ (byte-found 58 s.1) (λ r e. bound _ (taken space r) (λ t vt. bound _ (later limit OneItem xs t.1 (value-marks v.0 s.0 r t.0 xs t.1 (cc) vt.1)) (λ w vw. fine ((vv.0, vs.0, vt.0, vw.0), (vv.1, vw.1), cc, omega (arith, vv.3, vw.3)))))))
+
+  inside_full-found : (limit : ℕ) (k : Row) (i : Option Indicator) (s xs ys : List ℕ) → is_s s ≡ true → xs ≡ indicator_text i ++ (s ++ ys) → IsSound limit (Inside k) xs (inside_full g limit k i s ys)
+  unfolding inside_full onto Valid Joined
+  inside_full-found limit k i s xs ys v e = bound _ (head-found i s v) (λ h vh. bound _ (later limit (Rest k) xs ys (rw e (omega (arith, marks_end s ys, marks_end (indicator_text i) (s ++ ys))))) (λ m vm. fine ((vh.0, vh.1, vm.0), (vh.2, vm.1), e ∙ vh.3 ys ∙ ap (λ (r : List ℕ). head_text h.0 ++ (h.1 ++ r)) vm.2, vm.3)))
 
   inside-found : (limit : ℕ) (k : Row) (xs : List ℕ) → IsSound limit (Inside k) xs (inside g limit k xs)
-  unfolding inside onto Valid
-  inside-found limit k xs = bound _ (taken space xs) (λ s v. chosen (is_closed s.1) _ _ (λ e. fine (v.0, v.1, omega arith)) (λ e. bound _ (later limit (Rest k) xs s.1 (rw v.1 (marks_end s.0 s.1))) (λ m vm. fine ((v.0, vm.0), cc, vm.2))))
+  unfolding inside onto Valid Joined
+  inside-found limit k xs = bound _ (taken space (indicator_at xs).1) (λ s v. let e : xs ≡ indicator_text (indicator_at xs).0 ++ (s.0 ++ s.1) = spec-found xs ∙ ap (indicator_text (indicator_at xs).0 ++◌) v.1 in chosen (is_closed s.1) _ _ (λ c. fine (v.0, tt, e, omega arith)) (λ c. inside_full-found limit k (indicator_at xs).0 s.0 xs s.1 v.0 e))
 
   rest-found : (limit : ℕ) (k : Row) (xs : List ℕ) → IsSound limit (Rest k) xs (rest g limit k xs)
-  unfolding rest more onto Valid
-  rest-found limit k xs = bound _ (gs limit (OneEntry k) xs) (λ e ve. bound _ (taken separator e.1) (λ s vs. chosen (is_closed s.1) _ _ (λ c. fine ((ve.0, vs.0), cc, ve.2)) (λ c. bound _ (not_empty-found s.0) (λ t n. bound _ (later limit (Rest k) xs s.1 (rw (ve.1, vs.1) (omega (arith, marks_end s.0 s.1, marks_onto e.0 (s.0 ++ s.1))))) (λ m vm. fine ((ve.0, rw n.1 (rw n.0 vs.0), vm.0), cc, omega (arith, ve.2, vm.2)))))))
+  unfolding rest more onto Valid Joined
+  rest-found limit k xs = bound _ (gs limit (OneEntry k) xs) (λ e ve. bound _ (taken separator e.1) (λ s vs. chosen (is_closed s.1) _ _ (λ c. fine ((ve.0, vs.0), ve.1, cc, ve.3)) (λ c. bound _ (not_empty-found s.0) (λ t n. bound _ (later limit (Rest k) xs s.1 (rw (ve.2, vs.1) (omega (arith, marks_end s.0 s.1, marks_onto e.0 (s.0 ++ s.1))))) (λ m vm. fine ((ve.0, rw n.1 (rw n.0 vs.0), vm.0), (ve.1, vm.1), cc, omega (arith, ve.3, vm.3)))))))
 
   sequence-found : (limit : ℕ) (xs : List ℕ) → IsSound limit Seq xs (sequence g limit xs)
-  unfolding sequence onto Valid
-  sequence-found limit xs = bound _ (taken space xs) (λ s v. chosen (is_closed s.1) _ _ (λ e. fine (v.0, v.1, omega arith)) (λ e. bound _ (later limit (Rest Elements) xs s.1 (rw v.1 (marks_end s.0 s.1))) (λ m vm. fine ((v.0, vm.0), cc, vm.2))))
+  unfolding sequence onto Valid Joined
+  sequence-found limit xs = bound _ (taken space xs) (λ s v. chosen (is_closed s.1) _ _ (λ e. fine (v.0, tt, v.1, omega arith)) (λ e. bound _ (later limit (Rest Elements) xs s.1 (rw v.1 (marks_end s.0 s.1))) (λ m vm. fine ((v.0, vm.0), vm.1, cc, vm.3))))
 
   standalone-found : (limit : ℕ) (xs : List ℕ) → IsSound limit Standalone xs (standalone g limit xs)
-  unfolding standalone onto Valid
-  standalone-found limit xs = bound _ (taken space xs) (λ s vs. bound _ (later limit OneItem xs s.1 (rw vs.1 (marks_end s.0 s.1))) (λ w vw. bound _ (taken space w.1) (λ t vt. fine ((vs.0, vw.0, vt.0), cc, vw.2))))
+  unfolding standalone onto Valid Joined
+  standalone-found limit xs = bound _ (taken space xs) (λ s vs. bound _ (later limit OneItem xs s.1 (rw vs.1 (marks_end s.0 s.1))) (λ w vw. bound _ (taken space w.1) (λ t vt. fine ((vs.0, vw.0, vt.0), vw.1, cc, vw.3))))
 
   rule-found : (limit : ℕ) (s : Rule) (xs : List ℕ) → IsSound limit s xs (rule g limit s xs)
   rule-found limit OneItem xs = item-found limit xs

@@ -1,7 +1,9 @@
 -- Each text of a declared tree is in its set.
 use Rattle.std.proofs.Common.{◌≡◌, ℕ, List, Option, None, Some, subst, sym}
 use Rattle.cbor_edn_parts.specs.Leaves.{s_bytes}
+use Rattle.cbor_edn_parts.specs.declared.indicator.Indicator.{Indicator}
 use Rattle.cbor_edn_parts.specs.declared.space.S.{S}
+use Rattle.cbor_edn_parts.specs.declared.space.Ms.{Ms}
 use Rattle.cbor_edn_parts.specs.declared.space.Msc.{Msc}
 use Rattle.cbor_edn_parts.specs.declared.space.Soc.{Soc}
 use Rattle.cbor_edn_parts.specs.declared.number.Number.{Number}
@@ -11,29 +13,48 @@ use Rattle.cbor_edn_core.specs.declared.tree.InnerItem.TheVariants as inner
 use Rattle.cbor_edn_core.specs.declared.tree.ItemList.{ItemList}
 use Rattle.cbor_edn_core.specs.declared.tree.ItemList.TheVariants as item_list
 use Rattle.cbor_edn_core.specs.declared.tree.Items.{Items, Items', Row_of-Items-row-2, end_of-Items-row-2, more_of-Items-row-2}
-use Rattle.cbor_edn_core.specs.Items.{Elements}
-use Rattle.cbor_edn_core.specs.Trees.{Tree, Rest, Valid, items, text}
+use Rattle.cbor_edn_core.specs.declared.tree.PairList.{PairList}
+use Rattle.cbor_edn_core.specs.declared.tree.PairList.TheVariants as pair_list
+use Rattle.cbor_edn_core.specs.declared.tree.Pairs.{Pairs, Pairs', Row_of-Pairs-row-2, end_of-Pairs-row-2, more_of-Pairs-row-2}
+use Rattle.cbor_edn_core.specs.Items as kind
+use Rattle.cbor_edn_core.specs.Trees.{Tree, Rest, IsHead, Valid, items, text}
 use Rattle.cbor_edn_core.specs.Spelling.{Spells, SpellsSequence, SpellsOne}
 use Rattle.cbor_edn_core.proofs.Spelled.{tells}
-use Rattle.cbor_edn_core.specs.View.{texts, view_inner, view_list, view_items, view_row, view_some, Item, StandaloneItem, Sequence, item_tree, standalone_tree, sequence_tree}
+use Rattle.cbor_edn_core.specs.View.{texts, view_head, view_inner, view_list, view_items, view_row, view_pair_list, view_pairs, view_pair_row, view_some, Item, StandaloneItem, Sequence, item_tree, standalone_tree, sequence_tree}
+
+head_valid : (h : Option (Indicator × Ms)) → IsHead (view_head texts h)
+head_valid None = tt
+head_valid (Some h) = h.1.spelled
 
 mutual
   unfolding Valid
 
-  inner_valid : (x : InnerItem Texts S Msc Soc Number) → Valid (view_inner texts x)
-  inner_valid (inner.Number n) = n.spelled
+  inner_valid : (x : InnerItem Texts S Ms Msc Soc Number) → Valid (view_inner texts x)
+  inner_valid (inner.Number n i) = n.spelled
   inner_valid (inner.Array list) = list_valid list
+  inner_valid (inner.Map list) = pair_list_valid list
 
-  list_valid : (x : ItemList Texts S Msc Soc Number) → Valid (view_list texts x)
-  list_valid (item_list.Present s items) = (s.spelled, items_valid items)
-  list_valid (item_list.Absent s) = s.spelled
+  list_valid : (x : ItemList Texts S Ms Msc Soc Number) → Valid (view_list texts x)
+  list_valid (item_list.Present head s items) = (head_valid head, s.spelled, items_valid items)
+  list_valid (item_list.Absent i s) = s.spelled
 
-  items_valid : (x : Items Texts S Msc Soc Number) → Valid (view_items texts x)
+  items_valid : (x : Items Texts S Ms Msc Soc Number) → Valid (view_items texts x)
   items_valid (Items' n row p last soc) = row_valid row _ (inner_valid last, soc.spelled)
 
-  row_valid : {n : _} (row : Row_of-Items-row-2 Texts S Msc Soc Number n) (m : Tree (Rest Elements)) → Valid m → Valid (view_row texts row m)
+  row_valid : {n : _} (row : Row_of-Items-row-2 Texts S Ms Msc Soc Number n) (m : Tree (Rest kind.Elements)) → Valid m → Valid (view_row texts row m)
   row_valid end_of-Items-row-2 m v = v
   row_valid (more_of-Items-row-2 item separator row) m v = (inner_valid item, separator.spelled, row_valid row m v)
+
+  pair_list_valid : (x : PairList Texts S Ms Msc Soc Number) → Valid (view_pair_list texts x)
+  pair_list_valid (pair_list.Present head s pairs) = (head_valid head, s.spelled, pairs_valid pairs)
+  pair_list_valid (pair_list.Absent i s) = s.spelled
+
+  pairs_valid : (x : Pairs Texts S Ms Msc Soc Number) → Valid (view_pairs texts x)
+  pairs_valid (Pairs' n row p key before after value soc) = pair_row_valid row _ ((inner_valid key, before.spelled, after.spelled, inner_valid value), soc.spelled)
+
+  pair_row_valid : {n : _} (row : Row_of-Pairs-row-2 Texts S Ms Msc Soc Number n) (m : Tree (Rest kind.Pairs)) → Valid m → Valid (view_pair_row texts row m)
+  pair_row_valid end_of-Pairs-row-2 m v = v
+  pair_row_valid (more_of-Pairs-row-2 key before after value separator row) m v = ((inner_valid key, before.spelled, after.spelled, inner_valid value), separator.spelled, pair_row_valid row m v)
 
 pub item_valid : (x : Item) → Valid (item_tree x)
 item_valid x = inner_valid x.inner
@@ -42,7 +63,7 @@ pub standalone_valid : (x : StandaloneItem) → Valid (standalone_tree x)
 unfolding Valid
 standalone_valid x = (x.before.spelled, inner_valid x.item.inner, x.after.spelled)
 
-some_valid : (s : S) (x : Option (Items Texts S Msc Soc Number)) → Valid (view_some texts (s_bytes s) x)
+some_valid : (s : S) (x : Option (Items Texts S Ms Msc Soc Number)) → Valid (view_some texts (s_bytes s) x)
 unfolding Valid
 some_valid s None = s.spelled
 some_valid s (Some items) = (s.spelled, items_valid items)

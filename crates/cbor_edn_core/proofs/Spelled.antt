@@ -1,43 +1,55 @@
--- What is spelled is the text of a valid tree with these items, and a valid tree's text spells its items.
-use Rattle.std.proofs.Common.{ℕ, suc, List, [], ◌∷◌, ◌++◌, ◌≡◌, refl, ap, sym, arith, ◌∙◌, append_assoc}
+-- What is spelled is the text of a valid tree, joined, with these items, and a valid tree's text spells its items.
+use Rattle.std.proofs.Common.{ℕ, suc, List, [], ◌∷◌, ◌++◌, ◌≡◌, refl, ap, sym, arith, ◌∙◌, append_assoc, subst}
 use Rattle.std.proofs.lemmas.List.{append-nil}
-use Rattle.cbor_edn_parts.specs.Space.{IsS, IsMsc, IsSoc}
-use Rattle.cbor_edn_core.specs.Items.{Row, Elements, Sort, Item, Entry, Entries, Node, Number, Listed, Element, End, Then, Items, nesting}
-use Rattle.cbor_edn_core.specs.Spelling.{opening, ending, Spells, SpellsSequence, SpellsOne}
-use Rattle.cbor_edn_core.specs.Trees.{Rule, OneItem, OneEntry, Inside, Rest, Seq, Standalone, Tree, NumberTree, ListTree, ElementTree, EmptyTree, FullTree, LastTree, MoreTree, NothingTree, SequenceTree, StandaloneTree, onto, text, Of, items, depth, Valid}
-use Rattle.cbor_edn_parts.proofs.SpaceTexts.{s_texts, soc_texts, msc_texts}
+use Rattle.std.specs.Prelude.{true, Option, Some, None, ◌≢◌}
+use Rattle.cbor_edn_parts.specs.declared.indicator.Indicator.{Indicator}
+use Rattle.cbor_edn_parts.specs.Space.{IsS, empty, blank, comment, IsMsc, IsSoc}
+use Rattle.cbor_edn_parts.specs.SpaceTokens.{is_s}
+use Rattle.cbor_edn_core.specs.Items.{Row, Elements, Sort, Item, Entry, Entries, Node, Number, Listed, Element, Pair, End, Then, Items, nesting}
+use Rattle.cbor_edn_core.specs.Spelling.{opening, ending, IsSpecms, Spells, SpellsSequence, SpellsOne}
+use Rattle.cbor_edn_core.specs.Trees.{Rule, OneItem, OneEntry, Inside, Rest, Seq, Standalone, Head, Unmarked, Marked, mark, head_text, Tree, NumberTree, ListTree, ElementTree, PairTree, EmptyTree, FullTree, LastTree, MoreTree, NothingTree, SequenceTree, StandaloneTree, onto, text, Of, items, depth, IsHead, Valid, IsJoined, Joined}
+use Rattle.cbor_edn_parts.proofs.SpaceTexts.{s_texts, soc_texts, ms_texts, msc_texts}
 use Rattle.cbor_edn_parts.proofs.NumberTexts.{number_texts}
+use Rattle.cbor_edn_core.proofs.Found.{no_space}
 
 -- How deep the items of a use of a rule nest.
 abbrev pub nesting_of : (s : Rule) → Of s → ℕ
 nesting_of OneItem x = nesting x
 nesting_of (OneEntry k) x = nesting x
-nesting_of (Inside k) x = nesting x
+nesting_of (Inside k) x = nesting x.1
 nesting_of (Rest k) x = nesting x
 nesting_of Seq x = nesting x
 nesting_of Standalone x = nesting x
 
 pub nested : {s : Rule} (w : Tree s) → depth w ≡ nesting_of s (items w)
 unfolding items
-nested (NumberTree x) = refl
+nested (NumberTree x i) = refl
 nested (ListTree k w) = ap suc (nested w)
 nested (ElementTree w) = nested w
-nested (EmptyTree s) = refl
-nested (FullTree s m) = nested m
+nested (PairTree v s t w) = rw (nested v, nested w)
+nested (EmptyTree i s) = refl
+nested (FullTree h s m) = nested m
 nested (LastTree e s) = let h = nested e in omega arith
 nested (MoreTree e s m) = rw (nested e, nested m)
 nested (NothingTree s) = refl
 nested (SequenceTree s m) = nested m
 nested (StandaloneTree s w t) = nested w
 
+pair-append : (v w : Tree OneItem) (s t q r : List ℕ) → onto w (q ++ r) ≡ onto w q ++ r → ((x : List ℕ) → onto v (x ++ r) ≡ onto v x ++ r) → onto v (s ++ (58 ∷ (t ++ onto w (q ++ r)))) ≡ onto v (s ++ (58 ∷ (t ++ onto w q))) ++ r
+pair-append v w s t q r hw hv = rw (hw, ← hv (s ++ (58 ∷ (t ++ onto w q)))) (simp append_assoc)
+
+full-append : (h s m r : List ℕ) → h ++ (s ++ (m ++ r)) ≡ (h ++ (s ++ m)) ++ r
+full-append h s m r = simp append_assoc
+
 -- A tree's text stands in front of what follows it.
 pub onto-append : {s : Rule} (w : Tree s) (q r : List ℕ) → onto w (q ++ r) ≡ onto w q ++ r
 unfolding onto
-onto-append (NumberTree x) q r = simp append_assoc
+onto-append (NumberTree x i) q r = simp append_assoc
 onto-append (ListTree k w) q r = ap (opening k ∷◌) (onto-append w (ending k ∷ q) r)
 onto-append (ElementTree w) q r = onto-append w q r
-onto-append (EmptyTree s) q r = simp append_assoc
-onto-append (FullTree s m) q r = ap (s ++◌) (onto-append m q r) ∙ sym (append_assoc s (onto m q) r)
+onto-append (PairTree v s t w) q r = pair-append v w s t q r (onto-append w q r) (λ x. onto-append v x r)
+onto-append (EmptyTree i s) q r = simp append_assoc
+onto-append (FullTree h s m) q r = ap (λ (x : List ℕ). head_text h ++ (s ++ x)) (onto-append m q r) ∙ full-append (head_text h) s (onto m q) r
 onto-append (LastTree e s) q r = ap (onto e) (sym (append_assoc s q r)) ∙ onto-append e (s ++ q) r
 onto-append (MoreTree e s m) q r = ap (λ (x : List ℕ). onto e (s ++ x)) (onto-append m q r) ∙ ap (onto e) (sym (append_assoc s (onto m q) r)) ∙ onto-append e (s ++ onto m q) r
 onto-append (NothingTree s) q r = simp append_assoc
@@ -47,10 +59,11 @@ onto-append (StandaloneTree s w t) q r = ap (λ (x : List ℕ). s ++ onto w x) (
 pub parted : {s : Rule} (w : Tree s) (r : List ℕ) → onto w r ≡ text w ++ r
 parted w r = onto-append w [] r
 
--- A valid tree with these items and this text.
+-- A valid tree, joined, with these items and this text.
 pub record HasTree (s : Rule) (x : Of s) (t : List ℕ) : Type 0 where
   pub tree : Tree s
   pub valid : Valid tree
+  pub joined : Joined tree
   pub same : items tree ≡ x
   pub text_is : (r : List ℕ) → onto tree r ≡ t ++ r
 
@@ -58,60 +71,97 @@ pub record HasTree (s : Rule) (x : Of s) (t : List ℕ) : Type 0 where
 pub record Continues {k : Row} (e : Tree (OneEntry k)) (x : Node (Entries k)) (t : List ℕ) : Type 0 where
   pub tree : Tree (Rest k)
   pub valid : Valid tree
+  pub joined : Joined tree
   pub same : items tree ≡ Then (items e) x
   pub text_is : (r : List ℕ) → onto tree r ≡ onto e (t ++ r)
 
 abbrev pub Given : (s : Sort) → Node s → List ℕ → Type 0
 Given Item x t = HasTree OneItem x t
 Given (Entry k) x t = HasTree (OneEntry k) x t
-Given (Entries k) x t = (e : Tree (OneEntry k)) → Valid e → Continues e x t
+Given (Entries k) x t = (e : Tree (OneEntry k)) → Valid e → Joined e → Continues e x t
 
-end_given : {k : Row} (t : List ℕ) (e : Tree (OneEntry k)) → Valid e → Spells (End {k = k}) t → Continues e End t
-unfolding Spells onto Valid items
-end_given t e v h = record { tree = LastTree e t; valid = (v, (soc_texts t).0 h); same = refl; text_is = λ r. refl }
+end_given : {k : Row} (t : List ℕ) (e : Tree (OneEntry k)) → Valid e → Joined e → Spells (End {k = k}) t → Continues e End t
+unfolding Spells onto Valid Joined items
+end_given t e v j h = record { tree = LastTree e t; valid = (v, (soc_texts t).0 h); joined = j; same = refl; text_is = λ r. refl }
 
-full_given : (k : Row) (e : Node (Entry k)) (m : Node (Entries k)) (s a b : List ℕ) → IsS s → (v : HasTree (OneEntry k) e a) → Continues v.tree m b → HasTree OneItem (Listed k (Then e m)) (opening k ∷ (s ++ (a ++ (b ++ (ending k ∷ [])))))
-unfolding onto Valid items
-full_given k e m s a b h v w = record {
-  tree = ListTree k (FullTree s w.tree);
-  valid = ((s_texts s).0 h, w.valid);
-  same = ap (Listed k) (w.same ∙ ap (λ (x : Node (Entry k)). Then x m) v.same);
-  text_is = λ r. rw (w.text_is (ending k ∷ r), v.text_is (b ++ (ending k ∷ r))) (simp append_assoc);
+s-append : {x y : List ℕ} → IsS x → IsS y → IsS (x ++ y)
+s-append empty k = k
+s-append (blank b h) k = blank b (s-append h k)
+s-append {y = y} (comment {b = b} {x = x} c h) k = subst IsS (sym (append_assoc b x y)) (comment c (s-append h k))
+
+not_empty-append : (x y : List ℕ) → x ≢ [] → (x ++ y) ≢ []
+not_empty-append [] y n e = n refl
+not_empty-append (c ∷ x) y n e = cc
+
+-- An indicator with its space, and the space behind it: the mandatory space takes all of both.
+pub record HasHead (i : Option Indicator) (h s : List ℕ) : Type 0 where
+  pub head : Head
+  pub space : List ℕ
+  pub same : mark head ≡ i
+  pub head_valid : IsHead head
+  pub space_valid : is_s space ≡ true
+  pub joined : IsJoined head space
+  pub text_is : (r : List ℕ) → head_text head ++ (space ++ r) ≡ h ++ (s ++ r)
+
+head_given : (i : Option Indicator) (h s : List ℕ) → IsSpecms i h → IsS s → HasHead i h s
+head_given None h s vh vs = record { head = Unmarked; space = s; same = refl; head_valid = tt; space_valid = (s_texts s).0 vs; joined = tt; text_is = λ r. ap (λ (x : List ℕ). x ++ (s ++ r)) (sym vh) }
+head_given (Some i) h s vh vs = record {
+  head = Marked i (vh.0 ++ s);
+  space = [];
+  same = refl;
+  head_valid = (ms_texts (vh.0 ++ s)).0 (s-append vh.1.0 vs, not_empty-append vh.0 s vh.1.1);
+  space_valid = no_space;
+  joined = refl;
+  text_is = λ r. rw vh.2 (simp append_assoc);
 }
 
-more_given : {k : Row} (e : Node (Entry k)) (m : Node (Entries k)) (c a b : List ℕ) (u : Tree (OneEntry k)) → Valid u → IsMsc c → (v : HasTree (OneEntry k) e a) → Continues v.tree m b → Continues u (Then e m) (c ++ (a ++ b))
-unfolding onto Valid items
-more_given {k} e m c a b u vu h v w = record {
+full_given : (k : Row) (i : Option Indicator) (e : Node (Entry k)) (m : Node (Entries k)) (h s a b : List ℕ) → HasHead i h s → (v : HasTree (OneEntry k) e a) → Continues v.tree m b → HasTree OneItem (Listed k i (Then e m)) (opening k ∷ (h ++ (s ++ (a ++ (b ++ (ending k ∷ []))))))
+unfolding onto Valid Joined items
+full_given k i e m h s a b u v w = record {
+  tree = ListTree k (FullTree u.head u.space w.tree);
+  valid = (u.head_valid, u.space_valid, w.valid);
+  joined = (u.joined, w.joined);
+  same = rw (u.same, w.same, v.same);
+  text_is = λ r. rw (w.text_is (ending k ∷ r), v.text_is (b ++ (ending k ∷ r)), u.text_is (a ++ (b ++ (ending k ∷ r)))) (simp append_assoc);
+}
+
+more_given : {k : Row} (e : Node (Entry k)) (m : Node (Entries k)) (c a b : List ℕ) (u : Tree (OneEntry k)) → Valid u → Joined u → IsMsc c → (v : HasTree (OneEntry k) e a) → Continues v.tree m b → Continues u (Then e m) (c ++ (a ++ b))
+unfolding onto Valid Joined items
+more_given {k} e m c a b u vu ju h v w = record {
   tree = MoreTree u c w.tree;
   valid = (vu, (msc_texts c).0 h, w.valid);
+  joined = (ju, w.joined);
   same = ap (Then (items u)) (w.same ∙ ap (λ (x : Node (Entry k)). Then x m) v.same);
   text_is = λ r. rw (w.text_is r, v.text_is (b ++ r)) (ap (onto u) (simp append_assoc));
 }
 
 pub spelled : {s : Sort} (x : Node s) (t : List ℕ) → Spells x t → Given s x t
-unfolding Spells onto Valid items
-spelled (Number x) t h = record { tree = NumberTree x; valid = (number_texts x).0 h.0; same = refl; text_is = λ r. rw h.1 }
-spelled (Listed k End) t h = record { tree = ListTree k (EmptyTree h.0); valid = (s_texts h.0).0 h.1; same = refl; text_is = λ r. rw h.2 (simp append_assoc) }
-spelled (Listed k (Then e m)) t h = let v = spelled e h.1 h.4 in rw h.6 (full_given k e m h.0 h.1 h.2 h.3 v (spelled m h.2 h.5 v.tree v.valid))
-spelled (Element w) t h = let v = spelled w t h in record { tree = ElementTree v.tree; valid = v.valid; same = ap Element v.same; text_is = v.text_is }
-spelled End t h = λ e v. end_given t e v h
-spelled (Then e m) t h = λ u vu. let v = spelled e h.1 h.4 in rw h.6 (more_given e m h.0 h.1 h.2 u vu h.3 v (spelled m h.2 h.5 v.tree v.valid))
+unfolding Spells onto Valid Joined items
+spelled (Number x i) t h = record { tree = NumberTree x i; valid = (number_texts x).0 h.0; joined = tt; same = refl; text_is = λ r. rw h.1 (simp append_assoc) }
+spelled (Listed k i End) t h = record { tree = ListTree k (EmptyTree i h.0); valid = (s_texts h.0).0 h.1; joined = tt; same = refl; text_is = λ r. rw h.2 (simp append_assoc) }
+spelled (Listed k i (Then e m)) t h = let v = spelled e h.2 h.6 in rw h.8 (full_given k i e m h.0 h.1 h.2 h.3 (head_given i h.0 h.1 h.4 h.5) v (spelled m h.3 h.7 v.tree v.valid v.joined))
+spelled (Element w) t h = let v = spelled w t h in record { tree = ElementTree v.tree; valid = v.valid; joined = v.joined; same = ap Element v.same; text_is = v.text_is }
+spelled (Pair v w) t h = let a = spelled v h.0 h.4 in let b = spelled w h.3 h.7 in record { tree = PairTree a.tree h.1 h.2 b.tree; valid = (a.valid, (s_texts h.1).0 h.5, (s_texts h.2).0 h.6, b.valid); joined = (a.joined, b.joined); same = rw (a.same, b.same); text_is = λ r. rw h.8 (simp (a.text_is, b.text_is, append_assoc)) }
+spelled End t h = λ e v j. end_given t e v j h
+spelled (Then e m) t h = λ u vu ju. let v = spelled e h.1 h.4 in rw h.6 (more_given e m h.0 h.1 h.2 u vu ju h.3 v (spelled m h.2 h.5 v.tree v.valid v.joined))
 
 pub spelled_sequence : (x : Items) (t : List ℕ) → SpellsSequence x t → HasTree Seq x t
-unfolding SpellsSequence onto Valid items
-spelled_sequence End t h = record { tree = NothingTree t; valid = (s_texts t).0 h; same = refl; text_is = λ r. refl }
-spelled_sequence (Then e m) t h = let a = spelled e h.1 h.4 in let w = spelled m h.2 h.5 a.tree a.valid in record {
+unfolding SpellsSequence onto Valid Joined items
+spelled_sequence End t h = record { tree = NothingTree t; valid = (s_texts t).0 h; joined = tt; same = refl; text_is = λ r. refl }
+spelled_sequence (Then e m) t h = let a = spelled e h.1 h.4 in let w = spelled m h.2 h.5 a.tree a.valid a.joined in record {
   tree = SequenceTree h.0 w.tree;
   valid = ((s_texts h.0).0 h.3, w.valid);
+  joined = w.joined;
   same = w.same ∙ ap (λ (y : Node (Entry Elements)). Then y m) a.same;
   text_is = λ r. rw (h.6, w.text_is r, a.text_is (h.2 ++ r)) (simp append_assoc);
 }
 
 pub spelled_one : (x : Node Item) (t : List ℕ) → SpellsOne x t → HasTree Standalone x t
-unfolding SpellsOne onto Valid items
+unfolding SpellsOne onto Valid Joined items
 spelled_one x t h = let a = spelled x h.1 h.4 in record {
   tree = StandaloneTree h.0 a.tree h.2;
   valid = ((s_texts h.0).0 h.3, a.valid, (s_texts h.2).0 h.5);
+  joined = a.joined;
   same = a.same;
   text_is = λ r. rw h.6 (simp (a.text_is, append_assoc));
 }
@@ -131,14 +181,18 @@ pub record Told {k : Row} (m : Tree (Rest k)) : Type 0 where
 abbrev pub Tells : (s : Rule) → Tree s → Type 0
 Tells OneItem w = Spells (items w) (text w)
 Tells (OneEntry k) w = Spells (items w) (text w)
-Tells (Inside k) w = Spells (Listed k (items w)) (opening k ∷ onto w (ending k ∷ []))
+Tells (Inside k) w = Spells (Listed k (items w).0 (items w).1) (opening k ∷ onto w (ending k ∷ []))
 Tells (Rest k) w = Told w
 Tells Seq w = SpellsSequence (items w) (text w)
 Tells Standalone w = SpellsOne (items w) (text w)
 
-tells_full : (k : Row) (s : List ℕ) (m : Tree (Rest k)) → IsS s → Told m → Spells (Listed k (items m)) (opening k ∷ (s ++ onto m (ending k ∷ [])))
+head_told : (h : Head) → IsHead h → IsSpecms (mark h) (head_text h)
+head_told Unmarked v = refl
+head_told (Marked i ms) v = (ms, (ms_texts ms).1 v, refl)
+
+tells_full : (k : Row) (h : Head) (s : List ℕ) (m : Tree (Rest k)) → IsHead h → IsS s → Told m → Spells (Listed k (mark h) (items m)) (opening k ∷ (head_text h ++ (s ++ onto m (ending k ∷ []))))
 unfolding Spells
-tells_full k s m v h = rw h.same (s, h.front, h.back, v, h.first_spelled, h.others_spelled, rw (h.text_is (ending k ∷ [])) refl)
+tells_full k h s m vh v t = rw t.same (head_text h, s, t.front, t.back, head_told h vh, v, t.first_spelled, t.others_spelled, rw (t.text_is (ending k ∷ [])) refl)
 
 tells_last : (k : Row) (e : Tree (OneEntry k)) (s : List ℕ) → IsSoc s → Spells (items e) (text e) → Told (LastTree e s)
 unfolding Spells onto items
@@ -167,11 +221,12 @@ tells_sequence s m v h = rw h.same (s, h.front, h.back, v, h.first_spelled, h.ot
 
 pub tells : {s : Rule} (w : Tree s) → Valid w → Tells s w
 unfolding Valid onto items Spells SpellsSequence SpellsOne
-tells (NumberTree x) v = ((number_texts x).1 v, simp append-nil)
+tells (NumberTree x i) v = ((number_texts x).1 v, simp append-nil)
 tells (ListTree k w) v = tells w v
 tells (ElementTree w) v = tells w v
-tells (EmptyTree s) v = (s, (s_texts s).1 v, refl)
-tells (FullTree {k = k} s m) v = tells_full k s m ((s_texts s).1 v.0) (tells m v.1)
+tells (PairTree a s t b) v = (text a, s, t, text b, tells a v.0, (s_texts s).1 v.1, (s_texts t).1 v.2, tells b v.3, parted a _)
+tells (EmptyTree i s) v = (s, (s_texts s).1 v, refl)
+tells (FullTree {k = k} h s m) v = tells_full k h s m v.0 ((s_texts s).1 v.1) (tells m v.2)
 tells (LastTree {k = k} e s) v = tells_last k e s ((soc_texts s).1 v.1) (tells e v.0)
 tells (MoreTree {k = k} e s m) v = tells_more k e s m ((msc_texts s).1 v.1) (tells e v.0) (tells m v.2)
 tells (NothingTree s) v = rw append-nil ((s_texts s).1 v)

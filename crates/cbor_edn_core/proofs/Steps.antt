@@ -1,18 +1,22 @@
 -- How many steps a text takes at most, that more steps change nothing, and the laws of reading without steps.
 use Rattle.std.proofs.Common.{ℕ, zero, suc, List, [], ◌∷◌, ◌++◌, ◌≡◌, ◌≤◌, ◌<◌, ◌+◌, ◌*◌, length, refl, ap, arith, ◌∙◌, length-append}
-use Rattle.std.specs.Prelude.{true, cond, Result}
+use Rattle.std.specs.Prelude.{true, cond, Option, Result, Ok, Err}
 use Rattle.cbor_edn_parts.specs.declared.error.ParseErrorKind.{ParseErrorKind}
+use Rattle.cbor_edn_parts.specs.declared.error.ParseErrorKind.TheVariants.{Invalid, TooDeep}
+use Rattle.cbor_edn_parts.specs.declared.indicator.Indicator.{Indicator}
 use Rattle.cbor_edn_parts.specs.Bytes.{is_closed}
+use Rattle.cbor_edn_parts.specs.Indicator.{indicator_text, indicator_at}
 use Rattle.cbor_edn_parts.specs.Lex.{Table}
 use Rattle.cbor_edn_parts.specs.SpaceTokens.{space, separator}
 use Rattle.cbor_edn_parts.specs.NumberTokens.{is_number}
-use Rattle.cbor_edn_core.specs.Items.{Row, Elements}
+use Rattle.cbor_edn_core.specs.Items.{Row, Elements, Pairs}
 use Rattle.cbor_edn_core.specs.Spelling.{ending}
-use Rattle.cbor_edn_core.specs.Trees.{Rule, OneItem, OneEntry, Inside, Rest, Seq, Standalone, Tree, NumberTree, ListTree, ElementTree, EmptyTree, FullTree, LastTree, MoreTree, NothingTree, SequenceTree, StandaloneTree, onto, Valid, FollowOf, depth}
-use Rattle.cbor_edn_core.specs.Reading.{◌>>=◌, Reader, token, number_item, list_item, item, entry, inside, more, rest, sequence, standalone, rule, read, reads, outcome}
+use Rattle.cbor_edn_core.specs.Trees.{Rule, OneItem, OneEntry, Inside, Rest, Seq, Standalone, head_text, Tree, NumberTree, ListTree, ElementTree, PairTree, EmptyTree, FullTree, LastTree, MoreTree, NothingTree, SequenceTree, StandaloneTree, onto, Valid, Joined, FollowOf, depth}
+use Rattle.cbor_edn_core.specs.Reading.{◌>>=◌, Reader, token, byte, head_of, number_item, list_item, item, entry, inside_full, inside, more, rest, sequence, standalone, rule, read, reads, outcome}
+use Rattle.cbor_edn_parts.proofs.Indicators.{spec-found}
 use Rattle.cbor_edn_core.proofs.Follows.{number_some}
 use Rattle.cbor_edn_core.proofs.Again.{size, positive, again}
-use Rattle.cbor_edn_core.proofs.Found.{Meets, invalid, deep, fine, weaker, taken, Sound, IsSound, found, not_empty-found}
+use Rattle.cbor_edn_core.proofs.Found.{Meets, invalid, deep, fine, weaker, taken, Sound, IsSound, found, byte-found, not_empty-found}
 
 -- how many fewer steps a use of a rule takes than four a byte
 abbrev extra : Rule → ℕ
@@ -27,21 +31,23 @@ number_length (c ∷ x) v = omega arith
 
 pub size_fits : {s : Rule} (w : Tree s) (r : List ℕ) → Valid w → size w + extra s + 4 * length r ≤ 4 * length (onto w r) + 1
 unfolding size onto Valid
-size_fits (NumberTree x) r v = omega (arith, number_length x v, length-append x r)
+size_fits (NumberTree x i) r v = omega (arith, number_length x v, length-append x (indicator_text i ++ r), length-append (indicator_text i) r)
 size_fits (ListTree k w) r v = omega (arith, size_fits w (ending k ∷ r) v)
 size_fits (ElementTree w) r v = omega (arith, size_fits w r v)
-size_fits (EmptyTree s) r v = omega (arith, length-append s r)
-size_fits (FullTree s m) r v = omega (arith, length-append s (onto m r), size_fits m r v.1)
+size_fits (PairTree v s t w) r h = omega (arith, size_fits v (s ++ (58 ∷ (t ++ onto w r))) h.0, size_fits w r h.3, length-append s (58 ∷ (t ++ onto w r)), length-append t (onto w r))
+size_fits (EmptyTree i s) r v = omega (arith, length-append (indicator_text i) (s ++ r), length-append s r)
+size_fits (FullTree h s m) r v = omega (arith, length-append (head_text h) (s ++ onto m r), length-append s (onto m r), size_fits m r v.2)
 size_fits (LastTree e s) r v = omega (arith, length-append s r, size_fits e (s ++ r) v.0)
 size_fits (MoreTree e s m) r v = omega (arith, length-append s (onto m r), size_fits m r v.2, size_fits e (s ++ onto m r) v.0)
 size_fits (NothingTree s) r v = omega (arith, length-append s r)
 size_fits (SequenceTree s m) r v = omega (arith, length-append s (onto m r), size_fits m r v.1)
 size_fits (StandaloneTree s w t) r v = omega (arith, length-append t r, size_fits w (t ++ r) v.1, length-append s (onto w (t ++ r)))
 
--- A valid tree's text is read as that tree, whatever follows that may follow it, where it nests within the limit.
-pub reads-again : (limit : ℕ) {s : Rule} (w : Tree s) (r : List ℕ) → Valid w → FollowOf s r → reads limit s (onto w r) ≡ outcome (depth w) limit (w, r)
+-- The text of a valid tree, joined, is read as that tree, whatever follows that may follow it, where it nests within the
+-- limit.
+pub reads-again : (limit : ℕ) {s : Rule} (w : Tree s) (r : List ℕ) → Valid w → Joined w → FollowOf s r → reads limit s (onto w r) ≡ outcome (depth w) limit (w, r)
 unfolding reads
-reads-again limit w r v h = again _ limit w r v h (omega (arith, size_fits w r v))
+reads-again limit w r v j h = again _ limit w r v j h (omega (arith, size_fits w r v))
 
 pub reads-found : (limit : ℕ) (s : Rule) (xs : List ℕ) → IsSound limit s xs (reads limit s xs)
 unfolding reads
@@ -61,7 +67,7 @@ abbrev Shortens : (s : Rule) → List ℕ → Result (Tree s × List ℕ) ParseE
 Shortens s xs o = Meets (Shorter s xs) (Unit {0}) o
 
 sound-shorter : (limit : ℕ) (s : Rule) (xs : List ℕ) (p : Tree s × List ℕ) → Sound limit s xs p → Shorter s xs p
-sound-shorter limit s xs p v = rw v.1 (left s p.0 p.1 v.0)
+sound-shorter limit s xs p v = rw v.2 (left s p.0 p.1 v.0)
   where
     left : (s : Rule) (w : Tree s) (r : List ℕ) → Valid w → length r + least s ≤ length (onto w r)
     left OneItem w r v = omega (arith, size_fits w r v)
@@ -73,6 +79,17 @@ sound-shorter limit s xs p v = rw v.1 (left s p.0 p.1 v.0)
 
 token-shorter : {State : Type 0} (T : Table State) (xs : List ℕ) → Meets (λ p. length p.1 ≤ length xs) (Unit {0}) (token T xs)
 token-shorter T xs = weaker {Deep = Unit {0}} (λ p t. rw t.1 (omega (arith, length-append p.0 p.1))) (λ d. tt) (taken T xs)
+
+byte-shorter : (b : ℕ) (xs : List ℕ) → Meets (λ r. length r ≤ length xs) (Unit {0}) (byte b xs)
+byte-shorter b xs = weaker {Deep = Unit {0}} (λ r e. rw e (omega arith)) (λ d. tt) (byte-found b xs)
+
+indicator-shorter : (xs : List ℕ) → length (indicator_at xs).1 ≤ length xs
+indicator-shorter xs = omega (arith, ap length (spec-found xs), length-append (indicator_text (indicator_at xs).0) (indicator_at xs).1)
+
+any : {A : Type 0} (o : Result A ParseErrorKind) → Meets (λ x. Unit {0}) (Unit {0}) o
+any (Ok x) = fine tt
+any (Err Invalid) = invalid
+any (Err TooDeep) = deep tt
 
 same_then : {A B : Type 0} {P : A → Type 0} {Deep : Type 0} {m n : Result A ParseErrorKind} (f h : A → Result B ParseErrorKind) → m ≡ n → Meets P Deep m → ((x : A) → P x → f x ≡ h x) → (m >>= f) ≡ (n >>= h)
 unfolding ◌>>=◌
@@ -103,15 +120,20 @@ module _ (g h : ℕ → (s : Rule) → Reader s) (gs : (limit : ℕ) (s : Rule) 
   item-same : (limit : ℕ) (xs : List ℕ) → Agree (4 * length xs) → item g limit xs ≡ item h limit xs
   unfolding item number_item
   item-same limit [] a = refl
-  item-same limit (c ∷ xs) a = rw (list-same limit Elements xs (λ l s ys b. a l s ys (omega arith)))
+  item-same limit (c ∷ xs) a = rw (list-same limit Elements xs (λ l s ys b. a l s ys (omega arith)), list-same limit Pairs xs (λ l s ys b. a l s ys (omega arith)))
 
   entry-same : (limit : ℕ) (k : Row) (xs : List ℕ) → Agree (4 * length xs + 1) → entry g limit k xs ≡ entry h limit k xs
   unfolding entry
   entry-same limit Elements xs a = alike limit OneItem xs _ (a limit OneItem xs (omega arith))
+  entry-same limit Pairs xs a = same_then _ _ (a limit OneItem xs (omega arith)) (gs limit OneItem xs) (λ v lv. same_then _ _ refl (token-shorter space v.1) (λ s ls. same_then _ _ refl (byte-shorter 58 s.1) (λ r lr. same_then _ _ refl (token-shorter space r) (λ t lt. alike limit OneItem t.1 _ (a limit OneItem t.1 (omega arith))))))
+
+  inside_full-same : (limit : ℕ) (k : Row) (i : Option Indicator) (s xs : List ℕ) → Agree (4 * length xs + 3) → inside_full g limit k i s xs ≡ inside_full h limit k i s xs
+  unfolding inside_full
+  inside_full-same limit k i s xs a = same_then _ _ refl (any (head_of i s)) (λ y u. alike limit (Rest k) xs _ (a limit (Rest k) xs (omega arith)))
 
   inside-same : (limit : ℕ) (k : Row) (xs : List ℕ) → Agree (4 * length xs + 3) → inside g limit k xs ≡ inside h limit k xs
   unfolding inside
-  inside-same limit k xs a = same_then _ _ refl (token-shorter space xs) (λ s ls. ap (cond (is_closed s.1) _) (alike limit (Rest k) s.1 _ (a limit (Rest k) s.1 (omega arith))))
+  inside-same limit k xs a = same_then _ _ refl (token-shorter space (indicator_at xs).1) (λ s ls. ap (cond (is_closed s.1) _) (inside_full-same limit k (indicator_at xs).0 s.0 s.1 (λ l s ys b. a l s ys (omega (arith, indicator-shorter xs)))))
 
   rest-same : (limit : ℕ) (k : Row) (xs : List ℕ) → Agree (4 * length xs + 2) → rest g limit k xs ≡ rest h limit k xs
   unfolding rest more

@@ -1,24 +1,27 @@
 -- What the reader gives at a place, from what it gives for the parts, as the parser meets them.
-use Rattle.std.proofs.Common.{ℕ, zero, suc, List, [], ◌∷◌, ◌++◌, ◌≡◌, ◌≢◌, ◌+◌, ◌-◌, ◌<◌, length, refl, sym, ap, ◌∙◌, arith, length-append, Some, None, Ok, Err, true, false, Result}
+use Rattle.std.proofs.Common.{ℕ, zero, suc, List, [], ◌∷◌, ◌++◌, ◌≡◌, ◌≢◌, ◌+◌, ◌-◌, ◌<◌, ◌≤◌, length, refl, sym, ap, ◌∙◌, arith, length-append, map, Some, None, Ok, Err, Bool, true, false, Option, Result}
 use Rattle.std.specs.Prelude.{eqb, cond}
+use Rattle.std.proofs.lemmas.List.{map-append}
 use Rattle.std.proofs.lemmas.Bool.Decides.{nat_tests}
 use Rattle.cbor_edn_parts.specs.declared.error.ParseErrorKind.{ParseErrorKind}
 use Rattle.cbor_edn_parts.specs.declared.error.ParseErrorKind.TheVariants.{Invalid, TooDeep}
 use Rattle.cbor_edn_parts.specs.declared.error.Refusal.{Refusal}
 use Rattle.cbor_edn_parts.specs.declared.error.Fault.{Fault}
 use Rattle.cbor_edn_parts.specs.declared.error.Fault.TheVariants.{Memory, Told}
-use Rattle.cbor_edn_parts.specs.declared.space.Msc.{Msc}
-use Rattle.cbor_edn_parts.specs.Leaves.{msc_bytes}
+use Rattle.cbor_edn_parts.specs.declared.indicator.Indicator.{Indicator}
+use Rattle.cbor_edn_parts.specs.Indicator.{indicator_at}
 use Rattle.cbor_edn_parts.specs.Bytes.{is_closed}
 use Rattle.cbor_edn_parts.specs.Lex as lex
 use Rattle.cbor_edn_parts.specs.Lex.{Table, munch}
 use Rattle.cbor_edn_parts.specs.SpaceTokens.{space, separator}
 use Rattle.cbor_edn_parts.specs.NumberTokens.{number}
-use Rattle.cbor_edn_core.specs.Items.{Elements}
-use Rattle.cbor_edn_core.specs.Trees.{Rule, OneItem, OneEntry, Inside, Rest, Seq, Standalone, Tree, NumberTree, ListTree, ElementTree, EmptyTree, FullTree, LastTree, MoreTree, NothingTree, SequenceTree, StandaloneTree}
-use Rattle.cbor_edn_core.specs.Reading.{◌>>=◌, Read, token, byte, not_empty, number_item, list_item, item, entry, inside, more, rest, sequence, standalone, reads, reads_all, at_end}
+use Rattle.cbor_edn_core.specs.Items.{Row, Elements, Pairs}
+use Rattle.cbor_edn_core.specs.Spelling.{opening, ending}
+use Rattle.cbor_edn_core.specs.Trees.{Rule, OneItem, OneEntry, Inside, Rest, Seq, Standalone, Head, Tree, NumberTree, ListTree, ElementTree, PairTree, EmptyTree, FullTree, LastTree, MoreTree, NothingTree, SequenceTree, StandaloneTree}
+use Rattle.cbor_edn_core.specs.Reading.{◌>>=◌, Read, token, byte, not_empty, number_item, list_item, item, entry, head_of, inside, inside_full, more, rest, sequence, standalone, reads, reads_all, at_end}
 use Rattle.cbor_edn_core.specs.ParserResults.{Fails, IsNotAt}
-use Rattle.cbor_edn_core.specs.View.{Item, texts, item_tree, row_onto}
+use Rattle.cbor_edn_core.specs.Refusals.{IfTold}
+use Rattle.cbor_edn_core.specs.View.{entries_onto}
 use Rattle.cbor_edn_parts.proofs.Tokens.{munch-took}
 use Rattle.cbor_edn_core.proofs.Steps.{reads-rule}
 
@@ -68,6 +71,10 @@ byte_other b (c ∷ xs) n = rw (not_eqb c b n)
 
 -- items
 
+not_list : (limit : ℕ) (c : ℕ) (xs : List ℕ) → IsNotAt 91 (c ∷ xs) → IsNotAt 123 (c ∷ xs) → item reads limit (c ∷ xs) ≡ number_item reads (c ∷ xs)
+unfolding item
+not_list limit c xs a m = rw (not_eqb c 91 a, not_eqb c 123 m)
+
 no_number : token number [] ≡ Err Invalid
 unfolding munch
 no_number = refl
@@ -76,139 +83,201 @@ no_number = refl
 same_kind : {A B : Type 0} (a b : ParseErrorKind) → ◌≡◌ {A = Result A ParseErrorKind} (Err a) (Err b) → ◌≡◌ {A = Result B ParseErrorKind} (Err a) (Err b)
 same_kind a b h = let k : a ≡ b = cc in ap (λ (x : ParseErrorKind). Err x) k
 
-pub number_fails : (e : Fault Refusal) (limit : ℕ) (xs : List ℕ) → IsNotAt 91 xs → Fails e (token number xs) → Fails e (reads limit OneItem xs)
+pub number_fails : (e : Fault Refusal) (limit : ℕ) (xs : List ℕ) → IsNotAt 91 xs → IsNotAt 123 xs → Fails e (token number xs) → Fails e (reads limit OneItem xs)
 unfolding item number_item
-number_fails (Memory m) limit xs n h = tt
-number_fails (Told r) limit [] n h = reads-rule limit OneItem [] ∙ same_kind {A = List ℕ × List ℕ} Invalid r.kind (sym no_number ∙ h)
-number_fails (Told r) limit (c ∷ xs) n h = reads-rule limit OneItem (c ∷ xs) ∙ rw (not_eqb c 91 n) (bind_fails (Told r) (token number (c ∷ xs)) _ h)
+number_fails (Memory m) limit xs a b h = tt
+number_fails (Told r) limit [] a b h = reads-rule limit OneItem [] ∙ same_kind {A = List ℕ × List ℕ} Invalid r.kind (sym no_number ∙ h)
+number_fails (Told r) limit (c ∷ xs) a b h = reads-rule limit OneItem (c ∷ xs) ∙ not_list limit c xs a b ∙ bind_fails (Told r) (token number (c ∷ xs)) _ h
 
-pub number_read : (limit : ℕ) (xs x r : List ℕ) → IsNotAt 91 xs → token number xs ≡ Ok (x, r) → reads limit OneItem xs ≡ Ok (NumberTree x, r)
+pub number_read : (limit : ℕ) (xs x r : List ℕ) (i : Option Indicator) (q : List ℕ) → IsNotAt 91 xs → IsNotAt 123 xs → token number xs ≡ Ok (x, r) → indicator_at r ≡ (i, q) → reads limit OneItem xs ≡ Ok (NumberTree x i, q)
 unfolding item number_item
-number_read limit [] x r n h = cc no_number
-number_read limit (c ∷ xs) x r n h = reads-rule limit OneItem (c ∷ xs) ∙ rw (not_eqb c 91 n) (bind_ok (token number (c ∷ xs)) (x, r) _ h)
+number_read limit [] x r i q a b h k = cc no_number
+number_read limit (c ∷ xs) x r i q a b h k = reads-rule limit OneItem (c ∷ xs) ∙ not_list limit c xs a b ∙ bind_ok (token number (c ∷ xs)) (x, r) _ h ∙ ap (λ (p : Option Indicator × List ℕ). Ok (NumberTree x p.0, p.1)) k
 
-list_at : (limit : ℕ) (xs ys : List ℕ) → xs ≡ 91 ∷ ys → reads limit OneItem xs ≡ list_item reads limit Elements ys
+list_at : (limit : ℕ) (k : Row) (xs ys : List ℕ) → xs ≡ opening k ∷ ys → reads limit OneItem xs ≡ list_item reads limit k ys
 unfolding item
-list_at limit xs ys e = reads-rule limit OneItem xs ∙ rw e
+list_at limit Elements xs ys e = reads-rule limit OneItem xs ∙ rw e
+list_at limit Pairs xs ys e = reads-rule limit OneItem xs ∙ rw e
 
-pub list_too_deep : (limit : ℕ) (xs ys : List ℕ) → limit ≡ 0 → xs ≡ 91 ∷ ys → reads limit OneItem xs ≡ Err TooDeep
+pub list_too_deep : (limit : ℕ) (k : Row) (xs ys : List ℕ) → limit ≡ 0 → xs ≡ opening k ∷ ys → reads limit OneItem xs ≡ Err TooDeep
 unfolding list_item
-list_too_deep limit xs ys none e = list_at limit xs ys e ∙ rw none
+list_too_deep limit k xs ys none e = list_at limit k xs ys e ∙ rw none
 
-inside_at : (limit : ℕ) (xs ys : List ℕ) → 0 < limit → xs ≡ 91 ∷ ys → reads limit OneItem xs ≡ (reads (limit - 1) (Inside Elements) ys >>= λ w. byte 93 w.1 >>= λ r. Ok (ListTree Elements w.0, r))
+inside_at : (limit : ℕ) (k : Row) (xs ys : List ℕ) → 0 < limit → xs ≡ opening k ∷ ys → reads limit OneItem xs ≡ (reads (limit - 1) (Inside k) ys >>= λ w. byte (ending k) w.1 >>= λ r. Ok (ListTree k w.0, r))
 unfolding list_item
-inside_at zero xs ys some e = absurd (omega arith)
-inside_at (suc limit) xs ys some e = let same : suc limit - 1 ≡ limit = omega arith in list_at (suc limit) xs ys e ∙ rw same
+inside_at zero k xs ys some e = absurd (omega arith)
+inside_at (suc limit) k xs ys some e = let same : suc limit - 1 ≡ limit = omega arith in list_at (suc limit) k xs ys e ∙ rw same
 
-pub list_fails : (e : Fault Refusal) (limit : ℕ) (xs ys : List ℕ) → 0 < limit → xs ≡ 91 ∷ ys → Fails e (reads (limit - 1) (Inside Elements) ys) → Fails e (reads limit OneItem xs)
-list_fails e limit xs ys some at h = fails_at e _ _ (inside_at limit xs ys some at) (bind_fails e (reads (limit - 1) (Inside Elements) ys) _ h)
+pub list_fails : (e : Fault Refusal) (limit : ℕ) (k : Row) (xs ys : List ℕ) → 0 < limit → xs ≡ opening k ∷ ys → Fails e (reads (limit - 1) (Inside k) ys) → Fails e (reads limit OneItem xs)
+list_fails e limit k xs ys some at h = fails_at e _ _ (inside_at limit k xs ys some at) (bind_fails e (reads (limit - 1) (Inside k) ys) _ h)
 
-pub list_open : (limit : ℕ) (xs ys r : List ℕ) (w : Tree (Inside Elements)) → 0 < limit → xs ≡ 91 ∷ ys → reads (limit - 1) (Inside Elements) ys ≡ Ok (w, r) → IsNotAt 93 r → reads limit OneItem xs ≡ Err Invalid
-list_open limit xs ys r w some at h n = inside_at limit xs ys some at ∙ bind_ok _ (w, r) _ h ∙ bind_fails (Told (record { kind = Invalid; at = 0 })) (byte 93 r) (λ q. Ok (ListTree Elements w, q)) (byte_other 93 r n)
+pub list_open : (limit : ℕ) (k : Row) (xs ys r : List ℕ) (w : Tree (Inside k)) → 0 < limit → xs ≡ opening k ∷ ys → reads (limit - 1) (Inside k) ys ≡ Ok (w, r) → IsNotAt (ending k) r → reads limit OneItem xs ≡ Err Invalid
+list_open limit k xs ys r w some at h n = inside_at limit k xs ys some at ∙ bind_ok _ (w, r) _ h ∙ bind_fails (Told (record { kind = Invalid; at = 0 })) (byte (ending k) r) (λ q. Ok (ListTree k w, q)) (byte_other (ending k) r n)
 
-pub list_read : (limit : ℕ) (xs ys r q : List ℕ) (w : Tree (Inside Elements)) → 0 < limit → xs ≡ 91 ∷ ys → reads (limit - 1) (Inside Elements) ys ≡ Ok (w, r) → r ≡ 93 ∷ q → reads limit OneItem xs ≡ Ok (ListTree Elements w, q)
-list_read limit xs ys r q w some at h close = inside_at limit xs ys some at ∙ bind_ok _ (w, r) _ h ∙ bind_ok (byte 93 r) q (λ q. Ok (ListTree Elements w, q)) (byte_there 93 r q close)
+pub list_read : (limit : ℕ) (k : Row) (xs ys r q : List ℕ) (w : Tree (Inside k)) → 0 < limit → xs ≡ opening k ∷ ys → reads (limit - 1) (Inside k) ys ≡ Ok (w, r) → r ≡ ending k ∷ q → reads limit OneItem xs ≡ Ok (ListTree k w, q)
+list_read limit k xs ys r q w some at h close = inside_at limit k xs ys some at ∙ bind_ok _ (w, r) _ h ∙ bind_ok (byte (ending k) r) q (λ q. Ok (ListTree k w, q)) (byte_there (ending k) r q close)
 
 -- what stands between brackets
 
-pub inside_fails : (e : Fault Refusal) (limit : ℕ) (xs : List ℕ) → Fails e (token space xs) → Fails e (reads limit (Inside Elements) xs)
+pub inside_fails : (e : Fault Refusal) (limit : ℕ) (k : Row) (xs r : List ℕ) (i : Option Indicator) → indicator_at xs ≡ (i, r) → Fails e (token space r) → Fails e (reads limit (Inside k) xs)
 unfolding inside
-inside_fails e limit xs h = fails_at e _ _ (reads-rule limit (Inside Elements) xs) (bind_fails e (token space xs) _ h)
+inside_fails e limit k xs r i at h = fails_at e _ _ (reads-rule limit (Inside k) xs) (bind_fails e (token space (indicator_at xs).1) _ (rw at h))
 
-inside_behind : (limit : ℕ) (xs s r : List ℕ) → token space xs ≡ Ok (s, r) → reads limit (Inside Elements) xs ≡ cond (is_closed r) (Ok (EmptyTree s, r)) (reads limit (Rest Elements) r >>= λ m. Ok (FullTree s m.0, m.1))
+inside_behind : (limit : ℕ) (k : Row) (xs r s q : List ℕ) (i : Option Indicator) → indicator_at xs ≡ (i, r) → token space r ≡ Ok (s, q) → reads limit (Inside k) xs ≡ cond (is_closed q) (Ok (EmptyTree i s, q)) (inside_full reads limit k i s q)
 unfolding inside
-inside_behind limit xs s r h = reads-rule limit (Inside Elements) xs ∙ bind_ok (token space xs) (s, r) _ h
+inside_behind limit k xs r s q i at h = reads-rule limit (Inside k) xs ∙ rw at (bind_ok (token space r) (s, q) _ h)
 
-pub inside_empty : (limit : ℕ) (xs s r : List ℕ) → token space xs ≡ Ok (s, r) → is_closed r ≡ true → reads limit (Inside Elements) xs ≡ Ok (EmptyTree s, r)
-inside_empty limit xs s r h c = inside_behind limit xs s r h ∙ rw c
+pub inside_empty : (limit : ℕ) (k : Row) (xs r s q : List ℕ) (i : Option Indicator) → indicator_at xs ≡ (i, r) → token space r ≡ Ok (s, q) → is_closed q ≡ true → reads limit (Inside k) xs ≡ Ok (EmptyTree i s, q)
+inside_empty limit k xs r s q i at h c = inside_behind limit k xs r s q i at h ∙ rw c
 
-pub inside_rest_fails : (e : Fault Refusal) (limit : ℕ) (xs s r : List ℕ) → token space xs ≡ Ok (s, r) → is_closed r ≡ false → Fails e (reads limit (Rest Elements) r) → Fails e (reads limit (Inside Elements) xs)
-inside_rest_fails e limit xs s r h c t = fails_at e (reads limit (Rest Elements) r >>= λ m. Ok (FullTree s m.0, m.1)) _ (inside_behind limit xs s r h ∙ rw c) (bind_fails e (reads limit (Rest Elements) r) _ t)
+inside_open : (limit : ℕ) (k : Row) (xs r s q : List ℕ) (i : Option Indicator) → indicator_at xs ≡ (i, r) → token space r ≡ Ok (s, q) → is_closed q ≡ false → reads limit (Inside k) xs ≡ (head_of i s >>= λ h. reads limit (Rest k) q >>= λ m. Ok (FullTree h.0 h.1 m.0, m.1))
+unfolding inside_full
+inside_open limit k xs r s q i at h c = inside_behind limit k xs r s q i at h ∙ rw c
 
-pub inside_full : (limit : ℕ) (xs s r q : List ℕ) (m : Tree (Rest Elements)) → token space xs ≡ Ok (s, r) → is_closed r ≡ false → reads limit (Rest Elements) r ≡ Ok (m, q) → reads limit (Inside Elements) xs ≡ Ok (FullTree s m, q)
-inside_full limit xs s r q m h c t = inside_behind limit xs s r h ∙ rw c (bind_ok (reads limit (Rest Elements) r) (m, q) _ t)
+-- an indicator without the space that it needs
+pub inside_unparted : (limit : ℕ) (k : Row) (xs r s q : List ℕ) (i : Option Indicator) → indicator_at xs ≡ (i, r) → token space r ≡ Ok (s, q) → is_closed q ≡ false → head_of i s ≡ Err Invalid → reads limit (Inside k) xs ≡ Err Invalid
+inside_unparted limit k xs r s q i at h c n = inside_open limit k xs r s q i at h c ∙ bind_fails (Told (record { kind = Invalid; at = 0 })) (head_of i s) _ n
 
--- entries, one or more
+pub inside_rest_fails : (e : Fault Refusal) (limit : ℕ) (k : Row) (xs r s q t : List ℕ) (i : Option Indicator) (head : Head) → indicator_at xs ≡ (i, r) → token space r ≡ Ok (s, q) → is_closed q ≡ false → head_of i s ≡ Ok (head, t) → Fails e (reads limit (Rest k) q) → Fails e (reads limit (Inside k) xs)
+inside_rest_fails e limit k xs r s q t i head at h c o f = fails_at e _ _ (inside_open limit k xs r s q i at h c ∙ bind_ok (head_of i s) (head, t) _ o) (bind_fails e (reads limit (Rest k) q) _ f)
 
-element_read : (limit : ℕ) (xs r : List ℕ) (w : Tree OneItem) → reads limit OneItem xs ≡ Ok (w, r) → reads limit (OneEntry Elements) xs ≡ Ok (ElementTree w, r)
+pub inside_read : (limit : ℕ) (k : Row) (xs r s q t p : List ℕ) (i : Option Indicator) (head : Head) (m : Tree (Rest k)) → indicator_at xs ≡ (i, r) → token space r ≡ Ok (s, q) → is_closed q ≡ false → head_of i s ≡ Ok (head, t) → reads limit (Rest k) q ≡ Ok (m, p) → reads limit (Inside k) xs ≡ Ok (FullTree head t m, p)
+inside_read limit k xs r s q t p i head m at h c o f = inside_open limit k xs r s q i at h c ∙ bind_ok (head_of i s) (head, t) _ o ∙ bind_ok (reads limit (Rest k) q) (m, p) _ f
+
+-- the entries of arrays and maps
+
+pub element_read : (limit : ℕ) (xs r : List ℕ) (w : Tree OneItem) → reads limit OneItem xs ≡ Ok (w, r) → reads limit (OneEntry Elements) xs ≡ Ok (ElementTree w, r)
 unfolding entry
 element_read limit xs r w h = reads-rule limit (OneEntry Elements) xs ∙ bind_ok (reads limit OneItem xs) (w, r) _ h
 
-element_fails : (e : Fault Refusal) (limit : ℕ) (xs : List ℕ) → Fails e (reads limit OneItem xs) → Fails e (reads limit (OneEntry Elements) xs)
+pub element_fails : (e : Fault Refusal) (limit : ℕ) (xs : List ℕ) → Fails e (reads limit OneItem xs) → Fails e (reads limit (OneEntry Elements) xs)
 unfolding entry
 element_fails e limit xs h = fails_at e _ _ (reads-rule limit (OneEntry Elements) xs) (bind_fails e (reads limit OneItem xs) _ h)
 
-pub rest_fails : (e : Fault Refusal) (limit : ℕ) (xs : List ℕ) → Fails e (reads limit OneItem xs) → Fails e (reads limit (Rest Elements) xs)
+-- a pair behind its key, behind the space there, behind the colon, and behind the space there
+abbrev BehindKey : ℕ → Tree OneItem → List ℕ → Read (Tree (OneEntry Pairs))
+BehindKey limit v xs = token space xs >>= λ s. byte 58 s.1 >>= λ r. token space r >>= λ t. reads limit OneItem t.1 >>= λ w. Ok (PairTree v s.0 t.0 w.0, w.1)
+
+pub pair_fails : (e : Fault Refusal) (limit : ℕ) (xs : List ℕ) → Fails e (reads limit OneItem xs) → Fails e (reads limit (OneEntry Pairs) xs)
+unfolding entry
+pair_fails e limit xs h = fails_at e _ _ (reads-rule limit (OneEntry Pairs) xs) (bind_fails e (reads limit OneItem xs) _ h)
+
+behind_key : (limit : ℕ) (xs r : List ℕ) (v : Tree OneItem) → reads limit OneItem xs ≡ Ok (v, r) → reads limit (OneEntry Pairs) xs ≡ BehindKey limit v r
+unfolding entry
+behind_key limit xs r v h = reads-rule limit (OneEntry Pairs) xs ∙ bind_ok (reads limit OneItem xs) (v, r) _ h
+
+pub pair_fails_before : (e : Fault Refusal) (limit : ℕ) (xs r : List ℕ) (v : Tree OneItem) → reads limit OneItem xs ≡ Ok (v, r) → Fails e (token space r) → Fails e (reads limit (OneEntry Pairs) xs)
+pair_fails_before e limit xs r v h t = fails_at e _ _ (behind_key limit xs r v h) (bind_fails e (token space r) _ t)
+
+before_colon : (limit : ℕ) (xs r s q : List ℕ) (v : Tree OneItem) → reads limit OneItem xs ≡ Ok (v, r) → token space r ≡ Ok (s, q) → reads limit (OneEntry Pairs) xs ≡ (byte 58 q >>= λ r. token space r >>= λ t. reads limit OneItem t.1 >>= λ w. Ok (PairTree v s t.0 w.0, w.1))
+before_colon limit xs r s q v h t = behind_key limit xs r v h ∙ bind_ok (token space r) (s, q) _ t
+
+pub pair_no_colon : (limit : ℕ) (xs r s q : List ℕ) (v : Tree OneItem) → reads limit OneItem xs ≡ Ok (v, r) → token space r ≡ Ok (s, q) → IsNotAt 58 q → reads limit (OneEntry Pairs) xs ≡ Err Invalid
+pair_no_colon limit xs r s q v h t n = before_colon limit xs r s q v h t ∙ bind_fails (Told (record { kind = Invalid; at = 0 })) (byte 58 q) _ (byte_other 58 q n)
+
+behind_colon : (limit : ℕ) (xs r s q p : List ℕ) (v : Tree OneItem) → reads limit OneItem xs ≡ Ok (v, r) → token space r ≡ Ok (s, q) → q ≡ 58 ∷ p → reads limit (OneEntry Pairs) xs ≡ (token space p >>= λ t. reads limit OneItem t.1 >>= λ w. Ok (PairTree v s t.0 w.0, w.1))
+behind_colon limit xs r s q p v h t c = before_colon limit xs r s q v h t ∙ bind_ok (byte 58 q) p _ (byte_there 58 q p c)
+
+pub pair_fails_after : (e : Fault Refusal) (limit : ℕ) (xs r s q p : List ℕ) (v : Tree OneItem) → reads limit OneItem xs ≡ Ok (v, r) → token space r ≡ Ok (s, q) → q ≡ 58 ∷ p → Fails e (token space p) → Fails e (reads limit (OneEntry Pairs) xs)
+pair_fails_after e limit xs r s q p v h t c f = fails_at e _ _ (behind_colon limit xs r s q p v h t c) (bind_fails e (token space p) _ f)
+
+before_value : (limit : ℕ) (xs r s q p u o : List ℕ) (v : Tree OneItem) → reads limit OneItem xs ≡ Ok (v, r) → token space r ≡ Ok (s, q) → q ≡ 58 ∷ p → token space p ≡ Ok (u, o) → reads limit (OneEntry Pairs) xs ≡ (reads limit OneItem o >>= λ w. Ok (PairTree v s u w.0, w.1))
+before_value limit xs r s q p u o v h t c a = behind_colon limit xs r s q p v h t c ∙ bind_ok (token space p) (u, o) _ a
+
+pub pair_fails_value : (e : Fault Refusal) (limit : ℕ) (xs r s q p u o : List ℕ) (v : Tree OneItem) → reads limit OneItem xs ≡ Ok (v, r) → token space r ≡ Ok (s, q) → q ≡ 58 ∷ p → token space p ≡ Ok (u, o) → Fails e (reads limit OneItem o) → Fails e (reads limit (OneEntry Pairs) xs)
+pair_fails_value e limit xs r s q p u o v h t c a f = fails_at e _ _ (before_value limit xs r s q p u o v h t c a) (bind_fails e (reads limit OneItem o) _ f)
+
+pub pair_read : (limit : ℕ) (xs r s q p u o z : List ℕ) (v w : Tree OneItem) → reads limit OneItem xs ≡ Ok (v, r) → token space r ≡ Ok (s, q) → q ≡ 58 ∷ p → token space p ≡ Ok (u, o) → reads limit OneItem o ≡ Ok (w, z) → reads limit (OneEntry Pairs) xs ≡ Ok (PairTree v s u w, z)
+pair_read limit xs r s q p u o z v w h t c a f = before_value limit xs r s q p u o v h t c a ∙ bind_ok (reads limit OneItem o) (w, z) _ f
+
+-- entries, one or more
+
+rest_fails : (e : Fault Refusal) (limit : ℕ) (k : Row) (xs : List ℕ) → Fails e (reads limit (OneEntry k) xs) → Fails e (reads limit (Rest k) xs)
 unfolding rest
-rest_fails e limit xs h = fails_at e _ _ (reads-rule limit (Rest Elements) xs) (bind_fails e (reads limit (OneEntry Elements) xs) _ (element_fails e limit xs h))
+rest_fails e limit k xs h = fails_at e _ _ (reads-rule limit (Rest k) xs) (bind_fails e (reads limit (OneEntry k) xs) _ h)
 
 -- behind an entry
-abbrev Behind : ℕ → Tree (OneEntry Elements) → List ℕ → Read (Tree (Rest Elements))
-Behind limit e xs = token separator xs >>= λ s. cond (is_closed s.1) (Ok (LastTree e s.0, s.1)) (more reads limit Elements e s.0 s.1)
+abbrev Behind : ℕ → (k : Row) → Tree (OneEntry k) → List ℕ → Read (Tree (Rest k))
+Behind limit k e xs = token separator xs >>= λ s. cond (is_closed s.1) (Ok (LastTree e s.0, s.1)) (more reads limit k e s.0 s.1)
 
-rest_behind : (limit : ℕ) (xs r : List ℕ) (w : Tree OneItem) → reads limit OneItem xs ≡ Ok (w, r) → reads limit (Rest Elements) xs ≡ Behind limit (ElementTree w) r
+rest_behind : (limit : ℕ) (k : Row) (xs r : List ℕ) (e : Tree (OneEntry k)) → reads limit (OneEntry k) xs ≡ Ok (e, r) → reads limit (Rest k) xs ≡ Behind limit k e r
 unfolding rest
-rest_behind limit xs r w h = reads-rule limit (Rest Elements) xs ∙ bind_ok (reads limit (OneEntry Elements) xs) (ElementTree w, r) _ (element_read limit xs r w h)
+rest_behind limit k xs r e h = reads-rule limit (Rest k) xs ∙ bind_ok (reads limit (OneEntry k) xs) (e, r) _ h
 
-pub rest_fails_behind : (e : Fault Refusal) (limit : ℕ) (xs r : List ℕ) (w : Tree OneItem) → reads limit OneItem xs ≡ Ok (w, r) → Fails e (token separator r) → Fails e (reads limit (Rest Elements) xs)
-rest_fails_behind e limit xs r w h t = fails_at e _ _ (rest_behind limit xs r w h) (bind_fails e (token separator r) _ t)
+rest_fails_behind : (e : Fault Refusal) (limit : ℕ) (k : Row) (xs r : List ℕ) (w : Tree (OneEntry k)) → reads limit (OneEntry k) xs ≡ Ok (w, r) → Fails e (token separator r) → Fails e (reads limit (Rest k) xs)
+rest_fails_behind e limit k xs r w h t = fails_at e _ _ (rest_behind limit k xs r w h) (bind_fails e (token separator r) _ t)
 
-rest_last : (limit : ℕ) (xs r s q : List ℕ) (w : Tree OneItem) → reads limit OneItem xs ≡ Ok (w, r) → token separator r ≡ Ok (s, q) → is_closed q ≡ true → reads limit (Rest Elements) xs ≡ Ok (LastTree (ElementTree w) s, q)
-rest_last limit xs r s q w h t c = rest_behind limit xs r w h ∙ bind_ok (token separator r) (s, q) _ t ∙ rw c
+rest_last : (limit : ℕ) (k : Row) (xs r s q : List ℕ) (w : Tree (OneEntry k)) → reads limit (OneEntry k) xs ≡ Ok (w, r) → token separator r ≡ Ok (s, q) → is_closed q ≡ true → reads limit (Rest k) xs ≡ Ok (LastTree w s, q)
+rest_last limit k xs r s q w h t c = rest_behind limit k xs r w h ∙ bind_ok (token separator r) (s, q) _ t ∙ rw c
 
-rest_open : (limit : ℕ) (xs r s q : List ℕ) (w : Tree OneItem) → reads limit OneItem xs ≡ Ok (w, r) → token separator r ≡ Ok (s, q) → is_closed q ≡ false → reads limit (Rest Elements) xs ≡ more reads limit Elements (ElementTree w) s q
-rest_open limit xs r s q w h t c = rest_behind limit xs r w h ∙ bind_ok (token separator r) (s, q) _ t ∙ rw c
+rest_open : (limit : ℕ) (k : Row) (xs r s q : List ℕ) (w : Tree (OneEntry k)) → reads limit (OneEntry k) xs ≡ Ok (w, r) → token separator r ≡ Ok (s, q) → is_closed q ≡ false → reads limit (Rest k) xs ≡ more reads limit k w s q
+rest_open limit k xs r s q w h t c = rest_behind limit k xs r w h ∙ bind_ok (token separator r) (s, q) _ t ∙ rw c
 
-rest_unparted : (limit : ℕ) (xs r s q : List ℕ) (w : Tree OneItem) → reads limit OneItem xs ≡ Ok (w, r) → token separator r ≡ Ok (s, q) → s ≡ [] → is_closed q ≡ false → reads limit (Rest Elements) xs ≡ Err Invalid
+rest_unparted : (limit : ℕ) (k : Row) (xs r s q : List ℕ) (w : Tree (OneEntry k)) → reads limit (OneEntry k) xs ≡ Ok (w, r) → token separator r ≡ Ok (s, q) → s ≡ [] → is_closed q ≡ false → reads limit (Rest k) xs ≡ Err Invalid
 unfolding more not_empty ◌>>=◌
-rest_unparted limit xs r s q w h t none c = rest_open limit xs r s q w h t c ∙ rw none
+rest_unparted limit k xs r s q w h t none c = rest_open limit k xs r s q w h t c ∙ rw none
 
--- items so far, in front of what is read next
-abbrev pub with_row : List (Item × Msc) → Read (Tree (Rest Elements)) → Read (Tree (Rest Elements))
-with_row ps (Ok p) = Ok (row_onto texts ps p.0, p.1)
+more_of : (limit : ℕ) (k : Row) (e : Tree (OneEntry k)) (s q : List ℕ) → s ≢ [] → more reads limit k e s q ≡ (reads limit (Rest k) q >>= λ m. Ok (MoreTree e s m.0, m.1))
+unfolding more not_empty
+more_of limit k e [] q n = absurd (n refl)
+more_of limit k e (c ∷ s) q n = bind_ok (Ok (c ∷ s)) (c ∷ s) _ refl
+
+-- entries so far, each with the separator behind it, in front of what is read next
+abbrev pub with_row : {k : Row} → List (Tree (OneEntry k) × List ℕ) → Read (Tree (Rest k)) → Read (Tree (Rest k))
+with_row ps (Ok p) = Ok (entries_onto ps p.0, p.1)
 with_row ps (Err e) = Err e
 
-pub with_none : (r : Read (Tree (Rest Elements))) → r ≡ with_row [] r
+pub with_none : {k : Row} (r : Read (Tree (Rest k))) → r ≡ with_row [] r
 with_none (Ok p) = refl
 with_none (Err e) = refl
 
-pub with_fails : (e : Fault Refusal) (ps : List (Item × Msc)) (r : Read (Tree (Rest Elements))) → Fails e r → Fails e (with_row ps r)
+with_fails : {k : Row} (e : Fault Refusal) (ps : List (Tree (OneEntry k) × List ℕ)) (r : Read (Tree (Rest k))) → Fails e r → Fails e (with_row ps r)
 with_fails (Memory m) ps r h = tt
 with_fails (Told x) ps r h = rw h
 
-row_push : (ps : List (Item × Msc)) (p : Item × Msc) (m : Tree (Rest Elements)) → row_onto texts ps (MoreTree (ElementTree (item_tree p.0)) (msc_bytes p.1) m) ≡ row_onto texts (ps ++ p ∷ []) m
+row_push : {k : Row} (ps : List (Tree (OneEntry k) × List ℕ)) (p : Tree (OneEntry k) × List ℕ) (m : Tree (Rest k)) → entries_onto ps (MoreTree p.0 p.1 m) ≡ entries_onto (ps ++ p ∷ []) m
 row_push [] p m = refl
-row_push (q ∷ ps) p m = ap (MoreTree (ElementTree (item_tree q.0)) (msc_bytes q.1)) (row_push ps p m)
+row_push (q ∷ ps) p m = ap (MoreTree q.0 q.1) (row_push ps p m)
 
-with_push : (ps : List (Item × Msc)) (p : Item × Msc) (r : Read (Tree (Rest Elements))) → with_row ps (r >>= λ m. Ok (MoreTree (ElementTree (item_tree p.0)) (msc_bytes p.1) m.0, m.1)) ≡ with_row (ps ++ p ∷ []) r
+with_push : {k : Row} (ps : List (Tree (OneEntry k) × List ℕ)) (p : Tree (OneEntry k) × List ℕ) (r : Read (Tree (Rest k))) → with_row ps (r >>= λ m. Ok (MoreTree p.0 p.1 m.0, m.1)) ≡ with_row (ps ++ p ∷ []) r
 unfolding ◌>>=◌
-with_push ps p (Ok m) = ap (λ (t : Tree (Rest Elements)). Ok (t, m.1)) (row_push ps p m.0)
+with_push {k} ps p (Ok m) = ap (λ (t : Tree (Rest k)). Ok (t, m.1)) (row_push ps p m.0)
 with_push ps p (Err e) = refl
 
-more_of : (limit : ℕ) (e : Tree (OneEntry Elements)) (s q : List ℕ) → s ≢ [] → more reads limit Elements e s q ≡ (reads limit (Rest Elements) q >>= λ m. Ok (MoreTree e s m.0, m.1))
-unfolding more not_empty
-more_of limit e [] q n = absurd (n refl)
-more_of limit e (c ∷ s) q n = bind_ok (Ok (c ∷ s)) (c ∷ s) _ refl
+-- entries of declared values, and one more
+pub with_more : {A : Type 0} {k : Row} (f : A → Tree (OneEntry k) × List ℕ) (xs : List A) (x : A) (w : Tree (OneEntry k)) (s : List ℕ) (r : Read (Tree (Rest k))) → f x ≡ (w, s) → with_row (map f xs ++ (w, s) ∷ []) r ≡ with_row (map f (xs ++ x ∷ [])) r
+with_more f xs x w s r is = ap (λ ps. with_row ps r) (sym (map-append f xs (x ∷ []) ∙ ap (λ p. map f xs ++ p ∷ []) is))
 
--- one turn of the loop, with the items so far
-pub rest_turn : (total : Read (Tree (Rest Elements))) (limit : ℕ) (ps : List (Item × Msc)) (i : Item) (m : Msc) (xs r q : List ℕ)
-    → total ≡ with_row ps (reads limit (Rest Elements) xs) → reads limit OneItem xs ≡ Ok (item_tree i, r) → token separator r ≡ Ok (msc_bytes m, q) → msc_bytes m ≢ [] → is_closed q ≡ false
-    → total ≡ with_row (ps ++ (i, m) ∷ []) (reads limit (Rest Elements) q)
-rest_turn total limit ps i m xs r q so_far h t n c =
-    so_far ∙ ap (with_row ps) (rest_open limit xs r (msc_bytes m) q (item_tree i) h t c ∙ more_of limit (ElementTree (item_tree i)) (msc_bytes m) q n)
-    ∙ with_push ps (i, m) (reads limit (Rest Elements) q)
+-- The turns of a loop over entries, with those so far.
+module _ (limit : ℕ) (k : Row) (total : Read (Tree (Rest k))) (ps : List (Tree (OneEntry k) × List ℕ)) (xs : List ℕ) (so_far : total ≡ with_row ps (reads limit (Rest k) xs)) where
+  -- an entry that is refused
+  pub turn_fails : (e : Fault Refusal) → Fails e (reads limit (OneEntry k) xs) → Fails e total
+  turn_fails e h = fails_at e _ _ so_far (with_fails e ps _ (rest_fails e limit k xs h))
 
--- a turn that finds nothing between two items
-pub rest_broken : (total : Read (Tree (Rest Elements))) (limit : ℕ) (ps : List (Item × Msc)) (w : Tree OneItem) (xs r s q : List ℕ)
-    → total ≡ with_row ps (reads limit (Rest Elements) xs) → reads limit OneItem xs ≡ Ok (w, r) → token separator r ≡ Ok (s, q) → s ≡ [] → is_closed q ≡ false
-    → total ≡ Err Invalid
-rest_broken total limit ps w xs r s q so_far h t none c = so_far ∙ ap (with_row ps) (rest_unparted limit xs r s q w h t none c)
+  module _ (w : Tree (OneEntry k)) (r : List ℕ) (h : reads limit (OneEntry k) xs ≡ Ok (w, r)) where
+    -- a separator that is refused
+    pub turn_fails_behind : (e : Fault Refusal) → Fails e (token separator r) → Fails e total
+    turn_fails_behind e t = fails_at e _ _ so_far (with_fails e ps _ (rest_fails_behind e limit k xs r w h t))
 
--- the last turn
-pub rest_end : (total : Read (Tree (Rest Elements))) (limit : ℕ) (ps : List (Item × Msc)) (i : Item) (xs r s q : List ℕ)
-    → total ≡ with_row ps (reads limit (Rest Elements) xs) → reads limit OneItem xs ≡ Ok (item_tree i, r) → token separator r ≡ Ok (s, q) → is_closed q ≡ true
-    → total ≡ Ok (row_onto texts ps (LastTree (ElementTree (item_tree i)) s), q)
-rest_end total limit ps i xs r s q so_far h t c = so_far ∙ ap (with_row ps) (rest_last limit xs r s q (item_tree i) h t c)
+    module _ (s q : List ℕ) (t : token separator r ≡ Ok (s, q)) where
+      -- the last entry
+      pub turn_last : is_closed q ≡ true → total ≡ Ok (entries_onto ps (LastTree w s), q)
+      turn_last c = so_far ∙ ap (with_row ps) (rest_last limit k xs r s q w h t c)
+
+      -- nothing between two entries
+      pub turn_unparted : s ≡ [] → is_closed q ≡ false → total ≡ Err Invalid
+      turn_unparted none c = so_far ∙ ap (with_row ps) (rest_unparted limit k xs r s q w h t none c)
+
+      -- nothing between two entries, or no memory for one more
+      pub turn_refused : (e : Fault Refusal) (at : ℕ) → IfTold {X = Unit {0}} (Err e) (λ r. (s ≡ []) × (r ≡ record { kind = Invalid; at = at })) → is_closed q ≡ false → Fails e total
+      turn_refused (Memory m) at h c = tt
+      turn_refused (Told r) at h c = turn_unparted h.0 c ∙ ap (λ (x : Refusal). Err x.kind) (sym h.1)
+
+      -- one entry more
+      pub turn_more : s ≢ [] → is_closed q ≡ false → total ≡ with_row (ps ++ (w, s) ∷ []) (reads limit (Rest k) q)
+      turn_more n c =
+          so_far ∙ ap (with_row ps) (rest_open limit k xs r s q w h t c ∙ more_of limit k w s q n)
+          ∙ with_push ps (w, s) (reads limit (Rest k) q)
 
 -- the whole of a sequence
 

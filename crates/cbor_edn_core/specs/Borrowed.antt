@@ -1,7 +1,9 @@
 -- Every text of a tree is borrowed from the text that was parsed.
 use Rattle.std.specs.Prelude.{List, [], ◌∷◌, Option, Some, None}
-use Rattle.cbor_edn_parts.specs.Leaves.{BorrowsS, BorrowsMsc, BorrowsSoc, BorrowsNumber}
+use Rattle.cbor_edn_parts.specs.Leaves.{BorrowsS, BorrowsMs, BorrowsMsc, BorrowsSoc, BorrowsNumber}
+use Rattle.cbor_edn_parts.specs.declared.indicator.Indicator.{Indicator}
 use Rattle.cbor_edn_parts.specs.declared.space.S.{S}
+use Rattle.cbor_edn_parts.specs.declared.space.Ms.{Ms}
 use Rattle.cbor_edn_parts.specs.declared.space.Msc.{Msc}
 use Rattle.cbor_edn_parts.specs.declared.space.Soc.{Soc}
 use Rattle.cbor_edn_parts.specs.declared.number.Number.{Number}
@@ -11,36 +13,65 @@ use Rattle.cbor_edn_core.specs.declared.tree.InnerItem.TheVariants as inner
 use Rattle.cbor_edn_core.specs.declared.tree.ItemList.{ItemList}
 use Rattle.cbor_edn_core.specs.declared.tree.ItemList.TheVariants as item_list
 use Rattle.cbor_edn_core.specs.declared.tree.Items.{Items, Items', Row_of-Items-row-2, end_of-Items-row-2, more_of-Items-row-2}
+use Rattle.cbor_edn_core.specs.declared.tree.Kp.{Kp}
+use Rattle.cbor_edn_core.specs.declared.tree.PairList.{PairList}
+use Rattle.cbor_edn_core.specs.declared.tree.PairList.TheVariants as pair_list
+use Rattle.cbor_edn_core.specs.declared.tree.Pairs.{Pairs, Pairs', Row_of-Pairs-row-2, end_of-Pairs-row-2, more_of-Pairs-row-2}
 use Rattle.cbor_edn_core.specs.View.{Item, StandaloneItem, Sequence}
 
+-- an indicator and the space behind it, if they are there
+abbrev pub BorrowsHead : Option (Indicator × Ms) → Type 0
+BorrowsHead None = Unit {0}
+BorrowsHead (Some h) = BorrowsMs h.1
+
 abbrev mutual
-  pub BorrowsInner : InnerItem Texts S Msc Soc Number → Type 0
-  BorrowsInner (inner.Number n) = BorrowsNumber n
+  pub BorrowsInner : InnerItem Texts S Ms Msc Soc Number → Type 0
+  BorrowsInner (inner.Number n i) = BorrowsNumber n
   BorrowsInner (inner.Array list) = BorrowsList list
+  BorrowsInner (inner.Map list) = BorrowsPairList list
 
-  pub BorrowsList : ItemList Texts S Msc Soc Number → Type 0
-  BorrowsList (item_list.Present s items) = BorrowsS s × BorrowsItems items
-  BorrowsList (item_list.Absent s) = BorrowsS s
+  pub BorrowsList : ItemList Texts S Ms Msc Soc Number → Type 0
+  BorrowsList (item_list.Present head s items) = BorrowsHead head × BorrowsS s × BorrowsItems items
+  BorrowsList (item_list.Absent i s) = BorrowsS s
 
-  pub BorrowsItems : Items Texts S Msc Soc Number → Type 0
+  pub BorrowsItems : Items Texts S Ms Msc Soc Number → Type 0
   BorrowsItems (Items' n row p last soc) = BorrowsRow row × BorrowsInner last × BorrowsSoc soc
 
-  pub BorrowsRow : {n : _} → Row_of-Items-row-2 Texts S Msc Soc Number n → Type 0
+  pub BorrowsRow : {n : _} → Row_of-Items-row-2 Texts S Ms Msc Soc Number n → Type 0
   BorrowsRow end_of-Items-row-2 = Unit {0}
   BorrowsRow (more_of-Items-row-2 item separator row) = BorrowsInner item × BorrowsMsc separator × BorrowsRow row
 
+  pub BorrowsPairList : PairList Texts S Ms Msc Soc Number → Type 0
+  BorrowsPairList (pair_list.Present head s pairs) = BorrowsHead head × BorrowsS s × BorrowsPairs pairs
+  BorrowsPairList (pair_list.Absent i s) = BorrowsS s
+
+  pub BorrowsPairs : Pairs Texts S Ms Msc Soc Number → Type 0
+  BorrowsPairs (Pairs' n row p key before after value soc) = BorrowsPairRow row × (BorrowsInner key × BorrowsS before × BorrowsS after × BorrowsInner value) × BorrowsSoc soc
+
+  pub BorrowsPairRow : {n : _} → Row_of-Pairs-row-2 Texts S Ms Msc Soc Number n → Type 0
+  BorrowsPairRow end_of-Pairs-row-2 = Unit {0}
+  BorrowsPairRow (more_of-Pairs-row-2 key before after value separator row) = (BorrowsInner key × BorrowsS before × BorrowsS after × BorrowsInner value) × BorrowsMsc separator × BorrowsPairRow row
+
 abbrev pub BorrowsItem : Item → Type 0
 BorrowsItem i = BorrowsInner i.inner
+
+abbrev pub BorrowsPair : Kp Texts S Ms Msc Soc Number → Type 0
+BorrowsPair p = BorrowsItem p.key × BorrowsS p.before_colon × BorrowsS p.after_colon × BorrowsItem p.value
 
 -- items, each with the separator behind it
 abbrev pub BorrowsEach : List (Item × Msc) → Type 0
 BorrowsEach [] = Unit {0}
 BorrowsEach (p ∷ ps) = BorrowsItem p.0 × BorrowsMsc p.1 × BorrowsEach ps
 
+-- the same of pairs
+abbrev pub BorrowsEachPair : List (Kp Texts S Ms Msc Soc Number × Msc) → Type 0
+BorrowsEachPair [] = Unit {0}
+BorrowsEachPair (p ∷ ps) = BorrowsPair p.0 × BorrowsMsc p.1 × BorrowsEachPair ps
+
 abbrev pub BorrowsStandalone : StandaloneItem → Type 0
 BorrowsStandalone s = BorrowsS s.before × BorrowsItem s.item × BorrowsS s.after
 
-abbrev pub BorrowsSome : Option (Items Texts S Msc Soc Number) → Type 0
+abbrev pub BorrowsSome : Option (Items Texts S Ms Msc Soc Number) → Type 0
 BorrowsSome None = Unit {0}
 BorrowsSome (Some items) = BorrowsItems items
 

@@ -1,10 +1,13 @@
 -- Items without space.
-use Rattle.std.specs.Prelude.{ℕ, suc, max, List}
+use Rattle.std.specs.Prelude.{ℕ, suc, max, List, Option}
+use Rattle.cbor_edn_parts.specs.declared.indicator.Indicator.{Indicator}
 
 -- What the entries of a list are.
 pub data Row : Type 0 where
   -- an array's elements, and the items of a sequence
   Elements : Row
+  -- a map's keys, each with its value
+  Pairs : Row
 
 pub data Sort : Type 0 where
   Item : Sort
@@ -13,11 +16,12 @@ pub data Sort : Type 0 where
 
 -- Items, the entries of lists, and rows of these.
 pub data Node : Sort → Type 0 where
-  -- a number as it is written
-  Number : List ℕ → Node Item
-  -- an array
-  Listed : (k : Row) → Node (Entries k) → Node Item
+  -- a number as it is written, and its encoding indicator
+  Number : List ℕ → Option Indicator → Node Item
+  -- an array or a map, with its encoding indicator
+  Listed : (k : Row) → Option Indicator → Node (Entries k) → Node Item
   Element : Node Item → Node (Entry Elements)
+  Pair : Node Item → Node Item → Node (Entry Pairs)
   End : {k : Row} → Node (Entries k)
   Then : {k : Row} → Node (Entry k) → Node (Entries k) → Node (Entries k)
 
@@ -25,10 +29,11 @@ pub data Node : Sort → Type 0 where
 abbrev pub Items : Type 0
 Items = Node (Entries Elements)
 
--- How deep arrays nest: 0 for `1`, 1 for `[]`; of a row the deepest.
+-- How deep arrays and maps nest: 0 for `1`, 1 for `[]`; of a row the deepest.
 abbrev pub nesting : {s : Sort} → Node s → ℕ
-nesting (Number x) = 0
-nesting (Listed k m) = suc (nesting m)
+nesting (Number x i) = 0
+nesting (Listed k i m) = suc (nesting m)
 nesting (Element w) = nesting w
+nesting (Pair v w) = max (nesting v) (nesting w)
 nesting End = 0
 nesting (Then e m) = max (nesting e) (nesting m)

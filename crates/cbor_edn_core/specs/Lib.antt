@@ -1,8 +1,12 @@
 pub mod Borrowed
 pub mod CborLaws
+pub mod CborReading
+pub mod Decoded
 pub mod Encoding
+pub mod Growing
 pub mod Items
 pub mod Laws
+pub mod Lookahead
 pub mod Marks
 pub mod Meaning
 pub mod ParserResults

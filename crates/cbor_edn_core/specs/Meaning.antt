@@ -1,10 +1,19 @@
--- What items mean: a CBOR value with the shortest heads, or nothing.
-use Rattle.std.specs.Prelude.{ℕ, ℤ, pos, negsuc, ◌^◌, Option, Some, None, nat_lt, if◌then◌else◌}
+-- What items mean: a CBOR value, its heads as the encoding indicators say, or nothing.
+use Rattle.std.specs.Prelude.{ℕ, ℤ, pos, negsuc, zero, suc, ◌+◌, ◌^◌, List, [], ◌∷◌, length, Option, Some, None, nat_lt, if◌then◌else◌}
+use Rattle.std.specs.Int.{w128, to_be_bytes}
+use Rattle.cbor_edn_parts.specs.declared.indicator.Indicator.{Indicator}
+use Rattle.cbor_edn_parts.specs.declared.indicator.Indicator.TheVariants as indicator
 use Rattle.cbor_edn_parts.specs.Number.{integer_of}
 use Rattle.cbor_edn_core.specs.declared.cbor.Width.{Width}
 use Rattle.cbor_edn_core.specs.declared.cbor.Width.TheVariants.{Immediate, One, Two, Four, Eight}
-use Rattle.cbor_edn_core.specs.Items.{Row, Elements, Sort, Item, Entry, Entries, Node, Number, Listed, Element, End, Then}
-use Rattle.cbor_edn_core.specs.Value.{Value, unsigned, negative, array, Values, no_values, value, values_len}
+use Rattle.cbor_edn_core.specs.Items.{Row, Elements, Pairs, Sort, Item, Entry, Entries, Node, Number, Listed, Element, Pair, End, Then}
+use Rattle.cbor_edn_core.specs.Value as values
+use Rattle.cbor_edn_core.specs.Value.{Value, unsigned, negative, byte_string, array, object, tag, Values, no_values, value, values_len, no_pairs, pair, pairs_len, limit_of}
+
+infixl 10 ◌>>=◌
+abbrev pub ◌>>=◌ : {A B : Type 0} → Option A → (A → Option B) → Option B
+None >>= f = None
+(Some x) >>= f = f x
 
 -- the narrowest width that the argument fits, of those below 2^64
 abbrev pub shortest : ℕ → Width
@@ -15,45 +24,95 @@ shortest n =
     else if nat_lt n (2 ^ 32) then Four
     else Eight
 
--- a value with that argument, which is below 2^64
-abbrev pub with_argument : ℕ → Value → Option Value
-with_argument n v = if nat_lt n (2 ^ 64) then Some v else None
+-- the width, where the argument fits it
+abbrev pub fitting : Width → ℕ → Option Width
+fitting w n = if nat_lt n (limit_of w) then Some w else None
 
--- an integer from -2^64 to 2^64 - 1 (`negsuc n` is -1 - n)
-abbrev pub means_integer : ℤ → Option Value
-means_integer (pos n) = with_argument n (unsigned (shortest n) n)
-means_integer (negsuc n) = with_argument n (negative (shortest n) n)
+-- The width of the head of an argument: as the indicator says where the argument fits, and without one the narrowest. The indicator `_`
+-- gives no width.
+abbrev pub width_of : Option Indicator → ℕ → Option Width
+width_of None n = fitting (shortest n) n
+width_of (Some indicator.Indefinite) n = None
+width_of (Some indicator.Immediate) n = fitting Immediate n
+width_of (Some indicator.One) n = fitting One n
+width_of (Some indicator.Two) n = fitting Two n
+width_of (Some indicator.Four) n = fitting Four n
+width_of (Some indicator.Eight) n = fitting Eight n
 
-infixl 10 ◌>>=◌
-abbrev pub ◌>>=◌ : {A B : Type 0} → Option A → (A → Option B) → Option B
-None >>= f = None
-(Some x) >>= f = f x
+-- The same of a list of n entries: `_` says that its length is indefinite.
+abbrev pub length_of : Option Indicator → ℕ → Option (Option Width)
+length_of (Some indicator.Indefinite) n = Some None
+length_of i n = width_of i n >>= λ w. Some (Some w)
+
+-- bytes without the zeros that they begin with
+abbrev pub without_zeros : List ℕ → List ℕ
+without_zeros [] = []
+without_zeros (zero ∷ bs) = without_zeros bs
+without_zeros (suc b ∷ bs) = suc b ∷ bs
+
+-- the bytes of a number below 2^128, the high byte first: those of 2^64 are 01 and eight times 00
+unfoldable pub magnitude_bytes : ℕ → List ℕ
+magnitude_bytes n = without_zeros (to_be_bytes w128 n)
+
+-- a tag over a byte string, with the shortest heads
+abbrev pub tagged : ℕ → List ℕ → Value
+tagged number bs = tag Immediate number (byte_string (shortest (length bs)) bs)
+
+-- what takes no indicator
+abbrev pub unmarked : Option Indicator → Value → Option Value
+unmarked None v = Some v
+unmarked (Some i) v = None
+
+-- A bignum (RFC 8949, section 3.4.3): the tag's number, the number of its bytes, and its magnitude, which is below 2^128.
+abbrev pub bignum : ℕ → ℕ → ℕ → Option Indicator → Option Value
+bignum number n magnitude i = if nat_lt magnitude (2 ^ 128) then (unmarked i (tagged number (magnitude_bytes n))) else None
+
+-- An integer: of major type 0 or 1 from -2^64 to 2^64 - 1, and else of tag 2 or 3. (`negsuc n` is -1 - n.)
+abbrev pub means_integer : Option Indicator → ℤ → Option Value
+means_integer i (pos n) = if nat_lt n (2 ^ 64) then (width_of i n >>= λ w. Some (unsigned w n)) else bignum 2 n n i
+means_integer i (negsuc n) = if nat_lt n (2 ^ 64) then (width_of i n >>= λ w. Some (negative w n)) else bignum 3 n (n + 1) i
 
 -- what a row of entries means
 abbrev pub RowOf : Row → Type 0
 RowOf Elements = Values
+RowOf Pairs = values.Pairs
+
+abbrev pub EntryOf : Row → Type 0
+EntryOf Elements = Value
+EntryOf Pairs = Value × Value
 
 abbrev pub MeaningOf : Sort → Type 0
 MeaningOf Item = Value
-MeaningOf (Entry Elements) = Value
+MeaningOf (Entry k) = EntryOf k
 MeaningOf (Entries k) = RowOf k
 
--- a list of entries, whose argument counts them
-abbrev pub listed : (k : Row) → RowOf k → Option Value
-listed Elements vs = with_argument (values_len vs) (array (Some (shortest (values_len vs))) vs)
+abbrev pub row_len : (k : Row) → RowOf k → ℕ
+row_len Elements vs = values_len vs
+row_len Pairs ps = pairs_len ps
+
+-- an array or a map
+abbrev pub list_value : (k : Row) → Option Width → RowOf k → Value
+list_value Elements w vs = array w vs
+list_value Pairs w ps = object w ps
+
+-- a list of entries with an indicator
+abbrev pub listed : (k : Row) → Option Indicator → RowOf k → Option Value
+listed k i r = length_of i (row_len k r) >>= λ w. Some (list_value k w r)
 
 abbrev pub no_entries : (k : Row) → RowOf k
 no_entries Elements = no_values
+no_entries Pairs = no_pairs
 
-abbrev pub one_more : (k : Row) → MeaningOf (Entry k) → RowOf k → RowOf k
+abbrev pub one_more : (k : Row) → EntryOf k → RowOf k → RowOf k
 one_more Elements v vs = value v vs
+one_more Pairs p ps = pair p.0 p.1 ps
 
--- The value that an item means, and the values of a row, or none: a list means nothing where one of its entries does.
--- `[1, -1]` means the array, of width Immediate, of `unsigned Immediate 1` and `negative Immediate 0`; 18446744073709551616, 2^64,
--- means nothing.
+-- The value that an item means, the key and value of a pair, and those of a row, or none: a list means nothing where one of its entries
+-- does. `[_0 1, -1]` means the array, of width One, of `unsigned Immediate 1` and `negative Immediate 0`; `24_i` means nothing.
 unfoldable pub means : {s : Sort} → Node s → Option (MeaningOf s)
-means (Number x) = integer_of x >>= means_integer
-means (Listed k m) = means m >>= listed k
+means (Number x i) = integer_of x >>= means_integer i
+means (Listed k i m) = means m >>= listed k i
 means (Element w) = means w
+means (Pair v w) = means v >>= λ x. means w >>= λ y. Some (x, y)
 means (End {k}) = Some (no_entries k)
-means (Then {k} e m) = means e >>= λ v. means m >>= λ vs. Some (one_more k v vs)
+means (Then {k} e m) = means e >>= λ x. means m >>= λ r. Some (one_more k x r)

@@ -1,10 +1,13 @@
 -- How a result of the parser stands to what the reader on lists gives.
-use Rattle.std.specs.Prelude.{ℕ, ◌≡◌, ◌≢◌, ◌≤◌, List, [], ◌∷◌, drop, Result, Ok, Err}
+use Rattle.std.specs.Prelude.{ℕ, ◌≡◌, ◌≢◌, ◌≤◌, List, [], ◌∷◌, ◌++◌, drop, length, Result, Ok, Err}
 use Rattle.std.specs.Str.{IsCharBoundary}
 use Rattle.cbor_edn_parts.specs.declared.error.ParseErrorKind.{ParseErrorKind}
 use Rattle.cbor_edn_parts.specs.declared.error.Refusal.{Refusal}
 use Rattle.cbor_edn_parts.specs.declared.error.Fault.{Fault}
 use Rattle.cbor_edn_parts.specs.declared.error.Fault.TheVariants.{Memory, Told}
+use Rattle.cbor_edn_parts.specs.Leaves.{msc_bytes, soc_bytes, BorrowsMsc, BorrowsSoc}
+use Rattle.cbor_edn_parts.specs.declared.space.Msc.{Msc}
+use Rattle.cbor_edn_parts.specs.declared.space.Soc.{Soc}
 use Rattle.cbor_edn_core.specs.Reading.{Read}
 
 -- The refusal is the reader's, unless memory ran out.
@@ -36,3 +39,11 @@ Lands text at (Err e) = IsPlaced text e
 abbrev pub IsNotAt : ℕ → List ℕ → Type 0
 IsNotAt b [] = Unit {0}
 IsNotAt b (c ∷ cs) = c ≢ b
+
+-- An entry was set behind the others, with a separator of this text.
+pub record IsPushed {T : Type 0} (old new : List (T × Msc)) (entry : T) (soc : Soc) : Type 0 where
+  pub separator : Msc
+  pub items : new ≡ old ++ (entry, separator) ∷ []
+  pub same : msc_bytes separator ≡ soc_bytes soc
+  pub not_empty : soc_bytes soc ≢ []
+  pub borrowed : BorrowsSoc soc → BorrowsMsc separator

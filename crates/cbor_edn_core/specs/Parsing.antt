@@ -1,7 +1,5 @@
 -- What an answer to a whole text says of it: of sequences with `SpellsSequence`, of standalone items with `SpellsOne`.
-use Rattle.std.specs.Prelude.{ℕ, List, ◌≡◌, ◌≤◌, ◌<◌, Result, Ok, Err}
-use Rattle.cbor_edn_parts.specs.declared.error.ParseErrorKind.{ParseErrorKind}
-use Rattle.cbor_edn_parts.specs.declared.error.ParseErrorKind.TheVariants.{TooDeep}
+use Rattle.std.specs.Prelude.{ℕ, List, ◌≤◌, ◌<◌}
 use Rattle.cbor_edn_core.specs.Items.{Sort, Node, nesting}
 use Rattle.cbor_edn_core.specs.Marks.{marks}
 
@@ -19,8 +17,3 @@ module _ {s : Sort} (Spelled : Node s → List ℕ → Type 0) where
   pub record IsTooDeep (limit : ℕ) (text : List ℕ) : Type 0 where
     pub deeper : (x : Node s) → Spelled x text → limit < nesting x
     pub marked : limit < marks text
-
-  -- The other way round: what the text spells decides the answer.
-  pub record IsDecided (limit : ℕ) (text : List ℕ) (answer : Result (Node s) ParseErrorKind) : Type 0 where
-    pub accepted : (x : Node s) → Spelled x text → nesting x ≤ limit → answer ≡ Ok x
-    pub refused : (x : Node s) → Spelled x text → limit < nesting x → answer ≡ Err TooDeep

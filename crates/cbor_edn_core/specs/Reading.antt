@@ -2,14 +2,16 @@
 use Rattle.std.specs.Prelude.{ℕ, suc, zero, cond, eqb, nat_le, List, [], ◌∷◌, Option, Some, None, Result, Ok, Err, ◌+◌, ◌*◌, length}
 use Rattle.cbor_edn_parts.specs.declared.error.ParseErrorKind.{ParseErrorKind}
 use Rattle.cbor_edn_parts.specs.declared.error.ParseErrorKind.TheVariants.{Invalid, TooDeep}
+use Rattle.cbor_edn_parts.specs.declared.indicator.Indicator.{Indicator}
 use Rattle.cbor_edn_parts.specs.Bytes.{is_closed}
+use Rattle.cbor_edn_parts.specs.Indicator.{indicator_at}
 use Rattle.cbor_edn_parts.specs.Lex as lex
 use Rattle.cbor_edn_parts.specs.Lex.{Table}
 use Rattle.cbor_edn_parts.specs.SpaceTokens.{space, separator}
 use Rattle.cbor_edn_parts.specs.NumberTokens.{number}
-use Rattle.cbor_edn_core.specs.Items.{Row, Elements}
+use Rattle.cbor_edn_core.specs.Items.{Row, Elements, Pairs}
 use Rattle.cbor_edn_core.specs.Spelling.{ending}
-use Rattle.cbor_edn_core.specs.Trees.{Rule, OneItem, OneEntry, Inside, Rest, Seq, Standalone, Tree, NumberTree, ListTree, ElementTree, EmptyTree, FullTree, LastTree, MoreTree, NothingTree, SequenceTree, StandaloneTree}
+use Rattle.cbor_edn_core.specs.Trees.{Rule, OneItem, OneEntry, Inside, Rest, Seq, Standalone, Head, Unmarked, Marked, Tree, NumberTree, ListTree, ElementTree, PairTree, EmptyTree, FullTree, LastTree, MoreTree, NothingTree, SequenceTree, StandaloneTree}
 
 infixl 10 ◌>>=◌
 unfoldable pub ◌>>=◌ : {A B : Type 0} → Result A ParseErrorKind → (A → Result B ParseErrorKind) → Result B ParseErrorKind
@@ -40,10 +42,16 @@ unfoldable pub not_empty : List ℕ → Result (List ℕ) ParseErrorKind
 not_empty [] = Err Invalid
 not_empty (c ∷ s) = Ok (c ∷ s)
 
+-- The indicator and the first space of a list that has entries: behind an indicator the space is its own, and not empty.
+unfoldable pub head_of : Option Indicator → List ℕ → Result (Head × List ℕ) ParseErrorKind
+head_of None s = Ok (Unmarked, s)
+head_of (Some i) [] = Err Invalid
+head_of (Some i) (c ∷ s) = Ok (Marked i (c ∷ s), [])
+
 -- Each rule, by readers for a smaller text: `g n` for what nests at most n deep.
 module _ (g : ℕ → (s : Rule) → Reader s) where
   unfoldable pub number_item : Reader OneItem
-  number_item xs = token number xs >>= λ x. Ok (NumberTree x.0, x.1)
+  number_item xs = token number xs >>= λ x. Ok (NumberTree x.0 (indicator_at x.1).0, (indicator_at x.1).1)
 
   -- behind the opening byte
   unfoldable pub list_item : (limit : ℕ) → Row → Reader OneItem
@@ -52,13 +60,17 @@ module _ (g : ℕ → (s : Rule) → Reader s) where
 
   unfoldable pub item : ℕ → Reader OneItem
   item limit [] = Err Invalid
-  item limit (c ∷ xs) = cond (eqb c 91) (list_item limit Elements xs) (number_item (c ∷ xs))
+  item limit (c ∷ xs) = cond (eqb c 91) (list_item limit Elements xs) (cond (eqb c 123) (list_item limit Pairs xs) (number_item (c ∷ xs)))
 
   unfoldable pub entry : ℕ → (k : Row) → Reader (OneEntry k)
   entry limit Elements xs = g limit OneItem xs >>= λ w. Ok (ElementTree w.0, w.1)
+  entry limit Pairs xs = g limit OneItem xs >>= λ v. token space v.1 >>= λ s. byte 58 s.1 >>= λ r. token space r >>= λ t. g limit OneItem t.1 >>= λ w. Ok (PairTree v.0 s.0 t.0 w.0, w.1)
+
+  unfoldable pub inside_full : ℕ → (k : Row) → Option Indicator → List ℕ → Reader (Inside k)
+  inside_full limit k i s xs = head_of i s >>= λ h. g limit (Rest k) xs >>= λ m. Ok (FullTree h.0 h.1 m.0, m.1)
 
   unfoldable pub inside : ℕ → (k : Row) → Reader (Inside k)
-  inside limit k xs = token space xs >>= λ s. cond (is_closed s.1) (Ok (EmptyTree s.0, s.1)) (g limit (Rest k) s.1 >>= λ m. Ok (FullTree s.0 m.0, m.1))
+  inside limit k xs = token space (indicator_at xs).1 >>= λ s. cond (is_closed s.1) (Ok (EmptyTree (indicator_at xs).0 s.0, s.1)) (inside_full limit k (indicator_at xs).0 s.0 s.1)
 
   unfoldable pub more : ℕ → (k : Row) → Tree (OneEntry k) → List ℕ → Reader (Rest k)
   more limit k e s xs = not_empty s >>= λ s. g limit (Rest k) xs >>= λ m. Ok (MoreTree e s m.0, m.1)

@@ -1,24 +1,47 @@
 -- A test of two trees with their spaces, which is true exactly where they are the same tree.
-use Rattle.std.specs.Prelude.{◌≡◌, ◌↔◌, ℕ, List, Bool, true, false, ◌&&◌, IsTrue, nat_eq, [], ◌∷◌, refl}
+use Rattle.std.specs.Prelude.{◌≡◌, ◌↔◌, ℕ, List, Bool, true, false, ◌&&◌, IsTrue, nat_eq, Option, None, Some, [], ◌∷◌, refl}
 use Rattle.std.specs.Cmp.{IsPartialEquivalence}
 use Rattle.std.specs.Cmp.Lexicographic.{pointwise, same_text}
 use Rattle.std.specs.Cmp.Derive.{both_true}
 use Rattle.std.proofs.Common.{sym, ◌∙◌, subst}
 use Rattle.std.proofs.lemmas.Bool.{false≢true}
 use Rattle.std.proofs.lemmas.Cmp.{nat_list_eq_equiv}
-use Rattle.cbor_edn_core.specs.Items.{Elements}
-use Rattle.cbor_edn_core.specs.Trees.{Rule, OneItem, Tree, NumberTree, ListTree, ElementTree, EmptyTree, FullTree, LastTree, MoreTree, NothingTree, SequenceTree, StandaloneTree}
+use Rattle.cbor_edn_parts.specs.declared.indicator.Indicator.{Indicator}
+use Rattle.cbor_edn_parts.specs.declared.indicator.Indicator.TheVariants.{Indefinite, Immediate, One, Two, Four, Eight}
+use Rattle.cbor_edn_core.specs.Items.{Row, Elements, Pairs}
+use Rattle.cbor_edn_core.specs.Trees.{Rule, OneEntry, Head, Unmarked, Marked, Tree, NumberTree, ListTree, ElementTree, PairTree, EmptyTree, FullTree, LastTree, MoreTree, NothingTree, SequenceTree, StandaloneTree}
 
 abbrev pub same_bytes : List ℕ → List ℕ → Bool
 same_bytes = pointwise nat_eq
 
+abbrev pub same_word : Indicator → Indicator → Bool
+same_word Indefinite Indefinite = true
+same_word Immediate Immediate = true
+same_word One One = true
+same_word Two Two = true
+same_word Four Four = true
+same_word Eight Eight = true
+same_word _ _ = false
+
+abbrev pub same_indicator : Option Indicator → Option Indicator → Bool
+same_indicator None None = true
+same_indicator (Some i) (Some j) = same_word i j
+same_indicator _ _ = false
+
+abbrev pub same_head : Head → Head → Bool
+same_head Unmarked Unmarked = true
+same_head (Marked i s) (Marked j t) = same_word i j && same_bytes s t
+same_head _ _ = false
+
 -- Whether two trees of one rule are the same, spaces included.
 abbrev pub same : {s : Rule} → Tree s → Tree s → Bool
-same (NumberTree x) (NumberTree y) = same_bytes x y
+same (NumberTree x i) (NumberTree y j) = same_bytes x y && same_indicator i j
 same (ListTree Elements w) (ListTree Elements v) = same w v
+same (ListTree Pairs w) (ListTree Pairs v) = same w v
 same (ElementTree w) (ElementTree v) = same w v
-same (EmptyTree s) (EmptyTree t) = same_bytes s t
-same (FullTree s m) (FullTree t n) = same_bytes s t && same m n
+same (PairTree k s t w) (PairTree l u v x) = same k l && (same_bytes s u && (same_bytes t v && same w x))
+same (EmptyTree i s) (EmptyTree j t) = same_indicator i j && same_bytes s t
+same (FullTree h s m) (FullTree g t n) = same_head h g && (same_bytes s t && same m n)
 same (LastTree e s) (LastTree f t) = same e f && same_bytes s t
 same (MoreTree e s m) (MoreTree f t n) = same e f && (same_bytes s t && same m n)
 same (NothingTree s) (NothingTree t) = same_bytes s t
@@ -26,8 +49,8 @@ same (SequenceTree s m) (SequenceTree t n) = same_bytes s t && same m n
 same (StandaloneTree s w t) (StandaloneTree u v r) = same_bytes s u && (same w v && same_bytes t r)
 same _ _ = false
 
--- Whether two rows of items, each with the separator behind it, are the same.
-abbrev pub same_entries : List (Tree OneItem × List ℕ) → List (Tree OneItem × List ℕ) → Bool
+-- Whether two rows of entries, each with the separator behind it, are the same.
+abbrev pub same_entries : {k : Row} → List (Tree (OneEntry k) × List ℕ) → List (Tree (OneEntry k) × List ℕ) → Bool
 same_entries [] [] = true
 same_entries (p ∷ ps) (q ∷ qs) = same p.0 q.0 && (same_bytes p.1 q.1 && same_entries ps qs)
 same_entries _ _ = false
@@ -40,12 +63,34 @@ both {a = false} f g e = absurd (false≢true e)
 bytes_are : (t u : List ℕ) → same_bytes t u ≡ true → t ≡ u
 bytes_are t u e = same_text t u (sym e)
 
+words_are : (i j : Indicator) → same_word i j ≡ true → i ≡ j
+words_are Indefinite Indefinite e = refl
+words_are Immediate Immediate e = refl
+words_are One One e = refl
+words_are Two Two e = refl
+words_are Four Four e = refl
+words_are Eight Eight e = refl
+words_are _ _ e = absurd (false≢true e)
+
+indicators_are : (i j : Option Indicator) → same_indicator i j ≡ true → i ≡ j
+indicators_are None None e = refl
+indicators_are (Some i) (Some j) e = λ k. Some (words_are i j e k)
+indicators_are _ _ e = absurd (false≢true e)
+
+heads_are : (h g : Head) → same_head h g ≡ true → h ≡ g
+heads_are Unmarked Unmarked e = refl
+heads_are (Marked i s) (Marked j t) e = let h = both (words_are i j) (bytes_are s t) e in λ k. Marked (h.0 k) (h.1 k)
+heads_are _ _ e = absurd (false≢true e)
+
 pub same_are : {s : Rule} (a b : Tree s) → same a b ≡ true → a ≡ b
-same_are (NumberTree x) (NumberTree y) e = λ i. NumberTree (bytes_are x y e i)
+same_are (NumberTree x i) (NumberTree y j) e = let h = both (bytes_are x y) (indicators_are i j) e in λ k. NumberTree (h.0 k) (h.1 k)
 same_are (ListTree Elements w) (ListTree Elements v) e = λ i. ListTree Elements (same_are w v e i)
+same_are (ListTree Pairs w) (ListTree Pairs v) e = λ i. ListTree Pairs (same_are w v e i)
 same_are (ElementTree w) (ElementTree v) e = λ i. ElementTree (same_are w v e i)
-same_are (EmptyTree s) (EmptyTree t) e = λ i. EmptyTree (bytes_are s t e i)
-same_are (FullTree s m) (FullTree t n) e = let h = both (bytes_are s t) (same_are m n) e in λ i. FullTree (h.0 i) (h.1 i)
+same_are (PairTree k s t w) (PairTree l u v x) e =
+    let h = both (same_are k l) (both (bytes_are s u) (both (bytes_are t v) (same_are w x))) e in λ i. PairTree (h.0 i) (h.1.0 i) (h.1.1.0 i) (h.1.1.1 i)
+same_are (EmptyTree i s) (EmptyTree j t) e = let h = both (indicators_are i j) (bytes_are s t) e in λ k. EmptyTree (h.0 k) (h.1 k)
+same_are (FullTree h s m) (FullTree g t n) e = let p = both (heads_are h g) (both (bytes_are s t) (same_are m n)) e in λ i. FullTree (p.0 i) (p.1.0 i) (p.1.1 i)
 same_are (LastTree e s) (LastTree f t) p = let h = both (same_are e f) (bytes_are s t) p in λ i. LastTree (h.0 i) (h.1 i)
 same_are (MoreTree e s m) (MoreTree f t n) p = let h = both (same_are e f) (both (bytes_are s t) (same_are m n)) p in λ i. MoreTree (h.0 i) (h.1.0 i) (h.1.1 i)
 same_are (NothingTree s) (NothingTree t) e = λ i. NothingTree (bytes_are s t e i)
@@ -57,12 +102,30 @@ same_are _ _ e = absurd (false≢true e)
 bytes_refl : (t : List ℕ) → same_bytes t t ≡ true
 bytes_refl t = nat_list_eq_equiv.refl t
 
+word_refl : (i : Indicator) → same_word i i ≡ true
+word_refl Indefinite = refl
+word_refl Immediate = refl
+word_refl One = refl
+word_refl Two = refl
+word_refl Four = refl
+word_refl Eight = refl
+
+indicator_refl : (i : Option Indicator) → same_indicator i i ≡ true
+indicator_refl None = refl
+indicator_refl (Some i) = word_refl i
+
+head_refl : (h : Head) → same_head h h ≡ true
+head_refl Unmarked = refl
+head_refl (Marked i s) = both_true (word_refl i) (bytes_refl s)
+
 same_refl : {s : Rule} (a : Tree s) → same a a ≡ true
-same_refl (NumberTree x) = bytes_refl x
+same_refl (NumberTree x i) = both_true (bytes_refl x) (indicator_refl i)
 same_refl (ListTree Elements w) = same_refl w
+same_refl (ListTree Pairs w) = same_refl w
 same_refl (ElementTree w) = same_refl w
-same_refl (EmptyTree s) = bytes_refl s
-same_refl (FullTree s m) = both_true (bytes_refl s) (same_refl m)
+same_refl (PairTree v s t w) = both_true (same_refl v) (both_true (bytes_refl s) (both_true (bytes_refl t) (same_refl w)))
+same_refl (EmptyTree i s) = both_true (indicator_refl i) (bytes_refl s)
+same_refl (FullTree h s m) = both_true (head_refl h) (both_true (bytes_refl s) (same_refl m))
 same_refl (LastTree e s) = both_true (same_refl e) (bytes_refl s)
 same_refl (MoreTree e s m) = both_true (same_refl e) (both_true (bytes_refl s) (same_refl m))
 same_refl (NothingTree s) = bytes_refl s

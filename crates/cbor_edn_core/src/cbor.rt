@@ -1,11 +1,13 @@
 //! CBOR: the heads of data items, and integers.
-ghost use Rattle.std.specs.Prelude.{◌≡◌, ◌<◌, ◌++◌, OnOk};
+ghost use Rattle.std.specs.Prelude.{◌≡◌, ◌<◌, ◌++◌, OnOk, nat_lt};
 ghost use Rattle.cbor_edn_parts.specs.Leaves as leaves;
-ghost use Rattle.cbor_edn_core.specs.Value.{head, ArgumentFits, encoding};
-ghost use Rattle.cbor_edn_core.specs.Meaning.{shortest, means_integer};
-ghost use Rattle.cbor_edn_core.specs.Encoding.{Encodes};
+ghost use Rattle.cbor_edn_core.specs.Value.{head, ArgumentFits, LengthFits, encoding, limit_of};
+ghost use Rattle.cbor_edn_core.specs.Meaning as meaning;
+ghost use Rattle.cbor_edn_core.specs.Meaning.{shortest, means_integer, tagged, magnitude_bytes};
+ghost use Rattle.cbor_edn_core.specs.Encoding.{Encodes, Finds, list_head, list_end};
 
 use cbor_edn_parts::error::{Fault, InconsistentEdn};
+use cbor_edn_parts::indicator::Indicator;
 use cbor_edn_parts::number::Integer;
 use std::alloc::AllocError;
 
@@ -25,6 +27,21 @@ pub enum Width {
     Four,
     /// In eight bytes more.
     Eight,
+}
+
+impl Width {
+    /// Whether the argument fits.
+    fn fits(self, argument: u64) -> bool
+        ensures { result ≡ nat_lt argument (limit_of self) }
+    {
+        match self {
+            Width::Immediate => argument < 24,
+            Width::One => argument < 0x100,
+            Width::Two => argument < 0x1_0000,
+            Width::Four => argument < 0x1_0000_0000,
+            Width::Eight => true,
+        }
+    }
 }
 
 /// The narrowest width that the argument fits.
@@ -76,18 +93,154 @@ pub(crate) fn push_head(
     Ok(())
 }
 
-/// Writes an integer at the end, with the shortest head. It has no encoding below -2^64 and from 2^64 on.
-#[tactic(auto, using(crate::proofs::Meanings::shortest_fits))]
-pub(crate) fn push_integer(out: &mut Vec<u8>, number: Integer) -> Result<(), Fault<InconsistentEdn>>
-    ensures { Encodes encoding (means_integer (leaves.integer number)) out.old.items out.new.items result }
+/// Writes a head at the end, as the indicator says. Fails where the argument does not fit, and where memory runs out.
+pub(crate) fn push_marked_head(
+    out: &mut Vec<u8>,
+    major: u8,
+    indicator: Option<Indicator>,
+    argument: u64,
+) -> Result<(), Fault<InconsistentEdn>>
+    requires { major < 8 }
+    ensures { Encodes (λ w. head major w argument) (meaning.width_of indicator argument) out.old.items out.new.items result }
 {
-    let (major, magnitude) = match number {
-        Integer::Positive(n) => (0, n),
-        Integer::Negative(n) => (1, n),
-    };
-    let Ok(argument) = u64::try_from(magnitude) else {
-        return Err(Fault::Told(InconsistentEdn::NumberWithoutEncoding));
-    };
-    push_head(out, major, shortest_width(argument), argument)?;
+    let width = width_of(indicator, argument)?;
+    push_head(out, major, width, argument)?;
     Ok(())
+}
+
+/// The width that the indicator names, or without one the narrowest. Fails where the argument does not fit.
+pub(crate) fn width_of(
+    indicator: Option<Indicator>,
+    argument: u64,
+) -> Result<Width, Fault<InconsistentEdn>>
+    ensures { Finds (meaning.width_of indicator argument) result }
+{
+    match indicator {
+        None => fitting(shortest_width(argument), argument),
+        Some(Indicator::Indefinite) => Err(Fault::Told(InconsistentEdn::IndicatorDoesNotFit)),
+        Some(Indicator::Immediate) => fitting(Width::Immediate, argument),
+        Some(Indicator::One) => fitting(Width::One, argument),
+        Some(Indicator::Two) => fitting(Width::Two, argument),
+        Some(Indicator::Four) => fitting(Width::Four, argument),
+        Some(Indicator::Eight) => fitting(Width::Eight, argument),
+    }
+}
+
+fn fitting(width: Width, argument: u64) -> Result<Width, Fault<InconsistentEdn>>
+    ensures { Finds (meaning.fitting width argument) result }
+{
+    if width.fits(argument) {
+        Ok(width)
+    } else {
+        Err(Fault::Told(InconsistentEdn::IndicatorDoesNotFit))
+    }
+}
+
+/// The width of the length of a list of so many entries, or none for indefinite length. Fails where the length does not fit.
+pub(crate) fn length_of(
+    indicator: Option<Indicator>,
+    count: u64,
+) -> Result<Option<Width>, Fault<InconsistentEdn>>
+    ensures { Finds (meaning.length_of indicator count) result }
+{
+    if indicator == Some(Indicator::Indefinite) {
+        return Ok(None);
+    }
+    let width = width_of(indicator, count)?;
+    Ok(Some(width))
+}
+
+/// Writes what stands before the entries of a list.
+pub(crate) fn push_list_head(
+    out: &mut Vec<u8>,
+    major: u8,
+    width: Option<Width>,
+    count: u64,
+) -> Result<(), AllocError>
+    requires major { major < 8 }
+    requires fits { LengthFits width count }
+    ensures { OnOk result (out.new.items ≡ out.old.items ++ list_head major width count) }
+{
+    match width {
+        Some(width) => push_head(out, major, width, count),
+        None => {
+            out.push(32 * major + 31)?;
+            Ok(())
+        }
+    }
+}
+
+/// Writes what stands behind the entries of a list.
+pub(crate) fn push_list_end(out: &mut Vec<u8>, width: Option<Width>) -> Result<(), AllocError>
+    ensures { OnOk result (out.new.items ≡ out.old.items ++ list_end width) }
+{
+    if width.is_none() {
+        out.push(0xff)?;
+    }
+    Ok(())
+}
+
+/// Writes an integer at the end, with a head as the indicator says. It has no encoding where its magnitude is 2^128 or more, and from
+/// 2^64 on and below -2^64 none with an indicator.
+pub(crate) fn push_integer(
+    out: &mut Vec<u8>,
+    number: Integer,
+    indicator: Option<Indicator>,
+) -> Result<(), Fault<InconsistentEdn>>
+    ensures { Encodes encoding (means_integer indicator (leaves.integer number)) out.old.items out.new.items result }
+{
+    match number {
+        Integer::Positive(n) => match u64::try_from(n) {
+            Ok(argument) => push_marked_head(out, 0, indicator, argument),
+            Err(_) => push_bignum(out, 2, n, indicator),
+        },
+        Integer::Negative(n) => match u64::try_from(n) {
+            Ok(argument) => push_marked_head(out, 1, indicator, argument),
+            Err(_) if n == u128::MAX => Err(Fault::Told(InconsistentEdn::NumberWithoutEncoding)),
+            Err(_) => push_bignum(out, 3, n, indicator),
+        },
+    }
+}
+
+/// Writes a tag over the bytes of a number. It takes no indicator.
+#[tactic(auto, unfolding(crate::specs::Meaning::magnitude_bytes))]
+fn push_bignum(
+    out: &mut Vec<u8>,
+    tag: u8,
+    number: u128,
+    indicator: Option<Indicator>,
+) -> Result<(), Fault<InconsistentEdn>>
+    requires { tag < 24 }
+    ensures { Encodes encoding (meaning.unmarked indicator (tagged tag (magnitude_bytes number))) out.old.items out.new.items result }
+{
+    match indicator {
+        Some(_) => Err(Fault::Told(InconsistentEdn::IndicatorDoesNotFit)),
+        None => {
+            let bytes = number.to_be_bytes();
+            push_tagged(out, tag, without_zeros(&bytes))?;
+            Ok(())
+        }
+    }
+}
+
+#[tactic(auto, using(crate::proofs::Meanings::shortest_fits))]
+fn push_tagged(out: &mut Vec<u8>, tag: u8, bytes: &[u8]) -> Result<(), AllocError>
+    requires { tag < 24 }
+    ensures { OnOk result (out.new.items ≡ out.old.items ++ encoding (tagged tag bytes.now)) }
+{
+    let length = bytes.len() as u64;
+    push_head(out, 6, Width::Immediate, u64::from(tag))?;
+    push_head(out, 2, shortest_width(length), length)?;
+    out.extend_from_slice(bytes)?;
+    Ok(())
+}
+
+/// The bytes without the zeros that they begin with.
+fn without_zeros(bytes: &[u8]) -> &[u8]
+    ensures { result.now ≡ meaning.without_zeros bytes.now }
+{
+    match bytes {
+        [0, rest @ ..] => without_zeros(rest),
+        _ => bytes,
+    }
 }

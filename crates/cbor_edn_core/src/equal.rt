@@ -1,10 +1,13 @@
 //! Whether two trees are written the same, spaces included.
 ghost use Rattle.std.specs.Prelude.{◌≡◌, ◌↔◌, IsTrue, map};
-ghost use Rattle.cbor_edn_core.specs.Same.{same, same_entries, same_laws};
-ghost use Rattle.cbor_edn_core.specs.View.{texts, view_list, view_items, seen, item_tree, standalone_tree, sequence_tree};
+ghost use Rattle.cbor_edn_core.specs.Same.{same, same_indicator, same_word, same_head, same_entries, same_laws};
+ghost use Rattle.cbor_edn_core.specs.View.{texts, view_head, view_list, view_items, seen, view_pair_list, view_pairs, view_pair, seen_pair, item_tree, standalone_tree, sequence_tree};
 
-use crate::tree::{InnerItem, Item, ItemList, Items, Sequence, StandaloneItem, Texts};
-use cbor_edn_parts::space::Msc;
+use crate::tree::{
+    Indicator, InnerItem, Item, ItemList, Items, Kp, PairList, Pairs, Sequence, StandaloneItem,
+    Texts,
+};
+use cbor_edn_parts::space::{Ms, Msc};
 
 impl PartialEq for Item<'_> {
     ghost eq = { λ a b. same (item_tree a) (item_tree b) };
@@ -42,13 +45,50 @@ impl PartialEq for Sequence<'_> {
     }
 }
 
+fn have_same_word(a: Indicator, b: Indicator) -> bool
+    ensures { result ≡ same_word a b }
+{
+    match (a, b) {
+        (Indicator::Indefinite, Indicator::Indefinite) => true,
+        (Indicator::Immediate, Indicator::Immediate) => true,
+        (Indicator::One, Indicator::One) => true,
+        (Indicator::Two, Indicator::Two) => true,
+        (Indicator::Four, Indicator::Four) => true,
+        (Indicator::Eight, Indicator::Eight) => true,
+        _ => false,
+    }
+}
+
+fn have_same_indicator(a: Option<Indicator>, b: Option<Indicator>) -> bool
+    ensures { result ≡ same_indicator a b }
+{
+    match (a, b) {
+        (None, None) => true,
+        (Some(i), Some(j)) => have_same_word(i, j),
+        _ => false,
+    }
+}
+
+fn have_same_head(a: &Option<(Indicator, Ms<'_>)>, b: &Option<(Indicator, Ms<'_>)>) -> bool
+    ensures { result ≡ same_head (view_head texts a.now) (view_head texts b.now) }
+{
+    match (a, b) {
+        (None, None) => true,
+        (Some((i, s)), Some((j, t))) => have_same_word(*i, *j) && *s == *t,
+        _ => false,
+    }
+}
+
 #[cycle(same)]
 fn same_item(a: &Item<'_>, b: &Item<'_>) -> bool
     ensures { result ≡ same (item_tree a.now) (item_tree b.now) }
 {
     match (&a.inner, &b.inner) {
-        (InnerItem::Number(x), InnerItem::Number(y)) => *x == *y,
+        (InnerItem::Number(x, i), InnerItem::Number(y, j)) => {
+            *x == *y && have_same_indicator(*i, *j)
+        }
         (InnerItem::Array(x), InnerItem::Array(y)) => same_list(x, y),
+        (InnerItem::Map(x), InnerItem::Map(y)) => same_pair_list(x, y),
         _ => false,
     }
 }
@@ -58,10 +98,21 @@ fn same_list(a: &ItemList<Texts<'_>>, b: &ItemList<Texts<'_>>) -> bool
     ensures { result ≡ same (view_list texts a.now) (view_list texts b.now) }
 {
     match (a, b) {
-        (ItemList::Present { s, items: x }, ItemList::Present { s: t, items: y }) => {
-            *s == *t && same_items(x, y)
+        (
+            ItemList::Present {
+                head: h,
+                s,
+                items: x,
+            },
+            ItemList::Present {
+                head: g,
+                s: t,
+                items: y,
+            },
+        ) => { have_same_head(h, g) && *s == *t && same_items(x, y) }
+        (ItemList::Absent { indicator: i, s }, ItemList::Absent { indicator: j, s: t }) => {
+            have_same_indicator(*i, *j) && *s == *t
         }
-        (ItemList::Absent { s }, ItemList::Absent { s: t }) => *s == *t,
         _ => false,
     }
 }
@@ -90,6 +141,66 @@ fn same_row(a: &[(Item<'_>, Msc<'_>)], b: &[(Item<'_>, Msc<'_>)]) -> bool
         }
     }
     true
+}
+
+#[cycle(same)]
+fn same_pair_list(a: &PairList<Texts<'_>>, b: &PairList<Texts<'_>>) -> bool
+    ensures { result ≡ same (view_pair_list texts a.now) (view_pair_list texts b.now) }
+{
+    match (a, b) {
+        (
+            PairList::Present {
+                head: h,
+                s,
+                pairs: x,
+            },
+            PairList::Present {
+                head: g,
+                s: t,
+                pairs: y,
+            },
+        ) => { have_same_head(h, g) && *s == *t && same_pairs(x, y) }
+        (PairList::Absent { indicator: i, s }, PairList::Absent { indicator: j, s: t }) => {
+            have_same_indicator(*i, *j) && *s == *t
+        }
+        _ => false,
+    }
+}
+
+#[cycle(same)]
+#[tactic(auto, using(crate::proofs::Views::view_pairs_is, crate::proofs::Rows::same_lists))]
+fn same_pairs(a: &Pairs<Texts<'_>>, b: &Pairs<Texts<'_>>) -> bool
+    ensures { result ≡ same (view_pairs texts a.now) (view_pairs texts b.now) }
+{
+    same_pair_row(&a.row, &b.row) && same_pair(&a.last, &b.last) && a.soc == b.soc
+}
+
+#[cycle(same)]
+#[tactic(auto, using(crate::proofs::Rows::rows_as_long))]
+fn same_pair_row(a: &[(Kp<Texts<'_>>, Msc<'_>)], b: &[(Kp<Texts<'_>>, Msc<'_>)]) -> bool
+    ensures { result ≡ same_entries (map (seen_pair texts) a.now) (map (seen_pair texts) b.now) }
+{
+    if a.len() != b.len() {
+        return false;
+    }
+    for i in 0..a.len() {
+        let (x, s) = &a[i];
+        let (y, t) = &b[i];
+        if !(same_pair(x, y) && *s == *t) {
+            return false;
+        }
+    }
+    true
+}
+
+#[cycle(same)]
+fn same_pair(a: &Kp<Texts<'_>>, b: &Kp<Texts<'_>>) -> bool
+    ensures { result ≡ same (view_pair texts a.now) (view_pair texts b.now) }
+{
+    same_item(&a.key, &b.key)
+        && a.before_colon == b.before_colon
+        && a.after_colon == b.after_colon
+        && same_item(&a.value, &b.value)
 }
 
 impl<'a> Item<'a> {

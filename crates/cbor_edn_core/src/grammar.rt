@@ -3,27 +3,32 @@
 //! Each function reads at a place of the text, and answers what it read with the place behind it. A rule is decided
 //! by one byte; spaces are scanned once, and cut where they are used. Each equals a rule of the plain reader on lists
 //! (`specs/Reading.antt`), and all that is said of the grammar is said of that reader.
-ghost use Rattle.std.specs.Prelude.{◌≡◌, ◌≤◌, ◌+◌, ◌∷◌, ◌*◌, ◌-◌, ◌^◌, ◌<◌, true, false, [], length, drop, OnOk, IfOk, IfErr, IfSome};
+ghost use Rattle.std.specs.Prelude.{◌≡◌, ◌≤◌, ◌+◌, ◌∷◌, ◌*◌, ◌-◌, ◌<◌, true, false, [], length, drop, OnOk, IfOk, IfErr};
 ghost use Rattle.std.specs.Str.{IsCharBoundary};
 ghost use Rattle.cbor_edn_parts.specs.Scans.{Costs};
+ghost use Rattle.cbor_edn_parts.specs.Leaves.{soc_bytes};
 ghost use Rattle.cbor_edn_parts.specs.Text.{text_bytes};
-ghost use Rattle.cbor_edn_core.specs.Borrowed.{BorrowsItem, BorrowsList, BorrowsItems, BorrowsSequence, BorrowsStandalone};
-ghost use Rattle.cbor_edn_core.specs.Items.{Elements};
-ghost use Rattle.cbor_edn_core.specs.ParserResults.{Reads, Gives, Lands, IsPlaced, IsNotAt};
+ghost use Rattle.cbor_edn_core.specs.Borrowed.{BorrowsItem, BorrowsList, BorrowsItems, BorrowsPair, BorrowsPairList, BorrowsPairs, BorrowsSequence, BorrowsStandalone};
+ghost use Rattle.cbor_edn_core.specs.Items.{Elements, Pairs as Keyed};
+ghost use Rattle.cbor_edn_core.specs.ParserResults.{Reads, Gives, Lands, IsPlaced, IsPushed};
 ghost use Rattle.cbor_edn_core.specs.Reading.{reads, reads_all};
-ghost use Rattle.cbor_edn_core.specs.Trees.{OneItem, Inside, Rest, Seq, Standalone};
-ghost use Rattle.cbor_edn_core.specs.View.{texts, item_tree, view_list, view_items, sequence_tree, standalone_tree};
+ghost use Rattle.cbor_edn_core.specs.Refusals.{IfTold};
+ghost use Rattle.cbor_edn_core.specs.Trees.{OneItem, OneEntry, Inside, Rest, Seq, Standalone};
+ghost use Rattle.cbor_edn_core.specs.View.{texts, item_tree, view_list, view_items, view_pair, view_pair_list, view_pairs, sequence_tree, standalone_tree};
 
-use crate::lookahead::{closes, ends, is_at};
-use crate::tree::{InnerItem, Item, ItemList, Items, Sequence, StandaloneItem, Texts};
-use cbor_edn_parts::error::{Fault, Refusal};
+use crate::lookahead::{List, closes, ends, is_at, list_at, marked};
+use crate::tree::{
+    InnerItem, Item, ItemList, Items, Kp, PairList, Pairs, Sequence, StandaloneItem, Texts,
+};
+use cbor_edn_parts::error::{Fault, ParseErrorKind, Refusal};
+use cbor_edn_parts::indicator::indicator_at;
 use cbor_edn_parts::looks::Looks;
 use cbor_edn_parts::number::number_at;
-use cbor_edn_parts::space::{separator, space};
+use cbor_edn_parts::space::{Msc, Soc, separator, space};
 use cbor_edn_parts::text::Text;
 use std::alloc::Global;
 
-/// An item with arrays at most `limit` deep.
+/// An item with arrays and maps at most `limit` deep.
 #[cycle(item)]
 fn item<'a>(
     alloc: Global,
@@ -36,35 +41,55 @@ fn item<'a>(
     ensures value { Reads item_tree (text_bytes text.now) result (reads limit OneItem (drop from (text_bytes text.now))) }
     ensures borrowed { IfOk result (λ p. BorrowsItem p.0) }
     ensures place { Lands (text_bytes text.now) from result }
-    ensures cost { Costs 8 2 4 (text_bytes text.now) from looks.old.count looks.new.count result }
+    ensures cost { Costs 8 4 6 (text_bytes text.now) from looks.old.count looks.new.count result }
 {
-    if !is_at(text, from, b'[', looks) {
-        let (number, to) = number_at(text, from, looks)?;
-        return Ok((
-            Item {
-                inner: InnerItem::Number(number),
-            },
-            to,
-        ));
+    match list_at(text, from, looks) {
+        None => {
+            let (number, at) = number_at(text, from, looks)?;
+            let (indicator, to) = indicator_at(text, at, looks);
+            Ok((
+                Item {
+                    inner: InnerItem::Number(number, indicator),
+                },
+                to,
+            ))
+        }
+        Some(List::Array) => {
+            if limit == 0 {
+                return Err(Fault::Told(Refusal::too_deep(from)));
+            }
+            let (list, to) = array(alloc, text, from + 1, limit - 1, looks)?;
+            if !is_at(text, to, b']', looks) {
+                return Err(Fault::Told(Refusal::invalid(to)));
+            }
+            Ok((
+                Item {
+                    inner: InnerItem::Array(list),
+                },
+                to + 1,
+            ))
+        }
+        Some(List::Map) => {
+            if limit == 0 {
+                return Err(Fault::Told(Refusal::too_deep(from)));
+            }
+            let (list, to) = map(alloc, text, from + 1, limit - 1, looks)?;
+            if !is_at(text, to, b'}', looks) {
+                return Err(Fault::Told(Refusal::invalid(to)));
+            }
+            Ok((
+                Item {
+                    inner: InnerItem::Map(list),
+                },
+                to + 1,
+            ))
+        }
     }
-    if limit == 0 {
-        return Err(Fault::Told(Refusal::too_deep(from)));
-    }
-    let (list, to) = inside(alloc, text, from + 1, limit - 1, looks)?;
-    if !is_at(text, to, b']', looks) {
-        return Err(Fault::Told(Refusal::invalid(to)));
-    }
-    Ok((
-        Item {
-            inner: InnerItem::Array(list),
-        },
-        to + 1,
-    ))
 }
 
 /// What stands between the brackets of an array.
 #[cycle(item)]
-fn inside<'a>(
+fn array<'a>(
     alloc: Global,
     text: &Text<'a>,
     from: usize,
@@ -75,14 +100,45 @@ fn inside<'a>(
     ensures value { Reads (view_list texts) (text_bytes text.now) result (reads limit (Inside Elements) (drop from (text_bytes text.now))) }
     ensures borrowed { IfOk result (λ p. BorrowsList p.0) }
     ensures place { Lands (text_bytes text.now) from result }
-    ensures cost { Costs 8 7 6 (text_bytes text.now) from looks.old.count looks.new.count result }
+    ensures cost { Costs 8 10 10 (text_bytes text.now) from looks.old.count looks.new.count result }
 {
-    let (s, at) = space(text, from, looks)?;
+    let (indicator, at) = indicator_at(text, from, looks);
+    let (s, at) = space(text, at, looks)?;
     if closes(text, at, looks) {
-        return Ok((ItemList::Absent { s }, at));
+        return Ok((ItemList::Absent { indicator, s }, at));
     }
+    let Some((head, s)) = marked(indicator, s) else {
+        return Err(Fault::Told(Refusal::invalid(at)));
+    };
     let (items, to) = items(alloc, text, at, limit, looks)?;
-    Ok((ItemList::Present { s, items }, to))
+    Ok((ItemList::Present { head, s, items }, to))
+}
+
+/// What stands between the braces of a map.
+#[cycle(item)]
+fn map<'a>(
+    alloc: Global,
+    text: &Text<'a>,
+    from: usize,
+    limit: usize,
+    looks: &mut Looks,
+) -> Result<(PairList<Texts<'a>>, usize), Fault<Refusal>>
+    requires { IsCharBoundary (text_bytes text.now) from }
+    ensures value { Reads (view_pair_list texts) (text_bytes text.now) result (reads limit (Inside Keyed) (drop from (text_bytes text.now))) }
+    ensures borrowed { IfOk result (λ p. BorrowsPairList p.0) }
+    ensures place { Lands (text_bytes text.now) from result }
+    ensures cost { Costs 8 10 10 (text_bytes text.now) from looks.old.count looks.new.count result }
+{
+    let (indicator, at) = indicator_at(text, from, looks);
+    let (s, at) = space(text, at, looks)?;
+    if closes(text, at, looks) {
+        return Ok((PairList::Absent { indicator, s }, at));
+    }
+    let Some((head, s)) = marked(indicator, s) else {
+        return Err(Fault::Told(Refusal::invalid(at)));
+    };
+    let (pairs, to) = pairs(alloc, text, at, limit, looks)?;
+    Ok((PairList::Present { head, s, pairs }, to))
 }
 
 /// Items, one or more, each with the space behind it.
@@ -98,7 +154,7 @@ fn items<'a>(
     ensures value { Reads (view_items texts) (text_bytes text.now) result (reads limit (Rest Elements) (drop from (text_bytes text.now))) }
     ensures borrowed { IfOk result (λ p. BorrowsItems p.0) }
     ensures place { Lands (text_bytes text.now) from result }
-    ensures cost { Costs 8 4 4 (text_bytes text.now) from looks.old.count looks.new.count result }
+    ensures cost { Costs 8 6 6 (text_bytes text.now) from looks.old.count looks.new.count result }
 {
     let mut row = Vec::new(alloc);
     let mut at = from;
@@ -109,12 +165,89 @@ fn items<'a>(
             let last = Box::new(alloc, item)?;
             return Ok((Items { row, last, soc }, next));
         }
-        let Some(separator) = soc.into_msc() else {
-            return Err(Fault::Told(Refusal::invalid(next)));
-        };
-        row.push((item, separator))?;
+        push_entry(&mut row, item, soc, next)?;
         at = next;
     }
+}
+
+/// Pairs, one or more, each with the space behind it.
+#[cycle(item)]
+fn pairs<'a>(
+    alloc: Global,
+    text: &Text<'a>,
+    from: usize,
+    limit: usize,
+    looks: &mut Looks,
+) -> Result<(Pairs<Texts<'a>>, usize), Fault<Refusal>>
+    requires { IsCharBoundary (text_bytes text.now) from }
+    ensures value { Reads (view_pairs texts) (text_bytes text.now) result (reads limit (Rest Keyed) (drop from (text_bytes text.now))) }
+    ensures borrowed { IfOk result (λ p. BorrowsPairs p.0) }
+    ensures place { Lands (text_bytes text.now) from result }
+    ensures cost { Costs 8 6 6 (text_bytes text.now) from looks.old.count looks.new.count result }
+{
+    let mut row = Vec::new(alloc);
+    let mut at = from;
+    'pairs: loop {
+        let (pair, behind) = pair(alloc, text, at, limit, looks)?;
+        let (soc, next) = separator(text, behind, looks)?;
+        if closes(text, next, looks) {
+            let last = Box::new(alloc, pair)?;
+            return Ok((Pairs { row, last, soc }, next));
+        }
+        push_entry(&mut row, pair, soc, next)?;
+        at = next;
+    }
+}
+
+/// Sets an entry behind the others, with the separator between it and the next. Where that is empty, the text is
+/// refused.
+fn push_entry<'a, T: Drop>(
+    row: &mut Vec<(T, Msc<'a>)>,
+    entry: T,
+    soc: Soc<'a>,
+    at: usize,
+) -> Result<(), Fault<Refusal>>
+    ensures pushed { OnOk result (IsPushed row.old.items row.new.items entry soc.entry) }
+    ensures unparted { IfTold result (λ r. (soc_bytes soc.entry ≡ []) × (r ≡ record { kind = ParseErrorKind.Invalid; at = at })) }
+{
+    let Some(separator) = soc.into_msc() else {
+        return Err(Fault::Told(Refusal::invalid(at)));
+    };
+    row.push((entry, separator))?;
+    Ok(())
+}
+
+/// A key, a colon and a value.
+#[cycle(item)]
+fn pair<'a>(
+    alloc: Global,
+    text: &Text<'a>,
+    from: usize,
+    limit: usize,
+    looks: &mut Looks,
+) -> Result<(Kp<Texts<'a>>, usize), Fault<Refusal>>
+    requires { IsCharBoundary (text_bytes text.now) from }
+    ensures value { Reads (view_pair texts) (text_bytes text.now) result (reads limit (OneEntry Keyed) (drop from (text_bytes text.now))) }
+    ensures borrowed { IfOk result (λ p. BorrowsPair p.0) }
+    ensures place { Lands (text_bytes text.now) from result }
+    ensures cost { Costs 8 4 6 (text_bytes text.now) from looks.old.count looks.new.count result }
+{
+    let (key, at) = item(alloc, text, from, limit, looks)?;
+    let (before_colon, at) = space(text, at, looks)?;
+    if !is_at(text, at, b':', looks) {
+        return Err(Fault::Told(Refusal::invalid(at)));
+    }
+    let (after_colon, at) = space(text, at + 1, looks)?;
+    let (value, to) = item(alloc, text, at, limit, looks)?;
+    Ok((
+        Kp {
+            key,
+            before_colon,
+            after_colon,
+            value,
+        },
+        to,
+    ))
 }
 
 /// A sequence at the front of the text.
@@ -127,7 +260,7 @@ fn sequence<'a>(
     ensures value { Reads sequence_tree (text_bytes text.now) result (reads limit Seq (text_bytes text.now)) }
     ensures borrowed { IfOk result (λ p. BorrowsSequence p.0) }
     ensures place { Lands (text_bytes text.now) 0 result }
-    ensures cost { Costs 8 7 6 (text_bytes text.now) 0 looks.old.count looks.new.count result }
+    ensures cost { Costs 8 8 8 (text_bytes text.now) 0 looks.old.count looks.new.count result }
 {
     let (before, at) = space(text, text.start(), looks)?;
     if closes(text, at, looks) {
@@ -159,7 +292,7 @@ fn standalone<'a>(
     ensures value { Reads standalone_tree (text_bytes text.now) result (reads limit Standalone (text_bytes text.now)) }
     ensures borrowed { IfOk result (λ p. BorrowsStandalone p.0) }
     ensures place { Lands (text_bytes text.now) 0 result }
-    ensures cost { Costs 8 7 6 (text_bytes text.now) 0 looks.old.count looks.new.count result }
+    ensures cost { Costs 8 8 8 (text_bytes text.now) 0 looks.old.count looks.new.count result }
 {
     let (before, at) = space(text, text.start(), looks)?;
     let (item, at) = item(alloc, text, at, limit, looks)?;

@@ -1,5 +1,5 @@
-//! The laws of the definitions: each function's contract is a law, and its body is empty.
-ghost use Rattle.cbor_edn_core.specs.CborLaws.{OneEncoding};
+//! Laws of the definitions: each function's contract is a law, and its body is empty.
+ghost use Rattle.cbor_edn_core.specs.CborLaws.{OneEncoding, ItemMeans};
 ghost use Rattle.cbor_edn_core.specs.Laws.{SpelledByTrees, UniqueItems, UniqueSpaces};
 
 /// A text spells at most one list of items, and has one tree.
@@ -18,4 +18,9 @@ pub fn spelled_by_trees()
 /// One byte string encodes at most one value, one value has at most one encoding, and no encoding begins another.
 pub fn one_encoding()
     ensures { OneEncoding }
+{}
+
+/// The item that a value is decoded as means this value.
+pub fn item_means()
+    ensures { ItemMeans }
 {}

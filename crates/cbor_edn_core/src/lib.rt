@@ -1,10 +1,12 @@
-//! Trees of CBOR's Extended Diagnostic Notation (EDN): read from text, printed, compared, copied and encoded.
+//! Trees of CBOR's Extended Diagnostic Notation (EDN): read from text, printed, compared and copied, encoded as CBOR and
+//! decoded from it.
 #![tactic(auto)]
 
 pub mod cbor;
 mod clone;
 mod convert;
 mod equal;
+pub mod from_cbor;
 mod grammar;
 pub mod laws;
 mod location;

@@ -1,12 +1,21 @@
 //! What stands at a place of a text.
-ghost use Rattle.std.specs.Prelude.{◌≡◌, ◌+◌, ◌<◌, ◌∷◌, [], true, false, length, drop, OnOk, IfErr};
+ghost use Rattle.std.specs.Prelude.{◌≡◌, ◌+◌, ◌<◌, ◌∷◌, [], true, false, length, drop, OnOk, IfErr, IfSome, IfNone, Ok, Err};
 ghost use Rattle.std.specs.Str.{IsCharBoundary};
 ghost use Rattle.cbor_edn_parts.specs.Bytes.{is_closed, closing, kind};
 ghost use Rattle.cbor_edn_parts.specs.Text.{text_bytes};
+ghost use Rattle.cbor_edn_parts.specs.Leaves.{s_bytes, BorrowsS};
+ghost use Rattle.cbor_edn_core.specs.Borrowed.{BorrowsHead};
 ghost use Rattle.cbor_edn_core.specs.ParserResults.{IsNotAt};
+ghost use Rattle.cbor_edn_core.specs.Lookahead.{row};
+ghost use Rattle.cbor_edn_core.specs.Reading.{head_of};
+ghost use Rattle.cbor_edn_core.specs.Spelling.{opening};
+ghost use Rattle.cbor_edn_core.specs.View.{texts, view_head};
+ghost use Rattle.cbor_edn_parts.specs.declared.error.ParseErrorKind.TheVariants.{Invalid};
 
 use cbor_edn_parts::error::{Fault, ParseErrorKind, Refusal};
+use cbor_edn_parts::indicator::Indicator;
 use cbor_edn_parts::looks::Looks;
+use cbor_edn_parts::space::{Ms, S};
 use cbor_edn_parts::text::Text;
 
 /// Whether an ASCII byte stands at a place.
@@ -19,6 +28,44 @@ pub(crate) fn is_at(text: &Text<'_>, at: usize, byte: u8, looks: &mut Looks) -> 
     match text.byte(at, looks) {
         Some(found) => found == byte,
         None => false,
+    }
+}
+
+/// What a bracket opens.
+#[derive(Clone, Copy, Debug, PartialEq)]
+pub(crate) enum List {
+    Array,
+    Map,
+}
+
+/// The list that opens at a place, if one does.
+pub(crate) fn list_at(text: &Text<'_>, at: usize, looks: &mut Looks) -> Option<List>
+    ensures opens { IfSome result (λ list. (drop at (text_bytes text.now) ≡ opening (row list) ∷ drop (at + 1) (text_bytes text.now)) × IsCharBoundary (text_bytes text.now) (at + 1)) }
+    ensures none { IfNone result (IsNotAt 91 (drop at (text_bytes text.now)) × IsNotAt 123 (drop at (text_bytes text.now))) }
+    ensures count { looks.new.count ≡ looks.old.count + 1 }
+{
+    match text.byte(at, looks) {
+        Some(b'[') => Some(List::Array),
+        Some(b'{') => Some(List::Map),
+        _ => None,
+    }
+}
+
+/// The first spaces of a list that has entries: behind an indicator the space is its own, and may not be missing.
+pub(crate) fn marked<'a>(
+    indicator: Option<Indicator>,
+    s: S<'a>,
+) -> Option<(Option<(Indicator, Ms<'a>)>, S<'a>)>
+    ensures some { IfSome result (λ p. head_of indicator (s_bytes s.entry) ≡ Ok (view_head texts p.0, s_bytes p.1)) }
+    ensures none { IfNone result (head_of indicator (s_bytes s.entry) ≡ Err Invalid) }
+    ensures borrowed { BorrowsS s.entry → IfSome result (λ p. BorrowsHead p.0 × BorrowsS p.1) }
+{
+    match indicator {
+        None => Some((None, s)),
+        Some(indicator) => match s.into_ms() {
+            None => None,
+            Some(ms) => Some((Some((indicator, ms)), S::empty())),
+        },
     }
 }
 

@@ -1,12 +1,16 @@
 //! The text of a tree.
 ghost use Rattle.std.specs.Prelude.{◌≡◌, ◌++◌, OnOk, IfOk};
 ghost use Rattle.std.specs.String.{string_bytes};
-ghost use Rattle.cbor_edn_core.specs.Trees.{text, items};
+ghost use Rattle.cbor_edn_parts.specs.Indicator.{indicator_text};
+ghost use Rattle.cbor_edn_core.specs.Trees.{text, head_text, items};
 ghost use Rattle.cbor_edn_core.specs.Spelling.{Spells, SpellsSequence, SpellsOne};
-ghost use Rattle.cbor_edn_core.specs.View.{texts, view_list, view_items, row_text, item_tree, standalone_tree, sequence_tree};
+ghost use Rattle.cbor_edn_core.specs.View.{texts, view_head, view_list, view_items, row_text, view_pair_list, view_pairs, view_pair, pair_row_text, item_tree, standalone_tree, sequence_tree};
 
-use crate::tree::{InnerItem, Item, ItemList, Items, Sequence, StandaloneItem, Texts};
-use cbor_edn_parts::space::Msc;
+use crate::tree::{
+    Indicator, InnerItem, Item, ItemList, Items, Kp, PairList, Pairs, Sequence, StandaloneItem,
+    Texts,
+};
+use cbor_edn_parts::space::{Ms, Msc};
 use std::alloc::{AllocError, Global};
 
 impl Item<'_> {
@@ -65,17 +69,46 @@ fn push_standalone(out: &mut String, item: &StandaloneItem<'_>) -> Result<(), Al
     out.push_str(item.after.as_str())
 }
 
+fn push_indicator(out: &mut String, indicator: Option<Indicator>) -> Result<(), AllocError>
+    ensures { OnOk result (string_bytes out.new ≡ string_bytes out.old ++ indicator_text indicator) }
+{
+    match indicator {
+        None => Ok(()),
+        Some(indicator) => out.push_str(indicator.as_str()),
+    }
+}
+
+fn push_head(out: &mut String, head: &Option<(Indicator, Ms<'_>)>) -> Result<(), AllocError>
+    ensures { OnOk result (string_bytes out.new ≡ string_bytes out.old ++ head_text (view_head texts head.now)) }
+{
+    match head {
+        None => Ok(()),
+        Some((indicator, space)) => {
+            out.push_str(indicator.as_str())?;
+            out.push_str(space.as_str())
+        }
+    }
+}
+
 #[cycle(push)]
 #[tactic(auto, using(crate::proofs::Texts::text_number, crate::proofs::Texts::text_list, std::proofs::Common::append_assoc))]
 fn push_item(out: &mut String, item: &Item<'_>) -> Result<(), AllocError>
     ensures { OnOk result (string_bytes out.new ≡ string_bytes out.old ++ text (item_tree item.now)) }
 {
     match &item.inner {
-        InnerItem::Number(number) => out.push_str(number.as_str()),
+        InnerItem::Number(number, indicator) => {
+            out.push_str(number.as_str())?;
+            push_indicator(out, *indicator)
+        }
         InnerItem::Array(list) => {
             out.push_str("[")?;
             push_list(out, list)?;
             out.push_str("]")
+        }
+        InnerItem::Map(list) => {
+            out.push_str("{")?;
+            push_pair_list(out, list)?;
+            out.push_str("}")
         }
     }
 }
@@ -86,16 +119,20 @@ fn push_list(out: &mut String, list: &ItemList<Texts<'_>>) -> Result<(), AllocEr
     ensures { OnOk result (string_bytes out.new ≡ string_bytes out.old ++ text (view_list texts list.now)) }
 {
     match list {
-        ItemList::Present { s, items } => {
+        ItemList::Present { head, s, items } => {
+            push_head(out, head)?;
             out.push_str(s.as_str())?;
             push_items(out, items)
         }
-        ItemList::Absent { s } => out.push_str(s.as_str()),
+        ItemList::Absent { indicator, s } => {
+            push_indicator(out, *indicator)?;
+            out.push_str(s.as_str())
+        }
     }
 }
 
 #[cycle(push)]
-#[tactic(auto, using(crate::proofs::Views::view_items_is, crate::proofs::Views::text_row, crate::proofs::Texts::text_last, crate::proofs::Texts::text_element, std::proofs::Common::append_assoc))]
+#[tactic(auto, using(crate::proofs::Views::view_items_is, crate::proofs::Texts::text_entries, crate::proofs::Texts::text_last, crate::proofs::Texts::text_element, std::proofs::Common::append_assoc))]
 fn push_items(out: &mut String, items: &Items<Texts<'_>>) -> Result<(), AllocError>
     ensures { OnOk result (string_bytes out.new ≡ string_bytes out.old ++ text (view_items texts items.now)) }
 {
@@ -105,6 +142,7 @@ fn push_items(out: &mut String, items: &Items<Texts<'_>>) -> Result<(), AllocErr
 }
 
 #[cycle(push)]
+#[tactic(auto, unfolding(crate::specs::Trees::onto))]
 fn push_row(out: &mut String, row: &[(Item<'_>, Msc<'_>)]) -> Result<(), AllocError>
     ensures { OnOk result (string_bytes out.new ≡ string_bytes out.old ++ row_text texts row.now) }
 {
@@ -113,4 +151,55 @@ fn push_row(out: &mut String, row: &[(Item<'_>, Msc<'_>)]) -> Result<(), AllocEr
         out.push_str(separator.as_str())?;
     }
     Ok(())
+}
+
+#[cycle(push)]
+#[tactic(auto, using(crate::proofs::Texts::text_empty, crate::proofs::Texts::text_full, std::proofs::Common::append_assoc))]
+fn push_pair_list(out: &mut String, list: &PairList<Texts<'_>>) -> Result<(), AllocError>
+    ensures { OnOk result (string_bytes out.new ≡ string_bytes out.old ++ text (view_pair_list texts list.now)) }
+{
+    match list {
+        PairList::Present { head, s, pairs } => {
+            push_head(out, head)?;
+            out.push_str(s.as_str())?;
+            push_pairs(out, pairs)
+        }
+        PairList::Absent { indicator, s } => {
+            push_indicator(out, *indicator)?;
+            out.push_str(s.as_str())
+        }
+    }
+}
+
+#[cycle(push)]
+#[tactic(auto, using(crate::proofs::Views::view_pairs_is, crate::proofs::Texts::text_entries, crate::proofs::Texts::text_last, std::proofs::Common::append_assoc))]
+fn push_pairs(out: &mut String, pairs: &Pairs<Texts<'_>>) -> Result<(), AllocError>
+    ensures { OnOk result (string_bytes out.new ≡ string_bytes out.old ++ text (view_pairs texts pairs.now)) }
+{
+    push_pair_row(out, &pairs.row)?;
+    push_pair(out, &pairs.last)?;
+    out.push_str(pairs.soc.as_str())
+}
+
+#[cycle(push)]
+fn push_pair_row(out: &mut String, row: &[(Kp<Texts<'_>>, Msc<'_>)]) -> Result<(), AllocError>
+    ensures { OnOk result (string_bytes out.new ≡ string_bytes out.old ++ pair_row_text texts row.now) }
+{
+    for (pair, separator) in row {
+        push_pair(out, pair)?;
+        out.push_str(separator.as_str())?;
+    }
+    Ok(())
+}
+
+#[cycle(push)]
+#[tactic(auto, using(crate::proofs::Texts::text_pair, std::proofs::Common::append_assoc))]
+fn push_pair(out: &mut String, pair: &Kp<Texts<'_>>) -> Result<(), AllocError>
+    ensures { OnOk result (string_bytes out.new ≡ string_bytes out.old ++ text (view_pair texts pair.now)) }
+{
+    push_item(out, &pair.key)?;
+    out.push_str(pair.before_colon.as_str())?;
+    out.push_str(":")?;
+    out.push_str(pair.after_colon.as_str())?;
+    push_item(out, &pair.value)
 }

@@ -2,20 +2,23 @@
 //!
 //! The types are generic in their leaves; the rest of the crate speaks of `Item`, `StandaloneItem` and `Sequence`.
 ghost use Rattle.std.specs.Prelude.{List, ℕ};
-ghost use Rattle.cbor_edn_parts.specs.Leaves.{s_bytes, msc_bytes, soc_bytes, number_bytes};
+ghost use Rattle.cbor_edn_parts.specs.Leaves.{s_bytes, ms_bytes, msc_bytes, soc_bytes, number_bytes};
 
+pub use cbor_edn_parts::indicator::Indicator;
 use cbor_edn_parts::number::Number;
-use cbor_edn_parts::space::{Msc, S, Soc};
+use cbor_edn_parts::space::{Ms, Msc, S, Soc};
 use std::fmt::Debug;
 use std::marker::PhantomData;
 
-/// How deep arrays may nest where no limit is given.
+/// How deep arrays and maps may nest where no limit is given.
 pub const NESTING_LIMIT: usize = 512;
 
 /// The types of the leaves of a tree, and the bytes that each stands for.
 pub trait Leaves {
     /// Optional space.
     type Space: Debug + Drop;
+    /// Space that is not empty, behind an indicator.
+    type Mandatory: Debug + Drop;
     /// What stands between two items.
     type Separator: Debug + Drop;
     /// The end of a list.
@@ -24,6 +27,8 @@ pub trait Leaves {
     type Number: Debug + Drop;
 
     ghost space: { Self.Space → List ℕ };
+
+    ghost mandatory: { Self.Mandatory → List ℕ };
 
     ghost separator: { Self.Separator → List ℕ };
 
@@ -41,6 +46,8 @@ pub struct Texts<'a> {
 impl<'a> Leaves for Texts<'a> {
     type Space = S<'a>;
 
+    type Mandatory = Ms<'a>;
+
     type Separator = Msc<'a>;
 
     type End = Soc<'a>;
@@ -48,6 +55,8 @@ impl<'a> Leaves for Texts<'a> {
     type Number = Number<'a>;
 
     ghost space = { s_bytes };
+
+    ghost mandatory = { ms_bytes };
 
     ghost separator = { msc_bytes };
 
@@ -76,16 +85,26 @@ pub struct ItemOf<L: Leaves> {
 #[cycle(tree)]
 #[derive(Debug, Drop)]
 pub enum InnerItem<L: Leaves> {
-    Number(L::Number),
+    /// A number and its encoding indicator.
+    Number(L::Number, Option<Indicator>),
     Array(ItemList<L>),
+    Map(PairList<L>),
 }
 
 /// What stands between the brackets of an array.
 #[cycle(tree)]
 #[derive(Debug, Drop)]
 pub enum ItemList<L: Leaves> {
-    Present { s: L::Space, items: Items<L> },
-    Absent { s: L::Space },
+    Present {
+        /// The array's encoding indicator and the space behind it.
+        head: Option<(Indicator, L::Mandatory)>,
+        s: L::Space,
+        items: Items<L>,
+    },
+    Absent {
+        indicator: Option<Indicator>,
+        s: L::Space,
+    },
 }
 
 /// One item or more: each but the last with the separator behind it, the last with the end of the list.
@@ -94,6 +113,41 @@ pub enum ItemList<L: Leaves> {
 pub struct Items<L: Leaves> {
     pub(crate) row: Vec<(ItemOf<L>, L::Separator)>,
     pub(crate) last: Box<ItemOf<L>>,
+    pub(crate) soc: L::End,
+}
+
+/// A key of a map with its value, and the spaces round the colon between them.
+#[cycle(tree)]
+#[derive(Debug, Drop)]
+pub struct Kp<L: Leaves> {
+    pub(crate) key: ItemOf<L>,
+    pub(crate) before_colon: L::Space,
+    pub(crate) after_colon: L::Space,
+    pub(crate) value: ItemOf<L>,
+}
+
+/// What stands between the braces of a map.
+#[cycle(tree)]
+#[derive(Debug, Drop)]
+pub enum PairList<L: Leaves> {
+    Present {
+        /// The map's encoding indicator and the space behind it.
+        head: Option<(Indicator, L::Mandatory)>,
+        s: L::Space,
+        pairs: Pairs<L>,
+    },
+    Absent {
+        indicator: Option<Indicator>,
+        s: L::Space,
+    },
+}
+
+/// One pair or more: each but the last with the separator behind it, the last with the end of the map.
+#[cycle(tree)]
+#[derive(Debug, Drop)]
+pub struct Pairs<L: Leaves> {
+    pub(crate) row: Vec<(Kp<L>, L::Separator)>,
+    pub(crate) last: Box<Kp<L>>,
     pub(crate) soc: L::End,
 }
 

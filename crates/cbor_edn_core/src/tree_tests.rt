@@ -1,8 +1,11 @@
 //! Trees that are put together from their leaves.
-use crate::tree::{InnerItem, Item, ItemList, ItemOf, Items, Sequence, SequenceOf, StandaloneItem};
+use crate::tree::{
+    Indicator, InnerItem, Item, ItemList, ItemOf, Items, Kp, PairList, Pairs, Sequence, SequenceOf,
+    StandaloneItem, Texts,
+};
 use cbor_edn_parts::looks::Looks;
 use cbor_edn_parts::number::{Number, number_at};
-use cbor_edn_parts::space::{Msc, S, Soc, separator, space};
+use cbor_edn_parts::space::{Ms, Msc, S, Soc, separator, space};
 use cbor_edn_parts::text::Text;
 use std::alloc::Global;
 use std::test::Fail;
@@ -24,19 +27,24 @@ fn between<'a>(text: &'a str) -> Result<Msc<'a>, Fail> {
     Ok(read.into_msc().ok_or("empty")?)
 }
 
-fn number<'a>(text: &'a str) -> Result<Item<'a>, Fail> {
+fn mandatory<'a>(text: &'a str) -> Result<Ms<'a>, Fail> {
+    let read: S<'a> = optional_space(text)?;
+    Ok(read.into_ms().ok_or("empty")?)
+}
+
+fn number<'a>(text: &'a str, indicator: Option<Indicator>) -> Result<Item<'a>, Fail> {
     let text = Text::new(text);
     let (read, _): (Number<'a>, usize) = number_at(&text, text.start(), &mut Looks::new())?;
     Ok(ItemOf {
-        inner: InnerItem::Number(read),
+        inner: InnerItem::Number(read, indicator),
     })
 }
 
 // [ 2,3, ]
 fn pair<'a>(alloc: Global) -> Result<Item<'a>, Fail> {
-    let two: Item<'a> = number("2")?;
+    let two: Item<'a> = number("2", None)?;
     let comma: Msc<'a> = between(",")?;
-    let three: Item<'a> = number("3")?;
+    let three: Item<'a> = number("3", None)?;
     let mut row: Vec<(Item<'a>, Msc<'a>)> = Vec::new(alloc);
     row.push((two, comma))?;
     let last = Box::new(alloc, three)?;
@@ -44,7 +52,79 @@ fn pair<'a>(alloc: Global) -> Result<Item<'a>, Fail> {
     let s: S<'a> = optional_space(" ")?;
     let items = Items { row, last, soc };
     Ok(ItemOf {
-        inner: InnerItem::Array(ItemList::Present { s, items }),
+        inner: InnerItem::Array(ItemList::Present {
+            head: None,
+            s,
+            items,
+        }),
+    })
+}
+
+// An array without items.
+fn empty_array<'a>(indicator: Option<Indicator>, s: &'a str) -> Result<Item<'a>, Fail> {
+    let s: S<'a> = optional_space(s)?;
+    Ok(ItemOf {
+        inner: InnerItem::Array(ItemList::Absent { indicator, s }),
+    })
+}
+
+// A key and a value, with a space on each side of the colon.
+fn entry<'a>(key: Item<'a>, value: Item<'a>) -> Result<Kp<Texts<'a>>, Fail> {
+    let before_colon: S<'a> = optional_space(" ")?;
+    let after_colon: S<'a> = optional_space("# v\n")?;
+    Ok(Kp {
+        key,
+        before_colon,
+        after_colon,
+        value,
+    })
+}
+
+fn first_entry<'a>(of_number: Option<Indicator>) -> Result<Kp<Texts<'a>>, Fail> {
+    let key: Item<'a> = number("1", None)?;
+    let value: Item<'a> = number("2", of_number)?;
+    entry(key, value)
+}
+
+fn last_entry<'a>(of_array: Option<Indicator>) -> Result<Kp<Texts<'a>>, Fail> {
+    let key: Item<'a> = empty_array(of_array, " ")?;
+    let value: Item<'a> = number("3", None)?;
+    entry(key, value)
+}
+
+fn entries<'a>(
+    alloc: Global,
+    of_number: Option<Indicator>,
+    of_array: Option<Indicator>,
+) -> Result<Pairs<Texts<'a>>, Fail> {
+    let first: Kp<Texts<'a>> = first_entry(of_number)?;
+    let comma: Msc<'a> = between(", ")?;
+    let mut row: Vec<(Kp<Texts<'a>>, Msc<'a>)> = Vec::new(alloc);
+    row.push((first, comma))?;
+    let last: Kp<Texts<'a>> = last_entry(of_array)?;
+    let last = Box::new(alloc, last)?;
+    let soc: Soc<'a> = end("")?;
+    Ok(Pairs { row, last, soc })
+}
+
+// {_ 1 :# v
+// 2_0, [_1 ] :# v
+// 3}, with the indicators given.
+fn map<'a>(
+    alloc: Global,
+    of_map: Indicator,
+    of_number: Option<Indicator>,
+    of_array: Option<Indicator>,
+) -> Result<Item<'a>, Fail> {
+    let behind: Ms<'a> = mandatory(" ")?;
+    let s: S<'a> = optional_space("")?;
+    let pairs: Pairs<Texts<'a>> = entries(alloc, of_number, of_array)?;
+    Ok(ItemOf {
+        inner: InnerItem::Map(PairList::Present {
+            head: Some((of_map, behind)),
+            s,
+            pairs,
+        }),
     })
 }
 
@@ -54,7 +134,7 @@ fn two_items<'a>(
     separator: &'a str,
     end_space: &'a str,
 ) -> Result<Sequence<'a>, Fail> {
-    let one: Item<'a> = number("0x1")?;
+    let one: Item<'a> = number("0x1", None)?;
     let separator: Msc<'a> = between(separator)?;
     let mut row: Vec<(Item<'a>, Msc<'a>)> = Vec::new(alloc);
     row.push((one, separator))?;
@@ -99,32 +179,101 @@ fn another_space_is_another_sequence(rt: HostRuntime) -> Result<(), Fail> {
     Ok(())
 }
 
-#[test]
-fn an_item_is_copied_and_printed(rt: HostRuntime) -> Result<(), Fail> {
-    let item: Item<'_> = pair(rt.alloc())?;
+fn is_its_copy(item: &Item<'_>) -> Result<bool, Fail> {
     let copy = item.clone()?;
-    assert!(rt; copy == item);
-    assert_eq!(rt; item.serialize(rt.alloc())?.as_str(), "[ 2,3, ]");
+    Ok(copy == *item)
+}
+
+fn text_of_copy(item: &Item<'_>, alloc: Global) -> Result<String, Fail> {
+    let copy = item.clone()?;
+    Ok(copy.serialize(alloc)?)
+}
+
+#[test]
+fn prints_maps_and_indicators(rt: HostRuntime) -> Result<(), Fail> {
+    let item: Item<'_> = map(
+        rt.alloc(),
+        Indicator::Indefinite,
+        Some(Indicator::One),
+        Some(Indicator::Two),
+    )?;
+    assert_eq!(rt;
+        item.serialize(rt.alloc())?.as_str(),
+        "{_ 1 :# v\n2_0, [_1 ] :# v\n3}"
+    );
     Ok(())
 }
 
 #[test]
-fn a_standalone_item_has_no_space_at_first(rt: HostRuntime) -> Result<(), Fail> {
+fn a_map_is_copied(rt: HostRuntime) -> Result<(), Fail> {
+    let item: Item<'_> = map(
+        rt.alloc(),
+        Indicator::Four,
+        Some(Indicator::Eight),
+        Some(Indicator::Immediate),
+    )?;
+    assert!(rt; is_its_copy(&item)?);
+    assert_eq!(rt;
+        text_of_copy(&item, rt.alloc())?.as_str(),
+        "{_2 1 :# v\n2_3, [_i ] :# v\n3}"
+    );
+    Ok(())
+}
+
+// Whether the map with these indicators is the one with `_i` alone.
+fn is_immediate_map(
+    alloc: Global,
+    of_map: Indicator,
+    of_number: Option<Indicator>,
+    of_array: Option<Indicator>,
+) -> Result<bool, Fail> {
+    let immediate: Item<'_> = map(alloc, Indicator::Immediate, None, None)?;
+    let other: Item<'_> = map(alloc, of_map, of_number, of_array)?;
+    Ok(immediate == other)
+}
+
+#[test]
+fn another_indicator_is_another_item(rt: HostRuntime) -> Result<(), Fail> {
+    assert!(rt; is_immediate_map(rt.alloc(), Indicator::Immediate, None, None)?);
+    assert!(rt; !is_immediate_map(rt.alloc(), Indicator::Four, None, None)?);
+    assert!(rt; !is_immediate_map(rt.alloc(), Indicator::Immediate, Some(Indicator::One), None)?);
+    assert!(rt; !is_immediate_map(rt.alloc(), Indicator::Immediate, None, Some(Indicator::One))?);
+    Ok(())
+}
+
+#[test]
+fn an_item_is_copied_and_printed(rt: HostRuntime) -> Result<(), Fail> {
     let item: Item<'_> = pair(rt.alloc())?;
-    let alone: StandaloneItem<'_> = StandaloneItem::from(item);
-    let copy = alone.clone()?;
-    assert!(rt; copy == alone);
-    assert_eq!(rt; copy.serialize(rt.alloc())?.as_str(), "[ 2,3, ]");
+    assert!(rt; is_its_copy(&item)?);
+    assert_eq!(rt; item.serialize(rt.alloc())?.as_str(), "[ 2,3, ]");
+    Ok(())
+}
+
+fn standalone<'a>(alloc: Global) -> Result<StandaloneItem<'a>, Fail> {
+    let item: Item<'a> = pair(alloc)?;
+    Ok(StandaloneItem::from(item))
+}
+
+fn is_its_standalone_copy(item: &StandaloneItem<'_>) -> Result<bool, Fail> {
+    let copy = item.clone()?;
+    Ok(copy == *item)
+}
+
+#[test]
+fn a_standalone_item_has_no_space_at_first(rt: HostRuntime) -> Result<(), Fail> {
+    let alone: StandaloneItem<'_> = standalone(rt.alloc())?;
+    assert!(rt; is_its_standalone_copy(&alone)?);
+    assert_eq!(rt; alone.serialize(rt.alloc())?.as_str(), "[ 2,3, ]");
     Ok(())
 }
 
 #[test]
 fn shows_its_parts(rt: HostRuntime) -> Result<(), Fail> {
-    let item: Item<'_> = number("12")?;
+    let item: Item<'_> = number("12", Some(Indicator::One))?;
     let shown = format!(in rt.alloc(); "{item:?}")?;
     assert_eq!(rt;
         shown.as_str(),
-        "ItemOf { inner: Number(Number { text: \"12\" }) }"
+        "ItemOf { inner: Number(Number { text: \"12\" }, Some(One)) }"
     );
     Ok(())
 }

@@ -11,9 +11,14 @@ use std::alloc::Global;
 use std::io::Read;
 use std::{fmt, io};
 
-const TEXT: &str = "[1, 0x1f, []]";
+const TEXT: &str = "[1, 0x10000000000000000, {_ 3: []}]";
 
-const BYTES: &[u8] = b"\x83\x01\x18\x1f\x80";
+const BYTES: &[u8] = b"\x83\x01\xc2\x49\x01\0\0\0\0\0\0\0\0\xbf\x03\x80\xff";
+
+// A text as it is decoded.
+const DECODED: &str = "[_ 1, {2: -4_0}]";
+
+const ENCODED: &[u8] = b"\x9f\x01\xa1\x02\x38\x03\xff";
 
 const DIAG_TO_CBOR: Options = Options {
     command: Command::Diag2Cbor,
@@ -90,6 +95,16 @@ fn on_sequence<Call: Fn(&Sequence<'_>) -> Outcome>(alloc: Global, call: Call) ->
     }
 }
 
+fn from_cbor(alloc: Global) -> Outcome {
+    match Sequence::from_cbor(alloc, ENCODED) {
+        Ok(sequence) => match sequence.serialize(alloc) {
+            Ok(text) => Outcome::of_answer(text.as_str() == DECODED),
+            Err(_) => Outcome::Refused,
+        },
+        Err(fault) => Outcome::of_fault(fault),
+    }
+}
+
 // Where memory was refused nothing may have been written. The sink takes memory too, and fails where that is refused.
 fn run_once(alloc: Global) -> Outcome {
     let mut sink = StdSink::new(Vec::new(alloc));
@@ -162,6 +177,7 @@ fn main(rt: HostRuntime) -> io::Result<()> {
             "to_cbor",
             on_sequence(rt.alloc(), |s| to_cbor(s, rt.alloc())),
         ),
+        ("from_cbor", from_cbor(rt.alloc())),
         ("run", run_once(rt.alloc())),
         ("serve", serve_fault(rt.alloc())),
     ] {

@@ -1,135 +1,246 @@
--- A reader of an integer literal finds its parts.
-use Rattle.std.proofs.Common.{ℕ, ◌<◌, ◌≤◌, ◌≡◌, ◌≢◌, ◌^◌, List, [], ◌∷◌, ◌++◌, length, drop, Bool, true, false, Some, None, inl, inr, refl, sym, ap, ◌∙◌, subst, arith}
+-- The parts of a number as they are read from its text, and its integer.
+use Rattle.std.proofs.Common.{ℕ, ◌+◌, ◌*◌, ◌<◌, ◌≤◌, ◌≡◌, ◌≢◌, ◌^◌, List, [], ◌∷◌, ◌++◌, length, drop, Bool, true, false, Some, None, inl, inr, refl, sym, ap, ◌∙◌, subst, arith}
 use Rattle.std.specs.Prelude.{eqb, ◌||◌, ◌⊎◌, ℤ, if◌then◌else◌, ◌↔◌, IsTrue, pos, neg_ℤ, nat_lt}
 use mathlib.Core.Logic.{⊎_elim}
 use Rattle.std.specs.Char.{digit_value}
 use Rattle.std.specs.List.{list_all}
-use Rattle.std.specs.Str.Parse.{digits_value, AllDigits, IsNumeral, without_leading_plus}
+use Rattle.std.specs.Str.Parse.{digits_value, digits_value_after, AllDigits, IsNumeral, without_leading_plus}
+use Rattle.std.proofs.Math.Nat.{pow-zero, pow-suc}
 use Rattle.std.proofs.lemmas.Bool.{cases_lt, eqb-true, ltb-true, and_parts, or_cases, false≢true, ne_eqb, lt-ltb, and_right, or_from, and_from}
+use Rattle.cbor_edn_parts.specs.Bytes.{Kind, Plus, Minus, kind}
+use Rattle.cbor_edn_parts.specs.Lex.{Accepts}
 use Rattle.cbor_edn_parts.specs.Space.{Each, end, next}
-use Rattle.cbor_edn_parts.proofs.NumberTexts.{number_is}
-use Rattle.cbor_edn_parts.specs.Number.{Sign, NoSign, PlusSign, MinusSign, sign_text, Base, Decimal, Hexadecimal, radix, IsPrefixOf, IsDigitOf, IsNumber, number_of, signed, sign_of, unsigned, names_hexadecimal, base_of, digits_of, is_numeral, magnitude_of, integer_of}
+use Rattle.cbor_edn_parts.specs.Number.{Sign, NoSign, PlusSign, MinusSign, sign_text, Base, Binary, Octal, Decimal, Hexadecimal, radix, IsPrefixOf, IsDigitOf, AreDigits, IsInteger, IsNumber, integer, number_of, signed, sign_of, unsigned, names, named_base, prefix_length, base_of, digits_of, is_numeral, magnitude_of, integer_of}
+use Rattle.cbor_edn_parts.specs.NumberTokens as tokens
+use Rattle.cbor_edn_parts.specs.NumberTokens.{number_step}
+use Rattle.cbor_edn_parts.specs.declared.number.Reached.{Reached}
+use Rattle.cbor_edn_parts.specs.declared.number.Reached.TheVariants.{Signed}
+use Rattle.cbor_edn_parts.proofs.ByteKinds.{differs}
+use Rattle.cbor_edn_parts.proofs.NumberTexts.{parted, behind_sign-is, behind_prefix, after_prefix}
 
-no_digit : (base c k : ℕ) → base ≤ digit_value k → digit_value c < base → c ≢ k
-no_digit base c k large small = λ same. let as_large : digit_value c ≡ digit_value k = ap digit_value same in omega arith
+-- A fold from the left is the sum by places.
+number_after : (base n : ℕ) (ds : List ℕ) → digits_value_after base n ds ≡ n * base ^ length ds + number_of base ds
+number_after base n [] = rw pow-zero (omega arith)
+number_after base n (d ∷ ds) = rw (number_after base (n * base + digit_value d) ds, pow-suc base (length ds)) (omega arith)
 
-sign_none : (c : ℕ) (y : List ℕ) → digit_value c < 16 → sign_of (c ∷ y) ≡ NoSign
-sign_none c y small = rw (ne_eqb c 45 (no_digit 16 c 45 (omega arith) small), ne_eqb c 43 (no_digit 16 c 43 (omega arith) small))
+pub number_is : (base : ℕ) (ds : List ℕ) → digits_value base ds ≡ number_of base ds
+number_is base ds = number_after base 0 ds ∙ omega arith
 
-first_none : (b : Base) (x : List ℕ) → radix b ≤ 16 → x ≢ [] → Each (IsDigitOf b) x → sign_of x ≡ NoSign
-first_none b _ small some end = absurd (some refl)
-first_none b _ small some (next {c = c} {x = x} h more) = sign_none c x (omega arith)
+-- The sign, and what is behind it.
+abbrev no_sign : Kind → Bool
+no_sign Plus = false
+no_sign Minus = false
+no_sign _ = true
 
-sign_no : (b : Base) (p x : List ℕ) → IsPrefixOf b p → x ≢ [] → Each (IsDigitOf b) x → sign_of (p ++ x) ≡ NoSign
-sign_no Decimal p x e some each = rw e (first_none Decimal x (omega arith) some each)
-sign_no Hexadecimal p x e some each = ⊎_elim (λ q. rw q) (λ q. rw q) e
+after_sign : (k : Kind) (n : Reached) → number_step k Signed ≡ Some n → no_sign k ≡ true
+after_sign Plus n e = absurd (cc)
+after_sign Minus n e = absurd (cc)
+after_sign _ n e = refl
 
-sign_is : (s : Sign) (b : Base) (p x : List ℕ) → IsPrefixOf b p → x ≢ [] → Each (IsDigitOf b) x → sign_of (sign_text s ++ (p ++ x)) ≡ s
-sign_is NoSign b p x e some each = sign_no b p x e some each
-sign_is PlusSign b p x e some each = refl
-sign_is MinusSign b p x e some each = refl
+sign_none : (t : List ℕ) → Accepts tokens.number Signed t → sign_of t ≡ NoSign
+unfolding kind
+sign_none [] a = absurd (false≢true a)
+sign_none (c ∷ t) a = let h = after_sign (kind c) a.0 a.1 in rw (differs no_sign c 45 h refl, differs no_sign c 43 h refl)
+
+sign_is : (s : Sign) (t : List ℕ) → Accepts tokens.number Signed t → sign_of (sign_text s ++ t) ≡ s
+sign_is NoSign t a = sign_none t a
+sign_is PlusSign t a = refl
+sign_is MinusSign t a = refl
 
 behind_sign : (s : Sign) (u : List ℕ) → drop (length (sign_text s)) (sign_text s ++ u) ≡ u
 behind_sign NoSign u = refl
 behind_sign PlusSign u = refl
 behind_sign MinusSign u = refl
 
-abbrev names : Base → Bool
-names Decimal = false
-names Hexadecimal = true
+module _ (t : List ℕ) (n : IsNumber t) where
+  rest_accepted : Accepts tokens.number Signed (parted n).rest
+  rest_accepted = behind_sign-is (parted n).rest (parted n).rest_is
 
-no_x : (c d : ℕ) (x : List ℕ) → digit_value d < 10 → names_hexadecimal (c ∷ d ∷ x) ≡ false
-no_x c d x small = and_right _ _ (or_from _ _ (ne_eqb d 120 (no_digit 10 d 120 (omega arith) small)) (ne_eqb d 88 (no_digit 10 d 88 (omega arith) small)))
+  pub sign_of_is : sign_of t ≡ (parted n).sign
+  sign_of_is = ap sign_of (parted n).spelled ∙ sign_is (parted n).sign (parted n).rest rest_accepted
 
-names_decimal : (x : List ℕ) → x ≢ [] → Each (IsDigitOf Decimal) x → names_hexadecimal x ≡ false
-names_decimal _ some end = absurd (some refl)
-names_decimal _ some (next {c = c} h end) = and_right _ _ refl
-names_decimal _ some (next {c = c} h (next {c = d} {x = x} k more)) = no_x c d x k
+  pub unsigned_of : unsigned t ≡ (parted n).rest
+  unsigned_of = ap (λ s. drop (length (sign_text s)) t) sign_of_is ∙ (ap (drop (length (sign_text (parted n).sign))) (parted n).spelled ∙ behind_sign (parted n).sign (parted n).rest)
 
--- what is behind the sign names its base
-names_is : (b : Base) (p x : List ℕ) → IsPrefixOf b p → x ≢ [] → Each (IsDigitOf b) x → names_hexadecimal (p ++ x) ≡ names b
-names_is Decimal p x e some each = rw e (names_decimal x some each)
-names_is Hexadecimal p x e some each = ⊎_elim (λ q. rw q) (λ q. rw q) e
+  unsigned_accepted : Accepts tokens.number Signed (unsigned t)
+  unsigned_accepted = subst (Accepts tokens.number Signed) (sym unsigned_of) rest_accepted
 
-digits_behind : (b : Base) (p x : List ℕ) → IsPrefixOf b p → (if names b then drop 2 (p ++ x) else (p ++ x)) ≡ x
+-- The base that an integer literal names, and its digits.
+no_digit : (base c k : ℕ) → base ≤ digit_value k → digit_value c < base → c ≢ k
+no_digit base c k large small = λ same. let as_large : digit_value c ≡ digit_value k = ap digit_value same in omega arith
+
+names_none : (small large : ℕ) → 10 ≤ digit_value small → 10 ≤ digit_value large → 0 < small → 0 < large → (x : List ℕ) → Each (IsDigitOf Decimal) x → names small large x ≡ false
+names_none small large s l a b _ end = refl
+names_none small large s l a b _ (next {c = c} h end) = and_right _ _ (or_from _ _ (ne_eqb 0 small (omega arith)) (ne_eqb 0 large (omega arith)))
+names_none small large s l a b _ (next {c = c} h (next {c = d} {x = x} k more)) = and_right _ _ (or_from _ _ (ne_eqb d small (no_digit 10 d small s k)) (ne_eqb d large (no_digit 10 d large l k)))
+
+names_decimal : (x : List ℕ) → Each (IsDigitOf Decimal) x → named_base x ≡ Decimal
+names_decimal x each =
+    rw (
+      names_none 120 88 (omega arith) (omega arith) (omega arith) (omega arith) x each,
+      names_none 111 79 (omega arith) (omega arith) (omega arith) (omega arith) x each,
+      names_none 98 66 (omega arith) (omega arith) (omega arith) (omega arith) x each,
+    )
+
+names_is : (b : Base) (p x : List ℕ) → IsPrefixOf b p → AreDigits b x → named_base (p ++ x) ≡ b
+names_is Binary p x e d = ⊎_elim (λ q. rw q) (λ q. rw q) e
+names_is Octal p x e d = ⊎_elim (λ q. rw q) (λ q. rw q) e
+names_is Decimal p x e d = rw e (names_decimal x d.0)
+names_is Hexadecimal p x e d = ⊎_elim (λ q. rw q) (λ q. rw q) e
+
+digits_behind : (b : Base) (p x : List ℕ) → IsPrefixOf b p → drop (prefix_length b) (p ++ x) ≡ x
+digits_behind Binary p x e = ⊎_elim (λ q. rw q) (λ q. rw q) e
+digits_behind Octal p x e = ⊎_elim (λ q. rw q) (λ q. rw q) e
 digits_behind Decimal p x e = rw e
 digits_behind Hexadecimal p x e = ⊎_elim (λ q. rw q) (λ q. rw q) e
 
-base_is : (b : Base) → (if names b then Hexadecimal else Decimal) ≡ b
-base_is Decimal = refl
-base_is Hexadecimal = refl
+module _ (t : List ℕ) (r : IsInteger t) where
+  base_of_is : base_of t ≡ r.base
+  base_of_is = ap named_base (unsigned_of t (integer r)) ∙ names_is r.base r.prefix r.digits r.prefix_is r.digits_are
 
-module _ (t : List ℕ) (r : IsNumber t) where
-  behind : List ℕ
-  behind = r.prefix ++ r.digits
+  digits_of_is : digits_of t ≡ r.digits
+  digits_of_is = ap (λ b. drop (prefix_length b) (unsigned t)) base_of_is ∙ (ap (drop (prefix_length r.base)) (unsigned_of t (integer r)) ∙ digits_behind r.base r.prefix r.digits r.prefix_is)
 
-  pub sign_of_is : sign_of t ≡ r.sign
-  sign_of_is = ap sign_of r.spelled ∙ sign_is r.sign r.base r.prefix r.digits r.prefix_is r.some r.each
-
-  unsigned_of : unsigned t ≡ r.prefix ++ r.digits
-  unsigned_of = ap (λ s. drop (length (sign_text s)) t) sign_of_is ∙ (ap (drop (length (sign_text r.sign))) r.spelled ∙ behind_sign r.sign (r.prefix ++ r.digits))
-
-  names_of : names_hexadecimal (unsigned t) ≡ names r.base
-  names_of = ap names_hexadecimal unsigned_of ∙ names_is r.base r.prefix r.digits r.prefix_is r.some r.each
-
-  pub base_of_is : base_of t ≡ r.base
-  base_of_is = ap (λ n. if n then Hexadecimal else Decimal) names_of ∙ base_is r.base
-
-  pub digits_of_is : digits_of t ≡ r.digits
-  digits_of_is = ap (λ n. if n then drop 2 (unsigned t) else unsigned t) names_of ∙ (ap (λ u. if names r.base then drop 2 u else u) unsigned_of ∙ digits_behind r.base r.prefix r.digits r.prefix_is)
-
-  pub magnitude_of_is : magnitude_of t ≡ number_of (radix r.base) r.digits
+  magnitude_of_is : magnitude_of t ≡ number_of (radix r.base) r.digits
   magnitude_of_is = ap (λ b. number_of (radix b) (digits_of t)) base_of_is ∙ ap (number_of (radix r.base)) digits_of_is
 
+-- Where the digits are a numeral, there is an integer.
 each_passes : (b : Base) {x : List ℕ} → Each (IsDigitOf b) x → list_all (λ c. nat_lt (digit_value c) (radix b)) x ≡ true
 each_passes b end = refl
 each_passes b (next {c = c} {x = x} h more) = and_from (nat_lt (digit_value c) (radix b)) _ (lt-ltb (digit_value c) (radix b) h) (each_passes b more)
 
-numeral : (b : Base) (x : List ℕ) → x ≢ [] → Each (IsDigitOf b) x → is_numeral (radix b) x ≡ true
-numeral b [] some each = absurd (some refl)
-numeral b (c ∷ x) some each = each_passes b each
+numeral : (b : Base) (x : List ℕ) → AreDigits b x → is_numeral (radix b) x ≡ true
+numeral b [] d = absurd (d.1 refl)
+numeral b (c ∷ x) d = each_passes b d.0
 
-integer_found : (t : List ℕ) → IsNumber t → integer_of t ≡ Some (signed (sign_of t) (magnitude_of t))
+has_numeral : (t : List ℕ) → IsInteger t → is_numeral (radix (base_of t)) (digits_of t) ≡ true
+has_numeral t r = ap (λ b. is_numeral (radix b) (digits_of t)) (base_of_is t r) ∙ (ap (is_numeral (radix r.base)) (digits_of_is t r) ∙ numeral r.base r.digits r.digits_are)
+
+integer_found : (t : List ℕ) → is_numeral (radix (base_of t)) (digits_of t) ≡ true → integer_of t ≡ Some (signed (sign_of t) (magnitude_of t))
 unfolding integer_of
-integer_found t r =
-    let found : is_numeral (radix (base_of t)) (digits_of t) ≡ true = ap (λ b. is_numeral (radix b) (digits_of t)) (base_of_is t r) ∙ (ap (is_numeral (radix r.base)) (digits_of_is t r) ∙ numeral r.base r.digits r.some r.each) in
-    rw found
+integer_found t found = rw found
 
 -- the integer of a literal, from its parts
-pub integer_is : (t : List ℕ) (r : IsNumber t) → integer_of t ≡ Some (signed r.sign (number_of (radix r.base) r.digits))
-integer_is t r = integer_found t r ∙ (ap (λ s. Some (signed s (magnitude_of t))) (sign_of_is t r) ∙ ap (λ n. Some (signed r.sign n)) (magnitude_of_is t r))
+pub integer_is : (t : List ℕ) (r : IsInteger t) → integer_of t ≡ Some (signed r.sign (number_of (radix r.base) r.digits))
+integer_is t r = integer_found t (has_numeral t r) ∙ (ap (λ s. Some (signed s (magnitude_of t))) (sign_of_is t (integer r)) ∙ ap (λ n. Some (signed r.sign n)) (magnitude_of_is t r))
 
--- What `from_str_radix` asks of the digits.
+-- What has an integer is a literal.
+sign_text_is : (c : ℕ) (y : List ℕ) (minus plus : Bool) → eqb c 45 ≡ minus → eqb c 43 ≡ plus → c ∷ y ≡ sign_text (sign_of (c ∷ y)) ++ unsigned (c ∷ y)
+sign_text_is c y true plus m p = rw m (ap (◌∷ y) (eqb-true c 45 m))
+sign_text_is c y false true m p = rw (m, p) (ap (◌∷ y) (eqb-true c 43 p))
+sign_text_is c y false false m p = rw (m, p) refl
+
+signed_text : (t : List ℕ) → t ≡ sign_text (sign_of t) ++ unsigned t
+signed_text [] = refl
+signed_text (c ∷ y) = sign_text_is c y (eqb c 45) (eqb c 43) refl refl
+
+record Prefixed (b : Base) (u : List ℕ) : Type 0 where
+  prefix : List ℕ
+  prefix_is : IsPrefixOf b prefix
+  spelled : u ≡ prefix ++ drop (prefix_length b) u
+
+abbrev Named : ℕ → ℕ → List ℕ → Type 0
+Named small large u = (p : List ℕ) × ((p ≡ 48 ∷ small ∷ []) ⊎ (p ≡ 48 ∷ large ∷ [])) × (u ≡ p ++ drop 2 u)
+
+named : (small large : ℕ) (u : List ℕ) → 0 < small → 0 < large → names small large u ≡ true → Named small large u
+named small large [] s l e = absurd (false≢true e)
+named small large (c ∷ []) s l e =
+    let none : (eqb 0 small || eqb 0 large) ≡ false = or_from _ _ (ne_eqb 0 small (omega arith)) (ne_eqb 0 large (omega arith)) in
+    absurd (false≢true (sym none ∙ (and_parts (eqb c 48) (eqb 0 small || eqb 0 large) e).1))
+named small large (c ∷ d ∷ u) s l e =
+    let h = and_parts (eqb c 48) (eqb d small || eqb d large) e in
+    let zero_is : c ≡ 48 = eqb-true c 48 h.0 in (
+      c ∷ d ∷ [],
+      ⊎_elim (λ k. let at : d ≡ small = eqb-true d small k in inl (cc)) (λ k. let at : d ≡ large = eqb-true d large k in inr (cc)) (or_cases (eqb d small) (eqb d large) h.1),
+      refl,
+    )
+
+prefixed_by : (u : List ℕ) (x o b : Bool) → names 120 88 u ≡ x → names 111 79 u ≡ o → names 98 66 u ≡ b → Prefixed (if x then Hexadecimal else if o then Octal else if b then Binary else Decimal) u
+prefixed_by u true o b x_is o_is b_is = let n = named 120 88 u (omega arith) (omega arith) x_is in record { prefix = n.0; prefix_is = n.1; spelled = n.2 }
+prefixed_by u false true b x_is o_is b_is = let n = named 111 79 u (omega arith) (omega arith) o_is in record { prefix = n.0; prefix_is = n.1; spelled = n.2 }
+prefixed_by u false false true x_is o_is b_is = let n = named 98 66 u (omega arith) (omega arith) b_is in record { prefix = n.0; prefix_is = n.1; spelled = n.2 }
+prefixed_by u false false false x_is o_is b_is = record { prefix = []; prefix_is = refl; spelled = refl }
+
+prefixed : (u : List ℕ) → Prefixed (named_base u) u
+prefixed u = prefixed_by u (names 120 88 u) (names 111 79 u) (names 98 66 u) refl refl refl
+
+each_of : (b : Base) (x : List ℕ) → list_all (λ c. nat_lt (digit_value c) (radix b)) x ≡ true → Each (IsDigitOf b) x
+each_of b [] e = end
+each_of b (c ∷ x) e = let h = and_parts (nat_lt (digit_value c) (radix b)) _ e in next (ltb-true (digit_value c) (radix b) h.0) (each_of b x h.1)
+
+digits_from : (b : Base) (x : List ℕ) → is_numeral (radix b) x ≡ true → AreDigits b x
+digits_from b [] e = absurd (false≢true e)
+digits_from b (c ∷ x) e = (each_of b (c ∷ x) e, λ q. cc)
+
+literal : (t : List ℕ) → is_numeral (radix (base_of t)) (digits_of t) ≡ true → IsInteger t
+literal t e =
+    let p = prefixed (unsigned t) in
+    record {
+      sign = sign_of t;
+      base = base_of t;
+      prefix = p.prefix;
+      digits = digits_of t;
+      prefix_is = p.prefix_is;
+      digits_are = digits_from (base_of t) (digits_of t) e;
+      spelled = signed_text t ∙ ap (λ u. sign_text (sign_of t) ++ u) p.spelled;
+    }
+
+literal_if : (t : List ℕ) (z : ℤ) (b : Bool) → is_numeral (radix (base_of t)) (digits_of t) ≡ b → integer_of t ≡ Some z → IsInteger t
+unfolding integer_of
+literal_if t z true e h = literal t e
+literal_if t z false e h = let none : None ≡ Some z = rw e at h in absurd (cc)
+
+pub has_integer : (t : List ℕ) (z : ℤ) → integer_of t ≡ Some z → IsInteger t
+has_integer t z = literal_if t z (is_numeral (radix (base_of t)) (digits_of t)) refl
+
+-- No plus sign stands behind a sign or a prefix, so that `from_str_radix` reads all of what is there.
+no_plus_step : (b : Base) (k : Kind) (n : Reached) → number_step k (behind_prefix b) ≡ Some n → no_sign k ≡ true
+no_plus_step Binary Plus n e = absurd (cc)
+no_plus_step Binary Minus n e = absurd (cc)
+no_plus_step Octal Plus n e = absurd (cc)
+no_plus_step Octal Minus n e = absurd (cc)
+no_plus_step Decimal Plus n e = absurd (cc)
+no_plus_step Decimal Minus n e = absurd (cc)
+no_plus_step Hexadecimal Plus n e = absurd (cc)
+no_plus_step Hexadecimal Minus n e = absurd (cc)
+no_plus_step _ _ n e = refl
+
+no_plus : (b : Base) (t : List ℕ) → Accepts tokens.number (behind_prefix b) t → without_leading_plus t ≡ t
+unfolding kind
+no_plus b [] a = refl
+no_plus b (c ∷ t) a = rw (differs no_sign c 43 (no_plus_step b (kind c) a.0 a.1) refl)
+
+digits_plain : (t : List ℕ) → IsNumber t → without_leading_plus (digits_of t) ≡ digits_of t
+digits_plain t n =
+    let p = prefixed (unsigned t) in
+    no_plus (base_of t) (digits_of t) (after_prefix (base_of t) p.prefix (digits_of t) p.prefix_is (subst (Accepts tokens.number Signed) p.spelled (unsigned_accepted t n)))
+
+-- What `from_str_radix` asks of the digits, and what it reads of them.
 digits_all : (b : Base) {x : List ℕ} → Each (IsDigitOf b) x → AllDigits (radix b) x
 digits_all b end = tt
 digits_all b (next h more) = (h, digits_all b more)
 
-radix_small : (b : Base) → radix b ≤ 16
-radix_small Decimal = omega arith
-radix_small Hexadecimal = omega arith
+all_digits : (b : Base) (x : List ℕ) → AllDigits (radix b) x → Each (IsDigitOf b) x
+all_digits b [] h = end
+all_digits b (c ∷ x) h = next h.0 (all_digits b x h.1)
 
-plus_none : (b : Base) (x : List ℕ) → x ≢ [] → Each (IsDigitOf b) x → without_leading_plus x ≡ x
-plus_none b _ some end = absurd (some refl)
-plus_none b _ some (next {c = c} {x = x} h more) = let small : radix b ≤ 16 = radix_small b in rw (ne_eqb c 43 (no_digit 16 c 43 (omega arith) (omega arith)))
+some_digits : (b : Base) (x : List ℕ) → IsNumeral (radix b) x → AreDigits b x
+some_digits b [] h = absurd (omega arith)
+some_digits b (c ∷ x) h = (all_digits b (c ∷ x) h.1, λ q. cc)
 
 positive : (x : List ℕ) → x ≢ [] → 0 < length x
 positive [] some = absurd (some refl)
 positive (c ∷ x) some = omega arith
 
-parses : (t : List ℕ) → IsNumber t → (without_leading_plus (digits_of t) ≡ digits_of t) × IsNumeral (radix (base_of t)) (digits_of t)
-parses t r =
-    let P : Base → List ℕ → Type 0 = λ b x. (without_leading_plus x ≡ x) × IsNumeral (radix b) x in
-    let parts : P r.base r.digits = (plus_none r.base r.digits r.some r.each, (positive r.digits r.some, digits_all r.base r.each)) in
-    subst (λ b. P b (digits_of t)) (sym (base_of_is t r)) (subst (P r.base) (sym (digits_of_is t r)) parts)
+-- the digits are a numeral where the text is a literal, and only there
+numeral_from : (t : List ℕ) → IsNumeral (radix (base_of t)) (digits_of t) → is_numeral (radix (base_of t)) (digits_of t) ≡ true
+numeral_from t h = numeral (base_of t) (digits_of t) (some_digits (base_of t) (digits_of t) h)
 
--- what `from_str_radix` reads of them
-pub read_is : (t digits : List ℕ) (base : ℕ) → IsNumber t → digits ≡ digits_of t → base ≡ radix (base_of t)
-    → IsNumeral base (without_leading_plus digits) × (digits_value base (without_leading_plus digits) ≡ magnitude_of t)
-read_is t digits base r d b =
-    let h = parses t r in
-    let same : without_leading_plus digits ≡ digits_of t = ap without_leading_plus d ∙ h.0 in
-    let P : ℕ → List ℕ → Type 0 = λ n x. IsNumeral n x × (digits_value n x ≡ magnitude_of t) in
-    subst (λ x. P base x) (sym same) (subst (λ n. P n (digits_of t)) (sym b) (h.1, number_is (radix (base_of t)) (digits_of t)))
+numeral_of : (t : List ℕ) → IsInteger t → IsNumeral (radix (base_of t)) (digits_of t)
+numeral_of t r =
+    let P : Base → List ℕ → Type 0 = λ b x. IsNumeral (radix b) x in
+    let parts : P r.base r.digits = (positive r.digits r.digits_are.1, digits_all r.base r.digits_are.0) in
+    subst (λ b. P b (digits_of t)) (sym (base_of_is t r)) (subst (P r.base) (sym (digits_of_is t r)) parts)
 
 no_minus : NoSign ≡ MinusSign → ⊥
 no_minus e = cc
@@ -145,85 +256,27 @@ signed_is NoSign false n h = refl
 signed_is PlusSign true n h = absurd (plus_minus (h.1 refl))
 signed_is PlusSign false n h = refl
 
-pub integer_by : (t : List ℕ) (negative : Bool) → IsNumber t → ((sign_of t ≡ MinusSign) ↔ IsTrue negative)
-    → integer_of t ≡ Some (if negative then neg_ℤ (pos (magnitude_of t)) else pos (magnitude_of t))
-integer_by t negative r h = integer_found t r ∙ ap (λ z. Some z) (signed_is (sign_of t) negative (magnitude_of t) h)
+module _ (t digits : List ℕ) (base : ℕ) (n : IsNumber t) (digits_are : digits ≡ digits_of t) (base_is : base ≡ radix (base_of t)) where
+  same : without_leading_plus digits ≡ digits_of t
+  same = ap without_leading_plus digits_are ∙ digits_plain t n
 
-pub too_large : (t digits : List ℕ) (base : ℕ) → IsNumber t → digits ≡ digits_of t → base ≡ radix (base_of t)
-    → ¬ (IsNumeral base (without_leading_plus digits) × (digits_value base (without_leading_plus digits) < 2 ^ 128)) → 2 ^ 128 ≤ magnitude_of t
-too_large t digits base r d b none =
-    let h = read_is t digits base r d b in
-    ⊎_elim (λ small. absurd (none (h.0, small_value h.1 small))) (λ large. large) (cases_lt (magnitude_of t) (2 ^ 128))
-  where
-    small_value : {v m n : ℕ} → v ≡ m → m < n → v < n
-    small_value e l = omega arith
+  read_value : digits_value base (without_leading_plus digits) ≡ magnitude_of t
+  read_value = ap (digits_value base) same ∙ (ap (λ b. digits_value b (digits_of t)) base_is ∙ number_is (radix (base_of t)) (digits_of t))
 
--- What has an integer is a literal.
-sign_text_is : (c : ℕ) (y : List ℕ) (minus plus : Bool) → eqb c 45 ≡ minus → eqb c 43 ≡ plus → c ∷ y ≡ sign_text (sign_of (c ∷ y)) ++ unsigned (c ∷ y)
-sign_text_is c y true plus m p = rw m (ap (◌∷ y) (eqb-true c 45 m))
-sign_text_is c y false true m p = rw (m, p) (ap (◌∷ y) (eqb-true c 43 p))
-sign_text_is c y false false m p = rw (m, p) refl
+  -- what is read is the integer
+  pub integer_by : (negative : Bool) (magnitude : ℕ) (z : ℤ) → ((sign_of t ≡ MinusSign) ↔ IsTrue negative) → IsNumeral base (without_leading_plus digits)
+      → magnitude ≡ digits_value base (without_leading_plus digits) → z ≡ (if negative then neg_ℤ (pos magnitude) else pos magnitude) → integer_of t ≡ Some z
+  integer_by negative magnitude z minus found value z_is =
+      let literal_found : IsNumeral (radix (base_of t)) (digits_of t) = subst (λ b. IsNumeral b (digits_of t)) base_is (subst (IsNumeral base) same found) in
+      integer_found t (numeral_from t literal_found)
+      ∙ (ap (λ z. Some z) (signed_is (sign_of t) negative (magnitude_of t) minus)
+      ∙ ap (λ z. Some z) (sym (z_is ∙ ap (λ k. if negative then neg_ℤ (pos k) else pos k) (value ∙ read_value))))
 
-signed_text : (t : List ℕ) → t ≡ sign_text (sign_of t) ++ unsigned t
-signed_text [] = refl
-signed_text (c ∷ y) = sign_text_is c y (eqb c 45) (eqb c 43) refl refl
-
-abbrev based : Bool → Base
-based n = if n then Hexadecimal else Decimal
-
-abbrev behind_base : Bool → List ℕ → List ℕ
-behind_base n u = if n then drop 2 u else u
-
-record Prefixed (n : Bool) (u : List ℕ) : Type 0 where
-  prefix : List ℕ
-  prefix_is : IsPrefixOf (based n) prefix
-  spelled : u ≡ prefix ++ behind_base n u
-
-unprefixed : (u : List ℕ) → Prefixed false u
-unprefixed u = record { prefix = []; prefix_is = refl; spelled = refl }
-
-prefixed_at : (c d : ℕ) (u : List ℕ) → c ≡ 48 → (d ≡ 120) ⊎ (d ≡ 88) → Prefixed true (c ∷ d ∷ u)
-prefixed_at c d u e x = record { prefix = c ∷ d ∷ []; prefix_is = ⊎_elim (λ h. inl (cc)) (λ h. inr (cc)) x; spelled = refl }
-
-named : (u : List ℕ) → names_hexadecimal u ≡ true → Prefixed true u
-named [] e = absurd (false≢true e)
-named (c ∷ []) e = absurd (false≢true (and_parts (eqb c 48) false e).1)
-named (c ∷ d ∷ u) e =
-    let h = and_parts (eqb c 48) (eqb d 120 || eqb d 88) e in
-    let x : (d ≡ 120) ⊎ (d ≡ 88) = ⊎_elim (λ k. inl (eqb-true d 120 k)) (λ k. inr (eqb-true d 88 k)) (or_cases (eqb d 120) (eqb d 88) h.1) in
-    prefixed_at c d u (eqb-true c 48 h.0) x
-
-prefixed_by : (u : List ℕ) (n : Bool) → names_hexadecimal u ≡ n → Prefixed n u
-prefixed_by u true e = named u e
-prefixed_by u false e = unprefixed u
-
-each_of : (b : Base) (x : List ℕ) → list_all (λ c. nat_lt (digit_value c) (radix b)) x ≡ true → Each (IsDigitOf b) x
-each_of b [] e = end
-each_of b (c ∷ x) e = let h = and_parts (nat_lt (digit_value c) (radix b)) _ e in next (ltb-true (digit_value c) (radix b) h.0) (each_of b x h.1)
-
-digits_from : (b : Base) (x : List ℕ) → is_numeral (radix b) x ≡ true → (x ≢ []) × Each (IsDigitOf b) x
-digits_from b [] e = absurd (false≢true e)
-digits_from b (c ∷ x) e = (λ q. cc, each_of b (c ∷ x) e)
-
-literal : (t : List ℕ) → is_numeral (radix (base_of t)) (digits_of t) ≡ true → IsNumber t
-literal t e =
-    let p = prefixed_by (unsigned t) (names_hexadecimal (unsigned t)) refl in
-    let h = digits_from (base_of t) (digits_of t) e in
-    record {
-      sign = sign_of t;
-      base = base_of t;
-      prefix = p.prefix;
-      digits = digits_of t;
-      prefix_is = p.prefix_is;
-      some = h.0;
-      each = h.1;
-      spelled = signed_text t ∙ ap (λ u. sign_text (sign_of t) ++ u) p.spelled;
-    }
-
-literal_if : (t : List ℕ) (z : ℤ) (b : Bool) → is_numeral (radix (base_of t)) (digits_of t) ≡ b → integer_of t ≡ Some z → IsNumber t
-unfolding integer_of
-literal_if t z true e h = literal t e
-literal_if t z false e h = let none : None ≡ Some z = rw e at h in absurd (cc)
-
-pub has_integer : (t : List ℕ) (z : ℤ) → integer_of t ≡ Some z → IsNumber t
-has_integer t z = literal_if t z (is_numeral (radix (base_of t)) (digits_of t)) refl
+  -- where nothing is read of a literal, it is too large
+  pub too_large : ¬ (IsNumeral base (without_leading_plus digits) × (digits_value base (without_leading_plus digits) < 2 ^ 128)) → (z : ℤ) → integer_of t ≡ Some z → 2 ^ 128 ≤ magnitude_of t
+  too_large none z e =
+      let found : IsNumeral base (without_leading_plus digits) = subst (IsNumeral base) (sym same) (subst (λ b. IsNumeral b (digits_of t)) (sym base_is) (numeral_of t (has_integer t z e))) in
+      ⊎_elim (λ small. absurd (none (found, small_value read_value small))) (λ large. large) (cases_lt (magnitude_of t) (2 ^ 128))
+    where
+      small_value : {v m n : ℕ} → v ≡ m → m < n → v < n
+      small_value e l = omega arith

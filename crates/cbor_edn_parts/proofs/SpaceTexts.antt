@@ -10,7 +10,7 @@ use Rattle.cbor_edn_parts.specs.Lex.{Accepts, Is}
 use Rattle.cbor_edn_parts.specs.Space as set
 use Rattle.cbor_edn_parts.specs.Space.{IsBlank, IsPrintable, Each, end, next, IsComment, slashes, hash, IsS, empty, blank, comment, IsMs, IsSoc, IsMsc, space, comma, comma_first, space_alone, space_comma}
 use Rattle.cbor_edn_parts.specs.SpaceTokens as tokens
-use Rattle.cbor_edn_parts.specs.SpaceTokens.{space_step, separator_step, before, after, is_empty, is_s, is_soc, is_msc}
+use Rattle.cbor_edn_parts.specs.SpaceTokens.{space_step, separator_step, before, after, is_empty, is_s, is_ms, is_soc, is_msc}
 use Rattle.cbor_edn_parts.specs.declared.space.Within.{Within}
 use Rattle.cbor_edn_parts.specs.declared.space.Within.TheVariants.{Between, InSlashes, InHash}
 use Rattle.cbor_edn_parts.specs.declared.space.Around.{Around}
@@ -292,6 +292,12 @@ is_some (c ∷ t) some = refl
 some_is : (t : List ℕ) → not (is_empty t) ≡ true → t ≢ []
 some_is [] e = absurd (false≢true e)
 some_is (c ∷ t) e = λ q. cc
+
+pub ms_texts : (t : List ℕ) → (IsMs t → is_ms t ≡ true) × (is_ms t ≡ true → IsMs t)
+ms_texts t = (
+  λ s. and_from (not (is_empty t)) (is_s t) (is_some t s.1) ((s_texts t).0 s.0),
+  λ e. let h = and_parts (not (is_empty t)) (is_s t) e in ((s_texts t).1 h.1, some_is t h.0),
+)
 
 pub msc_texts : (t : List ℕ) → (IsMsc t → is_msc t ≡ true) × (is_msc t ≡ true → IsMsc t)
 msc_texts t = (

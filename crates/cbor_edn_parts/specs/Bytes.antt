@@ -1,15 +1,16 @@
 -- The kinds of bytes that the grammar tells apart. A text is the list of its UTF-8 bytes, each below 256.
 use Rattle.std.specs.Prelude.{ℕ, Bool, true, false, cond, eqb, leb, ltb, ◌||◌, ◌&&◌, List, [], ◌∷◌, ◌≡◌}
 pub use Rattle.cbor_edn_parts.specs.declared.bytes.Kind.{Kind}
-pub use Rattle.cbor_edn_parts.specs.declared.bytes.Kind.TheVariants.{Blank, Tab, Lf, Control, Slash, Hash, Comma, Open, Close, Plus, Minus, Zero, Digit, HexLetter, X, Other}
+pub use Rattle.cbor_edn_parts.specs.declared.bytes.Kind.TheVariants.{Blank, Tab, Lf, Control, Slash, Hash, Comma, Colon, Open, Close, Plus, Minus, Zero, One, TwoToSeven, EightOrNine, Dot, B, E, HexLetter, O, P, X, Underscore, Other}
 
 abbrev pub is_close : ℕ → Bool
 is_close c = eqb c 93 || eqb c 125 || eqb c 41 || eqb c 62
 
+-- a, c, d and f, in either case
 abbrev pub is_hex_letter : ℕ → Bool
-is_hex_letter c = (leb 97 c && leb c 102) || (leb 65 c && leb c 70)
+is_hex_letter c = eqb c 97 || eqb c 99 || eqb c 100 || eqb c 102 || eqb c 65 || eqb c 67 || eqb c 68 || eqb c 70
 
--- a number that is no byte is taken for a control byte
+-- a number from 256 on is no byte, and of no use as one
 unfoldable pub kind : ℕ → Kind
 kind c =
     cond (eqb c 32 || eqb c 13) Blank (
@@ -19,16 +20,25 @@ kind c =
     cond (eqb c 47) Slash (
     cond (eqb c 35) Hash (
     cond (eqb c 44) Comma (
-    cond (eqb c 91) Open (
+    cond (eqb c 58) Colon (
+    cond (eqb c 91 || eqb c 123) Open (
     cond (is_close c) Close (
     cond (eqb c 43) Plus (
     cond (eqb c 45) Minus (
     cond (eqb c 48) Zero (
-    cond (leb 49 c && leb c 57) Digit (
+    cond (eqb c 49) One (
+    cond (leb 50 c && leb c 55) TwoToSeven (
+    cond (eqb c 56 || eqb c 57) EightOrNine (
+    cond (eqb c 46) Dot (
+    cond (eqb c 98 || eqb c 66) B (
+    cond (eqb c 101 || eqb c 69) E (
     cond (is_hex_letter c) HexLetter (
-    cond (eqb c 120 || eqb c 88) X Other))))))))))))))
+    cond (eqb c 111 || eqb c 79) O (
+    cond (eqb c 112 || eqb c 80) P (
+    cond (eqb c 120 || eqb c 88) X (
+    cond (eqb c 95) Underscore Other)))))))))))))))))))))))
 
--- What may stand after a token of an item: a space, a separator or a closing byte.
+-- What may stand after a token of an item: a space, a separator, a colon or a closing byte.
 abbrev pub follows : Kind → Bool
 follows Blank = true
 follows Tab = true
@@ -36,6 +46,7 @@ follows Lf = true
 follows Slash = true
 follows Hash = true
 follows Comma = true
+follows Colon = true
 follows Close = true
 follows _ = false
 
@@ -50,7 +61,10 @@ begins Open = true
 begins Plus = true
 begins Minus = true
 begins Zero = true
-begins Digit = true
+begins One = true
+begins TwoToSeven = true
+begins EightOrNine = true
+begins Dot = true
 begins _ = false
 
 abbrev pub Follow : List ℕ → Type 0

@@ -10,7 +10,6 @@ use Rattle.cbor_edn_parts.specs.declared.space.Within.TheVariants.{Between, InSl
 use Rattle.cbor_edn_parts.specs.declared.space.Around.{Around}
 use Rattle.cbor_edn_parts.specs.declared.space.Around.TheVariants.{Before, After}
 use Rattle.cbor_edn_parts.specs.declared.number.Reached.{Reached}
-use Rattle.cbor_edn_parts.specs.declared.number.Reached.TheVariants.{Start, Signed, AfterZero, DecimalDigits, AfterX, HexadecimalDigits}
 
 -- where another byte leads, one more leads back
 abbrev Loops : {State : Type 0} → (State → Option State) → Option State → Type 0
@@ -49,24 +48,8 @@ separator_inside (After Between) e = refl
 separator_inside (After InSlashes) e = absurd (false≢true e)
 separator_inside (After InHash) e = absurd (false≢true e)
 
-number_none : (m : Reached) → number_step Other m ≡ None
-number_none Start = refl
-number_none Signed = refl
-number_none AfterZero = refl
-number_none DecimalDigits = refl
-number_none AfterX = refl
-number_none HexadecimalDigits = refl
-
-number_loops : (m : Reached) → Loops (number_step Other) (number_step Other m)
-number_loops Start = tt
-number_loops Signed = tt
-number_loops AfterZero = tt
-number_loops DecimalDigits = tt
-number_loops AfterX = tt
-number_loops HexadecimalDigits = tt
-
 pub number_stays : (m n : Reached) → number_step Other m ≡ Some n → number_step Other n ≡ Some n
-number_stays m n e = subst (Loops (number_step Other)) e (number_loops m)
+number_stays m n e = subst (Loops (number_step Other)) e tt
 
 pub number_inside : (m : Reached) → number_final m ≡ true → number_step Other m ≡ None
-number_inside m e = number_none m
+number_inside m e = refl

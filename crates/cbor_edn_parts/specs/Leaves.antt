@@ -1,7 +1,8 @@
 -- The bytes of each leaf of a tree, and that they are borrowed from the text.
-use Rattle.std.specs.Prelude.{ℕ, ℤ, pos, negsuc, List}
+use Rattle.std.specs.Prelude.{ℕ, ℤ, pos, negsuc, ◌+◌, ◌<◌, ◌^◌, List}
 use Rattle.std.specs.Cow.{cow_str_bytes, IsBorrowedStr}
 use Rattle.cbor_edn_parts.specs.declared.space.S.{S}
+use Rattle.cbor_edn_parts.specs.declared.space.Ms.{Ms}
 use Rattle.cbor_edn_parts.specs.declared.space.Msc.{Msc}
 use Rattle.cbor_edn_parts.specs.declared.space.Soc.{Soc}
 use Rattle.cbor_edn_parts.specs.declared.number.Number.{Number}
@@ -10,6 +11,9 @@ use Rattle.cbor_edn_parts.specs.declared.number.Integer.TheVariants.{Positive, N
 
 abbrev pub s_bytes : S → List ℕ
 s_bytes s = cow_str_bytes s.text
+
+abbrev pub ms_bytes : Ms → List ℕ
+ms_bytes s = cow_str_bytes s.text
 
 abbrev pub msc_bytes : Msc → List ℕ
 msc_bytes s = cow_str_bytes s.text
@@ -22,6 +26,9 @@ number_bytes n = cow_str_bytes n.text
 
 abbrev pub BorrowsS : S → Type 0
 BorrowsS s = IsBorrowedStr s.text
+
+abbrev pub BorrowsMs : Ms → Type 0
+BorrowsMs s = IsBorrowedStr s.text
 
 abbrev pub BorrowsMsc : Msc → Type 0
 BorrowsMsc s = IsBorrowedStr s.text
@@ -36,3 +43,8 @@ BorrowsNumber n = IsBorrowedStr n.text
 abbrev pub integer : Integer → ℤ
 integer (Positive n) = pos n
 integer (Negative n) = negsuc n
+
+-- the magnitude is below 2^128
+abbrev pub HasMagnitude : Integer → Type 0
+HasMagnitude (Positive n) = n < 2 ^ 128
+HasMagnitude (Negative n) = n + 1 < 2 ^ 128

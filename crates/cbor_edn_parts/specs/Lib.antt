@@ -4,6 +4,7 @@ pub mod Space
 pub mod SpaceTokens
 pub mod Number
 pub mod NumberTokens
+pub mod Indicator
 pub mod Place
 pub mod Scans
 pub mod Text

@@ -1,4 +1,4 @@
--- The texts of integer literals, and the integers that they are.
+-- The texts of numbers, and the integers that integer literals are.
 use Rattle.std.specs.Prelude.{ℕ, ℤ, pos, neg_ℤ, Bool, false, Option, Some, None, nat_lt, ◌+◌, ◌*◌, ◌^◌, ◌<◌, ◌≡◌, ◌≢◌, ◌⊎◌, ◌==◌, ◌||◌, ◌&&◌, if◌then◌else◌, List, [], ◌∷◌, ◌++◌, length, drop, slice_index}
 use Rattle.std.specs.Char.{digit_value}
 use Rattle.std.specs.List.{list_all}
@@ -16,15 +16,21 @@ sign_text PlusSign = 43 ∷ []
 sign_text MinusSign = 45 ∷ []
 
 pub data Base : Type 0 where
+  Binary : Base
+  Octal : Base
   Decimal : Base
   Hexadecimal : Base
 
 abbrev pub radix : Base → ℕ
+radix Binary = 2
+radix Octal = 8
 radix Decimal = 10
 radix Hexadecimal = 16
 
--- "0x", the letter in either case
+-- "0b", "0o" or "0x", the letter in either case; none for decimal digits
 abbrev pub IsPrefixOf : Base → List ℕ → Type 0
+IsPrefixOf Binary p = (p ≡ 48 ∷ 98 ∷ []) ⊎ (p ≡ 48 ∷ 66 ∷ [])
+IsPrefixOf Octal p = (p ≡ 48 ∷ 111 ∷ []) ⊎ (p ≡ 48 ∷ 79 ∷ [])
 IsPrefixOf Decimal p = p ≡ []
 IsPrefixOf Hexadecimal p = (p ≡ 48 ∷ 120 ∷ []) ⊎ (p ≡ 48 ∷ 88 ∷ [])
 
@@ -32,16 +38,69 @@ IsPrefixOf Hexadecimal p = (p ≡ 48 ∷ 120 ∷ []) ⊎ (p ≡ 48 ∷ 88 ∷ []
 abbrev pub IsDigitOf : Base → ℕ → Type 0
 IsDigitOf b c = digit_value c < radix b
 
--- hexint = [sign] "0x" 1*HEX, and decnumber without point and exponent: as `-0x1F`, `+07`
-pub record IsNumber (text : List ℕ) : Type 0 where
+-- 1*DIGIT, of a base
+abbrev pub AreDigits : Base → List ℕ → Type 0
+AreDigits b ds = Each (IsDigitOf b) ds × (ds ≢ [])
+
+-- hexint, octint, binint, and decnumber without point and exponent: as `-0x1F`, `+07`, `0b101`
+pub record IsInteger (text : List ℕ) : Type 0 where
   pub sign : Sign
   pub base : Base
   pub prefix : List ℕ
   pub digits : List ℕ
   pub prefix_is : IsPrefixOf base prefix
-  pub some : digits ≢ []
-  pub each : Each (IsDigitOf base) digits
+  pub digits_are : AreDigits base digits
   pub spelled : text ≡ sign_text sign ++ (prefix ++ digits)
+
+-- 1*DIGIT ["." *DIGIT] / "." 1*DIGIT, of a base
+pub data IsMantissa (b : Base) : List ℕ → Type 0 where
+  whole : {x : List ℕ} → AreDigits b x → IsMantissa b x
+  pointed : {x y : List ℕ} → AreDigits b x → Each (IsDigitOf b) y → IsMantissa b (x ++ (46 ∷ y))
+  fraction : {y : List ℕ} → AreDigits b y → IsMantissa b (46 ∷ y)
+
+-- an exponent behind its letter: [sign] 1*DIGIT
+pub record IsExponent (text : List ℕ) : Type 0 where
+  pub sign : Sign
+  pub digits : List ℕ
+  pub digits_are : AreDigits Decimal digits
+  pub spelled : text ≡ sign_text sign ++ digits
+
+-- ["e" [sign] 1*DIGIT], the letter in either case
+pub data IsDecimalExponent : List ℕ → Type 0 where
+  none : IsDecimalExponent []
+  small_e : {x : List ℕ} → IsExponent x → IsDecimalExponent (101 ∷ x)
+  large_e : {x : List ℕ} → IsExponent x → IsDecimalExponent (69 ∷ x)
+
+-- "p" [sign] 1*DIGIT, the letter in either case
+pub data IsBinaryExponent : List ℕ → Type 0 where
+  small_p : {x : List ℕ} → IsExponent x → IsBinaryExponent (112 ∷ x)
+  large_p : {x : List ℕ} → IsExponent x → IsBinaryExponent (80 ∷ x)
+
+-- decnumber, as `-1.5e3`, `.5`, `1.`
+pub record IsDecimalNumber (text : List ℕ) : Type 0 where
+  pub sign : Sign
+  pub mantissa : List ℕ
+  pub exponent : List ℕ
+  pub mantissa_is : IsMantissa Decimal mantissa
+  pub exponent_is : IsDecimalExponent exponent
+  pub spelled : text ≡ sign_text sign ++ (mantissa ++ exponent)
+
+-- hexfloat, as `0x.8p1`
+pub record IsHexFloat (text : List ℕ) : Type 0 where
+  pub sign : Sign
+  pub prefix : List ℕ
+  pub mantissa : List ℕ
+  pub exponent : List ℕ
+  pub prefix_is : IsPrefixOf Hexadecimal prefix
+  pub mantissa_is : IsMantissa Hexadecimal mantissa
+  pub exponent_is : IsBinaryExponent exponent
+  pub spelled : text ≡ sign_text sign ++ (prefix ++ (mantissa ++ exponent))
+
+-- number = hexfloat / hexint / octint / binint / decnumber
+pub data IsNumber (text : List ℕ) : Type 0 where
+  integer : IsInteger text → IsNumber text
+  decimal : IsDecimalNumber text → IsNumber text
+  hex_float : IsHexFloat text → IsNumber text
 
 -- the sum of each digit times the power of the base at its place
 abbrev pub number_of : ℕ → List ℕ → ℕ
@@ -60,15 +119,23 @@ sign_of t = if slice_index t 0 == 45 then MinusSign else if slice_index t 0 == 4
 abbrev pub unsigned : List ℕ → List ℕ
 unsigned t = drop (length (sign_text (sign_of t))) t
 
--- whether a base is named, by `0x`
-abbrev pub names_hexadecimal : List ℕ → Bool
-names_hexadecimal t = (slice_index t 0 == 48) && (slice_index t 1 == 120 || slice_index t 1 == 88)
+-- whether `0` and this letter stand in front, the letter in either case
+abbrev pub names : ℕ → ℕ → List ℕ → Bool
+names small large t = (slice_index t 0 == 48) && (slice_index t 1 == small || slice_index t 1 == large)
+
+-- the base that a text without its sign names
+abbrev pub named_base : List ℕ → Base
+named_base t = if names 120 88 t then Hexadecimal else if names 111 79 t then Octal else if names 98 66 t then Binary else Decimal
+
+abbrev pub prefix_length : Base → ℕ
+prefix_length Decimal = 0
+prefix_length _ = 2
 
 abbrev pub base_of : List ℕ → Base
-base_of t = if names_hexadecimal (unsigned t) then Hexadecimal else Decimal
+base_of t = named_base (unsigned t)
 
 abbrev pub digits_of : List ℕ → List ℕ
-digits_of t = if names_hexadecimal (unsigned t) then drop 2 (unsigned t) else unsigned t
+digits_of t = drop (prefix_length (base_of t)) (unsigned t)
 
 -- whether digits of a base stand there, one or more, and nothing else
 abbrev pub is_numeral : ℕ → List ℕ → Bool

@@ -58,6 +58,9 @@ is_empty (c ∷ x) = false
 abbrev pub is_s : List ℕ → Bool
 is_s t = is_token space t
 
+abbrev pub is_ms : List ℕ → Bool
+is_ms t = not (is_empty t) && is_token space t
+
 abbrev pub is_soc : List ℕ → Bool
 is_soc t = is_token separator t
 

@@ -13,19 +13,29 @@ pub enum Kind {
     Slash,
     Hash,
     Comma,
-    /// `[`
+    Colon,
+    /// `[` or `{`
     Open,
     /// `]`, `}`, `)` or `>`
     Close,
     Plus,
     Minus,
     Zero,
-    /// 1 to 9
-    Digit,
-    /// a to f, in either case
+    One,
+    /// 2 to 7
+    TwoToSeven,
+    /// 8 or 9
+    EightOrNine,
+    Dot,
+    /// b, in either case, and so the next three
+    B,
+    E,
+    /// a, c, d or f
     HexLetter,
-    /// x, in either case
+    O,
+    P,
     X,
+    Underscore,
     Other,
 }
 
@@ -44,14 +54,23 @@ impl Kind {
             b'/' => Kind::Slash,
             b'#' => Kind::Hash,
             b',' => Kind::Comma,
-            b'[' => Kind::Open,
+            b':' => Kind::Colon,
+            b'[' | b'{' => Kind::Open,
             b']' | b'}' | b')' | b'>' => Kind::Close,
             b'+' => Kind::Plus,
             b'-' => Kind::Minus,
             b'0' => Kind::Zero,
-            b'1'..=b'9' => Kind::Digit,
-            b'a'..=b'f' | b'A'..=b'F' => Kind::HexLetter,
+            b'1' => Kind::One,
+            b'2'..=b'7' => Kind::TwoToSeven,
+            b'8' | b'9' => Kind::EightOrNine,
+            b'.' => Kind::Dot,
+            b'b' | b'B' => Kind::B,
+            b'e' | b'E' => Kind::E,
+            b'a' | b'c' | b'd' | b'f' | b'A' | b'C' | b'D' | b'F' => Kind::HexLetter,
+            b'o' | b'O' => Kind::O,
+            b'p' | b'P' => Kind::P,
             b'x' | b'X' => Kind::X,
+            b'_' => Kind::Underscore,
             _ => Kind::Other,
         }
     }

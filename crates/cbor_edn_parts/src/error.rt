@@ -141,6 +141,9 @@ pub enum InconsistentEdn {
     /// A number that CBOR does not have, or not in the scope of this crate.
     #[error("Number has no encoding")]
     NumberWithoutEncoding,
+    /// An encoding indicator on a number or a list whose argument it does not fit.
+    #[error("Encoding indicator does not fit")]
+    IndicatorDoesNotFit,
     /// A number too large for its type.
     #[error("Numeric range exceeded")]
     NumericRangeExceeded,

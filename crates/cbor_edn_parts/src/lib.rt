@@ -1,8 +1,9 @@
-//! The parts of the text of CBOR's Extended Diagnostic Notation (EDN): spaces, numbers, and what refuses them.
+//! The parts of the text of CBOR's Extended Diagnostic Notation (EDN): spaces, numbers, encoding indicators, and what refuses them.
 #![tactic(auto)]
 
 pub mod bytes;
 pub mod error;
+pub mod indicator;
 pub mod laws;
 pub mod looks;
 pub mod number;

@@ -1,7 +1,8 @@
-//! Integer literals.
-ghost use Rattle.std.specs.Prelude.{◌≡◌, ◌≤◌, ◌^◌, ◌↔◌, pos, neg_ℤ, if◌then◌else◌, IsTrue, IfOk, IfSome, IsNone, drop, true};
+//! Numbers.
+ghost use Rattle.std.specs.Prelude.{◌≡◌, ◌≤◌, ◌^◌, ◌↔◌, ℤ, pos, neg_ℤ, if◌then◌else◌, IsTrue, IfOk, IfSome, IsNone, Some, drop, true, string_bytes};
 ghost use Rattle.std.specs.Cow.{cow_str_bytes};
-ghost use Rattle.cbor_edn_parts.specs.Number.{MinusSign, Decimal, Hexadecimal, radix, integer_of, magnitude_of, sign_of, unsigned, names_hexadecimal};
+ghost use Rattle.std.specs.Fmt.{signed_decimal};
+ghost use Rattle.cbor_edn_parts.specs.Number.{MinusSign, radix, prefix_length, integer_of, magnitude_of, sign_of, unsigned, named_base};
 ghost use Rattle.cbor_edn_parts.specs.NumberTokens as tokens;
 ghost use Rattle.cbor_edn_parts.specs.NumberTokens.{is_number};
 ghost use Rattle.cbor_edn_parts.specs.Inside.{number_stays, number_inside};
@@ -9,12 +10,12 @@ ghost use Rattle.cbor_edn_parts.specs.Inside.{number_stays, number_inside};
 use crate::bytes::Kind;
 use crate::scan::State;
 pub use read::number_at;
-use std::alloc::AllocError;
+use std::alloc::{AllocError, Global};
 use std::borrow::CowStr;
 
 mod read;
 
-/// An integer literal as it is written: a sign, `0x` and digits, as `-0x1F` or `07`.
+/// A number as it is written, as `-0x1F`, `07`, `0b101`, `1.5e3` or `0x.8p1`.
 #[derive(Debug, PartialEq, Drop)]
 pub struct Number<'a> {
     text: CowStr<'a>,
@@ -28,8 +29,24 @@ pub enum Reached {
     Signed,
     AfterZero,
     DecimalDigits,
+    /// Behind a point with no digit in front.
+    Point,
+    /// Behind a point with digits in front, or behind the digits that follow a point.
+    Fraction,
+    Exponent,
+    ExponentSigned,
+    ExponentDigits,
     AfterX,
     HexadecimalDigits,
+    HexadecimalPoint,
+    HexadecimalFraction,
+    BinaryExponent,
+    BinaryExponentSigned,
+    BinaryExponentDigits,
+    AfterO,
+    OctalDigits,
+    AfterB,
+    BinaryDigits,
 }
 
 /// An integer in the range of a literal whose magnitude takes 128 bits.
@@ -42,7 +59,20 @@ pub enum Integer {
 }
 
 impl Integer {
-    ghost use Rattle.cbor_edn_parts.specs.Leaves.{integer};
+    ghost use Rattle.cbor_edn_parts.specs.Leaves.{integer, HasMagnitude};
+
+    fn decimal(self, alloc: Global) -> Result<String, AllocError>
+        requires { HasMagnitude self }
+        ensures { IfOk result (λ s. string_bytes s ≡ signed_decimal (integer self)) }
+    {
+        match self {
+            Integer::Positive(n) => format!(in alloc; "{n}"),
+            Integer::Negative(n) => {
+                let magnitude = n + 1;
+                format!(in alloc; "-{magnitude}")
+            }
+        }
+    }
 
     fn signed(is_negative: bool, magnitude: u128) -> Integer
         ensures { integer result ≡ (if is_negative then neg_ℤ (pos magnitude) else pos magnitude) }
@@ -55,22 +85,156 @@ impl Integer {
     }
 }
 
+/// The state behind one more byte, by what the byte is.
+impl Reached {
+    fn digit(self) -> Option<Reached>
+        ensures { result ≡ tokens.digit_step self }
+    {
+        match self {
+            Reached::Start | Reached::Signed | Reached::AfterZero | Reached::DecimalDigits => {
+                Some(Reached::DecimalDigits)
+            }
+            Reached::Point | Reached::Fraction => Some(Reached::Fraction),
+            Reached::Exponent | Reached::ExponentSigned | Reached::ExponentDigits => {
+                Some(Reached::ExponentDigits)
+            }
+            Reached::BinaryExponent
+            | Reached::BinaryExponentSigned
+            | Reached::BinaryExponentDigits => Some(Reached::BinaryExponentDigits),
+            _ => self.letter(),
+        }
+    }
+
+    fn octal_digit(self) -> Option<Reached>
+        ensures { result ≡ tokens.octal_step self }
+    {
+        match self {
+            Reached::AfterO | Reached::OctalDigits => Some(Reached::OctalDigits),
+            _ => self.digit(),
+        }
+    }
+
+    fn binary_digit(self) -> Option<Reached>
+        ensures { result ≡ tokens.binary_step self }
+    {
+        match self {
+            Reached::AfterB | Reached::BinaryDigits => Some(Reached::BinaryDigits),
+            _ => self.octal_digit(),
+        }
+    }
+
+    fn zero(self) -> Option<Reached>
+        ensures { result ≡ tokens.zero_step self }
+    {
+        match self {
+            Reached::Start | Reached::Signed => Some(Reached::AfterZero),
+            _ => self.binary_digit(),
+        }
+    }
+
+    /// A letter that is a hexadecimal digit.
+    fn letter(self) -> Option<Reached>
+        ensures { result ≡ tokens.letter_step self }
+    {
+        match self {
+            Reached::AfterX | Reached::HexadecimalDigits => Some(Reached::HexadecimalDigits),
+            Reached::HexadecimalPoint | Reached::HexadecimalFraction => {
+                Some(Reached::HexadecimalFraction)
+            }
+            _ => None,
+        }
+    }
+
+    fn sign(self) -> Option<Reached>
+        ensures { result ≡ tokens.sign_step self }
+    {
+        match self {
+            Reached::Start => Some(Reached::Signed),
+            Reached::Exponent => Some(Reached::ExponentSigned),
+            Reached::BinaryExponent => Some(Reached::BinaryExponentSigned),
+            _ => None,
+        }
+    }
+
+    fn point(self) -> Option<Reached>
+        ensures { result ≡ tokens.point_step self }
+    {
+        match self {
+            Reached::Start | Reached::Signed => Some(Reached::Point),
+            Reached::AfterZero | Reached::DecimalDigits => Some(Reached::Fraction),
+            Reached::AfterX => Some(Reached::HexadecimalPoint),
+            Reached::HexadecimalDigits => Some(Reached::HexadecimalFraction),
+            _ => None,
+        }
+    }
+
+    fn b(self) -> Option<Reached>
+        ensures { result ≡ tokens.b_step self }
+    {
+        match self {
+            Reached::AfterZero => Some(Reached::AfterB),
+            _ => self.letter(),
+        }
+    }
+
+    fn e(self) -> Option<Reached>
+        ensures { result ≡ tokens.e_step self }
+    {
+        match self {
+            Reached::AfterZero | Reached::DecimalDigits | Reached::Fraction => {
+                Some(Reached::Exponent)
+            }
+            _ => self.letter(),
+        }
+    }
+
+    fn o(self) -> Option<Reached>
+        ensures { result ≡ tokens.o_step self }
+    {
+        match self {
+            Reached::AfterZero => Some(Reached::AfterO),
+            _ => None,
+        }
+    }
+
+    fn p(self) -> Option<Reached>
+        ensures { result ≡ tokens.p_step self }
+    {
+        match self {
+            Reached::HexadecimalDigits | Reached::HexadecimalFraction => {
+                Some(Reached::BinaryExponent)
+            }
+            _ => None,
+        }
+    }
+
+    fn x(self) -> Option<Reached>
+        ensures { result ≡ tokens.x_step self }
+    {
+        match self {
+            Reached::AfterZero => Some(Reached::AfterX),
+            _ => None,
+        }
+    }
+}
+
 impl State for Reached {
     ghost table = { tokens.number };
 
     fn step(self, kind: Kind) -> Option<Reached> {
-        match (kind, self) {
-            (Kind::Plus | Kind::Minus, Reached::Start) => Some(Reached::Signed),
-            (Kind::Zero, Reached::Start | Reached::Signed) => Some(Reached::AfterZero),
-            (Kind::Digit, Reached::Start | Reached::Signed)
-            | (Kind::Zero | Kind::Digit, Reached::AfterZero | Reached::DecimalDigits) => {
-                Some(Reached::DecimalDigits)
-            }
-            (Kind::X, Reached::AfterZero) => Some(Reached::AfterX),
-            (
-                Kind::Zero | Kind::Digit | Kind::HexLetter,
-                Reached::AfterX | Reached::HexadecimalDigits,
-            ) => Some(Reached::HexadecimalDigits),
+        match kind {
+            Kind::Plus | Kind::Minus => self.sign(),
+            Kind::Zero => self.zero(),
+            Kind::One => self.binary_digit(),
+            Kind::TwoToSeven => self.octal_digit(),
+            Kind::EightOrNine => self.digit(),
+            Kind::Dot => self.point(),
+            Kind::B => self.b(),
+            Kind::E => self.e(),
+            Kind::HexLetter => self.letter(),
+            Kind::O => self.o(),
+            Kind::P => self.p(),
+            Kind::X => self.x(),
             _ => None,
         }
     }
@@ -78,7 +242,14 @@ impl State for Reached {
     fn is_final(self) -> bool {
         matches!(
             self,
-            Reached::AfterZero | Reached::DecimalDigits | Reached::HexadecimalDigits
+            Reached::AfterZero
+                | Reached::DecimalDigits
+                | Reached::Fraction
+                | Reached::ExponentDigits
+                | Reached::HexadecimalDigits
+                | Reached::BinaryExponentDigits
+                | Reached::OctalDigits
+                | Reached::BinaryDigits
         )
     }
 
@@ -88,7 +259,7 @@ impl State for Reached {
 }
 
 impl<'a> Number<'a> {
-    ghost use Rattle.cbor_edn_parts.specs.Leaves.{number_bytes, integer};
+    ghost use Rattle.cbor_edn_parts.specs.Leaves.{number_bytes, integer, HasMagnitude};
 
     /// The text as it is written.
     pub fn as_str(&self) -> &str
@@ -105,10 +276,21 @@ impl<'a> Number<'a> {
         Ok(Number { text })
     }
 
-    /// The integer that the text is, or none where its magnitude is 2^128 or more.
+    /// The number in decimal, as `-16`. Fails where memory runs out.
+    pub fn decimal(alloc: Global, number: Integer) -> Result<Number<'a>, AllocError>
+        requires { HasMagnitude number }
+        ensures { IfOk result (λ t. number_bytes t ≡ signed_decimal (integer number)) }
+    {
+        let text = number.decimal(alloc)?;
+        let text = CowStr::Owned(text);
+        Ok(Number { text })
+    }
+
+    /// The integer of an integer literal, or none where the magnitude is 2^128 or more. A text with a point or an
+    /// exponent is no integer literal, and has none.
     pub fn integer(&self) -> Option<Integer>
         ensures some { IfSome result (λ i. integer_of (number_bytes self.now) ≡ Some (integer i)) }
-        ensures none { IsNone result → 2 ^ 128 ≤ magnitude_of (number_bytes self.now) }
+        ensures none { IsNone result → (z : ℤ) → integer_of (number_bytes self.now) ≡ Some z → 2 ^ 128 ≤ magnitude_of (number_bytes self.now) }
     {
         let (is_negative, unsigned) = split_sign(self.as_str());
         let (radix, digits) = split_base(unsigned);
@@ -131,13 +313,15 @@ fn split_sign(text: &str) -> (bool, &str)
     }
 }
 
-/// The base that a text without a sign names, and the digits.
+/// The base that a text without a sign names, and what is behind the prefix.
 fn split_base(text: &str) -> (u32, &str)
-    ensures base { result.0 ≡ radix (if names_hexadecimal text.now then Hexadecimal else Decimal) }
-    ensures digits { result.1.now ≡ (if names_hexadecimal text.now then drop 2 text.now else text.now) }
+    ensures base { result.0 ≡ radix (named_base text.now) }
+    ensures digits { result.1.now ≡ drop (prefix_length (named_base text.now)) text.now }
 {
     match text.as_bytes() {
         [b'0', b'x' | b'X', ..] => (16, &text[2..]),
+        [b'0', b'o' | b'O', ..] => (8, &text[2..]),
+        [b'0', b'b' | b'B', ..] => (2, &text[2..]),
         _ => (10, text),
     }
 }

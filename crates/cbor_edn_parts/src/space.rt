@@ -1,8 +1,8 @@
-//! Space texts: optional space (S), separators (MSC) and the ends of lists (SOC).
-ghost use Rattle.std.specs.Prelude.{◌≡◌, ◌↔◌, IsTrue, [], IfOk, IfSome, IsNone, drop, true};
+//! Space texts: optional space (S), mandatory space (MS), separators (MSC) and the ends of lists (SOC).
+ghost use Rattle.std.specs.Prelude.{◌≡◌, ◌↔◌, IsTrue, [], ◌∷◌, IfOk, IfSome, IsNone, drop, true};
 ghost use Rattle.std.specs.Cow.{cow_str_bytes};
 ghost use Rattle.cbor_edn_parts.specs.SpaceTokens as tokens;
-ghost use Rattle.cbor_edn_parts.specs.SpaceTokens.{is_s, is_msc, is_soc};
+ghost use Rattle.cbor_edn_parts.specs.SpaceTokens.{is_s, is_ms, is_msc, is_soc};
 ghost use Rattle.cbor_edn_parts.specs.Inside.{space_stays, space_inside, separator_stays, separator_inside};
 
 use crate::bytes::Kind;
@@ -20,6 +20,13 @@ pub struct S<'a> {
     pub ghost spelled: { IsTrue (is_s (cow_str_bytes text)) },
 }
 
+/// Mandatory space (MS): space that is not empty.
+#[derive(Debug, PartialEq, Drop)]
+pub struct Ms<'a> {
+    text: CowStr<'a>,
+    pub ghost spelled: { IsTrue (is_ms (cow_str_bytes text)) },
+}
+
 /// A separator (MSC): a comma, space, or both.
 #[derive(Debug, PartialEq, Drop)]
 pub struct Msc<'a> {
@@ -35,14 +42,23 @@ pub struct Soc<'a> {
 }
 
 impl<'a> S<'a> {
-    ghost use Rattle.cbor_edn_parts.specs.Leaves.{s_bytes};
+    ghost use Rattle.cbor_edn_parts.specs.Leaves.{s_bytes, ms_bytes, BorrowsS, BorrowsMs};
 
     /// No space.
-    #[tactic(auto, unfolding(crate::specs::Lex::munch, crate::specs::Lex::push, crate::specs::Bytes::kind))]
     pub fn empty() -> S<'a>
-        ensures { s_bytes result ≡ [] }
+        ensures bytes { s_bytes result ≡ [] }
+        ensures borrowed { BorrowsS result }
     {
         let text = CowStr::Borrowed("");
+        S { text }
+    }
+
+    /// One space.
+    pub fn space() -> S<'a>
+        ensures bytes { s_bytes result ≡ 32 ∷ [] }
+        ensures borrowed { BorrowsS result }
+    {
+        let text = CowStr::Borrowed(" ");
         S { text }
     }
 
@@ -60,10 +76,61 @@ impl<'a> S<'a> {
         let text = self.text.clone()?;
         Ok(S { text })
     }
+
+    /// The text as mandatory space, or none where it is empty.
+    pub fn into_ms(self) -> Option<Ms<'a>>
+        ensures none { IsNone result ↔ (s_bytes self.entry ≡ []) }
+        ensures same { IfSome result (λ s. ms_bytes s ≡ s_bytes self.entry) }
+        ensures borrowed { BorrowsS self.entry → IfSome result (λ s. BorrowsMs s) }
+    {
+        let text = self.text;
+        if text.as_str().is_empty() {
+            None
+        } else {
+            Some(Ms { text })
+        }
+    }
+}
+
+impl<'a> Ms<'a> {
+    ghost use Rattle.cbor_edn_parts.specs.Leaves.{ms_bytes, BorrowsMs};
+
+    /// One space.
+    pub fn space() -> Ms<'a>
+        ensures bytes { ms_bytes result ≡ 32 ∷ [] }
+        ensures borrowed { BorrowsMs result }
+    {
+        let text = S::space().text;
+        Ms { text }
+    }
+
+    /// The text as it is written.
+    pub fn as_str(&self) -> &str
+        ensures { result.now ≡ ms_bytes self.now }
+    {
+        self.text.as_str()
+    }
+
+    /// The same text. Fails where memory runs out.
+    pub fn clone(&self) -> Result<Ms<'a>, AllocError>
+        ensures { IfOk result (λ t. ms_bytes t ≡ ms_bytes self.now) }
+    {
+        let text = self.text.clone()?;
+        Ok(Ms { text })
+    }
 }
 
 impl<'a> Msc<'a> {
-    ghost use Rattle.cbor_edn_parts.specs.Leaves.{msc_bytes};
+    ghost use Rattle.cbor_edn_parts.specs.Leaves.{msc_bytes, BorrowsMsc};
+
+    /// A comma and one space.
+    pub fn comma_space() -> Msc<'a>
+        ensures bytes { msc_bytes result ≡ 44 ∷ 32 ∷ [] }
+        ensures borrowed { BorrowsMsc result }
+    {
+        let text = CowStr::Borrowed(", ");
+        Msc { text }
+    }
 
     /// The text as it is written.
     pub fn as_str(&self) -> &str
@@ -85,7 +152,6 @@ impl<'a> Soc<'a> {
     ghost use Rattle.cbor_edn_parts.specs.Leaves.{msc_bytes, soc_bytes, BorrowsMsc, BorrowsSoc};
 
     /// No space and no comma.
-    #[tactic(auto, unfolding(crate::specs::Lex::munch, crate::specs::Lex::push, crate::specs::Bytes::kind))]
     pub fn empty() -> Soc<'a>
         ensures { soc_bytes result ≡ [] }
     {

@@ -43,6 +43,10 @@ fn counts_nested_arrays(rt: HostRuntime) -> Result<(), Fail> {
     assert_eq!(rt; answer_of(alloc, "[[]]", 2)?, Answer::Accepted);
     assert_eq!(rt; answer_of(alloc, "1", 0)?, Answer::Accepted);
     assert_eq!(rt; answer_of(alloc, "[]", 0)?, Answer::TooDeep);
+    assert_eq!(rt; answer_of(alloc, "{1: {}}", 1)?, Answer::TooDeep);
+    assert_eq!(rt; answer_of(alloc, "{{}: 1}", 1)?, Answer::TooDeep);
+    assert_eq!(rt; answer_of(alloc, "{[]: {}, 3: []}", 2)?, Answer::Accepted);
+    assert_eq!(rt; answer_of(alloc, "[{1: [_ 2]}]", 2)?, Answer::TooDeep);
     // each item of a sequence by itself
     assert_eq!(rt; answer_of(alloc, "[1], [2], [3]", 1)?, Answer::Accepted);
     assert_eq!(rt; answer_of(alloc, ",1", 0)?, Answer::Invalid);

@@ -33,19 +33,54 @@ fn names_its_place(rt: HostRuntime) -> Result<(), Fail> {
     Ok(())
 }
 
+fn inconsistency(alloc: Global, text: &str) -> Result<InconsistentEdn, Fail> {
+    let sequence = Sequence::parse(alloc, text)?;
+    match sequence.to_cbor(alloc) {
+        Err(Fault::Told(refused)) => Ok(refused),
+        Err(Fault::Memory(refused)) => Err(Fail::from(refused)),
+        Ok(_) => Ok(Err("encoded")?),
+    }
+}
+
 #[test]
 fn tells_what_has_no_encoding(rt: HostRuntime) -> Result<(), Fail> {
     let alloc = rt.alloc();
-    let sequence = Sequence::parse(alloc, "18446744073709551616")?;
-    match sequence.to_cbor(alloc) {
-        Err(Fault::Told(refused)) => {
-            assert_eq!(rt; refused, InconsistentEdn::NumberWithoutEncoding);
-            assert_eq!(rt;
-                refused.to_string(alloc)?.as_str(),
-                "Number has no encoding"
-            );
-        }
-        _ => assert!(rt; false, "no refusal"),
+    for (text, refused) in [
+        ("1.5", InconsistentEdn::NumberWithoutEncoding),
+        ("1.5_i", InconsistentEdn::NumberWithoutEncoding),
+        (
+            "340282366920938463463374607431768211456_3",
+            InconsistentEdn::NumberWithoutEncoding,
+        ),
+        ("24_i", InconsistentEdn::IndicatorDoesNotFit),
+        ("1_", InconsistentEdn::IndicatorDoesNotFit),
+        (
+            "18446744073709551616_3",
+            InconsistentEdn::IndicatorDoesNotFit,
+        ),
+        // of the first item in the text
+        ("[24_i, 1.5]", InconsistentEdn::IndicatorDoesNotFit),
+        ("{1.5: 24_i}", InconsistentEdn::NumberWithoutEncoding),
+    ] {
+        assert_eq!(rt; inconsistency(alloc, text)?, refused, "{text:?}");
     }
+    Ok(())
+}
+
+#[test]
+fn words_of_inconsistencies(rt: HostRuntime) -> Result<(), Fail> {
+    let alloc = rt.alloc();
+    assert_eq!(rt;
+        InconsistentEdn::NumberWithoutEncoding
+            .to_string(alloc)?
+            .as_str(),
+        "Number has no encoding"
+    );
+    assert_eq!(rt;
+        InconsistentEdn::IndicatorDoesNotFit
+            .to_string(alloc)?
+            .as_str(),
+        "Encoding indicator does not fit"
+    );
     Ok(())
 }

@@ -1,25 +1,30 @@
 //! Copies and comparisons.
 use cbor_edn::{Sequence, StandaloneItem};
+use std::alloc::Global;
 use std::test::Fail;
 
 #[test]
 fn copies_sequences(rt: HostRuntime) -> Result<(), Fail> {
-    let sequence = Sequence::parse(rt.alloc(), " [1, /c/ 2 ,] 3 # d\n")?;
+    let sequence = Sequence::parse(rt.alloc(), " [_ 1, /c/ 2_1 ,] {3 /e/ :4} # d\n")?;
     let copy = sequence.clone()?;
     assert!(rt; copy == sequence);
     assert_eq!(rt;
         copy.serialize(rt.alloc())?.as_str(),
-        " [1, /c/ 2 ,] 3 # d\n"
+        " [_ 1, /c/ 2_1 ,] {3 /e/ :4} # d\n"
     );
     Ok(())
 }
 
+fn is_copied(item: &StandaloneItem<'_>, alloc: Global, text: &str) -> Result<bool, Fail> {
+    let copy = item.clone()?;
+    Ok(copy == *item && copy.serialize(alloc)?.as_str() == text)
+}
+
 #[test]
 fn copies_standalone_items(rt: HostRuntime) -> Result<(), Fail> {
-    let item = StandaloneItem::parse(rt.alloc(), " [1, /c/ 2 ,] ")?;
-    let copy = item.clone()?;
-    assert!(rt; copy == item);
-    assert_eq!(rt; copy.serialize(rt.alloc())?.as_str(), " [1, /c/ 2 ,] ");
+    let text = " {_0 1 : /c/ [2] ,} ";
+    let item = StandaloneItem::parse(rt.alloc(), text)?;
+    assert!(rt; is_copied(&item, rt.alloc(), text)?);
     Ok(())
 }
 
@@ -28,7 +33,8 @@ fn spaces_tell_trees_apart(rt: HostRuntime) -> Result<(), Fail> {
     let alloc = rt.alloc();
     let texts = [
         "[1,2]", "[1 2]", "[ 1,2]", "[1,2 ]", " [1,2]", "[1,2] ", "[1,2,]", "[01,2]", "[1]", "[]",
-        "1,2", "",
+        "1,2", "", "[_ 1,2]", "[_1 1,2]", "[_i 1,2]", "1_1,2", "1_2,2", "{1:2}", "{1: 2}",
+        "{1 :2}", "{2:1}", "{_ 1:2}", "{}", "{ }", "{_}", "{_1}",
     ];
     for (i, one) in texts.iter().enumerate() {
         for (j, other) in texts.iter().enumerate() {

@@ -1,13 +1,14 @@
-use super::{Width, push_head, push_integer};
+use super::{Width, length_of, push_head, push_integer, push_list_end, push_list_head, width_of};
 use cbor_edn_parts::error::{Fault, InconsistentEdn};
+use cbor_edn_parts::indicator::Indicator;
 use cbor_edn_parts::number::Integer;
 use std::alloc::AllocError;
 use std::test::Fail;
 
-// integers of RFC 8949, appendix A
+// integers of RFC 8949, appendix A, and the largest bignums of either sign
 #[test]
 fn integers(rt: HostRuntime) {
-    let table: [(Integer, &[u8]); 13] = [
+    let table: [(Integer, &[u8]); 17] = [
         (Integer::Positive(0), b"\x00"),
         (Integer::Positive(23), b"\x17"),
         (Integer::Positive(24), b"\x18\x18"),
@@ -23,34 +24,97 @@ fn integers(rt: HostRuntime) {
             b"\x1b\xff\xff\xff\xff\xff\xff\xff\xff",
         ),
         (
+            Integer::Positive(18_446_744_073_709_551_616),
+            b"\xc2\x49\x01\x00\x00\x00\x00\x00\x00\x00\x00",
+        ),
+        (
             Integer::Negative(18_446_744_073_709_551_615),
             b"\x3b\xff\xff\xff\xff\xff\xff\xff\xff",
+        ),
+        (
+            Integer::Negative(18_446_744_073_709_551_616),
+            b"\xc3\x49\x01\x00\x00\x00\x00\x00\x00\x00\x00",
         ),
         (Integer::Negative(0), b"\x20"),
         (Integer::Negative(9), b"\x29"),
         (Integer::Negative(99), b"\x38\x63"),
         (Integer::Negative(999), b"\x39\x03\xe7"),
+        (
+            Integer::Positive(u128::MAX),
+            b"\xc2\x50\xff\xff\xff\xff\xff\xff\xff\xff\xff\xff\xff\xff\xff\xff\xff\xff",
+        ),
+        (
+            Integer::Negative(u128::MAX - 1),
+            b"\xc3\x50\xff\xff\xff\xff\xff\xff\xff\xff\xff\xff\xff\xff\xff\xff\xff\xfe",
+        ),
     ];
     for (number, wanted) in table {
         let mut out = Vec::new(rt.alloc());
-        assert!(rt; push_integer(&mut out, number).is_ok());
+        assert!(rt; push_integer(&mut out, number, None).is_ok());
         assert!(rt; out.as_slice() == wanted, "at {number:?}");
     }
 }
 
 #[test]
-fn integers_beyond(rt: HostRuntime) {
-    for number in [
-        Integer::Positive(18_446_744_073_709_551_616),
-        Integer::Negative(18_446_744_073_709_551_616),
+fn marked_integers(rt: HostRuntime) {
+    let table: [(Integer, Indicator, &[u8]); 6] = [
+        (Integer::Positive(10), Indicator::Immediate, b"\x0a"),
+        (Integer::Positive(10), Indicator::One, b"\x18\x0a"),
+        (Integer::Positive(10), Indicator::Two, b"\x19\x00\x0a"),
+        (Integer::Negative(0), Indicator::One, b"\x38\x00"),
+        (
+            Integer::Positive(10),
+            Indicator::Four,
+            b"\x1a\x00\x00\x00\x0a",
+        ),
+        (
+            Integer::Positive(10),
+            Indicator::Eight,
+            b"\x1b\x00\x00\x00\x00\x00\x00\x00\x0a",
+        ),
+    ];
+    for (number, indicator, wanted) in table {
+        let mut out = Vec::new(rt.alloc());
+        assert!(rt; push_integer(&mut out, number, Some(indicator)).is_ok());
+        assert!(rt; out.as_slice() == wanted, "at {number:?}");
+    }
+}
+
+#[test]
+fn unfit_indicators(rt: HostRuntime) {
+    for (number, indicator) in [
+        (Integer::Positive(1), Indicator::Indefinite),
+        (Integer::Positive(24), Indicator::Immediate),
+        (Integer::Positive(256), Indicator::One),
+        (Integer::Positive(65_536), Indicator::Two),
+        (Integer::Negative(4_294_967_296), Indicator::Four),
+        (
+            Integer::Positive(18_446_744_073_709_551_616),
+            Indicator::Eight,
+        ),
+        (
+            Integer::Negative(18_446_744_073_709_551_616),
+            Indicator::Eight,
+        ),
     ] {
         let mut out = Vec::new(rt.alloc());
         let told = matches!(
-            push_integer(&mut out, number),
-            Err(Fault::Told(InconsistentEdn::NumberWithoutEncoding))
+            push_integer(&mut out, number, Some(indicator)),
+            Err(Fault::Told(InconsistentEdn::IndicatorDoesNotFit))
         );
         assert!(rt; told, "at {number:?}");
     }
+}
+
+// -2^128
+#[test]
+fn integer_beyond(rt: HostRuntime) {
+    let mut out = Vec::new(rt.alloc());
+    let told = matches!(
+        push_integer(&mut out, Integer::Negative(u128::MAX), None),
+        Err(Fault::Told(InconsistentEdn::NumberWithoutEncoding))
+    );
+    assert!(rt; told);
 }
 
 // heads of arrays of RFC 8949, appendix A, and one of each wider form
@@ -65,5 +129,19 @@ fn heads(rt: HostRuntime) -> Result<(), AllocError> {
     let wanted =
         b"\x83\x98\x19\x19\x00\x0a\x1a\x00\x00\x00\x0a\xfb\x00\x00\x00\x00\x00\x00\x00\x0a";
     assert!(rt; out.as_slice() == wanted.as_slice());
+    Ok(())
+}
+
+#[test]
+fn lists(rt: HostRuntime) -> Result<(), Fail> {
+    let mut out = Vec::new(rt.alloc());
+    for width in [None, Some(Width::One)] {
+        push_list_head(&mut out, 5, width, 1)?;
+        push_list_end(&mut out, width)?;
+    }
+    assert!(rt; out.as_slice() == b"\xbf\xff\xb8\x01".as_slice());
+    assert!(rt; matches!(length_of(Some(Indicator::Indefinite), 1), Ok(None)));
+    assert!(rt; matches!(length_of(None, 24), Ok(Some(Width::One))));
+    assert!(rt; matches!(width_of(Some(Indicator::Two), 24), Ok(Width::Two)));
     Ok(())
 }

@@ -1,4 +1,4 @@
-//! The integer literal at a place of a text.
+//! The number at a place of a text.
 ghost use Rattle.std.specs.Prelude.{IfOk, drop};
 ghost use Rattle.std.specs.Str.{IsCharBoundary};
 ghost use Rattle.cbor_edn_parts.specs.Lex.{token};
@@ -14,7 +14,7 @@ use crate::scan::scan;
 use crate::text::Text;
 use std::borrow::CowStr;
 
-/// The integer literal at a place, and the place behind it.
+/// The number at a place, and the place behind it.
 pub fn number_at<'a>(
     text: &Text<'a>,
     from: usize,

@@ -1,12 +1,13 @@
-use Rattle.std.proofs.Common.{◌^◌, ◌<◌, arith}
-use Rattle.cbor_edn_core.proofs.Meanings.{positive_encoded, negative_encoded}
+use Rattle.std.proofs.Common.{arith}
+use Rattle.cbor_edn_core.proofs.CborIntegers.{positive_small, negative_small, positive_large, negative_large}
 use Rattle.cbor_edn_core.proofs.cbor.push_integer.Goals as goal
-use Rattle.cbor_edn_core.proofs.cbor.push_integer.Goals.{in-Positive, in-Negative}
 
-pub returns : goal.returns
-returns c =
-    let below : c.in-Ok.argument < 2 ^ 64 = omega (arith, c.in-Ok.ensures) in
-    elim c.match-number.branch [
-      | in-Positive w ↦ positive_encoded _ w.in-Positive.n _ _ _ _ _ w.in-Positive.is w.major-is c.in-Ok.ensures.1 below c.shortest_width.ensures c.in_ok-push_head.ensures
-      | in-Negative w ↦ negative_encoded _ w.in-Negative.n _ _ _ _ _ w.in-Negative.is w.major-is c.in-Ok.ensures.1 below c.shortest_width.ensures c.in_ok-push_head.ensures
-    ]
+pub returns-in-Ok : goal.returns-in-Ok
+returns-in-Ok c =
+    rw c.in-Positive.is
+    (positive_small c.args.indicator c.in-Positive.n c.in-Ok.argument c.args.out.now.items c.push_marked_head.new.out.items c.push_marked_head.result c.in-Ok.ensures.1 (omega (arith, c.in-Ok.ensures)) c.push_marked_head.ensures)
+
+pub returns-in-Ok-try_from : goal.returns-in-Ok-try_from
+returns-in-Ok-try_from c =
+    rw c.in-Negative.is
+    (negative_small c.args.indicator c.in-Negative.n c.in-Ok-try_from.argument c.args.out.now.items c.push_marked_head-in-Ok-try_from.new.out.items c.push_marked_head-in-Ok-try_from.result c.in-Ok-try_from.ensures.1 (omega (arith, c.in-Ok-try_from.ensures)) c.push_marked_head-in-Ok-try_from.ensures)

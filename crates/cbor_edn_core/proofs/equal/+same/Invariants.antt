@@ -1,8 +1,11 @@
 use Rattle.std.proofs.Common.{◌≡◌, length, drop, map}
 use Rattle.cbor_edn_core.specs.Same.{same_entries}
-use Rattle.cbor_edn_core.specs.View.{texts, seen}
+use Rattle.cbor_edn_core.specs.View.{texts, seen, seen_pair}
 use Rattle.cbor_edn_core.proofs.equal.+same.Given as goal
 
 -- the lists are the same exactly where what is left of them is
 abbrev pub invariant-same_row-loop-i : goal.invariant-same_row-loop-i
 invariant-same_row-loop-i l = (same_entries (map (seen texts) (drop l.i l.a)) (map (seen texts) (drop l.i l.b)) ≡ same_entries (map (seen texts) l.a) (map (seen texts) l.b)) × (length l.a ≡ length l.b)
+
+abbrev pub invariant-same_pair_row-loop-i : goal.invariant-same_pair_row-loop-i
+invariant-same_pair_row-loop-i l = (same_entries (map (seen_pair texts) (drop l.i l.a)) (map (seen_pair texts) (drop l.i l.b)) ≡ same_entries (map (seen_pair texts) l.a) (map (seen_pair texts) l.b)) × (length l.a ≡ length l.b)

@@ -1,7 +1,10 @@
 use Rattle.std.proofs.Common.{map, drop}
-use Rattle.cbor_edn_core.specs.View.{texts, seen}
+use Rattle.cbor_edn_core.specs.View.{texts, seen, seen_pair}
 use Rattle.cbor_edn_core.proofs.CborEncodes.{PushesRest}
 use Rattle.cbor_edn_core.proofs.to_cbor.+encode.Given as goal
 
 abbrev pub invariant-push_row-loop-item : goal.invariant-push_row-loop-item
 invariant-push_row-loop-item l = PushesRest (map (seen texts) (drop l.item-index l.row)) (map (seen texts) l.row) l.out.items l.initial.out.items
+
+abbrev pub invariant-push_pair_row-loop-pair : goal.invariant-push_pair_row-loop-pair
+invariant-push_pair_row-loop-pair l = PushesRest (map (seen_pair texts) (drop l.pair-index l.row)) (map (seen_pair texts) l.row) l.out.items l.initial.out.items

@@ -1,9 +1,10 @@
-use Rattle.cbor_edn_parts.proofs.SpaceTexts.{s_texts, soc_texts, msc_texts, s-is, s-from, soc-is, soc-from}
+use Rattle.cbor_edn_parts.proofs.SpaceTexts.{s_texts, ms_texts, soc_texts, msc_texts, s-is, s-from, soc-is, soc-from}
 use Rattle.cbor_edn_parts.proofs.laws.space_texts.Goals as goal
 
 pub returns : goal.returns
 returns c = λ text. record {
   s = s_texts text;
+  ms = ms_texts text;
   soc = soc_texts text;
   msc = msc_texts text;
   s_table = (s-is, s-from text);

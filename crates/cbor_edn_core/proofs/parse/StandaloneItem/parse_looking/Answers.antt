@@ -6,7 +6,7 @@ pub returns-in-Ok-clause-text : goal.returns-in-Ok-clause-text
 returns-in-Ok-clause-text c = (standalone_accepted c.args.limit _ _ (rw c.new-text.ensures at c.in-Ok.ensures.value)).0
 
 pub returns-in-Ok-clause-accepted : goal.returns-in-Ok-clause-accepted
-returns-in-Ok-clause-accepted c = (standalone_accepted c.args.limit _ _ (rw c.new-text.ensures at c.in-Ok.ensures.value)).2
+returns-in-Ok-clause-accepted c = (standalone_accepted c.args.limit _ _ (rw c.new-text.ensures at c.in-Ok.ensures.value)).3
 
 pub returns-in-Err-Told-clause-invalid : goal.returns-in-Err-Told-clause-invalid
 returns-in-Err-Told-clause-invalid c = λ k.

@@ -1,0 +1,203 @@
+-- The reader that makes trees makes those of the values that are read.
+use Rattle.std.proofs.Common.{◌≡◌, ℕ, zero, suc, ◌+◌, ◌<◌, Bool, true, false, cond, eqb, List, [], ◌∷◌, ◌++◌, length, map, Option, Some, None, Result, Ok, Err, refl, sym, ap, ◌∙◌, arith}
+use Rattle.std.specs.Prelude.{pos, negsuc}
+use Rattle.cbor_edn_core.specs.declared.cbor.Width.{Width}
+use Rattle.cbor_edn_core.specs.declared.from_cbor.CborError.{CborError}
+use Rattle.cbor_edn_core.specs.declared.from_cbor.reader.Stop.{Stop}
+use Rattle.cbor_edn_core.specs.declared.from_cbor.reader.Stop.TheVariants.{Break}
+use Rattle.cbor_edn_core.specs.Items as kind
+use Rattle.cbor_edn_core.specs.Items.{Node, Item, Items, Entries, Elements, Number, Listed, Element, Pair, End, Then}
+use Rattle.cbor_edn_core.specs.Trees.{Tree, OneItem, OneEntry, Rest, NumberTree, ListTree, ElementTree}
+use Rattle.cbor_edn_core.specs.Value.{Value, unsigned, negative, byte_string, chunks, array, object, tag, Values, no_values, value, values_len, Pairs, no_pairs, pair, pairs_len}
+use Rattle.cbor_edn_core.specs.Decoded as decoded
+use Rattle.cbor_edn_core.specs.Decoded.{item_of, items_of, list_indicator, in_front, inside, key_value, regular}
+use Rattle.cbor_edn_core.specs.CborReading.{◌>>=◌, Reads, Reader, head_at, many, until, several, past, turn, pair_at, Makes, item_by, item_at, array_by, map_by, number_by, other_by, number_tree, argument_indicator, list_tree, row_of, element_row, trees}
+use Rattle.cbor_edn_core.proofs.MeaningSteps.{bind, both_steps, some_is}
+use Rattle.cbor_edn_core.proofs.CborHeads.{bind_ok}
+use Rattle.cbor_edn_core.proofs.CborValues.{values_of, pairs_of, argument_width, makes, value_at}
+
+-- the tree of a value that has an item
+abbrev mutual
+  pub tree_of : Value → Tree OneItem
+  tree_of (unsigned w n) = number_tree (pos n) w n
+  tree_of (negative w n) = number_tree (negsuc n) w n
+  tree_of (array w vs) = ListTree Elements (inside (list_indicator w (values_len vs)) (row_tree vs))
+  tree_of (object w ps) = ListTree kind.Pairs (inside (list_indicator w (pairs_len ps)) (pair_row_tree ps))
+  tree_of _ = NumberTree [] None
+
+  pub row_tree : Values → Option (Tree (Rest Elements))
+  row_tree no_values = None
+  row_tree (value v vs) = Some (in_front (ElementTree (tree_of v)) (row_tree vs))
+
+  pub pair_row_tree : Pairs → Option (Tree (Rest kind.Pairs))
+  pair_row_tree no_pairs = None
+  pair_row_tree (pair k v ps) = Some (in_front (key_value (tree_of k) (tree_of v)) (pair_row_tree ps))
+
+mutual
+  unfolding regular
+
+  pub tree_of_item : (v : Value) (x : Node Item) → item_of v ≡ Some x → tree_of v ≡ regular x
+  tree_of_item (unsigned w n) x e = ap regular (some_is _ x e)
+  tree_of_item (negative w n) x e = ap regular (some_is _ x e)
+  tree_of_item (byte_string w bs) x e = absurd cc
+  tree_of_item (chunks cs) x e = absurd cc
+  tree_of_item (array w vs) x e =
+      let a = both_steps (items_of vs) (λ m. Some (Listed Elements (list_indicator w (values_len vs)) m)) x e in
+      ap (λ m. ListTree Elements (inside (list_indicator w (values_len vs)) m)) (row_tree_of_items vs a.0 a.1) ∙ ap regular (some_is _ x a.2)
+  tree_of_item (object w ps) x e =
+      let a = both_steps (decoded.pairs_of ps) (λ m. Some (Listed kind.Pairs (list_indicator w (pairs_len ps)) m)) x e in
+      ap (λ m. ListTree kind.Pairs (inside (list_indicator w (pairs_len ps)) m)) (row_tree_of_pairs ps a.0 a.1) ∙ ap regular (some_is _ x a.2)
+  tree_of_item (tag w n v) x e = absurd cc
+
+  pub row_tree_of_items : (vs : Values) (m : Items) → items_of vs ≡ Some m → row_tree vs ≡ regular m
+  row_tree_of_items no_values m e = ap regular (some_is End m e)
+  row_tree_of_items (value v vs) m e =
+      let a = both_steps (item_of v) (λ x. bind (items_of vs) (λ m. Some (Then (Element x) m))) m e in
+      let b = both_steps (items_of vs) (λ m. Some (Then (Element a.0) m)) m a.2 in
+      ap (λ w. Some (in_front (ElementTree w) (row_tree vs))) (tree_of_item v a.0 a.1) ∙ ap (λ r. Some (in_front (ElementTree (regular a.0)) r)) (row_tree_of_items vs b.0 b.1) ∙ ap regular (some_is _ m b.2)
+
+  row_tree_of_pairs : (ps : Pairs) (m : Node (Entries kind.Pairs)) → decoded.pairs_of ps ≡ Some m → pair_row_tree ps ≡ regular m
+  row_tree_of_pairs no_pairs m e = ap regular (some_is End m e)
+  row_tree_of_pairs (pair k v ps) m e =
+      let a = both_steps (item_of k) (λ x. bind (item_of v) (λ y. bind (decoded.pairs_of ps) (λ m. Some (Then (Pair x y) m)))) m e in
+      let b = both_steps (item_of v) (λ y. bind (decoded.pairs_of ps) (λ m. Some (Then (Pair a.0 y) m))) m a.2 in
+      let c = both_steps (decoded.pairs_of ps) (λ m. Some (Then (Pair a.0 b.0) m)) m b.2 in
+      ap (λ w. Some (in_front (key_value w (tree_of v)) (pair_row_tree ps))) (tree_of_item k a.0 a.1) ∙ ap (λ w. Some (in_front (key_value (regular a.0) w) (pair_row_tree ps))) (tree_of_item v b.0 b.1)
+      ∙ ap (λ r. Some (in_front (key_value (regular a.0) (regular b.0)) r)) (row_tree_of_pairs ps c.0 c.1) ∙ ap regular (some_is _ m c.2)
+
+-- ---- reading, seen by a function
+
+abbrev pub shown : {A B : Type 0} → (A → B) → Reads A → Reads B
+shown f (Ok x) = Ok (f x.0, x.1)
+shown f (Err e) = Err e
+
+-- one reader gives what another gives, seen by a function
+abbrev pub Shows : {A B : Type 0} → (A → B) → Reader B → Reader A → Type 0
+Shows f one other = (bytes : List ℕ) → one bytes ≡ shown f (other bytes)
+
+-- steps whose first step is shown
+shown_step : {A B C D : Type 0} (f : A → B) (g : C → D) (r : Reads B) (s : Reads A) (k : B × List ℕ → Reads D) (l : A × List ℕ → Reads C) → r ≡ shown f s → ((x : A × List ℕ) → s ≡ Ok x → k (f x.0, x.1) ≡ shown g (l x)) → (r >>= k) ≡ shown g (s >>= l)
+shown_step f g r (Ok x) k l first next = ap (λ q. q >>= k) first ∙ next x refl
+shown_step f g r (Err e) k l first next = ap (λ q. q >>= k) first
+
+many_shown : {A B : Type 0} (f : A → B) (one : Reader B) (other : Reader A) → Shows f one other → (n : ℕ) → Shows (map f) (many one n) (many other n)
+unfolding many
+many_shown f one other shows zero bytes = refl
+many_shown {A} {B} f one other shows (suc n) bytes =
+    shown_step f (map f) (one bytes) (other bytes) (λ x. many one n x.1 >>= λ xs. Ok (x.0 ∷ xs.0, xs.1)) (λ x. many other n x.1 >>= λ xs. Ok (x.0 ∷ xs.0, xs.1)) (shows bytes)
+    (λ x _. shown_step (map f) (map f) (many one n x.1) (many other n x.1) (λ xs. Ok (f x.0 ∷ xs.0, xs.1)) (λ xs. Ok (x.0 ∷ xs.0, xs.1)) (many_shown f one other shows n x.1) (λ xs _. refl))
+
+turn_shown : {A B : Type 0} (f : A → B) (one : Reader B) (other : Reader A) (more : Reader (List B)) (others : Reader (List A)) → Shows f one other → Shows (map f) more others → (bytes : List ℕ) (o : Option (List ℕ))
+    → turn one more bytes o ≡ shown (map f) (turn other others bytes o)
+turn_shown f one other more others shows next bytes (Some rest) = refl
+turn_shown f one other more others shows next bytes None =
+    shown_step f (map f) (one bytes) (other bytes) (λ x. more x.1 >>= λ xs. Ok (x.0 ∷ xs.0, xs.1)) (λ x. others x.1 >>= λ xs. Ok (x.0 ∷ xs.0, xs.1)) (shows bytes)
+    (λ x _. shown_step (map f) (map f) (more x.1) (others x.1) (λ xs. Ok (f x.0 ∷ xs.0, xs.1)) (λ xs. Ok (x.0 ∷ xs.0, xs.1)) (next x.1) (λ xs _. refl))
+
+pub until_shown : {A B : Type 0} (f : A → B) (stop : Stop) (one : Reader B) (other : Reader A) → Shows f one other → (n : ℕ) → Shows (map f) (until stop one n) (until stop other n)
+unfolding until
+until_shown f stop one other shows zero bytes = refl
+until_shown f stop one other shows (suc n) bytes = turn_shown f one other (until stop one n) (until stop other n) shows (until_shown f stop one other shows n) bytes (past stop bytes)
+
+several_shown : {A B : Type 0} (f : A → B) (one : Reader B) (other : Reader A) → Shows f one other → (argument : Option (Width × ℕ)) → Shows (map f) (several one argument) (several other argument)
+unfolding several
+several_shown f one other shows (Some (w, n)) bytes = many_shown f one other shows n bytes
+several_shown f one other shows None bytes = until_shown f Break one other shows (suc (length bytes)) bytes
+
+abbrev pair_tree : Value × Value → Tree (OneEntry kind.Pairs)
+pair_tree p = key_value (tree_of p.0) (tree_of p.1)
+
+pair_shown : (one : Reader (Tree OneItem)) (other : Reader Value) → Shows tree_of one other → Shows pair_tree (pair_at trees one) (pair_at (makes false) other)
+unfolding pair_at
+pair_shown one other shows bytes =
+    shown_step tree_of pair_tree (one bytes) (other bytes) (λ k. one k.1 >>= λ v. Ok (key_value k.0 v.0, v.1)) (λ k. other k.1 >>= λ v. Ok ((k.0, v.0), v.1)) (shows bytes)
+    (λ k _. shown_step tree_of pair_tree (one k.1) (other k.1) (λ v. Ok (key_value (tree_of k.0) v.0, v.1)) (λ v. Ok ((k.0, v.0), v.1)) (shows k.1) (λ v _. refl))
+
+-- so many were read
+many_len : {A : Type 0} (one : Reader A) (n : ℕ) (bytes : List ℕ) (x : List A × List ℕ) → many one n bytes ≡ Ok x → length x.0 ≡ n
+unfolding many
+many_len {A} one zero bytes x e = (let same : ([], bytes) ≡ x = cc in ap (λ (y : List A × List ℕ). length y.0) (sym same))
+many_len {A} one (suc n) bytes x e =
+    let a = bind_ok (one bytes) (λ y. many one n y.1 >>= λ ys. Ok (y.0 ∷ ys.0, ys.1)) x e in
+    let b = bind_ok (many one n a.0.1) (λ ys. Ok (a.0.0 ∷ ys.0, ys.1)) x a.2 in
+    let len : length b.0.0 ≡ n = many_len one n a.0.1 b.0 b.1 in
+    let same : (a.0.0 ∷ b.0.0, b.0.1) ≡ x = (let g = b.2 in cc) in
+    ap (λ (y : List A × List ℕ). length y.0) (sym same) ∙ ap suc len
+
+-- the indicator of the head is that of the list
+indicator_is : {A : Type 0} (one : Reader A) (argument : Option (Width × ℕ)) (bytes : List ℕ) (x : List A × List ℕ) → several one argument bytes ≡ Ok x → argument_indicator argument ≡ list_indicator (argument_width argument) (length x.0)
+unfolding several
+indicator_is one None bytes x e = refl
+indicator_is one (Some (w, n)) bytes x e = ap (λ k. decoded.indicator_of w k) (sym (many_len one n bytes x e))
+
+pub values_row : (vs : List Value) → (row_of (map ElementTree (map tree_of vs)) ≡ row_tree (values_of vs)) × (values_len (values_of vs) ≡ length vs)
+values_row [] = (refl, refl)
+values_row (v ∷ vs) = let r = values_row vs in (ap (λ m. Some (in_front (ElementTree (tree_of v)) m)) r.0, omega (arith, r.1))
+
+pairs_row : (ps : List (Value × Value)) → (row_of (map pair_tree ps) ≡ pair_row_tree (pairs_of ps)) × (pairs_len (pairs_of ps) ≡ length ps)
+pairs_row [] = (refl, refl)
+pairs_row (p ∷ ps) = let r = pairs_row ps in (ap (λ m. Some (in_front (pair_tree p) m)) r.0, omega (arith, r.1))
+
+-- what reads inside
+abbrev InnerShows : Option (Reader (Tree OneItem)) → Option (Reader Value) → Type 0
+InnerShows None None = Unit {0}
+InnerShows (Some one) (Some other) = Shows tree_of one other
+InnerShows _ _ = ⊥
+
+array_shown : (i : Option (Reader (Tree OneItem))) (j : Option (Reader Value)) (argument : Option (Width × ℕ)) (rest : List ℕ) → InnerShows i j → array_by trees i argument rest ≡ shown tree_of (array_by (makes false) j argument rest)
+array_shown None None argument rest shows = refl
+array_shown (Some one) (Some other) argument rest shows =
+    shown_step (map tree_of) tree_of (several one argument rest) (several other argument rest) (λ xs. Ok (list_tree Elements argument (element_row xs.0), xs.1)) (λ xs. Ok (array (argument_width argument) (values_of xs.0), xs.1)) (several_shown tree_of one other shows argument rest)
+    (λ xs is. let row = values_row xs.0 in
+    ap (λ i. Ok (ListTree Elements (inside i (row_of (map ElementTree (map tree_of xs.0)))), xs.1)) (indicator_is other argument rest xs is ∙ ap (list_indicator (argument_width argument)) (sym row.1))
+    ∙ ap (λ m. Ok (ListTree Elements (inside (list_indicator (argument_width argument) (values_len (values_of xs.0))) m), xs.1)) row.0)
+array_shown None (Some other) argument rest shows = absurd shows
+array_shown (Some one) None argument rest shows = absurd shows
+
+map_shown : (i : Option (Reader (Tree OneItem))) (j : Option (Reader Value)) (argument : Option (Width × ℕ)) (rest : List ℕ) → InnerShows i j → map_by trees i argument rest ≡ shown tree_of (map_by (makes false) j argument rest)
+map_shown None None argument rest shows = refl
+map_shown (Some one) (Some other) argument rest shows =
+    shown_step (map pair_tree) tree_of (several (pair_at trees one) argument rest) (several (pair_at (makes false) other) argument rest) (λ xs. Ok (list_tree kind.Pairs argument (row_of xs.0), xs.1)) (λ xs. Ok (object (argument_width argument) (pairs_of xs.0), xs.1))
+    (several_shown pair_tree (pair_at trees one) (pair_at (makes false) other) (pair_shown one other shows) argument rest)
+    (λ xs is. let row = pairs_row xs.0 in
+    ap (λ i. Ok (ListTree kind.Pairs (inside i (row_of (map pair_tree xs.0))), xs.1)) (indicator_is (pair_at (makes false) other) argument rest xs is ∙ ap (list_indicator (argument_width argument)) (sym row.1))
+    ∙ ap (λ m. Ok (ListTree kind.Pairs (inside (list_indicator (argument_width argument) (pairs_len (pairs_of xs.0))) m), xs.1)) row.0)
+map_shown None (Some other) argument rest shows = absurd shows
+map_shown (Some one) None argument rest shows = absurd shows
+
+number_shown : (make : Width → ℕ → Tree OneItem) (made : Width → ℕ → Value) (argument : Option (Width × ℕ)) (rest : List ℕ) → ((w : Width) (n : ℕ) → make w n ≡ tree_of (made w n)) → number_by make argument rest ≡ shown tree_of (number_by made argument rest)
+number_shown make made None rest same = refl
+number_shown make made (Some (w, n)) rest same = ap (λ t. Ok (t, rest)) (same w n)
+
+abbrev other_value : ℕ → Option (Width × ℕ) → Reads Value
+other_value major argument = other_by major argument
+
+abbrev other_tree : ℕ → Option (Width × ℕ) → Reads (Tree OneItem)
+other_tree major argument = other_by major argument
+
+choice : (b : Bool) (r t : Reads (Tree OneItem)) (s u : Reads Value) → r ≡ shown tree_of s → t ≡ shown tree_of u → cond b r t ≡ shown tree_of (cond b s u)
+choice true r t s u first second = first
+choice false r t s u first second = second
+
+other_shown : (major : ℕ) (argument : Option (Width × ℕ)) → other_tree major argument ≡ shown tree_of (other_value major argument)
+other_shown major None = choice (eqb major 7) _ _ _ _ refl refl
+other_shown major (Some a) = choice (eqb major 7) _ _ _ _ refl refl
+
+item_by_shown : (i : Option (Reader (Tree OneItem))) (j : Option (Reader Value)) (major : ℕ) (argument : Option (Width × ℕ)) (rest : List ℕ) → InnerShows i j → item_by trees i major argument rest ≡ shown tree_of (item_by (makes false) j major argument rest)
+unfolding item_by
+item_by_shown i j major argument rest shows =
+    choice (eqb major 0) _ _ _ _ (number_shown (λ w n. number_tree (pos n) w n) unsigned argument rest (λ w n. refl))
+    (choice (eqb major 1) _ _ _ _ (number_shown (λ w n. number_tree (negsuc n) w n) negative argument rest (λ w n. refl))
+    (choice (eqb major 4) _ _ _ _ (array_shown i j argument rest shows) (choice (eqb major 5) _ _ _ _ (map_shown i j argument rest shows) (other_shown major argument))))
+
+head_step : {H A B : Type 0} (f : A → B) (r : Result H CborError) (k : H → Reads B) (l : H → Reads A) → ((h : H) → k h ≡ shown f (l h)) → (r >>= k) ≡ shown f (r >>= l)
+head_step f (Ok h) k l next = next h
+head_step f (Err e) k l next = refl
+
+-- the trees that are read are those of the values
+pub tree_read : (limit : ℕ) → Shows tree_of (item_at trees limit) (value_at false limit)
+unfolding item_at
+tree_read zero bytes = head_step tree_of (head_at bytes) (λ h. item_by trees None h.0.0 h.0.1 h.1) (λ h. item_by (makes false) None h.0.0 h.0.1 h.1) (λ h. item_by_shown None None h.0.0 h.0.1 h.1 tt)
+tree_read (suc d) bytes =
+    head_step tree_of (head_at bytes) (λ h. item_by trees (Some (item_at trees d)) h.0.0 h.0.1 h.1) (λ h. item_by (makes false) (Some (value_at false d)) h.0.0 h.0.1 h.1)
+    (λ h. item_by_shown (Some (item_at trees d)) (Some (value_at false d)) h.0.0 h.0.1 h.1 (tree_read d))

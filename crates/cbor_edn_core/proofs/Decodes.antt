@@ -1,0 +1,243 @@
+-- What a call that decodes answers, from what its reader gives.
+use Rattle.std.proofs.Common.{◌≡◌, ◌≢◌, ℕ, zero, suc, ◌+◌, ◌<◌, ◌≤◌, Bool, true, false, eqb, List, [], ◌∷◌, ◌++◌, length, map, Option, Some, None, Result, Ok, Err, refl, sym, ap, subst, ◌∙◌, ◌⊎◌, arith, inl, inr}
+use Rattle.std.specs.Prelude.{option_map, IfOk}
+use Rattle.std.specs.List.{flat_map, AllByRecursion}
+use Rattle.std.proofs.lemmas.Bool.{cases_lt, eqb-true}
+use Rattle.std.proofs.lemmas.List.{append-nil, length-append}
+use Rattle.cbor_edn_parts.specs.declared.error.Fault.{Fault}
+use Rattle.cbor_edn_parts.specs.declared.error.Fault.TheVariants.{Memory, Told}
+use Rattle.cbor_edn_parts.specs.Leaves.{s_bytes}
+use Rattle.cbor_edn_parts.specs.declared.number.Number.{Number}
+use Rattle.cbor_edn_parts.specs.declared.space.S.{S}
+use Rattle.cbor_edn_parts.specs.declared.space.Ms.{Ms}
+use Rattle.cbor_edn_parts.specs.declared.space.Msc.{Msc}
+use Rattle.cbor_edn_parts.specs.declared.space.Soc.{Soc}
+use Rattle.cbor_edn_core.specs.declared.tree.Items.{Items as ItemsOf}
+use Rattle.cbor_edn_core.specs.declared.tree.Texts.{Texts}
+use Rattle.cbor_edn_core.specs.View.{texts, view_items, sequence_tree}
+use Rattle.cbor_edn_core.specs.declared.from_cbor.CborError.{CborError}
+use Rattle.cbor_edn_core.specs.declared.from_cbor.CborError.TheVariants.{TooDeep, DataAfter}
+use Rattle.cbor_edn_core.specs.declared.from_cbor.reader.Stop.TheVariants.{EndOfData}
+use Rattle.cbor_edn_core.specs.Items.{Elements, Node, Item, Items}
+use Rattle.cbor_edn_core.specs.Trees.{Tree, OneItem, Rest, Seq, NothingTree, SequenceTree, items}
+use Rattle.cbor_edn_core.specs.Value.{Value, Values, encoding, encodings, nesting, values_nesting, values_len, Enc, EncAll}
+use Rattle.cbor_edn_core.specs.Meaning.{means}
+use Rattle.cbor_edn_core.specs.Refusals.{IfTold}
+use Rattle.cbor_edn_core.specs.Decoded.{item_of, items_of, regular, sequence_tree_of, regular_sequence, Begins, IsDecoded, IsDecodedSequence, NoneIs, high_bytes, IsTooDeep, NoSequence, IsTooDeepSequence}
+use Rattle.cbor_edn_core.specs.CborReading.{◌>>=◌, Reads, Reader, Gives, Fails, item_at, until, past, turn, trees, element_row, sequence_at}
+use Rattle.cbor_edn_core.proofs.Readable.{with_item, with_items, has_item, has_items}
+use Rattle.cbor_edn_core.proofs.CborHeads.{IsBytes, bind_ok}
+use Rattle.cbor_edn_core.proofs.CborValues.{values_of, list_of, values_of_list, value_at}
+use Rattle.cbor_edn_core.proofs.CborOutcomes.{outcome, within, beyond, values_many}
+use Rattle.cbor_edn_core.proofs.CborAgain.{item_again, values_until}
+use Rattle.cbor_edn_core.proofs.CborTakes.{Within, item_takes, until_takes, values_are}
+use Rattle.cbor_edn_core.proofs.CborDeep.{item_deep, until_deep}
+use Rattle.cbor_edn_core.proofs.CborTrees.{tree_of, tree_of_item, row_tree, row_tree_of_items, shown, tree_read, until_shown, values_row}
+use Rattle.cbor_edn_core.proofs.Decoding.{row_items, items_again, item_means, items_mean}
+
+-- ---- results
+
+abbrev answer : {A : Type 0} → A → Result A CborError
+answer x = Ok x
+
+answers : {A : Type 0} (x y : A) → answer x ≡ answer y → x ≡ y
+answers x y e = cc
+
+abbrev refusal : {A : Type 0} → CborError → Result A CborError
+refusal {A} e = Err e
+
+answer_refused : {A : Type 0} (x : A) (e : CborError) → answer x ≡ refusal e → ⊥
+answer_refused x e is = cc
+
+same_refusal : {A : Type 0} (d e : CborError) → refusal {A = A} d ≡ refusal e → d ≡ e
+same_refusal d e is = cc
+
+-- what was shown
+shown_ok : {A B : Type 0} (f : A → B) (r : Reads A) (y : B × List ℕ) → shown f r ≡ Ok y → (x : A × List ℕ) × (r ≡ Ok x) × ((f x.0, x.1) ≡ y)
+shown_ok f (Ok x) y e = (x, refl, answers (f x.0, x.1) y e)
+shown_ok f (Err e) y is = absurd cc
+
+shown_err : {A B : Type 0} (f : A → B) (r : Reads A) (e : CborError) → shown f r ≡ Err e → r ≡ Err e
+shown_err f (Ok x) e is = absurd cc
+shown_err {A} {B} f (Err d) e is = ap (λ d. refusal d) (same_refusal {A = B × List ℕ} d e is)
+
+shown_outcome : {A B : Type 0} (f : A → B) (n limit : ℕ) (x : A) (rest : List ℕ) → shown f (outcome n limit (x, rest)) ≡ outcome n limit (f x, rest)
+shown_outcome f n limit x rest =
+    elim (cases_lt limit n) [
+      | inl lt ↦ ap (shown f) (beyond n limit (x, rest) lt) ∙ sym (beyond n limit (f x, rest) lt)
+      | inr le ↦ ap (shown f) (within n limit (x, rest) le) ∙ sym (within n limit (f x, rest) le)
+    ]
+
+-- an outcome that is refused is too deep
+outcome_err : {A : Type 0} (n limit : ℕ) (x : A) (e : CborError) → outcome n limit x ≡ Err e → (limit < n) × (e ≡ TooDeep)
+outcome_err {A} n limit x e is =
+    elim (cases_lt limit n) [
+      | inl lt ↦ (lt, same_refusal {A = A} e TooDeep (sym is ∙ beyond n limit x lt))
+      | inr le ↦ absurd (answer_refused x e (sym (within n limit x le) ∙ is))
+    ]
+
+outcome_ok : {A : Type 0} (n limit : ℕ) (x y : A) → outcome n limit x ≡ Ok y → x ≡ y
+outcome_ok n limit x y is =
+    elim (cases_lt limit n) [
+      | inl lt ↦ absurd (answer_refused y TooDeep (sym is ∙ beyond n limit x lt))
+      | inr le ↦ answers x y (sym (within n limit x le) ∙ is)
+    ]
+
+pub is_empty : (xs : List ℕ) → eqb (length xs) 0 ≡ true → xs ≡ []
+is_empty [] e = refl
+is_empty (x ∷ xs) e = let wrong = eqb-true (length (x ∷ xs)) 0 e in absurd (omega arith)
+
+pub not_empty : (xs : List ℕ) → eqb (length xs) 0 ≡ false → xs ≢ []
+not_empty [] e = absurd cc
+not_empty (x ∷ xs) e = λ is. cc
+
+-- ---- one item
+
+-- the bytes begin with an encoding
+abbrev Somewhere : List ℕ → Value → Type 0
+Somewhere bytes v = (rest : List ℕ) × Begins bytes rest v
+
+module _ (limit : ℕ) (bytes : List ℕ) where
+  tree_found : (v : Value) (rest : List ℕ) → Begins bytes rest v → (x : Node Item) → item_of v ≡ Some x → item_at trees limit bytes ≡ outcome (nesting v) limit (tree_of v, rest)
+  tree_found v rest begins x is =
+      tree_read limit bytes ∙ ap (shown tree_of) (ap (value_at false limit) (begins.2 ∙ ap (λ (l : List ℕ). l ++ rest) begins.1.1) ∙ item_again false v limit rest begins.1.0 (with_item v x is)) ∙ shown_outcome tree_of (nesting v) limit v rest
+
+  pub found : (y : Tree OneItem × List ℕ) → IsBytes bytes → item_at trees limit bytes ≡ Ok y → IsDecoded limit (Begins bytes y.1) y.0
+  found y fits e =
+      let s = shown_ok tree_of (value_at false limit bytes) y (sym (tree_read limit bytes) ∙ e) in
+      let v = s.0.0 in
+      let good = item_takes limit bytes s.0 fits s.1 in
+      let x = has_item v good.0.2 in
+      let tree : y.0 ≡ regular x.0 = ap (λ (p : Tree OneItem × List ℕ). p.0) (sym s.2) ∙ tree_of_item v x.0 x.1 in
+      let rest_is : s.0.1 ≡ y.1 = ap (λ (p : Tree OneItem × List ℕ). p.1) s.2 in
+      (v, x.0, (encoding v, (good.0.0, refl), good.1.parts ∙ ap (λ (l : List ℕ). encoding v ++ l) rest_is), good.0.1, x.1, tree, ap (λ w. means (items w)) tree ∙ ap means (items_again x.0) ∙ item_means v x.0 good.0.0 x.1)
+
+  pub refused : (e : CborError) → item_at trees limit bytes ≡ Err e → e ≢ TooDeep → NoneIs (Somewhere bytes)
+  refused e is other v x item somewhere = other (outcome_err (nesting v) limit (tree_of v, somewhere.0) e (sym (tree_found v somewhere.0 somewhere.1 x item) ∙ is)).1
+
+  pub too_deep : IsBytes bytes → item_at trees limit bytes ≡ Err TooDeep → IsTooDeep limit bytes (Somewhere bytes)
+  too_deep fits is = (
+    item_deep limit bytes fits (shown_err tree_of (value_at false limit bytes) TooDeep (sym (tree_read limit bytes) ∙ is)),
+    λ v x item somewhere. (outcome_err (nesting v) limit (tree_of v, somewhere.0) TooDeep (sym (tree_found v somewhere.0 somewhere.1 x item) ∙ is)).0,
+  )
+
+  -- all of the bytes
+  abbrev whole : (v : Value) → Enc bytes v → Somewhere bytes v
+  whole v enc = ([], (bytes, enc, sym (append-nil bytes)))
+
+  pub found_whole : (y : Tree OneItem × List ℕ) → IsBytes bytes → item_at trees limit bytes ≡ Ok y → y.1 ≡ [] → IsDecoded limit (Enc bytes) y.0
+  found_whole y fits e ends =
+      let d = found y fits e in
+      let same : bytes ≡ d.2.0 = d.2.2 ∙ ap (λ (l : List ℕ). d.2.0 ++ l) ends ∙ append-nil d.2.0 in
+      (d.0, d.1, subst (λ (l : List ℕ). Enc l d.0) (sym same) d.2.1, d.3, d.4, d.5, d.6)
+
+  pub refused_whole : (e : CborError) → item_at trees limit bytes ≡ Err e → e ≢ TooDeep → NoneIs (Enc bytes)
+  refused_whole e is other v x item enc = refused e is other v x item (whole v enc)
+
+  pub too_deep_whole : IsBytes bytes → item_at trees limit bytes ≡ Err TooDeep → IsTooDeep limit bytes (Enc bytes)
+  too_deep_whole fits is = let t = too_deep fits is in (t.0, λ v x item enc. t.1 v x item (whole v enc))
+
+  -- where more follows
+  pub refused_behind : (y : Tree OneItem × List ℕ) → item_at trees limit bytes ≡ Ok y → y.1 ≢ [] → NoneIs (Enc bytes)
+  refused_behind y e more v x item enc =
+      let w = whole v enc in
+      let same = outcome_ok (nesting v) limit (tree_of v, []) y (sym (tree_found v [] w.1 x item) ∙ e) in
+      more (ap (λ (p : Tree OneItem × List ℕ). p.1) (sym same))
+
+  -- of a call's result
+  pub gives_accepted : {T : Type 0} (view : T → Tree OneItem × List ℕ) (r : Result T (Fault CborError)) → IsBytes bytes → Gives view r (item_at trees limit bytes) → IfOk r (λ x. IsDecoded limit (Begins bytes (view x).1) (view x).0)
+  gives_accepted view (Ok x) fits given = found (view x) fits given
+  gives_accepted view (Err e) fits given = tt
+
+  pub gives_refused : {T : Type 0} (view : T → Tree OneItem × List ℕ) (r : Result T (Fault CborError)) → Gives view r (item_at trees limit bytes) → IfTold r (λ e. e ≢ TooDeep → NoneIs (Somewhere bytes))
+  gives_refused view (Ok x) given = tt
+  gives_refused view (Err (Memory e)) given = tt
+  gives_refused view (Err (Told e)) given = refused e given
+
+  pub gives_deep : {T : Type 0} (view : T → Tree OneItem × List ℕ) (r : Result T (Fault CborError)) → IsBytes bytes → Gives view r (item_at trees limit bytes) → IfTold r (λ e. e ≡ TooDeep → IsTooDeep limit bytes (Somewhere bytes))
+  gives_deep view (Ok x) fits given = tt
+  gives_deep view (Err (Memory e)) fits given = tt
+  gives_deep view (Err (Told e)) fits given = λ is. too_deep fits (given ∙ ap (λ d. refusal d) is)
+
+  pub fails_refused : (T : Type 0) (f : Fault CborError) → Fails f (item_at trees limit bytes) → IfTold {X = T} (Err f) (λ e. e ≢ TooDeep → NoneIs (Enc bytes))
+  fails_refused T (Memory e) fails = tt
+  fails_refused T (Told e) fails = refused_whole e fails
+
+  pub fails_deep : (T : Type 0) (f : Fault CborError) → IsBytes bytes → Fails f (item_at trees limit bytes) → IfTold {X = T} (Err f) (λ e. e ≡ TooDeep → IsTooDeep limit bytes (Enc bytes))
+  fails_deep T (Memory e) fits fails = tt
+  fails_deep T (Told e) fits fails = λ is. too_deep_whole fits (fails ∙ ap (λ d. refusal d) is)
+
+-- ---- sequences
+
+stopped : (xs rest : List ℕ) → past EndOfData xs ≡ Some rest → rest ≡ []
+stopped [] rest is = cc
+stopped (b ∷ xs) rest is = absurd cc
+
+ends_by : {A : Type 0} (one : Reader A) (more : Reader (List A)) → ((bytes : List ℕ) (x : List A × List ℕ) → more bytes ≡ Ok x → x.1 ≡ []) → (bytes : List ℕ) (x : List A × List ℕ) (o : Option (List ℕ)) → past EndOfData bytes ≡ o → turn one more bytes o ≡ Ok x → x.1 ≡ []
+ends_by {A} one more again bytes x (Some rest) is e = ap (λ (y : List A × List ℕ). y.1) (sym (answers ([], rest) x e)) ∙ stopped bytes rest is
+ends_by {A} one more again bytes x None is e =
+    let a = bind_ok (one bytes) (λ y. more y.1 >>= λ ys. Ok (y.0 ∷ ys.0, ys.1)) x e in
+    let b = bind_ok (more a.0.1) (λ ys. Ok (a.0.0 ∷ ys.0, ys.1)) x a.2 in
+    ap (λ (y : List A × List ℕ). y.1) (sym (answers (a.0.0 ∷ b.0.0, b.0.1) x b.2)) ∙ again a.0.1 b.0 b.1
+
+-- a sequence is read to its end
+ends_at : {A : Type 0} (one : Reader A) (n : ℕ) (bytes : List ℕ) (x : List A × List ℕ) → until EndOfData one n bytes ≡ Ok x → x.1 ≡ []
+unfolding until
+ends_at one zero bytes x e = absurd cc
+ends_at one (suc n) bytes x e = ends_by one (until EndOfData one n) (ends_at one n) bytes x (past EndOfData bytes) refl e
+
+module _ (limit : ℕ) (bytes : List ℕ) where
+  sequence_read : sequence_at trees limit bytes ≡ shown (map tree_of) (until EndOfData (value_at false limit) (suc (length bytes)) bytes)
+  sequence_read = until_shown tree_of EndOfData (item_at trees limit) (value_at false limit) (tree_read limit) (suc (length bytes)) bytes
+
+  sequence_again : (vs : Values) (m : Items) → items_of vs ≡ Some m → EncAll bytes vs → sequence_at trees limit bytes ≡ outcome (values_nesting vs) limit (map tree_of (list_of vs), [])
+  sequence_again vs m item enc =
+      let all : encodings vs ++ [] ≡ bytes = append-nil (encodings vs) ∙ sym enc.1 in
+      let read : until EndOfData (value_at false limit) (suc (length bytes)) bytes ≡ outcome (values_nesting vs) limit (list_of vs, []) =
+      ap (until EndOfData (value_at false limit) (suc (length bytes))) (sym all)
+      ∙ values_until false vs enc.0 (with_items vs m item) EndOfData limit (suc (length bytes)) [] [] refl (omega (arith, values_many vs, ap length enc.1)) in
+      sequence_read ∙ ap (shown (map tree_of)) read ∙ shown_outcome (map tree_of) (values_nesting vs) limit (list_of vs) []
+
+  pub sequence_found : (y : List (Tree OneItem) × List ℕ) → IsBytes bytes → sequence_at trees limit bytes ≡ Ok y → (vs : Values) × (m : Items) × EncAll bytes vs × (values_nesting vs ≤ limit) × (items_of vs ≡ Some m) × (element_row y.0 ≡ regular m) × (means m ≡ Some vs)
+  sequence_found y fits e =
+      let s = shown_ok (map tree_of) (until EndOfData (value_at false limit) (suc (length bytes)) bytes) y (sym sequence_read ∙ e) in
+      let t = until_takes EndOfData (Within limit) encoding (value_at false limit) (item_takes limit) (suc (length bytes)) bytes s.0 fits s.1 in
+      let are = values_are limit s.0.0 t.0 in
+      let vs = values_of s.0.0 in
+      let m = has_items vs are.known in
+      let split : bytes ≡ encodings vs = t.1.parts ∙ ap (λ (l : List ℕ). (flat_map encoding s.0.0 ++ []) ++ l) (ends_at (value_at false limit) (suc (length bytes)) bytes s.0 s.1) ∙ append-nil _ ∙ append-nil (flat_map encoding s.0.0) ∙ are.spelled in
+      (vs, m.0, (are.fit, split), are.nested, m.1, ap (λ (p : List (Tree OneItem) × List ℕ). element_row p.0) (sym s.2) ∙ (values_row s.0.0).0 ∙ row_tree_of_items vs m.0 m.1, items_mean vs m.0 are.fit m.1)
+
+  pub sequence_refused : (e : CborError) → sequence_at trees limit bytes ≡ Err e → e ≢ TooDeep → NoSequence bytes
+  sequence_refused e is other vs m item enc = other (outcome_err (values_nesting vs) limit (map tree_of (list_of vs), []) e (sym (sequence_again vs m item enc) ∙ is)).1
+
+  pub sequence_too_deep : IsBytes bytes → sequence_at trees limit bytes ≡ Err TooDeep → IsTooDeepSequence limit bytes
+  sequence_too_deep fits is = (
+    until_deep EndOfData (Within limit) encoding (value_at false limit) limit (item_takes limit) (item_deep limit) (suc (length bytes)) bytes fits
+        (shown_err (map tree_of) (until EndOfData (value_at false limit) (suc (length bytes)) bytes) TooDeep (sym sequence_read ∙ is)),
+    λ vs m item enc. (outcome_err (values_nesting vs) limit (map tree_of (list_of vs), []) TooDeep (sym (sequence_again vs m item enc) ∙ is)).0,
+  )
+
+  pub sequence_fails_refused : (T : Type 0) (f : Fault CborError) → Fails f (sequence_at trees limit bytes) → IfTold {X = T} (Err f) (λ e. e ≢ TooDeep → NoSequence bytes)
+  sequence_fails_refused T (Memory e) fails = tt
+  sequence_fails_refused T (Told e) fails = sequence_refused e fails
+
+  pub sequence_fails_deep : (T : Type 0) (f : Fault CborError) → IsBytes bytes → Fails f (sequence_at trees limit bytes) → IfTold {X = T} (Err f) (λ e. e ≡ TooDeep → IsTooDeepSequence limit bytes)
+  sequence_fails_deep T (Memory e) fits fails = tt
+  sequence_fails_deep T (Told e) fits fails = λ is. sequence_too_deep fits (fails ∙ ap (λ d. refusal d) is)
+
+  sequence_items : (m : Items) (o : Option (Tree (Rest Elements))) → row_items o ≡ m → items (sequence_tree_of o) ≡ m
+  unfolding items
+  sequence_items m None e = e
+  sequence_items m (Some t) e = e
+
+  -- the tree of a sequence that was read
+  pub sequence_decoded : (w : Tree Seq) (o : Option (Tree (Rest Elements))) (ws : List (Tree OneItem)) (rest : List ℕ) → IsBytes bytes → sequence_at trees limit bytes ≡ Ok (ws, rest) → w ≡ sequence_tree_of o → o ≡ element_row ws → IsDecodedSequence limit bytes w
+  sequence_decoded w o ws rest fits e tree row =
+      let f = sequence_found (ws, rest) fits e in
+      let is : w ≡ regular_sequence f.1 = tree ∙ ap sequence_tree_of (row ∙ f.5) in
+      (f.0, f.1, f.2, f.3, f.4, is, ap (λ t. means (items t)) is ∙ ap means (sequence_items f.1 (regular f.1) (items_again f.1)) ∙ f.6)
+
+pub sequence_view : (before : S) (o : Option (ItemsOf Texts S Ms Msc Soc Number)) → s_bytes before ≡ [] → sequence_tree (record { before = before; items = o }) ≡ sequence_tree_of (option_map (view_items texts) o)
+sequence_view before None e = ap NothingTree e
+sequence_view before (Some m) e = ap (λ s. SequenceTree s (view_items texts m)) e

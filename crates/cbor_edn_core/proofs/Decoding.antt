@@ -1,0 +1,207 @@
+-- What is decoded: the tree of an item that means its value, and what refusals say.
+use Rattle.std.proofs.Common.{◌≡◌, ◌≢◌, ℕ, suc, ◌+◌, ◌^◌, ◌<◌, ◌≤◌, Bool, true, false, cond, ltb, List, [], ◌∷◌, ◌++◌, length, map, Option, Some, None, Result, Ok, Err, refl, sym, ap, subst, ◌∙◌, ◌⊎◌, arith, inl, inr}
+use Rattle.std.specs.Prelude.{pos, negsuc, option_map}
+use Rattle.std.specs.Fmt.{signed_decimal}
+use Rattle.std.proofs.lemmas.Bool.{cases_lt, lt-ltb, le-ltb}
+use Rattle.std.proofs.lemmas.List.{append-nil, length-append}
+use Rattle.cbor_edn_parts.specs.Number.{integer_of}
+use Rattle.cbor_edn_parts.proofs.Decimals.{IsDecimal, integer_of_decimal}
+use Rattle.cbor_edn_parts.specs.declared.error.Fault.{Fault}
+use Rattle.cbor_edn_parts.specs.declared.error.Fault.TheVariants.{Memory, Told}
+use Rattle.cbor_edn_parts.specs.declared.indicator.Indicator.{Indicator}
+use Rattle.cbor_edn_parts.specs.declared.indicator.Indicator.TheVariants as indicator
+use Rattle.cbor_edn_core.specs.declared.cbor.Width.{Width}
+use Rattle.cbor_edn_core.specs.declared.cbor.Width.TheVariants.{Immediate, One, Two, Four, Eight}
+use Rattle.cbor_edn_core.specs.declared.from_cbor.CborError.{CborError}
+use Rattle.cbor_edn_core.specs.declared.from_cbor.CborError.TheVariants.{TooDeep}
+use Rattle.cbor_edn_core.specs.declared.from_cbor.reader.Stop.TheVariants.{EndOfData}
+use Rattle.cbor_edn_core.specs.Items as kind
+use Rattle.cbor_edn_core.specs.Items.{Row, Elements, Sort, Node, Item, Items, Entry, Entries, Number, Listed, Element, Pair, End, Then}
+use Rattle.cbor_edn_core.specs.Trees.{Tree, OneItem, OneEntry, Rest, Seq, NothingTree, SequenceTree, items}
+use Rattle.cbor_edn_core.specs.Value.{Value, unsigned, negative, byte_string, chunks, array, object, tag, Values, no_values, value, values_len, Pairs, no_pairs, pair, pairs_len, limit_of, ArgumentFits, LengthFits, Fits, ValuesFit, PairsFit, encoding, encodings, nesting, values_nesting, Enc, EncAll}
+use Rattle.cbor_edn_core.specs.Meaning.{shortest, fitting, width_of, length_of, means_integer, bignum, means, listed}
+use Rattle.cbor_edn_core.specs.Decoded as decoded
+use Rattle.cbor_edn_core.specs.Decoded.{if_below, indicator_of, list_indicator, item_of, items_of, in_front, inside, regular, Regular, sequence_tree_of, regular_sequence, Begins, IsDecoded, IsDecodedSequence, NoneIs, high_bytes, IsTooDeep, NoSequence, IsTooDeepSequence}
+use Rattle.cbor_edn_core.specs.CborReading.{◌>>=◌, Reads, Reader, Gives, Fails, item_at, until, past, trees, element_row}
+use Rattle.cbor_edn_core.proofs.MeaningSteps.{bind, both_steps, some_is}
+use Rattle.cbor_edn_core.proofs.Readable.{Readable, AllReadable, with_item, with_items, has_item, has_items}
+use Rattle.cbor_edn_core.proofs.CborHeads.{IsBytes, Takes}
+use Rattle.cbor_edn_core.proofs.CborValues.{values_of, list_of, values_of_list, value_at}
+use Rattle.cbor_edn_core.proofs.CborOutcomes.{outcome, within, beyond}
+use Rattle.cbor_edn_core.proofs.CborAgain.{item_again, values_until}
+use Rattle.cbor_edn_core.proofs.CborTakes.{Within, item_takes, until_takes, values_are}
+use Rattle.cbor_edn_core.proofs.CborDeep.{item_deep, until_deep}
+use Rattle.cbor_edn_core.proofs.CborTrees.{tree_of, row_tree, tree_of_item, row_tree_of_items, shown, tree_read, until_shown}
+
+-- ---- the items of a regular tree
+
+-- what stands in a row, if anything
+abbrev pub row_items : {k : Row} → Option (Tree (Rest k)) → Node (Entries k)
+row_items None = End
+row_items (Some m) = items m
+
+abbrev pub ItemsAgain : (s : Sort) → Regular s → Node s → Type 0
+ItemsAgain Item w x = items w ≡ x
+ItemsAgain (Entry k) w x = items w ≡ x
+ItemsAgain (Entries k) w x = row_items w ≡ x
+
+inside_items : {k : Row} (i : Option Indicator) (m : Option (Tree (Rest k))) → items (inside i m) ≡ (i, row_items m)
+unfolding items
+inside_items i None = refl
+inside_items None (Some m) = refl
+inside_items (Some i) (Some m) = refl
+
+in_front_items : {k : Row} (e : Tree (OneEntry k)) (m : Option (Tree (Rest k))) → items (in_front e m) ≡ Then (items e) (row_items m)
+unfolding items
+in_front_items e None = refl
+in_front_items e (Some m) = refl
+
+pub items_again : {s : Sort} (x : Node s) → ItemsAgain s (regular x) x
+unfolding items regular
+items_again (Number x i) = refl
+items_again (Listed k i m) = ap (λ p. Listed k p.0 p.1) (inside_items i (regular m)) ∙ ap (Listed k i) (items_again m)
+items_again (Element w) = ap Element (items_again w)
+items_again (Pair v w) = ap (λ y. Pair y (items (regular w))) (items_again v) ∙ ap (Pair v) (items_again w)
+items_again End = refl
+items_again (Then e m) = in_front_items (regular e) (regular m) ∙ ap (λ y. Then y (row_items (regular m))) (items_again e) ∙ ap (Then e) (items_again m)
+
+-- ---- the item of a value means the value
+
+abbrev below : ℕ → ℕ → Type 0
+below n limit = ltb n limit ≡ true
+
+abbrev not_below : ℕ → ℕ → Type 0
+not_below n limit = ltb n limit ≡ false
+
+fits : (w : Width) (n : ℕ) → ArgumentFits w n → fitting w n ≡ Some w
+fits w n lt = let e : ltb n (limit_of w) ≡ true = lt-ltb n (limit_of w) lt in rw e refl
+
+below_64 : (w : Width) (n : ℕ) → ArgumentFits w n → n < 2 ^ 64
+below_64 Immediate n lt = omega arith
+below_64 One n lt = omega arith
+below_64 Two n lt = omega arith
+below_64 Four n lt = omega arith
+below_64 Eight n lt = lt
+
+-- the narrowest width, of what no narrower one fits
+is_shortest : (w : Width) (n : ℕ) → ArgumentFits w n → indicator_of w n ≡ None → shortest n ≡ w
+is_shortest Immediate n lt none = let a : below n 24 = lt-ltb n 24 lt in rw a refl
+is_shortest One n lt none =
+    elim (cases_lt n 24) [
+      | inl small ↦ (let a : below n 24 = lt-ltb n 24 small in let wrong = rw a at none in absurd cc)
+      | inr le ↦ (let a : not_below n 24 = le-ltb n 24 le in let b : below n (2 ^ 8) = lt-ltb n (2 ^ 8) lt in rw (a, b) refl)
+    ]
+is_shortest Two n lt none =
+    elim (cases_lt n (2 ^ 8)) [
+      | inl small ↦ (let a : below n (2 ^ 8) = lt-ltb n (2 ^ 8) small in let wrong = rw a at none in absurd cc)
+      | inr le ↦ (let a : not_below n 24 = le-ltb n 24 (omega arith) in let b : not_below n (2 ^ 8) = le-ltb n (2 ^ 8) le in let c : below n (2 ^ 16) = lt-ltb n (2 ^ 16) lt in rw (a, b, c) refl)
+    ]
+is_shortest Four n lt none =
+    elim (cases_lt n (2 ^ 16)) [
+      | inl small ↦ (let a : below n (2 ^ 16) = lt-ltb n (2 ^ 16) small in let wrong = rw a at none in absurd cc)
+      | inr le ↦ (let a : not_below n 24 = le-ltb n 24 (omega arith) in let b : not_below n (2 ^ 8) = le-ltb n (2 ^ 8) (omega arith) in let c : not_below n (2 ^ 16) = le-ltb n (2 ^ 16) le in let d : below n (2 ^ 32) = lt-ltb n (2 ^ 32) lt in rw (a, b, c, d) refl)
+    ]
+is_shortest Eight n lt none =
+    elim (cases_lt n (2 ^ 32)) [
+      | inl small ↦ (let a : below n (2 ^ 32) = lt-ltb n (2 ^ 32) small in let wrong = rw a at none in absurd cc)
+      | inr le ↦ (let a : not_below n 24 = le-ltb n 24 (omega arith) in let b : not_below n (2 ^ 8) = le-ltb n (2 ^ 8) (omega arith) in let c : not_below n (2 ^ 16) = le-ltb n (2 ^ 16) (omega arith) in let d : not_below n (2 ^ 32) = le-ltb n (2 ^ 32) le in rw (a, b, c, d) refl)
+    ]
+
+-- the indicator of a width names it
+abbrev Names : Option Indicator → Width → Type 0
+Names None w = Unit {0}
+Names (Some indicator.Indefinite) w = ⊥
+Names (Some indicator.Immediate) w = w ≡ Immediate
+Names (Some indicator.One) w = w ≡ One
+Names (Some indicator.Two) w = w ≡ Two
+Names (Some indicator.Four) w = w ≡ Four
+Names (Some indicator.Eight) w = w ≡ Eight
+
+names_if : (b : Bool) (i : Indicator) (w : Width) → Names (Some i) w → Names (cond b (Some i) None) w
+names_if true i w h = h
+names_if false i w h = tt
+
+names : (w : Width) (n : ℕ) → Names (indicator_of w n) w
+names Immediate n = tt
+names One n = names_if (ltb n 24) indicator.One One refl
+names Two n = names_if (ltb n (2 ^ 8)) indicator.Two Two refl
+names Four n = names_if (ltb n (2 ^ 16)) indicator.Four Four refl
+names Eight n = names_if (ltb n (2 ^ 32)) indicator.Eight Eight refl
+
+-- both words of an indicator that names the width
+by_name : (i : Option Indicator) (w : Width) (n : ℕ) → ArgumentFits w n → Names i w → (i ≡ None → shortest n ≡ w) → (width_of i n ≡ Some w) × (length_of i n ≡ Some (Some w))
+by_name None w n lt named short = let e : width_of None n ≡ Some w = ap (λ v. fitting v n) (short refl) ∙ fits w n lt in (e, ap (λ o. bind o (λ v. Some (Some v))) e)
+by_name (Some indicator.Indefinite) w n lt named short = absurd named
+by_name (Some indicator.Immediate) w n lt named short = let e : width_of (Some indicator.Immediate) n ≡ Some w = ap (λ v. fitting v n) (sym named) ∙ fits w n lt in (e, ap (λ o. bind o (λ v. Some (Some v))) e)
+by_name (Some indicator.One) w n lt named short = let e : width_of (Some indicator.One) n ≡ Some w = ap (λ v. fitting v n) (sym named) ∙ fits w n lt in (e, ap (λ o. bind o (λ v. Some (Some v))) e)
+by_name (Some indicator.Two) w n lt named short = let e : width_of (Some indicator.Two) n ≡ Some w = ap (λ v. fitting v n) (sym named) ∙ fits w n lt in (e, ap (λ o. bind o (λ v. Some (Some v))) e)
+by_name (Some indicator.Four) w n lt named short = let e : width_of (Some indicator.Four) n ≡ Some w = ap (λ v. fitting v n) (sym named) ∙ fits w n lt in (e, ap (λ o. bind o (λ v. Some (Some v))) e)
+by_name (Some indicator.Eight) w n lt named short = let e : width_of (Some indicator.Eight) n ≡ Some w = ap (λ v. fitting v n) (sym named) ∙ fits w n lt in (e, ap (λ o. bind o (λ v. Some (Some v))) e)
+
+width_again : (w : Width) (n : ℕ) → ArgumentFits w n → (width_of (indicator_of w n) n ≡ Some w) × (length_of (indicator_of w n) n ≡ Some (Some w))
+width_again w n lt = by_name (indicator_of w n) w n lt (names w n) (is_shortest w n lt)
+
+length_again : (w : Option Width) (n : ℕ) → LengthFits w n → length_of (list_indicator w n) n ≡ Some w
+length_again None n lt = refl
+length_again (Some w) n lt = (width_again w n lt).1
+
+unsigned_means : (w : Width) (n : ℕ) → ArgumentFits w n → means (Number (signed_decimal (pos n)) (indicator_of w n)) ≡ Some (unsigned w n)
+unfolding means
+unsigned_means w n lt =
+    let small = below_64 w n lt in
+    let is : integer_of (signed_decimal (pos n)) ≡ Some (pos n) = integer_of_decimal (pos n) (omega arith) in
+    let a : below n (2 ^ 64) = lt-ltb n (2 ^ 64) small in
+    ap (λ o. bind o (means_integer (indicator_of w n))) is ∙ ap (λ b. cond b (bind (width_of (indicator_of w n) n) (λ w. Some (unsigned w n))) (bignum 2 n n (indicator_of w n))) a ∙ ap (λ o. bind o (λ w. Some (unsigned w n))) (width_again w n lt).0
+
+negative_means : (w : Width) (n : ℕ) → ArgumentFits w n → means (Number (signed_decimal (negsuc n)) (indicator_of w n)) ≡ Some (negative w n)
+unfolding means
+negative_means w n lt =
+    let small = below_64 w n lt in
+    let is : integer_of (signed_decimal (negsuc n)) ≡ Some (negsuc n) = integer_of_decimal (negsuc n) (omega arith) in
+    let a : below n (2 ^ 64) = lt-ltb n (2 ^ 64) small in
+    ap (λ o. bind o (means_integer (indicator_of w n))) is ∙ ap (λ b. cond b (bind (width_of (indicator_of w n) n) (λ w. Some (negative w n))) (bignum 3 n (n + 1) (indicator_of w n))) a ∙ ap (λ o. bind o (λ w. Some (negative w n))) (width_again w n lt).0
+
+abbrev with_value : Node Item → Value → Option (Value × Value)
+with_value w x = bind (means w) (λ y. Some (x, y))
+
+abbrev with_key : Value → Value → Option (Value × Value)
+with_key x y = Some (x, y)
+
+abbrev in_front_of : Node (Entries kind.Pairs) → Value × Value → Option Pairs
+in_front_of m p = bind (means m) (λ r. Some (pair p.0 p.1 r))
+
+mutual
+  unfolding means
+
+  pub item_means : (v : Value) (x : Node Item) → Fits v → item_of v ≡ Some x → means x ≡ Some v
+  item_means (unsigned w n) x fit e = ap means (sym (some_is _ x e)) ∙ unsigned_means w n fit
+  item_means (negative w n) x fit e = ap means (sym (some_is _ x e)) ∙ negative_means w n fit
+  item_means (byte_string w bs) x fit e = absurd cc
+  item_means (chunks cs) x fit e = absurd cc
+  item_means (array w vs) x fit e =
+      let i = list_indicator w (values_len vs) in
+      let a = both_steps (items_of vs) (λ m. Some (Listed Elements i m)) x e in
+      ap means (sym (some_is _ x a.2)) ∙ ap (λ o. bind o (listed Elements i)) (items_mean vs a.0 fit.1 a.1) ∙ ap (λ o. bind o (λ w. Some (array w vs))) (length_again w (values_len vs) fit.0)
+  item_means (object w ps) x fit e =
+      let i = list_indicator w (pairs_len ps) in
+      let a = both_steps (decoded.pairs_of ps) (λ m. Some (Listed kind.Pairs i m)) x e in
+      ap means (sym (some_is _ x a.2)) ∙ ap (λ o. bind o (listed kind.Pairs i)) (pairs_mean ps a.0 fit.1 a.1) ∙ ap (λ o. bind o (λ w. Some (object w ps))) (length_again w (pairs_len ps) fit.0)
+  item_means (tag w n v) x fit e = absurd cc
+
+  pub items_mean : (vs : Values) (m : Items) → ValuesFit vs → items_of vs ≡ Some m → means m ≡ Some vs
+  items_mean no_values m fit e = ap means (sym (some_is End m e))
+  items_mean (value v vs) m fit e =
+      let a = both_steps (item_of v) (λ x. bind (items_of vs) (λ m. Some (Then (Element x) m))) m e in
+      let b = both_steps (items_of vs) (λ m. Some (Then (Element a.0) m)) m a.2 in
+      ap means (sym (some_is _ m b.2)) ∙ ap (λ o. bind o (λ v. bind (means b.0) (λ vs. Some (value v vs)))) (item_means v a.0 fit.0 a.1) ∙ ap (λ o. bind o (λ vs. Some (value v vs))) (items_mean vs b.0 fit.1 b.1)
+
+  pairs_mean : (ps : Pairs) (m : Node (Entries kind.Pairs)) → PairsFit ps → decoded.pairs_of ps ≡ Some m → means m ≡ Some ps
+  pairs_mean no_pairs m fit e = ap means (sym (some_is End m e))
+  pairs_mean (pair k v ps) m fit e =
+      let a = both_steps (item_of k) (λ x. bind (item_of v) (λ y. bind (decoded.pairs_of ps) (λ m. Some (Then (Pair x y) m)))) m e in
+      let b = both_steps (item_of v) (λ y. bind (decoded.pairs_of ps) (λ m. Some (Then (Pair a.0 y) m))) m a.2 in
+      let c = both_steps (decoded.pairs_of ps) (λ m. Some (Then (Pair a.0 b.0) m)) m b.2 in
+      ap means (sym (some_is _ m c.2))
+      ∙ ap (λ o. bind (bind o (with_value b.0)) (in_front_of c.0)) (item_means k a.0 fit.0 a.1)
+      ∙ ap (λ o. bind (bind o (with_key k)) (in_front_of c.0)) (item_means v b.0 fit.1 b.1)
+      ∙ ap (λ o. bind o (λ r. Some (pair k v r))) (pairs_mean ps c.0 fit.2 c.1)

@@ -1,0 +1,5 @@
+use Rattle.cbor_edn_core.proofs.Decoding.{item_means}
+use Rattle.cbor_edn_core.proofs.laws.item_means.Goals as goal
+
+pub returns : goal.returns
+returns c = item_means

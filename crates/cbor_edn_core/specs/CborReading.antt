@@ -1,0 +1,225 @@
+-- A reader of CBOR on lists: items from left to right, with the first fault that is met.
+use Rattle.std.specs.Prelude.{ℕ, zero, suc, ◌≡◌, ◌-◌, ◌/◌, ◌%◌, ℤ, pos, negsuc, List, [], ◌∷◌, map, length, take, drop, Option, Some, None, Result, Ok, Err, nat_lt, ◌==◌, if◌then◌else◌}
+use Rattle.std.specs.Int.{w8, w16, w32, w64, byte_len, from_be_bytes}
+use Rattle.std.specs.Int.{Width as Bits}
+use Rattle.std.specs.Fmt.{signed_decimal}
+use Rattle.cbor_edn_parts.specs.declared.error.Fault.{Fault}
+use Rattle.cbor_edn_parts.specs.declared.error.Fault.TheVariants.{Memory, Told}
+use Rattle.cbor_edn_parts.specs.declared.indicator.Indicator.{Indicator}
+use Rattle.cbor_edn_parts.specs.declared.indicator.Indicator.TheVariants.{Indefinite}
+use Rattle.cbor_edn_core.specs.declared.cbor.Width.{Width}
+use Rattle.cbor_edn_core.specs.declared.cbor.Width.TheVariants.{Immediate, One, Two, Four, Eight}
+use Rattle.cbor_edn_core.specs.declared.from_cbor.CborError.{CborError}
+use Rattle.cbor_edn_core.specs.declared.from_cbor.CborError.TheVariants.{OutOfData, Reserved, MissingArgument, OtherChunk, OpenChunk, OpenNumber, MisplacedBreak, MissingBytes, TooDeep}
+use Rattle.cbor_edn_core.specs.declared.from_cbor.reader.Stop.{Stop}
+use Rattle.cbor_edn_core.specs.declared.from_cbor.reader.Stop.TheVariants.{Break, EndOfData}
+use Rattle.cbor_edn_core.specs.Items as kind
+use Rattle.cbor_edn_core.specs.Items.{Row, Elements}
+use Rattle.cbor_edn_core.specs.Trees.{Tree, OneItem, OneEntry, Rest, NumberTree, ListTree, ElementTree}
+use Rattle.cbor_edn_core.specs.Value.{Chunk, break}
+use Rattle.cbor_edn_core.specs.Decoded.{indicator_of, in_front, inside, key_value}
+
+-- what is read, and the bytes behind it
+abbrev pub Reads : Type 0 → Type 0
+Reads A = Result (A × List ℕ) CborError
+
+abbrev pub Reader : Type 0 → Type 0
+Reader A = List ℕ → Reads A
+
+infixl 10 ◌>>=◌
+abbrev pub ◌>>=◌ : {A B : Type 0} → Result A CborError → (A → Result B CborError) → Result B CborError
+(Ok x) >>= f = f x
+(Err e) >>= f = Err e
+
+-- What a function returned, seen by a view, is what reading gives, unless memory ran out.
+abbrev pub Fails : {Y : Type 0} → Fault CborError → Result Y CborError → Type 0
+Fails (Memory _) read = Unit {0}
+Fails (Told f) read = read ≡ Err f
+
+abbrev pub Gives : {X Y : Type 0} → (X → Y) → Result X (Fault CborError) → Result Y CborError → Type 0
+Gives view (Ok x) read = read ≡ Ok (view x)
+Gives view (Err e) read = Fails e read
+
+-- the argument of a head and its width, or none
+abbrev pub Argument : Type 0
+Argument = Option (Width × ℕ)
+
+-- a head: its major type, and its argument
+abbrev pub Head : Type 0
+Head = ℕ × Argument
+
+abbrev pub argument_at : ℕ → Width → Bits → Reader Head
+argument_at major w bits bytes =
+    if nat_lt (length bytes) (byte_len bits) then Err MissingArgument
+    else Ok ((major, Some (w, from_be_bytes bits (take (byte_len bits) bytes))), drop (byte_len bits) bytes)
+
+abbrev pub head_by : ℕ → ℕ → Reader Head
+head_by major info rest =
+    if nat_lt info 24 then Ok ((major, Some (Immediate, info)), rest)
+    else if info == 24 then argument_at major One w8 rest
+    else if info == 25 then argument_at major Two w16 rest
+    else if info == 26 then argument_at major Four w32 rest
+    else if info == 27 then argument_at major Eight w64 rest
+    else if info == 31 then Ok ((major, None), rest)
+    else Err Reserved
+
+unfoldable pub head_at : Reader Head
+head_at [] = Err OutOfData
+head_at (b ∷ rest) = head_by (b / 32) (b % 32) rest
+
+-- so many of a kind
+unfoldable pub many : {A : Type 0} → Reader A → ℕ → Reader (List A)
+many one zero bytes = Ok ([], bytes)
+many one (suc n) bytes = do
+  x ← one bytes
+  xs ← many one n x.1
+  Ok (x.0 ∷ xs.0, xs.1)
+
+-- what follows the end of a row, where it stands there
+abbrev pub past : Stop → List ℕ → Option (List ℕ)
+past Break [] = None
+past Break (b ∷ bytes) = if b == break then Some bytes else None
+past EndOfData [] = Some []
+past EndOfData (b ∷ bytes) = None
+
+abbrev pub turn : {A : Type 0} → Reader A → Reader (List A) → List ℕ → Option (List ℕ) → Reads (List A)
+turn one more bytes (Some rest) = Ok ([], rest)
+turn one more bytes None = do
+  x ← one bytes
+  xs ← more x.1
+  Ok (x.0 ∷ xs.0, xs.1)
+
+-- All up to an end. The number bounds the turns, and one more than the count of the bytes is always enough.
+unfoldable pub until : {A : Type 0} → Stop → Reader A → ℕ → Reader (List A)
+until stop one zero bytes = Err OutOfData
+until stop one (suc n) bytes = turn one (until stop one n) bytes (past stop bytes)
+
+-- what an argument counts, or all up to a break
+unfoldable pub several : {A : Type 0} → Reader A → Argument → Reader (List A)
+several one (Some (w, n)) bytes = many one n bytes
+several one None bytes = until Break one (suc (length bytes)) bytes
+
+unfoldable pub string_at : ℕ → Reader (List ℕ)
+string_at n bytes = if nat_lt (length bytes) n then Err MissingBytes else Ok (take n bytes, drop n bytes)
+
+abbrev pub chunk_by : Head → Reader Chunk
+chunk_by (major, Some (w, n)) rest =
+    if major == 2 then (string_at n rest >>= λ s. Ok ((w, s.0), s.1)) else Err OtherChunk
+chunk_by (major, None) rest = if major == 2 then Err OpenChunk else Err OtherChunk
+
+unfoldable pub chunk_at : Reader Chunk
+chunk_at bytes = do
+  h ← head_at bytes
+  chunk_by h.0 h.1
+
+-- What is made of byte strings and tags.
+pub record MakesMore (A : Type 0) : Type 0 where
+  pub byte_string : Width → List ℕ → A
+  pub chunks : List Chunk → A
+  pub tag : Width → ℕ → A → A
+
+-- What is made of each form: A for an item, B for a key with its value.
+pub record Makes (A B : Type 0) : Type 0 where
+  pub unsigned : Width → ℕ → A
+  pub negative : Width → ℕ → A
+  pub array : Argument → List A → A
+  pub pair : A → A → B
+  pub object : Argument → List B → A
+  -- none where byte strings and tags are not built
+  pub more : Option (MakesMore A)
+
+unfoldable pub pair_at : {A B : Type 0} → Makes A B → Reader A → Reader B
+pair_at m one bytes = do
+  k ← one bytes
+  v ← one k.1
+  Ok (m.pair k.0 v.0, v.1)
+
+abbrev pub number_by : {A : Type 0} → (Width → ℕ → A) → Argument → Reader A
+number_by make None rest = Err OpenNumber
+number_by make (Some (w, n)) rest = Ok (make w n, rest)
+
+-- An item by its head. Where nothing may nest any deeper, `inner` is none.
+abbrev pub array_by : {A B : Type 0} → Makes A B → Option (Reader A) → Argument → Reader A
+array_by m None argument rest = Err TooDeep
+array_by m (Some inner) argument rest = several inner argument rest >>= λ xs. Ok (m.array argument xs.0, xs.1)
+
+abbrev pub map_by : {A B : Type 0} → Makes A B → Option (Reader A) → Argument → Reader A
+map_by m None argument rest = Err TooDeep
+map_by m (Some inner) argument rest = several (pair_at m inner) argument rest >>= λ xs. Ok (m.object argument xs.0, xs.1)
+
+abbrev pub tag_by : {A : Type 0} → MakesMore A → Option (Reader A) → Argument → Reader A
+tag_by m inner None rest = Err OpenNumber
+tag_by m None (Some (w, n)) rest = Err TooDeep
+tag_by m (Some inner) (Some (w, n)) rest = inner rest >>= λ x. Ok (m.tag w n x.0, x.1)
+
+abbrev pub bytes_by : {A : Type 0} → MakesMore A → Argument → Reader A
+bytes_by m (Some (w, n)) rest = string_at n rest >>= λ s. Ok (m.byte_string w s.0, s.1)
+bytes_by m None rest = until Break chunk_at (suc (length rest)) rest >>= λ cs. Ok (m.chunks cs.0, cs.1)
+
+-- the items that are not built, and a break where an item has to stand
+abbrev pub if_break : {A : Type 0} → Argument → Reads A
+if_break None = Err MisplacedBreak
+if_break (Some _) = Err Reserved
+
+abbrev pub other_by : {A : Type 0} → ℕ → Argument → Reads A
+other_by major argument = if major == 7 then (if_break argument) else Err Reserved
+
+abbrev pub more_by : {A : Type 0} → Option (MakesMore A) → Option (Reader A) → ℕ → Argument → Reader A
+more_by None inner major argument rest = other_by major argument
+more_by (Some m) inner major argument rest =
+    if major == 2 then bytes_by m argument rest
+    else if major == 6 then tag_by m inner argument rest
+    else other_by major argument
+
+unfoldable pub item_by : {A B : Type 0} → Makes A B → Option (Reader A) → ℕ → Argument → Reader A
+item_by m inner major argument rest =
+    if major == 0 then number_by m.unsigned argument rest
+    else if major == 1 then number_by m.negative argument rest
+    else if major == 4 then array_by m inner argument rest
+    else if major == 5 then map_by m inner argument rest
+    else more_by m.more inner major argument rest
+
+-- one item, nested no deeper than the number
+unfoldable pub item_at : {A B : Type 0} → Makes A B → ℕ → Reader A
+item_at m zero bytes = head_at bytes >>= λ h. item_by m None h.0.0 h.0.1 h.1
+item_at m (suc depth) bytes = head_at bytes >>= λ h. item_by m (Some (item_at m depth)) h.0.0 h.0.1 h.1
+
+-- what reads inside, with that number
+abbrev pub inner : {A B : Type 0} → Makes A B → ℕ → Option (Reader A)
+inner m depth = if depth == 0 then None else Some (item_at m (depth - 1))
+
+-- the items of a sequence, each nested no deeper than the number
+abbrev pub sequence_at : {A B : Type 0} → Makes A B → ℕ → Reader (List A)
+sequence_at m limit bytes = until EndOfData (item_at m limit) (suc (length bytes)) bytes
+
+-- ---- trees
+
+-- the indicator of a head with an argument, and of one without
+abbrev pub argument_indicator : Argument → Option Indicator
+argument_indicator None = Some Indefinite
+argument_indicator (Some (w, n)) = indicator_of w n
+
+-- entries with the spaces between them, if there are any
+abbrev pub row_of : {k : Row} → List (Tree (OneEntry k)) → Option (Tree (Rest k))
+row_of [] = None
+row_of (e ∷ es) = Some (in_front e (row_of es))
+
+abbrev pub element_row : List (Tree OneItem) → Option (Tree (Rest Elements))
+element_row ws = row_of (map ElementTree ws)
+
+abbrev pub number_tree : ℤ → Width → ℕ → Tree OneItem
+number_tree z w n = NumberTree (signed_decimal z) (indicator_of w n)
+
+abbrev pub list_tree : (k : Row) → Argument → Option (Tree (Rest k)) → Tree OneItem
+list_tree k argument m = ListTree k (inside (argument_indicator argument) m)
+
+-- the trees of items
+abbrev pub trees : Makes (Tree OneItem) (Tree (OneEntry kind.Pairs))
+trees = record {
+  unsigned = λ w n. number_tree (pos n) w n;
+  negative = λ w n. number_tree (negsuc n) w n;
+  array = λ argument ws. list_tree Elements argument (element_row ws);
+  pair = key_value;
+  object = λ argument es. list_tree kind.Pairs argument (row_of es);
+  more = None;
+}

@@ -1,0 +1,126 @@
+-- The item that a value is decoded as, with the spaces that it is given.
+use Rattle.std.specs.Prelude.{ℕ, pos, negsuc, ◌≡◌, ◌++◌, ◌^◌, ◌≤◌, ◌<◌, nat_lt, nat_le, if◌then◌else◌, count_by, List, [], ◌∷◌, Option, Some, None}
+use Rattle.std.specs.Fmt.{signed_decimal}
+use Rattle.cbor_edn_parts.specs.declared.indicator.Indicator.{Indicator}
+use Rattle.cbor_edn_parts.specs.declared.indicator.Indicator.TheVariants as indicator
+use Rattle.cbor_edn_core.specs.declared.cbor.Width.{Width}
+use Rattle.cbor_edn_core.specs.declared.cbor.Width.TheVariants.{Immediate, One, Two, Four, Eight}
+use Rattle.cbor_edn_core.specs.Items as kind
+use Rattle.cbor_edn_core.specs.Items.{Row, Elements, Sort, Item, Entry, Entries, Node, Number, Listed, Element, Pair, End, Then, Items}
+use Rattle.cbor_edn_core.specs.Trees.{Tree, OneItem, OneEntry, Inside, Rest, Seq, Standalone, Head, Unmarked, Marked, NumberTree, ListTree, ElementTree, PairTree, EmptyTree, FullTree, LastTree, MoreTree, NothingTree, SequenceTree, StandaloneTree, items}
+use Rattle.cbor_edn_core.specs.Value.{Value, unsigned, negative, array, object, Values, no_values, value, values_len, Pairs, no_pairs, pair, pairs_len, nesting, values_nesting, Enc, EncAll}
+use Rattle.cbor_edn_core.specs.Meaning.{◌>>=◌, means}
+
+-- ---- items
+
+abbrev pub if_below : ℕ → ℕ → Indicator → Option Indicator
+if_below limit n i = if nat_lt n limit then Some i else None
+
+-- the indicator of a head: none where no narrower one would do
+abbrev pub indicator_of : Width → ℕ → Option Indicator
+indicator_of Immediate n = None
+indicator_of One n = if_below 24 n indicator.One
+indicator_of Two n = if_below (2 ^ 8) n indicator.Two
+indicator_of Four n = if_below (2 ^ 16) n indicator.Four
+indicator_of Eight n = if_below (2 ^ 32) n indicator.Eight
+
+-- the same of a list of n entries
+abbrev pub list_indicator : Option Width → ℕ → Option Indicator
+list_indicator None n = Some indicator.Indefinite
+list_indicator (Some w) n = indicator_of w n
+
+-- The item of a value, for the values whose heads are decoded: integers in decimal, and indicators only where they are needed.
+-- That of 18 0a is `10_0`, and that of 9f 01 ff `[_ 1]`.
+abbrev mutual
+  pub item_of : Value → Option (Node Item)
+  item_of (unsigned w n) = Some (Number (signed_decimal (pos n)) (indicator_of w n))
+  item_of (negative w n) = Some (Number (signed_decimal (negsuc n)) (indicator_of w n))
+  item_of (array w vs) = items_of vs >>= λ m. Some (Listed Elements (list_indicator w (values_len vs)) m)
+  item_of (object w ps) = pairs_of ps >>= λ m. Some (Listed kind.Pairs (list_indicator w (pairs_len ps)) m)
+  item_of _ = None
+
+  pub items_of : Values → Option Items
+  items_of no_values = Some End
+  items_of (value v vs) = item_of v >>= λ x. items_of vs >>= λ m. Some (Then (Element x) m)
+
+  pub pairs_of : Pairs → Option (Node (Entries kind.Pairs))
+  pairs_of no_pairs = Some End
+  pairs_of (pair k v ps) = item_of k >>= λ x. item_of v >>= λ y. pairs_of ps >>= λ m. Some (Then (Pair x y) m)
+
+-- ---- their spaces
+
+-- an entry in front of others: `, ` between two, and nothing behind the last
+abbrev pub in_front : {k : Row} → Tree (OneEntry k) → Option (Tree (Rest k)) → Tree (Rest k)
+in_front e None = LastTree e []
+in_front e (Some m) = MoreTree e (44 ∷ 32 ∷ []) m
+
+-- one space behind an indicator
+abbrev pub head_of : Option Indicator → Head
+head_of None = Unmarked
+head_of (Some i) = Marked i (32 ∷ [])
+
+-- what stands between brackets: `[_]` and `[]` have no space
+abbrev pub inside : {k : Row} → Option Indicator → Option (Tree (Rest k)) → Tree (Inside k)
+inside i None = EmptyTree i []
+inside i (Some m) = FullTree (head_of i) [] m
+
+abbrev pub key_value : Tree OneItem → Tree OneItem → Tree (OneEntry kind.Pairs)
+key_value v w = PairTree v [] (32 ∷ []) w
+
+abbrev pub Regular : Sort → Type 0
+Regular Item = Tree OneItem
+Regular (Entry k) = Tree (OneEntry k)
+Regular (Entries k) = Option (Tree (Rest k))
+
+-- An item with the spaces of a single line, as in `[_ 1, {2: 3}]`; of a row what stands behind the first space of its list, if anything.
+unfoldable pub regular : {s : Sort} → Node s → Regular s
+regular (Number x i) = NumberTree x i
+regular (Listed k i m) = ListTree k (inside i (regular m))
+regular (Element w) = ElementTree (regular w)
+regular (Pair v w) = key_value (regular v) (regular w)
+regular End = None
+regular (Then e m) = Some (in_front (regular e) (regular m))
+
+-- an item without space round it
+abbrev pub alone : Tree OneItem → Tree Standalone
+alone w = StandaloneTree [] w []
+
+abbrev pub sequence_tree_of : Option (Tree (Rest Elements)) → Tree Seq
+sequence_tree_of None = NothingTree []
+sequence_tree_of (Some m) = SequenceTree [] m
+
+abbrev pub regular_sequence : Items → Tree Seq
+regular_sequence m = sequence_tree_of (regular m)
+
+-- ---- what is decoded
+
+-- The bytes are an encoding of the value and what follows it.
+abbrev pub Begins : List ℕ → List ℕ → Value → Type 0
+Begins bytes rest v = (front : List ℕ) × Enc front v × (bytes ≡ front ++ rest)
+
+-- The tree is that of a value that is encoded so and nests no deeper than the limit, and it means this value.
+abbrev pub IsDecoded : ℕ → (Value → Type 0) → Tree OneItem → Type 0
+IsDecoded limit Encoded w = (v : Value) × (x : Node Item) × Encoded v × (nesting v ≤ limit) × (item_of v ≡ Some x) × (w ≡ regular x) × (means (items w) ≡ Some v)
+
+abbrev pub IsDecodedSequence : ℕ → List ℕ → Tree Seq → Type 0
+IsDecodedSequence limit bytes w = (vs : Values) × (m : Items) × EncAll bytes vs × (values_nesting vs ≤ limit) × (items_of vs ≡ Some m) × (w ≡ regular_sequence m) × (means (items w) ≡ Some vs)
+
+-- ---- refusals
+
+-- No value that has an item is encoded so.
+abbrev pub NoneIs : (Value → Type 0) → Type 0
+NoneIs Encoded = (v : Value) (x : Node Item) → item_of v ≡ Some x → Encoded v → ⊥
+
+-- how many bytes are 80 (hexadecimal) or more: only such bytes are heads of what nests
+abbrev pub high_bytes : List ℕ → ℕ
+high_bytes bytes = count_by (λ b. nat_le 128 b) bytes
+
+-- More than `limit` bytes can be heads of what nests, and each value that has an item and is encoded so nests deeper.
+abbrev pub IsTooDeep : ℕ → List ℕ → (Value → Type 0) → Type 0
+IsTooDeep limit bytes Encoded = (limit < high_bytes bytes) × ((v : Value) (x : Node Item) → item_of v ≡ Some x → Encoded v → limit < nesting v)
+
+abbrev pub NoSequence : List ℕ → Type 0
+NoSequence bytes = (vs : Values) (m : Items) → items_of vs ≡ Some m → EncAll bytes vs → ⊥
+
+abbrev pub IsTooDeepSequence : ℕ → List ℕ → Type 0
+IsTooDeepSequence limit bytes = (limit < high_bytes bytes) × ((vs : Values) (m : Items) → items_of vs ≡ Some m → EncAll bytes vs → limit < values_nesting vs)

@@ -1,0 +1,50 @@
+//! Rows that grow at their end.
+ghost use Rattle.std.specs.Prelude.{◌≡◌, ◌++◌, ◌∷◌, [], map, IfOk, None};
+ghost use Rattle.cbor_edn_parts.specs.Leaves.{msc_bytes};
+
+use cbor_edn_parts::space::Msc;
+use std::alloc::{AllocError, Global};
+
+/// Entries that are read one behind the other.
+#[derive(Drop)]
+pub(crate) struct Growing<'a, T: Drop> {
+    pub(super) row: Vec<(T, Msc<'a>)>,
+    pub(super) last: Option<T>,
+    pub ghost commas: { map (λ p. msc_bytes p.1) row.items ≡ map (λ _. 44 ∷ 32 ∷ []) row.items },
+    pub ghost started: { last ≡ None → row.items ≡ [] },
+}
+
+impl<'a, T: Drop> Growing<'a, T> {
+    ghost use Rattle.cbor_edn_core.specs.Growing.{grown};
+
+    /// No entries.
+    pub(super) fn new(alloc: Global) -> Growing<'a, T>
+        ensures { grown result ≡ [] }
+    {
+        Growing {
+            row: Vec::new(alloc),
+            last: None,
+        }
+    }
+
+    /// One entry more. Fails where memory runs out.
+    pub(super) fn push(self, entry: T) -> Result<Growing<'a, T>, AllocError>
+        ensures { IfOk result (λ g. grown g ≡ grown self.entry ++ entry ∷ []) }
+    {
+        let mut row = self.row;
+        let last = self.last;
+        match last {
+            None => Ok(Growing {
+                row,
+                last: Some(entry),
+            }),
+            Some(last) => {
+                row.push((last, Msc::comma_space()))?;
+                Ok(Growing {
+                    row,
+                    last: Some(entry),
+                })
+            }
+        }
+    }
+}

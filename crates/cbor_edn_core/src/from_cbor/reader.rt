@@ -1,0 +1,419 @@
+//! The reader of bytes: each function reads what stands at the front, and answers it with the bytes behind it.
+ghost use Rattle.std.specs.Prelude.{◌≡◌, ◌<◌, ◌≤◌, suc, length, map, option_map, IfSome, IfOk};
+ghost use Rattle.std.specs.Fmt.{signed_decimal};
+ghost use Rattle.cbor_edn_parts.specs.Leaves as leaves;
+ghost use Rattle.cbor_edn_parts.specs.Leaves.{HasMagnitude};
+ghost use Rattle.cbor_edn_core.specs.Items as kind;
+ghost use Rattle.cbor_edn_core.specs.Items.{Elements};
+ghost use Rattle.cbor_edn_core.specs.Trees.{NumberTree, ListTree};
+ghost use Rattle.cbor_edn_core.specs.View.{texts, view_head, view_items, view_pairs, view_pair, item_tree};
+ghost use Rattle.cbor_edn_core.specs.Decoded as decoded;
+ghost use Rattle.cbor_edn_core.specs.Decoded.{inside};
+ghost use Rattle.cbor_edn_core.specs.CborReading as reading;
+ghost use Rattle.cbor_edn_core.specs.CborReading.{Gives, trees, head_at, many, until, several, pair_at, array_by, map_by, item_by, item_at, inner, row_of, element_row, argument_indicator};
+ghost use Rattle.cbor_edn_core.specs.Growing.{grown};
+
+use super::CborError;
+use super::growing::Growing;
+use crate::cbor::Width;
+use crate::tree::{InnerItem, Item, ItemList, Items, Kp, PairList, Pairs, Texts};
+use cbor_edn_parts::error::Fault;
+use cbor_edn_parts::indicator::Indicator;
+use cbor_edn_parts::number::{Integer, Number};
+use cbor_edn_parts::space::{Ms, S, Soc};
+use std::alloc::{AllocError, Global};
+
+type Argument = Option<(Width, u64)>;
+
+type Head = (u8, Argument);
+
+/// The head at the front.
+#[tactic(auto, unfolding(crate::specs::CborReading::head_at))]
+fn head_of(bytes: &[u8]) -> Result<(Head, &[u8]), Fault<CborError>>
+    ensures exact { Gives (λ x. (x.0, x.1.now)) result (head_at bytes.now) }
+    ensures shorter { IfOk result (λ x. length x.1.now < length bytes.now) }
+{
+    let [first, rest @ ..] = bytes else {
+        return Err(Fault::Told(CborError::OutOfData));
+    };
+    let major = *first / 32;
+    let info = *first % 32;
+    if info < 24 {
+        return Ok(((major, Some((Width::Immediate, u64::from(info)))), rest));
+    }
+    if info == 24 {
+        if rest.len() < 1 {
+            return Err(Fault::Told(CborError::MissingArgument));
+        }
+        let (front, rest) = rest.split_at(1);
+        let n = u8::from_be_bytes([front[0]]);
+        return Ok(((major, Some((Width::One, u64::from(n)))), rest));
+    }
+    if info == 25 {
+        if rest.len() < 2 {
+            return Err(Fault::Told(CborError::MissingArgument));
+        }
+        let (front, rest) = rest.split_at(2);
+        let n = u16::from_be_bytes([front[0], front[1]]);
+        return Ok(((major, Some((Width::Two, u64::from(n)))), rest));
+    }
+    if info == 26 {
+        if rest.len() < 4 {
+            return Err(Fault::Told(CborError::MissingArgument));
+        }
+        let (front, rest) = rest.split_at(4);
+        let n = u32::from_be_bytes([front[0], front[1], front[2], front[3]]);
+        return Ok(((major, Some((Width::Four, u64::from(n)))), rest));
+    }
+    if info == 27 {
+        if rest.len() < 8 {
+            return Err(Fault::Told(CborError::MissingArgument));
+        }
+        let (front, rest) = rest.split_at(8);
+        let n = u64::from_be_bytes([
+            front[0], front[1], front[2], front[3], front[4], front[5], front[6], front[7],
+        ]);
+        return Ok(((major, Some((Width::Eight, n))), rest));
+    }
+    if info == 31 {
+        return Ok(((major, None), rest));
+    }
+    Err(Fault::Told(CborError::Reserved))
+}
+
+/// What ends a row of entries.
+#[derive(Clone, Copy, Debug, PartialEq)]
+pub(super) enum Stop {
+    /// The byte that ends a list of indefinite length.
+    Break,
+    /// The end of the bytes, which ends a sequence.
+    EndOfData,
+}
+
+/// What follows the end of a row, where it stands at the front.
+fn past_stop(stop: Stop, bytes: &[u8]) -> Option<&[u8]>
+    ensures value { option_map (λ x. x.now) result ≡ reading.past stop bytes.now }
+    ensures shorter { IfSome result (λ x. length x.now ≤ length bytes.now) }
+{
+    match (stop, bytes) {
+        (Stop::Break, [255, after @ ..]) => Some(after),
+        (Stop::EndOfData, []) => Some(bytes),
+        _ => None,
+    }
+}
+
+pub(super) fn finish_items<'a>(
+    alloc: Global,
+    found: Growing<'a, Item<'a>>,
+) -> Result<Option<Items<Texts<'a>>>, AllocError>
+    ensures { IfOk result (λ r. option_map (view_items texts) r ≡ element_row (map item_tree (grown found.entry))) }
+{
+    let row = found.row;
+    let last = found.last;
+    match last {
+        None => Ok(None),
+        Some(last) => Ok(Some(Items {
+            row,
+            last: Box::new(alloc, last)?,
+            soc: Soc::empty(),
+        })),
+    }
+}
+
+fn finish_pairs<'a>(
+    alloc: Global,
+    found: Growing<'a, Kp<Texts<'a>>>,
+) -> Result<Option<Pairs<Texts<'a>>>, AllocError>
+    ensures { IfOk result (λ r. option_map (view_pairs texts) r ≡ row_of (map (view_pair texts) (grown found.entry))) }
+{
+    let row = found.row;
+    let last = found.last;
+    match last {
+        None => Ok(None),
+        Some(last) => Ok(Some(Pairs {
+            row,
+            last: Box::new(alloc, last)?,
+            soc: Soc::empty(),
+        })),
+    }
+}
+
+/// The indicator of a head: none where no narrower one would do.
+fn indicator_of(argument: Argument) -> Option<Indicator>
+    ensures { result ≡ argument_indicator argument }
+{
+    match argument {
+        None => Some(Indicator::Indefinite),
+        Some((Width::Immediate, _)) => None,
+        Some((Width::One, n)) => if_below(24, n, Indicator::One),
+        Some((Width::Two, n)) => if_below(0x100, n, Indicator::Two),
+        Some((Width::Four, n)) => if_below(0x1_0000, n, Indicator::Four),
+        Some((Width::Eight, n)) => if_below(0x1_0000_0000, n, Indicator::Eight),
+    }
+}
+
+fn if_below(limit: u64, n: u64, indicator: Indicator) -> Option<Indicator>
+    ensures { result ≡ decoded.if_below limit n indicator }
+{
+    if n < limit { Some(indicator) } else { None }
+}
+
+fn array<'a>(argument: Argument, items: Option<Items<Texts<'a>>>) -> Item<'a>
+    ensures { item_tree result ≡ ListTree Elements (inside (argument_indicator argument) (option_map (view_items texts) items.entry)) }
+{
+    let indicator = indicator_of(argument);
+    let s = S::empty();
+    let list = match items {
+        None => ItemList::Absent { indicator, s },
+        Some(items) => ItemList::Present {
+            head: head_space(indicator),
+            s,
+            items,
+        },
+    };
+    Item {
+        inner: InnerItem::Array(list),
+    }
+}
+
+fn object<'a>(argument: Argument, pairs: Option<Pairs<Texts<'a>>>) -> Item<'a>
+    ensures { item_tree result ≡ ListTree kind.Pairs (inside (argument_indicator argument) (option_map (view_pairs texts) pairs.entry)) }
+{
+    let indicator = indicator_of(argument);
+    let s = S::empty();
+    let list = match pairs {
+        None => PairList::Absent { indicator, s },
+        Some(pairs) => PairList::Present {
+            head: head_space(indicator),
+            s,
+            pairs,
+        },
+    };
+    Item {
+        inner: InnerItem::Map(list),
+    }
+}
+
+/// One space behind an indicator.
+fn head_space<'a>(indicator: Option<Indicator>) -> Option<(Indicator, Ms<'a>)>
+    ensures { view_head texts result ≡ decoded.head_of indicator }
+{
+    match indicator {
+        None => None,
+        Some(indicator) => Some((indicator, Ms::space())),
+    }
+}
+
+fn number<'a>(alloc: Global, integer: Integer, argument: Argument) -> Result<Item<'a>, AllocError>
+    requires { HasMagnitude integer }
+    ensures { IfOk result (λ t. item_tree t ≡ NumberTree (signed_decimal (leaves.integer integer)) (argument_indicator argument)) }
+{
+    let number = Number::decimal(alloc, integer)?;
+    Ok(Item {
+        inner: InnerItem::Number(number, indicator_of(argument)),
+    })
+}
+
+#[cycle(item)]
+fn items_of<'a, 'b>(
+    alloc: Global,
+    count: u64,
+    bytes: &'b [u8],
+    limit: usize,
+) -> Result<(Growing<'a, Item<'a>>, &'b [u8]), Fault<CborError>>
+    ensures exact { Gives (λ x. (map item_tree (grown x.0), x.1.now)) result (many (item_at trees limit) count bytes.now) }
+    ensures shorter { IfOk result (λ x. length x.1.now ≤ length bytes.now) }
+{
+    let mut found: Growing<'a, Item<'a>> = Growing::new(alloc);
+    let mut rest = bytes;
+    for _ in 0..count {
+        let (item, after) = item_of(alloc, rest, limit)?;
+        found = found.push(item)?;
+        rest = after;
+    }
+    Ok((found, rest))
+}
+
+#[cycle(item)]
+pub(super) fn items_until<'a, 'b>(
+    alloc: Global,
+    bytes: &'b [u8],
+    limit: usize,
+    stop: Stop,
+) -> Result<(Growing<'a, Item<'a>>, &'b [u8]), Fault<CborError>>
+    ensures exact { Gives (λ x. (map item_tree (grown x.0), x.1.now)) result (until stop (item_at trees limit) (suc (length bytes.now)) bytes.now) }
+    ensures shorter { IfOk result (λ x. length x.1.now ≤ length bytes.now) }
+{
+    let mut found: Growing<'a, Item<'a>> = Growing::new(alloc);
+    let mut rest = bytes;
+    'turns: loop {
+        match past_stop(stop, rest) {
+            Some(after) => return Ok((found, after)),
+            None => {
+                let (item, after) = item_of(alloc, rest, limit)?;
+                found = found.push(item)?;
+                rest = after;
+            }
+        }
+    }
+}
+
+#[cycle(item)]
+#[tactic(auto, unfolding(crate::specs::CborReading::pair_at))]
+fn pair_of<'a, 'b>(
+    alloc: Global,
+    bytes: &'b [u8],
+    limit: usize,
+) -> Result<(Kp<Texts<'a>>, &'b [u8]), Fault<CborError>>
+    ensures exact { Gives (λ x. (view_pair texts x.0, x.1.now)) result (pair_at trees (item_at trees limit) bytes.now) }
+    ensures shorter { IfOk result (λ x. length x.1.now < length bytes.now) }
+{
+    let (key, rest) = item_of(alloc, bytes, limit)?;
+    let (value, rest) = item_of(alloc, rest, limit)?;
+    let pair = Kp {
+        key,
+        before_colon: S::empty(),
+        after_colon: S::space(),
+        value,
+    };
+    Ok((pair, rest))
+}
+
+#[cycle(item)]
+fn pairs_of<'a, 'b>(
+    alloc: Global,
+    count: u64,
+    bytes: &'b [u8],
+    limit: usize,
+) -> Result<(Growing<'a, Kp<Texts<'a>>>, &'b [u8]), Fault<CborError>>
+    ensures exact { Gives (λ x. (map (view_pair texts) (grown x.0), x.1.now)) result (many (pair_at trees (item_at trees limit)) count bytes.now) }
+    ensures shorter { IfOk result (λ x. length x.1.now ≤ length bytes.now) }
+{
+    let mut found: Growing<'a, Kp<Texts<'a>>> = Growing::new(alloc);
+    let mut rest = bytes;
+    for _ in 0..count {
+        let (pair, after) = pair_of(alloc, rest, limit)?;
+        found = found.push(pair)?;
+        rest = after;
+    }
+    Ok((found, rest))
+}
+
+#[cycle(item)]
+fn pairs_until<'a, 'b>(
+    alloc: Global,
+    bytes: &'b [u8],
+    limit: usize,
+) -> Result<(Growing<'a, Kp<Texts<'a>>>, &'b [u8]), Fault<CborError>>
+    ensures exact { Gives (λ x. (map (view_pair texts) (grown x.0), x.1.now)) result (until Stop.Break (pair_at trees (item_at trees limit)) (suc (length bytes.now)) bytes.now) }
+    ensures shorter { IfOk result (λ x. length x.1.now ≤ length bytes.now) }
+{
+    let mut found: Growing<'a, Kp<Texts<'a>>> = Growing::new(alloc);
+    let mut rest = bytes;
+    'turns: loop {
+        match past_stop(Stop::Break, rest) {
+            Some(after) => return Ok((found, after)),
+            None => {
+                let (pair, after) = pair_of(alloc, rest, limit)?;
+                found = found.push(pair)?;
+                rest = after;
+            }
+        }
+    }
+}
+
+#[cycle(item)]
+#[tactic(auto, unfolding(crate::specs::CborReading::several))]
+fn array_of<'a, 'b>(
+    alloc: Global,
+    argument: Argument,
+    bytes: &'b [u8],
+    limit: usize,
+) -> Result<(Item<'a>, &'b [u8]), Fault<CborError>>
+    ensures exact { Gives (λ x. (item_tree x.0, x.1.now)) result (array_by trees (inner trees limit) argument bytes.now) }
+    ensures shorter { IfOk result (λ x. length x.1.now ≤ length bytes.now) }
+{
+    if limit == 0 {
+        return Err(Fault::Told(CborError::TooDeep));
+    }
+    let (found, rest) = match argument {
+        Some((_, n)) => items_of(alloc, n, bytes, limit - 1)?,
+        None => items_until(alloc, bytes, limit - 1, Stop::Break)?,
+    };
+    let items = finish_items(alloc, found)?;
+    Ok((array(argument, items), rest))
+}
+
+#[cycle(item)]
+#[tactic(auto, unfolding(crate::specs::CborReading::several))]
+fn map_of<'a, 'b>(
+    alloc: Global,
+    argument: Argument,
+    bytes: &'b [u8],
+    limit: usize,
+) -> Result<(Item<'a>, &'b [u8]), Fault<CborError>>
+    ensures exact { Gives (λ x. (item_tree x.0, x.1.now)) result (map_by trees (inner trees limit) argument bytes.now) }
+    ensures shorter { IfOk result (λ x. length x.1.now ≤ length bytes.now) }
+{
+    if limit == 0 {
+        return Err(Fault::Told(CborError::TooDeep));
+    }
+    let (found, rest) = match argument {
+        Some((_, n)) => pairs_of(alloc, n, bytes, limit - 1)?,
+        None => pairs_until(alloc, bytes, limit - 1)?,
+    };
+    let pairs = finish_pairs(alloc, found)?;
+    Ok((object(argument, pairs), rest))
+}
+
+/// The item behind a head.
+#[cycle(item)]
+#[tactic(auto, unfolding(crate::specs::CborReading::item_by))]
+fn content_of<'a, 'b>(
+    alloc: Global,
+    head: Head,
+    bytes: &'b [u8],
+    limit: usize,
+) -> Result<(Item<'a>, &'b [u8]), Fault<CborError>>
+    ensures exact { Gives (λ x. (item_tree x.0, x.1.now)) result (item_by trees (inner trees limit) head.0 head.1 bytes.now) }
+    ensures shorter { IfOk result (λ x. length x.1.now ≤ length bytes.now) }
+{
+    let (major, argument) = head;
+    match major {
+        0 => match argument {
+            Some((_, n)) => Ok((
+                number(alloc, Integer::Positive(u128::from(n)), argument)?,
+                bytes,
+            )),
+            None => Err(Fault::Told(CborError::OpenNumber)),
+        },
+        1 => match argument {
+            Some((_, n)) => Ok((
+                number(alloc, Integer::Negative(u128::from(n)), argument)?,
+                bytes,
+            )),
+            None => Err(Fault::Told(CborError::OpenNumber)),
+        },
+        4 => array_of(alloc, argument, bytes, limit),
+        5 => map_of(alloc, argument, bytes, limit),
+        7 => match argument {
+            Some(_) => Err(Fault::Told(CborError::Reserved)),
+            None => Err(Fault::Told(CborError::MisplacedBreak)),
+        },
+        _ => Err(Fault::Told(CborError::Reserved)),
+    }
+}
+
+/// The item at the front, nested no deeper than the limit.
+#[cycle(item)]
+pub(super) fn item_of<'a, 'b>(
+    alloc: Global,
+    bytes: &'b [u8],
+    limit: usize,
+) -> Result<(Item<'a>, &'b [u8]), Fault<CborError>>
+    ensures exact { Gives (λ x. (item_tree x.0, x.1.now)) result (item_at trees limit bytes.now) }
+    ensures shorter { IfOk result (λ x. length x.1.now < length bytes.now) }
+{
+    let (head, rest) = head_of(bytes)?;
+    content_of(alloc, head, rest, limit)
+}

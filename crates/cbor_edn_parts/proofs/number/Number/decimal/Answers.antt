@@ -1,0 +1,8 @@
+use Rattle.std.proofs.Common.{◌≡◌, true, ap, ◌∙◌}
+use Rattle.cbor_edn_parts.specs.Leaves.{integer}
+use Rattle.cbor_edn_parts.specs.NumberTokens.{is_number}
+use Rattle.cbor_edn_parts.proofs.Decimals.{decimal_number, is_decimal}
+use Rattle.cbor_edn_parts.proofs.number.Number.decimal.Goals as goal
+
+pub invariant_of-result : goal.invariant_of-result
+invariant_of-result c = record { spelled = ap is_number c.in_ok-text.ensures ∙ decimal_number (integer c.args.number) (is_decimal c.args.number c.requires) }
