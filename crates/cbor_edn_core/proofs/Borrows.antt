@@ -1,5 +1,5 @@
 -- A list that is made of borrowed parts is borrowed.
-use Rattle.std.proofs.Common.{◌≡◌, List, [], ◌∷◌, ◌++◌, subst, refl, sym, ap, ◌∙◌}
+use Rattle.std.proofs.Common.{◌≡◌, List, [], ◌∷◌, ◌++◌, subst, sym, ap, ◌∙◌}
 use Rattle.cbor_edn_parts.specs.Leaves.{BorrowsMsc, BorrowsSoc}
 use Rattle.cbor_edn_parts.specs.declared.space.S.{S}
 use Rattle.cbor_edn_parts.specs.declared.space.Ms.{Ms}

@@ -1,6 +1,5 @@
 -- Bytes are refused as too deep only where more than `limit` of them can be heads of what nests.
-use Rattle.std.proofs.Common.{◌≡◌, ℕ, zero, suc, ◌+◌, ◌*◌, ◌/◌, ◌%◌, ◌<◌, ◌≤◌, Bool, true, false, cond, leb, ltb, eqb, List, [], ◌∷◌, ◌++◌, length, Option, Some, None, Result, Ok, Err, refl, sym, ap, subst, ◌∙◌, ◌⊎◌, arith, inl, inr}
-use Rattle.std.specs.Prelude.{count_by}
+use Rattle.std.proofs.Common.{◌≡◌, ℕ, zero, suc, ◌+◌, ◌*◌, ◌/◌, ◌%◌, ◌<◌, ◌≤◌, true, false, cond, leb, ltb, eqb, List, [], ◌∷◌, ◌++◌, length, Option, Some, None, Result, Ok, Err, refl, ap, subst, ◌∙◌, ◌⊎◌, arith, inl, inr}
 use Rattle.std.specs.Int.{w8, w16, w32, w64, byte_len, to_be_bytes}
 use Rattle.std.specs.Int.{Width as Bits}
 use Rattle.std.proofs.lemmas.Bool.{eqb-true, le-leb}
@@ -8,12 +7,12 @@ use Rattle.std.proofs.lemmas.List.Sums.{sum_by-append}
 use Rattle.cbor_edn_core.specs.declared.cbor.Width.{Width}
 use Rattle.cbor_edn_core.specs.declared.cbor.Width.TheVariants.{Immediate, One, Two, Four, Eight}
 use Rattle.cbor_edn_core.specs.declared.from_cbor.CborError.{CborError}
-use Rattle.cbor_edn_core.specs.declared.from_cbor.CborError.TheVariants.{OutOfData, Reserved, MissingArgument, OpenNumber, MisplacedBreak, TooDeep}
+use Rattle.cbor_edn_core.specs.declared.from_cbor.CborError.TheVariants.{TooDeep}
 use Rattle.cbor_edn_core.specs.declared.from_cbor.reader.Stop.{Stop}
-use Rattle.cbor_edn_core.specs.declared.from_cbor.reader.Stop.TheVariants.{Break, EndOfData}
+use Rattle.cbor_edn_core.specs.declared.from_cbor.reader.Stop.TheVariants.{Break}
 use Rattle.cbor_edn_core.specs.Value.{Value, unsigned, negative, array, object, head, open_head, encoding}
 use Rattle.cbor_edn_core.specs.Decoded.{high_bytes}
-use Rattle.cbor_edn_core.specs.CborReading.{◌>>=◌, Reads, Reader, Head, head_at, head_by, argument_at, many, until, several, past, turn, pair_at, item_by, item_at, array_by, map_by, number_by, other_by, if_break}
+use Rattle.cbor_edn_core.specs.CborReading.{◌>>=◌, Reads, Reader, head_at, head_by, argument_at, many, until, several, past, turn, pair_at, item_by, item_at, array_by, map_by, number_by, other_by}
 use Rattle.cbor_edn_core.proofs.CborHeads.{IsBytes, chosen, Takes, HeadIs, head_takes}
 use Rattle.cbor_edn_core.proofs.CborValues.{values_of, pairs_of, argument_width, makes, value_at}
 use Rattle.cbor_edn_core.proofs.CborTakes.{Sound, Within, BothWithin, pair_encoding, pair_takes, item_takes}

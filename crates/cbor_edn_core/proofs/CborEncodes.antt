@@ -1,5 +1,5 @@
 -- What is pushed by parts is the encoding of the whole.
-use Rattle.std.proofs.Common.{◌≡◌, ℕ, ℤ, zero, suc, ◌+◌, ◌^◌, ◌<◌, ◌≤◌, Bool, true, false, cond, ltb, List, [], ◌∷◌, ◌++◌, length, map, drop, get_or, drop-cons, add-one, Option, Some, None, Result, Ok, Err, refl, sym, ap, subst, ◌∙◌, append_assoc, arith}
+use Rattle.std.proofs.Common.{◌≡◌, ℕ, ℤ, zero, suc, ◌+◌, ◌^◌, ◌<◌, ◌≤◌, Bool, true, false, cond, ltb, List, [], ◌∷◌, ◌++◌, length, map, drop, get_or, drop-cons, add-one, Option, Some, None, Result, Ok, Err, refl, sym, ap, ◌∙◌, append_assoc, arith}
 use Rattle.std.proofs.lemmas.Bool.{le-ltb}
 use Rattle.std.proofs.lemmas.List.{append-nil}
 use Rattle.cbor_edn_parts.specs.declared.error.Fault.{Fault}
@@ -11,7 +11,7 @@ use Rattle.cbor_edn_core.specs.declared.cbor.Width.{Width}
 use Rattle.cbor_edn_core.specs.Items.{Row, Elements, Pairs, Node, Item, Number, Listed, End, Items}
 use Rattle.cbor_edn_core.specs.Trees.{Tree, OneItem, OneEntry, Rest, LastTree, ElementTree, PairTree, EmptyTree, FullTree, Head, mark, items}
 use Rattle.cbor_edn_core.specs.View.{entries_onto}
-use Rattle.cbor_edn_core.specs.Value.{Value, array, object, Values, values_len, head, open_head, break, list_encoding, encoding, encodings, Enc, EncAll}
+use Rattle.cbor_edn_core.specs.Value.{Value, Values, head, encoding, encodings, Enc, EncAll}
 use Rattle.cbor_edn_core.specs.Meaning.{◌>>=◌, length_of, means_integer, EntryOf, RowOf, row_len, list_value, listed, no_entries, one_more, means}
 use Rattle.cbor_edn_core.specs.Encoding.{Encodes, Finds, list_head, list_end, major_of, entry_encoding, row_encoding, row_items}
 use Rattle.cbor_edn_core.proofs.MeaningSteps.{both_steps, some_is}

@@ -2,7 +2,6 @@
 use Rattle.std.proofs.Common.{◌≡◌, ℕ, ◌≤◌, max, true, List, ◌++◌, Ok, refl, sym, ap, ◌∙◌, arith}
 use Rattle.cbor_edn_core.specs.Value.{Value, encoding, nesting, Enc}
 use Rattle.cbor_edn_core.specs.CborLaws.{OneEncoding}
-use Rattle.cbor_edn_core.specs.CborReading.{Reads}
 use Rattle.cbor_edn_core.proofs.CborHeads.{ok_is}
 use Rattle.cbor_edn_core.proofs.CborValues.{value_at}
 use Rattle.cbor_edn_core.proofs.CborOutcomes.{within}

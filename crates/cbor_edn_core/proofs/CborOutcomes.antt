@@ -1,5 +1,5 @@
 -- Reading several of a kind again, and where rows end.
-use Rattle.std.proofs.Common.{◌≡◌, ℕ, zero, suc, ◌+◌, ◌-◌, ◌*◌, ◌<◌, ◌≤◌, Bool, true, false, cond, leb, ltb, eqb, max, List, [], ◌∷◌, ◌++◌, length, Option, Some, None, Result, Ok, Err, refl, sym, ap, ◌∙◌, ◌⊎◌, append_assoc, arith, inl, inr}
+use Rattle.std.proofs.Common.{◌≡◌, ℕ, suc, ◌+◌, ◌-◌, ◌*◌, ◌<◌, ◌≤◌, true, false, cond, leb, ltb, eqb, max, List, [], ◌∷◌, ◌++◌, length, Option, Some, None, Result, Ok, Err, refl, sym, ap, ◌∙◌, append_assoc, arith, inl, inr}
 use Rattle.std.proofs.lemmas.Bool.{cases_lt, le-leb, lt-leb, le-ltb, ne_eqb}
 use Rattle.std.proofs.lemmas.List.{take_at, drop_at, length-append}
 use Rattle.cbor_edn_core.specs.declared.cbor.Width.{Width}
@@ -8,11 +8,9 @@ use Rattle.cbor_edn_core.specs.declared.from_cbor.CborError.{CborError}
 use Rattle.cbor_edn_core.specs.declared.from_cbor.CborError.TheVariants.{TooDeep}
 use Rattle.cbor_edn_core.specs.declared.from_cbor.reader.Stop.{Stop}
 use Rattle.cbor_edn_core.specs.declared.from_cbor.reader.Stop.TheVariants.{Break, EndOfData}
-use Rattle.cbor_edn_core.specs.Items.{Node, Item, Items}
-use Rattle.cbor_edn_core.specs.Value.{Value, unsigned, negative, byte_string, chunks, array, object, tag, Values, no_values, value, Pairs, no_pairs, pair, Chunk, head, ArgumentFits, LengthFits, open_head, break, list_encoding, chunk_encoding, chunk_encodings, ChunksFit, encoding, encodings, pair_encodings, values_len, pairs_len, Fits, ValuesFit, PairsFit, nesting, values_nesting, pairs_nesting}
-use Rattle.cbor_edn_core.specs.CborReading.{◌>>=◌, Reads, Reader, Head, head_at, many, until, several, past, pair_at, string_at, chunk_at, item_by, item_at, inner, Makes}
-use Rattle.cbor_edn_core.proofs.CborHeads.{head_again, open_again}
-use Rattle.cbor_edn_core.proofs.CborValues.{values_of, pairs_of, list_of, pair_list_of, values_of_list, pairs_of_list, makes, value_at}
+use Rattle.cbor_edn_core.specs.Value.{Value, unsigned, negative, byte_string, chunks, array, object, tag, Values, no_values, value, Pairs, no_pairs, pair, Chunk, head, ArgumentFits, LengthFits, open_head, break, list_encoding, chunk_encoding, chunk_encodings, ChunksFit, encoding, encodings, pair_encodings, values_len, pairs_len, Fits}
+use Rattle.cbor_edn_core.specs.CborReading.{◌>>=◌, Reader, many, until, past, string_at, chunk_at}
+use Rattle.cbor_edn_core.proofs.CborHeads.{head_again}
 
 -- x, where n is no more than the limit
 abbrev pub outcome : {X : Type 0} → ℕ → ℕ → X → Result X CborError

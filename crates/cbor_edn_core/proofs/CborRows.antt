@@ -1,11 +1,9 @@
 -- A row that was read is the row of a regular list.
-use Rattle.std.proofs.Common.{◌≡◌, ℕ, List, [], ◌∷◌, ◌++◌, map, Option, Some, None, refl, sym, ap, ◌∙◌}
-use Rattle.std.specs.Prelude.{option_map}
-use Rattle.std.proofs.lemmas.List.{map_push}
+use Rattle.std.proofs.Common.{◌≡◌, ℕ, List, [], ◌∷◌, map, Option, Some, refl, ap, ◌∙◌}
 use Rattle.cbor_edn_parts.specs.Leaves.{msc_bytes}
 use Rattle.cbor_edn_parts.specs.declared.space.Msc.{Msc}
 use Rattle.cbor_edn_core.specs.Items.{Row}
-use Rattle.cbor_edn_core.specs.Trees.{Tree, OneEntry, Rest, LastTree, MoreTree}
+use Rattle.cbor_edn_core.specs.Trees.{Tree, OneEntry, LastTree, MoreTree}
 use Rattle.cbor_edn_core.specs.View.{entries_onto}
 use Rattle.cbor_edn_core.specs.Decoded.{in_front}
 use Rattle.cbor_edn_core.specs.CborReading.{row_of}

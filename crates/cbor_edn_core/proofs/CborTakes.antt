@@ -1,15 +1,13 @@
 -- What is read is written so, and nests no deeper than it may.
-use Rattle.std.proofs.Common.{◌≡◌, ℕ, zero, suc, ◌+◌, ◌-◌, ◌*◌, ◌^◌, ◌<◌, ◌≤◌, Bool, true, false, cond, leb, ltb, eqb, max, List, [], ◌∷◌, ◌++◌, length, take, drop, Option, Some, None, Result, Ok, Err, refl, sym, ap, subst, ◌∙◌, ◌⊎◌, append_assoc, arith, inl, inr}
+use Rattle.std.proofs.Common.{◌≡◌, ℕ, zero, suc, ◌+◌, ◌≤◌, true, false, eqb, List, [], ◌∷◌, ◌++◌, length, Option, Some, None, Ok, refl, sym, ap, subst, ◌∙◌, append_assoc, arith, inl, inr}
 use Rattle.std.specs.List.{flat_map, AllByRecursion}
-use Rattle.std.proofs.lemmas.Bool.{cases_lt, eqb-true, ltb-false}
-use Rattle.std.proofs.lemmas.List.{append-nil, length-append}
+use Rattle.std.proofs.lemmas.Bool.{eqb-true}
+use Rattle.std.proofs.lemmas.List.{append-nil}
 use Rattle.cbor_edn_core.specs.declared.cbor.Width.{Width}
-use Rattle.cbor_edn_core.specs.declared.from_cbor.CborError.{CborError}
-use Rattle.cbor_edn_core.specs.declared.from_cbor.CborError.TheVariants.{OutOfData, Reserved, TooDeep, OpenNumber, MisplacedBreak}
 use Rattle.cbor_edn_core.specs.declared.from_cbor.reader.Stop.{Stop}
 use Rattle.cbor_edn_core.specs.declared.from_cbor.reader.Stop.TheVariants.{Break, EndOfData}
-use Rattle.cbor_edn_core.specs.Value.{Value, unsigned, negative, array, object, Values, no_values, value, Pairs, no_pairs, pair, head, ArgumentFits, LengthFits, open_head, break, list_encoding, encoding, encodings, pair_encodings, values_len, pairs_len, Fits, ValuesFit, PairsFit, nesting, values_nesting, pairs_nesting}
-use Rattle.cbor_edn_core.specs.CborReading.{◌>>=◌, Reads, Reader, Head, head_at, many, until, several, past, turn, pair_at, item_by, item_at, array_by, map_by, number_by, other_by, if_break}
+use Rattle.cbor_edn_core.specs.Value.{Value, unsigned, negative, array, object, head, ArgumentFits, LengthFits, open_head, list_encoding, encoding, encodings, pair_encodings, values_len, pairs_len, Fits, ValuesFit, PairsFit, nesting, values_nesting, pairs_nesting}
+use Rattle.cbor_edn_core.specs.CborReading.{◌>>=◌, Reads, Reader, head_at, many, until, several, past, turn, pair_at, item_by, item_at, array_by, map_by, number_by, other_by}
 use Rattle.cbor_edn_core.proofs.CborHeads.{IsBytes, IsBytes-rest, bind_ok, ok_is, chosen, Takes, Takes-then, HeadIs, head_takes}
 use Rattle.cbor_edn_core.proofs.CborValues.{values_of, pairs_of, argument_width, makes, value_at}
 use Rattle.cbor_edn_core.proofs.Readable.{Readable, AllReadable, PairsReadable}

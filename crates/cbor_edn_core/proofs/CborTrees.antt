@@ -1,5 +1,5 @@
 -- The reader that makes trees makes those of the values that are read.
-use Rattle.std.proofs.Common.{◌≡◌, ℕ, zero, suc, ◌+◌, ◌<◌, Bool, true, false, cond, eqb, List, [], ◌∷◌, ◌++◌, length, map, Option, Some, None, Result, Ok, Err, refl, sym, ap, ◌∙◌, arith}
+use Rattle.std.proofs.Common.{◌≡◌, ℕ, zero, suc, Bool, true, false, cond, eqb, List, [], ◌∷◌, length, map, Option, Some, None, Result, Ok, Err, refl, sym, ap, ◌∙◌, arith}
 use Rattle.std.specs.Prelude.{pos, negsuc}
 use Rattle.cbor_edn_core.specs.declared.cbor.Width.{Width}
 use Rattle.cbor_edn_core.specs.declared.from_cbor.CborError.{CborError}
@@ -11,7 +11,7 @@ use Rattle.cbor_edn_core.specs.Trees.{Tree, OneItem, OneEntry, Rest, NumberTree,
 use Rattle.cbor_edn_core.specs.Value.{Value, unsigned, negative, byte_string, chunks, array, object, tag, Values, no_values, value, values_len, Pairs, no_pairs, pair, pairs_len}
 use Rattle.cbor_edn_core.specs.Decoded as decoded
 use Rattle.cbor_edn_core.specs.Decoded.{item_of, items_of, list_indicator, in_front, inside, key_value, regular}
-use Rattle.cbor_edn_core.specs.CborReading.{◌>>=◌, Reads, Reader, head_at, many, until, several, past, turn, pair_at, Makes, item_by, item_at, array_by, map_by, number_by, other_by, number_tree, argument_indicator, list_tree, row_of, element_row, trees}
+use Rattle.cbor_edn_core.specs.CborReading.{◌>>=◌, Reads, Reader, head_at, many, until, several, past, turn, pair_at, item_by, item_at, array_by, map_by, number_by, other_by, number_tree, argument_indicator, list_tree, row_of, element_row, trees}
 use Rattle.cbor_edn_core.proofs.MeaningSteps.{bind, both_steps, some_is}
 use Rattle.cbor_edn_core.proofs.CborHeads.{bind_ok}
 use Rattle.cbor_edn_core.proofs.CborValues.{values_of, pairs_of, argument_width, makes, value_at}

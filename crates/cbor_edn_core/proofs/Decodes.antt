@@ -1,9 +1,9 @@
 -- What a call that decodes answers, from what its reader gives.
-use Rattle.std.proofs.Common.{◌≡◌, ◌≢◌, ℕ, zero, suc, ◌+◌, ◌<◌, ◌≤◌, Bool, true, false, eqb, List, [], ◌∷◌, ◌++◌, length, map, Option, Some, None, Result, Ok, Err, refl, sym, ap, subst, ◌∙◌, ◌⊎◌, arith, inl, inr}
+use Rattle.std.proofs.Common.{◌≡◌, ◌≢◌, ℕ, zero, suc, ◌<◌, ◌≤◌, true, false, eqb, List, [], ◌∷◌, ◌++◌, length, map, Option, Some, None, Result, Ok, Err, refl, sym, ap, subst, ◌∙◌, arith, inl, inr}
 use Rattle.std.specs.Prelude.{option_map, IfOk}
-use Rattle.std.specs.List.{flat_map, AllByRecursion}
+use Rattle.std.specs.List.{flat_map}
 use Rattle.std.proofs.lemmas.Bool.{cases_lt, eqb-true}
-use Rattle.std.proofs.lemmas.List.{append-nil, length-append}
+use Rattle.std.proofs.lemmas.List.{append-nil}
 use Rattle.cbor_edn_parts.specs.declared.error.Fault.{Fault}
 use Rattle.cbor_edn_parts.specs.declared.error.Fault.TheVariants.{Memory, Told}
 use Rattle.cbor_edn_parts.specs.Leaves.{s_bytes}
@@ -16,23 +16,23 @@ use Rattle.cbor_edn_core.specs.declared.tree.Items.{Items as ItemsOf}
 use Rattle.cbor_edn_core.specs.declared.tree.Texts.{Texts}
 use Rattle.cbor_edn_core.specs.View.{texts, view_items, sequence_tree}
 use Rattle.cbor_edn_core.specs.declared.from_cbor.CborError.{CborError}
-use Rattle.cbor_edn_core.specs.declared.from_cbor.CborError.TheVariants.{TooDeep, DataAfter}
+use Rattle.cbor_edn_core.specs.declared.from_cbor.CborError.TheVariants.{TooDeep}
 use Rattle.cbor_edn_core.specs.declared.from_cbor.reader.Stop.TheVariants.{EndOfData}
 use Rattle.cbor_edn_core.specs.Items.{Elements, Node, Item, Items}
 use Rattle.cbor_edn_core.specs.Trees.{Tree, OneItem, Rest, Seq, NothingTree, SequenceTree, items}
-use Rattle.cbor_edn_core.specs.Value.{Value, Values, encoding, encodings, nesting, values_nesting, values_len, Enc, EncAll}
+use Rattle.cbor_edn_core.specs.Value.{Value, Values, encoding, encodings, nesting, values_nesting, Enc, EncAll}
 use Rattle.cbor_edn_core.specs.Meaning.{means}
 use Rattle.cbor_edn_core.specs.Refusals.{IfTold}
-use Rattle.cbor_edn_core.specs.Decoded.{item_of, items_of, regular, sequence_tree_of, regular_sequence, Begins, IsDecoded, IsDecodedSequence, NoneIs, high_bytes, IsTooDeep, NoSequence, IsTooDeepSequence}
+use Rattle.cbor_edn_core.specs.Decoded.{item_of, items_of, regular, sequence_tree_of, regular_sequence, Begins, IsDecoded, IsDecodedSequence, NoneIs, IsTooDeep, NoSequence, IsTooDeepSequence}
 use Rattle.cbor_edn_core.specs.CborReading.{◌>>=◌, Reads, Reader, Gives, Fails, item_at, until, past, turn, trees, element_row, sequence_at}
 use Rattle.cbor_edn_core.proofs.Readable.{with_item, with_items, has_item, has_items}
 use Rattle.cbor_edn_core.proofs.CborHeads.{IsBytes, bind_ok}
-use Rattle.cbor_edn_core.proofs.CborValues.{values_of, list_of, values_of_list, value_at}
+use Rattle.cbor_edn_core.proofs.CborValues.{values_of, list_of, value_at}
 use Rattle.cbor_edn_core.proofs.CborOutcomes.{outcome, within, beyond, values_many}
 use Rattle.cbor_edn_core.proofs.CborAgain.{item_again, values_until}
 use Rattle.cbor_edn_core.proofs.CborTakes.{Within, item_takes, until_takes, values_are}
 use Rattle.cbor_edn_core.proofs.CborDeep.{item_deep, until_deep}
-use Rattle.cbor_edn_core.proofs.CborTrees.{tree_of, tree_of_item, row_tree, row_tree_of_items, shown, tree_read, until_shown, values_row}
+use Rattle.cbor_edn_core.proofs.CborTrees.{tree_of, tree_of_item, row_tree_of_items, shown, tree_read, until_shown, values_row}
 use Rattle.cbor_edn_core.proofs.Decoding.{row_items, items_again, item_means, items_mean}
 
 -- ---- results

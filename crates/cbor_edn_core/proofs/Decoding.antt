@@ -1,37 +1,22 @@
 -- What is decoded: the tree of an item that means its value, and what refusals say.
-use Rattle.std.proofs.Common.{◌≡◌, ◌≢◌, ℕ, suc, ◌+◌, ◌^◌, ◌<◌, ◌≤◌, Bool, true, false, cond, ltb, List, [], ◌∷◌, ◌++◌, length, map, Option, Some, None, Result, Ok, Err, refl, sym, ap, subst, ◌∙◌, ◌⊎◌, arith, inl, inr}
-use Rattle.std.specs.Prelude.{pos, negsuc, option_map}
+use Rattle.std.proofs.Common.{◌≡◌, ℕ, ◌+◌, ◌^◌, ◌<◌, Bool, true, false, cond, ltb, Option, Some, None, refl, sym, ap, ◌∙◌, arith, inl, inr}
+use Rattle.std.specs.Prelude.{pos, negsuc}
 use Rattle.std.specs.Fmt.{signed_decimal}
 use Rattle.std.proofs.lemmas.Bool.{cases_lt, lt-ltb, le-ltb}
-use Rattle.std.proofs.lemmas.List.{append-nil, length-append}
 use Rattle.cbor_edn_parts.specs.Number.{integer_of}
-use Rattle.cbor_edn_parts.proofs.Decimals.{IsDecimal, integer_of_decimal}
-use Rattle.cbor_edn_parts.specs.declared.error.Fault.{Fault}
-use Rattle.cbor_edn_parts.specs.declared.error.Fault.TheVariants.{Memory, Told}
+use Rattle.cbor_edn_parts.proofs.Decimals.{integer_of_decimal}
 use Rattle.cbor_edn_parts.specs.declared.indicator.Indicator.{Indicator}
 use Rattle.cbor_edn_parts.specs.declared.indicator.Indicator.TheVariants as indicator
 use Rattle.cbor_edn_core.specs.declared.cbor.Width.{Width}
 use Rattle.cbor_edn_core.specs.declared.cbor.Width.TheVariants.{Immediate, One, Two, Four, Eight}
-use Rattle.cbor_edn_core.specs.declared.from_cbor.CborError.{CborError}
-use Rattle.cbor_edn_core.specs.declared.from_cbor.CborError.TheVariants.{TooDeep}
-use Rattle.cbor_edn_core.specs.declared.from_cbor.reader.Stop.TheVariants.{EndOfData}
 use Rattle.cbor_edn_core.specs.Items as kind
 use Rattle.cbor_edn_core.specs.Items.{Row, Elements, Sort, Node, Item, Items, Entry, Entries, Number, Listed, Element, Pair, End, Then}
-use Rattle.cbor_edn_core.specs.Trees.{Tree, OneItem, OneEntry, Rest, Seq, NothingTree, SequenceTree, items}
-use Rattle.cbor_edn_core.specs.Value.{Value, unsigned, negative, byte_string, chunks, array, object, tag, Values, no_values, value, values_len, Pairs, no_pairs, pair, pairs_len, limit_of, ArgumentFits, LengthFits, Fits, ValuesFit, PairsFit, encoding, encodings, nesting, values_nesting, Enc, EncAll}
+use Rattle.cbor_edn_core.specs.Trees.{Tree, OneEntry, Rest, items}
+use Rattle.cbor_edn_core.specs.Value.{Value, unsigned, negative, byte_string, chunks, array, object, tag, Values, no_values, value, values_len, Pairs, no_pairs, pair, pairs_len, limit_of, ArgumentFits, LengthFits, Fits, ValuesFit, PairsFit}
 use Rattle.cbor_edn_core.specs.Meaning.{shortest, fitting, width_of, length_of, means_integer, bignum, means, listed}
 use Rattle.cbor_edn_core.specs.Decoded as decoded
 use Rattle.cbor_edn_core.specs.Decoded.{if_below, indicator_of, list_indicator, item_of, items_of, in_front, inside, regular, Regular, sequence_tree_of, regular_sequence, Begins, IsDecoded, IsDecodedSequence, NoneIs, high_bytes, IsTooDeep, NoSequence, IsTooDeepSequence}
-use Rattle.cbor_edn_core.specs.CborReading.{◌>>=◌, Reads, Reader, Gives, Fails, item_at, until, past, trees, element_row}
 use Rattle.cbor_edn_core.proofs.MeaningSteps.{bind, both_steps, some_is}
-use Rattle.cbor_edn_core.proofs.Readable.{Readable, AllReadable, with_item, with_items, has_item, has_items}
-use Rattle.cbor_edn_core.proofs.CborHeads.{IsBytes, Takes}
-use Rattle.cbor_edn_core.proofs.CborValues.{values_of, list_of, values_of_list, value_at}
-use Rattle.cbor_edn_core.proofs.CborOutcomes.{outcome, within, beyond}
-use Rattle.cbor_edn_core.proofs.CborAgain.{item_again, values_until}
-use Rattle.cbor_edn_core.proofs.CborTakes.{Within, item_takes, until_takes, values_are}
-use Rattle.cbor_edn_core.proofs.CborDeep.{item_deep, until_deep}
-use Rattle.cbor_edn_core.proofs.CborTrees.{tree_of, row_tree, tree_of_item, row_tree_of_items, shown, tree_read, until_shown}
 
 -- ---- the items of a regular tree
 

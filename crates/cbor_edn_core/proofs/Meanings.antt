@@ -1,7 +1,7 @@
 -- What items mean can be encoded.
-use Rattle.std.proofs.Common.{◌≡◌, ℕ, ℤ, pos, negsuc, zero, suc, ◌+◌, ◌/◌, ◌%◌, ◌^◌, ◌<◌, ◌≤◌, ◌++◌, List, [], ◌∷◌, length, Bool, true, false, cond, ltb, Option, Some, None, refl, ap, subst, ◌⊎◌, inl, inr, arith}
-use Rattle.std.specs.List.{All, AllByRecursion}
-use Rattle.std.specs.Int.{w128, byte_at, bytes_high_first, to_be_bytes}
+use Rattle.std.proofs.Common.{◌≡◌, ℕ, ℤ, pos, negsuc, zero, suc, ◌+◌, ◌^◌, ◌<◌, ◌≤◌, List, [], ◌∷◌, length, Bool, true, false, cond, ltb, Option, Some, None, refl, ap, subst, inl, inr, arith}
+use Rattle.std.specs.List.{AllByRecursion}
+use Rattle.std.specs.Int.{byte_at, bytes_high_first}
 use Rattle.std.proofs.lemmas.Bool.{cases_lt, lt-ltb, le-ltb, ltb-true}
 use Rattle.std.proofs.lemmas.List.Elements.{All-nil, All-cons}
 use Rattle.cbor_edn_parts.specs.Number.{integer_of}
@@ -10,7 +10,7 @@ use Rattle.cbor_edn_parts.specs.declared.indicator.Indicator.TheVariants as indi
 use Rattle.cbor_edn_core.specs.declared.cbor.Width.{Width}
 use Rattle.cbor_edn_core.specs.declared.cbor.Width.TheVariants.{Immediate, One, Two, Four, Eight}
 use Rattle.cbor_edn_core.specs.Items.{Row, Elements, Pairs, Sort, Item, Entry, Entries, Node, Number, Listed, Element, Pair, End, Then}
-use Rattle.cbor_edn_core.specs.Value.{Value, unsigned, negative, values_len, limit_of, ArgumentFits, LengthFits, AreBytes, Fits, ValuesFit, PairsFit}
+use Rattle.cbor_edn_core.specs.Value.{Value, unsigned, negative, limit_of, ArgumentFits, LengthFits, AreBytes, Fits, ValuesFit, PairsFit}
 use Rattle.cbor_edn_core.specs.Meaning.{◌>>=◌, shortest, fitting, width_of, length_of, without_zeros, magnitude_bytes, tagged, unmarked, bignum, means_integer, MeaningOf, EntryOf, RowOf, row_len, list_value, listed, no_entries, one_more, means}
 use Rattle.cbor_edn_core.proofs.MeaningSteps.{both_steps, some_if, some_is}
 

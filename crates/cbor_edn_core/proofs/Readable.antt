@@ -1,11 +1,10 @@
 -- The values that a reader makes: all, or those that have items.
-use Rattle.std.proofs.Common.{◌≡◌, Bool, true, false, Option, Some, None, refl}
+use Rattle.std.proofs.Common.{◌≡◌, Bool, true, false, Some, refl}
 use Rattle.std.specs.Prelude.{pos, negsuc}
 use Rattle.std.specs.Fmt.{signed_decimal}
 use Rattle.cbor_edn_core.specs.Items.{Node, Item, Entries, Items, Elements, Number, Listed, Element, Pair, End, Then}
 use Rattle.cbor_edn_core.specs.Items as kind
 use Rattle.cbor_edn_core.specs.Value.{Value, unsigned, negative, byte_string, chunks, array, object, tag, Values, no_values, value, Pairs, no_pairs, pair, values_len, pairs_len}
-use Rattle.cbor_edn_core.specs.Meaning.{◌>>=◌}
 use Rattle.cbor_edn_core.specs.Decoded.{item_of, items_of, pairs_of, indicator_of, list_indicator}
 use Rattle.cbor_edn_core.proofs.MeaningSteps.{both_steps}
 

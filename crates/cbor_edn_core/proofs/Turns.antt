@@ -1,5 +1,5 @@
 -- What the reader gives at a place, from what it gives for the parts, as the parser meets them.
-use Rattle.std.proofs.Common.{ℕ, zero, suc, List, [], ◌∷◌, ◌++◌, ◌≡◌, ◌≢◌, ◌+◌, ◌-◌, ◌<◌, ◌≤◌, length, refl, sym, ap, ◌∙◌, arith, length-append, map, Some, None, Ok, Err, Bool, true, false, Option, Result}
+use Rattle.std.proofs.Common.{ℕ, zero, suc, List, [], ◌∷◌, ◌++◌, ◌≡◌, ◌≢◌, ◌+◌, ◌-◌, ◌<◌, length, refl, sym, ap, ◌∙◌, arith, length-append, map, Some, None, Ok, Err, true, false, Option, Result}
 use Rattle.std.specs.Prelude.{eqb, cond}
 use Rattle.std.proofs.lemmas.List.{map-append}
 use Rattle.std.proofs.lemmas.Bool.Decides.{nat_tests}

@@ -1,7 +1,5 @@
 -- Rows that grow at their end.
-use Rattle.std.specs.Prelude.{ℕ, List, [], ◌∷◌, ◌++◌, map, Option, Some, None}
-use Rattle.std.specs.Global.{Vec}
-use Rattle.cbor_edn_parts.specs.Leaves.{msc_bytes}
+use Rattle.std.specs.Prelude.{List, [], ◌∷◌, ◌++◌, map, Option, Some, None}
 use Rattle.cbor_edn_parts.specs.declared.space.Msc.{Msc}
 use Rattle.cbor_edn_core.specs.declared.from_cbor.growing.Growing.{Growing}
 

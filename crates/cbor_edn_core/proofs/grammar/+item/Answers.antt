@@ -1,4 +1,4 @@
-use Rattle.std.proofs.Common.{length-drop, ◌≡◌, ◌+◌, ◌<◌, ℕ, List, [], length, drop, arith, ap, sym, ◌∙◌, refl}
+use Rattle.std.proofs.Common.{length-drop, ◌≡◌, ◌+◌, ◌<◌, ℕ, List, length, drop, arith, ap, sym, ◌∙◌, refl}
 use Rattle.std.proofs.lemmas.Result.{err_from_is_err_and}
 use Rattle.cbor_edn_parts.specs.declared.error.Fault.TheVariants.{Told}
 use Rattle.cbor_edn_parts.specs.SpaceTokens.{space, separator}

@@ -1,4 +1,4 @@
-use Rattle.std.proofs.Common.{◌≡◌, ◌+◌, ◌≤◌, ◌<◌, drop, take, length, ◌∷◌, arith, refl}
+use Rattle.std.proofs.Common.{arith, refl}
 use Rattle.cbor_edn_core.proofs.Places.{turn, nothing_before}
 use Rattle.cbor_edn_core.proofs.location.located.Goals as goal
 

@@ -1,5 +1,5 @@
 use Rattle.std.proofs.Common.{◌≡◌, ◌+◌, ◌≤◌, take}
-use Rattle.std.specs.Prelude.{count_by, length}
+use Rattle.std.specs.Prelude.{count_by}
 use Rattle.cbor_edn_parts.specs.Place.{is_line_feed, is_start, last_line}
 use Rattle.cbor_edn_core.proofs.location.located.Given as goal
 

@@ -1,9 +1,9 @@
-use Rattle.std.proofs.Common.{◌≡◌, ◌≢◌, [], ◌∷◌, List, ℕ, Ok, Err, Some, None, refl, sym, ap, ◌∙◌}
+use Rattle.std.proofs.Common.{◌≡◌, ◌≢◌, [], ◌∷◌, List, ℕ, Ok, Err, Some, refl, sym}
 use Rattle.std.proofs.lemmas.Bool.{false≢true}
 use Rattle.cbor_edn_parts.specs.declared.indicator.Indicator.{Indicator}
 use Rattle.cbor_edn_parts.specs.declared.error.ParseErrorKind.TheVariants.{Invalid}
 use Rattle.cbor_edn_core.specs.Reading.{head_of}
-use Rattle.cbor_edn_core.specs.Trees.{Marked, Unmarked}
+use Rattle.cbor_edn_core.specs.Trees.{Marked}
 use Rattle.cbor_edn_core.proofs.lookahead.marked.Goals as goal
 
 no_space : (i : Indicator) (s : List ℕ) → s ≡ [] → head_of (Some i) s ≡ Err Invalid

@@ -1,4 +1,4 @@
-use Rattle.std.proofs.Common.{◌≡◌, ◌+◌, ◌^◌, ◌<◌, ◌++◌, length, map, drop, ap, subst, ◌∙◌, arith, Some, Ok, Err}
+use Rattle.std.proofs.Common.{◌≡◌, ◌+◌, length, map, drop, ap, subst, ◌∙◌, arith, Some, Ok, Err}
 use Rattle.cbor_edn_core.specs.Items.{Elements, Pairs}
 use Rattle.cbor_edn_core.specs.Trees.{ElementTree, mark}
 use Rattle.cbor_edn_core.specs.Meaning.{length_of}

@@ -1,7 +1,7 @@
-use Rattle.std.proofs.Common.{arith, [], ◌≡◌, map}
+use Rattle.std.proofs.Common.{arith, map}
 use Rattle.std.specs.Prelude.{option_map}
 use Rattle.std.proofs.lemmas.Result.{err_from_is_err_and}
-use Rattle.cbor_edn_core.specs.View.{Sequence, texts, item_tree, view_items, sequence_tree}
+use Rattle.cbor_edn_core.specs.View.{Sequence, texts, item_tree, view_items}
 use Rattle.cbor_edn_core.specs.Growing.{grown}
 use Rattle.cbor_edn_core.proofs.Decodes.{sequence_fails_refused, sequence_fails_deep, sequence_decoded, sequence_view}
 use Rattle.cbor_edn_core.proofs.from_cbor.Sequence.from_cbor_within.Goals as goal

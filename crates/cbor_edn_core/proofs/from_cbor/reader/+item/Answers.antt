@@ -1,10 +1,10 @@
-use Rattle.std.proofs.Common.{◌≡◌, ℕ, suc, ◌-◌, ◌+◌, ◌++◌, ◌∷◌, [], length, map, sym, ap, ◌∙◌, arith, rules, Ok, Some, None}
+use Rattle.std.proofs.Common.{◌≡◌, ◌-◌, ◌++◌, ◌∷◌, [], map, arith, Some, None}
 use Rattle.std.proofs.lemmas.Result.{err_from_is_err_and}
 use Rattle.std.proofs.lemmas.List.{map_push}
 use Rattle.cbor_edn_core.specs.declared.from_cbor.reader.Stop.TheVariants.{Break}
 use Rattle.cbor_edn_core.specs.View.{texts, item_tree, view_pair}
 use Rattle.cbor_edn_core.specs.Growing.{grown}
-use Rattle.cbor_edn_core.specs.CborReading.{many, until, past, item_at, pair_at, trees}
+use Rattle.cbor_edn_core.specs.CborReading.{past, item_at, pair_at, trees}
 use Rattle.cbor_edn_core.proofs.CborAgain.{item_at_ok}
 use Rattle.cbor_edn_core.proofs.CborTurns.{goes_on, fails, is_done, until_more, until_fails, until_done, item_fails}
 use Rattle.cbor_edn_core.proofs.from_cbor.reader.+item.Goals as goal
