@@ -10,7 +10,7 @@ use Rattle.cbor_edn_parts.specs.declared.indicator.Indicator.TheVariants.{Indefi
 use Rattle.cbor_edn_core.specs.declared.cbor.Width.{Width}
 use Rattle.cbor_edn_core.specs.declared.cbor.Width.TheVariants.{Immediate, One, Two, Four, Eight}
 use Rattle.cbor_edn_core.specs.declared.from_cbor.CborError.{CborError}
-use Rattle.cbor_edn_core.specs.declared.from_cbor.CborError.TheVariants.{OutOfData, Reserved, MissingArgument, OtherChunk, OpenChunk, OpenNumber, MisplacedBreak, MissingBytes, TooDeep}
+use Rattle.cbor_edn_core.specs.declared.from_cbor.CborError.TheVariants.{OutOfData, Reserved, MissingArgument, OtherChunk, OpenChunk, OpenNumber, MisplacedBreak, MissingBytes, DataAfter, TooDeep}
 use Rattle.cbor_edn_core.specs.declared.from_cbor.reader.Stop.{Stop}
 use Rattle.cbor_edn_core.specs.declared.from_cbor.reader.Stop.TheVariants.{Break, EndOfData}
 use Rattle.cbor_edn_core.specs.Items as kind
@@ -223,3 +223,9 @@ trees = record {
   object = λ argument es. list_tree kind.Pairs argument (row_of es);
   more = None;
 }
+
+-- An item with nothing behind it.
+abbrev pub whole : {A : Type 0} → Reads A → Result A CborError
+whole (Ok (x, [])) = Ok x
+whole (Ok (x, b ∷ rest)) = Err DataAfter
+whole (Err e) = Err e
