@@ -1,29 +1,38 @@
 -- What the text of a valid tree, joined, is read as, whatever follows: the tree, where it nests no deeper than the limit.
 use Rattle.std.proofs.Common.{ℕ, zero, suc, List, [], ◌∷◌, ◌++◌, ◌≡◌, ◌≤◌, ◌+◌, refl, ap, sym, arith, ◌∙◌, append_assoc}
-use Rattle.std.specs.Prelude.{true, Option, Some, None, Ok, max}
+use Rattle.std.specs.Prelude.{true, false, eqb, Option, Some, None, Ok, max}
 use Rattle.std.proofs.lemmas.Bool.{eq-eqb}
 use Rattle.cbor_edn_parts.specs.declared.indicator.Indicator.{Indicator}
-use Rattle.cbor_edn_parts.specs.Bytes.{kind, Follow, Closes}
+use Rattle.cbor_edn_parts.specs.Bytes.{Follow, Closes}
 use Rattle.cbor_edn_parts.specs.Indicator.{indicator_text, indicator_at}
 use Rattle.cbor_edn_parts.specs.Lex.{Table, is_token}
-use Rattle.cbor_edn_parts.specs.SpaceTokens.{space, separator, is_s, is_soc, is_msc}
+use Rattle.cbor_edn_parts.specs.SpaceTokens.{space, separator, is_s, is_ms, is_soc, is_msc}
 use Rattle.cbor_edn_parts.specs.NumberTokens.{number, is_number}
-use Rattle.cbor_edn_core.specs.Items.{Row, Elements, Pairs}
+use Rattle.cbor_edn_parts.specs.LiteralTokens.{literal, dots, is_literal, are_dots}
+use Rattle.cbor_edn_core.specs.Items.{Row, Elements, Pairs, Strings, Bracketed, Array, Map, entries_of}
 use Rattle.cbor_edn_core.specs.Spelling.{opening, ending}
-use Rattle.cbor_edn_core.specs.Trees.{Rule, OneItem, OneEntry, Inside, Rest, Seq, Head, Unmarked, Marked, head_text, Tree, NumberTree, ListTree, ElementTree, PairTree, EmptyTree, FullTree, LastTree, MoreTree, NothingTree, SequenceTree, StandaloneTree, onto, IsHead, Valid, IsJoined, Joined, FollowOf, depth}
-use Rattle.cbor_edn_core.specs.Reading.{Reader, or_invalid, token, byte, not_empty, head_of, number_item, list_item, item, entry, inside_full, inside, more, rest, sequence, standalone, read, outcome}
-use Rattle.cbor_edn_parts.proofs.ByteKinds.{differs}
+use Rattle.cbor_edn_core.specs.Trees.{Rule, OneItem, OnePiece, OneString, OneEntry, Inside, Rest, Seq, Head, Unmarked, Marked, head_text, Tree, NumberTree, ListTree, StringTree, StreamTree, LiteralTree, DotsTree, EmbeddedTree, LastPieceTree, PlusTree, ElementTree, PairTree, ChunkTree, EmptyTree, FullTree, LastTree, MoreTree, NothingTree, SequenceTree, StandaloneTree, onto, IsHead, Valid, IsJoined, Joined, Parts, FollowOf, depth}
+use Rattle.cbor_edn_core.specs.Reading.{◌>>=◌, Reader, or_invalid, token, byte, not_empty, head_of, starts_string, number_item, list_item, stream_item, string_item, item, literal_piece, dots_piece, embedded_piece, piece, plus_string, string, entry, inside_full, inside, more, rest, sequence, standalone, read, outcome}
 use Rattle.cbor_edn_parts.proofs.Indicators.{spec-none, spec-some, spec-again}
 use Rattle.cbor_edn_parts.proofs.Tokens.{Halts, munch-again, token_texts}
-use Rattle.cbor_edn_core.proofs.Follows.{numeric, numeric_start, number_some, Solid, halts_space, halts_separator, halts_marked, closes_solid, closes_closed, closes_follow, begins_solid, begins_open, ending_closes, item_begins, rest_begins, space_before, space_follow, separator_follow, msc_follow, space_plain, colon_solid, colon_follow}
+use Rattle.cbor_edn_core.proofs.Follows.{number_some, Solid, solid_spaceless, halts_space, halts_separator, halts_marked, halts_literal, halts_dots, closes_solid, closes_closed, closes_follow, begins_solid, begins_open, ending_closes, stream_closes, embedded_closes, space_before, space_follow, space_plain, colon_solid, plus_solid, plus_follow}
+use Rattle.cbor_edn_core.proofs.Begins.{number_stringless, literal_some, literal_differs, dots_begin, Unopened, number_unopened, string_unopened, joins_string, string_starts, string_begins, item_starts, rest_starts, end_next, more_next, colon_next, last_next}
 use Rattle.cbor_edn_core.proofs.Outcomes.{then_ok, then_done, then_outcome, flat, deeper, too_deep}
 
 -- How many steps a tree takes at most.
 unfoldable pub size : {s : Rule} → Tree s → ℕ
 size (NumberTree x i) = 1
 size (ListTree k w) = size w + 1
+size (StringTree w) = size w + 1
+size (StreamTree ms m) = size m + 1
+size (LiteralTree x i) = 1
+size (DotsTree x) = 1
+size (EmbeddedTree w i) = size w + 1
+size (LastPieceTree p) = size p + 1
+size (PlusTree p s t w) = size p + size w + 1
 size (ElementTree w) = size w + 1
 size (PairTree v s t w) = size v + size w + 1
+size (ChunkTree w) = size w + 1
 size (EmptyTree i s) = 1
 size (FullTree h s m) = size m + 1
 size (LastTree e s) = size e + 1
@@ -40,28 +49,80 @@ taken : {State : Type 0} (T : Table State) (x r : List ℕ) → is_token T x ≡
 taken T x r v h = ap or_invalid (munch-again T T.start x r ((token_texts T x).1 v) h)
 
 space-again : (s r : List ℕ) → is_s s ≡ true → Solid r → token space (s ++ r) ≡ Ok (s, r)
-space-again s r v h = taken space s r v (halts_space r h)
+space-again s r v h = taken space s r v (halts_space r (solid_spaceless r h))
 
 separator-again : (s r : List ℕ) → is_soc s ≡ true → Solid r → token separator (s ++ r) ≡ Ok (s, r)
 separator-again s r v h = taken separator s r v (halts_separator r h)
 
 -- Each rule reads its tree again, where the readers of its parts do.
 module _ (g : ℕ → (s : Rule) → Reader s) where
-  number_next : (limit c : ℕ) (xs : List ℕ) → numeric (kind c) ≡ true → item g limit (c ∷ xs) ≡ number_item g (c ∷ xs)
-  unfolding item kind
-  number_next limit c xs h = rw (differs numeric c 91 h refl, differs numeric c 123 h refl)
+  number_next : (limit c : ℕ) (xs : List ℕ) → Unopened c → starts_string (c ∷ xs) ≡ false → item g limit (c ∷ xs) ≡ number_item g (c ∷ xs)
+  unfolding item
+  number_next limit c xs o h = rw (o.0, o.1, o.2, h)
 
   number-again : (limit : ℕ) (x : List ℕ) (i : Option Indicator) (r : List ℕ) → is_number x ≡ true → Follow r → item g limit (x ++ (indicator_text i ++ r)) ≡ outcome 0 limit (NumberTree x i, r)
   unfolding number_item
   number-again limit [] i r v h = absurd (number_some v)
-  number-again limit (c ∷ x) i r v h = rw (flat {A = Tree OneItem × List ℕ} limit (NumberTree (c ∷ x) i, r)) (number_next limit c _ (numeric_start c x v) ∙ then_ok _ (taken number (c ∷ x) (indicator_text i ++ r) v (halts_marked i r h)) (rw (spec-again i r h)))
+  number-again limit (c ∷ x) i r v h = rw (flat {A = Tree OneItem × List ℕ} limit (NumberTree (c ∷ x) i, r)) (number_next limit c _ (number_unopened c x v) (number_stringless c x _ v) ∙ then_ok _ (taken number (c ∷ x) (indicator_text i ++ r) v (halts_marked i r h)) (rw (spec-again i r h)))
 
-  opened : (limit : ℕ) (k : Row) (xs : List ℕ) → item g limit (opening k ∷ xs) ≡ list_item g limit k xs
+  string_next : (limit c : ℕ) (xs : List ℕ) → Unopened c → starts_string (c ∷ xs) ≡ true → item g limit (c ∷ xs) ≡ string_item g limit (c ∷ xs)
   unfolding item
-  opened limit Elements xs = refl
-  opened limit Pairs xs = refl
+  string_next limit c xs o h = rw (o.0, o.1, o.2, h)
 
-  list-again : (limit : ℕ) (k : Row) (w : Tree (Inside k)) (r : List ℕ) → ((limit : ℕ) → g limit (Inside k) (onto w (ending k ∷ r)) ≡ outcome (depth w) limit (w, ending k ∷ r)) → list_item g limit k (onto w (ending k ∷ r)) ≡ outcome (suc (depth w)) limit (ListTree k w, r)
+  string-again : (limit : ℕ) (w : Tree OneString) (xs r : List ℕ) → starts_string xs ≡ true → g limit OneString xs ≡ outcome (depth w) limit (w, r) → item g limit xs ≡ outcome (depth w) limit (StringTree w, r)
+  unfolding string_item starts_string
+  string-again limit w [] r h e = absurd (cc)
+  string-again limit w (c ∷ xs) r h e = string_next limit c xs (string_unopened c xs h) h ∙ then_done (depth w) limit _ e refl
+
+  stream-again : (limit : ℕ) (ms : List ℕ) (m : Tree (Rest Strings)) (r : List ℕ) → is_ms ms ≡ true → Valid m → g limit (Rest Strings) (onto m (41 ∷ r)) ≡ outcome (depth m) limit (m, 41 ∷ r) → stream_item g limit (95 ∷ (ms ++ onto m (41 ∷ r))) ≡ outcome (depth m) limit (StreamTree ms m, r)
+  unfolding stream_item not_empty
+  stream-again limit [] m r v vm e = absurd (cc)
+  stream-again limit (c ∷ ms) m r v vm e = then_ok _ (byte-again 95 _) (then_ok _ (space-again (c ∷ ms) _ v (begins_solid _ (rest_starts m _ vm).0)) (then_ok _ refl (then_done (depth m) limit _ e (then_ok _ (byte-again 41 r) refl))))
+
+  opened_stream : (limit : ℕ) (xs : List ℕ) → item g limit (40 ∷ xs) ≡ stream_item g limit xs
+  unfolding item
+  opened_stream limit xs = refl
+
+  literal_next : (limit c : ℕ) (xs : List ℕ) → eqb c 60 ≡ false → eqb c 46 ≡ false → piece g limit (c ∷ xs) ≡ literal_piece g (c ∷ xs)
+  unfolding piece
+  literal_next limit c xs a b = rw (a, b)
+
+  literal-again : (limit : ℕ) (x : List ℕ) (i : Option Indicator) (r : List ℕ) → is_literal x ≡ true → Follow r → piece g limit (x ++ (indicator_text i ++ r)) ≡ outcome 0 limit (LiteralTree x i, r)
+  unfolding literal_piece
+  literal-again limit [] i r v h = absurd (literal_some v)
+  literal-again limit (c ∷ x) i r v h = rw (flat {A = Tree OnePiece × List ℕ} limit (LiteralTree (c ∷ x) i, r)) (literal_next limit c _ (literal_differs 60 c x refl v) (literal_differs 46 c x refl v) ∙ then_ok _ (taken literal (c ∷ x) (indicator_text i ++ r) v (halts_literal _)) (rw (spec-again i r h)))
+
+  dots_next : (limit : ℕ) (xs : List ℕ) → piece g limit (46 ∷ xs) ≡ dots_piece g (46 ∷ xs)
+  unfolding piece
+  dots_next limit xs = refl
+
+  dots-again : (limit : ℕ) (x r : List ℕ) → are_dots x ≡ true → Follow r → piece g limit (x ++ r) ≡ outcome 0 limit (DotsTree x, r)
+  unfolding dots_piece
+  dots-again limit x r v h = let f = dots_begin x v in rw (flat {A = Tree OnePiece × List ℕ} limit (DotsTree x, r)) (ap (λ (y : List ℕ). piece g limit (y ++ r)) f.1 ∙ dots_next limit _ ∙ ap (λ (y : List ℕ). dots_piece g (y ++ r)) (sym f.1) ∙ then_ok _ (taken dots x r v (halts_dots r h)) refl)
+
+  opened_embedded : (limit : ℕ) (xs : List ℕ) → piece g limit (60 ∷ 60 ∷ xs) ≡ embedded_piece g limit xs
+  unfolding piece byte ◌>>=◌
+  opened_embedded limit xs = refl
+
+  embedded-again : (limit : ℕ) (w : Tree Seq) (i : Option Indicator) (r : List ℕ) → Follow r → ((limit : ℕ) → g limit Seq (onto w (62 ∷ 62 ∷ (indicator_text i ++ r))) ≡ outcome (depth w) limit (w, 62 ∷ 62 ∷ (indicator_text i ++ r))) → embedded_piece g limit (onto w (62 ∷ 62 ∷ (indicator_text i ++ r))) ≡ outcome (suc (depth w)) limit (EmbeddedTree w i, r)
+  unfolding embedded_piece
+  embedded-again zero w i r h e = sym (too_deep {A = Tree OnePiece × List ℕ} (depth w) (EmbeddedTree w i, r))
+  embedded-again (suc limit) w i r h e = then_done (depth w) limit _ (e limit) (then_ok _ (byte-again 62 _) (then_ok _ (byte-again 62 _) (rw (spec-again i r h)))) ∙ sym (deeper {A = Tree OnePiece × List ℕ} (depth w) limit (EmbeddedTree w i, r))
+
+  last_piece-again : (limit : ℕ) (p : Tree OnePiece) (r : List ℕ) → Parts r → g limit OnePiece (onto p r) ≡ outcome (depth p) limit (p, r) → string g limit (onto p r) ≡ outcome (depth p) limit (LastPieceTree p, r)
+  unfolding string
+  last_piece-again limit p r q e = then_done (depth p) limit _ e (then_ok _ (ap or_invalid q.1) (rw q.2))
+
+  plus-again : (limit : ℕ) (p : Tree OnePiece) (s t : List ℕ) (w : Tree OneString) (r : List ℕ) → is_s s ≡ true → is_s t ≡ true → starts_string (onto w r) ≡ true → g limit OnePiece (onto p (s ++ (43 ∷ (t ++ onto w r)))) ≡ outcome (depth p) limit (p, s ++ (43 ∷ (t ++ onto w r))) → g limit OneString (onto w r) ≡ outcome (depth w) limit (w, r) → string g limit (onto p (s ++ (43 ∷ (t ++ onto w r)))) ≡ outcome (max (depth p) (depth w)) limit (PlusTree p s t w, r)
+  unfolding string plus_string
+  plus-again limit p s t w r vs vt b ep ew = then_outcome (depth p) (depth w) limit _ _ ep (then_ok _ (space-again s _ vs (plus_solid (t ++ onto w r))) (rw (joins_string t (onto w r) vt b) (then_ok _ (byte-again 43 _) (then_ok _ (space-again t _ vt (begins_solid (onto w r) (string_starts (onto w r) b).0)) (then_done (depth w) limit _ ew refl)))))
+
+  opened : (limit : ℕ) (k : Bracketed) (xs : List ℕ) → item g limit (opening k ∷ xs) ≡ list_item g limit k xs
+  unfolding item
+  opened limit Array xs = refl
+  opened limit Map xs = refl
+
+  list-again : (limit : ℕ) (k : Bracketed) (w : Tree (Inside k)) (r : List ℕ) → ((limit : ℕ) → g limit (Inside k) (onto w (ending k ∷ r)) ≡ outcome (depth w) limit (w, ending k ∷ r)) → list_item g limit k (onto w (ending k ∷ r)) ≡ outcome (suc (depth w)) limit (ListTree k w, r)
   unfolding list_item
   list-again zero k w r e = sym (too_deep {A = Tree OneItem × List ℕ} (depth w) (ListTree k w, r))
   list-again (suc limit) k w r e = then_done (depth w) limit _ (e limit) (then_ok _ (byte-again (ending k) r) refl) ∙ sym (deeper {A = Tree OneItem × List ℕ} (depth w) limit (ListTree k w, r))
@@ -70,22 +131,26 @@ module _ (g : ℕ → (s : Rule) → Reader s) where
   unfolding entry
   element-again limit w r e = then_done (depth w) limit _ e refl
 
+  chunk-again : (limit : ℕ) (w : Tree OneString) (r : List ℕ) → g limit OneString (onto w r) ≡ outcome (depth w) limit (w, r) → entry g limit Strings (onto w r) ≡ outcome (depth w) limit (ChunkTree w, r)
+  unfolding entry
+  chunk-again limit w r e = then_done (depth w) limit _ e refl
+
   pair-again : (limit : ℕ) (v : Tree OneItem) (s t : List ℕ) (w : Tree OneItem) (r : List ℕ) → is_s s ≡ true → is_s t ≡ true → Valid w → g limit OneItem (onto v (s ++ (58 ∷ (t ++ onto w r)))) ≡ outcome (depth v) limit (v, s ++ (58 ∷ (t ++ onto w r))) → g limit OneItem (onto w r) ≡ outcome (depth w) limit (w, r) → entry g limit Pairs (onto v (s ++ (58 ∷ (t ++ onto w r)))) ≡ outcome (max (depth v) (depth w)) limit (PairTree v s t w, r)
   unfolding entry
-  pair-again limit v s t w r vs vt vw ev ew = then_outcome (depth v) (depth w) limit _ _ ev (then_ok _ (space-again s _ vs (colon_solid (t ++ onto w r))) (then_ok _ (byte-again 58 _) (then_ok _ (space-again t _ vt (begins_solid _ (item_begins w r vw))) (then_done (depth w) limit _ ew refl))))
+  pair-again limit v s t w r vs vt vw ev ew = then_outcome (depth v) (depth w) limit _ _ ev (then_ok _ (space-again s _ vs (colon_solid (t ++ onto w r))) (then_ok _ (byte-again 58 _) (then_ok _ (space-again t _ vt (begins_solid _ (item_starts w r vw).0)) (then_done (depth w) limit _ ew refl))))
 
-  empty-again : (limit : ℕ) (k : Row) (i : Option Indicator) (s r : List ℕ) → is_s s ≡ true → Closes r → inside g limit k (indicator_text i ++ (s ++ r)) ≡ outcome 0 limit (EmptyTree i s, r)
+  empty-again : (limit : ℕ) (k : Bracketed) (i : Option Indicator) (s r : List ℕ) → is_s s ≡ true → Closes r → inside g limit k (indicator_text i ++ (s ++ r)) ≡ outcome 0 limit (EmptyTree i s, r)
   unfolding inside
   empty-again limit k i s r v h = rw (flat {A = Tree (Inside k) × List ℕ} limit (EmptyTree i s, r), spec-again i (s ++ r) (space_follow s r v (closes_follow r h))) (then_ok _ (space-again s r v (closes_solid r h)) (rw (closes_closed r h)))
 
   -- behind an indicator, or none, and the space that follows
-  headed : (limit : ℕ) (k : Row) (i : Option Indicator) (h : Head) (s t xs : List ℕ) (m : Tree (Rest k)) (r : List ℕ) → indicator_at xs ≡ (i, s ++ onto m r) → head_of i s ≡ Ok (h, t) → is_s s ≡ true → Valid m → g limit (Rest k) (onto m r) ≡ outcome (depth m) limit (m, r) → inside g limit k xs ≡ outcome (depth m) limit (FullTree h t m, r)
+  headed : (limit : ℕ) (k : Bracketed) (i : Option Indicator) (h : Head) (s t xs : List ℕ) (m : Tree (Rest (entries_of k))) (r : List ℕ) → indicator_at xs ≡ (i, s ++ onto m r) → head_of i s ≡ Ok (h, t) → is_s s ≡ true → Valid m → g limit (Rest (entries_of k)) (onto m r) ≡ outcome (depth m) limit (m, r) → inside g limit k xs ≡ outcome (depth m) limit (FullTree h t m, r)
   unfolding inside inside_full
-  headed limit k i h s t xs m r ei eh v vm e = let b = rest_begins m r vm in rw ei (then_ok _ (space-again s _ v (begins_solid _ b)) (rw (begins_open _ b) (then_ok _ eh (then_done (depth m) limit _ e refl))))
+  headed limit k i h s t xs m r ei eh v vm e = let b = (rest_starts m r vm).0 in rw ei (then_ok _ (space-again s _ v (begins_solid _ b)) (rw (begins_open _ b) (then_ok _ eh (then_done (depth m) limit _ e refl))))
 
-  full-again : (limit : ℕ) (k : Row) (h : Head) (s : List ℕ) (m : Tree (Rest k)) (r : List ℕ) → IsHead h → is_s s ≡ true → IsJoined h s → Valid m → g limit (Rest k) (onto m r) ≡ outcome (depth m) limit (m, r) → inside g limit k (head_text h ++ (s ++ onto m r)) ≡ outcome (depth m) limit (FullTree h s m, r)
+  full-again : (limit : ℕ) (k : Bracketed) (h : Head) (s : List ℕ) (m : Tree (Rest (entries_of k))) (r : List ℕ) → IsHead h → is_s s ≡ true → IsJoined h s → Valid m → g limit (Rest (entries_of k)) (onto m r) ≡ outcome (depth m) limit (m, r) → inside g limit k (head_text h ++ (s ++ onto m r)) ≡ outcome (depth m) limit (FullTree h s m, r)
   unfolding head_of
-  full-again limit k Unmarked s m r vh v j vm e = headed limit k None Unmarked s s _ m r (spec-none _ (space_plain s _ v (rest_begins m r vm))) refl v vm e
+  full-again limit k Unmarked s m r vh v j vm e = headed limit k None Unmarked s s _ m r (spec-none _ (space_plain s _ v (rest_starts m r vm).0)) refl v vm e
   full-again limit k (Marked i []) s m r vh v j vm e = absurd (cc)
   full-again limit k (Marked i (c ∷ ms)) (d ∷ s) m r vh v j vm e = absurd (cc)
   full-again limit k (Marked i (c ∷ ms)) [] m r vh v j vm e = ap (inside g limit k) (append_assoc (indicator_text (Some i)) (c ∷ ms) (onto m r)) ∙ headed limit k (Some i) (Marked i (c ∷ ms)) (c ∷ ms) [] _ m r (spec-some i _ (space_before c ms (ms ++ onto m r) vh)) refl vh vm e
@@ -97,7 +162,7 @@ module _ (g : ℕ → (s : Rule) → Reader s) where
   more-again : (limit : ℕ) (k : Row) (e : Tree (OneEntry k)) (s : List ℕ) (m : Tree (Rest k)) (r : List ℕ) → is_msc s ≡ true → Valid m → g limit (OneEntry k) (onto e (s ++ onto m r)) ≡ outcome (depth e) limit (e, s ++ onto m r) → g limit (Rest k) (onto m r) ≡ outcome (depth m) limit (m, r) → rest g limit k (onto e (s ++ onto m r)) ≡ outcome (max (depth e) (depth m)) limit (MoreTree e s m, r)
   unfolding rest more not_empty
   more-again limit k e [] m r v vm qe qm = absurd (cc)
-  more-again limit k e (c ∷ s) m r v vm qe qm = let b = rest_begins m r vm in then_outcome (depth e) (depth m) limit _ _ qe (then_ok _ (separator-again (c ∷ s) _ v (begins_solid _ b)) (rw (begins_open _ b) (then_ok _ refl (then_done (depth m) limit _ qm refl))))
+  more-again limit k e (c ∷ s) m r v vm qe qm = let b = (rest_starts m r vm).0 in then_outcome (depth e) (depth m) limit _ _ qe (then_ok _ (separator-again (c ∷ s) _ v (begins_solid _ b)) (rw (begins_open _ b) (then_ok _ refl (then_done (depth m) limit _ qm refl))))
 
   nothing-again : (limit : ℕ) (s r : List ℕ) → is_s s ≡ true → Closes r → sequence g limit (s ++ r) ≡ outcome 0 limit (NothingTree s, r)
   unfolding sequence
@@ -105,18 +170,26 @@ module _ (g : ℕ → (s : Rule) → Reader s) where
 
   sequence-again : (limit : ℕ) (s : List ℕ) (m : Tree (Rest Elements)) (r : List ℕ) → is_s s ≡ true → Valid m → g limit (Rest Elements) (onto m r) ≡ outcome (depth m) limit (m, r) → sequence g limit (s ++ onto m r) ≡ outcome (depth m) limit (SequenceTree s m, r)
   unfolding sequence
-  sequence-again limit s m r v vm e = let b = rest_begins m r vm in then_ok _ (space-again s _ v (begins_solid _ b)) (rw (begins_open _ b) (then_done (depth m) limit _ e refl))
+  sequence-again limit s m r v vm e = let b = (rest_starts m r vm).0 in then_ok _ (space-again s _ v (begins_solid _ b)) (rw (begins_open _ b) (then_done (depth m) limit _ e refl))
 
   standalone-again : (limit : ℕ) (s : List ℕ) (w : Tree OneItem) (t r : List ℕ) → is_s s ≡ true → Valid w → is_s t ≡ true → Closes r → g limit OneItem (onto w (t ++ r)) ≡ outcome (depth w) limit (w, t ++ r) → standalone g limit (s ++ onto w (t ++ r)) ≡ outcome (depth w) limit (StandaloneTree s w t, r)
   unfolding standalone
-  standalone-again limit s w t r vs vw vt h e = then_ok _ (space-again s _ vs (begins_solid _ (item_begins w _ vw))) (then_done (depth w) limit _ e (then_ok _ (space-again t r vt (closes_solid r h)) refl))
+  standalone-again limit s w t r vs vw vt h e = then_ok _ (space-again s _ vs (begins_solid _ (item_starts w _ vw).0)) (then_done (depth w) limit _ e (then_ok _ (space-again t r vt (closes_solid r h)) refl))
 
 pub positive : {s : Rule} (w : Tree s) → size w ≤ 0 → ⊥
 unfolding size
 positive (NumberTree x i) h = omega arith
 positive (ListTree k w) h = omega arith
+positive (StringTree w) h = omega arith
+positive (StreamTree ms m) h = omega arith
+positive (LiteralTree x i) h = omega arith
+positive (DotsTree x) h = omega arith
+positive (EmbeddedTree w i) h = omega arith
+positive (LastPieceTree p) h = omega arith
+positive (PlusTree p s t w) h = omega arith
 positive (ElementTree w) h = omega arith
 positive (PairTree v s t w) h = omega arith
+positive (ChunkTree w) h = omega arith
 positive (EmptyTree i s) h = omega arith
 positive (FullTree a s m) h = omega arith
 positive (LastTree e s) h = omega arith
@@ -128,14 +201,22 @@ positive (StandaloneTree s w t) h = omega arith
 pub again : (f limit : ℕ) {s : Rule} (w : Tree s) (r : List ℕ) → Valid w → Joined w → FollowOf s r → size w ≤ f → read f limit s (onto w r) ≡ outcome (depth w) limit (w, r)
 unfolding read onto Valid Joined size
 again zero limit w r v j h n = absurd (positive w n)
-again (suc f) limit (NumberTree x i) r v j h n = number-again (read f) limit x i r v h
+again (suc f) limit (NumberTree x i) r v j h n = number-again (read f) limit x i r v h.0
 again (suc f) limit (ListTree k w) r v j h n = opened (read f) limit k (onto w (ending k ∷ r)) ∙ list-again (read f) limit k w r (λ limit. again f limit w (ending k ∷ r) v j (ending_closes k r) (omega arith))
+again (suc f) limit (StringTree w) r v j h n = string-again (read f) limit w _ r (string_begins w r v) (again f limit w r v j h (omega arith))
+again (suc f) limit (StreamTree ms m) r v j h n = opened_stream (read f) limit _ ∙ stream-again (read f) limit ms m r v.0 v.1 (again f limit m (41 ∷ r) v.1 j (stream_closes r) (omega arith))
+again (suc f) limit (LiteralTree x i) r v j h n = literal-again (read f) limit x i r v h
+again (suc f) limit (DotsTree x) r v j h n = dots-again (read f) limit x r v h
+again (suc f) limit (EmbeddedTree w i) r v j h n = opened_embedded (read f) limit _ ∙ embedded-again (read f) limit w i r h (λ limit. again f limit w (62 ∷ 62 ∷ (indicator_text i ++ r)) v j (embedded_closes (62 ∷ (indicator_text i ++ r))) (omega arith))
+again (suc f) limit (LastPieceTree p) r v j h n = last_piece-again (read f) limit p r h.1 (again f limit p r v j h.0 (omega arith))
+again (suc f) limit (PlusTree p s t w) r v j h n = plus-again (read f) limit p s t w r v.1 v.2 (string_begins w r v.3) (again f limit p _ v.0 j.0 (space_follow s _ v.1 (plus_follow (t ++ onto w r))) (omega arith)) (again f limit w r v.3 j.1 h (omega arith))
 again (suc f) limit (ElementTree w) r v j h n = element-again (read f) limit w r (again f limit w r v j h (omega arith))
-again (suc f) limit (PairTree a s t b) r v j h n = pair-again (read f) limit a s t b r v.1 v.2 v.3 (again f limit a _ v.0 j.0 (space_follow s _ v.1 (colon_follow (t ++ onto b r))) (omega arith)) (again f limit b r v.3 j.1 h (omega arith))
+again (suc f) limit (PairTree a s t b) r v j h n = pair-again (read f) limit a s t b r v.1 v.2 v.3 (again f limit a _ v.0 j.0 (colon_next s _ v.1) (omega arith)) (again f limit b r v.3 j.1 h (omega arith))
+again (suc f) limit (ChunkTree w) r v j h n = chunk-again (read f) limit w r (again f limit w r v j h (omega arith))
 again (suc f) limit (EmptyTree {k = k} i s) r v j h n = empty-again (read f) limit k i s r v h
 again (suc f) limit (FullTree {k = k} a s m) r v j h n = full-again (read f) limit k a s m r v.0 v.1 j.0 v.2 (again f limit m r v.2 j.1 h (omega arith))
-again (suc f) limit (LastTree {k = k} e s) r v j h n = last-again (read f) limit k e s r v.1 h (again f limit e _ v.0 j (separator_follow s r v.1 (closes_follow r h)) (omega arith))
-again (suc f) limit (MoreTree {k = k} e s m) r v j h n = more-again (read f) limit k e s m r v.1 v.2 (again f limit e _ v.0 j.0 (msc_follow s _ v.1) (omega arith)) (again f limit m r v.2 j.1 h (omega arith))
+again (suc f) limit (LastTree {k = k} e s) r v j h n = last-again (read f) limit k e s r v.1 h (again f limit e _ v.0 j (end_next s r v.1 h) (omega arith))
+again (suc f) limit (MoreTree {k = k} e s m) r v j h n = more-again (read f) limit k e s m r v.1 v.2 (again f limit e _ v.0 j.0 (more_next s m r v.1 v.2) (omega arith)) (again f limit m r v.2 j.1 h (omega arith))
 again (suc f) limit (NothingTree s) r v j h n = nothing-again (read f) limit s r v h
 again (suc f) limit (SequenceTree s m) r v j h n = sequence-again (read f) limit s m r v.0 v.1 (again f limit m r v.1 j h (omega arith))
-again (suc f) limit (StandaloneTree s w t) r v j h n = standalone-again (read f) limit s w t r v.0 v.1 v.2 h (again f limit w _ v.1 j (space_follow t r v.2 (closes_follow r h)) (omega arith))
+again (suc f) limit (StandaloneTree s w t) r v j h n = standalone-again (read f) limit s w t r v.0 v.1 v.2 h (again f limit w _ v.1 j (last_next t r v.2 h) (omega arith))

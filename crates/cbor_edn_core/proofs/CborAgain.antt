@@ -2,12 +2,14 @@
 use Rattle.std.proofs.Common.{◌≡◌, ℕ, zero, suc, ◌+◌, ◌-◌, ◌<◌, ◌≤◌, Bool, true, false, eqb, max, List, [], ◌∷◌, ◌++◌, length, Option, Some, None, Ok, Err, refl, sym, ap, ◌∙◌, append_assoc, arith, inl, inr}
 use Rattle.std.proofs.lemmas.Bool.{cases_lt, ne_eqb}
 use Rattle.std.proofs.lemmas.List.{length-append}
+use Rattle.cbor_edn_parts.specs.declared.string.StringKind.{StringKind}
+use Rattle.cbor_edn_parts.specs.declared.string.StringKind.TheVariants.{Bytes, Text}
 use Rattle.cbor_edn_core.specs.declared.cbor.Width.{Width}
 use Rattle.cbor_edn_core.specs.declared.from_cbor.CborError.TheVariants.{TooDeep}
 use Rattle.cbor_edn_core.specs.declared.from_cbor.reader.Stop.{Stop}
 use Rattle.cbor_edn_core.specs.declared.from_cbor.reader.Stop.TheVariants.{Break}
-use Rattle.cbor_edn_core.specs.Value.{Value, unsigned, negative, byte_string, chunks, array, object, tag, Values, no_values, value, Pairs, no_pairs, pair, Chunk, head, ArgumentFits, LengthFits, open_head, break, list_encoding, chunk_encodings, ChunksFit, encoding, encodings, pair_encodings, values_len, pairs_len, Fits, ValuesFit, PairsFit, nesting, values_nesting, pairs_nesting}
-use Rattle.cbor_edn_core.specs.CborReading.{◌>>=◌, Reads, Reader, Head, head_at, many, until, several, past, pair_at, item_by, item_at, inner, Makes}
+use Rattle.cbor_edn_core.specs.Value.{Value, unsigned, negative, string, chunks, array, object, tag, Values, no_values, value, Pairs, no_pairs, pair, Chunk, head, ArgumentFits, LengthFits, open_head, break, list_encoding, string_major, chunk_encoding, chunk_encodings, ChunkFits, ChunksFit, encoding, encodings, pair_encodings, values_len, pairs_len, Fits, ValuesFit, PairsFit, nesting, values_nesting, pairs_nesting}
+use Rattle.cbor_edn_core.specs.CborReading.{◌>>=◌, Reads, Reader, Head, head_at, many, until, several, past, pair_at, string_by, item_by, item_at, inner, Makes}
 use Rattle.cbor_edn_core.proofs.CborHeads.{head_again, open_again}
 use Rattle.cbor_edn_core.proofs.CborOutcomes.{outcome, within, beyond, none, outcome_then, outcome_map, many_none, more, until_more_at, until_end_at, string_again, chunks_again, chunks_many, values_many, pairs_many, going}
 use Rattle.cbor_edn_core.proofs.CborValues.{values_of, pairs_of, list_of, pair_list_of, values_of_list, pairs_of_list, argument_width, makes, value_at}
@@ -120,7 +122,26 @@ module _ (all : Bool) where
     item_at_ok (makes all) limit (head 1 w n ++ rest) rest (1, Some (w, n)) (head_again 1 w n rest fits),
   )
 
--- byte strings and tags, where all is read
+  string_opened : (i : Option (Reader Value)) (k : StringKind) (argument : Option (Width × ℕ)) (rest : List ℕ) → item_by (makes all) i (string_major k) argument rest ≡ string_by (makes all) k argument rest
+  unfolding item_by
+  string_opened i Bytes argument rest = refl
+  string_opened i Text argument rest = refl
+
+  text_again : (limit : ℕ) (k : StringKind) (w : Width) (bs rest : List ℕ) → ChunkFits k (w, bs) → value_at all limit (chunk_encoding k (w, bs) ++ rest) ≡ Ok (string k w bs, rest)
+  text_again limit k w bs rest fits =
+      let front = head (string_major k) w (length bs) in
+      ap (value_at all limit) (append_assoc front bs rest) ∙ item_at_ok (makes all) limit (front ++ (bs ++ rest)) (bs ++ rest) (string_major k, Some (w, length bs)) (head_again (string_major k) w (length bs) (bs ++ rest) fits.0)
+      ∙ string_opened (inner (makes all) limit) k (Some (w, length bs)) (bs ++ rest) ∙ ap (λ r. r >>= λ (s : List ℕ × List ℕ). Ok (string k w s.0, s.1)) (string_again k bs rest fits.2)
+
+  all_chunks_again : (limit : ℕ) (k : StringKind) (cs : List Chunk) (rest : List ℕ) → ChunksFit k cs → value_at all limit (open_head (string_major k) ∷ ((chunk_encodings k cs ++ break ∷ []) ++ rest)) ≡ Ok (chunks k cs, rest)
+  all_chunks_again limit k cs rest fits =
+      let after = chunk_encodings k cs ++ (255 ∷ rest) in
+      let regrouped : (chunk_encodings k cs ++ 255 ∷ []) ++ rest ≡ after = append_assoc (chunk_encodings k cs) (255 ∷ []) rest in
+      ap (λ (l : List ℕ). value_at all limit (open_head (string_major k) ∷ l)) regrouped ∙ item_at_ok (makes all) limit (open_head (string_major k) ∷ after) after (string_major k, None) (open_again (string_major k) after)
+      ∙ string_opened (inner (makes all) limit) k None after
+      ∙ ap (λ r. r >>= λ (s : List Chunk × List ℕ). Ok (chunks k s.0, s.1)) (chunks_again k cs rest (suc (length after)) (omega (arith, chunks_many k cs, length-append (chunk_encodings k cs) (255 ∷ rest))) fits)
+
+-- tags, where all is read
 tag_again : (limit : ℕ) (w : Width) (n : ℕ) (v : Value) (rest : List ℕ) → ArgumentFits w n → ((d : ℕ) → value_at true d (encoding v ++ rest) ≡ outcome (nesting v) d (v, rest))
     → value_at true limit ((head 6 w n ++ encoding v) ++ rest) ≡ outcome (nesting v + 1) limit (tag w n v, rest)
 unfolding item_by
@@ -132,20 +153,6 @@ tag_again (suc d) w n v rest fits inside =
     let opened : item_by (makes true) (inner (makes true) (suc d)) 6 (Some (w, n)) after ≡ (value_at true d after >>= λ x. Ok (tag w n x.0, x.1)) = rw (inner_more (makes true) d) refl in
     ap (value_at true (suc d)) (append_assoc (head 6 w n) (encoding v) rest) ∙ item_at_ok (makes true) (suc d) (head 6 w n ++ after) after (6, Some (w, n)) (head_again 6 w n after fits)
     ∙ opened ∙ ap (λ r. r >>= λ (x : Value × List ℕ). Ok (tag w n x.0, x.1)) (inside d) ∙ outcome_map (nesting v) d (v, rest) (λ x. (tag w n x.0, x.1)) ∙ deeper (nesting v) d (tag w n v, rest)
-
-bytes_again : (limit : ℕ) (w : Width) (bs rest : List ℕ) → ArgumentFits w (length bs) → value_at true limit ((head 2 w (length bs) ++ bs) ++ rest) ≡ Ok (byte_string w bs, rest)
-unfolding item_by
-bytes_again limit w bs rest fits =
-    ap (value_at true limit) (append_assoc (head 2 w (length bs)) bs rest) ∙ item_at_ok (makes true) limit (head 2 w (length bs) ++ (bs ++ rest)) (bs ++ rest) (2, Some (w, length bs)) (head_again 2 w (length bs) (bs ++ rest) fits)
-    ∙ ap (λ r. r >>= λ (s : List ℕ × List ℕ). Ok (byte_string w s.0, s.1)) (string_again bs rest)
-
-all_chunks_again : (limit : ℕ) (cs : List Chunk) (rest : List ℕ) → ChunksFit cs → value_at true limit (open_head 2 ∷ ((chunk_encodings cs ++ break ∷ []) ++ rest)) ≡ Ok (chunks cs, rest)
-unfolding item_by
-all_chunks_again limit cs rest fits =
-    let after = chunk_encodings cs ++ (255 ∷ rest) in
-    let regrouped : (chunk_encodings cs ++ 255 ∷ []) ++ rest ≡ after = append_assoc (chunk_encodings cs) (255 ∷ []) rest in
-    ap (λ (l : List ℕ). value_at true limit (open_head 2 ∷ l)) regrouped ∙ item_at_ok (makes true) limit (open_head 2 ∷ after) after (2, None) (open_again 2 after)
-    ∙ ap (λ r. r >>= λ (s : List Chunk × List ℕ). Ok (chunks s.0, s.1)) (chunks_again cs rest (suc (length after)) (omega (arith, chunks_many cs, length-append (chunk_encodings cs) (255 ∷ rest))) fits)
 
 pair_again : (all : Bool) (limit : ℕ) (k v : Value) (rest : List ℕ) → value_at all limit (encoding k ++ (encoding v ++ rest)) ≡ outcome (nesting k) limit (k, encoding v ++ rest) → value_at all limit (encoding v ++ rest) ≡ outcome (nesting v) limit (v, rest)
     → pair_at (makes all) (value_at all limit) (encoding k ++ (encoding v ++ rest)) ≡ outcome (max (nesting k) (nesting v)) limit ((k, v), rest)
@@ -159,13 +166,11 @@ mutual
   pub item_again : (all : Bool) (v : Value) (limit : ℕ) (rest : List ℕ) → Fits v → Readable all v → value_at all limit (encoding v ++ rest) ≡ outcome (nesting v) limit (v, rest)
   item_again all (unsigned w n) limit rest fits known = leaf all limit (unsigned w n) rest _ (number_again all limit w n rest fits).0
   item_again all (negative w n) limit rest fits known = leaf all limit (negative w n) rest _ (number_again all limit w n rest fits).1
-  item_again true (byte_string w bs) limit rest fits known = leaf true limit (byte_string w bs) rest _ (bytes_again limit w bs rest fits.0)
-  item_again true (chunks cs) limit rest fits known = leaf true limit (chunks cs) rest _ (all_chunks_again limit cs rest fits)
+  item_again all (string k w bs) limit rest fits known = leaf all limit (string k w bs) rest _ (text_again all limit k w bs rest fits)
+  item_again all (chunks k cs) limit rest fits known = leaf all limit (chunks k cs) rest _ (all_chunks_again all limit k cs rest fits)
   item_again all (array w vs) limit rest fits known = array_again all limit w vs rest fits.0 (values_again all vs fits.1 known) (values_until all vs fits.1 known)
   item_again all (object w ps) limit rest fits known = object_again all limit w ps rest fits.0 (pairs_again all ps fits.1 known) (pairs_until all ps fits.1 known)
   item_again true (tag w n v) limit rest fits known = tag_again limit w n v rest fits.0 (λ d. item_again true v d rest fits.1 known)
-  item_again false (byte_string w bs) limit rest fits known = absurd known
-  item_again false (chunks cs) limit rest fits known = absurd known
   item_again false (tag w n v) limit rest fits known = absurd known
 
   values_again : (all : Bool) (vs : Values) → ValuesFit vs → AllReadable all vs → ManyAgain all vs

@@ -1,21 +1,24 @@
 -- Bytes are refused as too deep only where more than `limit` of them can be heads of what nests.
-use Rattle.std.proofs.Common.{◌≡◌, ℕ, zero, suc, ◌+◌, ◌*◌, ◌/◌, ◌%◌, ◌<◌, ◌≤◌, true, false, cond, leb, ltb, eqb, List, [], ◌∷◌, ◌++◌, length, Option, Some, None, Result, Ok, Err, refl, ap, subst, ◌∙◌, ◌⊎◌, arith, inl, inr}
+use Rattle.std.proofs.Common.{◌≡◌, ℕ, zero, suc, ◌+◌, ◌*◌, ◌/◌, ◌%◌, ◌<◌, ◌≤◌, true, false, cond, leb, ltb, eqb, List, [], ◌∷◌, ◌++◌, length, take, Option, Some, None, Result, Ok, Err, refl, ap, subst, ◌∙◌, ◌⊎◌, arith, inl, inr}
 use Rattle.std.specs.Int.{w8, w16, w32, w64, byte_len, to_be_bytes}
 use Rattle.std.specs.Int.{Width as Bits}
 use Rattle.std.proofs.lemmas.Bool.{eqb-true, le-leb}
 use Rattle.std.proofs.lemmas.List.Sums.{sum_by-append}
+use Rattle.cbor_edn_parts.specs.declared.string.StringKind.{StringKind}
+use Rattle.cbor_edn_parts.specs.declared.string.StringKind.TheVariants.{Bytes, Text}
 use Rattle.cbor_edn_core.specs.declared.cbor.Width.{Width}
 use Rattle.cbor_edn_core.specs.declared.cbor.Width.TheVariants.{Immediate, One, Two, Four, Eight}
 use Rattle.cbor_edn_core.specs.declared.from_cbor.CborError.{CborError}
 use Rattle.cbor_edn_core.specs.declared.from_cbor.CborError.TheVariants.{TooDeep}
 use Rattle.cbor_edn_core.specs.declared.from_cbor.reader.Stop.{Stop}
 use Rattle.cbor_edn_core.specs.declared.from_cbor.reader.Stop.TheVariants.{Break}
-use Rattle.cbor_edn_core.specs.Value.{Value, unsigned, negative, array, object, head, open_head, encoding}
+use Rattle.cbor_edn_core.specs.Value.{Value, unsigned, negative, string, chunks, array, object, head, open_head, string_major, is_content, chunk_encoding, ChunkFits, encoding}
 use Rattle.cbor_edn_core.specs.Decoded.{high_bytes}
-use Rattle.cbor_edn_core.specs.CborReading.{◌>>=◌, Reads, Reader, head_at, head_by, argument_at, many, until, several, past, turn, pair_at, item_by, item_at, array_by, map_by, number_by, other_by}
+use Rattle.cbor_edn_core.specs.CborReading.{◌>>=◌, Reads, Reader, shown, head_at, head_by, argument_at, many, until, several, past, turn, string_at, chunk_at, chunk_by, string_by, pair_at, item_by, item_at, array_by, map_by, number_by, other_by}
 use Rattle.cbor_edn_core.proofs.CborHeads.{IsBytes, chosen, Takes, HeadIs, head_takes}
+use Rattle.cbor_edn_core.proofs.CborTurns.{shown_err}
 use Rattle.cbor_edn_core.proofs.CborValues.{values_of, pairs_of, argument_width, makes, value_at}
-use Rattle.cbor_edn_core.proofs.CborTakes.{Sound, Within, BothWithin, pair_encoding, pair_takes, item_takes}
+use Rattle.cbor_edn_core.proofs.CborTakes.{Sound, Within, BothWithin, pair_encoding, chunk_takes, pair_takes, item_takes}
 
 high-append : (xs ys : List ℕ) → high_bytes (xs ++ ys) ≡ high_bytes xs + high_bytes ys
 high-append xs ys = sum_by-append (λ b. cond (leb 128 b) 1 0) xs ys
@@ -172,6 +175,36 @@ number_not_deep : (make : Width → ℕ → Value) (argument : Option (Width × 
 number_not_deep make None rest e = cc
 number_not_deep make (Some (w, n)) rest e = cc
 
+-- ---- strings
+
+string_not_deep : (k : StringKind) (n : ℕ) (bytes : List ℕ) → string_at k n bytes ≡ Err TooDeep → ⊥
+unfolding string_at
+string_not_deep k n bytes e =
+    elim (chosen (ltb (length bytes) n) _ _ _ e) [
+      | inl a ↦ (let g = a.1 in cc)
+      | inr a ↦ elim (chosen (is_content k (take n bytes)) _ _ _ a.1) [ inl b ↦ (let g = b.1 in cc) | inr b ↦ (let g = b.1 in cc) ]
+    ]
+
+-- a string that is read whole
+definite_not_deep : {A : Type 0} (k : StringKind) (n : ℕ) (rest : List ℕ) (make : List ℕ → A) → shown make (string_at k n rest) ≡ Err TooDeep → ⊥
+definite_not_deep k n rest make e = string_not_deep k n rest (shown_err make (string_at k n rest) TooDeep e)
+
+chunk_by_not_deep : (k : StringKind) (major : ℕ) (argument : Option (Width × ℕ)) (rest : List ℕ) → chunk_by k (major, argument) rest ≡ Err TooDeep → ⊥
+chunk_by_not_deep k major (Some (w, n)) rest e = elim (chosen (eqb major (string_major k)) _ _ _ e) [ inl a ↦ definite_not_deep k n rest (λ s. (w, s)) a.1 | inr a ↦ (let g = a.1 in cc) ]
+chunk_by_not_deep k major None rest e = elim (chosen (eqb major (string_major k)) _ _ _ e) [ inl a ↦ (let g = a.1 in cc) | inr a ↦ (let g = a.1 in cc) ]
+
+chunk_not_deep : (k : StringKind) (bytes : List ℕ) → chunk_at k bytes ≡ Err TooDeep → ⊥
+unfolding chunk_at
+chunk_not_deep k bytes e = elim (bind_err (head_at bytes) (λ h. chunk_by k h.0 h.1) TooDeep e) [ inl a ↦ head_not_deep bytes a | inr a ↦ chunk_by_not_deep k a.0.0.0 a.0.0.1 a.0.1 a.2 ]
+
+string_deep : (limit : ℕ) (k : StringKind) (argument : Option (Width × ℕ)) (bytes rest : List ℕ) → HeadIs bytes (string_major k) argument rest → string_by (makes false) k argument rest ≡ Err TooDeep → limit < high_bytes bytes
+string_deep limit k (Some (w, n)) bytes rest h e = absurd (definite_not_deep k n rest (string k w) e)
+string_deep limit k None bytes rest h e =
+    elim (bind_err (until Break (chunk_at k) (suc (length rest)) rest) (λ cs. Ok (chunks k cs.0, cs.1)) TooDeep e) [
+      | inl a ↦ behind limit bytes (open_head (string_major k) ∷ []) rest h (until_deep Break (ChunkFits k) (chunk_encoding k) (chunk_at k) limit (chunk_takes k) (λ bs _ deep. absurd (chunk_not_deep k bs deep)) (suc (length rest)) rest h.rest_fits a)
+      | inr a ↦ absurd (not_given _ TooDeep a.2)
+    ]
+
 abbrev other : ℕ → Option (Width × ℕ) → Reads Value
 other major argument = other_by major argument
 
@@ -187,11 +220,17 @@ item_by_deep limit i major argument bytes rest inner h e =
       | inl a ↦ absurd (number_not_deep unsigned argument rest a.1)
       | inr a ↦ elim (chosen (eqb major 1) _ _ _ a.1) [
         | inl b ↦ absurd (number_not_deep negative argument rest b.1)
-        | inr b ↦ elim (chosen (eqb major 4) _ _ _ b.1) [
-          | inl d ↦ array_deep limit i argument bytes rest inner (at 4 d.0) d.1
-          | inr d ↦ elim (chosen (eqb major 5) _ _ _ d.1) [
-            | inl f ↦ map_deep limit i argument bytes rest inner (at 5 f.0) f.1
-            | inr f ↦ absurd (other_not_deep major argument f.1)
+        | inr b ↦ elim (chosen (eqb major 2) _ _ _ b.1) [
+          | inl c ↦ string_deep limit Bytes argument bytes rest (at 2 c.0) c.1
+          | inr c ↦ elim (chosen (eqb major 3) _ _ _ c.1) [
+            | inl d ↦ string_deep limit Text argument bytes rest (at 3 d.0) d.1
+            | inr d ↦ elim (chosen (eqb major 4) _ _ _ d.1) [
+              | inl f ↦ array_deep limit i argument bytes rest inner (at 4 f.0) f.1
+              | inr f ↦ elim (chosen (eqb major 5) _ _ _ f.1) [
+                | inl g ↦ map_deep limit i argument bytes rest inner (at 5 g.0) g.1
+                | inr g ↦ absurd (other_not_deep major argument g.1)
+              ]
+            ]
           ]
         ]
       ]

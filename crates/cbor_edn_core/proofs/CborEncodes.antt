@@ -1,5 +1,5 @@
 -- What is pushed by parts is the encoding of the whole.
-use Rattle.std.proofs.Common.{◌≡◌, ℕ, ℤ, zero, suc, ◌+◌, ◌^◌, ◌<◌, ◌≤◌, Bool, true, false, cond, ltb, List, [], ◌∷◌, ◌++◌, length, map, drop, get_or, drop-cons, add-one, Option, Some, None, Result, Ok, Err, refl, sym, ap, ◌∙◌, append_assoc, arith}
+use Rattle.std.proofs.Common.{◌≡◌, ℕ, ℤ, zero, suc, ◌+◌, ◌^◌, ◌<◌, ◌≤◌, Bool, true, false, cond, ltb, List, [], ◌∷◌, ◌++◌, length, map, drop, get_or, drop-cons, add-one, Option, Some, None, Result, Ok, Err, refl, sym, ap, subst, ◌∙◌, append_assoc, arith}
 use Rattle.std.proofs.lemmas.Bool.{le-ltb}
 use Rattle.std.proofs.lemmas.List.{append-nil}
 use Rattle.cbor_edn_parts.specs.declared.error.Fault.{Fault}
@@ -8,10 +8,10 @@ use Rattle.cbor_edn_parts.specs.declared.error.InconsistentEdn.{InconsistentEdn}
 use Rattle.cbor_edn_parts.specs.declared.indicator.Indicator.{Indicator}
 use Rattle.cbor_edn_parts.specs.Number.{Sign, NoSign, PlusSign, MinusSign, signed, sign_of, is_numeral, radix, base_of, digits_of, magnitude_of, integer_of}
 use Rattle.cbor_edn_core.specs.declared.cbor.Width.{Width}
-use Rattle.cbor_edn_core.specs.Items.{Row, Elements, Pairs, Node, Item, Number, Listed, End, Items}
+use Rattle.cbor_edn_core.specs.Items.{Row, Elements, Pairs, Strings, Bracketed, Array, Map, entries_of, Node, Item, Number, Listed, Items}
 use Rattle.cbor_edn_core.specs.Trees.{Tree, OneItem, OneEntry, Rest, LastTree, ElementTree, PairTree, EmptyTree, FullTree, Head, mark, items}
 use Rattle.cbor_edn_core.specs.View.{entries_onto}
-use Rattle.cbor_edn_core.specs.Value.{Value, Values, head, encoding, encodings, Enc, EncAll}
+use Rattle.cbor_edn_core.specs.Value.{Value, Values, AreBytes, head, encoding, encodings, Enc, EncAll}
 use Rattle.cbor_edn_core.specs.Meaning.{◌>>=◌, length_of, means_integer, EntryOf, RowOf, row_len, list_value, listed, no_entries, one_more, means}
 use Rattle.cbor_edn_core.specs.Encoding.{Encodes, Finds, list_head, list_end, major_of, entry_encoding, row_encoding, row_items}
 use Rattle.cbor_edn_core.proofs.MeaningSteps.{both_steps, some_is}
@@ -62,18 +62,22 @@ more k o p = o >>= λ x. p >>= λ r. Some (one_more k x r)
 one_more_encoding : (k : Row) (x : EntryOf k) (r : RowOf k) → row_encoding k (one_more k x r) ≡ entry_encoding k x ++ row_encoding k r
 one_more_encoding Elements v vs = refl
 one_more_encoding Pairs p ps = refl
+one_more_encoding Strings p ps = refl
 
 no_encoding : (k : Row) → row_encoding k (no_entries k) ≡ []
 no_encoding Elements = refl
 no_encoding Pairs = refl
+no_encoding Strings = refl
 
 one_more_len : (k : Row) (x : EntryOf k) (r : RowOf k) → row_len k (one_more k x r) ≡ row_len k r + 1
 one_more_len Elements v vs = refl
 one_more_len Pairs p ps = refl
+one_more_len Strings p ps = omega arith
 
 no_len : (k : Row) → row_len k (no_entries k) ≡ 0
 no_len Elements = refl
 no_len Pairs = refl
+no_len Strings = refl
 
 then_encoded : (k : Row) (o : Option (EntryOf k)) (p : Option (RowOf k)) (old middle new : List ℕ) (r : Pushed) → Encodes (entry_encoding k) o old middle (Ok tt) → Encodes (row_encoding k) p middle new r → Encodes (row_encoding k) (more k o p) old new r
 then_encoded k o p old middle new (Ok u) first others = (
@@ -142,64 +146,64 @@ row_length k (p ∷ ps) w s r e =
 abbrev Counts : (k : Row) → Option (RowOf k) → ℕ → Type 0
 Counts k o n = (r : RowOf k) → o ≡ Some r → row_len k r ≡ n
 
-list_parts : (k : Row) (w : Option Width) (r : RowOf k) → encoding (list_value k w r) ≡ list_head (major_of k) w (row_len k r) ++ (row_encoding k r ++ list_end w)
-list_parts Elements (Some w) r = ap (λ (l : List ℕ). head 4 w (row_len Elements r) ++ l) (sym (append-nil (row_encoding Elements r)))
-list_parts Elements None r = refl
-list_parts Pairs (Some w) r = ap (λ (l : List ℕ). head 5 w (row_len Pairs r) ++ l) (sym (append-nil (row_encoding Pairs r)))
-list_parts Pairs None r = refl
+list_parts : (k : Bracketed) (w : Option Width) (r : RowOf (entries_of k)) → encoding (list_value k w r) ≡ list_head (major_of k) w (row_len (entries_of k) r) ++ (row_encoding (entries_of k) r ++ list_end w)
+list_parts Array (Some w) r = ap (λ (l : List ℕ). head 4 w (row_len Elements r) ++ l) (sym (append-nil (row_encoding Elements r)))
+list_parts Array None r = refl
+list_parts Map (Some w) r = ap (λ (l : List ℕ). head 5 w (row_len Pairs r) ++ l) (sym (append-nil (row_encoding Pairs r)))
+list_parts Map None r = refl
 
-list_encoded : (k : Row) (i : Option Indicator) (o : Option (RowOf k)) (n : ℕ) (w : Option Width) (old first second new : List ℕ) → Counts k o n → length_of i n ≡ Some w → first ≡ old ++ list_head (major_of k) w n → Encodes (row_encoding k) o first second (Ok tt) → new ≡ second ++ list_end w
+list_encoded : (k : Bracketed) (i : Option Indicator) (o : Option (RowOf (entries_of k))) (n : ℕ) (w : Option Width) (old first second new : List ℕ) → Counts (entries_of k) o n → length_of i n ≡ Some w → first ≡ old ++ list_head (major_of k) w n → Encodes (row_encoding (entries_of k)) o first second (Ok tt) → new ≡ second ++ list_end w
     → Encodes encoding (o >>= listed k i) old new (Ok tt)
 list_encoded k i o n w old first second new counts width opened (r, meant, is) ended =
-    let len : row_len k r ≡ n = counts r meant in
+    let len : row_len (entries_of k) r ≡ n = counts r meant in
     let listed_is : listed k i r ≡ Some (list_value k w r) = ap (λ o. o >>= λ v. Some (list_value k v r)) (ap (length_of i) len ∙ width) in
-    let before : first ≡ old ++ list_head (major_of k) w (row_len k r) = opened ∙ ap (λ m. old ++ list_head (major_of k) w m) (sym len) in
+    let before : first ≡ old ++ list_head (major_of k) w (row_len (entries_of k) r) = opened ∙ ap (λ m. old ++ list_head (major_of k) w m) (sym len) in
     let whole : new ≡ old ++ encoding (list_value k w r) =
-    ended ∙ ap (λ (l : List ℕ). l ++ list_end w) (is ∙ ap (λ (l : List ℕ). l ++ row_encoding k r) before) ∙ append_assoc (old ++ list_head (major_of k) w (row_len k r)) (row_encoding k r) (list_end w) ∙ append_assoc old (list_head (major_of k) w (row_len k r)) (row_encoding k r ++ list_end w)
+    ended ∙ ap (λ (l : List ℕ). l ++ list_end w) (is ∙ ap (λ (l : List ℕ). l ++ row_encoding (entries_of k) r) before) ∙ append_assoc (old ++ list_head (major_of k) w (row_len (entries_of k) r)) (row_encoding (entries_of k) r) (list_end w) ∙ append_assoc old (list_head (major_of k) w (row_len (entries_of k) r)) (row_encoding (entries_of k) r ++ list_end w)
     ∙ ap (λ (l : List ℕ). old ++ l) (sym (list_parts k w r)) in
     (list_value k w r, ap (λ q. q >>= listed k i) meant ∙ listed_is, whole)
 
-list_stops : (k : Row) (i : Option Indicator) (o : Option (RowOf k)) (old first second new : List ℕ) (f : Fault InconsistentEdn) → Encodes (row_encoding k) o first second (Err f) → Encodes encoding (o >>= listed k i) old new (Err f)
+list_stops : (k : Bracketed) (i : Option Indicator) (o : Option (RowOf (entries_of k))) (old first second new : List ℕ) (f : Fault InconsistentEdn) → Encodes (row_encoding (entries_of k)) o first second (Err f) → Encodes encoding (o >>= listed k i) old new (Err f)
 list_stops k i o old first second new (Told e) row = rw row refl
 list_stops k i o old first second new (Memory e) row = tt
 
-none_listed : (k : Row) (i : Option Indicator) (o : Option (RowOf k)) (n : ℕ) → Counts k o n → length_of i n ≡ None → (o >>= listed k i) ≡ None
+none_listed : (k : Bracketed) (i : Option Indicator) (o : Option (RowOf (entries_of k))) (n : ℕ) → Counts (entries_of k) o n → length_of i n ≡ None → (o >>= listed k i) ≡ None
 none_listed k i None n counts none = refl
 none_listed k i (Some r) n counts none = ap (λ q. q >>= λ w. Some (list_value k w r)) (ap (length_of i) (counts r refl) ∙ none)
 
-list_unfit : (k : Row) (i : Option Indicator) (o : Option (RowOf k)) (n : ℕ) (old new : List ℕ) (f : Fault InconsistentEdn) → Counts k o n → Finds (length_of i n) (Err f) → Encodes encoding (o >>= listed k i) old new (Err f)
+list_unfit : (k : Bracketed) (i : Option Indicator) (o : Option (RowOf (entries_of k))) (n : ℕ) (old new : List ℕ) (f : Fault InconsistentEdn) → Counts (entries_of k) o n → Finds (length_of i n) (Err f) → Encodes encoding (o >>= listed k i) old new (Err f)
 list_unfit k i o n old new (Told e) counts found = none_listed k i o n counts found
 list_unfit k i o n old new (Memory e) counts found = tt
 
 -- a list with entries
-module _ (k : Row) (h : Head) (s : List ℕ) (m : Tree (Rest k)) (ps : List (Tree (OneEntry k) × List ℕ)) (w : Tree (OneEntry k)) (t : List ℕ) (m_is : m ≡ entries_onto ps (LastTree w t)) (n : ℕ) (count : n ≡ length ps + 1) where
-  counts : Counts k (means (items m)) n
-  counts r meant = row_length k ps w t r (ap (λ t. means (items t)) (sym m_is) ∙ meant) ∙ sym count
+module _ (k : Bracketed) (h : Head) (s : List ℕ) (m : Tree (Rest (entries_of k))) (ps : List (Tree (OneEntry (entries_of k)) × List ℕ)) (w : Tree (OneEntry (entries_of k))) (t : List ℕ) (m_is : m ≡ entries_onto ps (LastTree w t)) (n : ℕ) (count : n ≡ length ps + 1) where
+  counts : Counts (entries_of k) (means (items m)) n
+  counts r meant = row_length (entries_of k) ps w t r (ap (λ t. means (items t)) (sym m_is) ∙ meant) ∙ sym count
 
-  pub full_encoded : (v : Option Width) (old first second new : List ℕ) → length_of (mark h) n ≡ Some v → first ≡ old ++ list_head (major_of k) v n → Encodes (row_encoding k) (means (items m)) first second (Ok tt) → new ≡ second ++ list_end v
-      → Encodes encoding (means (Listed k (items (FullTree h s m)).0 (items (FullTree h s m)).1)) old new (Ok tt)
+  pub full_encoded : (v : Option Width) (old first second new : List ℕ) → length_of (mark h) n ≡ Some v → first ≡ old ++ list_head (major_of k) v n → Encodes (row_encoding (entries_of k)) (means (items m)) first second (Ok tt) → new ≡ second ++ list_end v
+      → Encodes encoding (means (Listed k (items (FullTree {k = k} h s m)).0 (items (FullTree {k = k} h s m)).1)) old new (Ok tt)
   unfolding means items
   full_encoded v old first second new width opened row ended = list_encoded k (mark h) (means (items m)) n v old first second new counts width opened row ended
 
-  pub full_stops : (old first second new : List ℕ) (f : Fault InconsistentEdn) → Encodes (row_encoding k) (means (items m)) first second (Err f) → Encodes encoding (means (Listed k (items (FullTree h s m)).0 (items (FullTree h s m)).1)) old new (Err f)
+  pub full_stops : (old first second new : List ℕ) (f : Fault InconsistentEdn) → Encodes (row_encoding (entries_of k)) (means (items m)) first second (Err f) → Encodes encoding (means (Listed k (items (FullTree {k = k} h s m)).0 (items (FullTree {k = k} h s m)).1)) old new (Err f)
   unfolding means items
   full_stops old first second new f row = list_stops k (mark h) (means (items m)) old first second new f row
 
-  pub full_unfit : (old new : List ℕ) (f : Fault InconsistentEdn) → Finds (length_of (mark h) n) (Err f) → Encodes encoding (means (Listed k (items (FullTree h s m)).0 (items (FullTree h s m)).1)) old new (Err f)
+  pub full_unfit : (old new : List ℕ) (f : Fault InconsistentEdn) → Finds (length_of (mark h) n) (Err f) → Encodes encoding (means (Listed k (items (FullTree {k = k} h s m)).0 (items (FullTree {k = k} h s m)).1)) old new (Err f)
   unfolding means items
   full_unfit old new f found = list_unfit k (mark h) (means (items m)) n old new f counts found
 
 -- a list without entries
-abbrev pub empty_encoding : Row → Option Width → List ℕ
+abbrev pub empty_encoding : Bracketed → Option Width → List ℕ
 empty_encoding k w = list_head (major_of k) w 0 ++ list_end w
 
-pub empty_encoded : (k : Row) (i : Option Indicator) (s old new : List ℕ) (r : Pushed) → Encodes (empty_encoding k) (length_of i 0) old new r → Encodes encoding (means (Listed k (items (EmptyTree {k = k} i s)).0 (items (EmptyTree {k = k} i s)).1)) old new r
+pub empty_encoded : (k : Bracketed) (i : Option Indicator) (s old new : List ℕ) (r : Pushed) → Encodes (empty_encoding k) (length_of i 0) old new r → Encodes encoding (means (Listed k (items (EmptyTree {k = k} i s)).0 (items (EmptyTree {k = k} i s)).1)) old new r
 unfolding means items
 empty_encoded k i s old new (Ok u) (w, width, is) =
-    let counts : Counts k (Some (no_entries k)) 0 = λ r e. ap (row_len k) (sym (some_is (no_entries k) r e)) ∙ no_len k in
-    list_encoded k i (Some (no_entries k)) 0 w old (old ++ list_head (major_of k) w 0) (old ++ list_head (major_of k) w 0) new counts width refl
-    (no_entries k, refl, sym (append-nil (old ++ list_head (major_of k) w 0)) ∙ ap (λ (l : List ℕ). (old ++ list_head (major_of k) w 0) ++ l) (sym (no_encoding k))) (is ∙ sym (append_assoc old (list_head (major_of k) w 0) (list_end w)))
-empty_encoded k i s old new (Err (Told e)) none = none_listed k i (Some (no_entries k)) 0 (λ r e. ap (row_len k) (sym (some_is (no_entries k) r e)) ∙ no_len k) none
+    let counts : Counts (entries_of k) (Some (no_entries (entries_of k))) 0 = λ r e. ap (row_len (entries_of k)) (sym (some_is (no_entries (entries_of k)) r e)) ∙ no_len (entries_of k) in
+    list_encoded k i (Some (no_entries (entries_of k))) 0 w old (old ++ list_head (major_of k) w 0) (old ++ list_head (major_of k) w 0) new counts width refl
+    (no_entries (entries_of k), refl, sym (append-nil (old ++ list_head (major_of k) w 0)) ∙ ap (λ (l : List ℕ). (old ++ list_head (major_of k) w 0) ++ l) (sym (no_encoding (entries_of k)))) (is ∙ sym (append_assoc old (list_head (major_of k) w 0) (list_end w)))
+empty_encoded k i s old new (Err (Told e)) none = none_listed k i (Some (no_entries (entries_of k))) 0 (λ r e. ap (row_len (entries_of k)) (sym (some_is (no_entries (entries_of k)) r e)) ∙ no_len (entries_of k)) none
 empty_encoded k i s old new (Err (Memory e)) none = tt
 
 -- ---- entries
@@ -246,12 +250,12 @@ rest_at f xs i x lt is = ap (map f) (drop-cons xs i x lt) ∙ rw (← is, add-on
 
 -- ---- into nothing
 
-pub item_encoded : (w : Node Item) (old new : List ℕ) → old ≡ [] → Encodes encoding (means w) old new (Ok tt) → (v : Value) × (means w ≡ Some v) × Enc new v
-item_encoded w old new empty pushed = (pushed.0, pushed.1, (meaning_fits w pushed.0 pushed.1, pushed.2 ∙ ap (λ (l : List ℕ). l ++ encoding pushed.0) empty))
+pub item_encoded : (w : Node Item) (old new : List ℕ) → old ≡ [] → AreBytes new → Encodes encoding (means w) old new (Ok tt) → (v : Value) × (means w ≡ Some v) × Enc new v
+item_encoded w old new empty bytes pushed =
+    let is : new ≡ encoding pushed.0 = pushed.2 ∙ ap (λ (l : List ℕ). l ++ encoding pushed.0) empty in
+    (pushed.0, pushed.1, (meaning_fits w pushed.0 pushed.1 (subst AreBytes is bytes), is))
 
-pub items_encoded : (m : Items) (old new : List ℕ) → old ≡ [] → Encodes encodings (means m) old new (Ok tt) → (vs : Values) × (means m ≡ Some vs) × EncAll new vs
-items_encoded m old new empty pushed = (pushed.0, pushed.1, (meaning_fits m pushed.0 pushed.1, pushed.2 ∙ ap (λ (l : List ℕ). l ++ encodings pushed.0) empty))
-
-pub nothing_encoded : (new : List ℕ) → new ≡ [] → (vs : Values) × (means (End {k = Elements}) ≡ Some vs) × EncAll new vs
-unfolding means
-nothing_encoded new empty = (no_entries Elements, refl, (tt, empty))
+pub items_encoded : (m : Items) (old new : List ℕ) → old ≡ [] → AreBytes new → Encodes encodings (means m) old new (Ok tt) → (vs : Values) × (means m ≡ Some vs) × EncAll new vs
+items_encoded m old new empty bytes pushed =
+    let is : new ≡ encodings pushed.0 = pushed.2 ∙ ap (λ (l : List ℕ). l ++ encodings pushed.0) empty in
+    (pushed.0, pushed.1, (meaning_fits m pushed.0 pushed.1 (subst AreBytes is bytes), is))

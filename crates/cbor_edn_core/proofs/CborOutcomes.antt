@@ -1,14 +1,16 @@
 -- Reading several of a kind again, and where rows end.
-use Rattle.std.proofs.Common.{◌≡◌, ℕ, suc, ◌+◌, ◌-◌, ◌*◌, ◌<◌, ◌≤◌, true, false, cond, leb, ltb, eqb, max, List, [], ◌∷◌, ◌++◌, length, Option, Some, None, Result, Ok, Err, refl, sym, ap, ◌∙◌, append_assoc, arith, inl, inr}
+use Rattle.std.proofs.Common.{◌≡◌, ℕ, suc, ◌+◌, ◌-◌, ◌*◌, ◌<◌, ◌≤◌, true, false, cond, leb, ltb, eqb, max, List, [], ◌∷◌, ◌++◌, length, Option, Some, None, Result, Ok, Err, refl, sym, ap, ◌∙◌, append_assoc, arith, inl, inr, eq-eqb}
 use Rattle.std.proofs.lemmas.Bool.{cases_lt, le-leb, lt-leb, le-ltb, ne_eqb}
 use Rattle.std.proofs.lemmas.List.{take_at, drop_at, length-append}
+use Rattle.cbor_edn_parts.specs.declared.string.StringKind.{StringKind}
+use Rattle.cbor_edn_parts.specs.declared.string.StringKind.TheVariants.{Bytes, Text}
 use Rattle.cbor_edn_core.specs.declared.cbor.Width.{Width}
 use Rattle.cbor_edn_core.specs.declared.cbor.Width.TheVariants.{Immediate, One, Two, Four, Eight}
 use Rattle.cbor_edn_core.specs.declared.from_cbor.CborError.{CborError}
 use Rattle.cbor_edn_core.specs.declared.from_cbor.CborError.TheVariants.{TooDeep}
 use Rattle.cbor_edn_core.specs.declared.from_cbor.reader.Stop.{Stop}
 use Rattle.cbor_edn_core.specs.declared.from_cbor.reader.Stop.TheVariants.{Break, EndOfData}
-use Rattle.cbor_edn_core.specs.Value.{Value, unsigned, negative, byte_string, chunks, array, object, tag, Values, no_values, value, Pairs, no_pairs, pair, Chunk, head, ArgumentFits, LengthFits, open_head, break, list_encoding, chunk_encoding, chunk_encodings, ChunksFit, encoding, encodings, pair_encodings, values_len, pairs_len, Fits}
+use Rattle.cbor_edn_core.specs.Value.{Value, unsigned, negative, string, chunks, array, object, tag, Values, no_values, value, Pairs, no_pairs, pair, Chunk, head, ArgumentFits, LengthFits, open_head, break, list_encoding, string_major, is_content, chunk_encoding, chunk_encodings, ChunkFits, ChunksFit, encoding, encodings, pair_encodings, values_len, pairs_len, Fits}
 use Rattle.cbor_edn_core.specs.CborReading.{◌>>=◌, Reader, many, until, past, string_at, chunk_at}
 use Rattle.cbor_edn_core.proofs.CborHeads.{head_again}
 
@@ -108,34 +110,43 @@ head_some major Two n = omega arith
 head_some major Four n = omega arith
 head_some major Eight n = omega arith
 
-pub string_again : (string rest : List ℕ) → string_at (length string) (string ++ rest) ≡ Ok (string, rest)
+pub string_again : (k : StringKind) (bs rest : List ℕ) → is_content k bs ≡ true → string_at k (length bs) (bs ++ rest) ≡ Ok (bs, rest)
 unfolding string_at
-string_again string rest =
-    let long : ltb (length (string ++ rest)) (length string) ≡ false = le-ltb _ _ (omega (arith, length-append string rest)) in
-    rw (long, take_at string rest (length string) refl, drop_at string rest (length string) refl) refl
+string_again k bs rest content =
+    let long : ltb (length (bs ++ rest)) (length bs) ≡ false = le-ltb _ _ (omega (arith, length-append bs rest)) in
+    rw (long, take_at bs rest (length bs) refl, drop_at bs rest (length bs) refl, content) refl
 
-chunk_again : (c : Chunk) (rest : List ℕ) → ArgumentFits c.0 (length c.1) → chunk_at (chunk_encoding c ++ rest) ≡ Ok (c, rest)
-unfolding chunk_at
-chunk_again c rest fits =
-    let regrouped : chunk_encoding c ++ rest ≡ head 2 c.0 (length c.1) ++ (c.1 ++ rest) = append_assoc (head 2 c.0 (length c.1)) c.1 rest in
-    ap chunk_at regrouped ∙ rw (head_again 2 c.0 (length c.1) (c.1 ++ rest) fits, string_again c.1 rest) refl
+string_small : (k : StringKind) → string_major k < 7
+string_small Bytes = omega arith
+string_small Text = omega arith
 
-chunk_going : (c : Chunk) (rest : List ℕ) → ArgumentFits c.0 (length c.1) → past Break (chunk_encoding c ++ rest) ≡ None
-chunk_going c rest fits = ap (past Break) (append_assoc (head 2 c.0 (length c.1)) c.1 rest) ∙ head_going 2 c.0 (length c.1) (c.1 ++ rest) (omega arith) fits
+pub chunk_going : (k : StringKind) (c : Chunk) (rest : List ℕ) → ArgumentFits c.0 (length c.1) → past Break (chunk_encoding k c ++ rest) ≡ None
+chunk_going k c rest fits = ap (past Break) (append_assoc (head (string_major k) c.0 (length c.1)) c.1 rest) ∙ head_going (string_major k) c.0 (length c.1) (c.1 ++ rest) (string_small k) fits
 
-pub chunks_again : (cs : List Chunk) (rest : List ℕ) (turns : ℕ) → length cs < turns → ChunksFit cs → until Break chunk_at turns (chunk_encodings cs ++ (255 ∷ rest)) ≡ Ok (cs, rest)
-chunks_again [] rest turns lt fits = until_end_at Break chunk_at turns 0 (255 ∷ rest) rest (omega arith) refl ∙ none 0 ([], rest)
-chunks_again (c ∷ cs) rest turns lt fits =
-    let tail = chunk_encodings cs ++ (255 ∷ rest) in
-    let regrouped : chunk_encodings (c ∷ cs) ++ (255 ∷ rest) ≡ chunk_encoding c ++ tail = append_assoc (chunk_encoding c) (chunk_encodings cs) (255 ∷ rest) in
-    ap (until Break chunk_at turns) regrouped
-    ∙ until_more_at Break chunk_at 0 0 0 turns (chunk_encoding c ++ tail) tail rest c cs (omega arith) (chunk_going c tail fits.0.0) (chunk_again c tail fits.0.0 ∙ sym (none 0 (c, tail)))
-    (chunks_again cs rest (turns - 1) (omega arith) fits.1 ∙ sym (none 0 (cs, rest)))
-    ∙ none 0 (c ∷ cs, rest)
+chunk_some : (k : StringKind) (c : Chunk) → 0 < length (chunk_encoding k c)
+chunk_some k c = omega (arith, length-append (head (string_major k) c.0 (length c.1)) c.1, head_some (string_major k) c.0 (length c.1))
 
-pub chunks_many : (cs : List Chunk) → length cs ≤ length (chunk_encodings cs)
-chunks_many [] = omega arith
-chunks_many (c ∷ cs) = omega (arith, chunks_many cs, length-append (chunk_encoding c) (chunk_encodings cs), length-append (head 2 c.0 (length c.1)) c.1, head_some 2 c.0 (length c.1))
+module _ (k : StringKind) where
+  chunk_again : (c : Chunk) (rest : List ℕ) → ChunkFits k c → chunk_at k (chunk_encoding k c ++ rest) ≡ Ok (c, rest)
+  unfolding chunk_at
+  chunk_again c rest fits =
+      let regrouped : chunk_encoding k c ++ rest ≡ head (string_major k) c.0 (length c.1) ++ (c.1 ++ rest) = append_assoc (head (string_major k) c.0 (length c.1)) c.1 rest in
+      let same : eqb (string_major k) (string_major k) ≡ true = eq-eqb _ _ refl in
+      ap (chunk_at k) regrouped ∙ rw (head_again (string_major k) c.0 (length c.1) (c.1 ++ rest) fits.0, same, string_again k c.1 rest fits.2) refl
+
+  pub chunks_again : (cs : List Chunk) (rest : List ℕ) (turns : ℕ) → length cs < turns → ChunksFit k cs → until Break (chunk_at k) turns (chunk_encodings k cs ++ (255 ∷ rest)) ≡ Ok (cs, rest)
+  chunks_again [] rest turns lt fits = until_end_at Break (chunk_at k) turns 0 (255 ∷ rest) rest (omega arith) refl ∙ none 0 ([], rest)
+  chunks_again (c ∷ cs) rest turns lt fits =
+      let tail = chunk_encodings k cs ++ (255 ∷ rest) in
+      let regrouped : chunk_encodings k (c ∷ cs) ++ (255 ∷ rest) ≡ chunk_encoding k c ++ tail = append_assoc (chunk_encoding k c) (chunk_encodings k cs) (255 ∷ rest) in
+      ap (until Break (chunk_at k) turns) regrouped
+      ∙ until_more_at Break (chunk_at k) 0 0 0 turns (chunk_encoding k c ++ tail) tail rest c cs (omega arith) (chunk_going k c tail fits.0.0) (chunk_again c tail fits.0 ∙ sym (none 0 (c, tail)))
+      (chunks_again cs rest (turns - 1) (omega arith) fits.1 ∙ sym (none 0 (cs, rest)))
+      ∙ none 0 (c ∷ cs, rest)
+
+  pub chunks_many : (cs : List Chunk) → length cs ≤ length (chunk_encodings k cs)
+  chunks_many [] = omega arith
+  chunks_many (c ∷ cs) = omega (arith, chunks_many cs, length-append (chunk_encoding k c) (chunk_encodings k cs), chunk_some k c)
 
 -- ---- values
 
@@ -146,8 +157,8 @@ list_going major None n contents rest lt fits = open_going major ((contents ++ b
 break_going : (v : Value) (rest : List ℕ) → Fits v → past Break (encoding v ++ rest) ≡ None
 break_going (unsigned w n) rest fits = head_going 0 w n rest (omega arith) fits
 break_going (negative w n) rest fits = head_going 1 w n rest (omega arith) fits
-break_going (byte_string w bs) rest fits = ap (past Break) (append_assoc (head 2 w (length bs)) bs rest) ∙ head_going 2 w (length bs) (bs ++ rest) (omega arith) fits.0
-break_going (chunks cs) rest fits = open_going 2 ((chunk_encodings cs ++ break ∷ []) ++ rest) (omega arith)
+break_going (string k w bs) rest fits = chunk_going k (w, bs) rest fits.0
+break_going (chunks k cs) rest fits = open_going (string_major k) ((chunk_encodings k cs ++ break ∷ []) ++ rest) (string_small k)
 break_going (array w vs) rest fits = list_going 4 w (values_len vs) (encodings vs) rest (omega arith) fits.0
 break_going (object w ps) rest fits = list_going 5 w (pairs_len ps) (pair_encodings ps) rest (omega arith) fits.0
 break_going (tag w n v) rest fits = ap (past Break) (append_assoc (head 6 w n) (encoding v) rest) ∙ head_going 6 w n (encoding v ++ rest) (omega arith) fits.0
@@ -159,8 +170,8 @@ list_some major None n contents = omega arith
 pub encoding_some : (v : Value) → 0 < length (encoding v)
 encoding_some (unsigned w n) = head_some 0 w n
 encoding_some (negative w n) = head_some 1 w n
-encoding_some (byte_string w bs) = omega (arith, length-append (head 2 w (length bs)) bs, head_some 2 w (length bs))
-encoding_some (chunks cs) = omega arith
+encoding_some (string k w bs) = chunk_some k (w, bs)
+encoding_some (chunks k cs) = omega arith
 encoding_some (array w vs) = list_some 4 w (values_len vs) (encodings vs)
 encoding_some (object w ps) = list_some 5 w (pairs_len ps) (pair_encodings ps)
 encoding_some (tag w n v) = omega (arith, length-append (head 6 w n) (encoding v), head_some 6 w n)

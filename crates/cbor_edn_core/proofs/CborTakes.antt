@@ -1,14 +1,17 @@
 -- What is read is written so, and nests no deeper than it may.
-use Rattle.std.proofs.Common.{◌≡◌, ℕ, zero, suc, ◌+◌, ◌≤◌, true, false, eqb, List, [], ◌∷◌, ◌++◌, length, Option, Some, None, Ok, refl, sym, ap, subst, ◌∙◌, append_assoc, arith, inl, inr}
+use Rattle.std.proofs.Common.{◌≡◌, ℕ, zero, suc, ◌+◌, ◌≤◌, ◌<◌, true, false, ltb, eqb, take, drop, List, [], ◌∷◌, ◌++◌, length, Option, Some, None, Ok, refl, sym, ap, subst, ◌∙◌, append_assoc, arith, inl, inr}
 use Rattle.std.specs.List.{flat_map, AllByRecursion}
-use Rattle.std.proofs.lemmas.Bool.{eqb-true}
-use Rattle.std.proofs.lemmas.List.{append-nil}
+use Rattle.std.proofs.lemmas.Bool.{eqb-true, ltb-false}
+use Rattle.std.proofs.lemmas.List.{append-nil, take-append-drop, length-take}
+use Rattle.std.proofs.lemmas.List.Elements.{All-from_get_or}
+use Rattle.cbor_edn_parts.specs.declared.string.StringKind.{StringKind}
+use Rattle.cbor_edn_parts.specs.declared.string.StringKind.TheVariants.{Bytes, Text}
 use Rattle.cbor_edn_core.specs.declared.cbor.Width.{Width}
 use Rattle.cbor_edn_core.specs.declared.from_cbor.reader.Stop.{Stop}
 use Rattle.cbor_edn_core.specs.declared.from_cbor.reader.Stop.TheVariants.{Break, EndOfData}
-use Rattle.cbor_edn_core.specs.Value.{Value, unsigned, negative, array, object, head, ArgumentFits, LengthFits, open_head, list_encoding, encoding, encodings, pair_encodings, values_len, pairs_len, Fits, ValuesFit, PairsFit, nesting, values_nesting, pairs_nesting}
-use Rattle.cbor_edn_core.specs.CborReading.{◌>>=◌, Reads, Reader, head_at, many, until, several, past, turn, pair_at, item_by, item_at, array_by, map_by, number_by, other_by}
-use Rattle.cbor_edn_core.proofs.CborHeads.{IsBytes, IsBytes-rest, bind_ok, ok_is, chosen, Takes, Takes-then, HeadIs, head_takes}
+use Rattle.cbor_edn_core.specs.Value.{Value, Chunk, unsigned, negative, string, chunks, array, object, head, ArgumentFits, LengthFits, open_head, list_encoding, string_major, chunk_encoding, chunk_encodings, is_content, AreBytes, ChunkFits, ChunksFit, encoding, encodings, pair_encodings, values_len, pairs_len, Fits, ValuesFit, PairsFit, nesting, values_nesting, pairs_nesting}
+use Rattle.cbor_edn_core.specs.CborReading.{◌>>=◌, Reads, Reader, head_at, many, until, several, past, turn, string_at, chunk_at, chunk_by, string_by, pair_at, item_by, item_at, array_by, map_by, number_by, other_by}
+use Rattle.cbor_edn_core.proofs.CborHeads.{IsBytes, IsBytes-rest, IsBytes-take, IsBytes-drop, bind_ok, ok_is, chosen, Takes, Takes-then, HeadIs, head_takes}
 use Rattle.cbor_edn_core.proofs.CborValues.{values_of, pairs_of, argument_width, makes, value_at}
 use Rattle.cbor_edn_core.proofs.Readable.{Readable, AllReadable, PairsReadable}
 
@@ -73,6 +76,48 @@ pub until_takes : {A : Type 0} (stop : Stop) (P : A → Type 0) (spelled : A →
 unfolding until
 until_takes stop P spelled one sound zero bytes x fits e = absurd cc
 until_takes stop P spelled one sound (suc n) bytes x fits e = turned stop P spelled one (until stop one n) sound (until_takes stop P spelled one sound n) bytes x (past stop bytes) fits refl e
+
+-- ---- strings
+
+string_takes : (k : StringKind) (n : ℕ) (bytes : List ℕ) (x : List ℕ × List ℕ) → IsBytes bytes → string_at k n bytes ≡ Ok x → (length x.0 ≡ n) × AreBytes x.0 × (is_content k x.0 ≡ true) × Takes bytes x.0 x.1
+unfolding string_at
+string_takes k n bytes x fits e =
+    elim (chosen (ltb (length bytes) n) _ _ _ e) [
+      | inl a ↦ absurd (let g = a.1 in cc)
+      | inr a ↦ elim (chosen (is_content k (take n bytes)) _ _ _ a.1) [
+        | inl b ↦ subst (λ (y : List ℕ × List ℕ). (length y.0 ≡ n) × AreBytes y.0 × (is_content k y.0 ≡ true) × Takes bytes y.0 y.1) (ok_is (take n bytes, drop n bytes) x b.1)
+            (omega (arith, length-take n bytes, ltb-false _ _ a.0), All-from_get_or (λ b. b < 256) (take n bytes) 0 (λ i _. IsBytes-take n bytes fits i), b.0, record { parts = sym (take-append-drop n bytes); rest_fits = IsBytes-drop n bytes fits })
+        | inr b ↦ absurd (let g = b.1 in cc)
+      ]
+    ]
+
+-- a string behind its head
+definite_takes : (k : StringKind) (w : Width) (n : ℕ) (bytes rest : List ℕ) (s : List ℕ × List ℕ) → HeadIs bytes (string_major k) (Some (w, n)) rest → string_at k n rest ≡ Ok s → ChunkFits k (w, s.0) × Takes bytes (chunk_encoding k (w, s.0)) s.1
+definite_takes k w n bytes rest s h e =
+    let t = string_takes k n rest s h.1.rest_fits e in
+    let whole : Takes bytes (head (string_major k) w n ++ s.0) s.1 = Takes-then bytes (head (string_major k) w n) rest s.0 s.1 h.1 t.3 in
+    ((subst (λ (m : ℕ). ArgumentFits w m) (sym t.0) h.0, t.1, t.2), subst (λ (m : ℕ). Takes bytes (head (string_major k) w m ++ s.0) s.1) (sym t.0) whole)
+
+chunk_by_takes : (k : StringKind) (major : ℕ) (argument : Option (Width × ℕ)) (bytes rest : List ℕ) (x : Chunk × List ℕ) → HeadIs bytes major argument rest → chunk_by k (major, argument) rest ≡ Ok x → ChunkFits k x.0 × Takes bytes (chunk_encoding k x.0) x.1
+chunk_by_takes k major (Some (w, n)) bytes rest x h e =
+    elim (chosen (eqb major (string_major k)) _ _ _ e) [
+      | inl a ↦ (let b = bind_ok (string_at k n rest) (λ s. Ok ((w, s.0), s.1)) x a.1 in
+          subst (λ (y : Chunk × List ℕ). ChunkFits k y.0 × Takes bytes (chunk_encoding k y.0) y.1) (ok_is ((w, b.0.0), b.0.1) x b.2)
+          (definite_takes k w n bytes rest b.0 (subst (λ (m : ℕ). HeadIs bytes m (Some (w, n)) rest) (eqb-true major (string_major k) a.0) h) b.1))
+      | inr a ↦ absurd (let g = a.1 in cc)
+    ]
+chunk_by_takes k major None bytes rest x h e = elim (chosen (eqb major (string_major k)) _ _ _ e) [ inl a ↦ absurd (let g = a.1 in cc) | inr a ↦ absurd (let g = a.1 in cc) ]
+
+pub chunk_takes : (k : StringKind) → Sound (ChunkFits k) (chunk_encoding k) (chunk_at k)
+unfolding chunk_at
+chunk_takes k bytes x fits e =
+    let a = bind_ok (head_at bytes) (λ h. chunk_by k h.0 h.1) x e in
+    chunk_by_takes k a.0.0.0 a.0.0.1 bytes a.0.1 x (head_takes bytes a.0 fits a.1).0 a.2
+
+-- chunks that were read one behind the other
+chunks_are : (k : StringKind) (cs : List Chunk) → AllByRecursion (ChunkFits k) cs → ChunksFit k cs × (flat_map (chunk_encoding k) cs ≡ chunk_encodings k cs)
+chunks_are k [] all = (tt, refl)
+chunks_are k (c ∷ cs) all = let r = chunks_are k cs all.1 in ((all.0, r.0), ap (λ (l : List ℕ). chunk_encoding k c ++ l) r.1)
 
 -- ---- lists of values
 
@@ -194,6 +239,19 @@ negative_takes : (limit : ℕ) (argument : Option (Width × ℕ)) (bytes rest : 
 negative_takes limit None bytes rest x h e = absurd cc
 negative_takes limit (Some (w, n)) bytes rest x h e = subst (λ (y : Value × List ℕ). Good limit bytes y) (ok_is (negative w n, rest) x e) ((h.0, omega arith, tt), h.1)
 
+string_by_takes : (limit : ℕ) (k : StringKind) (argument : Option (Width × ℕ)) (bytes rest : List ℕ) (x : Value × List ℕ) → HeadIs bytes (string_major k) argument rest → string_by (makes false) k argument rest ≡ Ok x → Good limit bytes x
+string_by_takes limit k (Some (w, n)) bytes rest x h e =
+    let b = bind_ok (string_at k n rest) (λ s. Ok (string k w s.0, s.1)) x e in
+    let t = definite_takes k w n bytes rest b.0 h b.1 in
+    subst (λ (y : Value × List ℕ). Good limit bytes y) (ok_is (string k w b.0.0, b.0.1) x b.2) ((t.0, omega arith, tt), t.1)
+string_by_takes limit k None bytes rest x h e =
+    let b = bind_ok (until Break (chunk_at k) (suc (length rest)) rest) (λ cs. Ok (chunks k cs.0, cs.1)) x e in
+    let t = until_takes Break (ChunkFits k) (chunk_encoding k) (chunk_at k) (chunk_takes k) (suc (length rest)) rest b.0 h.rest_fits b.1 in
+    let are = chunks_are k b.0.0 t.0 in
+    let whole = Takes-then bytes (open_head (string_major k) ∷ []) rest (flat_map (chunk_encoding k) b.0.0 ++ 255 ∷ []) b.0.1 h t.1 in
+    subst (λ (y : Value × List ℕ). Good limit bytes y) (ok_is (chunks k b.0.0, b.0.1) x b.2)
+    ((are.0, omega arith, tt), subst (λ (l : List ℕ). Takes bytes l b.0.1) (ap (λ (l : List ℕ). open_head (string_major k) ∷ (l ++ 255 ∷ [])) are.1) whole)
+
 abbrev other : ℕ → Option (Width × ℕ) → Reads Value
 other major argument = other_by major argument
 
@@ -209,11 +267,17 @@ item_by_takes limit i major argument bytes rest x sound h e =
       | inl a ↦ unsigned_takes limit argument bytes rest x (at 0 a.0) a.1
       | inr a ↦ elim (chosen (eqb major 1) _ _ _ a.1) [
         | inl b ↦ negative_takes limit argument bytes rest x (at 1 b.0) b.1
-        | inr b ↦ elim (chosen (eqb major 4) _ _ _ b.1) [
-          | inl d ↦ array_takes limit i argument bytes rest x sound (at 4 d.0) d.1
-          | inr d ↦ elim (chosen (eqb major 5) _ _ _ d.1) [
-            | inl f ↦ map_takes limit i argument bytes rest x sound (at 5 f.0) f.1
-            | inr f ↦ other_takes limit major argument bytes x f.1
+        | inr b ↦ elim (chosen (eqb major 2) _ _ _ b.1) [
+          | inl c ↦ string_by_takes limit Bytes argument bytes rest x (at 2 c.0) c.1
+          | inr c ↦ elim (chosen (eqb major 3) _ _ _ c.1) [
+            | inl d ↦ string_by_takes limit Text argument bytes rest x (at 3 d.0) d.1
+            | inr d ↦ elim (chosen (eqb major 4) _ _ _ d.1) [
+              | inl f ↦ array_takes limit i argument bytes rest x sound (at 4 f.0) f.1
+              | inr f ↦ elim (chosen (eqb major 5) _ _ _ f.1) [
+                | inl g ↦ map_takes limit i argument bytes rest x sound (at 5 g.0) g.1
+                | inr g ↦ other_takes limit major argument bytes x g.1
+              ]
+            ]
           ]
         ]
       ]

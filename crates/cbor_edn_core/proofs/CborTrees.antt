@@ -1,17 +1,19 @@
 -- The reader that makes trees makes those of the values that are read.
 use Rattle.std.proofs.Common.{◌≡◌, ℕ, zero, suc, Bool, true, false, cond, eqb, List, [], ◌∷◌, length, map, Option, Some, None, Result, Ok, Err, refl, sym, ap, ◌∙◌, arith}
 use Rattle.std.specs.Prelude.{pos, negsuc}
+use Rattle.cbor_edn_parts.specs.declared.string.StringKind.{StringKind}
+use Rattle.cbor_edn_parts.specs.declared.string.StringKind.TheVariants.{Bytes, Text}
 use Rattle.cbor_edn_core.specs.declared.cbor.Width.{Width}
 use Rattle.cbor_edn_core.specs.declared.from_cbor.CborError.{CborError}
 use Rattle.cbor_edn_core.specs.declared.from_cbor.reader.Stop.{Stop}
 use Rattle.cbor_edn_core.specs.declared.from_cbor.reader.Stop.TheVariants.{Break}
 use Rattle.cbor_edn_core.specs.Items as kind
-use Rattle.cbor_edn_core.specs.Items.{Node, Item, Items, Entries, Elements, Number, Listed, Element, Pair, End, Then}
-use Rattle.cbor_edn_core.specs.Trees.{Tree, OneItem, OneEntry, Rest, NumberTree, ListTree, ElementTree}
-use Rattle.cbor_edn_core.specs.Value.{Value, unsigned, negative, byte_string, chunks, array, object, tag, Values, no_values, value, values_len, Pairs, no_pairs, pair, pairs_len}
+use Rattle.cbor_edn_core.specs.Items.{Node, Item, Items, Entries, Elements, Array, Map, Number, Listed, Element, Pair, End, Then}
+use Rattle.cbor_edn_core.specs.Trees.{Tree, OneItem, OneEntry, Rest, NumberTree, ListTree, StringTree, ElementTree, ChunkTree}
+use Rattle.cbor_edn_core.specs.Value.{Value, Chunk, unsigned, negative, string, chunks, array, object, tag, Values, no_values, value, values_len, Pairs, no_pairs, pair, pairs_len}
 use Rattle.cbor_edn_core.specs.Decoded as decoded
-use Rattle.cbor_edn_core.specs.Decoded.{item_of, items_of, list_indicator, in_front, inside, key_value, regular}
-use Rattle.cbor_edn_core.specs.CborReading.{◌>>=◌, Reads, Reader, head_at, many, until, several, past, turn, pair_at, item_by, item_at, array_by, map_by, number_by, other_by, number_tree, argument_indicator, list_tree, row_of, element_row, trees}
+use Rattle.cbor_edn_core.specs.Decoded.{item_of, items_of, chunk_items, chunked_item, list_indicator, in_front, inside, key_value, stream_tree, regular}
+use Rattle.cbor_edn_core.specs.CborReading.{◌>>=◌, Reads, Reader, shown, head_at, many, until, several, past, turn, string_at, chunk_at, string_by, pair_at, item_by, item_at, array_by, map_by, number_by, other_by, number_tree, string_tree, string_row, chunks_tree, argument_indicator, list_tree, row_of, element_row, trees}
 use Rattle.cbor_edn_core.proofs.MeaningSteps.{bind, both_steps, some_is}
 use Rattle.cbor_edn_core.proofs.CborHeads.{bind_ok}
 use Rattle.cbor_edn_core.proofs.CborValues.{values_of, pairs_of, argument_width, makes, value_at}
@@ -21,8 +23,10 @@ abbrev mutual
   pub tree_of : Value → Tree OneItem
   tree_of (unsigned w n) = number_tree (pos n) w n
   tree_of (negative w n) = number_tree (negsuc n) w n
-  tree_of (array w vs) = ListTree Elements (inside (list_indicator w (values_len vs)) (row_tree vs))
-  tree_of (object w ps) = ListTree kind.Pairs (inside (list_indicator w (pairs_len ps)) (pair_row_tree ps))
+  tree_of (string k w bs) = StringTree (string_tree k (w, bs))
+  tree_of (chunks k cs) = chunks_tree k cs
+  tree_of (array w vs) = ListTree Array (inside (list_indicator w (values_len vs)) (row_tree vs))
+  tree_of (object w ps) = ListTree Map (inside (list_indicator w (pairs_len ps)) (pair_row_tree ps))
   tree_of _ = NumberTree [] None
 
   pub row_tree : Values → Option (Tree (Rest Elements))
@@ -33,20 +37,30 @@ abbrev mutual
   pair_row_tree no_pairs = None
   pair_row_tree (pair k v ps) = Some (in_front (key_value (tree_of k) (tree_of v)) (pair_row_tree ps))
 
+chunk_row : (k : StringKind) (cs : List Chunk) → string_row (map (string_tree k) cs) ≡ regular (chunk_items k cs)
+unfolding regular
+chunk_row k [] = refl
+chunk_row k (c ∷ cs) = ap (λ m. Some (in_front (ChunkTree (string_tree k c)) m)) (chunk_row k cs)
+
+chunks_tree_is : (k : StringKind) (cs : List Chunk) → chunks_tree k cs ≡ regular (chunked_item k cs)
+unfolding regular
+chunks_tree_is k [] = refl
+chunks_tree_is k (c ∷ cs) = ap stream_tree (chunk_row k (c ∷ cs))
+
 mutual
   unfolding regular
 
   pub tree_of_item : (v : Value) (x : Node Item) → item_of v ≡ Some x → tree_of v ≡ regular x
   tree_of_item (unsigned w n) x e = ap regular (some_is _ x e)
   tree_of_item (negative w n) x e = ap regular (some_is _ x e)
-  tree_of_item (byte_string w bs) x e = absurd cc
-  tree_of_item (chunks cs) x e = absurd cc
+  tree_of_item (string k w bs) x e = ap regular (some_is _ x e)
+  tree_of_item (chunks k cs) x e = chunks_tree_is k cs ∙ ap regular (some_is _ x e)
   tree_of_item (array w vs) x e =
-      let a = both_steps (items_of vs) (λ m. Some (Listed Elements (list_indicator w (values_len vs)) m)) x e in
-      ap (λ m. ListTree Elements (inside (list_indicator w (values_len vs)) m)) (row_tree_of_items vs a.0 a.1) ∙ ap regular (some_is _ x a.2)
+      let a = both_steps (items_of vs) (λ m. Some (Listed Array (list_indicator w (values_len vs)) m)) x e in
+      ap (λ m. ListTree Array (inside (list_indicator w (values_len vs)) m)) (row_tree_of_items vs a.0 a.1) ∙ ap regular (some_is _ x a.2)
   tree_of_item (object w ps) x e =
-      let a = both_steps (decoded.pairs_of ps) (λ m. Some (Listed kind.Pairs (list_indicator w (pairs_len ps)) m)) x e in
-      ap (λ m. ListTree kind.Pairs (inside (list_indicator w (pairs_len ps)) m)) (row_tree_of_pairs ps a.0 a.1) ∙ ap regular (some_is _ x a.2)
+      let a = both_steps (decoded.pairs_of ps) (λ m. Some (Listed Map (list_indicator w (pairs_len ps)) m)) x e in
+      ap (λ m. ListTree Map (inside (list_indicator w (pairs_len ps)) m)) (row_tree_of_pairs ps a.0 a.1) ∙ ap regular (some_is _ x a.2)
   tree_of_item (tag w n v) x e = absurd cc
 
   pub row_tree_of_items : (vs : Values) (m : Items) → items_of vs ≡ Some m → row_tree vs ≡ regular m
@@ -66,10 +80,6 @@ mutual
       ∙ ap (λ r. Some (in_front (key_value (regular a.0) (regular b.0)) r)) (row_tree_of_pairs ps c.0 c.1) ∙ ap regular (some_is _ m c.2)
 
 -- ---- reading, seen by a function
-
-abbrev pub shown : {A B : Type 0} → (A → B) → Reads A → Reads B
-shown f (Ok x) = Ok (f x.0, x.1)
-shown f (Err e) = Err e
 
 -- one reader gives what another gives, seen by a function
 abbrev pub Shows : {A B : Type 0} → (A → B) → Reader B → Reader A → Type 0
@@ -147,27 +157,35 @@ InnerShows _ _ = ⊥
 array_shown : (i : Option (Reader (Tree OneItem))) (j : Option (Reader Value)) (argument : Option (Width × ℕ)) (rest : List ℕ) → InnerShows i j → array_by trees i argument rest ≡ shown tree_of (array_by (makes false) j argument rest)
 array_shown None None argument rest shows = refl
 array_shown (Some one) (Some other) argument rest shows =
-    shown_step (map tree_of) tree_of (several one argument rest) (several other argument rest) (λ xs. Ok (list_tree Elements argument (element_row xs.0), xs.1)) (λ xs. Ok (array (argument_width argument) (values_of xs.0), xs.1)) (several_shown tree_of one other shows argument rest)
+    shown_step (map tree_of) tree_of (several one argument rest) (several other argument rest) (λ xs. Ok (list_tree Array argument (element_row xs.0), xs.1)) (λ xs. Ok (array (argument_width argument) (values_of xs.0), xs.1)) (several_shown tree_of one other shows argument rest)
     (λ xs is. let row = values_row xs.0 in
-    ap (λ i. Ok (ListTree Elements (inside i (row_of (map ElementTree (map tree_of xs.0)))), xs.1)) (indicator_is other argument rest xs is ∙ ap (list_indicator (argument_width argument)) (sym row.1))
-    ∙ ap (λ m. Ok (ListTree Elements (inside (list_indicator (argument_width argument) (values_len (values_of xs.0))) m), xs.1)) row.0)
+    ap (λ i. Ok (ListTree Array (inside i (row_of (map ElementTree (map tree_of xs.0)))), xs.1)) (indicator_is other argument rest xs is ∙ ap (list_indicator (argument_width argument)) (sym row.1))
+    ∙ ap (λ m. Ok (ListTree Array (inside (list_indicator (argument_width argument) (values_len (values_of xs.0))) m), xs.1)) row.0)
 array_shown None (Some other) argument rest shows = absurd shows
 array_shown (Some one) None argument rest shows = absurd shows
 
 map_shown : (i : Option (Reader (Tree OneItem))) (j : Option (Reader Value)) (argument : Option (Width × ℕ)) (rest : List ℕ) → InnerShows i j → map_by trees i argument rest ≡ shown tree_of (map_by (makes false) j argument rest)
 map_shown None None argument rest shows = refl
 map_shown (Some one) (Some other) argument rest shows =
-    shown_step (map pair_tree) tree_of (several (pair_at trees one) argument rest) (several (pair_at (makes false) other) argument rest) (λ xs. Ok (list_tree kind.Pairs argument (row_of xs.0), xs.1)) (λ xs. Ok (object (argument_width argument) (pairs_of xs.0), xs.1))
+    shown_step (map pair_tree) tree_of (several (pair_at trees one) argument rest) (several (pair_at (makes false) other) argument rest) (λ xs. Ok (list_tree Map argument (row_of xs.0), xs.1)) (λ xs. Ok (object (argument_width argument) (pairs_of xs.0), xs.1))
     (several_shown pair_tree (pair_at trees one) (pair_at (makes false) other) (pair_shown one other shows) argument rest)
     (λ xs is. let row = pairs_row xs.0 in
-    ap (λ i. Ok (ListTree kind.Pairs (inside i (row_of (map pair_tree xs.0))), xs.1)) (indicator_is (pair_at (makes false) other) argument rest xs is ∙ ap (list_indicator (argument_width argument)) (sym row.1))
-    ∙ ap (λ m. Ok (ListTree kind.Pairs (inside (list_indicator (argument_width argument) (pairs_len (pairs_of xs.0))) m), xs.1)) row.0)
+    ap (λ i. Ok (ListTree Map (inside i (row_of (map pair_tree xs.0))), xs.1)) (indicator_is (pair_at (makes false) other) argument rest xs is ∙ ap (list_indicator (argument_width argument)) (sym row.1))
+    ∙ ap (λ m. Ok (ListTree Map (inside (list_indicator (argument_width argument) (pairs_len (pairs_of xs.0))) m), xs.1)) row.0)
 map_shown None (Some other) argument rest shows = absurd shows
 map_shown (Some one) None argument rest shows = absurd shows
 
 number_shown : (make : Width → ℕ → Tree OneItem) (made : Width → ℕ → Value) (argument : Option (Width × ℕ)) (rest : List ℕ) → ((w : Width) (n : ℕ) → make w n ≡ tree_of (made w n)) → number_by make argument rest ≡ shown tree_of (number_by made argument rest)
 number_shown make made None rest same = refl
 number_shown make made (Some (w, n)) rest same = ap (λ t. Ok (t, rest)) (same w n)
+
+pub shown_again : {A B C : Type 0} (f : A → B) (g : B → C) (r : Reads A) → shown g (shown f r) ≡ shown (λ x. g (f x)) r
+shown_again f g (Ok x) = refl
+shown_again f g (Err e) = refl
+
+string_shown : (k : StringKind) (argument : Option (Width × ℕ)) (rest : List ℕ) → string_by trees k argument rest ≡ shown tree_of (string_by (makes false) k argument rest)
+string_shown k None rest = sym (shown_again (chunks k) tree_of (until Break (chunk_at k) (suc (length rest)) rest))
+string_shown k (Some (w, n)) rest = sym (shown_again (string k w) tree_of (string_at k n rest))
 
 abbrev other_value : ℕ → Option (Width × ℕ) → Reads Value
 other_value major argument = other_by major argument
@@ -188,7 +206,9 @@ unfolding item_by
 item_by_shown i j major argument rest shows =
     choice (eqb major 0) _ _ _ _ (number_shown (λ w n. number_tree (pos n) w n) unsigned argument rest (λ w n. refl))
     (choice (eqb major 1) _ _ _ _ (number_shown (λ w n. number_tree (negsuc n) w n) negative argument rest (λ w n. refl))
-    (choice (eqb major 4) _ _ _ _ (array_shown i j argument rest shows) (choice (eqb major 5) _ _ _ _ (map_shown i j argument rest shows) (other_shown major argument))))
+    (choice (eqb major 2) _ _ _ _ (string_shown Bytes argument rest)
+    (choice (eqb major 3) _ _ _ _ (string_shown Text argument rest)
+    (choice (eqb major 4) _ _ _ _ (array_shown i j argument rest shows) (choice (eqb major 5) _ _ _ _ (map_shown i j argument rest shows) (other_shown major argument))))))
 
 head_step : {H A B : Type 0} (f : A → B) (r : Result H CborError) (k : H → Reads B) (l : H → Reads A) → ((h : H) → k h ≡ shown f (l h)) → (r >>= k) ≡ shown f (r >>= l)
 head_step f (Ok h) k l next = next h

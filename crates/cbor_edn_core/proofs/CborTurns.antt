@@ -1,11 +1,48 @@
 -- Reading several of a kind, as a loop does.
-use Rattle.std.proofs.Common.{◌≡◌, ℕ, zero, suc, ◌-◌, ◌+◌, ◌≤◌, ◌<◌, List, [], ◌∷◌, ◌++◌, Some, None, Ok, Err, refl, sym, ap, ◌∙◌, append_assoc, arith}
-use Rattle.std.proofs.lemmas.List.{append-nil}
+use Rattle.std.proofs.Common.{◌≡◌, ℕ, zero, suc, ◌-◌, ◌+◌, ◌≤◌, ◌<◌, List, [], ◌∷◌, ◌++◌, map, Some, None, Result, Ok, Err, refl, sym, ap, subst, ◌∙◌, append_assoc, arith}
+use Rattle.std.proofs.lemmas.List.{append-nil, map_push}
 use Rattle.cbor_edn_core.specs.declared.from_cbor.CborError.{CborError}
 use Rattle.cbor_edn_core.specs.declared.from_cbor.reader.Stop.{Stop}
 use Rattle.cbor_edn_parts.specs.declared.error.Fault.{Fault}
 use Rattle.cbor_edn_parts.specs.declared.error.Fault.TheVariants.{Memory, Told}
-use Rattle.cbor_edn_core.specs.CborReading.{Reads, Reader, ◌>>=◌, Fails, many, until, past, turn, head_at, item_at, Makes}
+use Rattle.cbor_edn_core.specs.CborReading.{Reads, Reader, ◌>>=◌, shown, Gives, Fails, many, until, past, turn, head_at, item_at, Makes}
+
+-- ---- what is seen by a function
+
+abbrev refusal : {A : Type 0} → CborError → Reads A
+refusal e = Err e
+
+abbrev answer : {A : Type 0} → A → Result A CborError
+answer x = Ok x
+
+answers : {A : Type 0} (x y : A) → answer x ≡ answer y → x ≡ y
+answers x y e = cc
+
+pub shown_ok : {A B : Type 0} (f : A → B) (r : Reads A) (y : B × List ℕ) → shown f r ≡ Ok y → (x : A × List ℕ) × (r ≡ Ok x) × ((f x.0, x.1) ≡ y)
+shown_ok f (Ok x) y e = (x, refl, answers (f x.0, x.1) y e)
+shown_ok f (Err e) y is = absurd cc
+
+pub shown_err : {A B : Type 0} (f : A → B) (r : Reads A) (e : CborError) → shown f r ≡ Err e → r ≡ Err e
+shown_err f (Ok x) e is = absurd cc
+shown_err {A} f (Err d) e is = let same : d ≡ e = cc in ap (λ c. refusal {A = A} c) same
+
+-- a refusal is seen as it is
+pub shown_fails : {A B : Type 0} (f : A → B) (e : Fault CborError) (r : Reads A) → Fails e r → Fails e (shown f r)
+shown_fails f (Memory m) r h = tt
+shown_fails f (Told e) r h = rw h refl
+
+pub fails_shown : {A B : Type 0} (f : A → B) (e : Fault CborError) (r : Reads A) → Fails e (shown f r) → Fails e r
+fails_shown f (Memory m) r h = tt
+fails_shown f (Told e) r h = shown_err f r e h
+
+-- one entry more
+pub pushed_shown : {X A Y : Type 0} (view : X → A) (front : List X) (x : X) (rest : List ℕ) (of : Y → List X × List ℕ) (r : Result Y (Fault CborError)) (read : Reads A) → read ≡ Ok (view x, rest) → Gives of r (Ok (front ++ x ∷ [], rest))
+    → Gives (λ y. (map view (of y).0, (of y).1)) r (shown (λ a. map view front ++ a ∷ []) read)
+pushed_shown view front x rest of (Ok y) read is given =
+    let same : (front ++ x ∷ [], rest) ≡ of y = answers _ _ given in
+    rw is (ap (λ l. Ok (l, rest)) (sym (map_push view front x)) ∙ ap (λ p. Ok (map view p.0, p.1)) same)
+pushed_shown view front x rest of (Err (Memory m)) read is given = tt
+pushed_shown view front x rest of (Err (Told e)) read is given = absurd cc
 
 -- what was read before, and what is still read
 abbrev pub with_front : {A : Type 0} → List A → Reads (List A) → Reads (List A)
@@ -43,6 +80,13 @@ goes_on one front count i bytes after a total lt h so_far =
     let step : many one (count - i) bytes ≡ (many one (count - (i + 1)) after >>= λ xs. Ok (a ∷ xs.0, xs.1)) = ap (λ n. many one n bytes) k ∙ many_more one (count - (i + 1)) bytes after a h in
     sym (ap (with_front front) step ∙ regroup front a (many one (count - (i + 1)) after)) ∙ so_far
 
+-- one more, seen with those in front of it
+pub goes_on_with : {A : Type 0} → (one : Reader A) (front : List A) (count i : ℕ) (bytes after : List ℕ) (more : List A) (total : Reads (List A)) → i < count → shown (λ a. front ++ a ∷ []) (one bytes) ≡ Ok (more, after)
+    → with_front front (many one (count - i) bytes) ≡ total → with_front more (many one (count - (i + 1)) after) ≡ total
+goes_on_with {A} one front count i bytes after more total lt h so_far =
+    let s = shown_ok (λ a. front ++ a ∷ []) (one bytes) (more, after) h in
+    subst (λ (p : List A × List ℕ). with_front p.0 (many one (count - (i + 1)) p.1) ≡ total) s.2 (goes_on one front count i bytes s.0.1 s.0.0 total lt s.1 so_far)
+
 pub fails : {A : Type 0} → (e : Fault CborError) (one : Reader A) (front : List A) (count i : ℕ) (bytes : List ℕ) (total : Reads (List A)) → i < count → Fails e (one bytes)
     → with_front front (many one (count - i) bytes) ≡ total → Fails e total
 fails (Memory m) one front count i bytes total lt h so_far = tt
@@ -67,6 +111,12 @@ pub until_more : {A : Type 0} → (stop : Stop) (one : Reader A) (front : List A
 until_more stop one front n bytes after a total lt going h so_far =
     let step : until stop one n bytes ≡ (until stop one (n - 1) after >>= λ xs. Ok (a ∷ xs.0, xs.1)) = turns stop one n bytes lt ∙ rw (going, h) refl in
     sym (ap (with_front front) step ∙ regroup front a (until stop one (n - 1) after)) ∙ so_far
+
+pub until_more_with : {A : Type 0} → (stop : Stop) (one : Reader A) (front : List A) (n : ℕ) (bytes after : List ℕ) (more : List A) (total : Reads (List A)) → 0 < n → past stop bytes ≡ None → shown (λ a. front ++ a ∷ []) (one bytes) ≡ Ok (more, after)
+    → with_front front (until stop one n bytes) ≡ total → with_front more (until stop one (n - 1) after) ≡ total
+until_more_with {A} stop one front n bytes after more total lt going h so_far =
+    let s = shown_ok (λ a. front ++ a ∷ []) (one bytes) (more, after) h in
+    subst (λ (p : List A × List ℕ). with_front p.0 (until stop one (n - 1) p.1) ≡ total) s.2 (until_more stop one front n bytes s.0.1 s.0.0 total lt going s.1 so_far)
 
 pub until_fails : {A : Type 0} → (stop : Stop) (e : Fault CborError) (one : Reader A) (front : List A) (n : ℕ) (bytes : List ℕ) (total : Reads (List A)) → 0 < n → past stop bytes ≡ None → Fails e (one bytes)
     → with_front front (until stop one n bytes) ≡ total → Fails e total

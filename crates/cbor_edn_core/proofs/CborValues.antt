@@ -3,7 +3,7 @@ use Rattle.std.proofs.Common.{◌≡◌, ℕ, List, [], ◌∷◌, Bool, cond, O
 use Rattle.cbor_edn_core.specs.declared.cbor.Width.{Width}
 use Rattle.cbor_edn_core.specs.Value as cbor
 use Rattle.cbor_edn_core.specs.Value.{Value, array, Values, no_values, value, Pairs, no_pairs, pair, object}
-use Rattle.cbor_edn_core.specs.CborReading.{Argument, Reader, Makes, MakesMore, item_at}
+use Rattle.cbor_edn_core.specs.CborReading.{Argument, Reader, Makes, item_at}
 
 abbrev pub values_of : List Value → Values
 values_of [] = no_values
@@ -33,18 +33,17 @@ abbrev pub argument_width : Argument → Option Width
 argument_width None = None
 argument_width (Some (w, n)) = Some w
 
-abbrev pub strings : MakesMore Value
-strings = record { byte_string = cbor.byte_string; chunks = cbor.chunks; tag = cbor.tag }
-
--- byte strings and tags too, or the values alone that have items
+-- tags too, or the values alone that have items
 abbrev pub makes : Bool → Makes Value (Value × Value)
 makes all = record {
   unsigned = cbor.unsigned;
   negative = cbor.negative;
+  string = cbor.string;
+  chunks = cbor.chunks;
   array = λ argument vs. array (argument_width argument) (values_of vs);
   pair = λ k v. (k, v);
   object = λ argument ps. object (argument_width argument) (pairs_of ps);
-  more = cond all (Some strings) None;
+  tag = cond all (Some cbor.tag) None;
 }
 
 abbrev pub value_at : Bool → ℕ → Reader Value

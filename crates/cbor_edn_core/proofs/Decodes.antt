@@ -6,15 +6,16 @@ use Rattle.std.proofs.lemmas.Bool.{cases_lt, eqb-true}
 use Rattle.std.proofs.lemmas.List.{append-nil}
 use Rattle.cbor_edn_parts.specs.declared.error.Fault.{Fault}
 use Rattle.cbor_edn_parts.specs.declared.error.Fault.TheVariants.{Memory, Told}
-use Rattle.cbor_edn_parts.specs.Leaves.{s_bytes}
 use Rattle.cbor_edn_parts.specs.declared.number.Number.{Number}
+use Rattle.cbor_edn_parts.specs.declared.string.Literal.{Literal}
+use Rattle.cbor_edn_parts.specs.declared.string.Dots.{Dots}
 use Rattle.cbor_edn_parts.specs.declared.space.S.{S}
 use Rattle.cbor_edn_parts.specs.declared.space.Ms.{Ms}
 use Rattle.cbor_edn_parts.specs.declared.space.Msc.{Msc}
 use Rattle.cbor_edn_parts.specs.declared.space.Soc.{Soc}
 use Rattle.cbor_edn_core.specs.declared.tree.Items.{Items as ItemsOf}
 use Rattle.cbor_edn_core.specs.declared.tree.Texts.{Texts}
-use Rattle.cbor_edn_core.specs.View.{texts, view_items, sequence_tree}
+use Rattle.cbor_edn_core.specs.View.{texts, view_items, view_some}
 use Rattle.cbor_edn_core.specs.declared.from_cbor.CborError.{CborError}
 use Rattle.cbor_edn_core.specs.declared.from_cbor.CborError.TheVariants.{TooDeep}
 use Rattle.cbor_edn_core.specs.declared.from_cbor.reader.Stop.TheVariants.{EndOfData}
@@ -22,18 +23,19 @@ use Rattle.cbor_edn_core.specs.Items.{Elements, Node, Item, Items}
 use Rattle.cbor_edn_core.specs.Trees.{Tree, OneItem, Rest, Seq, NothingTree, SequenceTree, items}
 use Rattle.cbor_edn_core.specs.Value.{Value, Values, encoding, encodings, nesting, values_nesting, Enc, EncAll}
 use Rattle.cbor_edn_core.specs.Meaning.{means}
-use Rattle.cbor_edn_core.specs.Refusals.{IfTold}
+use Rattle.cbor_edn_parts.specs.Refusals.{IfTold}
 use Rattle.cbor_edn_core.specs.Decoded.{item_of, items_of, regular, sequence_tree_of, regular_sequence, Begins, IsDecoded, IsDecodedSequence, NoneIs, IsTooDeep, NoSequence, IsTooDeepSequence}
-use Rattle.cbor_edn_core.specs.CborReading.{◌>>=◌, Reads, Reader, Gives, Fails, item_at, until, past, turn, trees, element_row, sequence_at}
+use Rattle.cbor_edn_core.specs.CborReading.{◌>>=◌, Reader, Gives, Fails, shown, item_at, until, past, turn, trees, element_row, sequence_at}
 use Rattle.cbor_edn_core.proofs.Readable.{with_item, with_items, has_item, has_items}
 use Rattle.cbor_edn_core.proofs.CborHeads.{IsBytes, bind_ok}
+use Rattle.cbor_edn_core.proofs.CborTurns.{shown_ok, shown_err}
 use Rattle.cbor_edn_core.proofs.CborValues.{values_of, list_of, value_at}
 use Rattle.cbor_edn_core.proofs.CborOutcomes.{outcome, within, beyond, values_many}
 use Rattle.cbor_edn_core.proofs.CborAgain.{item_again, values_until}
 use Rattle.cbor_edn_core.proofs.CborTakes.{Within, item_takes, until_takes, values_are}
 use Rattle.cbor_edn_core.proofs.CborDeep.{item_deep, until_deep}
-use Rattle.cbor_edn_core.proofs.CborTrees.{tree_of, tree_of_item, row_tree_of_items, shown, tree_read, until_shown, values_row}
-use Rattle.cbor_edn_core.proofs.Decoding.{row_items, items_again, item_means, items_mean}
+use Rattle.cbor_edn_core.proofs.CborTrees.{tree_of, tree_of_item, row_tree_of_items, tree_read, until_shown, values_row}
+use Rattle.cbor_edn_core.proofs.Decoding.{row_items, items_again, row_again, item_means, items_mean}
 
 -- ---- results
 
@@ -51,15 +53,6 @@ answer_refused x e is = cc
 
 same_refusal : {A : Type 0} (d e : CborError) → refusal {A = A} d ≡ refusal e → d ≡ e
 same_refusal d e is = cc
-
--- what was shown
-shown_ok : {A B : Type 0} (f : A → B) (r : Reads A) (y : B × List ℕ) → shown f r ≡ Ok y → (x : A × List ℕ) × (r ≡ Ok x) × ((f x.0, x.1) ≡ y)
-shown_ok f (Ok x) y e = (x, refl, answers (f x.0, x.1) y e)
-shown_ok f (Err e) y is = absurd cc
-
-shown_err : {A B : Type 0} (f : A → B) (r : Reads A) (e : CborError) → shown f r ≡ Err e → r ≡ Err e
-shown_err f (Ok x) e is = absurd cc
-shown_err {A} {B} f (Err d) e is = ap (λ d. refusal d) (same_refusal {A = B × List ℕ} d e is)
 
 shown_outcome : {A B : Type 0} (f : A → B) (n limit : ℕ) (x : A) (rest : List ℕ) → shown f (outcome n limit (x, rest)) ≡ outcome n limit (f x, rest)
 shown_outcome f n limit x rest =
@@ -110,7 +103,7 @@ module _ (limit : ℕ) (bytes : List ℕ) where
       let x = has_item v good.0.2 in
       let tree : y.0 ≡ regular x.0 = ap (λ (p : Tree OneItem × List ℕ). p.0) (sym s.2) ∙ tree_of_item v x.0 x.1 in
       let rest_is : s.0.1 ≡ y.1 = ap (λ (p : Tree OneItem × List ℕ). p.1) s.2 in
-      (v, x.0, (encoding v, (good.0.0, refl), good.1.parts ∙ ap (λ (l : List ℕ). encoding v ++ l) rest_is), good.0.1, x.1, tree, ap (λ w. means (items w)) tree ∙ ap means (items_again x.0) ∙ item_means v x.0 good.0.0 x.1)
+      (v, x.0, (encoding v, (good.0.0, refl), good.1.parts ∙ ap (λ (l : List ℕ). encoding v ++ l) rest_is), good.0.1, x.1, tree, ap (λ w. means (items w)) tree ∙ ap means (items_again v x.0 x.1) ∙ item_means v x.0 good.0.0 x.1)
 
   pub refused : (e : CborError) → item_at trees limit bytes ≡ Err e → e ≢ TooDeep → NoneIs (Somewhere bytes)
   refused e is other v x item somewhere = other (outcome_err (nesting v) limit (tree_of v, somewhere.0) e (sym (tree_found v somewhere.0 somewhere.1 x item) ∙ is)).1
@@ -236,8 +229,8 @@ module _ (limit : ℕ) (bytes : List ℕ) where
   sequence_decoded w o ws rest fits e tree row =
       let f = sequence_found (ws, rest) fits e in
       let is : w ≡ regular_sequence f.1 = tree ∙ ap sequence_tree_of (row ∙ f.5) in
-      (f.0, f.1, f.2, f.3, f.4, is, ap (λ t. means (items t)) is ∙ ap means (sequence_items f.1 (regular f.1) (items_again f.1)) ∙ f.6)
+      (f.0, f.1, f.2, f.3, f.4, is, ap (λ t. means (items t)) is ∙ ap means (sequence_items f.1 (regular f.1) (row_again f.0 f.1 f.4)) ∙ f.6)
 
-pub sequence_view : (before : S) (o : Option (ItemsOf Texts S Ms Msc Soc Number)) → s_bytes before ≡ [] → sequence_tree (record { before = before; items = o }) ≡ sequence_tree_of (option_map (view_items texts) o)
-sequence_view before None e = ap NothingTree e
-sequence_view before (Some m) e = ap (λ s. SequenceTree s (view_items texts m)) e
+pub sequence_view : (s : List ℕ) (o : Option (ItemsOf Texts S Ms Msc Soc Number Literal Dots)) → s ≡ [] → view_some texts s o ≡ sequence_tree_of (option_map (view_items texts) o)
+sequence_view s None e = ap NothingTree e
+sequence_view s (Some m) e = ap (λ s. SequenceTree s (view_items texts m)) e

@@ -1,5 +1,5 @@
 -- What is decoded: the tree of an item that means its value, and what refusals say.
-use Rattle.std.proofs.Common.{◌≡◌, ℕ, ◌+◌, ◌^◌, ◌<◌, Bool, true, false, cond, ltb, Option, Some, None, refl, sym, ap, ◌∙◌, arith, inl, inr}
+use Rattle.std.proofs.Common.{◌≡◌, ℕ, ◌+◌, ◌^◌, ◌<◌, Bool, true, false, cond, ltb, List, [], ◌∷◌, length, map, Option, Some, None, refl, sym, ap, subst, ◌∙◌, arith, inl, inr}
 use Rattle.std.specs.Prelude.{pos, negsuc}
 use Rattle.std.specs.Fmt.{signed_decimal}
 use Rattle.std.proofs.lemmas.Bool.{cases_lt, lt-ltb, le-ltb}
@@ -7,15 +7,19 @@ use Rattle.cbor_edn_parts.specs.Number.{integer_of}
 use Rattle.cbor_edn_parts.proofs.Decimals.{integer_of_decimal}
 use Rattle.cbor_edn_parts.specs.declared.indicator.Indicator.{Indicator}
 use Rattle.cbor_edn_parts.specs.declared.indicator.Indicator.TheVariants as indicator
+use Rattle.cbor_edn_parts.specs.declared.string.StringKind.{StringKind}
+use Rattle.cbor_edn_parts.specs.declared.string.StringKind.TheVariants.{Bytes, Text}
+use Rattle.cbor_edn_parts.specs.Contents.{Content}
 use Rattle.cbor_edn_core.specs.declared.cbor.Width.{Width}
 use Rattle.cbor_edn_core.specs.declared.cbor.Width.TheVariants.{Immediate, One, Two, Four, Eight}
 use Rattle.cbor_edn_core.specs.Items as kind
-use Rattle.cbor_edn_core.specs.Items.{Row, Elements, Sort, Node, Item, Items, Entry, Entries, Number, Listed, Element, Pair, End, Then}
+use Rattle.cbor_edn_core.specs.Items.{Row, Strings, Bracketed, Array, Map, entries_of, Node, Item, Items, Entry, Entries, Number, Listed, String, Stream, Element, Pair, End, Then}
 use Rattle.cbor_edn_core.specs.Trees.{Tree, OneEntry, Rest, items}
-use Rattle.cbor_edn_core.specs.Value.{Value, unsigned, negative, byte_string, chunks, array, object, tag, Values, no_values, value, values_len, Pairs, no_pairs, pair, pairs_len, limit_of, ArgumentFits, LengthFits, Fits, ValuesFit, PairsFit}
-use Rattle.cbor_edn_core.specs.Meaning.{shortest, fitting, width_of, length_of, means_integer, bignum, means, listed}
+use Rattle.cbor_edn_core.specs.Value.{Value, unsigned, negative, Chunk, string, chunks, array, object, tag, Values, no_values, value, values_len, Pairs, no_pairs, pair, pairs_len, limit_of, ArgumentFits, LengthFits, ChunkFits, ChunksFit, Fits, ValuesFit, PairsFit}
+use Rattle.cbor_edn_core.specs.Meaning.{shortest, fitting, width_of, length_of, means_integer, bignum, chunk_of, string_of, chunks_of, stream_of, means, listed}
 use Rattle.cbor_edn_core.specs.Decoded as decoded
-use Rattle.cbor_edn_core.specs.Decoded.{if_below, indicator_of, list_indicator, item_of, items_of, in_front, inside, regular, Regular, sequence_tree_of, regular_sequence, Begins, IsDecoded, IsDecodedSequence, NoneIs, high_bytes, IsTooDeep, NoSequence, IsTooDeepSequence}
+use Rattle.cbor_edn_core.specs.Decoded.{indicator_of, list_indicator, string_item, chunk_items, chunked_item, item_of, items_of, in_front, inside, regular}
+use Rattle.cbor_edn_core.proofs.DecodedLiterals.{literal_again, empty_again}
 use Rattle.cbor_edn_core.proofs.MeaningSteps.{bind, both_steps, some_is}
 
 -- ---- the items of a regular tree
@@ -25,30 +29,87 @@ abbrev pub row_items : {k : Row} → Option (Tree (Rest k)) → Node (Entries k)
 row_items None = End
 row_items (Some m) = items m
 
-abbrev pub ItemsAgain : (s : Sort) → Regular s → Node s → Type 0
-ItemsAgain Item w x = items w ≡ x
-ItemsAgain (Entry k) w x = items w ≡ x
-ItemsAgain (Entries k) w x = row_items w ≡ x
-
-inside_items : {k : Row} (i : Option Indicator) (m : Option (Tree (Rest k))) → items (inside i m) ≡ (i, row_items m)
+inside_items : (k : Bracketed) (i : Option Indicator) (m : Option (Tree (Rest (entries_of k)))) → items (inside i m) ≡ (i, row_items m)
 unfolding items
-inside_items i None = refl
-inside_items None (Some m) = refl
-inside_items (Some i) (Some m) = refl
+inside_items k i None = refl
+inside_items k None (Some m) = refl
+inside_items k (Some i) (Some m) = refl
 
 in_front_items : {k : Row} (e : Tree (OneEntry k)) (m : Option (Tree (Rest k))) → items (in_front e m) ≡ Then (items e) (row_items m)
 unfolding items
 in_front_items e None = refl
 in_front_items e (Some m) = refl
 
-pub items_again : {s : Sort} (x : Node s) → ItemsAgain s (regular x) x
+-- The tree of an item has this item: not so that of a stream without strings, which is of no value.
+abbrev Again : Node Item → Type 0
+Again x = items (regular x) ≡ x
+
+abbrev RowAgain : {k : Row} → Node (Entries k) → Type 0
+RowAgain m = row_items (regular m) ≡ m
+
+listed_again : (k : Bracketed) (i : Option Indicator) (m : Node (Entries (entries_of k))) → RowAgain m → Again (Listed k i m)
 unfolding items regular
-items_again (Number x i) = refl
-items_again (Listed k i m) = ap (λ p. Listed k p.0 p.1) (inside_items i (regular m)) ∙ ap (Listed k i) (items_again m)
-items_again (Element w) = ap Element (items_again w)
-items_again (Pair v w) = ap (λ y. Pair y (items (regular w))) (items_again v) ∙ ap (Pair v) (items_again w)
-items_again End = refl
-items_again (Then e m) = in_front_items (regular e) (regular m) ∙ ap (λ y. Then y (row_items (regular m))) (items_again e) ∙ ap (Then e) (items_again m)
+listed_again k i m e = ap (λ p. Listed k p.0 p.1) (inside_items k i (regular m)) ∙ ap (Listed k i) e
+
+then_again : {k : Row} (e : Node (Entry k)) (m : Node (Entries k)) → items (regular e) ≡ e → RowAgain m → RowAgain (Then e m)
+unfolding items regular
+then_again e m first others = in_front_items (regular e) (regular m) ∙ ap (λ y. Then y (row_items (regular m))) first ∙ ap (Then e) others
+
+pair_again : (x y : Node Item) → Again x → Again y → items (regular (Pair x y)) ≡ Pair x y
+unfolding items regular
+pair_again x y first second = ap (λ z. Pair z (items (regular y))) first ∙ ap (Pair x) second
+
+element_again : (x : Node Item) → Again x → items (regular (Element x)) ≡ Element x
+unfolding items regular
+element_again x e = ap Element e
+
+chunk_items_again : (k : StringKind) (cs : List Chunk) → RowAgain (chunk_items k cs)
+unfolding items regular
+chunk_items_again k [] = refl
+chunk_items_again k (c ∷ cs) = then_again (kind.Chunk (string_item k c)) (chunk_items k cs) refl (chunk_items_again k cs)
+
+-- of a row that is not empty
+stream_again : (e : Node (Entry Strings)) (m : Node (Entries Strings)) → RowAgain (Then e m) → Again (Stream (Then e m))
+unfolding items regular
+stream_again e m again = ap Stream again
+
+chunked_again : (k : StringKind) (cs : List Chunk) → Again (chunked_item k cs)
+unfolding items regular
+chunked_again k [] = refl
+chunked_again k (c ∷ cs) = stream_again (kind.Chunk (string_item k c)) (chunk_items k cs) (chunk_items_again k (c ∷ cs))
+
+mutual
+  unfolding items regular
+
+  pub items_again : (v : Value) (x : Node Item) → item_of v ≡ Some x → Again x
+  items_again (unsigned w n) x e = subst Again (some_is _ x e) refl
+  items_again (negative w n) x e = subst Again (some_is _ x e) refl
+  items_again (string k w bs) x e = subst Again (some_is _ x e) refl
+  items_again (chunks k cs) x e = subst Again (some_is _ x e) (chunked_again k cs)
+  items_again (array w vs) x e =
+      let i = list_indicator w (values_len vs) in
+      let a = both_steps (items_of vs) (λ m. Some (Listed Array i m)) x e in
+      subst Again (some_is _ x a.2) (listed_again Array i a.0 (row_again vs a.0 a.1))
+  items_again (object w ps) x e =
+      let i = list_indicator w (pairs_len ps) in
+      let a = both_steps (decoded.pairs_of ps) (λ m. Some (Listed Map i m)) x e in
+      subst Again (some_is _ x a.2) (listed_again Map i a.0 (pair_row_again ps a.0 a.1))
+  items_again (tag w n v) x e = absurd cc
+
+  pub row_again : (vs : Values) (m : Items) → items_of vs ≡ Some m → RowAgain m
+  row_again no_values m e = subst RowAgain (some_is End m e) refl
+  row_again (value v vs) m e =
+      let a = both_steps (item_of v) (λ x. bind (items_of vs) (λ m. Some (Then (Element x) m))) m e in
+      let b = both_steps (items_of vs) (λ m. Some (Then (Element a.0) m)) m a.2 in
+      subst RowAgain (some_is _ m b.2) (then_again (Element a.0) b.0 (element_again a.0 (items_again v a.0 a.1)) (row_again vs b.0 b.1))
+
+  pair_row_again : (ps : Pairs) (m : Node (Entries kind.Pairs)) → decoded.pairs_of ps ≡ Some m → RowAgain m
+  pair_row_again no_pairs m e = subst RowAgain (some_is End m e) refl
+  pair_row_again (pair k v ps) m e =
+      let a = both_steps (item_of k) (λ x. bind (item_of v) (λ y. bind (decoded.pairs_of ps) (λ m. Some (Then (Pair x y) m)))) m e in
+      let b = both_steps (item_of v) (λ y. bind (decoded.pairs_of ps) (λ m. Some (Then (Pair a.0 y) m))) m a.2 in
+      let c = both_steps (decoded.pairs_of ps) (λ m. Some (Then (Pair a.0 b.0) m)) m b.2 in
+      subst RowAgain (some_is _ m c.2) (then_again (Pair a.0 b.0) c.0 (pair_again a.0 b.0 (items_again k a.0 a.1) (items_again v b.0 b.1)) (pair_row_again ps c.0 c.1))
 
 -- ---- the item of a value means the value
 
@@ -146,6 +207,51 @@ negative_means w n lt =
     let a : below n (2 ^ 64) = lt-ltb n (2 ^ 64) small in
     ap (λ o. bind o (means_integer (indicator_of w n))) is ∙ ap (λ b. cond b (bind (width_of (indicator_of w n) n) (λ w. Some (negative w n))) (bignum 3 n (n + 1) (indicator_of w n))) a ∙ ap (λ o. bind o (λ w. Some (negative w n))) (width_again w n lt).0
 
+-- ---- strings
+
+-- an indicator that names a width marks no string of indefinite length
+definite : (c : Content) (i : Option Indicator) (w : Width) → Names i w → string_of c i ≡ bind (chunk_of c i) (λ p. Some (string p.0 p.1.0 p.1.1))
+definite (k, b ∷ bs) i w named = refl
+definite (k, []) None w named = refl
+definite (k, []) (Some indicator.Indefinite) w named = absurd named
+definite (k, []) (Some _) w named = refl
+
+chunk_is : (k : StringKind) (c : Chunk) → ChunkFits k c → chunk_of (k, c.1) (indicator_of c.0 (length c.1)) ≡ Some (k, c)
+chunk_is k c fit = rw (fit.2, (width_again c.0 (length c.1) fit.0).0) refl
+
+string_item_means : (k : StringKind) (c : Chunk) → ChunkFits k c → means (string_item k c) ≡ Some (k, c.1)
+unfolding means
+string_item_means k c fit = literal_again k c.1 fit.1
+
+string_means : (k : StringKind) (w : Width) (bs : List ℕ) → ChunkFits k (w, bs) → means (String (string_item k (w, bs))) ≡ Some (string k w bs)
+unfolding means
+string_means k w bs fit =
+    let i = indicator_of w (length bs) in
+    ap (λ o. bind o (λ c. string_of c i)) (string_item_means k (w, bs) fit) ∙ definite (k, bs) i w (names w (length bs)) ∙ ap (λ o. bind o (λ p. Some (string p.0 p.1.0 p.1.1))) (chunk_is k (w, bs) fit)
+
+abbrev of_kind : StringKind → List Chunk → List (StringKind × Chunk)
+of_kind k cs = map (λ c. (k, c)) cs
+
+chunk_items_mean : (k : StringKind) (cs : List Chunk) → ChunksFit k cs → means (chunk_items k cs) ≡ Some (of_kind k cs)
+unfolding means
+chunk_items_mean k [] fit = refl
+chunk_items_mean k (c ∷ cs) fit =
+    ap (λ o. bind (bind o (λ d. chunk_of d (indicator_of c.0 (length c.1)))) (λ x. bind (means (chunk_items k cs)) (λ r. Some (x ∷ r)))) (string_item_means k c fit.0)
+    ∙ ap (λ o. bind o (λ x. bind (means (chunk_items k cs)) (λ r. Some (x ∷ r)))) (chunk_is k c fit.0)
+    ∙ ap (λ o. bind o (λ r. Some ((k, c) ∷ r))) (chunk_items_mean k cs fit.1)
+
+chunks_of_kind : (k : StringKind) (cs : List Chunk) → chunks_of k (of_kind k cs) ≡ Some cs
+chunks_of_kind k [] = refl
+chunks_of_kind Bytes (c ∷ cs) = ap (λ o. bind o (λ ds. Some (c ∷ ds))) (chunks_of_kind Bytes cs)
+chunks_of_kind Text (c ∷ cs) = ap (λ o. bind o (λ ds. Some (c ∷ ds))) (chunks_of_kind Text cs)
+
+chunks_mean : (k : StringKind) (cs : List Chunk) → ChunksFit k cs → means (chunked_item k cs) ≡ Some (chunks k cs)
+unfolding means
+chunks_mean k [] fit = ap (λ o. bind o (λ c. string_of c (Some indicator.Indefinite))) (empty_again k)
+chunks_mean k (c ∷ cs) fit = ap (λ o. bind o stream_of) (chunk_items_mean k (c ∷ cs) fit) ∙ ap (λ o. bind o (λ ds. Some (chunks k ds))) (chunks_of_kind k (c ∷ cs))
+
+-- ---- items
+
 abbrev with_value : Node Item → Value → Option (Value × Value)
 with_value w x = bind (means w) (λ y. Some (x, y))
 
@@ -161,16 +267,16 @@ mutual
   pub item_means : (v : Value) (x : Node Item) → Fits v → item_of v ≡ Some x → means x ≡ Some v
   item_means (unsigned w n) x fit e = ap means (sym (some_is _ x e)) ∙ unsigned_means w n fit
   item_means (negative w n) x fit e = ap means (sym (some_is _ x e)) ∙ negative_means w n fit
-  item_means (byte_string w bs) x fit e = absurd cc
-  item_means (chunks cs) x fit e = absurd cc
+  item_means (string k w bs) x fit e = ap means (sym (some_is _ x e)) ∙ string_means k w bs fit
+  item_means (chunks k cs) x fit e = ap means (sym (some_is _ x e)) ∙ chunks_mean k cs fit
   item_means (array w vs) x fit e =
       let i = list_indicator w (values_len vs) in
-      let a = both_steps (items_of vs) (λ m. Some (Listed Elements i m)) x e in
-      ap means (sym (some_is _ x a.2)) ∙ ap (λ o. bind o (listed Elements i)) (items_mean vs a.0 fit.1 a.1) ∙ ap (λ o. bind o (λ w. Some (array w vs))) (length_again w (values_len vs) fit.0)
+      let a = both_steps (items_of vs) (λ m. Some (Listed Array i m)) x e in
+      ap means (sym (some_is _ x a.2)) ∙ ap (λ o. bind o (listed Array i)) (items_mean vs a.0 fit.1 a.1) ∙ ap (λ o. bind o (λ w. Some (array w vs))) (length_again w (values_len vs) fit.0)
   item_means (object w ps) x fit e =
       let i = list_indicator w (pairs_len ps) in
-      let a = both_steps (decoded.pairs_of ps) (λ m. Some (Listed kind.Pairs i m)) x e in
-      ap means (sym (some_is _ x a.2)) ∙ ap (λ o. bind o (listed kind.Pairs i)) (pairs_mean ps a.0 fit.1 a.1) ∙ ap (λ o. bind o (λ w. Some (object w ps))) (length_again w (pairs_len ps) fit.0)
+      let a = both_steps (decoded.pairs_of ps) (λ m. Some (Listed Map i m)) x e in
+      ap means (sym (some_is _ x a.2)) ∙ ap (λ o. bind o (listed Map i)) (pairs_mean ps a.0 fit.1 a.1) ∙ ap (λ o. bind o (λ w. Some (object w ps))) (length_again w (pairs_len ps) fit.0)
   item_means (tag w n v) x fit e = absurd cc
 
   pub items_mean : (vs : Values) (m : Items) → ValuesFit vs → items_of vs ≡ Some m → means m ≡ Some vs

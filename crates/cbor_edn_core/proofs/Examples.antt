@@ -1,88 +1,119 @@
 -- Texts read with a limit, computed.
-use Rattle.std.proofs.Common.{[], ◌∷◌, ◌≡◌, refl}
+use Rattle.std.proofs.Common.{ℕ, List, [], ◌∷◌, ◌≡◌, refl}
 use Rattle.std.specs.Prelude.{Some, None, Ok, Err}
 use Rattle.cbor_edn_parts.specs.declared.error.ParseErrorKind.TheVariants.{Invalid, TooDeep}
 use Rattle.cbor_edn_parts.specs.declared.indicator.Indicator.TheVariants.{Immediate, Two}
 use Rattle.cbor_edn_parts.specs.Bytes.{kind}
 use Rattle.cbor_edn_parts.specs.Indicator.{indicator_at, word_at}
 use Rattle.cbor_edn_parts.specs.Lex.{munch, push}
-use Rattle.cbor_edn_core.specs.Items.{Elements, Pairs, Number, Listed, Element, Pair, End, Then}
-use Rattle.cbor_edn_core.specs.Trees.{Seq, Unmarked, Marked, NumberTree, ListTree, ElementTree, PairTree, EmptyTree, FullTree, LastTree, MoreTree, SequenceTree, items, text, onto}
+use Rattle.cbor_edn_core.specs.Items.{Array, Map, Number, Listed, Element, Pair, End, Then}
+use Rattle.cbor_edn_core.specs.Trees.{OneItem, Seq, Unmarked, Marked, Tree, NumberTree, ListTree, StringTree, StreamTree, LiteralTree, DotsTree, EmbeddedTree, LastPieceTree, PlusTree, ElementTree, PairTree, ChunkTree, EmptyTree, FullTree, LastTree, MoreTree, NothingTree, SequenceTree, items, text, onto, joins}
 use Rattle.cbor_edn_core.specs.Marks.{marks}
-use Rattle.cbor_edn_core.specs.Reading.{reads_all, reads, read, byte, not_empty, head_of, number_item, list_item, item, entry, inside_full, inside, more, rest, sequence, ◌>>=◌}
+use Rattle.cbor_edn_core.specs.Reading.{reads_all, reads, read, byte, not_empty, head_of, starts_string, number_item, list_item, stream_item, string_item, item, literal_piece, dots_piece, embedded_piece, piece, plus_string, string, entry, inside_full, inside, more, rest, sequence, ◌>>=◌}
 
--- [1, 0x1f, []]
-three : reads_all 2 Seq (91 ∷ 49 ∷ 44 ∷ 32 ∷ 48 ∷ 120 ∷ 49 ∷ 102 ∷ 44 ∷ 32 ∷ 91 ∷ 93 ∷ 93 ∷ []) ≡ Ok (SequenceTree [] (LastTree (ElementTree (ListTree Elements (FullTree Unmarked [] (MoreTree (ElementTree (NumberTree (49 ∷ []) None)) (44 ∷ 32 ∷ []) (MoreTree (ElementTree (NumberTree (48 ∷ 120 ∷ 49 ∷ 102 ∷ []) None)) (44 ∷ 32 ∷ []) (LastTree (ElementTree (ListTree Elements (EmptyTree None []))) [])))))) []))
-unfolding reads_all reads read byte not_empty head_of number_item list_item item entry inside_full inside more rest sequence ◌>>=◌ indicator_at word_at kind munch push
-three = refl
+abbrev Reads : ℕ → List ℕ → Tree Seq → Type 0
+Reads limit xs w = reads_all limit Seq xs ≡ Ok w
 
--- {1:2}
-one_pair : reads_all 1 Seq (123 ∷ 49 ∷ 58 ∷ 50 ∷ 125 ∷ []) ≡ Ok (SequenceTree [] (LastTree (ElementTree (ListTree Pairs (FullTree Unmarked [] (LastTree (PairTree (NumberTree (49 ∷ []) None) [] [] (NumberTree (50 ∷ []) None)) [])))) []))
-unfolding reads_all reads read byte not_empty head_of number_item list_item item entry inside_full inside more rest sequence ◌>>=◌ indicator_at word_at kind munch push
-one_pair = refl
+abbrev Refused : List ℕ → Type 0
+Refused xs = reads_all 9 Seq xs ≡ Err Invalid
 
--- { .5_1 : 0x1p-2 }
-spaced_pair : reads_all 1 Seq (123 ∷ 32 ∷ 46 ∷ 53 ∷ 95 ∷ 49 ∷ 32 ∷ 58 ∷ 32 ∷ 48 ∷ 120 ∷ 49 ∷ 112 ∷ 45 ∷ 50 ∷ 32 ∷ 125 ∷ []) ≡ Ok (SequenceTree [] (LastTree (ElementTree (ListTree Pairs (FullTree Unmarked (32 ∷ []) (LastTree (PairTree (NumberTree (46 ∷ 53 ∷ []) (Some Two)) (32 ∷ []) (32 ∷ []) (NumberTree (48 ∷ 120 ∷ 49 ∷ 112 ∷ 45 ∷ 50 ∷ []) None)) (32 ∷ []))))) []))
-unfolding reads_all reads read byte not_empty head_of number_item list_item item entry inside_full inside more rest sequence ◌>>=◌ indicator_at word_at kind munch push
-spaced_pair = refl
+abbrev Deep : ℕ → List ℕ → Type 0
+Deep limit xs = reads_all limit Seq xs ≡ Err TooDeep
 
--- [_1 1]
-marked : reads_all 1 Seq (91 ∷ 95 ∷ 49 ∷ 32 ∷ 49 ∷ 93 ∷ []) ≡ Ok (SequenceTree [] (LastTree (ElementTree (ListTree Elements (FullTree (Marked Two (32 ∷ [])) [] (LastTree (ElementTree (NumberTree (49 ∷ []) None)) [])))) []))
-unfolding reads_all reads read byte not_empty head_of number_item list_item item entry inside_full inside more rest sequence ◌>>=◌ indicator_at word_at kind munch push
-marked = refl
+-- a sequence of one item, without space
+abbrev alone : Tree OneItem → Tree Seq
+alone w = SequenceTree [] (LastTree (ElementTree w) [])
 
--- {_1}
-marked_empty : reads_all 1 Seq (123 ∷ 95 ∷ 49 ∷ 125 ∷ []) ≡ Ok (SequenceTree [] (LastTree (ElementTree (ListTree Pairs (EmptyTree (Some Two) []))) []))
-unfolding reads_all reads read byte not_empty head_of number_item list_item item entry inside_full inside more rest sequence ◌>>=◌ indicator_at word_at kind munch push
-marked_empty = refl
+-- Numbers and lists.
+lists :
+    -- [1, 0x1f, []]
+    Reads 2 (91 ∷ 49 ∷ 44 ∷ 32 ∷ 48 ∷ 120 ∷ 49 ∷ 102 ∷ 44 ∷ 32 ∷ 91 ∷ 93 ∷ 93 ∷ []) (alone (ListTree Array (FullTree Unmarked [] (MoreTree (ElementTree (NumberTree (49 ∷ []) None)) (44 ∷ 32 ∷ []) (MoreTree (ElementTree (NumberTree (48 ∷ 120 ∷ 49 ∷ 102 ∷ []) None)) (44 ∷ 32 ∷ []) (LastTree (ElementTree (ListTree Array (EmptyTree None []))) []))))))
+    -- {1:2}
+    × Reads 1 (123 ∷ 49 ∷ 58 ∷ 50 ∷ 125 ∷ []) (alone (ListTree Map (FullTree Unmarked [] (LastTree (PairTree (NumberTree (49 ∷ []) None) [] [] (NumberTree (50 ∷ []) None)) []))))
+    -- { .5_1 : 0x1p-2 }
+    × Reads 1 (123 ∷ 32 ∷ 46 ∷ 53 ∷ 95 ∷ 49 ∷ 32 ∷ 58 ∷ 32 ∷ 48 ∷ 120 ∷ 49 ∷ 112 ∷ 45 ∷ 50 ∷ 32 ∷ 125 ∷ []) (alone (ListTree Map (FullTree Unmarked (32 ∷ []) (LastTree (PairTree (NumberTree (46 ∷ 53 ∷ []) (Some Two)) (32 ∷ []) (32 ∷ []) (NumberTree (48 ∷ 120 ∷ 49 ∷ 112 ∷ 45 ∷ 50 ∷ []) None)) (32 ∷ [])))))
+    -- [_1 1]
+    × Reads 1 (91 ∷ 95 ∷ 49 ∷ 32 ∷ 49 ∷ 93 ∷ []) (alone (ListTree Array (FullTree (Marked Two (32 ∷ [])) [] (LastTree (ElementTree (NumberTree (49 ∷ []) None)) []))))
+    -- {_1}
+    × Reads 1 (123 ∷ 95 ∷ 49 ∷ 125 ∷ []) (alone (ListTree Map (EmptyTree (Some Two) [])))
+unfolding reads_all reads read byte not_empty head_of starts_string joins number_item list_item stream_item string_item item literal_piece dots_piece embedded_piece piece plus_string string entry inside_full inside more rest sequence ◌>>=◌ indicator_at word_at kind munch push
+lists = (refl, refl, refl, refl, refl)
+
+-- Strings.
+strings :
+    -- h'00'_1: a prefix and an indicator
+    Reads 0 (104 ∷ 39 ∷ 48 ∷ 48 ∷ 39 ∷ 95 ∷ 49 ∷ []) (alone (StringTree (LastPieceTree (LiteralTree (104 ∷ 39 ∷ 48 ∷ 48 ∷ 39 ∷ []) (Some Two)))))
+    -- "a" + 'b'+...
+    × Reads 0 (34 ∷ 97 ∷ 34 ∷ 32 ∷ 43 ∷ 32 ∷ 39 ∷ 98 ∷ 39 ∷ 43 ∷ 46 ∷ 46 ∷ 46 ∷ []) (alone (StringTree (PlusTree (LiteralTree (34 ∷ 97 ∷ 34 ∷ []) None) (32 ∷ []) (32 ∷ []) (PlusTree (LiteralTree (39 ∷ 98 ∷ 39 ∷ []) None) [] [] (LastPieceTree (DotsTree (46 ∷ 46 ∷ 46 ∷ [])))))))
+    -- (_ "a" + "b", "c")
+    × Reads 0 (40 ∷ 95 ∷ 32 ∷ 34 ∷ 97 ∷ 34 ∷ 32 ∷ 43 ∷ 32 ∷ 34 ∷ 98 ∷ 34 ∷ 44 ∷ 32 ∷ 34 ∷ 99 ∷ 34 ∷ 41 ∷ []) (alone (StreamTree (32 ∷ []) (MoreTree (ChunkTree (PlusTree (LiteralTree (34 ∷ 97 ∷ 34 ∷ []) None) (32 ∷ []) (32 ∷ []) (LastPieceTree (LiteralTree (34 ∷ 98 ∷ 34 ∷ []) None)))) (44 ∷ 32 ∷ []) (LastTree (ChunkTree (LastPieceTree (LiteralTree (34 ∷ 99 ∷ 34 ∷ []) None))) []))))
+    -- <<1 ,>>_1
+    × Reads 1 (60 ∷ 60 ∷ 49 ∷ 32 ∷ 44 ∷ 62 ∷ 62 ∷ 95 ∷ 49 ∷ []) (alone (StringTree (LastPieceTree (EmbeddedTree (SequenceTree [] (LastTree (ElementTree (NumberTree (49 ∷ []) None)) (32 ∷ 44 ∷ []))) (Some Two)))))
+    -- <<>>
+    × Reads 1 (60 ∷ 60 ∷ 62 ∷ 62 ∷ []) (alone (StringTree (LastPieceTree (EmbeddedTree (NothingTree []) None))))
+    -- "a" +1: a plus sign in front of a digit begins a number
+    × Reads 0 (34 ∷ 97 ∷ 34 ∷ 32 ∷ 43 ∷ 49 ∷ []) (SequenceTree [] (MoreTree (ElementTree (StringTree (LastPieceTree (LiteralTree (34 ∷ 97 ∷ 34 ∷ []) None)))) (32 ∷ []) (LastTree (ElementTree (NumberTree (43 ∷ 49 ∷ []) None)) [])))
+    -- ... .5
+    × Reads 0 (46 ∷ 46 ∷ 46 ∷ 32 ∷ 46 ∷ 53 ∷ []) (SequenceTree [] (MoreTree (ElementTree (StringTree (LastPieceTree (DotsTree (46 ∷ 46 ∷ 46 ∷ []))))) (32 ∷ []) (LastTree (ElementTree (NumberTree (46 ∷ 53 ∷ []) None)) [])))
+unfolding reads_all reads read byte not_empty head_of starts_string joins number_item list_item stream_item string_item item literal_piece dots_piece embedded_piece piece plus_string string entry inside_full inside more rest sequence ◌>>=◌ indicator_at word_at kind munch push
+strings = (refl, refl, refl, refl, refl, refl, refl)
+
+-- What is refused.
+refused :
+    -- [,]
+    Refused (91 ∷ 44 ∷ 93 ∷ [])
+    -- [_11]: behind an indicator a space stands before the entries
+    × Refused (91 ∷ 95 ∷ 49 ∷ 49 ∷ 93 ∷ [])
+    -- [_1 1 _]: an indicator stands in front alone
+    × Refused (91 ∷ 95 ∷ 49 ∷ 32 ∷ 49 ∷ 32 ∷ 95 ∷ 93 ∷ [])
+    -- {1}: a key has a value
+    × Refused (123 ∷ 49 ∷ 125 ∷ [])
+    -- "a" + 1: a plus sign joins strings
+    × Refused (34 ∷ 97 ∷ 34 ∷ 32 ∷ 43 ∷ 32 ∷ 49 ∷ [])
+    -- ..: three dots or more
+    × Refused (46 ∷ 46 ∷ [])
+    -- (_ ): a stream has a string
+    × Refused (40 ∷ 95 ∷ 32 ∷ 41 ∷ [])
+    -- (_"a"): and a space in front
+    × Refused (40 ∷ 95 ∷ 34 ∷ 97 ∷ 34 ∷ 41 ∷ [])
+    -- (_ 1): and strings alone
+    × Refused (40 ∷ 95 ∷ 32 ∷ 49 ∷ 41 ∷ [])
+    -- <<1>: an embedded sequence has two brackets at its end
+    × Refused (60 ∷ 60 ∷ 49 ∷ 62 ∷ [])
+unfolding reads_all reads read byte not_empty head_of starts_string joins number_item list_item stream_item string_item item literal_piece dots_piece embedded_piece piece plus_string string entry inside_full inside more rest sequence ◌>>=◌ indicator_at word_at kind munch push
+refused = (refl, refl, refl, refl, refl, refl, refl, refl, refl, refl)
+
+-- What nests too deep.
+too_deep :
+    -- [[]]
+    Deep 1 (91 ∷ 91 ∷ 93 ∷ 93 ∷ [])
+    -- {1:{}}
+    × Deep 1 (123 ∷ 49 ∷ 58 ∷ 123 ∷ 125 ∷ 125 ∷ [])
+    -- <<<<>>>>
+    × Deep 1 (60 ∷ 60 ∷ 60 ∷ 60 ∷ 62 ∷ 62 ∷ 62 ∷ 62 ∷ [])
+    -- (_ <<1>>)
+    × Deep 0 (40 ∷ 95 ∷ 32 ∷ 60 ∷ 60 ∷ 49 ∷ 62 ∷ 62 ∷ 41 ∷ [])
+unfolding reads_all reads read byte not_empty head_of starts_string joins number_item list_item stream_item string_item item literal_piece dots_piece embedded_piece piece plus_string string entry inside_full inside more rest sequence ◌>>=◌ indicator_at word_at kind munch push
+too_deep = (refl, refl, refl, refl)
+
+-- What stands first decides: `[[` is too deep before it is unfinished, and `1][` is refused before anything is too deep.
+first_decides :
+    -- [[
+    Deep 1 (91 ∷ 91 ∷ [])
+    -- 1][
+    × reads_all 0 Seq (49 ∷ 93 ∷ 91 ∷ []) ≡ Err Invalid
+unfolding reads_all reads read byte not_empty head_of starts_string joins number_item list_item stream_item string_item item literal_piece dots_piece embedded_piece piece plus_string string entry inside_full inside more rest sequence ◌>>=◌ indicator_at word_at kind munch push
+first_decides = (refl, refl)
 
 -- the items of `1_i {1 : 2}`
-items_alone : items (SequenceTree [] (MoreTree (ElementTree (NumberTree (49 ∷ []) (Some Immediate))) (32 ∷ []) (LastTree (ElementTree (ListTree Pairs (FullTree Unmarked [] (LastTree (PairTree (NumberTree (49 ∷ []) None) (32 ∷ []) (32 ∷ []) (NumberTree (50 ∷ []) None)) [])))) []))) ≡ Then (Element (Number (49 ∷ []) (Some Immediate))) (Then (Element (Listed Pairs None (Then (Pair (Number (49 ∷ []) None) (Number (50 ∷ []) None)) End))) End)
+items_alone : items (SequenceTree [] (MoreTree (ElementTree (NumberTree (49 ∷ []) (Some Immediate))) (32 ∷ []) (LastTree (ElementTree (ListTree Map (FullTree Unmarked [] (LastTree (PairTree (NumberTree (49 ∷ []) None) (32 ∷ []) (32 ∷ []) (NumberTree (50 ∷ []) None)) [])))) []))) ≡ Then (Element (Number (49 ∷ []) (Some Immediate))) (Then (Element (Listed Map None (Then (Pair (Number (49 ∷ []) None) (Number (50 ∷ []) None)) End))) End)
 unfolding items
 items_alone = refl
 
 -- and its text
-text_alone : text (SequenceTree [] (MoreTree (ElementTree (NumberTree (49 ∷ []) (Some Immediate))) (32 ∷ []) (LastTree (ElementTree (ListTree Pairs (FullTree Unmarked [] (LastTree (PairTree (NumberTree (49 ∷ []) None) (32 ∷ []) (32 ∷ []) (NumberTree (50 ∷ []) None)) [])))) []))) ≡ 49 ∷ 95 ∷ 105 ∷ 32 ∷ 123 ∷ 49 ∷ 32 ∷ 58 ∷ 32 ∷ 50 ∷ 125 ∷ []
+text_alone : text (SequenceTree [] (MoreTree (ElementTree (NumberTree (49 ∷ []) (Some Immediate))) (32 ∷ []) (LastTree (ElementTree (ListTree Map (FullTree Unmarked [] (LastTree (PairTree (NumberTree (49 ∷ []) None) (32 ∷ []) (32 ∷ []) (NumberTree (50 ∷ []) None)) [])))) []))) ≡ 49 ∷ 95 ∷ 105 ∷ 32 ∷ 123 ∷ 49 ∷ 32 ∷ 58 ∷ 32 ∷ 50 ∷ 125 ∷ []
 unfolding onto
 text_alone = refl
-
--- [,]
-comma_refused : reads_all 2 Seq (91 ∷ 44 ∷ 93 ∷ []) ≡ Err Invalid
-unfolding reads_all reads read byte not_empty head_of number_item list_item item entry inside_full inside more rest sequence ◌>>=◌ indicator_at word_at kind munch push
-comma_refused = refl
-
--- Behind an indicator a space stands before the entries: [_11] is refused.
-no_space_refused : reads_all 2 Seq (91 ∷ 95 ∷ 49 ∷ 49 ∷ 93 ∷ []) ≡ Err Invalid
-unfolding reads_all reads read byte not_empty head_of number_item list_item item entry inside_full inside more rest sequence ◌>>=◌ indicator_at word_at kind munch push
-no_space_refused = refl
-
--- [_1 1 _]: an indicator stands in front alone.
-late_indicator_refused : reads_all 2 Seq (91 ∷ 95 ∷ 49 ∷ 32 ∷ 49 ∷ 32 ∷ 95 ∷ 93 ∷ []) ≡ Err Invalid
-unfolding reads_all reads read byte not_empty head_of number_item list_item item entry inside_full inside more rest sequence ◌>>=◌ indicator_at word_at kind munch push
-late_indicator_refused = refl
-
--- {1}: a key has a value.
-lone_key_refused : reads_all 2 Seq (123 ∷ 49 ∷ 125 ∷ []) ≡ Err Invalid
-unfolding reads_all reads read byte not_empty head_of number_item list_item item entry inside_full inside more rest sequence ◌>>=◌ indicator_at word_at kind munch push
-lone_key_refused = refl
-
--- [[]] nests two deep, and so does {1:{}}
-two_deep : reads_all 1 Seq (91 ∷ 91 ∷ 93 ∷ 93 ∷ []) ≡ Err TooDeep
-unfolding reads_all reads read byte not_empty head_of number_item list_item item entry inside_full inside more rest sequence ◌>>=◌ indicator_at word_at kind munch push
-two_deep = refl
-
-map_two_deep : reads_all 1 Seq (123 ∷ 49 ∷ 58 ∷ 123 ∷ 125 ∷ 125 ∷ []) ≡ Err TooDeep
-unfolding reads_all reads read byte not_empty head_of number_item list_item item entry inside_full inside more rest sequence ◌>>=◌ indicator_at word_at kind munch push
-map_two_deep = refl
-
--- What stands first decides: [[ is too deep before it is unfinished, and 1] is refused before anything is too deep.
-first_decides : reads_all 1 Seq (91 ∷ 91 ∷ []) ≡ Err TooDeep
-unfolding reads_all reads read byte not_empty head_of number_item list_item item entry inside_full inside more rest sequence ◌>>=◌ indicator_at word_at kind munch push
-first_decides = refl
-
-stray_end : reads_all 0 Seq (49 ∷ 93 ∷ 91 ∷ []) ≡ Err Invalid
-unfolding reads_all reads read byte not_empty head_of number_item list_item item entry inside_full inside more rest sequence ◌>>=◌ indicator_at word_at kind munch push
-stray_end = refl
 
 -- [<<1>>] has two opening marks, and so has {1:[]}
 two_marks : marks (91 ∷ 60 ∷ 60 ∷ 49 ∷ 62 ∷ 62 ∷ 93 ∷ []) ≡ 2

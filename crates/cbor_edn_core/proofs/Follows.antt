@@ -3,7 +3,7 @@ use Rattle.std.proofs.Common.{ℕ, List, [], ◌∷◌, ◌++◌, ◌≡◌, ref
 use Rattle.std.specs.Prelude.{Bool, true, false, Option, Some, None}
 use Rattle.std.proofs.lemmas.Bool.{both_ways}
 use Rattle.cbor_edn_parts.specs.declared.bytes.Kind.{Kind}
-use Rattle.cbor_edn_parts.specs.declared.bytes.Kind.TheVariants.{Blank, Tab, Lf, Slash, Hash, Comma, Open, Close, Plus, Minus, Zero, One, TwoToSeven, EightOrNine, Dot, B, E, HexLetter, O, P, X}
+use Rattle.cbor_edn_parts.specs.declared.bytes.Kind.TheVariants.{Blank, Tab, Lf, Slash, Hash, Comma, Close, Less, Quote, Plus, Minus, Zero, One, TwoToSeven, EightOrNine, Dot, B, E, HexLetter, O, P, X, Letter}
 use Rattle.cbor_edn_parts.specs.declared.indicator.Indicator.{Indicator}
 use Rattle.cbor_edn_parts.specs.Bytes.{kind, follows, closing, begins, Follow, Closes, Begins, is_closed}
 use Rattle.cbor_edn_parts.specs.Indicator.{indicator_text}
@@ -15,10 +15,13 @@ use Rattle.cbor_edn_parts.specs.declared.space.Within.TheVariants.{Between}
 use Rattle.cbor_edn_parts.specs.declared.space.Around.{Around}
 use Rattle.cbor_edn_parts.specs.declared.space.Around.TheVariants.{Before, After}
 use Rattle.cbor_edn_parts.specs.declared.number.Reached.{Reached}
-use Rattle.cbor_edn_parts.specs.declared.number.Reached.TheVariants.{Start}
-use Rattle.cbor_edn_core.specs.Items.{Row, Elements, Pairs}
+use Rattle.cbor_edn_parts.specs.declared.number.Reached.TheVariants.{Start, AfterZero, DecimalDigits, Fraction, ExponentDigits, HexadecimalDigits, BinaryExponentDigits, OctalDigits, BinaryDigits}
+use Rattle.cbor_edn_parts.specs.LiteralTokens.{literal, dots, literal_step, literal_final}
+use Rattle.cbor_edn_parts.specs.declared.string.InLiteral.{InLiteral}
+use Rattle.cbor_edn_parts.specs.declared.string.InLiteral.TheVariants.{Closed}
+use Rattle.cbor_edn_core.specs.Items.{Bracketed, Array, Map}
 use Rattle.cbor_edn_core.specs.Spelling.{ending}
-use Rattle.cbor_edn_core.specs.Trees.{OneItem, OneEntry, Rest, Tree, NumberTree, ListTree, ElementTree, PairTree, LastTree, MoreTree, onto, Valid}
+use Rattle.cbor_edn_parts.proofs.ByteKinds.{differs}
 use Rattle.cbor_edn_parts.proofs.Indicators.{Plain, begins-plain, Follow-plain}
 use Rattle.cbor_edn_parts.proofs.Tokens.{Halts, token_texts}
 
@@ -36,6 +39,15 @@ abbrev pub Solid : List ℕ → Type 0
 Solid [] = Unit {0}
 Solid (c ∷ r) = solid (kind c) ≡ true
 
+-- What may end a space: a comma ends it too.
+abbrev pub spaceless : Kind → Bool
+spaceless Comma = true
+spaceless k = solid k
+
+abbrev pub Spaceless : List ℕ → Type 0
+Spaceless [] = Unit {0}
+Spaceless (c ∷ r) = spaceless (kind c) ≡ true
+
 -- What a number begins with.
 abbrev pub numeric : Kind → Bool
 numeric Plus = true
@@ -47,23 +59,47 @@ numeric EightOrNine = true
 numeric Dot = true
 numeric _ = false
 
-space_stop : (k : Kind) (m : Within) → space_final m ≡ true → solid k ≡ true → space_step k m ≡ None
+-- What a string other than dots begins with.
+abbrev pub quoted : Kind → Bool
+quoted Quote = true
+quoted Less = true
+quoted B = true
+quoted E = true
+quoted HexLetter = true
+quoted O = true
+quoted P = true
+quoted X = true
+quoted Letter = true
+quoted _ = false
+
+solid-spaceless : (k : Kind) → solid k ≡ true → spaceless k ≡ true
+solid-spaceless Comma h = refl
+solid-spaceless k h = h
+
+space_stop : (k : Kind) (m : Within) → space_final m ≡ true → spaceless k ≡ true → space_step k m ≡ None
 space_stop Blank m e h = cc
 space_stop Tab m e h = cc
 space_stop Lf m e h = cc
 space_stop Slash m e h = cc
 space_stop Hash m e h = cc
-space_stop Comma m e h = cc
 space_stop _ Between e h = refl
 space_stop _ _ e h = cc
 
 separator_stop : (k : Kind) (m : Around) → separator_final m ≡ true → solid k ≡ true → separator_step k m ≡ None
 separator_stop Comma m e h = cc
-separator_stop k (Before m) e h = ap before (space_stop k m e h)
-separator_stop k (After m) e h = ap after (space_stop k m e h)
+separator_stop k (Before m) e h = ap before (space_stop k m e (solid-spaceless k h))
+separator_stop k (After m) e h = ap after (space_stop k m e (solid-spaceless k h))
 
 number_stop : (k : Kind) (m : Reached) → number_final m ≡ true → follows k ≡ true → number_step k m ≡ None
-number_stop Plus m e h = cc
+number_stop Plus AfterZero e h = refl
+number_stop Plus DecimalDigits e h = refl
+number_stop Plus Fraction e h = refl
+number_stop Plus ExponentDigits e h = refl
+number_stop Plus HexadecimalDigits e h = refl
+number_stop Plus BinaryExponentDigits e h = refl
+number_stop Plus OctalDigits e h = refl
+number_stop Plus BinaryDigits e h = refl
+number_stop Plus _ e h = cc
 number_stop Minus m e h = cc
 number_stop Zero m e h = cc
 number_stop One m e h = cc
@@ -87,21 +123,19 @@ closing-follows Close h = refl
 closing-follows _ h = cc
 
 begins-solid : (k : Kind) → begins k ≡ true → solid k ≡ true
-begins-solid Open h = refl
-begins-solid Plus h = refl
-begins-solid Minus h = refl
-begins-solid Zero h = refl
-begins-solid One h = refl
-begins-solid TwoToSeven h = refl
-begins-solid EightOrNine h = refl
-begins-solid Dot h = refl
-begins-solid _ h = cc
+begins-solid Blank h = cc
+begins-solid Tab h = cc
+begins-solid Lf h = cc
+begins-solid Slash h = cc
+begins-solid Hash h = cc
+begins-solid Comma h = cc
+begins-solid _ h = refl
 
 begins-open : (k : Kind) → begins k ≡ true → closing k ≡ false
 begins-open Close h = cc
 begins-open _ h = refl
 
-numeric-begins : (k : Kind) → numeric k ≡ true → begins k ≡ true
+pub numeric-begins : (k : Kind) → numeric k ≡ true → begins k ≡ true
 numeric-begins Plus h = refl
 numeric-begins Minus h = refl
 numeric-begins Zero h = refl
@@ -139,7 +173,11 @@ separator_first Comma n h = refl
 separator_first _ n h = cc
 
 -- The same over lists.
-pub halts_space : (r : List ℕ) → Solid r → Halts space r
+pub solid_spaceless : (r : List ℕ) → Solid r → Spaceless r
+solid_spaceless [] h = tt
+solid_spaceless (c ∷ r) h = solid-spaceless (kind c) h
+
+pub halts_space : (r : List ℕ) → Spaceless r → Halts space r
 halts_space [] h = tt
 halts_space (c ∷ r) h = λ m e. space_stop (kind c) m e h
 
@@ -150,6 +188,20 @@ halts_separator (c ∷ r) h = λ m e. separator_stop (kind c) m e h
 pub halts_number : (r : List ℕ) → Follow r → Halts number r
 halts_number [] h = tt
 halts_number (c ∷ r) h = λ m e. number_stop (kind c) m e h
+
+literal_stop : (c : ℕ) (m : InLiteral) → literal_final m ≡ true → literal_step c m ≡ None
+literal_stop c Closed e = refl
+literal_stop c _ e = cc
+
+-- A literal ends at its quote.
+pub halts_literal : (r : List ℕ) → Halts literal r
+halts_literal [] = tt
+halts_literal (c ∷ r) = λ m e. literal_stop c m e
+
+pub halts_dots : (r : List ℕ) → Follow r → Halts dots r
+unfolding kind
+halts_dots [] h = tt
+halts_dots (c ∷ r) h = λ m e. rw (differs follows c 46 h refl)
 
 pub closes_solid : (r : List ℕ) → Closes r → Solid r
 closes_solid [] h = tt
@@ -214,25 +266,25 @@ pub colon_follow : (r : List ℕ) → Follow (58 ∷ r)
 unfolding kind
 colon_follow r = refl
 
--- Trees.
-pub ending_closes : (k : Row) (r : List ℕ) → Closes (ending k ∷ r)
+-- A plus sign between two pieces.
+pub plus_solid : (r : List ℕ) → Solid (43 ∷ r)
 unfolding kind
-ending_closes Elements r = refl
-ending_closes Pairs r = refl
+plus_solid r = refl
 
-pub item_begins : (w : Tree OneItem) (r : List ℕ) → Valid w → Begins (onto w r)
-unfolding onto Valid kind
-item_begins (NumberTree [] i) r v = absurd (number_some v)
-item_begins (NumberTree (c ∷ x) i) r v = numeric-begins (kind c) (numeric_start c x v)
-item_begins (ListTree Elements w) r v = refl
-item_begins (ListTree Pairs w) r v = refl
+pub plus_follow : (r : List ℕ) → Follow (43 ∷ r)
+unfolding kind
+plus_follow r = refl
 
-pub entry_begins : {k : Row} (e : Tree (OneEntry k)) (r : List ℕ) → Valid e → Begins (onto e r)
-unfolding onto Valid
-entry_begins (ElementTree w) r v = item_begins w r v
-entry_begins (PairTree v s t w) r h = item_begins v _ h.0
+-- The bytes that end lists.
+pub ending_closes : (k : Bracketed) (r : List ℕ) → Closes (ending k ∷ r)
+unfolding kind
+ending_closes Array r = refl
+ending_closes Map r = refl
 
-pub rest_begins : {k : Row} (m : Tree (Rest k)) (r : List ℕ) → Valid m → Begins (onto m r)
-unfolding onto Valid
-rest_begins (LastTree e s) r v = entry_begins e _ v.0
-rest_begins (MoreTree e s m) r v = entry_begins e _ v.0
+pub stream_closes : (r : List ℕ) → Closes (41 ∷ r)
+unfolding kind
+stream_closes r = refl
+
+pub embedded_closes : (r : List ℕ) → Closes (62 ∷ r)
+unfolding kind
+embedded_closes r = refl

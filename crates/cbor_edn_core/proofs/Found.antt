@@ -12,14 +12,15 @@ use Rattle.cbor_edn_parts.specs.Lex as lex
 use Rattle.cbor_edn_parts.specs.Lex.{Table, is_token, munch}
 use Rattle.cbor_edn_parts.specs.SpaceTokens.{space, separator, is_empty, is_s}
 use Rattle.cbor_edn_parts.specs.NumberTokens.{number}
-use Rattle.cbor_edn_core.specs.Items.{Row, Elements, Pairs}
+use Rattle.cbor_edn_parts.specs.LiteralTokens.{literal, dots}
+use Rattle.cbor_edn_core.specs.Items.{Row, Elements, Pairs, Strings, Bracketed, Array, Map, entries_of}
 use Rattle.cbor_edn_core.specs.Spelling.{opening, ending}
-use Rattle.cbor_edn_core.specs.Trees.{Rule, OneItem, OneEntry, Inside, Rest, Seq, Standalone, Head, head_text, Tree, onto, IsHead, Valid, IsJoined, Joined, depth}
-use Rattle.cbor_edn_core.specs.Reading.{◌>>=◌, Reader, or_invalid, token, byte, not_empty, head_of, number_item, list_item, item, entry, inside_full, inside, more, rest, sequence, standalone, rule, read}
+use Rattle.cbor_edn_core.specs.Trees.{Rule, OneItem, OnePiece, OneString, OneEntry, Inside, Rest, Seq, Standalone, Head, head_text, Tree, onto, IsHead, Valid, IsJoined, Joined, depth, joins}
+use Rattle.cbor_edn_core.specs.Reading.{◌>>=◌, Reader, or_invalid, token, byte, not_empty, head_of, starts_string, number_item, list_item, stream_item, string_item, item, literal_piece, dots_piece, embedded_piece, piece, plus_string, string, entry, inside_full, inside, more, rest, sequence, standalone, rule, read}
 use Rattle.cbor_edn_core.specs.Marks.{marks}
 use Rattle.cbor_edn_parts.proofs.Indicators.{spec-found}
 use Rattle.cbor_edn_parts.proofs.Tokens.{Holds, nothing, just, munch-found, token_texts}
-use Rattle.cbor_edn_core.proofs.Marking.{marks_next, marks_end, marks_onto}
+use Rattle.cbor_edn_core.proofs.Marking.{marks_end, marks_between, marks_onto}
 
 -- Of an answer: what holds of the value, or what holds where it is too deep.
 pub data Meets {A : Type 0} (P : A → Type 0) (Deep : Type 0) : Result A ParseErrorKind → Type 0 where
@@ -92,35 +93,72 @@ module _ (g : ℕ → (s : Rule) → Reader s) (gs : (limit : ℕ) (s : Rule) (x
   unfolding number_item onto Valid Joined
   number-found limit xs = bound _ (taken number xs) (λ x v. fine (v.0, tt, v.1 ∙ ap (x.0 ++◌) (spec-found x.1), omega arith))
 
-  list-found : (limit : ℕ) (k : Row) (xs : List ℕ) → IsSound limit OneItem (opening k ∷ xs) (list_item g limit k xs)
+  list-found : (limit : ℕ) (k : Bracketed) (xs : List ℕ) → IsSound limit OneItem (opening k ∷ xs) (list_item g limit k xs)
   unfolding list_item onto Valid Joined
-  list-found zero Elements xs = deep (omega arith)
-  list-found zero Pairs xs = deep (omega arith)
+  list-found zero Array xs = deep (omega arith)
+  list-found zero Map xs = deep (omega arith)
   list-found (suc limit) k xs = bound _ (weaker (λ p v. v) (opened limit k xs) (gs limit (Inside k) xs)) (λ w v. bound _ (byte-found (ending k) w.1) (λ r e. fine (v.0, v.1, cc, omega (arith, v.3))))
     where
-      opened : (limit : ℕ) (k : Row) (xs : List ℕ) → limit < marks xs → suc limit < marks (opening k ∷ xs)
-      opened limit Elements xs d = omega arith
-      opened limit Pairs xs d = omega arith
+      opened : (limit : ℕ) (k : Bracketed) (xs : List ℕ) → limit < marks xs → suc limit < marks (opening k ∷ xs)
+      opened limit Array xs d = omega arith
+      opened limit Map xs d = omega arith
+
+  stream-found : (limit : ℕ) (xs : List ℕ) → IsSound limit OneItem (40 ∷ xs) (stream_item g limit xs)
+  unfolding stream_item onto Valid Joined
+  stream-found limit xs = bound _ (byte-found 95 xs) (λ r e. bound _ (taken space r) (λ s vs. bound _ (not_empty-found s.0) (λ t n. bound _ (later limit (Rest Strings) (40 ∷ xs) s.1 (rw (e, vs.1) (omega (arith, marks_end (40 ∷ 95 ∷ s.0) s.1)))) (λ m vm. bound _ (byte-found 41 m.1) (λ q d. fine ((rw n.1 (rw n.0 vs.0), vm.0), vm.1, cc, vm.3))))))
 
   item-found : (limit : ℕ) (xs : List ℕ) → IsSound limit OneItem xs (item g limit xs)
-  unfolding item
+  unfolding item string_item onto Valid Joined
   item-found limit [] = invalid
-  item-found limit (c ∷ xs) = chosen (eqb c 91) _ _ (λ e. rw (eqb-true c 91 e) (list-found limit Elements xs)) (λ n. chosen (eqb c 123) _ _ (λ e. rw (eqb-true c 123 e) (list-found limit Pairs xs)) (λ n. number-found limit (c ∷ xs)))
+  item-found limit (c ∷ xs) =
+      chosen (eqb c 91) _ _ (λ e. rw (eqb-true c 91 e) (list-found limit Array xs)) (λ n.
+      chosen (eqb c 123) _ _ (λ e. rw (eqb-true c 123 e) (list-found limit Map xs)) (λ n.
+      chosen (eqb c 40) _ _ (λ e. rw (eqb-true c 40 e) (stream-found limit xs)) (λ n.
+      chosen (starts_string (c ∷ xs)) _ _ (λ e. bound _ (gs limit OneString (c ∷ xs)) (λ w v. fine v)) (λ n. number-found limit (c ∷ xs)))))
 
-  -- a value behind a key, a space and a colon
-  value-marks : (v : Tree OneItem) (s r t xs ys : List ℕ) → xs ≡ onto v (s ++ (58 ∷ r)) → r ≡ t ++ ys → marks ys ≤ marks xs
-  value-marks v s r t xs ys e d = rw (e, d) (omega (arith, marks_end t ys, marks_next 58 (t ++ ys), marks_end s (58 ∷ (t ++ ys)), marks_onto v (s ++ (58 ∷ (t ++ ys)))))
+  literal-found : (limit : ℕ) (xs : List ℕ) → IsSound limit OnePiece xs (literal_piece g xs)
+  unfolding literal_piece onto Valid Joined
+  literal-found limit xs = bound _ (taken literal xs) (λ x v. fine (v.0, tt, v.1 ∙ ap (x.0 ++◌) (spec-found x.1), omega arith))
+
+  dots-found : (limit : ℕ) (xs : List ℕ) → IsSound limit OnePiece xs (dots_piece g xs)
+  unfolding dots_piece onto Valid Joined
+  dots-found limit xs = bound _ (taken dots xs) (λ x v. fine (v.0, tt, v.1, omega arith))
+
+  embedded-found : (limit : ℕ) (xs : List ℕ) → IsSound limit OnePiece (60 ∷ 60 ∷ xs) (embedded_piece g limit xs)
+  unfolding embedded_piece onto Valid Joined
+  embedded-found zero xs = deep (omega arith)
+  embedded-found (suc limit) xs = bound _ (weaker (λ p v. v) (λ d. omega arith) (gs limit Seq xs)) (λ w v. bound _ (byte-found 62 w.1) (λ q e. bound _ (byte-found 62 q) (λ r d. let i = spec-found r in fine (v.0, v.1, cc, omega (arith, v.3)))))
+
+  piece-found : (limit : ℕ) (xs : List ℕ) → IsSound limit OnePiece xs (piece g limit xs)
+  unfolding piece
+  piece-found limit [] = invalid
+  piece-found limit (c ∷ xs) =
+      chosen (eqb c 60) _ _ (λ e. rw (eqb-true c 60 e) (bound _ (byte-found 60 xs) (λ r d. rw d (embedded-found limit r)))) (λ n.
+      chosen (eqb c 46) _ _ (λ e. dots-found limit (c ∷ xs)) (λ n. literal-found limit (c ∷ xs)))
+
+  -- what stands behind a plus sign or a colon between spaces
+  behind-marks : {o : Rule} (v : Tree o) (c : ℕ) (s r t xs ys : List ℕ) → xs ≡ onto v (s ++ (c ∷ r)) → r ≡ t ++ ys → marks ys ≤ marks xs
+  behind-marks v c s r t xs ys e d = rw (e, d) (omega (arith, marks_between s c t ys, marks_onto v (s ++ (c ∷ (t ++ ys)))))
+
+  plus-found : (limit : ℕ) (xs : List ℕ) (p : Tree OnePiece × List ℕ) (s : List ℕ × List ℕ) → Sound limit OnePiece xs p → Took space p.1 s → IsSound limit OneString xs (plus_string g limit p.0 s.0 s.1)
+  unfolding plus_string onto Valid Joined
+  plus-found limit xs p s vp vs = bound _ (byte-found 43 s.1) (λ r e. bound _ (taken space r) (λ t vt. bound _ (later limit OneString xs t.1 (behind-marks p.0 43 s.0 r t.0 xs t.1 (cc) vt.1)) (λ w vw. fine ((vp.0, vs.0, vt.0, vw.0), (vp.1, vw.1), cc, omega (arith, vp.3, vw.3)))))
+
+  string-found : (limit : ℕ) (xs : List ℕ) → IsSound limit OneString xs (string g limit xs)
+  unfolding string onto Valid Joined
+  string-found limit xs = bound _ (gs limit OnePiece xs) (λ p vp. bound _ (taken space p.1) (λ s vs. chosen (joins s.1) _ _ (λ e. plus-found limit xs p s vp vs) (λ e. fine vp)))
 
   entry-found : (limit : ℕ) (k : Row) (xs : List ℕ) → IsSound limit (OneEntry k) xs (entry g limit k xs)
   unfolding entry onto Valid Joined
   entry-found limit Elements xs = bound _ (gs limit OneItem xs) (λ w v. fine v)
-  entry-found limit Pairs xs = bound _ (gs limit OneItem xs) (λ v vv. bound _ (taken space v.1) (λ s vs. bound _ (byte-found 58 s.1) (λ r e. bound _ (taken space r) (λ t vt. bound _ (later limit OneItem xs t.1 (value-marks v.0 s.0 r t.0 xs t.1 (cc) vt.1)) (λ w vw. fine ((vv.0, vs.0, vt.0, vw.0), (vv.1, vw.1), cc, omega (arith, vv.3, vw.3)))))))
+  entry-found limit Strings xs = bound _ (gs limit OneString xs) (λ w v. fine v)
+  entry-found limit Pairs xs = bound _ (gs limit OneItem xs) (λ v vv. bound _ (taken space v.1) (λ s vs. bound _ (byte-found 58 s.1) (λ r e. bound _ (taken space r) (λ t vt. bound _ (later limit OneItem xs t.1 (behind-marks v.0 58 s.0 r t.0 xs t.1 (cc) vt.1)) (λ w vw. fine ((vv.0, vs.0, vt.0, vw.0), (vv.1, vw.1), cc, omega (arith, vv.3, vw.3)))))))
 
-  inside_full-found : (limit : ℕ) (k : Row) (i : Option Indicator) (s xs ys : List ℕ) → is_s s ≡ true → xs ≡ indicator_text i ++ (s ++ ys) → IsSound limit (Inside k) xs (inside_full g limit k i s ys)
+  inside_full-found : (limit : ℕ) (k : Bracketed) (i : Option Indicator) (s xs ys : List ℕ) → is_s s ≡ true → xs ≡ indicator_text i ++ (s ++ ys) → IsSound limit (Inside k) xs (inside_full g limit k i s ys)
   unfolding inside_full onto Valid Joined
-  inside_full-found limit k i s xs ys v e = bound _ (head-found i s v) (λ h vh. bound _ (later limit (Rest k) xs ys (rw e (omega (arith, marks_end s ys, marks_end (indicator_text i) (s ++ ys))))) (λ m vm. fine ((vh.0, vh.1, vm.0), (vh.2, vm.1), e ∙ vh.3 ys ∙ ap (λ (r : List ℕ). head_text h.0 ++ (h.1 ++ r)) vm.2, vm.3)))
+  inside_full-found limit k i s xs ys v e = bound _ (head-found i s v) (λ h vh. bound _ (later limit (Rest (entries_of k)) xs ys (rw e (omega (arith, marks_end s ys, marks_end (indicator_text i) (s ++ ys))))) (λ m vm. fine ((vh.0, vh.1, vm.0), (vh.2, vm.1), e ∙ vh.3 ys ∙ ap (λ (r : List ℕ). head_text h.0 ++ (h.1 ++ r)) vm.2, vm.3)))
 
-  inside-found : (limit : ℕ) (k : Row) (xs : List ℕ) → IsSound limit (Inside k) xs (inside g limit k xs)
+  inside-found : (limit : ℕ) (k : Bracketed) (xs : List ℕ) → IsSound limit (Inside k) xs (inside g limit k xs)
   unfolding inside onto Valid Joined
   inside-found limit k xs = bound _ (taken space (indicator_at xs).1) (λ s v. let e : xs ≡ indicator_text (indicator_at xs).0 ++ (s.0 ++ s.1) = spec-found xs ∙ ap (indicator_text (indicator_at xs).0 ++◌) v.1 in chosen (is_closed s.1) _ _ (λ c. fine (v.0, tt, e, omega arith)) (λ c. inside_full-found limit k (indicator_at xs).0 s.0 xs s.1 v.0 e))
 
@@ -138,6 +176,8 @@ module _ (g : ℕ → (s : Rule) → Reader s) (gs : (limit : ℕ) (s : Rule) (x
 
   rule-found : (limit : ℕ) (s : Rule) (xs : List ℕ) → IsSound limit s xs (rule g limit s xs)
   rule-found limit OneItem xs = item-found limit xs
+  rule-found limit OnePiece xs = piece-found limit xs
+  rule-found limit OneString xs = string-found limit xs
   rule-found limit (OneEntry k) xs = entry-found limit k xs
   rule-found limit (Inside k) xs = inside-found limit k xs
   rule-found limit (Rest k) xs = rest-found limit k xs

@@ -1,4 +1,5 @@
 pub mod Again
+pub mod Begins
 pub mod Borrows
 pub mod CborAgain
 pub mod CborDeep
@@ -8,10 +9,12 @@ pub mod CborIntegers
 pub mod CborOneValue
 pub mod CborOutcomes
 pub mod CborRows
+pub mod CborStrings
 pub mod CborTakes
 pub mod CborTrees
 pub mod CborTurns
 pub mod CborValues
+pub mod DecodedLiterals
 pub mod Decodes
 pub mod Decoding
 pub mod Examples
@@ -28,6 +31,9 @@ pub mod Readable
 pub mod Rows
 pub mod Spelled
 pub mod Steps
+pub mod StringEncodes
+pub mod StringKinds
+pub mod StringTurns
 pub mod Texts
 pub mod Turns
 pub mod Views

@@ -1,23 +1,19 @@
--- The values that a reader makes: all, or those that have items.
+-- The values that a reader makes: all, or those that have items, which are those without tags.
 use Rattle.std.proofs.Common.{◌≡◌, Bool, true, false, Some, refl}
 use Rattle.std.specs.Prelude.{pos, negsuc}
 use Rattle.std.specs.Fmt.{signed_decimal}
-use Rattle.cbor_edn_core.specs.Items.{Node, Item, Entries, Items, Elements, Number, Listed, Element, Pair, End, Then}
+use Rattle.cbor_edn_core.specs.Items.{Node, Item, Entries, Items, Array, Map, Number, Listed, String, Element, Pair, End, Then}
 use Rattle.cbor_edn_core.specs.Items as kind
-use Rattle.cbor_edn_core.specs.Value.{Value, unsigned, negative, byte_string, chunks, array, object, tag, Values, no_values, value, Pairs, no_pairs, pair, values_len, pairs_len}
-use Rattle.cbor_edn_core.specs.Decoded.{item_of, items_of, pairs_of, indicator_of, list_indicator}
+use Rattle.cbor_edn_core.specs.Value.{Value, unsigned, negative, string, chunks, array, object, tag, Values, no_values, value, Pairs, no_pairs, pair, values_len, pairs_len}
+use Rattle.cbor_edn_core.specs.Decoded.{item_of, items_of, pairs_of, indicator_of, list_indicator, string_item, chunked_item}
 use Rattle.cbor_edn_core.proofs.MeaningSteps.{both_steps}
-
-abbrev pub Only : Bool → Type 0
-Only true = Unit {0}
-Only false = ⊥
 
 abbrev mutual
   pub Readable : Bool → Value → Type 0
   Readable all (unsigned w n) = Unit {0}
   Readable all (negative w n) = Unit {0}
-  Readable all (byte_string w bs) = Only all
-  Readable all (chunks cs) = Only all
+  Readable all (string k w bs) = Unit {0}
+  Readable all (chunks k cs) = Unit {0}
   Readable all (array w vs) = AllReadable all vs
   Readable all (object w ps) = PairsReadable all ps
   Readable true (tag w n v) = Readable true v
@@ -35,8 +31,8 @@ mutual
   pub readable : (v : Value) → Readable true v
   readable (unsigned w n) = tt
   readable (negative w n) = tt
-  readable (byte_string w bs) = tt
-  readable (chunks cs) = tt
+  readable (string k w bs) = tt
+  readable (chunks k cs) = tt
   readable (array w vs) = all_readable vs
   readable (object w ps) = pairs_readable ps
   readable (tag w n v) = readable v
@@ -54,8 +50,8 @@ mutual
   pub with_item : (v : Value) (x : Node Item) → item_of v ≡ Some x → Readable false v
   with_item (unsigned w n) x e = tt
   with_item (negative w n) x e = tt
-  with_item (byte_string w bs) x e = absurd cc
-  with_item (chunks cs) x e = absurd cc
+  with_item (string k w bs) x e = tt
+  with_item (chunks k cs) x e = tt
   with_item (array w vs) x e = let a = both_steps (items_of vs) _ x e in with_items vs a.0 a.1
   with_item (object w ps) x e = let a = both_steps (pairs_of ps) _ x e in with_pairs ps a.0 a.1
   with_item (tag w n v) x e = absurd cc
@@ -80,10 +76,10 @@ mutual
   pub has_item : (v : Value) → Readable false v → (x : Node Item) × (item_of v ≡ Some x)
   has_item (unsigned w n) known = (Number (signed_decimal (pos n)) (indicator_of w n), refl)
   has_item (negative w n) known = (Number (signed_decimal (negsuc n)) (indicator_of w n), refl)
-  has_item (byte_string w bs) known = absurd known
-  has_item (chunks cs) known = absurd known
-  has_item (array w vs) known = let m = has_items vs known in (Listed Elements (list_indicator w (values_len vs)) m.0, rw m.1 refl)
-  has_item (object w ps) known = let m = has_pairs ps known in (Listed kind.Pairs (list_indicator w (pairs_len ps)) m.0, rw m.1 refl)
+  has_item (string k w bs) known = (String (string_item k (w, bs)), refl)
+  has_item (chunks k cs) known = (chunked_item k cs, refl)
+  has_item (array w vs) known = let m = has_items vs known in (Listed Array (list_indicator w (values_len vs)) m.0, rw m.1 refl)
+  has_item (object w ps) known = let m = has_pairs ps known in (Listed Map (list_indicator w (pairs_len ps)) m.0, rw m.1 refl)
   has_item (tag w n v) known = absurd known
 
   pub has_items : (vs : Values) → AllReadable false vs → (m : Items) × (items_of vs ≡ Some m)

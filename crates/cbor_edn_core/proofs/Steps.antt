@@ -9,32 +9,51 @@ use Rattle.cbor_edn_parts.specs.Indicator.{indicator_text, indicator_at}
 use Rattle.cbor_edn_parts.specs.Lex.{Table}
 use Rattle.cbor_edn_parts.specs.SpaceTokens.{space, separator}
 use Rattle.cbor_edn_parts.specs.NumberTokens.{is_number}
-use Rattle.cbor_edn_core.specs.Items.{Row, Elements, Pairs}
+use Rattle.cbor_edn_parts.specs.LiteralTokens.{is_literal, are_dots}
+use Rattle.cbor_edn_core.specs.Items.{Row, Elements, Pairs, Strings, Bracketed, Array, Map, entries_of}
 use Rattle.cbor_edn_core.specs.Spelling.{ending}
-use Rattle.cbor_edn_core.specs.Trees.{Rule, OneItem, OneEntry, Inside, Rest, Seq, Standalone, head_text, Tree, NumberTree, ListTree, ElementTree, PairTree, EmptyTree, FullTree, LastTree, MoreTree, NothingTree, SequenceTree, StandaloneTree, onto, Valid, Joined, FollowOf, depth}
-use Rattle.cbor_edn_core.specs.Reading.{◌>>=◌, Reader, token, byte, head_of, number_item, list_item, item, entry, inside_full, inside, more, rest, sequence, standalone, rule, read, reads, outcome}
+use Rattle.cbor_edn_core.specs.Trees.{Rule, OneItem, OnePiece, OneString, OneEntry, Inside, Rest, Seq, Standalone, head_text, Tree, NumberTree, ListTree, StringTree, StreamTree, LiteralTree, DotsTree, EmbeddedTree, LastPieceTree, PlusTree, ElementTree, PairTree, ChunkTree, EmptyTree, FullTree, LastTree, MoreTree, NothingTree, SequenceTree, StandaloneTree, onto, Valid, Joined, FollowOf, depth, joins}
+use Rattle.cbor_edn_core.specs.Reading.{◌>>=◌, Reader, token, byte, not_empty, head_of, number_item, list_item, stream_item, string_item, item, literal_piece, dots_piece, embedded_piece, piece, plus_string, string, entry, inside_full, inside, more, rest, sequence, standalone, rule, read, reads, outcome}
 use Rattle.cbor_edn_parts.proofs.Indicators.{spec-found}
 use Rattle.cbor_edn_core.proofs.Follows.{number_some}
+use Rattle.cbor_edn_core.proofs.Begins.{literal_some, dots_begin}
 use Rattle.cbor_edn_core.proofs.Again.{size, positive, again}
 use Rattle.cbor_edn_core.proofs.Found.{Meets, invalid, deep, fine, weaker, taken, Sound, IsSound, found, byte-found, not_empty-found}
 
--- how many fewer steps a use of a rule takes than four a byte
+-- how many fewer steps a use of a rule takes than eight a byte
 abbrev extra : Rule → ℕ
-extra OneItem = 4
-extra (OneEntry k) = 3
-extra (Rest k) = 2
+extra OnePiece = 8
+extra OneString = 7
+extra OneItem = 6
+extra (OneEntry k) = 5
+extra (Rest k) = 4
 extra _ = 0
 
 number_length : (x : List ℕ) → is_number x ≡ true → 0 < length x
 number_length [] v = absurd (number_some v)
 number_length (c ∷ x) v = omega arith
 
-pub size_fits : {s : Rule} (w : Tree s) (r : List ℕ) → Valid w → size w + extra s + 4 * length r ≤ 4 * length (onto w r) + 1
+literal_length : (x : List ℕ) → is_literal x ≡ true → 0 < length x
+literal_length [] v = absurd (literal_some v)
+literal_length (c ∷ x) v = omega arith
+
+dots_length : (x : List ℕ) → are_dots x ≡ true → 0 < length x
+dots_length x v = rw (dots_begin x v).1 (omega arith)
+
+pub size_fits : {s : Rule} (w : Tree s) (r : List ℕ) → Valid w → size w + extra s + 8 * length r ≤ 8 * length (onto w r) + 1
 unfolding size onto Valid
 size_fits (NumberTree x i) r v = omega (arith, number_length x v, length-append x (indicator_text i ++ r), length-append (indicator_text i) r)
 size_fits (ListTree k w) r v = omega (arith, size_fits w (ending k ∷ r) v)
+size_fits (StringTree w) r v = omega (arith, size_fits w r v)
+size_fits (StreamTree ms m) r v = omega (arith, length-append ms (onto m (41 ∷ r)), size_fits m (41 ∷ r) v.1)
+size_fits (LiteralTree x i) r v = omega (arith, literal_length x v, length-append x (indicator_text i ++ r), length-append (indicator_text i) r)
+size_fits (DotsTree x) r v = omega (arith, dots_length x v, length-append x r)
+size_fits (EmbeddedTree w i) r v = omega (arith, size_fits w (62 ∷ 62 ∷ (indicator_text i ++ r)) v, length-append (indicator_text i) r)
+size_fits (LastPieceTree p) r v = omega (arith, size_fits p r v)
+size_fits (PlusTree p s t w) r h = omega (arith, size_fits p (s ++ (43 ∷ (t ++ onto w r))) h.0, size_fits w r h.3, length-append s (43 ∷ (t ++ onto w r)), length-append t (onto w r))
 size_fits (ElementTree w) r v = omega (arith, size_fits w r v)
 size_fits (PairTree v s t w) r h = omega (arith, size_fits v (s ++ (58 ∷ (t ++ onto w r))) h.0, size_fits w r h.3, length-append s (58 ∷ (t ++ onto w r)), length-append t (onto w r))
+size_fits (ChunkTree w) r v = omega (arith, size_fits w r v)
 size_fits (EmptyTree i s) r v = omega (arith, length-append (indicator_text i) (s ++ r), length-append s r)
 size_fits (FullTree h s m) r v = omega (arith, length-append (head_text h) (s ++ onto m r), length-append s (onto m r), size_fits m r v.2)
 size_fits (LastTree e s) r v = omega (arith, length-append s r, size_fits e (s ++ r) v.0)
@@ -56,6 +75,8 @@ reads-found limit s xs = found _ limit s xs
 -- What is left is shorter.
 abbrev least : Rule → ℕ
 least OneItem = 1
+least OnePiece = 1
+least OneString = 1
 least (OneEntry k) = 1
 least (Rest k) = 1
 least _ = 0
@@ -71,6 +92,8 @@ sound-shorter limit s xs p v = rw v.2 (left s p.0 p.1 v.0)
   where
     left : (s : Rule) (w : Tree s) (r : List ℕ) → Valid w → length r + least s ≤ length (onto w r)
     left OneItem w r v = omega (arith, size_fits w r v)
+    left OnePiece w r v = omega (arith, size_fits w r v)
+    left OneString w r v = omega (arith, size_fits w r v)
     left (OneEntry k) w r v = omega (arith, size_fits w r v)
     left (Rest k) w r v = omega (arith, size_fits w r v, positive w)
     left (Inside k) w r v = omega (arith, size_fits w r v, positive w)
@@ -80,7 +103,7 @@ sound-shorter limit s xs p v = rw v.2 (left s p.0 p.1 v.0)
 token-shorter : {State : Type 0} (T : Table State) (xs : List ℕ) → Meets (λ p. length p.1 ≤ length xs) (Unit {0}) (token T xs)
 token-shorter T xs = weaker {Deep = Unit {0}} (λ p t. rw t.1 (omega (arith, length-append p.0 p.1))) (λ d. tt) (taken T xs)
 
-byte-shorter : (b : ℕ) (xs : List ℕ) → Meets (λ r. length r ≤ length xs) (Unit {0}) (byte b xs)
+byte-shorter : (b : ℕ) (xs : List ℕ) → Meets (λ r. length r < length xs) (Unit {0}) (byte b xs)
 byte-shorter b xs = weaker {Deep = Unit {0}} (λ r e. rw e (omega arith)) (λ d. tt) (byte-found b xs)
 
 indicator-shorter : (xs : List ℕ) → length (indicator_at xs).1 ≤ length xs
@@ -98,57 +121,91 @@ same_then f h e (deep d) k = rw (← e)
 same_then f h e (fine p) k = rw (← e) (k _ p)
 
 abbrev rank : Rule → ℕ
-rank OneItem = 0
-rank (OneEntry k) = 1
-rank (Rest k) = 2
-rank _ = 3
+rank OnePiece = 0
+rank OneString = 1
+rank OneItem = 2
+rank (OneEntry k) = 3
+rank (Rest k) = 4
+rank _ = 5
 
 -- A rule's reading depends on shorter readings alone.
 module _ (g h : ℕ → (s : Rule) → Reader s) (gs : (limit : ℕ) (s : Rule) (xs : List ℕ) → Shortens s xs (g limit s xs)) where
   abbrev Agree : ℕ → Type 0
-  Agree n = (limit : ℕ) (s : Rule) (ys : List ℕ) → 4 * length ys + rank s < n → g limit s ys ≡ h limit s ys
+  Agree n = (limit : ℕ) (s : Rule) (ys : List ℕ) → 8 * length ys + rank s < n → g limit s ys ≡ h limit s ys
+
+  fewer : (m n : ℕ) → m ≤ n → Agree n → Agree m
+  fewer m n l a limit s ys b = a limit s ys (omega arith)
 
   -- one rule that is a reading of another, put into a tree
   alike : {B : Type 0} (limit : ℕ) (s : Rule) (xs : List ℕ) (f : Tree s × List ℕ → Result B ParseErrorKind) → g limit s xs ≡ h limit s xs → (g limit s xs >>= f) ≡ (h limit s xs >>= f)
   alike limit s xs f e = same_then f f e (gs limit s xs) (λ w l. refl)
 
-  list-same : (limit : ℕ) (k : Row) (xs : List ℕ) → Agree (4 * length xs + 4) → list_item g limit k xs ≡ list_item h limit k xs
+  list-same : (limit : ℕ) (k : Bracketed) (xs : List ℕ) → Agree (8 * length xs + 8) → list_item g limit k xs ≡ list_item h limit k xs
   unfolding list_item
   list-same zero k xs a = refl
   list-same (suc limit) k xs a = alike limit (Inside k) xs _ (a limit (Inside k) xs (omega arith))
 
-  item-same : (limit : ℕ) (xs : List ℕ) → Agree (4 * length xs) → item g limit xs ≡ item h limit xs
+  stream-same : (limit : ℕ) (xs : List ℕ) → Agree (8 * length xs + 8) → stream_item g limit xs ≡ stream_item h limit xs
+  unfolding stream_item
+  stream-same limit xs a = same_then _ _ refl (byte-shorter 95 xs) (λ r lr. same_then _ _ refl (token-shorter space r) (λ s ls. same_then _ _ refl (any (not_empty s.0)) (λ t u. alike limit (Rest Strings) s.1 _ (a limit (Rest Strings) s.1 (omega arith)))))
+
+  string_item-same : (limit : ℕ) (xs : List ℕ) → Agree (8 * length xs + 2) → string_item g limit xs ≡ string_item h limit xs
+  unfolding string_item
+  string_item-same limit xs a = alike limit OneString xs _ (a limit OneString xs (omega arith))
+
+  item-same : (limit : ℕ) (xs : List ℕ) → Agree (8 * length xs + 2) → item g limit xs ≡ item h limit xs
   unfolding item number_item
   item-same limit [] a = refl
-  item-same limit (c ∷ xs) a = rw (list-same limit Elements xs (λ l s ys b. a l s ys (omega arith)), list-same limit Pairs xs (λ l s ys b. a l s ys (omega arith)))
+  item-same limit (c ∷ xs) a = rw (list-same limit Array xs (fewer _ _ (omega arith) a), list-same limit Map xs (fewer _ _ (omega arith) a), stream-same limit xs (fewer _ _ (omega arith) a), string_item-same limit (c ∷ xs) a)
 
-  entry-same : (limit : ℕ) (k : Row) (xs : List ℕ) → Agree (4 * length xs + 1) → entry g limit k xs ≡ entry h limit k xs
+  embedded-same : (limit : ℕ) (xs : List ℕ) → Agree (8 * length xs + 8) → embedded_piece g limit xs ≡ embedded_piece h limit xs
+  unfolding embedded_piece
+  embedded-same zero xs a = refl
+  embedded-same (suc limit) xs a = alike limit Seq xs _ (a limit Seq xs (omega arith))
+
+  piece-same : (limit : ℕ) (xs : List ℕ) → Agree (8 * length xs) → piece g limit xs ≡ piece h limit xs
+  unfolding piece literal_piece dots_piece
+  piece-same limit [] a = refl
+  piece-same limit (c ∷ xs) a = rw (same_then (embedded_piece g limit) (embedded_piece h limit) refl (byte-shorter 60 xs) (λ r lr. embedded-same limit r (fewer _ _ (omega arith) a)))
+
+  plus-same : (limit : ℕ) (p : Tree OnePiece) (s xs : List ℕ) → Agree (8 * length xs) → plus_string g limit p s xs ≡ plus_string h limit p s xs
+  unfolding plus_string
+  plus-same limit p s xs a = same_then _ _ refl (byte-shorter 43 xs) (λ r lr. same_then _ _ refl (token-shorter space r) (λ t lt. alike limit OneString t.1 _ (a limit OneString t.1 (omega arith))))
+
+  string-same : (limit : ℕ) (xs : List ℕ) → Agree (8 * length xs + 1) → string g limit xs ≡ string h limit xs
+  unfolding string
+  string-same limit xs a = same_then _ _ (a limit OnePiece xs (omega arith)) (gs limit OnePiece xs) (λ p lp. same_then _ _ refl (token-shorter space p.1) (λ s ls. ap (λ r. cond (joins s.1) r (Ok (LastPieceTree p.0, p.1))) (plus-same limit p.0 s.0 s.1 (fewer _ _ (omega arith) a))))
+
+  entry-same : (limit : ℕ) (k : Row) (xs : List ℕ) → Agree (8 * length xs + 3) → entry g limit k xs ≡ entry h limit k xs
   unfolding entry
   entry-same limit Elements xs a = alike limit OneItem xs _ (a limit OneItem xs (omega arith))
+  entry-same limit Strings xs a = alike limit OneString xs _ (a limit OneString xs (omega arith))
   entry-same limit Pairs xs a = same_then _ _ (a limit OneItem xs (omega arith)) (gs limit OneItem xs) (λ v lv. same_then _ _ refl (token-shorter space v.1) (λ s ls. same_then _ _ refl (byte-shorter 58 s.1) (λ r lr. same_then _ _ refl (token-shorter space r) (λ t lt. alike limit OneItem t.1 _ (a limit OneItem t.1 (omega arith))))))
 
-  inside_full-same : (limit : ℕ) (k : Row) (i : Option Indicator) (s xs : List ℕ) → Agree (4 * length xs + 3) → inside_full g limit k i s xs ≡ inside_full h limit k i s xs
+  inside_full-same : (limit : ℕ) (k : Bracketed) (i : Option Indicator) (s xs : List ℕ) → Agree (8 * length xs + 5) → inside_full g limit k i s xs ≡ inside_full h limit k i s xs
   unfolding inside_full
-  inside_full-same limit k i s xs a = same_then _ _ refl (any (head_of i s)) (λ y u. alike limit (Rest k) xs _ (a limit (Rest k) xs (omega arith)))
+  inside_full-same limit k i s xs a = same_then _ _ refl (any (head_of i s)) (λ y u. alike limit (Rest (entries_of k)) xs _ (a limit (Rest (entries_of k)) xs (omega arith)))
 
-  inside-same : (limit : ℕ) (k : Row) (xs : List ℕ) → Agree (4 * length xs + 3) → inside g limit k xs ≡ inside h limit k xs
+  inside-same : (limit : ℕ) (k : Bracketed) (xs : List ℕ) → Agree (8 * length xs + 5) → inside g limit k xs ≡ inside h limit k xs
   unfolding inside
   inside-same limit k xs a = same_then _ _ refl (token-shorter space (indicator_at xs).1) (λ s ls. ap (cond (is_closed s.1) _) (inside_full-same limit k (indicator_at xs).0 s.0 s.1 (λ l s ys b. a l s ys (omega (arith, indicator-shorter xs)))))
 
-  rest-same : (limit : ℕ) (k : Row) (xs : List ℕ) → Agree (4 * length xs + 2) → rest g limit k xs ≡ rest h limit k xs
+  rest-same : (limit : ℕ) (k : Row) (xs : List ℕ) → Agree (8 * length xs + 4) → rest g limit k xs ≡ rest h limit k xs
   unfolding rest more
   rest-same limit k xs a = same_then _ _ (a limit (OneEntry k) xs (omega arith)) (gs limit (OneEntry k) xs) (λ e le. same_then _ _ refl (token-shorter separator e.1) (λ s ls. ap (cond (is_closed s.1) _) (same_then _ _ refl (not_empty-found {Deep = Unit {0}} s.0) (λ t n. alike limit (Rest k) s.1 _ (a limit (Rest k) s.1 (omega arith))))))
 
-  sequence-same : (limit : ℕ) (xs : List ℕ) → Agree (4 * length xs + 3) → sequence g limit xs ≡ sequence h limit xs
+  sequence-same : (limit : ℕ) (xs : List ℕ) → Agree (8 * length xs + 5) → sequence g limit xs ≡ sequence h limit xs
   unfolding sequence
   sequence-same limit xs a = same_then _ _ refl (token-shorter space xs) (λ s ls. ap (cond (is_closed s.1) _) (alike limit (Rest Elements) s.1 _ (a limit (Rest Elements) s.1 (omega arith))))
 
-  standalone-same : (limit : ℕ) (xs : List ℕ) → Agree (4 * length xs + 3) → standalone g limit xs ≡ standalone h limit xs
+  standalone-same : (limit : ℕ) (xs : List ℕ) → Agree (8 * length xs + 5) → standalone g limit xs ≡ standalone h limit xs
   unfolding standalone
   standalone-same limit xs a = same_then _ _ refl (token-shorter space xs) (λ s ls. alike limit OneItem s.1 _ (a limit OneItem s.1 (omega arith)))
 
-  rule-same : (limit : ℕ) (s : Rule) (xs : List ℕ) → Agree (4 * length xs + rank s) → rule g limit s xs ≡ rule h limit s xs
-  rule-same limit OneItem xs a = item-same limit xs (λ l s ys b. a l s ys (omega arith))
+  rule-same : (limit : ℕ) (s : Rule) (xs : List ℕ) → Agree (8 * length xs + rank s) → rule g limit s xs ≡ rule h limit s xs
+  rule-same limit OneItem xs a = item-same limit xs a
+  rule-same limit OnePiece xs a = piece-same limit xs (fewer _ _ (omega arith) a)
+  rule-same limit OneString xs a = string-same limit xs a
   rule-same limit (OneEntry k) xs a = entry-same limit k xs a
   rule-same limit (Inside k) xs a = inside-same limit k xs a
   rule-same limit (Rest k) xs a = rest-same limit k xs a
@@ -158,7 +215,7 @@ module _ (g h : ℕ → (s : Rule) → Reader s) (gs : (limit : ℕ) (s : Rule) 
 read-shorter : (f limit : ℕ) (s : Rule) (xs : List ℕ) → Shortens s xs (read f limit s xs)
 read-shorter f limit s xs = weaker (sound-shorter limit s xs) (λ d. tt) (found f limit s xs)
 
-agree : (f d limit : ℕ) (s : Rule) (xs : List ℕ) → 4 * length xs + rank s < f → 4 * length xs + rank s < d → read f limit s xs ≡ read d limit s xs
+agree : (f d limit : ℕ) (s : Rule) (xs : List ℕ) → 8 * length xs + rank s < f → 8 * length xs + rank s < d → read f limit s xs ≡ read d limit s xs
 unfolding read
 agree zero d limit s xs a b = absurd (omega arith)
 agree (suc f) zero limit s xs a b = absurd (omega arith)
@@ -167,10 +224,12 @@ agree (suc f) (suc d) limit s xs a b = rule-same (read f) (read d) (read-shorter
 -- Reading is its rules, with no word of steps.
 pub reads-rule : (limit : ℕ) (s : Rule) (xs : List ℕ) → reads limit s xs ≡ rule reads limit s xs
 unfolding reads read
-reads-rule limit s xs = agree (4 * length xs + 4) (suc (4 * length xs + rank s)) limit s xs (enough s (length xs)) (omega arith) ∙ rule-same (read (4 * length xs + rank s)) reads (read-shorter _) limit s xs (λ l t ys q. agree _ _ l t ys q (enough t (length ys)))
+reads-rule limit s xs = agree (8 * length xs + 8) (suc (8 * length xs + rank s)) limit s xs (enough s (length xs)) (omega arith) ∙ rule-same (read (8 * length xs + rank s)) reads (read-shorter _) limit s xs (λ l t ys q. agree _ _ l t ys q (enough t (length ys)))
   where
-    enough : (s : Rule) (n : ℕ) → 4 * n + rank s < 4 * n + 4
+    enough : (s : Rule) (n : ℕ) → 8 * n + rank s < 8 * n + 8
     enough OneItem n = omega arith
+    enough OnePiece n = omega arith
+    enough OneString n = omega arith
     enough (OneEntry k) n = omega arith
     enough (Rest k) n = omega arith
     enough _ n = omega arith

@@ -3,19 +3,56 @@ use Rattle.std.proofs.Common.{◌≡◌, ℕ, List, [], ◌∷◌, ◌++◌, ref
 use Rattle.std.proofs.lemmas.List.{append-nil}
 use Rattle.cbor_edn_parts.specs.declared.indicator.Indicator.{Indicator}
 use Rattle.cbor_edn_parts.specs.Indicator.{indicator_text}
-use Rattle.cbor_edn_core.specs.Items.{Row, Elements}
+use Rattle.cbor_edn_core.specs.Items.{Row, Elements, Strings, Bracketed, entries_of}
 use Rattle.cbor_edn_core.specs.Spelling.{opening, ending}
-use Rattle.cbor_edn_core.specs.Trees.{OneItem, OneEntry, Inside, Rest, Head, Tree, NumberTree, ListTree, ElementTree, PairTree, EmptyTree, FullTree, LastTree, MoreTree, NothingTree, SequenceTree, StandaloneTree, head_text, onto, text}
-use Rattle.cbor_edn_core.specs.View.{entries_onto, entries_text}
+use Rattle.cbor_edn_core.specs.Trees.{OneItem, OnePiece, OneString, OneEntry, Inside, Rest, Seq, Head, Tree, NumberTree, ListTree, StringTree, StreamTree, LiteralTree, DotsTree, EmbeddedTree, LastPieceTree, PlusTree, ElementTree, ChunkTree, PairTree, EmptyTree, FullTree, LastTree, MoreTree, NothingTree, SequenceTree, StandaloneTree, head_text, onto, text}
+use Rattle.cbor_edn_core.specs.View.{entries_onto, entries_text, pieces_onto, pieces_text}
 use Rattle.cbor_edn_core.proofs.Spelled.{parted}
 
 pub text_number : (x : List ℕ) (i : Option Indicator) → text (NumberTree x i) ≡ x ++ indicator_text i
 unfolding onto
 text_number x i = ap (λ t. x ++ t) (append-nil (indicator_text i))
 
-pub text_list : (k : Row) (w : Tree (Inside k)) → text (ListTree k w) ≡ opening k ∷ (text w ++ (ending k ∷ []))
+pub text_list : (k : Bracketed) (w : Tree (Inside k)) → text (ListTree k w) ≡ opening k ∷ (text w ++ (ending k ∷ []))
 unfolding onto
 text_list k w = ap (λ t. opening k ∷ t) (parted w (ending k ∷ []))
+
+pub text_string : (w : Tree OneString) → text (StringTree w) ≡ text w
+unfolding onto
+text_string w = refl
+
+pub text_stream : (ms : List ℕ) (m : Tree (Rest Strings)) → text (StreamTree ms m) ≡ 40 ∷ 95 ∷ (ms ++ (text m ++ (41 ∷ [])))
+unfolding onto
+text_stream ms m = ap (λ t. 40 ∷ 95 ∷ (ms ++ t)) (parted m (41 ∷ []))
+
+pub text_literal : (x : List ℕ) (i : Option Indicator) → text (LiteralTree x i) ≡ x ++ indicator_text i
+unfolding onto
+text_literal x i = ap (λ t. x ++ t) (append-nil (indicator_text i))
+
+pub text_dots : (x : List ℕ) → text (DotsTree x) ≡ x
+unfolding onto
+text_dots x = append-nil x
+
+pub text_embedded : (w : Tree Seq) (i : Option Indicator) → text (EmbeddedTree w i) ≡ 60 ∷ 60 ∷ (text w ++ (62 ∷ 62 ∷ indicator_text i))
+unfolding onto
+text_embedded w i = ap (λ t. 60 ∷ 60 ∷ t) (parted w (62 ∷ 62 ∷ (indicator_text i ++ [])) ∙ ap (λ t. text w ++ (62 ∷ 62 ∷ t)) (append-nil (indicator_text i)))
+
+pub text_last_piece : (p : Tree OnePiece) → text (LastPieceTree p) ≡ text p
+unfolding onto
+text_last_piece p = refl
+
+text_plus : (p : Tree OnePiece) (s t : List ℕ) (w : Tree OneString) → text (PlusTree p s t w) ≡ text p ++ (s ++ (43 ∷ (t ++ text w)))
+unfolding onto
+text_plus p s t w = parted p (s ++ (43 ∷ (t ++ text w)))
+
+-- pieces, each with a plus sign behind it
+pub text_pieces : (ps : List (Tree OnePiece × List ℕ × List ℕ)) (w : Tree OneString) → text (pieces_onto ps w) ≡ pieces_text ps ++ text w
+text_pieces [] w = refl
+text_pieces (p ∷ ps) w = text_plus p.0 p.1 p.2 (pieces_onto ps w) ∙ rw (text_pieces ps w) (simp append_assoc)
+
+pub text_chunk : (w : Tree OneString) → text (ChunkTree w) ≡ text w
+unfolding onto
+text_chunk w = refl
 
 pub text_element : (w : Tree OneItem) → text (ElementTree w) ≡ text w
 unfolding onto
@@ -25,13 +62,13 @@ pub text_pair : (v : Tree OneItem) (s t : List ℕ) (w : Tree OneItem) → text 
 unfolding onto
 text_pair v s t w = parted v (s ++ (58 ∷ (t ++ text w)))
 
-pub text_empty : (k : Row) (i : Option Indicator) (s : List ℕ) → text (EmptyTree {k = k} i s) ≡ indicator_text i ++ s
+pub text_empty : (k : Bracketed) (i : Option Indicator) (s : List ℕ) → text (EmptyTree {k = k} i s) ≡ indicator_text i ++ s
 unfolding onto
 text_empty k i s = ap (λ t. indicator_text i ++ t) (append-nil s)
 
-pub text_full : {k : Row} (h : Head) (s : List ℕ) (m : Tree (Rest k)) → text (FullTree h s m) ≡ head_text h ++ (s ++ text m)
+pub text_full : (k : Bracketed) (h : Head) (s : List ℕ) (m : Tree (Rest (entries_of k))) → text (FullTree {k = k} h s m) ≡ head_text h ++ (s ++ text m)
 unfolding onto
-text_full h s m = refl
+text_full k h s m = refl
 
 pub text_last : {k : Row} (e : Tree (OneEntry k)) (s : List ℕ) → text (LastTree e s) ≡ text e ++ s
 unfolding onto

@@ -1,7 +1,8 @@
 -- What the reader gives at a place, from what it gives for the parts, as the parser meets them.
-use Rattle.std.proofs.Common.{ℕ, zero, suc, List, [], ◌∷◌, ◌++◌, ◌≡◌, ◌≢◌, ◌+◌, ◌-◌, ◌<◌, length, refl, sym, ap, ◌∙◌, arith, length-append, map, Some, None, Ok, Err, true, false, Option, Result}
+use Rattle.std.proofs.Common.{ℕ, zero, suc, List, [], ◌∷◌, ◌++◌, ◌≡◌, ◌≢◌, ◌+◌, ◌-◌, ◌<◌, ◌≤◌, length, drop, refl, sym, ap, ◌∙◌, arith, length-append, length-drop, map, Some, None, Ok, Err, true, false, Option, Result}
 use Rattle.std.specs.Prelude.{eqb, cond}
 use Rattle.std.proofs.lemmas.List.{map-append}
+use Rattle.std.proofs.lemmas.Bool.{false≢true, eqb-true, false_from_ne_true, both_ways}
 use Rattle.std.proofs.lemmas.Bool.Decides.{nat_tests}
 use Rattle.cbor_edn_parts.specs.declared.error.ParseErrorKind.{ParseErrorKind}
 use Rattle.cbor_edn_parts.specs.declared.error.ParseErrorKind.TheVariants.{Invalid, TooDeep}
@@ -12,15 +13,16 @@ use Rattle.cbor_edn_parts.specs.declared.indicator.Indicator.{Indicator}
 use Rattle.cbor_edn_parts.specs.Indicator.{indicator_at}
 use Rattle.cbor_edn_parts.specs.Bytes.{is_closed}
 use Rattle.cbor_edn_parts.specs.Lex as lex
-use Rattle.cbor_edn_parts.specs.Lex.{Table, munch}
+use Rattle.cbor_edn_parts.specs.Lex.{Table, Accepts, munch}
 use Rattle.cbor_edn_parts.specs.SpaceTokens.{space, separator}
 use Rattle.cbor_edn_parts.specs.NumberTokens.{number}
-use Rattle.cbor_edn_core.specs.Items.{Row, Elements, Pairs}
+use Rattle.cbor_edn_core.specs.Items.{Row, Elements, Pairs, Bracketed, Array, Map, entries_of}
 use Rattle.cbor_edn_core.specs.Spelling.{opening, ending}
-use Rattle.cbor_edn_core.specs.Trees.{Rule, OneItem, OneEntry, Inside, Rest, Seq, Standalone, Head, Tree, NumberTree, ListTree, ElementTree, PairTree, EmptyTree, FullTree, LastTree, MoreTree, NothingTree, SequenceTree, StandaloneTree}
-use Rattle.cbor_edn_core.specs.Reading.{◌>>=◌, Read, token, byte, not_empty, number_item, list_item, item, entry, head_of, inside, inside_full, more, rest, sequence, standalone, reads, reads_all, at_end}
-use Rattle.cbor_edn_core.specs.ParserResults.{Fails, IsNotAt}
-use Rattle.cbor_edn_core.specs.Refusals.{IfTold}
+use Rattle.cbor_edn_core.specs.Trees.{Rule, OneItem, OneString, OneEntry, Inside, Rest, Seq, Standalone, Head, Tree, NumberTree, ListTree, StringTree, ElementTree, PairTree, EmptyTree, FullTree, LastTree, MoreTree, NothingTree, SequenceTree, StandaloneTree}
+use Rattle.cbor_edn_core.specs.Reading.{◌>>=◌, Read, token, byte, not_empty, number_item, list_item, string_item, stream_item, starts_string, item, entry, head_of, inside, inside_full, more, rest, sequence, standalone, reads, reads_all, at_end}
+use Rattle.cbor_edn_core.specs.ParserResults.{Fails, ReadsEnd, IsNotAt, behind_colon, parted}
+use Rattle.cbor_edn_parts.specs.Refusals.{IfTold}
+use Rattle.cbor_edn_parts.specs.declared.space.read.End.{End}
 use Rattle.cbor_edn_core.specs.View.{entries_onto}
 use Rattle.cbor_edn_parts.proofs.Tokens.{munch-took}
 use Rattle.cbor_edn_core.proofs.Steps.{reads-rule}
@@ -38,6 +40,11 @@ pub fails_at : {A : Type 0} (e : Fault Refusal) (r s : Result A ParseErrorKind) 
 fails_at (Memory m) r s same h = tt
 fails_at (Told x) r s same h = same ∙ h
 
+-- what ends somewhere, as another reading that is the same
+pub ends_same : {X Y : Type 0} (view : X → Y) (text : List ℕ) (r : Result (X × End) (Fault Refusal)) (a b : Read Y) → b ≡ a → ReadsEnd view text r a → ReadsEnd view text r b
+ends_same view text (Ok p) a b e h = e ∙ h
+ends_same view text (Err x) a b e h = fails_at x a b e h
+
 -- a scanned token, as the reader's
 
 pub scan_fails : {State : Type 0} (T : Table State) (xs : List ℕ) (r : Refusal) → (lex.token T xs ≡ None) × (r.kind ≡ Invalid) → Fails (Told r) (token T xs)
@@ -51,98 +58,133 @@ some_length (c ∷ x) n = omega arith
 pub token_length : {State : Type 0} (T : Table State) (xs x q : List ℕ) → lex.token T xs ≡ Some (x, q) → length xs ≡ length x + length q
 token_length T xs x q h = omega (arith, ap length (munch-took T T.start xs x q h).1, length-append x q)
 
+-- where a token ends
+pub token_end : {State : Type 0} (T : Table State) (text x : List ℕ) (from to : ℕ) → lex.token T (drop from text) ≡ Some (x, drop to text) → from ≤ length text → to ≤ length text → from + length x ≡ to
+token_end T text x from to h begins ends = omega (arith, simp (length-drop) at (token_length T (drop from text) x (drop to text) h), begins, ends)
+
+some_accepted : {State : Type 0} (T : Table State) (x : List ℕ) → T.final T.start ≡ false → Accepts T T.start x → 0 < length x
+some_accepted T [] none a = absurd (both_ways (T.final T.start) none a)
+some_accepted T (c ∷ x) none a = omega arith
+
+-- a token that may not be empty ends behind where it begins
+pub token_behind : {State : Type 0} (T : Table State) (text x : List ℕ) (from to : ℕ) → T.final T.start ≡ false → lex.token T (drop from text) ≡ Some (x, drop to text) → from ≤ length text → to ≤ length text → from < to
+token_behind T text x from to none h begins ends = omega (arith, token_end T text x from to h begins ends, some_accepted T x none (munch-took T T.start (drop from text) x (drop to text) h).0)
+
 pub scan_read : {State : Type 0} (T : Table State) (xs x q : List ℕ) → lex.token T xs ≡ Some (x, q) → token T xs ≡ Ok (x, q)
 scan_read T xs x q h = rw h
 
-not_eqb : (a b : ℕ) → a ≢ b → eqb a b ≡ false
+pub not_eqb : (a b : ℕ) → a ≢ b → eqb a b ≡ false
 not_eqb a b ne = grind (arith, nat_tests)
 
 same_eqb : (a : ℕ) → eqb a a ≡ true
 same_eqb a = grind (arith, nat_tests)
 
-byte_there : (b : ℕ) (xs ys : List ℕ) → xs ≡ b ∷ ys → byte b xs ≡ Ok ys
+pub byte_there : (b : ℕ) (xs ys : List ℕ) → xs ≡ b ∷ ys → byte b xs ≡ Ok ys
 unfolding byte
 byte_there b xs ys e = rw (e, same_eqb b)
 
-byte_other : (b : ℕ) (xs : List ℕ) → IsNotAt b xs → byte b xs ≡ Err Invalid
+pub byte_other : (b : ℕ) (xs : List ℕ) → IsNotAt b xs → byte b xs ≡ Err Invalid
 unfolding byte
 byte_other b [] n = refl
 byte_other b (c ∷ xs) n = rw (not_eqb c b n)
 
 -- items
 
-not_list : (limit : ℕ) (c : ℕ) (xs : List ℕ) → IsNotAt 91 (c ∷ xs) → IsNotAt 123 (c ∷ xs) → item reads limit (c ∷ xs) ≡ number_item reads (c ∷ xs)
+number_next : (limit : ℕ) (c : ℕ) (xs : List ℕ) → IsNotAt 91 (c ∷ xs) → IsNotAt 123 (c ∷ xs) → IsNotAt 40 (c ∷ xs) → starts_string (c ∷ xs) ≡ false → item reads limit (c ∷ xs) ≡ number_item reads (c ∷ xs)
 unfolding item
-not_list limit c xs a m = rw (not_eqb c 91 a, not_eqb c 123 m)
+number_next limit c xs a m s n = rw (not_eqb c 91 a, not_eqb c 123 m, not_eqb c 40 s, n)
 
 no_number : token number [] ≡ Err Invalid
 unfolding munch
 no_number = refl
 
--- a refusal that names a kind, of whatever it refuses
-same_kind : {A B : Type 0} (a b : ParseErrorKind) → ◌≡◌ {A = Result A ParseErrorKind} (Err a) (Err b) → ◌≡◌ {A = Result B ParseErrorKind} (Err a) (Err b)
-same_kind a b h = let k : a ≡ b = cc in ap (λ (x : ParseErrorKind). Err x) k
+-- where nothing else begins
+pub number_at : (limit : ℕ) (xs : List ℕ) → IsNotAt 91 xs → IsNotAt 123 xs → IsNotAt 40 xs → starts_string xs ≡ false → reads limit OneItem xs ≡ number_item reads xs
+unfolding item number_item ◌>>=◌
+number_at limit [] a m s n = reads-rule limit OneItem [] ∙ rw no_number refl
+number_at limit (c ∷ xs) a m s n = reads-rule limit OneItem (c ∷ xs) ∙ number_next limit c xs a m s n
 
-pub number_fails : (e : Fault Refusal) (limit : ℕ) (xs : List ℕ) → IsNotAt 91 xs → IsNotAt 123 xs → Fails e (token number xs) → Fails e (reads limit OneItem xs)
-unfolding item number_item
-number_fails (Memory m) limit xs a b h = tt
-number_fails (Told r) limit [] a b h = reads-rule limit OneItem [] ∙ same_kind {A = List ℕ × List ℕ} Invalid r.kind (sym no_number ∙ h)
-number_fails (Told r) limit (c ∷ xs) a b h = reads-rule limit OneItem (c ∷ xs) ∙ not_list limit c xs a b ∙ bind_fails (Told r) (token number (c ∷ xs)) _ h
+pub number_fails : (e : Fault Refusal) (xs : List ℕ) → Fails e (token number xs) → Fails e (number_item reads xs)
+unfolding number_item
+number_fails e xs h = bind_fails e (token number xs) _ h
 
-pub number_read : (limit : ℕ) (xs x r : List ℕ) (i : Option Indicator) (q : List ℕ) → IsNotAt 91 xs → IsNotAt 123 xs → token number xs ≡ Ok (x, r) → indicator_at r ≡ (i, q) → reads limit OneItem xs ≡ Ok (NumberTree x i, q)
-unfolding item number_item
-number_read limit [] x r i q a b h k = cc no_number
-number_read limit (c ∷ xs) x r i q a b h k = reads-rule limit OneItem (c ∷ xs) ∙ not_list limit c xs a b ∙ bind_ok (token number (c ∷ xs)) (x, r) _ h ∙ ap (λ (p : Option Indicator × List ℕ). Ok (NumberTree x p.0, p.1)) k
+pub number_read : (xs x r : List ℕ) (i : Option Indicator) (q : List ℕ) → token number xs ≡ Ok (x, r) → indicator_at r ≡ (i, q) → number_item reads xs ≡ Ok (NumberTree x i, q)
+unfolding number_item
+number_read xs x r i q h k = bind_ok (token number xs) (x, r) _ h ∙ ap (λ (p : Option Indicator × List ℕ). Ok (NumberTree x p.0, p.1)) k
 
-list_at : (limit : ℕ) (k : Row) (xs ys : List ℕ) → xs ≡ opening k ∷ ys → reads limit OneItem xs ≡ list_item reads limit k ys
+other_byte : (c b : ℕ) (xs : List ℕ) → starts_string (c ∷ xs) ≡ true → starts_string (b ∷ xs) ≡ false → eqb c b ≡ false
+other_byte c b xs h n = false_from_ne_true (eqb c b) (λ e. both_ways (starts_string (b ∷ xs)) n (rw (eqb-true c b e) at h))
+
+string_next : (limit : ℕ) (c : ℕ) (xs : List ℕ) → starts_string (c ∷ xs) ≡ true → item reads limit (c ∷ xs) ≡ string_item reads limit (c ∷ xs)
+unfolding item starts_string
+string_next limit c xs h = rw (other_byte c 91 xs h refl, other_byte c 123 xs h refl, other_byte c 40 xs h refl, h)
+
+pub string_at : (limit : ℕ) (xs : List ℕ) → starts_string xs ≡ true → reads limit OneItem xs ≡ string_item reads limit xs
+unfolding starts_string
+string_at limit [] h = absurd (false≢true h)
+string_at limit (c ∷ xs) h = reads-rule limit OneItem (c ∷ xs) ∙ string_next limit c xs h
+
+pub string_item_fails : (e : Fault Refusal) (limit : ℕ) (xs : List ℕ) → starts_string xs ≡ true → Fails e (reads limit OneString xs) → Fails e (reads limit OneItem xs)
+unfolding string_item
+string_item_fails e limit xs s h = fails_at e _ _ (string_at limit xs s) (bind_fails e (reads limit OneString xs) _ h)
+
+pub string_item_read : (limit : ℕ) (xs r : List ℕ) (w : Tree OneString) → starts_string xs ≡ true → reads limit OneString xs ≡ Ok (w, r) → reads limit OneItem xs ≡ Ok (StringTree w, r)
+unfolding string_item
+string_item_read limit xs r w s h = string_at limit xs s ∙ bind_ok (reads limit OneString xs) (w, r) _ h
+
+pub stream_at : (limit : ℕ) (xs ys : List ℕ) → xs ≡ 40 ∷ ys → reads limit OneItem xs ≡ stream_item reads limit ys
 unfolding item
-list_at limit Elements xs ys e = reads-rule limit OneItem xs ∙ rw e
-list_at limit Pairs xs ys e = reads-rule limit OneItem xs ∙ rw e
+stream_at limit xs ys e = reads-rule limit OneItem xs ∙ rw e
 
-pub list_too_deep : (limit : ℕ) (k : Row) (xs ys : List ℕ) → limit ≡ 0 → xs ≡ opening k ∷ ys → reads limit OneItem xs ≡ Err TooDeep
+list_at : (limit : ℕ) (k : Bracketed) (xs ys : List ℕ) → xs ≡ opening k ∷ ys → reads limit OneItem xs ≡ list_item reads limit k ys
+unfolding item
+list_at limit Array xs ys e = reads-rule limit OneItem xs ∙ rw e
+list_at limit Map xs ys e = reads-rule limit OneItem xs ∙ rw e
+
+pub list_too_deep : (limit : ℕ) (k : Bracketed) (xs ys : List ℕ) → limit ≡ 0 → xs ≡ opening k ∷ ys → reads limit OneItem xs ≡ Err TooDeep
 unfolding list_item
 list_too_deep limit k xs ys none e = list_at limit k xs ys e ∙ rw none
 
-inside_at : (limit : ℕ) (k : Row) (xs ys : List ℕ) → 0 < limit → xs ≡ opening k ∷ ys → reads limit OneItem xs ≡ (reads (limit - 1) (Inside k) ys >>= λ w. byte (ending k) w.1 >>= λ r. Ok (ListTree k w.0, r))
+inside_at : (limit : ℕ) (k : Bracketed) (xs ys : List ℕ) → 0 < limit → xs ≡ opening k ∷ ys → reads limit OneItem xs ≡ (reads (limit - 1) (Inside k) ys >>= λ w. byte (ending k) w.1 >>= λ r. Ok (ListTree k w.0, r))
 unfolding list_item
 inside_at zero k xs ys some e = absurd (omega arith)
 inside_at (suc limit) k xs ys some e = let same : suc limit - 1 ≡ limit = omega arith in list_at (suc limit) k xs ys e ∙ rw same
 
-pub list_fails : (e : Fault Refusal) (limit : ℕ) (k : Row) (xs ys : List ℕ) → 0 < limit → xs ≡ opening k ∷ ys → Fails e (reads (limit - 1) (Inside k) ys) → Fails e (reads limit OneItem xs)
+pub list_fails : (e : Fault Refusal) (limit : ℕ) (k : Bracketed) (xs ys : List ℕ) → 0 < limit → xs ≡ opening k ∷ ys → Fails e (reads (limit - 1) (Inside k) ys) → Fails e (reads limit OneItem xs)
 list_fails e limit k xs ys some at h = fails_at e _ _ (inside_at limit k xs ys some at) (bind_fails e (reads (limit - 1) (Inside k) ys) _ h)
 
-pub list_open : (limit : ℕ) (k : Row) (xs ys r : List ℕ) (w : Tree (Inside k)) → 0 < limit → xs ≡ opening k ∷ ys → reads (limit - 1) (Inside k) ys ≡ Ok (w, r) → IsNotAt (ending k) r → reads limit OneItem xs ≡ Err Invalid
+pub list_open : (limit : ℕ) (k : Bracketed) (xs ys r : List ℕ) (w : Tree (Inside k)) → 0 < limit → xs ≡ opening k ∷ ys → reads (limit - 1) (Inside k) ys ≡ Ok (w, r) → IsNotAt (ending k) r → reads limit OneItem xs ≡ Err Invalid
 list_open limit k xs ys r w some at h n = inside_at limit k xs ys some at ∙ bind_ok _ (w, r) _ h ∙ bind_fails (Told (record { kind = Invalid; at = 0 })) (byte (ending k) r) (λ q. Ok (ListTree k w, q)) (byte_other (ending k) r n)
 
-pub list_read : (limit : ℕ) (k : Row) (xs ys r q : List ℕ) (w : Tree (Inside k)) → 0 < limit → xs ≡ opening k ∷ ys → reads (limit - 1) (Inside k) ys ≡ Ok (w, r) → r ≡ ending k ∷ q → reads limit OneItem xs ≡ Ok (ListTree k w, q)
+pub list_read : (limit : ℕ) (k : Bracketed) (xs ys r q : List ℕ) (w : Tree (Inside k)) → 0 < limit → xs ≡ opening k ∷ ys → reads (limit - 1) (Inside k) ys ≡ Ok (w, r) → r ≡ ending k ∷ q → reads limit OneItem xs ≡ Ok (ListTree k w, q)
 list_read limit k xs ys r q w some at h close = inside_at limit k xs ys some at ∙ bind_ok _ (w, r) _ h ∙ bind_ok (byte (ending k) r) q (λ q. Ok (ListTree k w, q)) (byte_there (ending k) r q close)
 
 -- what stands between brackets
 
-pub inside_fails : (e : Fault Refusal) (limit : ℕ) (k : Row) (xs r : List ℕ) (i : Option Indicator) → indicator_at xs ≡ (i, r) → Fails e (token space r) → Fails e (reads limit (Inside k) xs)
+pub inside_fails : (e : Fault Refusal) (limit : ℕ) (k : Bracketed) (xs r : List ℕ) (i : Option Indicator) → indicator_at xs ≡ (i, r) → Fails e (token space r) → Fails e (reads limit (Inside k) xs)
 unfolding inside
 inside_fails e limit k xs r i at h = fails_at e _ _ (reads-rule limit (Inside k) xs) (bind_fails e (token space (indicator_at xs).1) _ (rw at h))
 
-inside_behind : (limit : ℕ) (k : Row) (xs r s q : List ℕ) (i : Option Indicator) → indicator_at xs ≡ (i, r) → token space r ≡ Ok (s, q) → reads limit (Inside k) xs ≡ cond (is_closed q) (Ok (EmptyTree i s, q)) (inside_full reads limit k i s q)
+inside_behind : (limit : ℕ) (k : Bracketed) (xs r s q : List ℕ) (i : Option Indicator) → indicator_at xs ≡ (i, r) → token space r ≡ Ok (s, q) → reads limit (Inside k) xs ≡ cond (is_closed q) (Ok (EmptyTree i s, q)) (inside_full reads limit k i s q)
 unfolding inside
 inside_behind limit k xs r s q i at h = reads-rule limit (Inside k) xs ∙ rw at (bind_ok (token space r) (s, q) _ h)
 
-pub inside_empty : (limit : ℕ) (k : Row) (xs r s q : List ℕ) (i : Option Indicator) → indicator_at xs ≡ (i, r) → token space r ≡ Ok (s, q) → is_closed q ≡ true → reads limit (Inside k) xs ≡ Ok (EmptyTree i s, q)
+pub inside_empty : (limit : ℕ) (k : Bracketed) (xs r s q : List ℕ) (i : Option Indicator) → indicator_at xs ≡ (i, r) → token space r ≡ Ok (s, q) → is_closed q ≡ true → reads limit (Inside k) xs ≡ Ok (EmptyTree i s, q)
 inside_empty limit k xs r s q i at h c = inside_behind limit k xs r s q i at h ∙ rw c
 
-inside_open : (limit : ℕ) (k : Row) (xs r s q : List ℕ) (i : Option Indicator) → indicator_at xs ≡ (i, r) → token space r ≡ Ok (s, q) → is_closed q ≡ false → reads limit (Inside k) xs ≡ (head_of i s >>= λ h. reads limit (Rest k) q >>= λ m. Ok (FullTree h.0 h.1 m.0, m.1))
+inside_open : (limit : ℕ) (k : Bracketed) (xs r s q : List ℕ) (i : Option Indicator) → indicator_at xs ≡ (i, r) → token space r ≡ Ok (s, q) → is_closed q ≡ false → reads limit (Inside k) xs ≡ (head_of i s >>= λ h. reads limit (Rest (entries_of k)) q >>= λ m. Ok (FullTree h.0 h.1 m.0, m.1))
 unfolding inside_full
 inside_open limit k xs r s q i at h c = inside_behind limit k xs r s q i at h ∙ rw c
 
 -- an indicator without the space that it needs
-pub inside_unparted : (limit : ℕ) (k : Row) (xs r s q : List ℕ) (i : Option Indicator) → indicator_at xs ≡ (i, r) → token space r ≡ Ok (s, q) → is_closed q ≡ false → head_of i s ≡ Err Invalid → reads limit (Inside k) xs ≡ Err Invalid
+pub inside_unparted : (limit : ℕ) (k : Bracketed) (xs r s q : List ℕ) (i : Option Indicator) → indicator_at xs ≡ (i, r) → token space r ≡ Ok (s, q) → is_closed q ≡ false → head_of i s ≡ Err Invalid → reads limit (Inside k) xs ≡ Err Invalid
 inside_unparted limit k xs r s q i at h c n = inside_open limit k xs r s q i at h c ∙ bind_fails (Told (record { kind = Invalid; at = 0 })) (head_of i s) _ n
 
-pub inside_rest_fails : (e : Fault Refusal) (limit : ℕ) (k : Row) (xs r s q t : List ℕ) (i : Option Indicator) (head : Head) → indicator_at xs ≡ (i, r) → token space r ≡ Ok (s, q) → is_closed q ≡ false → head_of i s ≡ Ok (head, t) → Fails e (reads limit (Rest k) q) → Fails e (reads limit (Inside k) xs)
-inside_rest_fails e limit k xs r s q t i head at h c o f = fails_at e _ _ (inside_open limit k xs r s q i at h c ∙ bind_ok (head_of i s) (head, t) _ o) (bind_fails e (reads limit (Rest k) q) _ f)
+pub inside_rest_fails : (e : Fault Refusal) (limit : ℕ) (k : Bracketed) (xs r s q t : List ℕ) (i : Option Indicator) (head : Head) → indicator_at xs ≡ (i, r) → token space r ≡ Ok (s, q) → is_closed q ≡ false → head_of i s ≡ Ok (head, t) → Fails e (reads limit (Rest (entries_of k)) q) → Fails e (reads limit (Inside k) xs)
+inside_rest_fails e limit k xs r s q t i head at h c o f = fails_at e _ _ (inside_open limit k xs r s q i at h c ∙ bind_ok (head_of i s) (head, t) _ o) (bind_fails e (reads limit (Rest (entries_of k)) q) _ f)
 
-pub inside_read : (limit : ℕ) (k : Row) (xs r s q t p : List ℕ) (i : Option Indicator) (head : Head) (m : Tree (Rest k)) → indicator_at xs ≡ (i, r) → token space r ≡ Ok (s, q) → is_closed q ≡ false → head_of i s ≡ Ok (head, t) → reads limit (Rest k) q ≡ Ok (m, p) → reads limit (Inside k) xs ≡ Ok (FullTree head t m, p)
-inside_read limit k xs r s q t p i head m at h c o f = inside_open limit k xs r s q i at h c ∙ bind_ok (head_of i s) (head, t) _ o ∙ bind_ok (reads limit (Rest k) q) (m, p) _ f
+pub inside_read : (limit : ℕ) (k : Bracketed) (xs r s q t p : List ℕ) (i : Option Indicator) (head : Head) (m : Tree (Rest (entries_of k))) → indicator_at xs ≡ (i, r) → token space r ≡ Ok (s, q) → is_closed q ≡ false → head_of i s ≡ Ok (head, t) → reads limit (Rest (entries_of k)) q ≡ Ok (m, p) → reads limit (Inside k) xs ≡ Ok (FullTree head t m, p)
+inside_read limit k xs r s q t p i head m at h c o f = inside_open limit k xs r s q i at h c ∙ bind_ok (head_of i s) (head, t) _ o ∙ bind_ok (reads limit (Rest (entries_of k)) q) (m, p) _ f
 
 -- the entries of arrays and maps
 
@@ -175,47 +217,68 @@ before_colon limit xs r s q v h t = behind_key limit xs r v h ∙ bind_ok (token
 pub pair_no_colon : (limit : ℕ) (xs r s q : List ℕ) (v : Tree OneItem) → reads limit OneItem xs ≡ Ok (v, r) → token space r ≡ Ok (s, q) → IsNotAt 58 q → reads limit (OneEntry Pairs) xs ≡ Err Invalid
 pair_no_colon limit xs r s q v h t n = before_colon limit xs r s q v h t ∙ bind_fails (Told (record { kind = Invalid; at = 0 })) (byte 58 q) _ (byte_other 58 q n)
 
-behind_colon : (limit : ℕ) (xs r s q p : List ℕ) (v : Tree OneItem) → reads limit OneItem xs ≡ Ok (v, r) → token space r ≡ Ok (s, q) → q ≡ 58 ∷ p → reads limit (OneEntry Pairs) xs ≡ (token space p >>= λ t. reads limit OneItem t.1 >>= λ w. Ok (PairTree v s t.0 w.0, w.1))
-behind_colon limit xs r s q p v h t c = before_colon limit xs r s q v h t ∙ bind_ok (byte 58 q) p _ (byte_there 58 q p c)
+pub pair_behind_colon : (limit : ℕ) (xs r s q p : List ℕ) (v : Tree OneItem) → reads limit OneItem xs ≡ Ok (v, r) → token space r ≡ Ok (s, q) → q ≡ 58 ∷ p → reads limit (OneEntry Pairs) xs ≡ behind_colon limit v s p
+pair_behind_colon limit xs r s q p v h t c = before_colon limit xs r s q v h t ∙ bind_ok (byte 58 q) p _ (byte_there 58 q p c)
 
-pub pair_fails_after : (e : Fault Refusal) (limit : ℕ) (xs r s q p : List ℕ) (v : Tree OneItem) → reads limit OneItem xs ≡ Ok (v, r) → token space r ≡ Ok (s, q) → q ≡ 58 ∷ p → Fails e (token space p) → Fails e (reads limit (OneEntry Pairs) xs)
-pair_fails_after e limit xs r s q p v h t c f = fails_at e _ _ (behind_colon limit xs r s q p v h t c) (bind_fails e (token space p) _ f)
+pub value_fails_before : (e : Fault Refusal) (limit : ℕ) (v : Tree OneItem) (s xs : List ℕ) → Fails e (token space xs) → Fails e (behind_colon limit v s xs)
+value_fails_before e limit v s xs f = bind_fails e (token space xs) _ f
 
-before_value : (limit : ℕ) (xs r s q p u o : List ℕ) (v : Tree OneItem) → reads limit OneItem xs ≡ Ok (v, r) → token space r ≡ Ok (s, q) → q ≡ 58 ∷ p → token space p ≡ Ok (u, o) → reads limit (OneEntry Pairs) xs ≡ (reads limit OneItem o >>= λ w. Ok (PairTree v s u w.0, w.1))
-before_value limit xs r s q p u o v h t c a = behind_colon limit xs r s q p v h t c ∙ bind_ok (token space p) (u, o) _ a
+before_value : (limit : ℕ) (v : Tree OneItem) (s xs u o : List ℕ) → token space xs ≡ Ok (u, o) → behind_colon limit v s xs ≡ (reads limit OneItem o >>= λ w. Ok (PairTree v s u w.0, w.1))
+before_value limit v s xs u o a = bind_ok (token space xs) (u, o) _ a
 
-pub pair_fails_value : (e : Fault Refusal) (limit : ℕ) (xs r s q p u o : List ℕ) (v : Tree OneItem) → reads limit OneItem xs ≡ Ok (v, r) → token space r ≡ Ok (s, q) → q ≡ 58 ∷ p → token space p ≡ Ok (u, o) → Fails e (reads limit OneItem o) → Fails e (reads limit (OneEntry Pairs) xs)
-pair_fails_value e limit xs r s q p u o v h t c a f = fails_at e _ _ (before_value limit xs r s q p u o v h t c a) (bind_fails e (reads limit OneItem o) _ f)
+pub value_fails : (e : Fault Refusal) (limit : ℕ) (v : Tree OneItem) (s xs u o : List ℕ) → token space xs ≡ Ok (u, o) → Fails e (reads limit OneItem o) → Fails e (behind_colon limit v s xs)
+value_fails e limit v s xs u o a f = fails_at e _ _ (before_value limit v s xs u o a) (bind_fails e (reads limit OneItem o) _ f)
 
-pub pair_read : (limit : ℕ) (xs r s q p u o z : List ℕ) (v w : Tree OneItem) → reads limit OneItem xs ≡ Ok (v, r) → token space r ≡ Ok (s, q) → q ≡ 58 ∷ p → token space p ≡ Ok (u, o) → reads limit OneItem o ≡ Ok (w, z) → reads limit (OneEntry Pairs) xs ≡ Ok (PairTree v s u w, z)
-pair_read limit xs r s q p u o z v w h t c a f = before_value limit xs r s q p u o v h t c a ∙ bind_ok (reads limit OneItem o) (w, z) _ f
+pub value_read : (limit : ℕ) (v w : Tree OneItem) (s xs u o z : List ℕ) → token space xs ≡ Ok (u, o) → reads limit OneItem o ≡ Ok (w, z) → behind_colon limit v s xs ≡ Ok (PairTree v s u w, z)
+value_read limit v w s xs u o z a f = before_value limit v s xs u o a ∙ bind_ok (reads limit OneItem o) (w, z) _ f
 
 -- entries, one or more
 
-rest_fails : (e : Fault Refusal) (limit : ℕ) (k : Row) (xs : List ℕ) → Fails e (reads limit (OneEntry k) xs) → Fails e (reads limit (Rest k) xs)
+pub parted_fails : (e : Fault Refusal) (limit : ℕ) (k : Row) (xs : List ℕ) → Fails e (reads limit (OneEntry k) xs) → Fails e (parted limit k xs)
+parted_fails e limit k xs h = bind_fails e (reads limit (OneEntry k) xs) _ h
+
+parted_behind : (limit : ℕ) (k : Row) (xs r : List ℕ) (w : Tree (OneEntry k)) → reads limit (OneEntry k) xs ≡ Ok (w, r) → parted limit k xs ≡ (token separator r >>= λ s. Ok ((w, s.0), s.1))
+parted_behind limit k xs r w h = bind_ok (reads limit (OneEntry k) xs) (w, r) _ h
+
+pub parted_fails_behind : (e : Fault Refusal) (limit : ℕ) (k : Row) (xs r : List ℕ) (w : Tree (OneEntry k)) → reads limit (OneEntry k) xs ≡ Ok (w, r) → Fails e (token separator r) → Fails e (parted limit k xs)
+parted_fails_behind e limit k xs r w h t = fails_at e _ _ (parted_behind limit k xs r w h) (bind_fails e (token separator r) _ t)
+
+pub parted_read : (limit : ℕ) (k : Row) (xs r s q : List ℕ) (w : Tree (OneEntry k)) → reads limit (OneEntry k) xs ≡ Ok (w, r) → token separator r ≡ Ok (s, q) → parted limit k xs ≡ Ok ((w, s), q)
+parted_read limit k xs r s q w h t = parted_behind limit k xs r w h ∙ bind_ok (token separator r) (s, q) _ t
+
+-- behind an entry and its separator
+abbrev Behind : (limit : ℕ) (k : Row) → (Tree (OneEntry k) × List ℕ) × List ℕ → Read (Tree (Rest k))
+Behind limit k p = cond (is_closed p.1) (Ok (LastTree p.0.0 p.0.1, p.1)) (more reads limit k p.0.0 p.0.1 p.1)
+
+bind_once : {B C D : Type 0} (r : Result B ParseErrorKind) (g : B → C) (h : C → Result D ParseErrorKind) → (r >>= λ b. h (g b)) ≡ ((r >>= λ b. Ok (g b)) >>= h)
+unfolding ◌>>=◌
+bind_once (Err e) g h = refl
+bind_once (Ok b) g h = refl
+
+bind_twice : {A B C D : Type 0} (r : Result A ParseErrorKind) (f : A → Result B ParseErrorKind) (g : A → B → C) (h : C → Result D ParseErrorKind) → (r >>= λ a. f a >>= λ b. h (g a b)) ≡ ((r >>= λ a. f a >>= λ b. Ok (g a b)) >>= h)
+unfolding ◌>>=◌
+bind_twice (Err e) f g h = refl
+bind_twice (Ok a) f g h = bind_once (f a) (g a) h
+
+rest_parted : (limit : ℕ) (k : Row) (xs : List ℕ) → reads limit (Rest k) xs ≡ (parted limit k xs >>= Behind limit k)
 unfolding rest
-rest_fails e limit k xs h = fails_at e _ _ (reads-rule limit (Rest k) xs) (bind_fails e (reads limit (OneEntry k) xs) _ h)
+rest_parted limit k xs = reads-rule limit (Rest k) xs ∙ bind_twice (reads limit (OneEntry k) xs) (λ e. token separator e.1) (λ e s. ((e.0, s.0), s.1)) (Behind limit k)
 
--- behind an entry
-abbrev Behind : ℕ → (k : Row) → Tree (OneEntry k) → List ℕ → Read (Tree (Rest k))
-Behind limit k e xs = token separator xs >>= λ s. cond (is_closed s.1) (Ok (LastTree e s.0, s.1)) (more reads limit k e s.0 s.1)
+rest_fails : (e : Fault Refusal) (limit : ℕ) (k : Row) (xs : List ℕ) → Fails e (parted limit k xs) → Fails e (reads limit (Rest k) xs)
+rest_fails e limit k xs h = fails_at e _ _ (rest_parted limit k xs) (bind_fails e (parted limit k xs) _ h)
 
-rest_behind : (limit : ℕ) (k : Row) (xs r : List ℕ) (e : Tree (OneEntry k)) → reads limit (OneEntry k) xs ≡ Ok (e, r) → reads limit (Rest k) xs ≡ Behind limit k e r
-unfolding rest
-rest_behind limit k xs r e h = reads-rule limit (Rest k) xs ∙ bind_ok (reads limit (OneEntry k) xs) (e, r) _ h
+rest_behind : (limit : ℕ) (k : Row) (xs s q : List ℕ) (w : Tree (OneEntry k)) → parted limit k xs ≡ Ok ((w, s), q) → reads limit (Rest k) xs ≡ Behind limit k ((w, s), q)
+rest_behind limit k xs s q w h = rest_parted limit k xs ∙ bind_ok (parted limit k xs) ((w, s), q) _ h
 
-rest_fails_behind : (e : Fault Refusal) (limit : ℕ) (k : Row) (xs r : List ℕ) (w : Tree (OneEntry k)) → reads limit (OneEntry k) xs ≡ Ok (w, r) → Fails e (token separator r) → Fails e (reads limit (Rest k) xs)
-rest_fails_behind e limit k xs r w h t = fails_at e _ _ (rest_behind limit k xs r w h) (bind_fails e (token separator r) _ t)
+rest_last : (limit : ℕ) (k : Row) (xs s q : List ℕ) (w : Tree (OneEntry k)) → parted limit k xs ≡ Ok ((w, s), q) → is_closed q ≡ true → reads limit (Rest k) xs ≡ Ok (LastTree w s, q)
+rest_last limit k xs s q w h c = rest_behind limit k xs s q w h ∙ rw c refl
 
-rest_last : (limit : ℕ) (k : Row) (xs r s q : List ℕ) (w : Tree (OneEntry k)) → reads limit (OneEntry k) xs ≡ Ok (w, r) → token separator r ≡ Ok (s, q) → is_closed q ≡ true → reads limit (Rest k) xs ≡ Ok (LastTree w s, q)
-rest_last limit k xs r s q w h t c = rest_behind limit k xs r w h ∙ bind_ok (token separator r) (s, q) _ t ∙ rw c
+rest_open : (limit : ℕ) (k : Row) (xs s q : List ℕ) (w : Tree (OneEntry k)) → parted limit k xs ≡ Ok ((w, s), q) → is_closed q ≡ false → reads limit (Rest k) xs ≡ more reads limit k w s q
+rest_open limit k xs s q w h c = rest_behind limit k xs s q w h ∙ rw c refl
 
-rest_open : (limit : ℕ) (k : Row) (xs r s q : List ℕ) (w : Tree (OneEntry k)) → reads limit (OneEntry k) xs ≡ Ok (w, r) → token separator r ≡ Ok (s, q) → is_closed q ≡ false → reads limit (Rest k) xs ≡ more reads limit k w s q
-rest_open limit k xs r s q w h t c = rest_behind limit k xs r w h ∙ bind_ok (token separator r) (s, q) _ t ∙ rw c
-
-rest_unparted : (limit : ℕ) (k : Row) (xs r s q : List ℕ) (w : Tree (OneEntry k)) → reads limit (OneEntry k) xs ≡ Ok (w, r) → token separator r ≡ Ok (s, q) → s ≡ [] → is_closed q ≡ false → reads limit (Rest k) xs ≡ Err Invalid
+rest_unparted : (limit : ℕ) (k : Row) (xs s q : List ℕ) (w : Tree (OneEntry k)) → parted limit k xs ≡ Ok ((w, s), q) → s ≡ [] → is_closed q ≡ false → reads limit (Rest k) xs ≡ Err Invalid
 unfolding more not_empty ◌>>=◌
-rest_unparted limit k xs r s q w h t none c = rest_open limit k xs r s q w h t c ∙ rw none
+rest_unparted limit k xs s q w h none c = rest_open limit k xs s q w h c ∙ rw none refl
 
 more_of : (limit : ℕ) (k : Row) (e : Tree (OneEntry k)) (s q : List ℕ) → s ≢ [] → more reads limit k e s q ≡ (reads limit (Rest k) q >>= λ m. Ok (MoreTree e s m.0, m.1))
 unfolding more not_empty
@@ -250,34 +313,29 @@ with_more f xs x w s r is = ap (λ ps. with_row ps r) (sym (map-append f xs (x �
 
 -- The turns of a loop over entries, with those so far.
 module _ (limit : ℕ) (k : Row) (total : Read (Tree (Rest k))) (ps : List (Tree (OneEntry k) × List ℕ)) (xs : List ℕ) (so_far : total ≡ with_row ps (reads limit (Rest k) xs)) where
-  -- an entry that is refused
-  pub turn_fails : (e : Fault Refusal) → Fails e (reads limit (OneEntry k) xs) → Fails e total
+  -- an entry or its separator is refused
+  pub turn_fails : (e : Fault Refusal) → Fails e (parted limit k xs) → Fails e total
   turn_fails e h = fails_at e _ _ so_far (with_fails e ps _ (rest_fails e limit k xs h))
 
-  module _ (w : Tree (OneEntry k)) (r : List ℕ) (h : reads limit (OneEntry k) xs ≡ Ok (w, r)) where
-    -- a separator that is refused
-    pub turn_fails_behind : (e : Fault Refusal) → Fails e (token separator r) → Fails e total
-    turn_fails_behind e t = fails_at e _ _ so_far (with_fails e ps _ (rest_fails_behind e limit k xs r w h t))
+  module _ (w : Tree (OneEntry k)) (s q : List ℕ) (h : parted limit k xs ≡ Ok ((w, s), q)) where
+    -- the last entry
+    pub turn_last : is_closed q ≡ true → total ≡ Ok (entries_onto ps (LastTree w s), q)
+    turn_last c = so_far ∙ ap (with_row ps) (rest_last limit k xs s q w h c)
 
-    module _ (s q : List ℕ) (t : token separator r ≡ Ok (s, q)) where
-      -- the last entry
-      pub turn_last : is_closed q ≡ true → total ≡ Ok (entries_onto ps (LastTree w s), q)
-      turn_last c = so_far ∙ ap (with_row ps) (rest_last limit k xs r s q w h t c)
+    -- nothing between two entries
+    pub turn_unparted : s ≡ [] → is_closed q ≡ false → total ≡ Err Invalid
+    turn_unparted none c = so_far ∙ ap (with_row ps) (rest_unparted limit k xs s q w h none c)
 
-      -- nothing between two entries
-      pub turn_unparted : s ≡ [] → is_closed q ≡ false → total ≡ Err Invalid
-      turn_unparted none c = so_far ∙ ap (with_row ps) (rest_unparted limit k xs r s q w h t none c)
+    -- nothing between two entries, or no memory for one more
+    pub turn_refused : (e : Fault Refusal) (at : ℕ) → IfTold {X = Unit {0}} (Err e) (λ r. (s ≡ []) × (r ≡ record { kind = Invalid; at = at })) → is_closed q ≡ false → Fails e total
+    turn_refused (Memory m) at h c = tt
+    turn_refused (Told r) at h c = turn_unparted h.0 c ∙ ap (λ (x : Refusal). Err x.kind) (sym h.1)
 
-      -- nothing between two entries, or no memory for one more
-      pub turn_refused : (e : Fault Refusal) (at : ℕ) → IfTold {X = Unit {0}} (Err e) (λ r. (s ≡ []) × (r ≡ record { kind = Invalid; at = at })) → is_closed q ≡ false → Fails e total
-      turn_refused (Memory m) at h c = tt
-      turn_refused (Told r) at h c = turn_unparted h.0 c ∙ ap (λ (x : Refusal). Err x.kind) (sym h.1)
-
-      -- one entry more
-      pub turn_more : s ≢ [] → is_closed q ≡ false → total ≡ with_row (ps ++ (w, s) ∷ []) (reads limit (Rest k) q)
-      turn_more n c =
-          so_far ∙ ap (with_row ps) (rest_open limit k xs r s q w h t c ∙ more_of limit k w s q n)
-          ∙ with_push ps (w, s) (reads limit (Rest k) q)
+    -- one entry more
+    pub turn_more : s ≢ [] → is_closed q ≡ false → total ≡ with_row (ps ++ (w, s) ∷ []) (reads limit (Rest k) q)
+    turn_more n c =
+        so_far ∙ ap (with_row ps) (rest_open limit k xs s q w h c ∙ more_of limit k w s q n)
+        ∙ with_push ps (w, s) (reads limit (Rest k) q)
 
 -- the whole of a sequence
 

@@ -1,12 +1,14 @@
 -- Every text of a tree is borrowed from the text that was parsed.
 use Rattle.std.specs.Prelude.{List, [], ◌∷◌, Option, Some, None}
-use Rattle.cbor_edn_parts.specs.Leaves.{BorrowsS, BorrowsMs, BorrowsMsc, BorrowsSoc, BorrowsNumber}
+use Rattle.cbor_edn_parts.specs.Leaves.{BorrowsS, BorrowsMs, BorrowsMsc, BorrowsSoc, BorrowsNumber, BorrowsLiteral, BorrowsDots}
 use Rattle.cbor_edn_parts.specs.declared.indicator.Indicator.{Indicator}
 use Rattle.cbor_edn_parts.specs.declared.space.S.{S}
 use Rattle.cbor_edn_parts.specs.declared.space.Ms.{Ms}
 use Rattle.cbor_edn_parts.specs.declared.space.Msc.{Msc}
 use Rattle.cbor_edn_parts.specs.declared.space.Soc.{Soc}
 use Rattle.cbor_edn_parts.specs.declared.number.Number.{Number}
+use Rattle.cbor_edn_parts.specs.declared.string.Literal.{Literal}
+use Rattle.cbor_edn_parts.specs.declared.string.Dots.{Dots}
 use Rattle.cbor_edn_core.specs.declared.tree.Texts.{Texts}
 use Rattle.cbor_edn_core.specs.declared.tree.InnerItem.{InnerItem}
 use Rattle.cbor_edn_core.specs.declared.tree.InnerItem.TheVariants as inner
@@ -17,7 +19,14 @@ use Rattle.cbor_edn_core.specs.declared.tree.Kp.{Kp}
 use Rattle.cbor_edn_core.specs.declared.tree.PairList.{PairList}
 use Rattle.cbor_edn_core.specs.declared.tree.PairList.TheVariants as pair_list
 use Rattle.cbor_edn_core.specs.declared.tree.Pairs.{Pairs, Pairs', Row_of-Pairs-row-2, end_of-Pairs-row-2, more_of-Pairs-row-2}
-use Rattle.cbor_edn_core.specs.View.{Item, StandaloneItem, Sequence}
+use Rattle.cbor_edn_core.specs.declared.tree.CborString.{CborString, Row_of-CborString-row-3, end_of-CborString-row-3, more_of-CborString-row-3}
+use Rattle.cbor_edn_core.specs.declared.tree.Piece.{Piece}
+use Rattle.cbor_edn_core.specs.declared.tree.Piece.TheVariants as piece
+use Rattle.cbor_edn_core.specs.declared.tree.Stream.{Stream, Stream'}
+use Rattle.cbor_edn_core.specs.declared.tree.Strings.{Strings, Strings', Row_of-Strings-row-2, end_of-Strings-row-2, more_of-Strings-row-2}
+use Rattle.cbor_edn_core.specs.declared.tree.SequenceOf.{SequenceOf, SequenceOf', Held-SequenceOf-items}
+use Rattle.cbor_edn_core.specs.declared.tree.SequenceOf as sequence
+use Rattle.cbor_edn_core.specs.View.{Item, StandaloneItem}
 
 -- an indicator and the space behind it, if they are there
 abbrev pub BorrowsHead : Option (Indicator × Ms) → Type 0
@@ -25,37 +34,65 @@ BorrowsHead None = Unit {0}
 BorrowsHead (Some h) = BorrowsMs h.1
 
 abbrev mutual
-  pub BorrowsInner : InnerItem Texts S Ms Msc Soc Number → Type 0
+  pub BorrowsInner : InnerItem Texts S Ms Msc Soc Number Literal Dots → Type 0
   BorrowsInner (inner.Number n i) = BorrowsNumber n
   BorrowsInner (inner.Array list) = BorrowsList list
   BorrowsInner (inner.Map list) = BorrowsPairList list
+  BorrowsInner (inner.String' n row last) = BorrowsPieces row × BorrowsPiece last
+  BorrowsInner (inner.Stream stream) = BorrowsStream stream
 
-  pub BorrowsList : ItemList Texts S Ms Msc Soc Number → Type 0
+  pub BorrowsPieces : {n : _} → Row_of-CborString-row-3 Texts S Ms Msc Soc Number Literal Dots n → Type 0
+  BorrowsPieces end_of-CborString-row-3 = Unit {0}
+  BorrowsPieces (more_of-CborString-row-3 p before after row) = (BorrowsPiece p × BorrowsS before × BorrowsS after) × BorrowsPieces row
+
+  pub BorrowsPiece : Piece Texts S Ms Msc Soc Number Literal Dots → Type 0
+  BorrowsPiece (piece.Literal literal i) = BorrowsLiteral literal
+  BorrowsPiece (piece.Dots dots) = BorrowsDots dots
+  BorrowsPiece (piece.Embedded' p sequence i) = BorrowsSequence sequence
+
+  pub BorrowsSequence : SequenceOf Texts S Ms Msc Soc Number Literal Dots → Type 0
+  BorrowsSequence (SequenceOf' before items) = BorrowsS before × BorrowsHeld items
+
+  pub BorrowsHeld : Held-SequenceOf-items Texts S Ms Msc Soc Number Literal Dots → Type 0
+  BorrowsHeld sequence.None' = Unit {0}
+  BorrowsHeld (sequence.Some' items) = BorrowsItems items
+
+  pub BorrowsStream : Stream Texts S Ms Msc Soc Number Literal Dots → Type 0
+  BorrowsStream (Stream' ms strings) = BorrowsMs ms × BorrowsStrings strings
+
+  pub BorrowsStrings : Strings Texts S Ms Msc Soc Number Literal Dots → Type 0
+  BorrowsStrings (Strings' n row p m pieces last soc) = BorrowsStringRow row × (BorrowsPieces pieces × BorrowsPiece last) × BorrowsSoc soc
+
+  pub BorrowsStringRow : {n : _} → Row_of-Strings-row-2 Texts S Ms Msc Soc Number Literal Dots n → Type 0
+  BorrowsStringRow end_of-Strings-row-2 = Unit {0}
+  BorrowsStringRow (more_of-Strings-row-2 m pieces last separator row) = (BorrowsPieces pieces × BorrowsPiece last) × BorrowsMsc separator × BorrowsStringRow row
+
+  pub BorrowsList : ItemList Texts S Ms Msc Soc Number Literal Dots → Type 0
   BorrowsList (item_list.Present head s items) = BorrowsHead head × BorrowsS s × BorrowsItems items
   BorrowsList (item_list.Absent i s) = BorrowsS s
 
-  pub BorrowsItems : Items Texts S Ms Msc Soc Number → Type 0
+  pub BorrowsItems : Items Texts S Ms Msc Soc Number Literal Dots → Type 0
   BorrowsItems (Items' n row p last soc) = BorrowsRow row × BorrowsInner last × BorrowsSoc soc
 
-  pub BorrowsRow : {n : _} → Row_of-Items-row-2 Texts S Ms Msc Soc Number n → Type 0
+  pub BorrowsRow : {n : _} → Row_of-Items-row-2 Texts S Ms Msc Soc Number Literal Dots n → Type 0
   BorrowsRow end_of-Items-row-2 = Unit {0}
   BorrowsRow (more_of-Items-row-2 item separator row) = BorrowsInner item × BorrowsMsc separator × BorrowsRow row
 
-  pub BorrowsPairList : PairList Texts S Ms Msc Soc Number → Type 0
+  pub BorrowsPairList : PairList Texts S Ms Msc Soc Number Literal Dots → Type 0
   BorrowsPairList (pair_list.Present head s pairs) = BorrowsHead head × BorrowsS s × BorrowsPairs pairs
   BorrowsPairList (pair_list.Absent i s) = BorrowsS s
 
-  pub BorrowsPairs : Pairs Texts S Ms Msc Soc Number → Type 0
+  pub BorrowsPairs : Pairs Texts S Ms Msc Soc Number Literal Dots → Type 0
   BorrowsPairs (Pairs' n row p key before after value soc) = BorrowsPairRow row × (BorrowsInner key × BorrowsS before × BorrowsS after × BorrowsInner value) × BorrowsSoc soc
 
-  pub BorrowsPairRow : {n : _} → Row_of-Pairs-row-2 Texts S Ms Msc Soc Number n → Type 0
+  pub BorrowsPairRow : {n : _} → Row_of-Pairs-row-2 Texts S Ms Msc Soc Number Literal Dots n → Type 0
   BorrowsPairRow end_of-Pairs-row-2 = Unit {0}
   BorrowsPairRow (more_of-Pairs-row-2 key before after value separator row) = (BorrowsInner key × BorrowsS before × BorrowsS after × BorrowsInner value) × BorrowsMsc separator × BorrowsPairRow row
 
 abbrev pub BorrowsItem : Item → Type 0
 BorrowsItem i = BorrowsInner i.inner
 
-abbrev pub BorrowsPair : Kp Texts S Ms Msc Soc Number → Type 0
+abbrev pub BorrowsPair : Kp Texts S Ms Msc Soc Number Literal Dots → Type 0
 BorrowsPair p = BorrowsItem p.key × BorrowsS p.before_colon × BorrowsS p.after_colon × BorrowsItem p.value
 
 -- items, each with the separator behind it
@@ -64,16 +101,27 @@ BorrowsEach [] = Unit {0}
 BorrowsEach (p ∷ ps) = BorrowsItem p.0 × BorrowsMsc p.1 × BorrowsEach ps
 
 -- the same of pairs
-abbrev pub BorrowsEachPair : List (Kp Texts S Ms Msc Soc Number × Msc) → Type 0
+abbrev pub BorrowsEachPair : List (Kp Texts S Ms Msc Soc Number Literal Dots × Msc) → Type 0
 BorrowsEachPair [] = Unit {0}
 BorrowsEachPair (p ∷ ps) = BorrowsPair p.0 × BorrowsMsc p.1 × BorrowsEachPair ps
 
 abbrev pub BorrowsStandalone : StandaloneItem → Type 0
 BorrowsStandalone s = BorrowsS s.before × BorrowsItem s.item × BorrowsS s.after
 
-abbrev pub BorrowsSome : Option (Items Texts S Ms Msc Soc Number) → Type 0
+-- pieces, each with the spaces round the plus sign behind it
+abbrev pub BorrowsEachPiece : List (Piece Texts S Ms Msc Soc Number Literal Dots × S × S) → Type 0
+BorrowsEachPiece [] = Unit {0}
+BorrowsEachPiece (p ∷ ps) = (BorrowsPiece p.0 × BorrowsS p.1 × BorrowsS p.2) × BorrowsEachPiece ps
+
+abbrev pub BorrowsString : CborString Texts S Ms Msc Soc Number Literal Dots → Type 0
+BorrowsString x = BorrowsEachPiece x.row.items × BorrowsPiece x.last
+
+-- strings of a stream, each with the separator behind it
+abbrev pub BorrowsEachString : List (CborString Texts S Ms Msc Soc Number Literal Dots × Msc) → Type 0
+BorrowsEachString [] = Unit {0}
+BorrowsEachString (p ∷ ps) = BorrowsString p.0 × BorrowsMsc p.1 × BorrowsEachString ps
+
+-- the items of a sequence
+abbrev pub BorrowsSome : Option (Items Texts S Ms Msc Soc Number Literal Dots) → Type 0
 BorrowsSome None = Unit {0}
 BorrowsSome (Some items) = BorrowsItems items
-
-abbrev pub BorrowsSequence : Sequence → Type 0
-BorrowsSequence s = BorrowsS s.before × BorrowsSome s.items

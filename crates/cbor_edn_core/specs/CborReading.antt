@@ -7,17 +7,20 @@ use Rattle.cbor_edn_parts.specs.declared.error.Fault.{Fault}
 use Rattle.cbor_edn_parts.specs.declared.error.Fault.TheVariants.{Memory, Told}
 use Rattle.cbor_edn_parts.specs.declared.indicator.Indicator.{Indicator}
 use Rattle.cbor_edn_parts.specs.declared.indicator.Indicator.TheVariants.{Indefinite}
+use Rattle.cbor_edn_parts.specs.Contents.{kind_literal, empty_literal}
+use Rattle.cbor_edn_parts.specs.declared.string.StringKind.{StringKind}
+use Rattle.cbor_edn_parts.specs.declared.string.StringKind.TheVariants.{Bytes, Text}
 use Rattle.cbor_edn_core.specs.declared.cbor.Width.{Width}
 use Rattle.cbor_edn_core.specs.declared.cbor.Width.TheVariants.{Immediate, One, Two, Four, Eight}
 use Rattle.cbor_edn_core.specs.declared.from_cbor.CborError.{CborError}
-use Rattle.cbor_edn_core.specs.declared.from_cbor.CborError.TheVariants.{OutOfData, Reserved, MissingArgument, OtherChunk, OpenChunk, OpenNumber, MisplacedBreak, MissingBytes, DataAfter, TooDeep}
+use Rattle.cbor_edn_core.specs.declared.from_cbor.CborError.TheVariants.{OutOfData, Reserved, MissingArgument, OtherChunk, OpenChunk, OpenNumber, MisplacedBreak, MissingBytes, InvalidUtf8, DataAfter, TooDeep}
 use Rattle.cbor_edn_core.specs.declared.from_cbor.reader.Stop.{Stop}
 use Rattle.cbor_edn_core.specs.declared.from_cbor.reader.Stop.TheVariants.{Break, EndOfData}
 use Rattle.cbor_edn_core.specs.Items as kind
-use Rattle.cbor_edn_core.specs.Items.{Row, Elements}
-use Rattle.cbor_edn_core.specs.Trees.{Tree, OneItem, OneEntry, Rest, NumberTree, ListTree, ElementTree}
-use Rattle.cbor_edn_core.specs.Value.{Chunk, break}
-use Rattle.cbor_edn_core.specs.Decoded.{indicator_of, in_front, inside, key_value}
+use Rattle.cbor_edn_core.specs.Items.{Row, Elements, Strings, Bracketed, Array, Map, entries_of}
+use Rattle.cbor_edn_core.specs.Trees.{Tree, OneItem, OneString, OneEntry, Rest, NumberTree, ListTree, StringTree, LiteralTree, LastPieceTree, ElementTree, ChunkTree}
+use Rattle.cbor_edn_core.specs.Value.{Chunk, is_content, string_major, break}
+use Rattle.cbor_edn_core.specs.Decoded.{indicator_of, in_front, inside, key_value, stream_tree}
 
 -- what is read, and the bytes behind it
 abbrev pub Reads : Type 0 → Type 0
@@ -30,6 +33,10 @@ infixl 10 ◌>>=◌
 abbrev pub ◌>>=◌ : {A B : Type 0} → Result A CborError → (A → Result B CborError) → Result B CborError
 (Ok x) >>= f = f x
 (Err e) >>= f = Err e
+
+-- what is read, seen by a function
+abbrev pub shown : {A B : Type 0} → (A → B) → Reads A → Reads B
+shown f r = r >>= λ x. Ok (f x.0, x.1)
 
 -- What a function returned, seen by a view, is what reading gives, unless memory ran out.
 abbrev pub Fails : {Y : Type 0} → Fault CborError → Result Y CborError → Type 0
@@ -99,34 +106,34 @@ unfoldable pub several : {A : Type 0} → Reader A → Argument → Reader (List
 several one (Some (w, n)) bytes = many one n bytes
 several one None bytes = until Break one (suc (length bytes)) bytes
 
-unfoldable pub string_at : ℕ → Reader (List ℕ)
-string_at n bytes = if nat_lt (length bytes) n then Err MissingBytes else Ok (take n bytes, drop n bytes)
+-- the bytes of a string: those of a text are UTF-8
+unfoldable pub string_at : StringKind → ℕ → Reader (List ℕ)
+string_at k n bytes =
+    if nat_lt (length bytes) n then Err MissingBytes
+    else if is_content k (take n bytes) then Ok (take n bytes, drop n bytes)
+    else Err InvalidUtf8
 
-abbrev pub chunk_by : Head → Reader Chunk
-chunk_by (major, Some (w, n)) rest =
-    if major == 2 then (string_at n rest >>= λ s. Ok ((w, s.0), s.1)) else Err OtherChunk
-chunk_by (major, None) rest = if major == 2 then Err OpenChunk else Err OtherChunk
+abbrev pub chunk_by : StringKind → Head → Reader Chunk
+chunk_by k (major, Some (w, n)) rest =
+    if major == string_major k then (string_at k n rest >>= λ s. Ok ((w, s.0), s.1)) else Err OtherChunk
+chunk_by k (major, None) rest = if major == string_major k then Err OpenChunk else Err OtherChunk
 
-unfoldable pub chunk_at : Reader Chunk
-chunk_at bytes = do
+unfoldable pub chunk_at : StringKind → Reader Chunk
+chunk_at k bytes = do
   h ← head_at bytes
-  chunk_by h.0 h.1
-
--- What is made of byte strings and tags.
-pub record MakesMore (A : Type 0) : Type 0 where
-  pub byte_string : Width → List ℕ → A
-  pub chunks : List Chunk → A
-  pub tag : Width → ℕ → A → A
+  chunk_by k h.0 h.1
 
 -- What is made of each form: A for an item, B for a key with its value.
 pub record Makes (A B : Type 0) : Type 0 where
   pub unsigned : Width → ℕ → A
   pub negative : Width → ℕ → A
+  pub string : StringKind → Width → List ℕ → A
+  pub chunks : StringKind → List Chunk → A
   pub array : Argument → List A → A
   pub pair : A → A → B
   pub object : Argument → List B → A
-  -- none where byte strings and tags are not built
-  pub more : Option (MakesMore A)
+  -- none where tags are not built
+  pub tag : Option (Width → ℕ → A → A)
 
 unfoldable pub pair_at : {A B : Type 0} → Makes A B → Reader A → Reader B
 pair_at m one bytes = do
@@ -147,14 +154,14 @@ abbrev pub map_by : {A B : Type 0} → Makes A B → Option (Reader A) → Argum
 map_by m None argument rest = Err TooDeep
 map_by m (Some inner) argument rest = several (pair_at m inner) argument rest >>= λ xs. Ok (m.object argument xs.0, xs.1)
 
-abbrev pub tag_by : {A : Type 0} → MakesMore A → Option (Reader A) → Argument → Reader A
-tag_by m inner None rest = Err OpenNumber
-tag_by m None (Some (w, n)) rest = Err TooDeep
-tag_by m (Some inner) (Some (w, n)) rest = inner rest >>= λ x. Ok (m.tag w n x.0, x.1)
+abbrev pub tag_by : {A : Type 0} → (Width → ℕ → A → A) → Option (Reader A) → Argument → Reader A
+tag_by make inner None rest = Err OpenNumber
+tag_by make None (Some (w, n)) rest = Err TooDeep
+tag_by make (Some inner) (Some (w, n)) rest = inner rest >>= λ x. Ok (make w n x.0, x.1)
 
-abbrev pub bytes_by : {A : Type 0} → MakesMore A → Argument → Reader A
-bytes_by m (Some (w, n)) rest = string_at n rest >>= λ s. Ok (m.byte_string w s.0, s.1)
-bytes_by m None rest = until Break chunk_at (suc (length rest)) rest >>= λ cs. Ok (m.chunks cs.0, cs.1)
+abbrev pub string_by : {A B : Type 0} → Makes A B → StringKind → Argument → Reader A
+string_by m k (Some (w, n)) rest = string_at k n rest >>= λ s. Ok (m.string k w s.0, s.1)
+string_by m k None rest = until Break (chunk_at k) (suc (length rest)) rest >>= λ cs. Ok (m.chunks k cs.0, cs.1)
 
 -- the items that are not built, and a break where an item has to stand
 abbrev pub if_break : {A : Type 0} → Argument → Reads A
@@ -164,20 +171,19 @@ if_break (Some _) = Err Reserved
 abbrev pub other_by : {A : Type 0} → ℕ → Argument → Reads A
 other_by major argument = if major == 7 then (if_break argument) else Err Reserved
 
-abbrev pub more_by : {A : Type 0} → Option (MakesMore A) → Option (Reader A) → ℕ → Argument → Reader A
+abbrev pub more_by : {A : Type 0} → Option (Width → ℕ → A → A) → Option (Reader A) → ℕ → Argument → Reader A
 more_by None inner major argument rest = other_by major argument
-more_by (Some m) inner major argument rest =
-    if major == 2 then bytes_by m argument rest
-    else if major == 6 then tag_by m inner argument rest
-    else other_by major argument
+more_by (Some make) inner major argument rest = if major == 6 then tag_by make inner argument rest else other_by major argument
 
 unfoldable pub item_by : {A B : Type 0} → Makes A B → Option (Reader A) → ℕ → Argument → Reader A
 item_by m inner major argument rest =
     if major == 0 then number_by m.unsigned argument rest
     else if major == 1 then number_by m.negative argument rest
+    else if major == 2 then string_by m Bytes argument rest
+    else if major == 3 then string_by m Text argument rest
     else if major == 4 then array_by m inner argument rest
     else if major == 5 then map_by m inner argument rest
-    else more_by m.more inner major argument rest
+    else more_by m.tag inner major argument rest
 
 -- one item, nested no deeper than the number
 unfoldable pub item_at : {A B : Type 0} → Makes A B → ℕ → Reader A
@@ -210,7 +216,22 @@ element_row ws = row_of (map ElementTree ws)
 abbrev pub number_tree : ℤ → Width → ℕ → Tree OneItem
 number_tree z w n = NumberTree (signed_decimal z) (indicator_of w n)
 
-abbrev pub list_tree : (k : Row) → Argument → Option (Tree (Rest k)) → Tree OneItem
+-- a string: a literal, with its indicator
+abbrev pub string_tree : StringKind → Chunk → Tree OneString
+string_tree k c = LastPieceTree (LiteralTree (kind_literal k c.1) (indicator_of c.0 (length c.1)))
+
+abbrev pub string_row : List (Tree OneString) → Option (Tree (Rest Strings))
+string_row ws = row_of (map ChunkTree ws)
+
+-- a string of indefinite length: a stream, or one that is empty
+abbrev pub chunked_tree : StringKind → Option (Tree (Rest Strings)) → Tree OneItem
+chunked_tree k None = StringTree (LastPieceTree (LiteralTree (empty_literal k) (Some Indefinite)))
+chunked_tree k m = stream_tree m
+
+abbrev pub chunks_tree : StringKind → List Chunk → Tree OneItem
+chunks_tree k cs = chunked_tree k (string_row (map (string_tree k) cs))
+
+abbrev pub list_tree : (k : Bracketed) → Argument → Option (Tree (Rest (entries_of k))) → Tree OneItem
 list_tree k argument m = ListTree k (inside (argument_indicator argument) m)
 
 -- the trees of items
@@ -218,10 +239,12 @@ abbrev pub trees : Makes (Tree OneItem) (Tree (OneEntry kind.Pairs))
 trees = record {
   unsigned = λ w n. number_tree (pos n) w n;
   negative = λ w n. number_tree (negsuc n) w n;
-  array = λ argument ws. list_tree Elements argument (element_row ws);
+  string = λ k w bs. StringTree (string_tree k (w, bs));
+  chunks = chunks_tree;
+  array = λ argument ws. list_tree Array argument (element_row ws);
   pair = key_value;
-  object = λ argument es. list_tree kind.Pairs argument (row_of es);
-  more = None;
+  object = λ argument es. list_tree Map argument (row_of es);
+  tag = None;
 }
 
 -- An item with nothing behind it.

@@ -1,14 +1,17 @@
 -- The item that a value is decoded as, with the spaces that it is given.
-use Rattle.std.specs.Prelude.{ℕ, pos, negsuc, ◌≡◌, ◌++◌, ◌^◌, ◌≤◌, ◌<◌, nat_lt, nat_le, if◌then◌else◌, count_by, List, [], ◌∷◌, Option, Some, None}
+use Rattle.std.specs.Prelude.{ℕ, pos, negsuc, ◌≡◌, ◌++◌, ◌^◌, ◌≤◌, ◌<◌, nat_lt, nat_le, if◌then◌else◌, count_by, length, List, [], ◌∷◌, Option, Some, None}
 use Rattle.std.specs.Fmt.{signed_decimal}
 use Rattle.cbor_edn_parts.specs.declared.indicator.Indicator.{Indicator}
 use Rattle.cbor_edn_parts.specs.declared.indicator.Indicator.TheVariants as indicator
+use Rattle.cbor_edn_parts.specs.Contents.{kind_literal, empty_literal}
+use Rattle.cbor_edn_parts.specs.declared.string.StringKind.{StringKind}
 use Rattle.cbor_edn_core.specs.declared.cbor.Width.{Width}
 use Rattle.cbor_edn_core.specs.declared.cbor.Width.TheVariants.{Immediate, One, Two, Four, Eight}
 use Rattle.cbor_edn_core.specs.Items as kind
-use Rattle.cbor_edn_core.specs.Items.{Row, Elements, Sort, Item, Entry, Entries, Node, Number, Listed, Element, Pair, End, Then, Items}
-use Rattle.cbor_edn_core.specs.Trees.{Tree, OneItem, OneEntry, Inside, Rest, Seq, Standalone, Head, Unmarked, Marked, NumberTree, ListTree, ElementTree, PairTree, EmptyTree, FullTree, LastTree, MoreTree, NothingTree, SequenceTree, StandaloneTree, items}
-use Rattle.cbor_edn_core.specs.Value.{Value, unsigned, negative, array, object, Values, no_values, value, values_len, Pairs, no_pairs, pair, pairs_len, nesting, values_nesting, Enc, EncAll}
+use Rattle.cbor_edn_core.specs.Items.{Row, Elements, Strings, Bracketed, Array, Map, entries_of, Sort, Item, Piece, Pieces, Entry, Entries, Node, Number, Listed, String, Stream, Literal, Dots, Embedded, LastPiece, Plus, Element, Pair, Chunk, End, Then, Items}
+use Rattle.cbor_edn_core.specs.Trees.{Tree, OneItem, OnePiece, OneString, OneEntry, Inside, Rest, Seq, Standalone, Head, Unmarked, Marked, NumberTree, ListTree, StringTree, StreamTree, LiteralTree, DotsTree, EmbeddedTree, LastPieceTree, PlusTree, ElementTree, PairTree, ChunkTree, EmptyTree, FullTree, LastTree, MoreTree, NothingTree, SequenceTree, StandaloneTree, items}
+use Rattle.cbor_edn_core.specs.Value as values
+use Rattle.cbor_edn_core.specs.Value.{Value, unsigned, negative, string, chunks, array, object, Values, no_values, value, values_len, Pairs, no_pairs, pair, pairs_len, nesting, values_nesting, Enc, EncAll}
 use Rattle.cbor_edn_core.specs.Meaning.{◌>>=◌, means}
 
 -- ---- items
@@ -29,14 +32,29 @@ abbrev pub list_indicator : Option Width → ℕ → Option Indicator
 list_indicator None n = Some indicator.Indefinite
 list_indicator (Some w) n = indicator_of w n
 
+-- a string of definite length: bytes as h'..', a text between double quotes
+abbrev pub string_item : StringKind → values.Chunk → Node Pieces
+string_item k c = LastPiece (Literal (kind_literal k c.1) (indicator_of c.0 (length c.1)))
+
+abbrev pub chunk_items : StringKind → List values.Chunk → Node (Entries Strings)
+chunk_items k [] = End
+chunk_items k (c ∷ cs) = Then (Chunk (string_item k c)) (chunk_items k cs)
+
+-- a string of indefinite length: without a chunk it is `''_` or `""_`
+abbrev pub chunked_item : StringKind → List values.Chunk → Node Item
+chunked_item k [] = String (LastPiece (Literal (empty_literal k) (Some indicator.Indefinite)))
+chunked_item k (c ∷ cs) = Stream (chunk_items k (c ∷ cs))
+
 -- The item of a value, for the values whose heads are decoded: integers in decimal, and indicators only where they are needed.
--- That of 18 0a is `10_0`, and that of 9f 01 ff `[_ 1]`.
+-- That of 18 0a is `10_0`, that of 9f 01 ff `[_ 1]`, and that of 5f 41 61 ff `(_ h'61')`.
 abbrev mutual
   pub item_of : Value → Option (Node Item)
   item_of (unsigned w n) = Some (Number (signed_decimal (pos n)) (indicator_of w n))
   item_of (negative w n) = Some (Number (signed_decimal (negsuc n)) (indicator_of w n))
-  item_of (array w vs) = items_of vs >>= λ m. Some (Listed Elements (list_indicator w (values_len vs)) m)
-  item_of (object w ps) = pairs_of ps >>= λ m. Some (Listed kind.Pairs (list_indicator w (pairs_len ps)) m)
+  item_of (string k w bs) = Some (String (string_item k (w, bs)))
+  item_of (chunks k cs) = Some (chunked_item k cs)
+  item_of (array w vs) = items_of vs >>= λ m. Some (Listed Array (list_indicator w (values_len vs)) m)
+  item_of (object w ps) = pairs_of ps >>= λ m. Some (Listed Map (list_indicator w (pairs_len ps)) m)
   item_of _ = None
 
   pub items_of : Values → Option Items
@@ -60,15 +78,30 @@ head_of None = Unmarked
 head_of (Some i) = Marked i (32 ∷ [])
 
 -- what stands between brackets: `[_]` and `[]` have no space
-abbrev pub inside : {k : Row} → Option Indicator → Option (Tree (Rest k)) → Tree (Inside k)
+abbrev pub inside : {k : Bracketed} → Option Indicator → Option (Tree (Rest (entries_of k))) → Tree (Inside k)
 inside i None = EmptyTree i []
 inside i (Some m) = FullTree (head_of i) [] m
 
 abbrev pub key_value : Tree OneItem → Tree OneItem → Tree (OneEntry kind.Pairs)
 key_value v w = PairTree v [] (32 ∷ []) w
 
+abbrev pub sequence_tree_of : Option (Tree (Rest Elements)) → Tree Seq
+sequence_tree_of None = NothingTree []
+sequence_tree_of (Some m) = SequenceTree [] m
+
+-- A stream: one space behind `(_`. No text spells a stream without strings, and no value has it for its item.
+abbrev pub stream_tree : Option (Tree (Rest Strings)) → Tree OneItem
+stream_tree None = StringTree (LastPieceTree (LiteralTree [] None))
+stream_tree (Some m) = StreamTree (32 ∷ []) m
+
+-- an embedded sequence
+abbrev pub embedded_tree : Option (Tree (Rest Elements)) → Option Indicator → Tree OnePiece
+embedded_tree m i = EmbeddedTree (sequence_tree_of m) i
+
 abbrev pub Regular : Sort → Type 0
 Regular Item = Tree OneItem
+Regular Piece = Tree OnePiece
+Regular Pieces = Tree OneString
 Regular (Entry k) = Tree (OneEntry k)
 Regular (Entries k) = Option (Tree (Rest k))
 
@@ -76,18 +109,22 @@ Regular (Entries k) = Option (Tree (Rest k))
 unfoldable pub regular : {s : Sort} → Node s → Regular s
 regular (Number x i) = NumberTree x i
 regular (Listed k i m) = ListTree k (inside i (regular m))
+regular (String w) = StringTree (regular w)
+regular (Stream m) = stream_tree (regular m)
+regular (Literal x i) = LiteralTree x i
+regular (Dots x) = DotsTree x
+regular (Embedded m i) = embedded_tree (regular m) i
+regular (LastPiece p) = LastPieceTree (regular p)
+regular (Plus p w) = PlusTree (regular p) (32 ∷ []) (32 ∷ []) (regular w)
 regular (Element w) = ElementTree (regular w)
 regular (Pair v w) = key_value (regular v) (regular w)
+regular (Chunk w) = ChunkTree (regular w)
 regular End = None
 regular (Then e m) = Some (in_front (regular e) (regular m))
 
 -- an item without space round it
 abbrev pub alone : Tree OneItem → Tree Standalone
 alone w = StandaloneTree [] w []
-
-abbrev pub sequence_tree_of : Option (Tree (Rest Elements)) → Tree Seq
-sequence_tree_of None = NothingTree []
-sequence_tree_of (Some m) = SequenceTree [] m
 
 abbrev pub regular_sequence : Items → Tree Seq
 regular_sequence m = sequence_tree_of (regular m)

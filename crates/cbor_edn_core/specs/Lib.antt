@@ -12,7 +12,6 @@ pub mod Meaning
 pub mod ParserResults
 pub mod Parsing
 pub mod Reading
-pub mod Refusals
 pub mod Same
 pub mod Spelling
 pub mod Trees

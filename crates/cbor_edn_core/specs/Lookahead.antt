@@ -1,8 +1,21 @@
--- What a bracket opens, as the rows of the grammar.
-use Rattle.cbor_edn_core.specs.Items.{Row, Elements, Pairs}
-use Rattle.cbor_edn_core.specs.declared.lookahead.List.{List}
-use Rattle.cbor_edn_core.specs.declared.lookahead.List.TheVariants.{Array, Map}
+-- What begins at a place, in the words of the grammar.
+use Rattle.std.specs.Prelude.{ℕ, ◌≡◌, ◌≢◌, true, false, List, drop}
+use Rattle.cbor_edn_core.specs.ParserResults.{IsByteAt, IsNotAt}
+use Rattle.cbor_edn_core.specs.Reading.{begins_string, starts_string}
+use Rattle.cbor_edn_core.specs.declared.lookahead.Opening.{Opening}
+use Rattle.cbor_edn_core.specs.declared.lookahead.Opening.TheVariants.{Array, Map, Stream, String, Number}
 
-abbrev pub row : List → Row
-row Array = Elements
-row Map = Pairs
+abbrev pub Opens : List ℕ → ℕ → Opening → Type 0
+Opens text at Array = IsByteAt text at 91
+Opens text at Map = IsByteAt text at 123
+Opens text at Stream = IsByteAt text at 40
+Opens text at String = starts_string (drop at text) ≡ true
+Opens text at Number = IsNotAt 91 (drop at text) × IsNotAt 123 (drop at text) × IsNotAt 40 (drop at text) × (starts_string (drop at text) ≡ false)
+
+-- the same of a byte that is no dot
+abbrev pub OpensWith : ℕ → Opening → Type 0
+OpensWith c Array = c ≡ 91
+OpensWith c Map = c ≡ 123
+OpensWith c Stream = c ≡ 40
+OpensWith c String = begins_string c ≡ true
+OpensWith c Number = (c ≢ 91) × (c ≢ 123) × (c ≢ 40) × (begins_string c ≡ false)

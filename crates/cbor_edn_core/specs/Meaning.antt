@@ -1,14 +1,17 @@
 -- What items mean: a CBOR value, its heads as the encoding indicators say, or nothing.
-use Rattle.std.specs.Prelude.{ℕ, ℤ, pos, negsuc, zero, suc, ◌+◌, ◌^◌, List, [], ◌∷◌, length, Option, Some, None, nat_lt, if◌then◌else◌}
+use Rattle.std.specs.Prelude.{ℕ, ℤ, pos, negsuc, zero, suc, ◌+◌, ◌^◌, Bool, true, false, List, [], ◌∷◌, ◌++◌, ◌&&◌, is_none, length, Option, Some, None, nat_lt, if◌then◌else◌}
 use Rattle.std.specs.Int.{w128, to_be_bytes}
 use Rattle.cbor_edn_parts.specs.declared.indicator.Indicator.{Indicator}
 use Rattle.cbor_edn_parts.specs.declared.indicator.Indicator.TheVariants as indicator
 use Rattle.cbor_edn_parts.specs.Number.{integer_of}
+use Rattle.cbor_edn_parts.specs.Contents.{Content, literal_content}
+use Rattle.cbor_edn_parts.specs.declared.string.StringKind.{StringKind}
+use Rattle.cbor_edn_parts.specs.declared.string.StringKind.TheVariants.{Bytes, Text}
 use Rattle.cbor_edn_core.specs.declared.cbor.Width.{Width}
 use Rattle.cbor_edn_core.specs.declared.cbor.Width.TheVariants.{Immediate, One, Two, Four, Eight}
-use Rattle.cbor_edn_core.specs.Items.{Row, Elements, Pairs, Sort, Item, Entry, Entries, Node, Number, Listed, Element, Pair, End, Then}
+use Rattle.cbor_edn_core.specs.Items.{Row, Elements, Pairs, Strings, Bracketed, Array, Map, entries_of, Sort, Item, Piece, Pieces, Entry, Entries, Node, Number, Listed, String, Stream, Literal, Dots, Embedded, LastPiece, Plus, Element, Pair, Chunk, End, Then}
 use Rattle.cbor_edn_core.specs.Value as values
-use Rattle.cbor_edn_core.specs.Value.{Value, unsigned, negative, byte_string, array, object, tag, Values, no_values, value, values_len, no_pairs, pair, pairs_len, limit_of}
+use Rattle.cbor_edn_core.specs.Value.{Value, unsigned, negative, string, chunks, is_content, array, object, tag, Values, no_values, value, values_len, no_pairs, pair, pairs_len, limit_of, encodings}
 
 infixl 10 ◌>>=◌
 abbrev pub ◌>>=◌ : {A B : Type 0} → Option A → (A → Option B) → Option B
@@ -56,7 +59,7 @@ magnitude_bytes n = without_zeros (to_be_bytes w128 n)
 
 -- a tag over a byte string, with the shortest heads
 abbrev pub tagged : ℕ → List ℕ → Value
-tagged number bs = tag Immediate number (byte_string (shortest (length bs)) bs)
+tagged number bs = tag Immediate number (string Bytes (shortest (length bs)) bs)
 
 -- what takes no indicator
 abbrev pub unmarked : Option Indicator → Value → Option Value
@@ -72,47 +75,109 @@ abbrev pub means_integer : Option Indicator → ℤ → Option Value
 means_integer i (pos n) = if nat_lt n (2 ^ 64) then (width_of i n >>= λ w. Some (unsigned w n)) else bignum 2 n n i
 means_integer i (negsuc n) = if nat_lt n (2 ^ 64) then (width_of i n >>= λ w. Some (negative w n)) else bignum 3 n (n + 1) i
 
+-- ---- strings
+
+-- two contents, one behind the other: the kind is that of the first
+abbrev pub joined : Content → Content → Content
+joined c d = (c.0, c.1 ++ d.1)
+
+-- The indicators of the pieces of a string, as one: none of several pieces may have one.
+abbrev pub piece_mark : Node Piece → Option Indicator
+piece_mark (Literal x i) = i
+piece_mark (Dots x) = None
+piece_mark (Embedded m i) = i
+
+abbrev pub are_unmarked : Node Pieces → Bool
+are_unmarked (LastPiece p) = is_none (piece_mark p)
+are_unmarked (Plus p w) = is_none (piece_mark p) && are_unmarked w
+
+abbrev pub pieces_mark : Node Pieces → Option (Option Indicator)
+pieces_mark (LastPiece p) = Some (piece_mark p)
+pieces_mark (Plus p w) = if are_unmarked (Plus p w) then Some None else None
+
+-- a string of definite length, as one of the strings of a stream
+abbrev pub chunk_of : Content → Option Indicator → Option (StringKind × values.Chunk)
+chunk_of c i = if is_content c.0 c.1 then (width_of i (length c.1) >>= λ w. Some (c.0, (w, c.1))) else None
+
+-- A string by itself: with `_` an empty one means the string of indefinite length without chunks.
+abbrev pub string_of : Content → Option Indicator → Option Value
+string_of (k, []) (Some indicator.Indefinite) = Some (chunks k [])
+string_of c i = chunk_of c i >>= λ p. Some (string p.0 p.1.0 p.1.1)
+
+abbrev pub same_kind : StringKind → StringKind → Bool
+same_kind Bytes Bytes = true
+same_kind Text Text = true
+same_kind _ _ = false
+
+-- the chunks, where all are of this kind
+abbrev pub chunks_of : StringKind → List (StringKind × values.Chunk) → Option (List values.Chunk)
+chunks_of k [] = Some []
+chunks_of k (p ∷ ps) = if same_kind k p.0 then (chunks_of k ps >>= λ cs. Some (p.1 ∷ cs)) else None
+
+-- A stream of strings, one or more, all of the kind of the first.
+abbrev pub stream_of : List (StringKind × values.Chunk) → Option Value
+stream_of [] = None
+stream_of (p ∷ ps) = chunks_of p.0 (p ∷ ps) >>= λ cs. Some (chunks p.0 cs)
+
+-- ---- items
+
 -- what a row of entries means
 abbrev pub RowOf : Row → Type 0
 RowOf Elements = Values
 RowOf Pairs = values.Pairs
+RowOf Strings = List (StringKind × values.Chunk)
 
 abbrev pub EntryOf : Row → Type 0
 EntryOf Elements = Value
 EntryOf Pairs = Value × Value
+EntryOf Strings = StringKind × values.Chunk
 
 abbrev pub MeaningOf : Sort → Type 0
 MeaningOf Item = Value
+MeaningOf Piece = Content
+MeaningOf Pieces = Content
 MeaningOf (Entry k) = EntryOf k
 MeaningOf (Entries k) = RowOf k
 
 abbrev pub row_len : (k : Row) → RowOf k → ℕ
 row_len Elements vs = values_len vs
 row_len Pairs ps = pairs_len ps
+row_len Strings cs = length cs
 
 -- an array or a map
-abbrev pub list_value : (k : Row) → Option Width → RowOf k → Value
-list_value Elements w vs = array w vs
-list_value Pairs w ps = object w ps
+abbrev pub list_value : (k : Bracketed) → Option Width → RowOf (entries_of k) → Value
+list_value Array w vs = array w vs
+list_value Map w ps = object w ps
 
 -- a list of entries with an indicator
-abbrev pub listed : (k : Row) → Option Indicator → RowOf k → Option Value
-listed k i r = length_of i (row_len k r) >>= λ w. Some (list_value k w r)
+abbrev pub listed : (k : Bracketed) → Option Indicator → RowOf (entries_of k) → Option Value
+listed k i r = length_of i (row_len (entries_of k) r) >>= λ w. Some (list_value k w r)
 
 abbrev pub no_entries : (k : Row) → RowOf k
 no_entries Elements = no_values
 no_entries Pairs = no_pairs
+no_entries Strings = []
 
 abbrev pub one_more : (k : Row) → EntryOf k → RowOf k → RowOf k
 one_more Elements v vs = value v vs
 one_more Pairs p ps = pair p.0 p.1 ps
+one_more Strings c cs = c ∷ cs
 
--- The value that an item means, the key and value of a pair, and those of a row, or none: a list means nothing where one of its entries
--- does. `[_0 1, -1]` means the array, of width One, of `unsigned Immediate 1` and `negative Immediate 0`; `24_i` means nothing.
+-- The value that an item means, the content of a string's pieces, the key and value of a pair, and those of a row, or none: a list means
+-- nothing where one of its entries does. `[_0 1, -1]` means the array, of width One, of `unsigned Immediate 1` and
+-- `negative Immediate 0`; `"a" + 'b'` means the text 61 62; `24_i` means nothing.
 unfoldable pub means : {s : Sort} → Node s → Option (MeaningOf s)
 means (Number x i) = integer_of x >>= means_integer i
 means (Listed k i m) = means m >>= listed k i
+means (String w) = means w >>= λ c. pieces_mark w >>= string_of c
+means (Stream m) = means m >>= stream_of
+means (Literal x i) = literal_content x
+means (Dots x) = None
+means (Embedded m i) = means m >>= λ vs. Some (Bytes, encodings vs)
+means (LastPiece p) = means p
+means (Plus p w) = means p >>= λ c. means w >>= λ d. Some (joined c d)
 means (Element w) = means w
 means (Pair v w) = means v >>= λ x. means w >>= λ y. Some (x, y)
+means (Chunk w) = means w >>= λ c. pieces_mark w >>= chunk_of c
 means (End {k}) = Some (no_entries k)
 means (Then {k} e m) = means e >>= λ x. means m >>= λ r. Some (one_more k x r)

@@ -1,5 +1,5 @@
 -- How a result of the parser stands to what the reader on lists gives.
-use Rattle.std.specs.Prelude.{ℕ, ◌≡◌, ◌≢◌, ◌≤◌, List, [], ◌∷◌, ◌++◌, drop, Result, Ok, Err}
+use Rattle.std.specs.Prelude.{ℕ, ◌+◌, ◌*◌, ◌≡◌, ◌≢◌, ◌≤◌, List, [], ◌∷◌, ◌++◌, length, drop, Result, Ok, Err}
 use Rattle.std.specs.Str.{IsCharBoundary}
 use Rattle.cbor_edn_parts.specs.declared.error.ParseErrorKind.{ParseErrorKind}
 use Rattle.cbor_edn_parts.specs.declared.error.Refusal.{Refusal}
@@ -8,7 +8,20 @@ use Rattle.cbor_edn_parts.specs.declared.error.Fault.TheVariants.{Memory, Told}
 use Rattle.cbor_edn_parts.specs.Leaves.{msc_bytes, soc_bytes, BorrowsMsc, BorrowsSoc}
 use Rattle.cbor_edn_parts.specs.declared.space.Msc.{Msc}
 use Rattle.cbor_edn_parts.specs.declared.space.Soc.{Soc}
-use Rattle.cbor_edn_core.specs.Reading.{Read}
+use Rattle.cbor_edn_parts.specs.declared.space.read.End.{End}
+use Rattle.cbor_edn_parts.specs.Ends.{IsEnd, reached}
+use Rattle.cbor_edn_parts.specs.SpaceTokens.{space, separator}
+use Rattle.cbor_edn_core.specs.Items.{Row, Elements, Pairs, Strings}
+use Rattle.cbor_edn_core.specs.Trees.{Tree, OneItem, OneEntry, PairTree, ElementTree, ChunkTree}
+use Rattle.cbor_edn_core.specs.View.{Item, item_tree, texts, view_string}
+use Rattle.cbor_edn_core.specs.declared.tree.Texts.{Texts}
+use Rattle.cbor_edn_core.specs.declared.tree.CborString.{CborString}
+use Rattle.cbor_edn_parts.specs.declared.space.S.{S}
+use Rattle.cbor_edn_parts.specs.declared.space.Ms.{Ms}
+use Rattle.cbor_edn_parts.specs.declared.number.Number.{Number}
+use Rattle.cbor_edn_parts.specs.declared.string.Literal.{Literal}
+use Rattle.cbor_edn_parts.specs.declared.string.Dots.{Dots}
+use Rattle.cbor_edn_core.specs.Reading.{◌>>=◌, Read, token, reads}
 
 -- The refusal is the reader's, unless memory ran out.
 abbrev pub Fails : {Y : Type 0} → Fault Refusal → Result Y ParseErrorKind → Type 0
@@ -35,6 +48,24 @@ abbrev pub Lands : {X : Type 0} → List ℕ → ℕ → Result (X × ℕ) (Faul
 Lands text at (Ok p) = (at ≤ p.1) × IsCharBoundary text p.1
 Lands text at (Err e) = IsPlaced text e
 
+-- The same three of a value whose end is told with the space behind it, where that is read: what the reader gives, where the
+-- place behind stands, and what the looks cost up to the place that is reached.
+abbrev pub ReadsEnd : {X Y : Type 0} → (X → Y) → List ℕ → Result (X × End) (Fault Refusal) → Read Y → Type 0
+ReadsEnd view text (Ok p) read = read ≡ Ok (view p.0, drop p.1.item text)
+ReadsEnd view text (Err e) read = Fails e read
+
+abbrev pub LandsEnd : {X : Type 0} → List ℕ → ℕ → Result (X × End) (Fault Refusal) → Type 0
+LandsEnd text at (Ok p) = (at ≤ p.1.item) × (p.1.item ≤ reached p.1) × IsEnd text p.1
+LandsEnd text at (Err e) = IsPlaced text e
+
+abbrev pub CostsEnd : {X E : Type 0} → ℕ → ℕ → ℕ → List ℕ → ℕ → ℕ → ℕ → Result (X × End) E → Type 0
+CostsEnd rate k failed text at old new (Ok p) = (new + rate * at + p.1.item ≤ old + rate * p.1.item + reached p.1 + k) × (old + reached p.1 ≤ new + at)
+CostsEnd rate k failed text at old new (Err e) = new + rate * at ≤ old + rate * length text + failed
+
+-- This byte stands there, and a character behind it begins.
+abbrev pub IsByteAt : List ℕ → ℕ → ℕ → Type 0
+IsByteAt text at b = (drop at text ≡ b ∷ drop (at + 1) text) × IsCharBoundary text (at + 1)
+
 -- This byte does not stand in front.
 abbrev pub IsNotAt : ℕ → List ℕ → Type 0
 IsNotAt b [] = Unit {0}
@@ -47,3 +78,35 @@ pub record IsPushed {T : Type 0} (old new : List (T × Msc)) (entry : T) (soc : 
   pub same : msc_bytes separator ≡ soc_bytes soc
   pub not_empty : soc_bytes soc ≢ []
   pub borrowed : BorrowsSoc soc → BorrowsMsc separator
+
+-- No `>>` stands in front.
+abbrev pub IsUnclosed : List ℕ → Type 0
+IsUnclosed [] = Unit {0}
+IsUnclosed (c ∷ cs) = (c ≡ 62) → IsNotAt 62 cs
+
+-- what is read behind the colon, for a key and the space behind it
+abbrev pub behind_colon : ℕ → Tree OneItem → List ℕ → List ℕ → Read (Tree (OneEntry Pairs))
+behind_colon limit v s xs = token space xs >>= λ t. reads limit OneItem t.1 >>= λ w. Ok (PairTree v s t.0 w.0, w.1)
+
+-- an entry with the separator behind it
+abbrev pub parted : ℕ → (k : Row) → List ℕ → Read (Tree (OneEntry k) × List ℕ)
+parted limit k xs = reads limit (OneEntry k) xs >>= λ e. token separator e.1 >>= λ s. Ok ((e.0, s.0), s.1)
+
+abbrev pub element_tree : Item → Tree (OneEntry Elements)
+element_tree x = ElementTree (item_tree x)
+
+abbrev pub chunk_tree : CborString Texts S Ms Msc Soc Number Literal Dots → Tree (OneEntry Strings)
+chunk_tree x = ChunkTree (view_string texts x)
+
+abbrev pub ReadsParted : {X : Type 0} {k : Row} → (X → Tree (OneEntry k)) → List ℕ → Result (X × Soc × ℕ) (Fault Refusal) → Read (Tree (OneEntry k) × List ℕ) → Type 0
+ReadsParted view text (Ok p) read = read ≡ Ok ((view p.0, soc_bytes p.1), drop p.2 text)
+ReadsParted view text (Err e) read = Fails e read
+
+abbrev pub LandsParted : {X : Type 0} → List ℕ → ℕ → Result (X × Soc × ℕ) (Fault Refusal) → Type 0
+LandsParted text at (Ok p) = (at + length (soc_bytes p.1) ≤ p.2) × IsCharBoundary text p.2
+LandsParted text at (Err e) = IsPlaced text e
+
+-- the separator costs little of what its bytes allow
+abbrev pub CostsParted : {X E : Type 0} → ℕ → ℕ → ℕ → List ℕ → ℕ → ℕ → ℕ → Result (X × Soc × ℕ) E → Type 0
+CostsParted rate k failed text at old new (Ok p) = (new + rate * at + 10 * length (soc_bytes p.1) ≤ old + rate * p.2 + k) × (old + p.2 ≤ new + at)
+CostsParted rate k failed text at old new (Err e) = new + rate * at ≤ old + rate * length text + failed

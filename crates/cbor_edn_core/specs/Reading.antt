@@ -1,5 +1,5 @@
 -- The plain reader on lists, rule by rule. It knows how deep lists may nest.
-use Rattle.std.specs.Prelude.{ℕ, suc, zero, cond, eqb, nat_le, List, [], ◌∷◌, Option, Some, None, Result, Ok, Err, ◌+◌, ◌*◌, length}
+use Rattle.std.specs.Prelude.{ℕ, suc, zero, Bool, false, cond, eqb, ◌||◌, ◌&&◌, nat_le, List, [], ◌∷◌, Option, Some, None, Result, Ok, Err, ◌+◌, ◌*◌, length}
 use Rattle.cbor_edn_parts.specs.declared.error.ParseErrorKind.{ParseErrorKind}
 use Rattle.cbor_edn_parts.specs.declared.error.ParseErrorKind.TheVariants.{Invalid, TooDeep}
 use Rattle.cbor_edn_parts.specs.declared.indicator.Indicator.{Indicator}
@@ -9,9 +9,10 @@ use Rattle.cbor_edn_parts.specs.Lex as lex
 use Rattle.cbor_edn_parts.specs.Lex.{Table}
 use Rattle.cbor_edn_parts.specs.SpaceTokens.{space, separator}
 use Rattle.cbor_edn_parts.specs.NumberTokens.{number}
-use Rattle.cbor_edn_core.specs.Items.{Row, Elements, Pairs}
+use Rattle.cbor_edn_parts.specs.LiteralTokens.{literal, dots, is_lower, is_upper}
+use Rattle.cbor_edn_core.specs.Items.{Row, Elements, Pairs, Strings, Bracketed, Array, Map, entries_of}
 use Rattle.cbor_edn_core.specs.Spelling.{ending}
-use Rattle.cbor_edn_core.specs.Trees.{Rule, OneItem, OneEntry, Inside, Rest, Seq, Standalone, Head, Unmarked, Marked, Tree, NumberTree, ListTree, ElementTree, PairTree, EmptyTree, FullTree, LastTree, MoreTree, NothingTree, SequenceTree, StandaloneTree}
+use Rattle.cbor_edn_core.specs.Trees.{Rule, OneItem, OnePiece, OneString, OneEntry, Inside, Rest, Seq, Standalone, Head, Unmarked, Marked, Tree, NumberTree, ListTree, StringTree, StreamTree, LiteralTree, DotsTree, EmbeddedTree, LastPieceTree, PlusTree, ElementTree, PairTree, ChunkTree, EmptyTree, FullTree, LastTree, MoreTree, NothingTree, SequenceTree, StandaloneTree, joins}
 
 infixl 10 ◌>>=◌
 unfoldable pub ◌>>=◌ : {A B : Type 0} → Result A ParseErrorKind → (A → Result B ParseErrorKind) → Result B ParseErrorKind
@@ -48,28 +49,78 @@ head_of None s = Ok (Unmarked, s)
 head_of (Some i) [] = Err Invalid
 head_of (Some i) (c ∷ s) = Ok (Marked i (c ∷ s), [])
 
+abbrev pub starts_dots : List ℕ → Bool
+starts_dots [] = false
+starts_dots (c ∷ r) = eqb c 46
+
+-- what alone begins a string: a quote, a letter, or `<`
+abbrev pub begins_string : ℕ → Bool
+begins_string c = eqb c 34 || eqb c 39 || eqb c 60 || is_lower c || is_upper c
+
+-- Whether a string begins there, which two dots do too.
+unfoldable pub starts_string : List ℕ → Bool
+starts_string [] = false
+starts_string (c ∷ r) = begins_string c || (eqb c 46 && starts_dots r)
+
 -- Each rule, by readers for a smaller text: `g n` for what nests at most n deep.
 module _ (g : ℕ → (s : Rule) → Reader s) where
   unfoldable pub number_item : Reader OneItem
   number_item xs = token number xs >>= λ x. Ok (NumberTree x.0 (indicator_at x.1).0, (indicator_at x.1).1)
 
   -- behind the opening byte
-  unfoldable pub list_item : (limit : ℕ) → Row → Reader OneItem
+  unfoldable pub list_item : (limit : ℕ) → Bracketed → Reader OneItem
   list_item zero k xs = Err TooDeep
   list_item (suc limit) k xs = g limit (Inside k) xs >>= λ w. byte (ending k) w.1 >>= λ r. Ok (ListTree k w.0, r)
 
+  -- behind the parenthesis that opens it
+  unfoldable pub stream_item : ℕ → Reader OneItem
+  stream_item limit xs = byte 95 xs >>= λ r. token space r >>= λ s. not_empty s.0 >>= λ ms. g limit (Rest Strings) s.1 >>= λ m. byte 41 m.1 >>= λ r. Ok (StreamTree ms m.0, r)
+
+  unfoldable pub string_item : ℕ → Reader OneItem
+  string_item limit xs = g limit OneString xs >>= λ w. Ok (StringTree w.0, w.1)
+
   unfoldable pub item : ℕ → Reader OneItem
   item limit [] = Err Invalid
-  item limit (c ∷ xs) = cond (eqb c 91) (list_item limit Elements xs) (cond (eqb c 123) (list_item limit Pairs xs) (number_item (c ∷ xs)))
+  item limit (c ∷ xs) =
+      cond (eqb c 91) (list_item limit Array xs) (
+      cond (eqb c 123) (list_item limit Map xs) (
+      cond (eqb c 40) (stream_item limit xs) (
+      cond (starts_string (c ∷ xs)) (string_item limit (c ∷ xs)) (number_item (c ∷ xs)))))
+
+  unfoldable pub literal_piece : Reader OnePiece
+  literal_piece xs = token literal xs >>= λ x. Ok (LiteralTree x.0 (indicator_at x.1).0, (indicator_at x.1).1)
+
+  unfoldable pub dots_piece : Reader OnePiece
+  dots_piece xs = token dots xs >>= λ x. Ok (DotsTree x.0, x.1)
+
+  -- behind `<<`
+  unfoldable pub embedded_piece : ℕ → Reader OnePiece
+  embedded_piece zero xs = Err TooDeep
+  embedded_piece (suc limit) xs = g limit Seq xs >>= λ w. byte 62 w.1 >>= λ r. byte 62 r >>= λ r. Ok (EmbeddedTree w.0 (indicator_at r).0, (indicator_at r).1)
+
+  unfoldable pub piece : ℕ → Reader OnePiece
+  piece limit [] = Err Invalid
+  piece limit (c ∷ xs) =
+      cond (eqb c 60) (byte 60 xs >>= embedded_piece limit) (
+      cond (eqb c 46) (dots_piece (c ∷ xs)) (literal_piece (c ∷ xs)))
+
+  -- behind the plus sign
+  unfoldable pub plus_string : ℕ → Tree OnePiece → List ℕ → Reader OneString
+  plus_string limit p s xs = byte 43 xs >>= λ r. token space r >>= λ t. g limit OneString t.1 >>= λ w. Ok (PlusTree p s t.0 w.0, w.1)
+
+  -- The space behind a piece is read to see whether a plus sign joins another one.
+  unfoldable pub string : ℕ → Reader OneString
+  string limit xs = g limit OnePiece xs >>= λ p. token space p.1 >>= λ s. cond (joins s.1) (plus_string limit p.0 s.0 s.1) (Ok (LastPieceTree p.0, p.1))
 
   unfoldable pub entry : ℕ → (k : Row) → Reader (OneEntry k)
   entry limit Elements xs = g limit OneItem xs >>= λ w. Ok (ElementTree w.0, w.1)
+  entry limit Strings xs = g limit OneString xs >>= λ w. Ok (ChunkTree w.0, w.1)
   entry limit Pairs xs = g limit OneItem xs >>= λ v. token space v.1 >>= λ s. byte 58 s.1 >>= λ r. token space r >>= λ t. g limit OneItem t.1 >>= λ w. Ok (PairTree v.0 s.0 t.0 w.0, w.1)
 
-  unfoldable pub inside_full : ℕ → (k : Row) → Option Indicator → List ℕ → Reader (Inside k)
-  inside_full limit k i s xs = head_of i s >>= λ h. g limit (Rest k) xs >>= λ m. Ok (FullTree h.0 h.1 m.0, m.1)
+  unfoldable pub inside_full : ℕ → (k : Bracketed) → Option Indicator → List ℕ → Reader (Inside k)
+  inside_full limit k i s xs = head_of i s >>= λ h. g limit (Rest (entries_of k)) xs >>= λ m. Ok (FullTree h.0 h.1 m.0, m.1)
 
-  unfoldable pub inside : ℕ → (k : Row) → Reader (Inside k)
+  unfoldable pub inside : ℕ → (k : Bracketed) → Reader (Inside k)
   inside limit k xs = token space (indicator_at xs).1 >>= λ s. cond (is_closed s.1) (Ok (EmptyTree (indicator_at xs).0 s.0, s.1)) (inside_full limit k (indicator_at xs).0 s.0 s.1)
 
   unfoldable pub more : ℕ → (k : Row) → Tree (OneEntry k) → List ℕ → Reader (Rest k)
@@ -86,6 +137,8 @@ module _ (g : ℕ → (s : Rule) → Reader s) where
 
   abbrev pub rule : ℕ → (s : Rule) → Reader s
   rule limit OneItem = item limit
+  rule limit OnePiece = piece limit
+  rule limit OneString = string limit
   rule limit (OneEntry k) = entry limit k
   rule limit (Inside k) = inside limit k
   rule limit (Rest k) = rest limit k
@@ -99,7 +152,7 @@ read (suc steps) limit s xs = rule (read steps) limit s xs
 
 -- Enough steps for every text.
 unfoldable pub reads : ℕ → (s : Rule) → Reader s
-reads limit s xs = read (4 * length xs + 4) limit s xs
+reads limit s xs = read (8 * length xs + 8) limit s xs
 
 -- what is read, where it nests at most so deep
 abbrev pub outcome : {A : Type 0} → ℕ → ℕ → A → Result A ParseErrorKind

@@ -8,8 +8,8 @@ use Rattle.std.proofs.lemmas.Bool.{false≢true}
 use Rattle.std.proofs.lemmas.Cmp.{nat_list_eq_equiv}
 use Rattle.cbor_edn_parts.specs.declared.indicator.Indicator.{Indicator}
 use Rattle.cbor_edn_parts.specs.declared.indicator.Indicator.TheVariants.{Indefinite, Immediate, One, Two, Four, Eight}
-use Rattle.cbor_edn_core.specs.Items.{Row, Elements, Pairs}
-use Rattle.cbor_edn_core.specs.Trees.{Rule, OneEntry, Head, Unmarked, Marked, Tree, NumberTree, ListTree, ElementTree, PairTree, EmptyTree, FullTree, LastTree, MoreTree, NothingTree, SequenceTree, StandaloneTree}
+use Rattle.cbor_edn_core.specs.Items.{Row, Array, Map}
+use Rattle.cbor_edn_core.specs.Trees.{Rule, OnePiece, OneEntry, Head, Unmarked, Marked, Tree, NumberTree, ListTree, StringTree, StreamTree, LiteralTree, DotsTree, EmbeddedTree, LastPieceTree, PlusTree, ElementTree, PairTree, ChunkTree, EmptyTree, FullTree, LastTree, MoreTree, NothingTree, SequenceTree, StandaloneTree}
 
 abbrev pub same_bytes : List ℕ → List ℕ → Bool
 same_bytes = pointwise nat_eq
@@ -36,9 +36,17 @@ same_head _ _ = false
 -- Whether two trees of one rule are the same, spaces included.
 abbrev pub same : {s : Rule} → Tree s → Tree s → Bool
 same (NumberTree x i) (NumberTree y j) = same_bytes x y && same_indicator i j
-same (ListTree Elements w) (ListTree Elements v) = same w v
-same (ListTree Pairs w) (ListTree Pairs v) = same w v
+same (ListTree Array w) (ListTree Array v) = same w v
+same (ListTree Map w) (ListTree Map v) = same w v
+same (StringTree w) (StringTree v) = same w v
+same (StreamTree s m) (StreamTree t n) = same_bytes s t && same m n
+same (LiteralTree x i) (LiteralTree y j) = same_bytes x y && same_indicator i j
+same (DotsTree x) (DotsTree y) = same_bytes x y
+same (EmbeddedTree w i) (EmbeddedTree v j) = same w v && same_indicator i j
+same (LastPieceTree p) (LastPieceTree q) = same p q
+same (PlusTree p s t w) (PlusTree q u v x) = same p q && (same_bytes s u && (same_bytes t v && same w x))
 same (ElementTree w) (ElementTree v) = same w v
+same (ChunkTree w) (ChunkTree v) = same w v
 same (PairTree k s t w) (PairTree l u v x) = same k l && (same_bytes s u && (same_bytes t v && same w x))
 same (EmptyTree i s) (EmptyTree j t) = same_indicator i j && same_bytes s t
 same (FullTree h s m) (FullTree g t n) = same_head h g && (same_bytes s t && same m n)
@@ -54,6 +62,12 @@ abbrev pub same_entries : {k : Row} → List (Tree (OneEntry k) × List ℕ) →
 same_entries [] [] = true
 same_entries (p ∷ ps) (q ∷ qs) = same p.0 q.0 && (same_bytes p.1 q.1 && same_entries ps qs)
 same_entries _ _ = false
+
+-- Whether two rows of pieces, each with the spaces round the plus sign behind it, are the same.
+abbrev pub same_pieces : List (Tree OnePiece × List ℕ × List ℕ) → List (Tree OnePiece × List ℕ × List ℕ) → Bool
+same_pieces [] [] = true
+same_pieces (p ∷ ps) (q ∷ qs) = same p.0 q.0 && (same_bytes p.1 q.1 && (same_bytes p.2 q.2 && same_pieces ps qs))
+same_pieces _ _ = false
 
 both : {A B : Type 0} {a b : Bool} → (a ≡ true → A) → (b ≡ true → B) → (a && b) ≡ true → A × B
 both {a = true} {b = true} f g e = (f refl, g refl)
@@ -84,9 +98,18 @@ heads_are _ _ e = absurd (false≢true e)
 
 pub same_are : {s : Rule} (a b : Tree s) → same a b ≡ true → a ≡ b
 same_are (NumberTree x i) (NumberTree y j) e = let h = both (bytes_are x y) (indicators_are i j) e in λ k. NumberTree (h.0 k) (h.1 k)
-same_are (ListTree Elements w) (ListTree Elements v) e = λ i. ListTree Elements (same_are w v e i)
-same_are (ListTree Pairs w) (ListTree Pairs v) e = λ i. ListTree Pairs (same_are w v e i)
+same_are (ListTree Array w) (ListTree Array v) e = λ i. ListTree Array (same_are w v e i)
+same_are (ListTree Map w) (ListTree Map v) e = λ i. ListTree Map (same_are w v e i)
+same_are (StringTree w) (StringTree v) e = λ i. StringTree (same_are w v e i)
+same_are (StreamTree s m) (StreamTree t n) e = let h = both (bytes_are s t) (same_are m n) e in λ i. StreamTree (h.0 i) (h.1 i)
+same_are (LiteralTree x i) (LiteralTree y j) e = let h = both (bytes_are x y) (indicators_are i j) e in λ k. LiteralTree (h.0 k) (h.1 k)
+same_are (DotsTree x) (DotsTree y) e = λ i. DotsTree (bytes_are x y e i)
+same_are (EmbeddedTree w i) (EmbeddedTree v j) e = let h = both (same_are w v) (indicators_are i j) e in λ k. EmbeddedTree (h.0 k) (h.1 k)
+same_are (LastPieceTree p) (LastPieceTree q) e = λ i. LastPieceTree (same_are p q e i)
+same_are (PlusTree p s t w) (PlusTree q u v x) e =
+    let h = both (same_are p q) (both (bytes_are s u) (both (bytes_are t v) (same_are w x))) e in λ i. PlusTree (h.0 i) (h.1.0 i) (h.1.1.0 i) (h.1.1.1 i)
 same_are (ElementTree w) (ElementTree v) e = λ i. ElementTree (same_are w v e i)
+same_are (ChunkTree w) (ChunkTree v) e = λ i. ChunkTree (same_are w v e i)
 same_are (PairTree k s t w) (PairTree l u v x) e =
     let h = both (same_are k l) (both (bytes_are s u) (both (bytes_are t v) (same_are w x))) e in λ i. PairTree (h.0 i) (h.1.0 i) (h.1.1.0 i) (h.1.1.1 i)
 same_are (EmptyTree i s) (EmptyTree j t) e = let h = both (indicators_are i j) (bytes_are s t) e in λ k. EmptyTree (h.0 k) (h.1 k)
@@ -120,9 +143,17 @@ head_refl (Marked i s) = both_true (word_refl i) (bytes_refl s)
 
 same_refl : {s : Rule} (a : Tree s) → same a a ≡ true
 same_refl (NumberTree x i) = both_true (bytes_refl x) (indicator_refl i)
-same_refl (ListTree Elements w) = same_refl w
-same_refl (ListTree Pairs w) = same_refl w
+same_refl (ListTree Array w) = same_refl w
+same_refl (ListTree Map w) = same_refl w
+same_refl (StringTree w) = same_refl w
+same_refl (StreamTree s m) = both_true (bytes_refl s) (same_refl m)
+same_refl (LiteralTree x i) = both_true (bytes_refl x) (indicator_refl i)
+same_refl (DotsTree x) = bytes_refl x
+same_refl (EmbeddedTree w i) = both_true (same_refl w) (indicator_refl i)
+same_refl (LastPieceTree p) = same_refl p
+same_refl (PlusTree p s t w) = both_true (same_refl p) (both_true (bytes_refl s) (both_true (bytes_refl t) (same_refl w)))
 same_refl (ElementTree w) = same_refl w
+same_refl (ChunkTree w) = same_refl w
 same_refl (PairTree v s t w) = both_true (same_refl v) (both_true (bytes_refl s) (both_true (bytes_refl t) (same_refl w)))
 same_refl (EmptyTree i s) = both_true (indicator_refl i) (bytes_refl s)
 same_refl (FullTree h s m) = both_true (head_refl h) (both_true (bytes_refl s) (same_refl m))

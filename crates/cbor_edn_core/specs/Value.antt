@@ -1,14 +1,17 @@
 -- CBOR data items with the form of each head, and their encodings (RFC 8949, section 3).
-use Rattle.std.specs.Prelude.{◌≡◌, ℕ, ◌+◌, ◌*◌, ◌^◌, ◌<◌, List, [], ◌∷◌, ◌++◌, length, max, Option, Some, None, All}
+use Rattle.std.specs.Prelude.{◌≡◌, ℕ, ◌+◌, ◌*◌, ◌^◌, ◌<◌, List, [], ◌∷◌, ◌++◌, length, max, Option, Some, None, All, Bool, true}
 use Rattle.std.specs.Int.{w8, w16, w32, w64, to_be_bytes}
+use Rattle.std.specs.Str.{is_utf8}
+use Rattle.cbor_edn_parts.specs.declared.string.StringKind.{StringKind}
+use Rattle.cbor_edn_parts.specs.declared.string.StringKind.TheVariants.{Bytes, Text}
 use Rattle.cbor_edn_core.specs.declared.cbor.Width.{Width}
 use Rattle.cbor_edn_core.specs.declared.cbor.Width.TheVariants.{Immediate, One, Two, Four, Eight}
 
--- a byte string of definite length: the width of its length, and its bytes
+-- a string of definite length: the width of its length, and its bytes
 abbrev pub Chunk : Type 0
 Chunk = Width × List ℕ
 
--- Data items (section 3.1) of the major types 0, 1, 2, 4, 5 and 6, with the width of each argument.
+-- Data items (section 3.1) of the major types 0 to 6, with the width of each argument. The bytes of a text are UTF-8.
 -- An array or a map without one has indefinite length (section 3.2).
 mutual
   pub data Value : Type 0 where
@@ -16,9 +19,9 @@ mutual
     unsigned : Width → ℕ → Value
     -- the integer -1 - n, as `negative Immediate 0` for -1
     negative : Width → ℕ → Value
-    byte_string : Width → List ℕ → Value
-    -- a byte string of indefinite length (section 3.2.3)
-    chunks : List Chunk → Value
+    string : StringKind → Width → List ℕ → Value
+    -- a string of indefinite length (section 3.2.3)
+    chunks : StringKind → List Chunk → Value
     array : Option Width → Values → Value
     -- a map: `map` is a function on lists
     object : Option Width → Pairs → Value
@@ -82,20 +85,30 @@ LengthFits None n = Unit {0}
 abbrev pub AreBytes : List ℕ → Type 0
 AreBytes bs = All (λ b. b < 256) bs
 
--- the argument of a byte string counts its bytes
-abbrev pub chunk_encoding : Chunk → List ℕ
-chunk_encoding c = head 2 c.0 (length c.1) ++ c.1
+-- the major type of a string
+abbrev pub string_major : StringKind → ℕ
+string_major Bytes = 2
+string_major Text = 3
 
-abbrev pub chunk_encodings : List Chunk → List ℕ
-chunk_encodings [] = []
-chunk_encodings (c ∷ cs) = chunk_encoding c ++ chunk_encodings cs
+-- the argument of a string counts its bytes
+abbrev pub chunk_encoding : StringKind → Chunk → List ℕ
+chunk_encoding k c = head (string_major k) c.0 (length c.1) ++ c.1
 
-abbrev pub ChunkFits : Chunk → Type 0
-ChunkFits c = ArgumentFits c.0 (length c.1) × AreBytes c.1
+abbrev pub chunk_encodings : StringKind → List Chunk → List ℕ
+chunk_encodings k [] = []
+chunk_encodings k (c ∷ cs) = chunk_encoding k c ++ chunk_encodings k cs
 
-abbrev pub ChunksFit : List Chunk → Type 0
-ChunksFit [] = Unit {0}
-ChunksFit (c ∷ cs) = ChunkFits c × ChunksFit cs
+-- whether bytes may be the content of a string: those of a text are UTF-8
+abbrev pub is_content : StringKind → List ℕ → Bool
+is_content Bytes bs = true
+is_content Text bs = is_utf8 bs
+
+abbrev pub ChunkFits : StringKind → Chunk → Type 0
+ChunkFits k c = ArgumentFits c.0 (length c.1) × AreBytes c.1 × (is_content k c.1 ≡ true)
+
+abbrev pub ChunksFit : StringKind → List Chunk → Type 0
+ChunksFit k [] = Unit {0}
+ChunksFit k (c ∷ cs) = ChunkFits k c × ChunksFit k cs
 
 -- The encoding of a value, where it has one.
 -- `array (Some Immediate) (value (unsigned Immediate 1) no_values)` is 81 01, and with None for the width 9f 01 ff.
@@ -103,8 +116,8 @@ abbrev mutual
   pub encoding : Value → List ℕ
   encoding (unsigned w n) = head 0 w n
   encoding (negative w n) = head 1 w n
-  encoding (byte_string w bs) = chunk_encoding (w, bs)
-  encoding (chunks cs) = open_head 2 ∷ chunk_encodings cs ++ break ∷ []
+  encoding (string k w bs) = chunk_encoding k (w, bs)
+  encoding (chunks k cs) = open_head (string_major k) ∷ chunk_encodings k cs ++ break ∷ []
   encoding (array w vs) = list_encoding 4 w (values_len vs) (encodings vs)
   encoding (object w ps) = list_encoding 5 w (pairs_len ps) (pair_encodings ps)
   encoding (tag w n v) = head 6 w n ++ encoding v
@@ -117,13 +130,13 @@ abbrev mutual
   pair_encodings no_pairs = []
   pair_encodings (pair k v ps) = encoding k ++ encoding v ++ pair_encodings ps
 
--- Each argument fits its width, and byte strings are of bytes: the value has an encoding.
+-- Each argument fits its width, and strings have a content of their kind: the value has an encoding.
 abbrev mutual
   pub Fits : Value → Type 0
   Fits (unsigned w n) = ArgumentFits w n
   Fits (negative w n) = ArgumentFits w n
-  Fits (byte_string w bs) = ChunkFits (w, bs)
-  Fits (chunks cs) = ChunksFit cs
+  Fits (string k w bs) = ChunkFits k (w, bs)
+  Fits (chunks k cs) = ChunksFit k cs
   Fits (array w vs) = LengthFits w (values_len vs) × ValuesFit vs
   Fits (object w ps) = LengthFits w (pairs_len ps) × PairsFit ps
   Fits (tag w n v) = ArgumentFits w n × Fits v
@@ -141,8 +154,8 @@ abbrev mutual
   pub nesting : Value → ℕ
   nesting (unsigned w n) = 0
   nesting (negative w n) = 0
-  nesting (byte_string w bs) = 0
-  nesting (chunks cs) = 0
+  nesting (string k w bs) = 0
+  nesting (chunks k cs) = 0
   nesting (array w vs) = values_nesting vs + 1
   nesting (object w ps) = pairs_nesting ps + 1
   nesting (tag w n v) = nesting v + 1

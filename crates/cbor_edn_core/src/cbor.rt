@@ -1,7 +1,8 @@
 //! CBOR: the heads of data items, and integers.
 ghost use Rattle.std.specs.Prelude.{◌≡◌, ◌<◌, ◌++◌, OnOk, nat_lt};
 ghost use Rattle.cbor_edn_parts.specs.Leaves as leaves;
-ghost use Rattle.cbor_edn_core.specs.Value.{head, ArgumentFits, LengthFits, encoding, limit_of};
+ghost use Rattle.cbor_edn_core.specs.Value as values;
+ghost use Rattle.cbor_edn_core.specs.Value.{head, ArgumentFits, LengthFits, chunk_encoding, encoding, limit_of};
 ghost use Rattle.cbor_edn_core.specs.Meaning as meaning;
 ghost use Rattle.cbor_edn_core.specs.Meaning.{shortest, means_integer, tagged, magnitude_bytes};
 ghost use Rattle.cbor_edn_core.specs.Encoding.{Encodes, Finds, list_head, list_end};
@@ -9,6 +10,7 @@ ghost use Rattle.cbor_edn_core.specs.Encoding.{Encodes, Finds, list_head, list_e
 use cbor_edn_parts::error::{Fault, InconsistentEdn};
 use cbor_edn_parts::indicator::Indicator;
 use cbor_edn_parts::number::Integer;
+use cbor_edn_parts::string::StringKind;
 use std::alloc::AllocError;
 
 #[cfg(test)]
@@ -178,6 +180,72 @@ pub(crate) fn push_list_end(out: &mut Vec<u8>, width: Option<Width>) -> Result<(
         out.push(0xff)?;
     }
     Ok(())
+}
+
+/// Writes a string at the end. An empty one that is marked as indefinite has no chunks.
+pub(crate) fn push_string(
+    out: &mut Vec<u8>,
+    kind: StringKind,
+    indicator: Option<Indicator>,
+    content: &[u8],
+) -> Result<(), Fault<InconsistentEdn>>
+    ensures { Encodes encoding (meaning.string_of (kind, content.now) indicator) out.old.items out.new.items result }
+{
+    if content.is_empty() && indicator == Some(Indicator::Indefinite) {
+        push_list_head(out, string_major(kind), None, 0)?;
+        push_list_end(out, None)?;
+        return Ok(());
+    }
+    push_chunk(out, kind, indicator, content)
+}
+
+/// Writes a string of definite length. It has no encoding where it is a text and its bytes are not UTF-8.
+pub(crate) fn push_chunk(
+    out: &mut Vec<u8>,
+    kind: StringKind,
+    indicator: Option<Indicator>,
+    content: &[u8],
+) -> Result<(), Fault<InconsistentEdn>>
+    ensures { Encodes (λ p. chunk_encoding p.0 p.1) (meaning.chunk_of (kind, content.now) indicator) out.old.items out.new.items result }
+{
+    if !is_content(kind, content) {
+        return Err(Fault::Told(InconsistentEdn::InvalidUtf8));
+    }
+    push_marked_head(out, string_major(kind), indicator, content.len() as u64)?;
+    out.extend_from_slice(content)?;
+    Ok(())
+}
+
+fn is_content(kind: StringKind, content: &[u8]) -> bool
+    ensures { result ≡ values.is_content kind content.now }
+{
+    match kind {
+        StringKind::Bytes => true,
+        StringKind::Text => match std::str::from_utf8(content) {
+            Ok(_) => true,
+            Err(_) => false,
+        },
+    }
+}
+
+/// The major type of a string.
+pub(crate) fn string_major(kind: StringKind) -> u8
+    ensures major { result ≡ values.string_major kind }
+    ensures small { result < 8 }
+{
+    match kind {
+        StringKind::Bytes => 2,
+        StringKind::Text => 3,
+    }
+}
+
+pub(crate) fn same_kind(kind: StringKind, other: StringKind) -> bool
+    ensures { result ≡ meaning.same_kind kind other }
+{
+    match (kind, other) {
+        (StringKind::Bytes, StringKind::Bytes) | (StringKind::Text, StringKind::Text) => true,
+        _ => false,
+    }
 }
 
 /// Writes an integer at the end, with a head as the indicator says. It has no encoding where its magnitude is 2^128 or more, and from

@@ -1,12 +1,14 @@
 //! Copies of trees. Memory comes from the allocator of what is copied.
 ghost use Rattle.std.specs.Prelude.{◌≡◌, map, IfOk};
-ghost use Rattle.cbor_edn_core.specs.View.{texts, view_head, view_list, view_items, seen, view_pair_list, view_pairs, view_pair, seen_pair, item_tree, standalone_tree, sequence_tree};
+ghost use Rattle.cbor_edn_parts.specs.Leaves.{s_bytes};
+ghost use Rattle.cbor_edn_core.specs.Trees.{PairTree};
+ghost use Rattle.cbor_edn_core.specs.View.{texts, view_head, view_list, view_items, seen, view_pair_list, view_pairs, view_pair, seen_pair, view_string, view_piece, seen_piece, view_stream, view_strings, seen_string, item_tree, standalone_tree, sequence_tree};
 
 use crate::tree::{
-    Indicator, InnerItem, Item, ItemList, ItemOf, Items, Kp, PairList, Pairs, Sequence, SequenceOf,
-    StandaloneItem, StandaloneItemOf, Texts,
+    CborString, Indicator, InnerItem, Item, ItemList, ItemOf, Items, Kp, PairList, Pairs, Piece,
+    Sequence, SequenceOf, StandaloneItem, StandaloneItemOf, Stream, Strings, Texts,
 };
-use cbor_edn_parts::space::{Ms, Msc};
+use cbor_edn_parts::space::{Ms, Msc, S};
 use std::alloc::AllocError;
 
 impl<'a> Item<'a> {
@@ -39,20 +41,7 @@ impl<'a> Sequence<'a> {
     pub fn clone(&self) -> Result<Sequence<'a>, AllocError>
         ensures { IfOk result (λ t. sequence_tree t ≡ sequence_tree self.now) }
     {
-        let before = self.before.clone()?;
-        match &self.items {
-            None => Ok(SequenceOf {
-                before,
-                items: None,
-            }),
-            Some(items) => {
-                let items = clone_items(items)?;
-                Ok(SequenceOf {
-                    before,
-                    items: Some(items),
-                })
-            }
-        }
+        clone_sequence(self)
     }
 }
 
@@ -70,7 +59,16 @@ fn clone_head<'a>(
     }
 }
 
+fn clone_spaces<'a>(before: &S<'a>, after: &S<'a>) -> Result<(S<'a>, S<'a>), AllocError>
+    ensures { IfOk result (λ p. (s_bytes p.0 ≡ s_bytes before.now) × (s_bytes p.1 ≡ s_bytes after.now)) }
+{
+    let before = before.clone()?;
+    let after = after.clone()?;
+    Ok((before, after))
+}
+
 #[cycle(copy)]
+#[tactic(auto, using(crate::proofs::Views::view_string_is))]
 fn clone_item<'a>(item: &Item<'a>) -> Result<Item<'a>, AllocError>
     ensures { IfOk result (λ t. item_tree t ≡ item_tree item.now) }
 {
@@ -93,7 +91,122 @@ fn clone_item<'a>(item: &Item<'a>) -> Result<Item<'a>, AllocError>
                 inner: InnerItem::Map(list),
             })
         }
+        InnerItem::String(string) => {
+            let string = clone_string(string)?;
+            Ok(ItemOf {
+                inner: InnerItem::String(string),
+            })
+        }
+        InnerItem::Stream(stream) => {
+            let stream = clone_stream(stream)?;
+            Ok(ItemOf {
+                inner: InnerItem::Stream(stream),
+            })
+        }
     }
+}
+
+#[cycle(copy)]
+fn clone_string<'a>(string: &CborString<Texts<'a>>) -> Result<CborString<Texts<'a>>, AllocError>
+    ensures { IfOk result (λ t. view_string texts t ≡ view_string texts string.now) }
+{
+    let row = clone_piece_row(&string.row)?;
+    let last = clone_piece(&string.last)?;
+    Ok(CborString { row, last })
+}
+
+#[cycle(copy)]
+fn clone_piece_row<'a>(
+    row: &Vec<(Piece<Texts<'a>>, S<'a>, S<'a>)>,
+) -> Result<Vec<(Piece<Texts<'a>>, S<'a>, S<'a>)>, AllocError>
+    ensures { IfOk result (λ t. map (seen_piece texts) t.items ≡ map (seen_piece texts) row.now.items) }
+{
+    let mut copy = Vec::new(*row.allocator());
+    for (piece, before, after) in row {
+        let piece = clone_piece(piece)?;
+        let (before, after) = clone_spaces(before, after)?;
+        copy.push((piece, before, after))?;
+    }
+    Ok(copy)
+}
+
+#[cycle(copy)]
+fn clone_piece<'a>(piece: &Piece<Texts<'a>>) -> Result<Piece<Texts<'a>>, AllocError>
+    ensures { IfOk result (λ t. view_piece texts t ≡ view_piece texts piece.now) }
+{
+    match piece {
+        Piece::Literal(literal, indicator) => {
+            let literal = literal.clone()?;
+            Ok(Piece::Literal(literal, *indicator))
+        }
+        Piece::Dots(dots) => {
+            let dots = dots.clone()?;
+            Ok(Piece::Dots(dots))
+        }
+        Piece::Embedded(sequence, indicator) => {
+            let copy = clone_sequence(sequence)?;
+            let copy = Box::new(*Box::allocator(sequence), copy)?;
+            Ok(Piece::Embedded(copy, *indicator))
+        }
+    }
+}
+
+#[cycle(copy)]
+#[tactic(auto, using(crate::proofs::Views::view_sequence_is, crate::proofs::Views::view_sequence_made))]
+fn clone_sequence<'a>(sequence: &Sequence<'a>) -> Result<Sequence<'a>, AllocError>
+    ensures { IfOk result (λ t. sequence_tree t ≡ sequence_tree sequence.now) }
+{
+    let before = sequence.before.clone()?;
+    match &sequence.items {
+        None => Ok(SequenceOf {
+            before,
+            items: None,
+        }),
+        Some(items) => {
+            let items = clone_items(items)?;
+            Ok(SequenceOf {
+                before,
+                items: Some(items),
+            })
+        }
+    }
+}
+
+#[cycle(copy)]
+#[tactic(auto, using(crate::proofs::Views::view_stream_is, crate::proofs::Views::view_stream_made))]
+fn clone_stream<'a>(stream: &Stream<Texts<'a>>) -> Result<Stream<Texts<'a>>, AllocError>
+    ensures { IfOk result (λ t. view_stream texts t ≡ view_stream texts stream.now) }
+{
+    let ms = stream.ms.clone()?;
+    let strings = clone_strings(&stream.strings)?;
+    Ok(Stream { ms, strings })
+}
+
+#[cycle(copy)]
+#[tactic(auto, using(crate::proofs::Views::view_strings_is, crate::proofs::Views::view_strings_made))]
+fn clone_strings<'a>(strings: &Strings<Texts<'a>>) -> Result<Strings<Texts<'a>>, AllocError>
+    ensures { IfOk result (λ t. view_strings texts t ≡ view_strings texts strings.now) }
+{
+    let row = clone_string_row(&strings.row)?;
+    let last = clone_string(&strings.last)?;
+    let last = Box::new(*Box::allocator(&strings.last), last)?;
+    let soc = strings.soc.clone()?;
+    Ok(Strings { row, last, soc })
+}
+
+#[cycle(copy)]
+fn clone_string_row<'a>(
+    row: &Vec<(CborString<Texts<'a>>, Msc<'a>)>,
+) -> Result<Vec<(CborString<Texts<'a>>, Msc<'a>)>, AllocError>
+    ensures { IfOk result (λ t. map (seen_string texts) t.items ≡ map (seen_string texts) row.now.items) }
+{
+    let mut copy = Vec::new(*row.allocator());
+    for (string, separator) in row {
+        let string = clone_string(string)?;
+        let separator = separator.clone()?;
+        copy.push((string, separator))?;
+    }
+    Ok(copy)
 }
 
 #[cycle(copy)]
@@ -183,11 +296,22 @@ fn clone_pair_row<'a>(
 {
     let mut copy = Vec::new(*row.allocator());
     for (pair, separator) in row {
-        let pair = clone_pair(pair)?;
-        let separator = separator.clone()?;
-        copy.push((pair, separator))?;
+        let entry = clone_pair_entry(pair, separator)?;
+        copy.push(entry)?;
     }
     Ok(copy)
+}
+
+#[cycle(copy)]
+fn clone_pair_entry<'a>(
+    pair: &Kp<Texts<'a>>,
+    separator: &Msc<'a>,
+) -> Result<(Kp<Texts<'a>>, Msc<'a>), AllocError>
+    ensures { IfOk result (λ t. seen_pair texts t ≡ seen_pair texts (pair.now, separator.now)) }
+{
+    let pair = clone_pair(pair)?;
+    let separator = separator.clone()?;
+    Ok((pair, separator))
 }
 
 #[cycle(copy)]
@@ -195,9 +319,20 @@ fn clone_pair<'a>(pair: &Kp<Texts<'a>>) -> Result<Kp<Texts<'a>>, AllocError>
     ensures { IfOk result (λ t. view_pair texts t ≡ view_pair texts pair.now) }
 {
     let key = clone_item(&pair.key)?;
-    let before_colon = pair.before_colon.clone()?;
-    let after_colon = pair.after_colon.clone()?;
     let value = clone_item(&pair.value)?;
+    with_colon(key, &pair.before_colon, &pair.after_colon, value)
+}
+
+/// The key and the value with copies of the spaces round the colon between them.
+fn with_colon<'a>(
+    key: Item<'a>,
+    before: &S<'a>,
+    after: &S<'a>,
+    value: Item<'a>,
+) -> Result<Kp<Texts<'a>>, AllocError>
+    ensures { IfOk result (λ t. view_pair texts t ≡ PairTree (item_tree key.entry) (s_bytes before.now) (s_bytes after.now) (item_tree value.entry)) }
+{
+    let (before_colon, after_colon) = clone_spaces(before, after)?;
     Ok(Kp {
         key,
         before_colon,

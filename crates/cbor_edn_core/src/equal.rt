@@ -1,13 +1,13 @@
 //! Whether two trees are written the same, spaces included.
 ghost use Rattle.std.specs.Prelude.{◌≡◌, ◌↔◌, IsTrue, map};
-ghost use Rattle.cbor_edn_core.specs.Same.{same, same_indicator, same_word, same_head, same_entries, same_laws};
-ghost use Rattle.cbor_edn_core.specs.View.{texts, view_head, view_list, view_items, seen, view_pair_list, view_pairs, view_pair, seen_pair, item_tree, standalone_tree, sequence_tree};
+ghost use Rattle.cbor_edn_core.specs.Same.{same, same_indicator, same_word, same_head, same_entries, same_pieces, same_laws};
+ghost use Rattle.cbor_edn_core.specs.View.{texts, view_head, view_list, view_items, seen, view_pair_list, view_pairs, view_pair, seen_pair, view_string, view_piece, seen_piece, view_stream, view_strings, seen_string, item_tree, standalone_tree, sequence_tree};
 
 use crate::tree::{
-    Indicator, InnerItem, Item, ItemList, Items, Kp, PairList, Pairs, Sequence, StandaloneItem,
-    Texts,
+    CborString, Indicator, InnerItem, Item, ItemList, Items, Kp, PairList, Pairs, Piece, Sequence,
+    StandaloneItem, Stream, Strings, Texts,
 };
-use cbor_edn_parts::space::{Ms, Msc};
+use cbor_edn_parts::space::{Ms, Msc, S};
 
 impl PartialEq for Item<'_> {
     ghost eq = { λ a b. same (item_tree a) (item_tree b) };
@@ -37,11 +37,7 @@ impl PartialEq for Sequence<'_> {
     ghost laws = { same_laws sequence_tree };
 
     fn eq(&self, other: &Self) -> bool {
-        match (&self.items, &other.items) {
-            (None, None) => self.before == other.before,
-            (Some(a), Some(b)) => self.before == other.before && same_items(a, b),
-            _ => false,
-        }
+        same_sequence(self, other)
     }
 }
 
@@ -80,6 +76,7 @@ fn have_same_head(a: &Option<(Indicator, Ms<'_>)>, b: &Option<(Indicator, Ms<'_>
 }
 
 #[cycle(same)]
+#[tactic(auto, using(crate::proofs::Views::view_string_is))]
 fn same_item(a: &Item<'_>, b: &Item<'_>) -> bool
     ensures { result ≡ same (item_tree a.now) (item_tree b.now) }
 {
@@ -89,8 +86,102 @@ fn same_item(a: &Item<'_>, b: &Item<'_>) -> bool
         }
         (InnerItem::Array(x), InnerItem::Array(y)) => same_list(x, y),
         (InnerItem::Map(x), InnerItem::Map(y)) => same_pair_list(x, y),
+        (InnerItem::String(x), InnerItem::String(y)) => same_string(x, y),
+        (InnerItem::Stream(x), InnerItem::Stream(y)) => same_stream(x, y),
         _ => false,
     }
+}
+
+#[cycle(same)]
+#[tactic(auto, using(crate::proofs::Rows::same_strings))]
+fn same_string(a: &CborString<Texts<'_>>, b: &CborString<Texts<'_>>) -> bool
+    ensures { result ≡ same (view_string texts a.now) (view_string texts b.now) }
+{
+    same_piece_row(&a.row, &b.row) && same_piece(&a.last, &b.last)
+}
+
+#[cycle(same)]
+#[tactic(auto, using(crate::proofs::Rows::pieces_as_long))]
+fn same_piece_row(
+    a: &[(Piece<Texts<'_>>, S<'_>, S<'_>)],
+    b: &[(Piece<Texts<'_>>, S<'_>, S<'_>)],
+) -> bool
+    ensures { result ≡ same_pieces (map (seen_piece texts) a.now) (map (seen_piece texts) b.now) }
+{
+    if a.len() != b.len() {
+        return false;
+    }
+    for i in 0..a.len() {
+        let (x, s, t) = &a[i];
+        let (y, u, v) = &b[i];
+        if !(same_piece(x, y) && *s == *u && *t == *v) {
+            return false;
+        }
+    }
+    true
+}
+
+#[cycle(same)]
+fn same_piece(a: &Piece<Texts<'_>>, b: &Piece<Texts<'_>>) -> bool
+    ensures { result ≡ same (view_piece texts a.now) (view_piece texts b.now) }
+{
+    match (a, b) {
+        (Piece::Literal(x, i), Piece::Literal(y, j)) => *x == *y && have_same_indicator(*i, *j),
+        (Piece::Dots(x), Piece::Dots(y)) => *x == *y,
+        (Piece::Embedded(x, i), Piece::Embedded(y, j)) => {
+            same_sequence(x, y) && have_same_indicator(*i, *j)
+        }
+        _ => false,
+    }
+}
+
+#[cycle(same)]
+#[tactic(auto, using(crate::proofs::Views::view_sequence_is))]
+fn same_sequence(a: &Sequence<'_>, b: &Sequence<'_>) -> bool
+    ensures { result ≡ same (sequence_tree a.now) (sequence_tree b.now) }
+{
+    match (&a.items, &b.items) {
+        (None, None) => a.before == b.before,
+        (Some(x), Some(y)) => a.before == b.before && same_items(x, y),
+        _ => false,
+    }
+}
+
+#[cycle(same)]
+#[tactic(auto, using(crate::proofs::Views::view_stream_is))]
+fn same_stream(a: &Stream<Texts<'_>>, b: &Stream<Texts<'_>>) -> bool
+    ensures { result ≡ same (view_stream texts a.now) (view_stream texts b.now) }
+{
+    a.ms == b.ms && same_strings(&a.strings, &b.strings)
+}
+
+#[cycle(same)]
+#[tactic(auto, using(crate::proofs::Views::view_strings_is, crate::proofs::Rows::same_lists))]
+fn same_strings(a: &Strings<Texts<'_>>, b: &Strings<Texts<'_>>) -> bool
+    ensures { result ≡ same (view_strings texts a.now) (view_strings texts b.now) }
+{
+    same_string_row(&a.row, &b.row) && same_string(&a.last, &b.last) && a.soc == b.soc
+}
+
+#[cycle(same)]
+#[tactic(auto, using(crate::proofs::Rows::rows_as_long))]
+fn same_string_row(
+    a: &[(CborString<Texts<'_>>, Msc<'_>)],
+    b: &[(CborString<Texts<'_>>, Msc<'_>)],
+) -> bool
+    ensures { result ≡ same_entries (map (seen_string texts) a.now) (map (seen_string texts) b.now) }
+{
+    if a.len() != b.len() {
+        return false;
+    }
+    for i in 0..a.len() {
+        let (x, s) = &a[i];
+        let (y, t) = &b[i];
+        if !(same_string(x, y) && *s == *t) {
+            return false;
+        }
+    }
+    true
 }
 
 #[cycle(same)]

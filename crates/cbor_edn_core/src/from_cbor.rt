@@ -1,23 +1,26 @@
 //! Items from their CBOR encoding.
 //!
-//! Byte strings, text strings, tags, and items of major type 7 are not built yet: their heads are refused as reserved.
+//! Tags and items of major type 7 are not built yet: their heads are refused as reserved.
 ghost use Rattle.std.specs.Prelude.{◌≡◌, ◌≢◌, ◌↔◌, ℕ, List, Err, IfOk, IsTrue};
 ghost use Rattle.cbor_edn_core.specs.Trees.{Tree, OneItem};
 ghost use Rattle.cbor_edn_core.specs.View.{item_tree, standalone_tree, sequence_tree};
 ghost use Rattle.cbor_edn_core.specs.Value.{Enc};
-ghost use Rattle.cbor_edn_core.specs.Refusals.{IfTold};
+ghost use Rattle.cbor_edn_parts.specs.Refusals.{IfTold};
 ghost use Rattle.cbor_edn_core.specs.CborReading.{trees, item_at, sequence_at, whole};
 ghost use Rattle.cbor_edn_core.specs.Decoded.{Begins, IsDecoded, IsDecodedSequence, NoneIs, IsTooDeep, NoSequence, IsTooDeepSequence, alone};
 
 use crate::tree::{Item, NESTING_LIMIT, Sequence, StandaloneItem};
 use cbor_edn_parts::error::Fault;
 use cbor_edn_parts::space::S;
-use reader::{Stop, finish_items, item_of, items_until};
+use finish::finish_items;
+use reader::{Stop, item_of, items_until};
 use std::alloc::Global;
 use thiserror::Error;
 
+mod finish;
 mod growing;
 mod reader;
+mod strings;
 #[cfg(test)]
 mod tests;
 

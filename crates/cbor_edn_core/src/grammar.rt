@@ -1,34 +1,38 @@
 //! From text to trees, in one pass.
 //!
 //! Each function reads at a place of the text, and answers what it read with the place behind it. A rule is decided
-//! by one byte; spaces are scanned once, and cut where they are used. Each equals a rule of the plain reader on lists
+//! by one byte or two. Spaces are scanned once: to see whether a plus sign joins another piece to a string, the space behind
+//! a piece is read, and `End` hands it on to where it is used. Each function equals a rule of the plain reader on lists
 //! (`specs/Reading.antt`), and all that is said of the grammar is said of that reader.
-ghost use Rattle.std.specs.Prelude.{◌≡◌, ◌≤◌, ◌+◌, ◌∷◌, ◌*◌, ◌-◌, ◌<◌, true, false, [], length, drop, OnOk, IfOk, IfErr};
+ghost use Rattle.std.specs.Prelude.{◌≡◌, ◌≤◌, ◌+◌, ◌∷◌, ◌*◌, ◌<◌, None, true, [], length, drop, OnOk, IfOk, IfErr};
 ghost use Rattle.std.specs.Str.{IsCharBoundary};
+ghost use Rattle.cbor_edn_parts.specs.Ends.{IsEnd, reached};
 ghost use Rattle.cbor_edn_parts.specs.Scans.{Costs};
-ghost use Rattle.cbor_edn_parts.specs.Leaves.{soc_bytes};
+ghost use Rattle.cbor_edn_parts.specs.Leaves.{soc_bytes, s_bytes, BorrowsS, BorrowsSoc};
+ghost use Rattle.cbor_edn_parts.specs.Refusals.{IfTold};
 ghost use Rattle.cbor_edn_parts.specs.Text.{text_bytes};
-ghost use Rattle.cbor_edn_core.specs.Borrowed.{BorrowsItem, BorrowsList, BorrowsItems, BorrowsPair, BorrowsPairList, BorrowsPairs, BorrowsSequence, BorrowsStandalone};
-ghost use Rattle.cbor_edn_core.specs.Items.{Elements, Pairs as Keyed};
-ghost use Rattle.cbor_edn_core.specs.ParserResults.{Reads, Gives, Lands, IsPlaced, IsPushed};
-ghost use Rattle.cbor_edn_core.specs.Reading.{reads, reads_all};
-ghost use Rattle.cbor_edn_core.specs.Refusals.{IfTold};
-ghost use Rattle.cbor_edn_core.specs.Trees.{OneItem, OneEntry, Inside, Rest, Seq, Standalone};
-ghost use Rattle.cbor_edn_core.specs.View.{texts, item_tree, view_list, view_items, view_pair, view_pair_list, view_pairs, sequence_tree, standalone_tree};
+ghost use Rattle.cbor_edn_core.specs.Borrowed.{BorrowsItem, BorrowsList, BorrowsItems, BorrowsPair, BorrowsPairList, BorrowsPairs, BorrowsPiece, BorrowsString, BorrowsStream, BorrowsStrings, BorrowsSequence, BorrowsStandalone, BorrowsEach, BorrowsEachPair, BorrowsEachString};
+ghost use Rattle.cbor_edn_core.specs.Items.{Elements, Pairs as Keyed, Strings as Chunks, Array as Bracket, Map as Brace};
+ghost use Rattle.cbor_edn_core.specs.ParserResults.{Reads, Gives, Lands, ReadsEnd, LandsEnd, CostsEnd, IsPlaced, IsPushed, IsByteAt, IsUnclosed, behind_colon, ReadsParted, LandsParted, CostsParted, parted, element_tree, chunk_tree};
+ghost use Rattle.cbor_edn_core.specs.Reading.{reads, reads_all, number_item, stream_item, starts_string};
+ghost use Rattle.cbor_edn_core.specs.Trees.{LastTree, OneItem, OnePiece, OneString, OneEntry, Inside, Rest, Seq, Standalone};
+ghost use Rattle.cbor_edn_core.specs.View.{texts, item_tree, view_list, view_items, view_pair, view_pair_list, view_pairs, view_piece, view_string, view_stream, view_strings, row_onto, pair_row_onto, string_row_onto, sequence_tree, standalone_tree};
 
-use crate::lookahead::{List, closes, ends, is_at, list_at, marked};
+use crate::lookahead::{Opening, closes, ends, is_at, joins, marked, opening_at};
 use crate::tree::{
-    InnerItem, Item, ItemList, Items, Kp, PairList, Pairs, Sequence, StandaloneItem, Texts,
+    CborString, InnerItem, Item, ItemList, Items, Kp, PairList, Pairs, Piece, Sequence,
+    StandaloneItem, Stream, Strings, Texts,
 };
 use cbor_edn_parts::error::{Fault, ParseErrorKind, Refusal};
 use cbor_edn_parts::indicator::indicator_at;
 use cbor_edn_parts::looks::Looks;
 use cbor_edn_parts::number::number_at;
-use cbor_edn_parts::space::{Msc, Soc, separator, space};
+use cbor_edn_parts::space::{End, Msc, S, Soc, separator_behind, space, space_behind};
+use cbor_edn_parts::string::{dots_at, literal_at};
 use cbor_edn_parts::text::Text;
-use std::alloc::Global;
+use std::alloc::{AllocError, Global};
 
-/// An item with arrays and maps at most `limit` deep.
+/// An item with arrays, maps and embedded sequences at most `limit` deep, and its end.
 #[cycle(item)]
 fn item<'a>(
     alloc: Global,
@@ -36,55 +40,161 @@ fn item<'a>(
     from: usize,
     limit: usize,
     looks: &mut Looks,
-) -> Result<(Item<'a>, usize), Fault<Refusal>>
+) -> Result<(Item<'a>, End), Fault<Refusal>>
     requires { IsCharBoundary (text_bytes text.now) from }
-    ensures value { Reads item_tree (text_bytes text.now) result (reads limit OneItem (drop from (text_bytes text.now))) }
+    ensures value { ReadsEnd item_tree (text_bytes text.now) result (reads limit OneItem (drop from (text_bytes text.now))) }
     ensures borrowed { IfOk result (λ p. BorrowsItem p.0) }
-    ensures place { Lands (text_bytes text.now) from result }
-    ensures cost { Costs 8 4 6 (text_bytes text.now) from looks.old.count looks.new.count result }
+    ensures place { LandsEnd (text_bytes text.now) from result }
+    ensures cost { CostsEnd 12 6 10 (text_bytes text.now) from looks.old.count looks.new.count result }
 {
-    match list_at(text, from, looks) {
-        None => {
-            let (number, at) = number_at(text, from, looks)?;
-            let (indicator, to) = indicator_at(text, at, looks);
-            Ok((
-                Item {
-                    inner: InnerItem::Number(number, indicator),
-                },
-                to,
-            ))
-        }
-        Some(List::Array) => {
-            if limit == 0 {
-                return Err(Fault::Told(Refusal::too_deep(from)));
-            }
-            let (list, to) = array(alloc, text, from + 1, limit - 1, looks)?;
-            if !is_at(text, to, b']', looks) {
-                return Err(Fault::Told(Refusal::invalid(to)));
-            }
-            Ok((
-                Item {
-                    inner: InnerItem::Array(list),
-                },
-                to + 1,
-            ))
-        }
-        Some(List::Map) => {
-            if limit == 0 {
-                return Err(Fault::Told(Refusal::too_deep(from)));
-            }
-            let (list, to) = map(alloc, text, from + 1, limit - 1, looks)?;
-            if !is_at(text, to, b'}', looks) {
-                return Err(Fault::Told(Refusal::invalid(to)));
-            }
-            Ok((
-                Item {
-                    inner: InnerItem::Map(list),
-                },
-                to + 1,
-            ))
-        }
+    match opening_at(text, from, looks) {
+        Opening::Array => bracketed(alloc, text, from, limit, looks),
+        Opening::Map => braced(alloc, text, from, limit, looks),
+        Opening::Stream => chunked(alloc, text, from, limit, looks),
+        Opening::String => joined(alloc, text, from, limit, looks),
+        Opening::Number => number(text, from, looks),
     }
+}
+
+/// A number with its indicator, where no other item begins.
+fn number<'a>(
+    text: &Text<'a>,
+    from: usize,
+    looks: &mut Looks,
+) -> Result<(Item<'a>, End), Fault<Refusal>>
+    requires { IsCharBoundary (text_bytes text.now) from }
+    ensures value { ReadsEnd item_tree (text_bytes text.now) result (number_item reads (drop from (text_bytes text.now))) }
+    ensures borrowed { IfOk result (λ p. BorrowsItem p.0) }
+    ensures place { LandsEnd (text_bytes text.now) from result }
+    ensures cost { CostsEnd 12 4 4 (text_bytes text.now) from looks.old.count looks.new.count result }
+{
+    let (number, at) = number_at(text, from, looks)?;
+    let (indicator, to) = indicator_at(text, at, looks);
+    Ok((
+        Item {
+            inner: InnerItem::Number(number, indicator),
+        },
+        unspaced(to),
+    ))
+}
+
+/// An end behind which no space is read.
+fn unspaced(item: usize) -> End
+    ensures { result ≡ record { item = item; space = None } }
+{
+    End { item, space: None }
+}
+
+/// An array with its brackets.
+#[cycle(item)]
+fn bracketed<'a>(
+    alloc: Global,
+    text: &Text<'a>,
+    from: usize,
+    limit: usize,
+    looks: &mut Looks,
+) -> Result<(Item<'a>, End), Fault<Refusal>>
+    requires begins { IsCharBoundary (text_bytes text.now) from }
+    requires opens { IsByteAt (text_bytes text.now) from 91 }
+    ensures value { ReadsEnd item_tree (text_bytes text.now) result (reads limit OneItem (drop from (text_bytes text.now))) }
+    ensures borrowed { IfOk result (λ p. BorrowsItem p.0) }
+    ensures place { LandsEnd (text_bytes text.now) from result }
+    ensures cost { CostsEnd 12 4 14 (text_bytes text.now) (from + 1) looks.old.count looks.new.count result }
+{
+    if limit == 0 {
+        return Err(Fault::Told(Refusal::too_deep(from)));
+    }
+    let (list, to) = array(alloc, text, from + 1, limit - 1, looks)?;
+    if !is_at(text, to, b']', looks) {
+        return Err(Fault::Told(Refusal::invalid(to)));
+    }
+    Ok((
+        Item {
+            inner: InnerItem::Array(list),
+        },
+        unspaced(to + 1),
+    ))
+}
+
+/// A map with its braces.
+#[cycle(item)]
+fn braced<'a>(
+    alloc: Global,
+    text: &Text<'a>,
+    from: usize,
+    limit: usize,
+    looks: &mut Looks,
+) -> Result<(Item<'a>, End), Fault<Refusal>>
+    requires begins { IsCharBoundary (text_bytes text.now) from }
+    requires opens { IsByteAt (text_bytes text.now) from 123 }
+    ensures value { ReadsEnd item_tree (text_bytes text.now) result (reads limit OneItem (drop from (text_bytes text.now))) }
+    ensures borrowed { IfOk result (λ p. BorrowsItem p.0) }
+    ensures place { LandsEnd (text_bytes text.now) from result }
+    ensures cost { CostsEnd 12 4 14 (text_bytes text.now) (from + 1) looks.old.count looks.new.count result }
+{
+    if limit == 0 {
+        return Err(Fault::Told(Refusal::too_deep(from)));
+    }
+    let (list, to) = map(alloc, text, from + 1, limit - 1, looks)?;
+    if !is_at(text, to, b'}', looks) {
+        return Err(Fault::Told(Refusal::invalid(to)));
+    }
+    Ok((
+        Item {
+            inner: InnerItem::Map(list),
+        },
+        unspaced(to + 1),
+    ))
+}
+
+/// A string of indefinite length with its parentheses.
+#[cycle(item)]
+fn chunked<'a>(
+    alloc: Global,
+    text: &Text<'a>,
+    from: usize,
+    limit: usize,
+    looks: &mut Looks,
+) -> Result<(Item<'a>, End), Fault<Refusal>>
+    requires begins { IsCharBoundary (text_bytes text.now) from }
+    requires opens { IsByteAt (text_bytes text.now) from 40 }
+    ensures value { ReadsEnd item_tree (text_bytes text.now) result (reads limit OneItem (drop from (text_bytes text.now))) }
+    ensures borrowed { IfOk result (λ p. BorrowsItem p.0) }
+    ensures place { LandsEnd (text_bytes text.now) from result }
+    ensures cost { CostsEnd 12 4 12 (text_bytes text.now) (from + 1) looks.old.count looks.new.count result }
+{
+    let (stream, to) = stream(alloc, text, from + 1, limit, looks)?;
+    Ok((
+        Item {
+            inner: InnerItem::Stream(stream),
+        },
+        unspaced(to),
+    ))
+}
+
+/// A string.
+#[cycle(item)]
+fn joined<'a>(
+    alloc: Global,
+    text: &Text<'a>,
+    from: usize,
+    limit: usize,
+    looks: &mut Looks,
+) -> Result<(Item<'a>, End), Fault<Refusal>>
+    requires begins { IsCharBoundary (text_bytes text.now) from }
+    requires opens { starts_string (drop from (text_bytes text.now)) ≡ true }
+    ensures value { ReadsEnd item_tree (text_bytes text.now) result (reads limit OneItem (drop from (text_bytes text.now))) }
+    ensures borrowed { IfOk result (λ p. BorrowsItem p.0) }
+    ensures place { LandsEnd (text_bytes text.now) from result }
+    ensures cost { CostsEnd 12 4 8 (text_bytes text.now) from looks.old.count looks.new.count result }
+{
+    let (string, end) = string(alloc, text, from, limit, looks)?;
+    Ok((
+        Item {
+            inner: InnerItem::String(string),
+        },
+        end,
+    ))
 }
 
 /// What stands between the brackets of an array.
@@ -97,10 +207,10 @@ fn array<'a>(
     looks: &mut Looks,
 ) -> Result<(ItemList<Texts<'a>>, usize), Fault<Refusal>>
     requires { IsCharBoundary (text_bytes text.now) from }
-    ensures value { Reads (view_list texts) (text_bytes text.now) result (reads limit (Inside Elements) (drop from (text_bytes text.now))) }
+    ensures value { Reads (view_list texts) (text_bytes text.now) result (reads limit (Inside Bracket) (drop from (text_bytes text.now))) }
     ensures borrowed { IfOk result (λ p. BorrowsList p.0) }
     ensures place { Lands (text_bytes text.now) from result }
-    ensures cost { Costs 8 10 10 (text_bytes text.now) from looks.old.count looks.new.count result }
+    ensures cost { Costs 12 13 14 (text_bytes text.now) from looks.old.count looks.new.count result }
 {
     let (indicator, at) = indicator_at(text, from, looks);
     let (s, at) = space(text, at, looks)?;
@@ -124,10 +234,10 @@ fn map<'a>(
     looks: &mut Looks,
 ) -> Result<(PairList<Texts<'a>>, usize), Fault<Refusal>>
     requires { IsCharBoundary (text_bytes text.now) from }
-    ensures value { Reads (view_pair_list texts) (text_bytes text.now) result (reads limit (Inside Keyed) (drop from (text_bytes text.now))) }
+    ensures value { Reads (view_pair_list texts) (text_bytes text.now) result (reads limit (Inside Brace) (drop from (text_bytes text.now))) }
     ensures borrowed { IfOk result (λ p. BorrowsPairList p.0) }
     ensures place { Lands (text_bytes text.now) from result }
-    ensures cost { Costs 8 10 10 (text_bytes text.now) from looks.old.count looks.new.count result }
+    ensures cost { Costs 12 13 14 (text_bytes text.now) from looks.old.count looks.new.count result }
 {
     let (indicator, at) = indicator_at(text, from, looks);
     let (s, at) = space(text, at, looks)?;
@@ -154,20 +264,52 @@ fn items<'a>(
     ensures value { Reads (view_items texts) (text_bytes text.now) result (reads limit (Rest Elements) (drop from (text_bytes text.now))) }
     ensures borrowed { IfOk result (λ p. BorrowsItems p.0) }
     ensures place { Lands (text_bytes text.now) from result }
-    ensures cost { Costs 8 6 6 (text_bytes text.now) from looks.old.count looks.new.count result }
+    ensures cost { Costs 12 9 10 (text_bytes text.now) from looks.old.count looks.new.count result }
 {
     let mut row = Vec::new(alloc);
     let mut at = from;
     'items: loop {
-        let (item, behind) = item(alloc, text, at, limit, looks)?;
-        let (soc, next) = separator(text, behind, looks)?;
+        let (item, soc, next) = parted_item(alloc, text, at, limit, looks)?;
         if closes(text, next, looks) {
-            let last = Box::new(alloc, item)?;
-            return Ok((Items { row, last, soc }, next));
+            return Ok((last_item(alloc, row, item, soc)?, next));
         }
         push_entry(&mut row, item, soc, next)?;
         at = next;
     }
+}
+
+/// An item with the space and the comma behind it.
+#[cycle(item)]
+fn parted_item<'a>(
+    alloc: Global,
+    text: &Text<'a>,
+    from: usize,
+    limit: usize,
+    looks: &mut Looks,
+) -> Result<(Item<'a>, Soc<'a>, usize), Fault<Refusal>>
+    requires { IsCharBoundary (text_bytes text.now) from }
+    ensures value { ReadsParted (element_tree) (text_bytes text.now) result (parted limit Elements (drop from (text_bytes text.now))) }
+    ensures borrowed { IfOk result (λ p. BorrowsItem p.0 × BorrowsSoc p.1) }
+    ensures place { LandsParted (text_bytes text.now) from result }
+    ensures cost { CostsParted 12 8 10 (text_bytes text.now) from looks.old.count looks.new.count result }
+{
+    let (item, end) = item(alloc, text, from, limit, looks)?;
+    let (soc, next) = separator_behind(text, end, looks)?;
+    Ok((item, soc, next))
+}
+
+/// The row with its last entry.
+fn last_item<'a>(
+    alloc: Global,
+    row: Vec<(Item<'a>, Msc<'a>)>,
+    last: Item<'a>,
+    soc: Soc<'a>,
+) -> Result<Items<Texts<'a>>, AllocError>
+    ensures view { IfOk result (λ t. view_items texts t ≡ row_onto texts row.entry.items (LastTree (element_tree last.entry) (soc_bytes soc.entry))) }
+    ensures borrowed { BorrowsEach row.entry.items → BorrowsItem last.entry → BorrowsSoc soc.entry → IfOk result BorrowsItems }
+{
+    let last = Box::new(alloc, last)?;
+    Ok(Items { row, last, soc })
 }
 
 /// Pairs, one or more, each with the space behind it.
@@ -183,20 +325,113 @@ fn pairs<'a>(
     ensures value { Reads (view_pairs texts) (text_bytes text.now) result (reads limit (Rest Keyed) (drop from (text_bytes text.now))) }
     ensures borrowed { IfOk result (λ p. BorrowsPairs p.0) }
     ensures place { Lands (text_bytes text.now) from result }
-    ensures cost { Costs 8 6 6 (text_bytes text.now) from looks.old.count looks.new.count result }
+    ensures cost { Costs 12 9 10 (text_bytes text.now) from looks.old.count looks.new.count result }
 {
     let mut row = Vec::new(alloc);
     let mut at = from;
     'pairs: loop {
-        let (pair, behind) = pair(alloc, text, at, limit, looks)?;
-        let (soc, next) = separator(text, behind, looks)?;
+        let (pair, soc, next) = parted_pair(alloc, text, at, limit, looks)?;
         if closes(text, next, looks) {
-            let last = Box::new(alloc, pair)?;
-            return Ok((Pairs { row, last, soc }, next));
+            return Ok((last_pair(alloc, row, pair, soc)?, next));
         }
         push_entry(&mut row, pair, soc, next)?;
         at = next;
     }
+}
+
+/// A pair with the space and the comma behind it.
+#[cycle(item)]
+fn parted_pair<'a>(
+    alloc: Global,
+    text: &Text<'a>,
+    from: usize,
+    limit: usize,
+    looks: &mut Looks,
+) -> Result<(Kp<Texts<'a>>, Soc<'a>, usize), Fault<Refusal>>
+    requires { IsCharBoundary (text_bytes text.now) from }
+    ensures value { ReadsParted (view_pair texts) (text_bytes text.now) result (parted limit Keyed (drop from (text_bytes text.now))) }
+    ensures borrowed { IfOk result (λ p. BorrowsPair p.0 × BorrowsSoc p.1) }
+    ensures place { LandsParted (text_bytes text.now) from result }
+    ensures cost { CostsParted 12 8 10 (text_bytes text.now) from looks.old.count looks.new.count result }
+{
+    let (pair, end) = pair(alloc, text, from, limit, looks)?;
+    let (soc, next) = separator_behind(text, end, looks)?;
+    Ok((pair, soc, next))
+}
+
+/// The row with its last entry.
+fn last_pair<'a>(
+    alloc: Global,
+    row: Vec<(Kp<Texts<'a>>, Msc<'a>)>,
+    last: Kp<Texts<'a>>,
+    soc: Soc<'a>,
+) -> Result<Pairs<Texts<'a>>, AllocError>
+    ensures view { IfOk result (λ t. view_pairs texts t ≡ pair_row_onto texts row.entry.items (LastTree (view_pair texts last.entry) (soc_bytes soc.entry))) }
+    ensures borrowed { BorrowsEachPair row.entry.items → BorrowsPair last.entry → BorrowsSoc soc.entry → IfOk result BorrowsPairs }
+{
+    let last = Box::new(alloc, last)?;
+    Ok(Pairs { row, last, soc })
+}
+
+/// Strings, one or more, each with the space behind it.
+#[cycle(item)]
+fn strings<'a>(
+    alloc: Global,
+    text: &Text<'a>,
+    from: usize,
+    limit: usize,
+    looks: &mut Looks,
+) -> Result<(Strings<Texts<'a>>, usize), Fault<Refusal>>
+    requires { IsCharBoundary (text_bytes text.now) from }
+    ensures value { Reads (view_strings texts) (text_bytes text.now) result (reads limit (Rest Chunks) (drop from (text_bytes text.now))) }
+    ensures borrowed { IfOk result (λ p. BorrowsStrings p.0) }
+    ensures place { Lands (text_bytes text.now) from result }
+    ensures cost { Costs 12 9 10 (text_bytes text.now) from looks.old.count looks.new.count result }
+{
+    let mut row = Vec::new(alloc);
+    let mut at = from;
+    'strings: loop {
+        let (string, soc, next) = parted_string(alloc, text, at, limit, looks)?;
+        if closes(text, next, looks) {
+            return Ok((last_string(alloc, row, string, soc)?, next));
+        }
+        push_entry(&mut row, string, soc, next)?;
+        at = next;
+    }
+}
+
+/// A string with the space and the comma behind it.
+#[cycle(item)]
+fn parted_string<'a>(
+    alloc: Global,
+    text: &Text<'a>,
+    from: usize,
+    limit: usize,
+    looks: &mut Looks,
+) -> Result<(CborString<Texts<'a>>, Soc<'a>, usize), Fault<Refusal>>
+    requires { IsCharBoundary (text_bytes text.now) from }
+    ensures value { ReadsParted (chunk_tree) (text_bytes text.now) result (parted limit Chunks (drop from (text_bytes text.now))) }
+    ensures borrowed { IfOk result (λ p. BorrowsString p.0 × BorrowsSoc p.1) }
+    ensures place { LandsParted (text_bytes text.now) from result }
+    ensures cost { CostsParted 12 8 10 (text_bytes text.now) from looks.old.count looks.new.count result }
+{
+    let (string, end) = string(alloc, text, from, limit, looks)?;
+    let (soc, next) = separator_behind(text, end, looks)?;
+    Ok((string, soc, next))
+}
+
+/// The row with its last entry.
+fn last_string<'a>(
+    alloc: Global,
+    row: Vec<(CborString<Texts<'a>>, Msc<'a>)>,
+    last: CborString<Texts<'a>>,
+    soc: Soc<'a>,
+) -> Result<Strings<Texts<'a>>, AllocError>
+    ensures view { IfOk result (λ t. view_strings texts t ≡ string_row_onto texts row.entry.items (LastTree (chunk_tree last.entry) (soc_bytes soc.entry))) }
+    ensures borrowed { BorrowsEachString row.entry.items → BorrowsString last.entry → BorrowsSoc soc.entry → IfOk result BorrowsStrings }
+{
+    let last = Box::new(alloc, last)?;
+    Ok(Strings { row, last, soc })
 }
 
 /// Sets an entry behind the others, with the separator between it and the next. Where that is empty, the text is
@@ -225,20 +460,40 @@ fn pair<'a>(
     from: usize,
     limit: usize,
     looks: &mut Looks,
-) -> Result<(Kp<Texts<'a>>, usize), Fault<Refusal>>
+) -> Result<(Kp<Texts<'a>>, End), Fault<Refusal>>
     requires { IsCharBoundary (text_bytes text.now) from }
-    ensures value { Reads (view_pair texts) (text_bytes text.now) result (reads limit (OneEntry Keyed) (drop from (text_bytes text.now))) }
+    ensures value { ReadsEnd (view_pair texts) (text_bytes text.now) result (reads limit (OneEntry Keyed) (drop from (text_bytes text.now))) }
     ensures borrowed { IfOk result (λ p. BorrowsPair p.0) }
-    ensures place { Lands (text_bytes text.now) from result }
-    ensures cost { Costs 8 4 6 (text_bytes text.now) from looks.old.count looks.new.count result }
+    ensures place { LandsEnd (text_bytes text.now) from result }
+    ensures cost { CostsEnd 12 6 10 (text_bytes text.now) from looks.old.count looks.new.count result }
 {
-    let (key, at) = item(alloc, text, from, limit, looks)?;
-    let (before_colon, at) = space(text, at, looks)?;
+    let (key, end) = item(alloc, text, from, limit, looks)?;
+    let (before_colon, at) = space_behind(text, end, looks)?;
     if !is_at(text, at, b':', looks) {
         return Err(Fault::Told(Refusal::invalid(at)));
     }
-    let (after_colon, at) = space(text, at + 1, looks)?;
-    let (value, to) = item(alloc, text, at, limit, looks)?;
+    valued(alloc, text, at + 1, limit, key, before_colon, looks)
+}
+
+/// The pair of a key, with the value behind the colon.
+#[cycle(item)]
+fn valued<'a>(
+    alloc: Global,
+    text: &Text<'a>,
+    from: usize,
+    limit: usize,
+    key: Item<'a>,
+    before_colon: S<'a>,
+    looks: &mut Looks,
+) -> Result<(Kp<Texts<'a>>, End), Fault<Refusal>>
+    requires { IsCharBoundary (text_bytes text.now) from }
+    ensures value { ReadsEnd (view_pair texts) (text_bytes text.now) result (behind_colon limit (item_tree key.entry) (s_bytes before_colon.entry) (drop from (text_bytes text.now))) }
+    ensures borrowed { BorrowsItem key.entry → BorrowsS before_colon.entry → IfOk result (λ p. BorrowsPair p.0) }
+    ensures place { LandsEnd (text_bytes text.now) from result }
+    ensures cost { CostsEnd 12 8 11 (text_bytes text.now) from looks.old.count looks.new.count result }
+{
+    let (after_colon, at) = space(text, from, looks)?;
+    let (value, end) = item(alloc, text, at, limit, looks)?;
     Ok((
         Kp {
             key,
@@ -246,23 +501,161 @@ fn pair<'a>(
             after_colon,
             value,
         },
-        to,
+        end,
     ))
 }
 
-/// A sequence at the front of the text.
+/// What stands behind the parenthesis that opens a string of indefinite length, to the one that closes it.
+#[cycle(item)]
+fn stream<'a>(
+    alloc: Global,
+    text: &Text<'a>,
+    from: usize,
+    limit: usize,
+    looks: &mut Looks,
+) -> Result<(Stream<Texts<'a>>, usize), Fault<Refusal>>
+    requires { IsCharBoundary (text_bytes text.now) from }
+    ensures value { Reads (view_stream texts) (text_bytes text.now) result (stream_item reads limit (drop from (text_bytes text.now))) }
+    ensures borrowed { IfOk result (λ p. BorrowsStream p.0) }
+    ensures place { Lands (text_bytes text.now) from result }
+    ensures cost { Costs 12 4 12 (text_bytes text.now) from looks.old.count looks.new.count result }
+{
+    if !is_at(text, from, b'_', looks) {
+        return Err(Fault::Told(Refusal::invalid(from)));
+    }
+    let (s, at) = space(text, from + 1, looks)?;
+    let Some(ms) = s.into_ms() else {
+        return Err(Fault::Told(Refusal::invalid(at)));
+    };
+    let (strings, to) = strings(alloc, text, at, limit, looks)?;
+    if !is_at(text, to, b')', looks) {
+        return Err(Fault::Told(Refusal::invalid(to)));
+    }
+    Ok((Stream { ms, strings }, to + 1))
+}
+
+/// Pieces, one or more, joined by plus signs. The space behind the last one is read.
+#[cycle(item)]
+fn string<'a>(
+    alloc: Global,
+    text: &Text<'a>,
+    from: usize,
+    limit: usize,
+    looks: &mut Looks,
+) -> Result<(CborString<Texts<'a>>, End), Fault<Refusal>>
+    requires { IsCharBoundary (text_bytes text.now) from }
+    ensures value { ReadsEnd (view_string texts) (text_bytes text.now) result (reads limit OneString (drop from (text_bytes text.now))) }
+    ensures borrowed { IfOk result (λ p. BorrowsString p.0) }
+    ensures place { LandsEnd (text_bytes text.now) from result }
+    ensures cost { CostsEnd 12 4 8 (text_bytes text.now) from looks.old.count looks.new.count result }
+{
+    let mut row = Vec::new(alloc);
+    let mut at = from;
+    'pieces: loop {
+        let (piece, behind) = piece(alloc, text, at, limit, looks)?;
+        let (before, to) = space(text, behind, looks)?;
+        if !joins(text, to, looks) {
+            let end = End {
+                item: behind,
+                space: Some(to),
+            };
+            return Ok((CborString { row, last: piece }, end));
+        }
+        let (after, next) = space(text, to + 1, looks)?;
+        row.push((piece, before, after))?;
+        at = next;
+    }
+}
+
+/// A piece of a string.
+#[cycle(item)]
+fn piece<'a>(
+    alloc: Global,
+    text: &Text<'a>,
+    from: usize,
+    limit: usize,
+    looks: &mut Looks,
+) -> Result<(Piece<Texts<'a>>, usize), Fault<Refusal>>
+    requires { IsCharBoundary (text_bytes text.now) from }
+    ensures value { Reads (view_piece texts) (text_bytes text.now) result (reads limit OnePiece (drop from (text_bytes text.now))) }
+    ensures borrowed { IfOk result (λ p. BorrowsPiece p.0) }
+    ensures place { Lands (text_bytes text.now) from result }
+    ensures cost { Costs 12 0 5 (text_bytes text.now) from looks.old.count looks.new.count result }
+{
+    if is_at(text, from, b'<', looks) {
+        return embedded(alloc, text, from, limit, looks);
+    }
+    if is_at(text, from, b'.', looks) {
+        let (dots, to) = dots_at(text, from, looks)?;
+        return Ok((Piece::Dots(dots), to));
+    }
+    let (literal, at) = literal_at(text, from, looks)?;
+    let (indicator, to) = indicator_at(text, at, looks);
+    Ok((Piece::Literal(literal, indicator), to))
+}
+
+/// A sequence between `<<` and `>>`, and its indicator.
+#[cycle(item)]
+fn embedded<'a>(
+    alloc: Global,
+    text: &Text<'a>,
+    from: usize,
+    limit: usize,
+    looks: &mut Looks,
+) -> Result<(Piece<Texts<'a>>, usize), Fault<Refusal>>
+    requires begins { IsCharBoundary (text_bytes text.now) from }
+    requires opens { IsByteAt (text_bytes text.now) from 60 }
+    ensures value { Reads (view_piece texts) (text_bytes text.now) result (reads limit OnePiece (drop from (text_bytes text.now))) }
+    ensures borrowed { IfOk result (λ p. BorrowsPiece p.0) }
+    ensures place { Lands (text_bytes text.now) from result }
+    ensures cost { Costs 12 0 5 (text_bytes text.now) (from + 1) looks.old.count looks.new.count result }
+{
+    if !is_at(text, from + 1, b'<', looks) {
+        return Err(Fault::Told(Refusal::invalid(from + 1)));
+    }
+    if limit == 0 {
+        return Err(Fault::Told(Refusal::too_deep(from)));
+    }
+    let (sequence, at) = sequence(alloc, text, from + 2, limit - 1, looks)?;
+    let at = closed(text, at, looks)?;
+    let (indicator, to) = indicator_at(text, at, looks);
+    let sequence = Box::new(alloc, sequence)?;
+    Ok((Piece::Embedded(sequence, indicator), to))
+}
+
+/// The place behind `>>`.
+fn closed(text: &Text<'_>, at: usize, looks: &mut Looks) -> Result<usize, Refusal>
+    requires { IsCharBoundary (text_bytes text.now) at }
+    ensures yes { IfOk result (λ to. (to ≡ at + 2) × (drop at (text_bytes text.now) ≡ 62 ∷ 62 ∷ drop to (text_bytes text.now)) × IsCharBoundary (text_bytes text.now) to) }
+    ensures no { IfErr result (λ r. (r.kind ≡ ParseErrorKind.Invalid) × IsCharBoundary (text_bytes text.now) r.at × IsUnclosed (drop at (text_bytes text.now))) }
+    ensures count { (looks.old.count < looks.new.count) × (looks.new.count ≤ looks.old.count + 2) }
+    ensures least { OnOk result (looks.new.count ≡ looks.old.count + 2) }
+{
+    if !is_at(text, at, b'>', looks) {
+        return Err(Refusal::invalid(at));
+    }
+    if !is_at(text, at + 1, b'>', looks) {
+        return Err(Refusal::invalid(at + 1));
+    }
+    Ok(at + 2)
+}
+
+/// Items, or none, and the spaces round them.
+#[cycle(item)]
 fn sequence<'a>(
     alloc: Global,
     text: &Text<'a>,
+    from: usize,
     limit: usize,
     looks: &mut Looks,
 ) -> Result<(Sequence<'a>, usize), Fault<Refusal>>
-    ensures value { Reads sequence_tree (text_bytes text.now) result (reads limit Seq (text_bytes text.now)) }
+    requires { IsCharBoundary (text_bytes text.now) from }
+    ensures value { Reads sequence_tree (text_bytes text.now) result (reads limit Seq (drop from (text_bytes text.now))) }
     ensures borrowed { IfOk result (λ p. BorrowsSequence p.0) }
-    ensures place { Lands (text_bytes text.now) 0 result }
-    ensures cost { Costs 8 8 8 (text_bytes text.now) 0 looks.old.count looks.new.count result }
+    ensures place { Lands (text_bytes text.now) from result }
+    ensures cost { Costs 12 11 12 (text_bytes text.now) from looks.old.count looks.new.count result }
 {
-    let (before, at) = space(text, text.start(), looks)?;
+    let (before, at) = space(text, from, looks)?;
     if closes(text, at, looks) {
         return Ok((
             Sequence {
@@ -292,11 +685,11 @@ fn standalone<'a>(
     ensures value { Reads standalone_tree (text_bytes text.now) result (reads limit Standalone (text_bytes text.now)) }
     ensures borrowed { IfOk result (λ p. BorrowsStandalone p.0) }
     ensures place { Lands (text_bytes text.now) 0 result }
-    ensures cost { Costs 8 8 8 (text_bytes text.now) 0 looks.old.count looks.new.count result }
+    ensures cost { Costs 12 10 11 (text_bytes text.now) 0 looks.old.count looks.new.count result }
 {
     let (before, at) = space(text, text.start(), looks)?;
-    let (item, at) = item(alloc, text, at, limit, looks)?;
-    let (after, to) = space(text, at, looks)?;
+    let (item, end) = item(alloc, text, at, limit, looks)?;
+    let (after, to) = space_behind(text, end, looks)?;
     Ok((
         StandaloneItem {
             before,
@@ -317,10 +710,10 @@ pub(crate) fn whole_sequence<'a>(
     ensures value { Gives sequence_tree result (reads_all limit Seq (text_bytes text.now)) }
     ensures borrowed { IfOk result BorrowsSequence }
     ensures place { IfErr result (IsPlaced (text_bytes text.now)) }
-    ensures most { looks.new.count ≤ looks.old.count + 8 * length (text_bytes text.now) + 8 }
+    ensures most { looks.new.count ≤ looks.old.count + 12 * length (text_bytes text.now) + 12 }
     ensures least { OnOk result (looks.old.count + length (text_bytes text.now) ≤ looks.new.count) }
 {
-    let (sequence, to) = sequence(alloc, text, limit, looks)?;
+    let (sequence, to) = sequence(alloc, text, text.start(), limit, looks)?;
     ends(text, to)?;
     Ok(sequence)
 }
@@ -335,7 +728,7 @@ pub(crate) fn whole_standalone<'a>(
     ensures value { Gives standalone_tree result (reads_all limit Standalone (text_bytes text.now)) }
     ensures borrowed { IfOk result BorrowsStandalone }
     ensures place { IfErr result (IsPlaced (text_bytes text.now)) }
-    ensures most { looks.new.count ≤ looks.old.count + 8 * length (text_bytes text.now) + 8 }
+    ensures most { looks.new.count ≤ looks.old.count + 12 * length (text_bytes text.now) + 12 }
     ensures least { OnOk result (looks.old.count + length (text_bytes text.now) ≤ looks.new.count) }
 {
     let (item, to) = standalone(alloc, text, limit, looks)?;

@@ -1,14 +1,14 @@
 //! What stands at a place of a text.
-ghost use Rattle.std.specs.Prelude.{◌≡◌, ◌+◌, ◌<◌, ◌∷◌, [], true, false, length, drop, OnOk, IfErr, IfSome, IfNone, Ok, Err};
+ghost use Rattle.std.specs.Prelude.{◌≡◌, ◌≢◌, ◌+◌, ◌<◌, ◌≤◌, ◌∷◌, [], true, false, length, drop, OnOk, IfErr, IfSome, IfNone, Ok, Err};
 ghost use Rattle.std.specs.Str.{IsCharBoundary};
 ghost use Rattle.cbor_edn_parts.specs.Bytes.{is_closed, closing, kind};
 ghost use Rattle.cbor_edn_parts.specs.Text.{text_bytes};
 ghost use Rattle.cbor_edn_parts.specs.Leaves.{s_bytes, BorrowsS};
 ghost use Rattle.cbor_edn_core.specs.Borrowed.{BorrowsHead};
-ghost use Rattle.cbor_edn_core.specs.ParserResults.{IsNotAt};
-ghost use Rattle.cbor_edn_core.specs.Lookahead.{row};
+ghost use Rattle.cbor_edn_core.specs.ParserResults.{IsNotAt, IsByteAt};
+ghost use Rattle.cbor_edn_core.specs.Lookahead.{Opens, OpensWith};
 ghost use Rattle.cbor_edn_core.specs.Reading.{head_of};
-ghost use Rattle.cbor_edn_core.specs.Spelling.{opening};
+ghost use Rattle.cbor_edn_core.specs.Trees as trees;
 ghost use Rattle.cbor_edn_core.specs.View.{texts, view_head};
 ghost use Rattle.cbor_edn_parts.specs.declared.error.ParseErrorKind.TheVariants.{Invalid};
 
@@ -31,23 +31,66 @@ pub(crate) fn is_at(text: &Text<'_>, at: usize, byte: u8, looks: &mut Looks) -> 
     }
 }
 
-/// What a bracket opens.
+/// What begins with an item.
 #[derive(Clone, Copy, Debug, PartialEq)]
-pub(crate) enum List {
+pub(crate) enum Opening {
     Array,
     Map,
+    /// A string of indefinite length.
+    Stream,
+    String,
+    Number,
 }
 
-/// The list that opens at a place, if one does.
-pub(crate) fn list_at(text: &Text<'_>, at: usize, looks: &mut Looks) -> Option<List>
-    ensures opens { IfSome result (λ list. (drop at (text_bytes text.now) ≡ opening (row list) ∷ drop (at + 1) (text_bytes text.now)) × IsCharBoundary (text_bytes text.now) (at + 1)) }
-    ensures none { IfNone result (IsNotAt 91 (drop at (text_bytes text.now)) × IsNotAt 123 (drop at (text_bytes text.now))) }
-    ensures count { looks.new.count ≡ looks.old.count + 1 }
+/// What an item at a place is, by its first byte, and by two where it begins with a dot.
+pub(crate) fn opening_at(text: &Text<'_>, at: usize, looks: &mut Looks) -> Opening
+    ensures opens { Opens (text_bytes text.now) at result }
+    ensures count { (looks.old.count < looks.new.count) × (looks.new.count ≤ looks.old.count + 2) }
+{
+    let Some(byte) = text.byte(at, looks) else {
+        return Opening::Number;
+    };
+    if byte == b'.' {
+        if is_at(text, at + 1, b'.', looks) {
+            return Opening::String;
+        }
+        return Opening::Number;
+    }
+    opening_of(byte)
+}
+
+/// What begins with a byte that is no dot.
+fn opening_of(byte: u8) -> Opening
+    requires { byte ≢ 46 }
+    ensures { OpensWith byte result }
+{
+    match byte {
+        b'[' => Opening::Array,
+        b'{' => Opening::Map,
+        b'(' => Opening::Stream,
+        b'"' | b'\'' | b'<' | b'a'..=b'z' | b'A'..=b'Z' => Opening::String,
+        _ => Opening::Number,
+    }
+}
+
+/// Whether a plus sign at a place joins two pieces: one that begins a number does not.
+pub(crate) fn joins(text: &Text<'_>, at: usize, looks: &mut Looks) -> bool
+    ensures value { result ≡ trees.joins (drop at (text_bytes text.now)) }
+    ensures yes { result ≡ true → IsByteAt (text_bytes text.now) at 43 }
+    ensures count { (looks.old.count < looks.new.count) × (looks.new.count ≤ looks.old.count + 3) }
+{
+    is_at(text, at, b'+', looks) && !starts_number(text, at + 1, looks)
+}
+
+/// Whether a digit, or a point and a digit, stands at a place.
+fn starts_number(text: &Text<'_>, at: usize, looks: &mut Looks) -> bool
+    ensures value { result ≡ trees.starts_number (drop at (text_bytes text.now)) }
+    ensures count { (looks.old.count < looks.new.count) × (looks.new.count ≤ looks.old.count + 2) }
 {
     match text.byte(at, looks) {
-        Some(b'[') => Some(List::Array),
-        Some(b'{') => Some(List::Map),
-        _ => None,
+        Some(b'.') => matches!(text.byte(at + 1, looks), Some(b'0'..=b'9')),
+        Some(byte) => byte.is_ascii_digit(),
+        None => false,
     }
 }
 

@@ -4,7 +4,7 @@ ghost use Rattle.cbor_edn_parts.specs.Errors.{error_kind, error_offset, error_li
 ghost use Rattle.cbor_edn_parts.specs.Place.{IsPlace};
 ghost use Rattle.cbor_edn_core.specs.Borrowed.{BorrowsSequence, BorrowsStandalone};
 ghost use Rattle.cbor_edn_core.specs.Parsing.{IsAccepted, IsInvalid, IsTooDeep};
-ghost use Rattle.cbor_edn_core.specs.Refusals.{IfTold};
+ghost use Rattle.cbor_edn_parts.specs.Refusals.{IfTold};
 ghost use Rattle.cbor_edn_core.specs.Spelling.{SpellsOne, SpellsSequence};
 ghost use Rattle.cbor_edn_core.specs.Trees.{items, text};
 ghost use Rattle.cbor_edn_core.specs.View.{sequence_tree, standalone_tree};

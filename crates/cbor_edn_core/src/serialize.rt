@@ -4,13 +4,13 @@ ghost use Rattle.std.specs.String.{string_bytes};
 ghost use Rattle.cbor_edn_parts.specs.Indicator.{indicator_text};
 ghost use Rattle.cbor_edn_core.specs.Trees.{text, head_text, items};
 ghost use Rattle.cbor_edn_core.specs.Spelling.{Spells, SpellsSequence, SpellsOne};
-ghost use Rattle.cbor_edn_core.specs.View.{texts, view_head, view_list, view_items, row_text, view_pair_list, view_pairs, view_pair, pair_row_text, item_tree, standalone_tree, sequence_tree};
+ghost use Rattle.cbor_edn_core.specs.View.{texts, view_head, view_list, view_items, row_text, view_pair_list, view_pairs, view_pair, pair_row_text, view_string, view_piece, piece_row_text, view_stream, view_strings, string_row_text, item_tree, standalone_tree, sequence_tree};
 
 use crate::tree::{
-    Indicator, InnerItem, Item, ItemList, Items, Kp, PairList, Pairs, Sequence, StandaloneItem,
-    Texts,
+    CborString, Indicator, InnerItem, Item, ItemList, Items, Kp, PairList, Pairs, Piece, Sequence,
+    StandaloneItem, Stream, Strings, Texts,
 };
-use cbor_edn_parts::space::{Ms, Msc};
+use cbor_edn_parts::space::{Ms, Msc, S};
 use std::alloc::{AllocError, Global};
 
 impl Item<'_> {
@@ -49,7 +49,8 @@ impl Sequence<'_> {
     }
 }
 
-#[tactic(auto, using(crate::proofs::Texts::text_nothing, crate::proofs::Texts::text_sequence, std::proofs::Common::append_assoc))]
+#[cycle(push)]
+#[tactic(auto, using(crate::proofs::Views::view_sequence_is, crate::proofs::Texts::text_nothing, crate::proofs::Texts::text_sequence, std::proofs::Common::append_assoc))]
 fn push_sequence(out: &mut String, sequence: &Sequence<'_>) -> Result<(), AllocError>
     ensures { OnOk result (string_bytes out.new ≡ string_bytes out.old ++ text (sequence_tree sequence.now)) }
 {
@@ -91,7 +92,7 @@ fn push_head(out: &mut String, head: &Option<(Indicator, Ms<'_>)>) -> Result<(),
 }
 
 #[cycle(push)]
-#[tactic(auto, using(crate::proofs::Texts::text_number, crate::proofs::Texts::text_list, std::proofs::Common::append_assoc))]
+#[tactic(auto, using(crate::proofs::Views::view_string_is, crate::proofs::Texts::text_number, crate::proofs::Texts::text_list, crate::proofs::Texts::text_string, std::proofs::Common::append_assoc))]
 fn push_item(out: &mut String, item: &Item<'_>) -> Result<(), AllocError>
     ensures { OnOk result (string_bytes out.new ≡ string_bytes out.old ++ text (item_tree item.now)) }
 {
@@ -110,7 +111,90 @@ fn push_item(out: &mut String, item: &Item<'_>) -> Result<(), AllocError>
             push_pair_list(out, list)?;
             out.push_str("}")
         }
+        InnerItem::String(string) => push_string(out, string),
+        InnerItem::Stream(stream) => push_stream(out, stream),
     }
+}
+
+#[cycle(push)]
+#[tactic(auto, using(crate::proofs::Texts::text_pieces, crate::proofs::Texts::text_last_piece, std::proofs::Common::append_assoc))]
+fn push_string(out: &mut String, string: &CborString<Texts<'_>>) -> Result<(), AllocError>
+    ensures { OnOk result (string_bytes out.new ≡ string_bytes out.old ++ text (view_string texts string.now)) }
+{
+    push_piece_row(out, &string.row)?;
+    push_piece(out, &string.last)
+}
+
+#[cycle(push)]
+fn push_piece_row(
+    out: &mut String,
+    row: &[(Piece<Texts<'_>>, S<'_>, S<'_>)],
+) -> Result<(), AllocError>
+    ensures { OnOk result (string_bytes out.new ≡ string_bytes out.old ++ piece_row_text texts row.now) }
+{
+    for (piece, before, after) in row {
+        push_piece(out, piece)?;
+        out.push_str(before.as_str())?;
+        out.push_str("+")?;
+        out.push_str(after.as_str())?;
+    }
+    Ok(())
+}
+
+#[cycle(push)]
+#[tactic(auto, using(crate::proofs::Texts::text_literal, crate::proofs::Texts::text_dots, crate::proofs::Texts::text_embedded, std::proofs::Common::append_assoc))]
+fn push_piece(out: &mut String, piece: &Piece<Texts<'_>>) -> Result<(), AllocError>
+    ensures { OnOk result (string_bytes out.new ≡ string_bytes out.old ++ text (view_piece texts piece.now)) }
+{
+    match piece {
+        Piece::Literal(literal, indicator) => {
+            out.push_str(literal.as_str())?;
+            push_indicator(out, *indicator)
+        }
+        Piece::Dots(dots) => out.push_str(dots.as_str()),
+        Piece::Embedded(sequence, indicator) => {
+            out.push_str("<<")?;
+            push_sequence(out, sequence)?;
+            out.push_str(">>")?;
+            push_indicator(out, *indicator)
+        }
+    }
+}
+
+#[cycle(push)]
+#[tactic(auto, using(crate::proofs::Views::view_stream_is, crate::proofs::Texts::text_stream, std::proofs::Common::append_assoc))]
+fn push_stream(out: &mut String, stream: &Stream<Texts<'_>>) -> Result<(), AllocError>
+    ensures { OnOk result (string_bytes out.new ≡ string_bytes out.old ++ text (view_stream texts stream.now)) }
+{
+    out.push_str("(_")?;
+    out.push_str(stream.ms.as_str())?;
+    push_strings(out, &stream.strings)?;
+    out.push_str(")")
+}
+
+#[cycle(push)]
+#[tactic(auto, using(crate::proofs::Views::view_strings_is, crate::proofs::Texts::text_entries, crate::proofs::Texts::text_last, crate::proofs::Texts::text_chunk, std::proofs::Common::append_assoc))]
+fn push_strings(out: &mut String, strings: &Strings<Texts<'_>>) -> Result<(), AllocError>
+    ensures { OnOk result (string_bytes out.new ≡ string_bytes out.old ++ text (view_strings texts strings.now)) }
+{
+    push_string_row(out, &strings.row)?;
+    push_string(out, &strings.last)?;
+    out.push_str(strings.soc.as_str())
+}
+
+#[cycle(push)]
+#[tactic(auto, unfolding(crate::specs::Trees::onto))]
+fn push_string_row(
+    out: &mut String,
+    row: &[(CborString<Texts<'_>>, Msc<'_>)],
+) -> Result<(), AllocError>
+    ensures { OnOk result (string_bytes out.new ≡ string_bytes out.old ++ string_row_text texts row.now) }
+{
+    for (string, separator) in row {
+        push_string(out, string)?;
+        out.push_str(separator.as_str())?;
+    }
+    Ok(())
 }
 
 #[cycle(push)]

@@ -1,22 +1,30 @@
 //! The CBOR that items mean.
 ghost use Rattle.std.specs.Prelude.{◌≡◌, ◌<◌, ◌++◌, map, IfOk, Some};
-ghost use Rattle.cbor_edn_parts.specs.Leaves.{number_bytes};
+ghost use Rattle.cbor_edn_parts.specs.Contents.{literal_content};
+ghost use Rattle.cbor_edn_parts.specs.Leaves.{literal_bytes, number_bytes};
 ghost use Rattle.cbor_edn_core.specs.Items as nodes;
 ghost use Rattle.cbor_edn_core.specs.Trees as trees;
-ghost use Rattle.cbor_edn_core.specs.View.{texts, view_list, view_items, view_pair_list, view_pairs, view_pair, view_head, seen, seen_pair, item_tree, standalone_tree, sequence_tree};
-ghost use Rattle.cbor_edn_core.specs.Value.{Value, Values, encoding, encodings, pair_encodings, Enc, EncAll};
+ghost use Rattle.cbor_edn_core.specs.View.{texts, view_list, view_items, view_pair_list, view_pairs, view_pair, view_head, view_piece, view_string, view_strings, seen, seen_pair, seen_piece, seen_string, item_tree, standalone_tree, sequence_tree};
+ghost use Rattle.cbor_edn_core.specs.Value.{AreBytes, Value, Values, encoding, encodings, pair_encodings, Enc, EncAll};
+ghost use Rattle.cbor_edn_core.specs.Meaning as meaning;
 ghost use Rattle.cbor_edn_core.specs.Meaning.{means, length_of};
-ghost use Rattle.cbor_edn_core.specs.Refusals.{IfTold};
-ghost use Rattle.cbor_edn_core.specs.Encoding.{Encodes, NoEncoding, entry_encoding, row_items, list_head, list_end};
+ghost use Rattle.cbor_edn_parts.specs.Refusals.{IfTold};
+ghost use Rattle.cbor_edn_core.specs.Encoding as calls;
+ghost use Rattle.cbor_edn_core.specs.Encoding.{Encodes, Finds, Gathers, NoEncoding, entry_encoding, string_encodings, row_items, list_head, list_end};
 
-use crate::cbor::{length_of, push_integer, push_list_end, push_list_head};
+use crate::cbor::{
+    length_of, push_chunk, push_integer, push_list_end, push_list_head, push_string, same_kind,
+    string_major,
+};
 use crate::tree::{
-    InnerItem, Item, ItemList, Items, Kp, PairList, Pairs, Sequence, StandaloneItem, Texts,
+    CborString, InnerItem, Item, ItemList, Items, Kp, PairList, Pairs, Piece, Sequence,
+    StandaloneItem, Strings, Texts,
 };
 use cbor_edn_parts::error::{Fault, InconsistentEdn};
 use cbor_edn_parts::indicator::Indicator;
 use cbor_edn_parts::number::Number;
-use cbor_edn_parts::space::{Ms, Msc};
+use cbor_edn_parts::space::{Ms, Msc, S};
+use cbor_edn_parts::string::{Literal, StringKind};
 use std::alloc::Global;
 
 impl StandaloneItem<'_> {
@@ -28,6 +36,7 @@ impl StandaloneItem<'_> {
     {
         let mut out = Vec::new(alloc);
         push_item(&mut out, &self.item)?;
+        are_bytes(&out);
         Ok(out)
     }
 }
@@ -41,11 +50,17 @@ impl Sequence<'_> {
         ensures refused { IfTold result (NoEncoding (means (trees.items (sequence_tree self.now)))) }
     {
         let mut out = Vec::new(alloc);
-        if let Some(items) = &self.items {
-            push_items(&mut out, items)?;
-        }
+        push_sequence(&mut out, self)?;
+        are_bytes(&out);
         Ok(out)
     }
+}
+
+/// Nothing: the clause is what the type says, for the proof of a caller that hands its vector on.
+fn are_bytes(bytes: &[u8])
+    ensures { AreBytes bytes.now }
+{
+    let _ = bytes;
 }
 
 #[cycle(encode)]
@@ -57,6 +72,8 @@ fn push_item(out: &mut Vec<u8>, item: &Item<'_>) -> Result<(), Fault<Inconsisten
         InnerItem::Number(number, indicator) => push_number(out, number, *indicator),
         InnerItem::Array(list) => push_array(out, list),
         InnerItem::Map(list) => push_map(out, list),
+        InnerItem::String(string) => push_pieces(out, string),
+        InnerItem::Stream(stream) => push_stream(out, &stream.strings),
     }
 }
 
@@ -100,7 +117,7 @@ fn push_empty(
 
 #[cycle(encode)]
 fn push_array(out: &mut Vec<u8>, list: &ItemList<Texts<'_>>) -> Result<(), Fault<InconsistentEdn>>
-    ensures { let l = trees.items (view_list texts list.now) in Encodes encoding (means (nodes.Listed nodes.Elements l.0 l.1)) out.old.items out.new.items result }
+    ensures { let l = trees.items (view_list texts list.now) in Encodes encoding (means (nodes.Listed nodes.Array l.0 l.1)) out.old.items out.new.items result }
 {
     match list {
         ItemList::Absent { indicator, .. } => push_empty(out, 4, *indicator),
@@ -135,7 +152,7 @@ fn push_row(out: &mut Vec<u8>, row: &[(Item<'_>, Msc<'_>)]) -> Result<(), Fault<
 
 #[cycle(encode)]
 fn push_map(out: &mut Vec<u8>, list: &PairList<Texts<'_>>) -> Result<(), Fault<InconsistentEdn>>
-    ensures { let l = trees.items (view_pair_list texts list.now) in Encodes encoding (means (nodes.Listed nodes.Pairs l.0 l.1)) out.old.items out.new.items result }
+    ensures { let l = trees.items (view_pair_list texts list.now) in Encodes encoding (means (nodes.Listed nodes.Map l.0 l.1)) out.old.items out.new.items result }
 {
     match list {
         PairList::Absent { indicator, .. } => push_empty(out, 5, *indicator),
@@ -177,4 +194,276 @@ fn push_pair(out: &mut Vec<u8>, pair: &Kp<Texts<'_>>) -> Result<(), Fault<Incons
 {
     push_item(out, &pair.key)?;
     push_item(out, &pair.value)
+}
+
+#[cycle(encode)]
+#[tactic(auto, unfolding(crate::specs::Trees::items))]
+fn push_sequence(out: &mut Vec<u8>, sequence: &Sequence<'_>) -> Result<(), Fault<InconsistentEdn>>
+    ensures { Encodes encodings (means (trees.items (sequence_tree sequence.now))) out.old.items out.new.items result }
+{
+    match &sequence.items {
+        Some(items) => push_items(out, items),
+        None => Ok(()),
+    }
+}
+
+/// Writes a string by itself.
+#[cycle(encode)]
+fn push_pieces(
+    out: &mut Vec<u8>,
+    string: &CborString<Texts<'_>>,
+) -> Result<(), Fault<InconsistentEdn>>
+    ensures { Encodes encoding (means (nodes.String (trees.items (view_string texts string.now)))) out.old.items out.new.items result }
+{
+    let indicator = string_mark(string)?;
+    let (kind, bytes) = content_of(*out.allocator(), string)?;
+    push_string(out, kind, indicator, &bytes)
+}
+
+/// Writes one of the strings of a stream.
+#[cycle(encode)]
+fn push_part(
+    out: &mut Vec<u8>,
+    string: &CborString<Texts<'_>>,
+) -> Result<(), Fault<InconsistentEdn>>
+    ensures { Encodes (entry_encoding nodes.Strings) (means (nodes.Chunk (trees.items (view_string texts string.now)))) out.old.items out.new.items result }
+{
+    let indicator = string_mark(string)?;
+    let (kind, bytes) = content_of(*out.allocator(), string)?;
+    push_chunk(out, kind, indicator, &bytes)
+}
+
+/// The indicators of the pieces as one. Fails where one of several pieces has one.
+fn string_mark(string: &CborString<Texts<'_>>) -> Result<Option<Indicator>, Fault<InconsistentEdn>>
+    ensures { Finds (meaning.pieces_mark (trees.items (view_string texts string.now))) result }
+{
+    let indicator = piece_mark(&string.last);
+    if string.row.is_empty() {
+        Ok(indicator)
+    } else if indicator.is_none() && are_unmarked(&string.row) {
+        Ok(None)
+    } else {
+        Err(Fault::Told(InconsistentEdn::IndicatorOnPiece))
+    }
+}
+
+#[tactic(auto, unfolding(crate::specs::Trees::items))]
+fn piece_mark(piece: &Piece<Texts<'_>>) -> Option<Indicator>
+    ensures { result ≡ meaning.piece_mark (trees.items (view_piece texts piece.now)) }
+{
+    match piece {
+        Piece::Literal(_, indicator) | Piece::Embedded(_, indicator) => *indicator,
+        Piece::Dots(_) => None,
+    }
+}
+
+fn are_unmarked(row: &[(Piece<Texts<'_>>, S<'_>, S<'_>)]) -> bool
+    ensures { result ≡ calls.no_marks (map (seen_piece texts) row.now) }
+{
+    for (piece, _, _) in row {
+        if piece_mark(piece).is_some() {
+            return false;
+        }
+    }
+    true
+}
+
+/// The kind and the bytes of a string.
+#[cycle(encode)]
+fn content_of(
+    alloc: Global,
+    string: &CborString<Texts<'_>>,
+) -> Result<(StringKind, Vec<u8>), Fault<InconsistentEdn>>
+    ensures content { IfOk result (λ p. means (trees.items (view_string texts string.now)) ≡ Some (p.0, p.1.items)) }
+    ensures none { IfTold result (NoEncoding (means (trees.items (view_string texts string.now)))) }
+{
+    let mut bytes = Vec::new(alloc);
+    match gather(&mut bytes, string) {
+        Ok(kind) => Ok((kind, bytes)),
+        Err(Fault::Told(refused)) => Err(first_fault(alloc, string, refused)),
+        Err(Fault::Memory(refused)) => Err(Fault::Memory(refused)),
+    }
+}
+
+/// Writes the bytes of the pieces, and answers the kind of the first.
+#[cycle(encode)]
+fn gather(
+    out: &mut Vec<u8>,
+    string: &CborString<Texts<'_>>,
+) -> Result<StringKind, Fault<InconsistentEdn>>
+    ensures { Gathers (means (trees.items (view_string texts string.now))) out.old.items out.new.items result }
+{
+    let mut kind: Option<StringKind> = None;
+    for (piece, _, _) in &string.row {
+        let next = push_piece(out, piece)?;
+        kind = Some(kind.unwrap_or(next));
+    }
+    let last = push_piece(out, &string.last)?;
+    Ok(kind.unwrap_or(last))
+}
+
+#[cycle(encode)]
+fn push_piece(
+    out: &mut Vec<u8>,
+    piece: &Piece<Texts<'_>>,
+) -> Result<StringKind, Fault<InconsistentEdn>>
+    ensures { Gathers (means (trees.items (view_piece texts piece.now))) out.old.items out.new.items result }
+{
+    match piece {
+        Piece::Literal(literal, _) => push_literal(out, literal),
+        Piece::Dots(_) => Err(Fault::Told(InconsistentEdn::UnsupportedLiteral)),
+        Piece::Embedded(sequence, _) => {
+            push_sequence(out, sequence)?;
+            Ok(StringKind::Bytes)
+        }
+    }
+}
+
+fn push_literal(
+    out: &mut Vec<u8>,
+    literal: &Literal<'_>,
+) -> Result<StringKind, Fault<InconsistentEdn>>
+    ensures { Gathers (literal_content (literal_bytes literal.now)) out.old.items out.new.items result }
+{
+    let (kind, bytes) = literal.content(*out.allocator())?;
+    out.extend_from_slice(&bytes)?;
+    Ok(kind)
+}
+
+/// What is told of a string without a content: first of pieces that no content is known of, then of the other literals, and then
+/// what stopped its gathering.
+fn first_fault(
+    alloc: Global,
+    string: &CborString<Texts<'_>>,
+    refused: InconsistentEdn,
+) -> Fault<InconsistentEdn> {
+    if has_unsupported(string) {
+        return Fault::Told(InconsistentEdn::UnsupportedLiteral);
+    }
+    match check_literals(alloc, string) {
+        Ok(()) => Fault::Told(refused),
+        Err(fault) => fault,
+    }
+}
+
+fn has_unsupported(string: &CborString<Texts<'_>>) -> bool {
+    for (piece, _, _) in &string.row {
+        if is_unsupported(piece) {
+            return true;
+        }
+    }
+    is_unsupported(&string.last)
+}
+
+fn is_unsupported(piece: &Piece<Texts<'_>>) -> bool {
+    match piece {
+        Piece::Literal(literal, _) => !literal.is_supported(),
+        Piece::Dots(_) => true,
+        Piece::Embedded(..) => false,
+    }
+}
+
+/// Fails where a literal has no content.
+fn check_literals(
+    alloc: Global,
+    string: &CborString<Texts<'_>>,
+) -> Result<(), Fault<InconsistentEdn>> {
+    for (piece, _, _) in &string.row {
+        check_literal(alloc, piece)?;
+    }
+    check_literal(alloc, &string.last)
+}
+
+fn check_literal(alloc: Global, piece: &Piece<Texts<'_>>) -> Result<(), Fault<InconsistentEdn>> {
+    if let Piece::Literal(literal, _) = piece {
+        let _ = literal.content(alloc)?;
+    }
+    Ok(())
+}
+
+#[cycle(encode)]
+fn push_stream(
+    out: &mut Vec<u8>,
+    strings: &Strings<Texts<'_>>,
+) -> Result<(), Fault<InconsistentEdn>>
+    ensures { Encodes encoding (means (nodes.Stream (trees.items (view_strings texts strings.now)))) out.old.items out.new.items result }
+{
+    let major = string_major(stream_kind(strings)?);
+    push_list_head(out, major, None, 0)?;
+    push_parts(out, strings)?;
+    push_list_end(out, None)?;
+    Ok(())
+}
+
+#[cycle(encode)]
+fn push_parts(out: &mut Vec<u8>, strings: &Strings<Texts<'_>>) -> Result<(), Fault<InconsistentEdn>>
+    ensures { Encodes string_encodings (means (trees.items (view_strings texts strings.now))) out.old.items out.new.items result }
+{
+    push_part_row(out, &strings.row)?;
+    push_part(out, &strings.last)
+}
+
+#[cycle(encode)]
+fn push_part_row(
+    out: &mut Vec<u8>,
+    row: &[(CborString<Texts<'_>>, Msc<'_>)],
+) -> Result<(), Fault<InconsistentEdn>>
+    ensures { Encodes string_encodings (means (row_items (map (seen_string texts) row.now))) out.old.items out.new.items result }
+{
+    for (string, _) in row {
+        push_part(out, string)?;
+    }
+    Ok(())
+}
+
+/// The kind of the strings of a stream, by their forms. Fails where they are of both kinds.
+fn stream_kind(strings: &Strings<Texts<'_>>) -> Result<StringKind, Fault<InconsistentEdn>>
+    ensures { Finds (calls.stream_kind (trees.items (view_strings texts strings.now))) result }
+{
+    let kind = first_kind(strings);
+    if are_of_kind(kind, &strings.row) && same_kind(kind, form_kind(&strings.last)) {
+        Ok(kind)
+    } else {
+        Err(Fault::Told(InconsistentEdn::OtherChunk))
+    }
+}
+
+fn first_kind(strings: &Strings<Texts<'_>>) -> StringKind
+    ensures { result ≡ calls.first_kind (trees.items (view_strings texts strings.now)) }
+{
+    match strings.row.as_slice() {
+        [(string, _), ..] => form_kind(string),
+        [] => form_kind(&strings.last),
+    }
+}
+
+fn are_of_kind(kind: StringKind, row: &[(CborString<Texts<'_>>, Msc<'_>)]) -> bool
+    ensures { result ≡ calls.kinds_are kind (row_items (map (seen_string texts) row.now)) }
+{
+    for (string, _) in row {
+        if !same_kind(kind, form_kind(string)) {
+            return false;
+        }
+    }
+    true
+}
+
+/// The kind of a string by the form of its first piece.
+fn form_kind(string: &CborString<Texts<'_>>) -> StringKind
+    ensures { result ≡ calls.form_kind (trees.items (view_string texts string.now)) }
+{
+    match string.row.as_slice() {
+        [(piece, _, _), ..] => piece_kind(piece),
+        [] => piece_kind(&string.last),
+    }
+}
+
+#[tactic(auto, unfolding(crate::specs::Trees::items))]
+fn piece_kind(piece: &Piece<Texts<'_>>) -> StringKind
+    ensures { result ≡ calls.piece_kind (trees.items (view_piece texts piece.now)) }
+{
+    match piece {
+        Piece::Literal(literal, _) => literal.kind(),
+        Piece::Dots(_) | Piece::Embedded(..) => StringKind::Bytes,
+    }
 }

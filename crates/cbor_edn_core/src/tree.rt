@@ -2,15 +2,16 @@
 //!
 //! The types are generic in their leaves; the rest of the crate speaks of `Item`, `StandaloneItem` and `Sequence`.
 ghost use Rattle.std.specs.Prelude.{List, ℕ};
-ghost use Rattle.cbor_edn_parts.specs.Leaves.{s_bytes, ms_bytes, msc_bytes, soc_bytes, number_bytes};
+ghost use Rattle.cbor_edn_parts.specs.Leaves.{s_bytes, ms_bytes, msc_bytes, soc_bytes, number_bytes, literal_bytes, dots_bytes};
 
 pub use cbor_edn_parts::indicator::Indicator;
 use cbor_edn_parts::number::Number;
 use cbor_edn_parts::space::{Ms, Msc, S, Soc};
+use cbor_edn_parts::string::{Dots, Literal};
 use std::fmt::Debug;
 use std::marker::PhantomData;
 
-/// How deep arrays and maps may nest where no limit is given.
+/// How deep arrays, maps and embedded sequences may nest where no limit is given.
 pub const NESTING_LIMIT: usize = 512;
 
 /// The types of the leaves of a tree, and the bytes that each stands for.
@@ -25,6 +26,10 @@ pub trait Leaves {
     type End: Debug + Drop;
     /// A number.
     type Number: Debug + Drop;
+    /// A quoted text, with or without a prefix.
+    type Literal: Debug + Drop;
+    /// Three dots or more.
+    type Dots: Debug + Drop;
 
     ghost space: { Self.Space → List ℕ };
 
@@ -35,6 +40,10 @@ pub trait Leaves {
     ghost end: { Self.End → List ℕ };
 
     ghost number: { Self.Number → List ℕ };
+
+    ghost literal: { Self.Literal → List ℕ };
+
+    ghost dots: { Self.Dots → List ℕ };
 }
 
 /// The leaves of a text.
@@ -54,6 +63,10 @@ impl<'a> Leaves for Texts<'a> {
 
     type Number = Number<'a>;
 
+    type Literal = Literal<'a>;
+
+    type Dots = Dots<'a>;
+
     ghost space = { s_bytes };
 
     ghost mandatory = { ms_bytes };
@@ -63,6 +76,10 @@ impl<'a> Leaves for Texts<'a> {
     ghost end = { soc_bytes };
 
     ghost number = { number_bytes };
+
+    ghost literal = { literal_bytes };
+
+    ghost dots = { dots_bytes };
 }
 
 /// An item.
@@ -89,6 +106,46 @@ pub enum InnerItem<L: Leaves> {
     Number(L::Number, Option<Indicator>),
     Array(ItemList<L>),
     Map(PairList<L>),
+    String(CborString<L>),
+    /// A string of indefinite length.
+    Stream(Stream<L>),
+}
+
+/// A string: one piece or more, all but the last with the space before and the space behind the plus sign that follows.
+#[cycle(tree)]
+#[derive(Debug, Drop)]
+pub struct CborString<L: Leaves> {
+    pub(crate) row: Vec<(Piece<L>, L::Space, L::Space)>,
+    pub(crate) last: Piece<L>,
+}
+
+/// A piece of a string.
+#[cycle(tree)]
+#[derive(Debug, Drop)]
+pub enum Piece<L: Leaves> {
+    /// A literal and its encoding indicator.
+    Literal(L::Literal, Option<Indicator>),
+    /// What stands in place of a piece that is left out.
+    Dots(L::Dots),
+    /// A sequence, whose encoding is the piece, and the piece's encoding indicator.
+    Embedded(Box<SequenceOf<L>>, Option<Indicator>),
+}
+
+/// What stands between the parentheses of a string of indefinite length, behind the underscore.
+#[cycle(tree)]
+#[derive(Debug, Drop)]
+pub struct Stream<L: Leaves> {
+    pub(crate) ms: L::Mandatory,
+    pub(crate) strings: Strings<L>,
+}
+
+/// One string or more: each but the last with the separator behind it, the last with the end of the list.
+#[cycle(tree)]
+#[derive(Debug, Drop)]
+pub struct Strings<L: Leaves> {
+    pub(crate) row: Vec<(CborString<L>, L::Separator)>,
+    pub(crate) last: Box<CborString<L>>,
+    pub(crate) soc: L::End,
 }
 
 /// What stands between the brackets of an array.
@@ -160,6 +217,7 @@ pub struct StandaloneItemOf<L: Leaves> {
 }
 
 /// A sequence over any leaves.
+#[cycle(tree)]
 #[derive(Debug, Drop)]
 pub struct SequenceOf<L: Leaves> {
     pub(crate) before: L::Space,

@@ -1,11 +1,12 @@
 //! Trees that are put together from their leaves.
 use crate::tree::{
-    Indicator, InnerItem, Item, ItemList, ItemOf, Items, Kp, PairList, Pairs, Sequence, SequenceOf,
-    StandaloneItem, Texts,
+    CborString, Indicator, InnerItem, Item, ItemList, ItemOf, Items, Kp, PairList, Pairs, Piece,
+    Sequence, SequenceOf, StandaloneItem, Stream, Strings, Texts,
 };
 use cbor_edn_parts::looks::Looks;
 use cbor_edn_parts::number::{Number, number_at};
 use cbor_edn_parts::space::{Ms, Msc, S, Soc, separator, space};
+use cbor_edn_parts::string::{Dots, Literal, dots_at, literal_at};
 use cbor_edn_parts::text::Text;
 use std::alloc::Global;
 use std::test::Fail;
@@ -149,6 +150,97 @@ fn two_items<'a>(
     })
 }
 
+fn literal<'a>(text: &'a str, indicator: Option<Indicator>) -> Result<Piece<Texts<'a>>, Fail> {
+    let text = Text::new(text);
+    let (read, _): (Literal<'a>, usize) = literal_at(&text, text.start(), &mut Looks::new())?;
+    Ok(Piece::Literal(read, indicator))
+}
+
+fn dots<'a>(text: &'a str) -> Result<Piece<Texts<'a>>, Fail> {
+    let text = Text::new(text);
+    let (read, _): (Dots<'a>, usize) = dots_at(&text, text.start(), &mut Looks::new())?;
+    Ok(Piece::Dots(read))
+}
+
+// <<
+// 0x1,[ 2,3, ]>>, with the indicator given.
+fn embedded<'a>(alloc: Global, indicator: Option<Indicator>) -> Result<Piece<Texts<'a>>, Fail> {
+    let sequence: Sequence<'a> = two_items(alloc, ",", "")?;
+    let sequence = Box::new(alloc, sequence)?;
+    Ok(Piece::Embedded(sequence, indicator))
+}
+
+// << >>
+fn nothing_embedded<'a>(alloc: Global) -> Result<Piece<Texts<'a>>, Fail> {
+    let before: S<'a> = optional_space(" ")?;
+    let sequence = Box::new(
+        alloc,
+        SequenceOf {
+            before,
+            items: None,
+        },
+    )?;
+    Ok(Piece::Embedded(sequence, None))
+}
+
+fn one_piece<'a>(alloc: Global, last: Piece<Texts<'a>>) -> CborString<Texts<'a>> {
+    CborString {
+        row: Vec::new(alloc),
+        last,
+    }
+}
+
+// Two pieces, with a space in front of the plus sign and another space behind it.
+fn two_pieces<'a>(
+    alloc: Global,
+    first: Piece<Texts<'a>>,
+    behind: &'a str,
+    last: Piece<Texts<'a>>,
+) -> Result<CborString<Texts<'a>>, Fail> {
+    let before: S<'a> = optional_space(" ")?;
+    let after: S<'a> = optional_space(behind)?;
+    let mut row: Vec<(Piece<Texts<'a>>, S<'a>, S<'a>)> = Vec::new(alloc);
+    row.push((first, before, after))?;
+    Ok(CborString { row, last })
+}
+
+fn string_item<'a>(string: CborString<Texts<'a>>) -> Item<'a> {
+    ItemOf {
+        inner: InnerItem::String(string),
+    }
+}
+
+// A literal and an embedded sequence.
+fn mixed<'a>(
+    alloc: Global,
+    text: &'a str,
+    behind: &'a str,
+    indicator: Option<Indicator>,
+) -> Result<Item<'a>, Fail> {
+    let first: Piece<Texts<'a>> = literal(text, Some(Indicator::One))?;
+    let last: Piece<Texts<'a>> = embedded(alloc, indicator)?;
+    let string: CborString<Texts<'a>> = two_pieces(alloc, first, behind, last)?;
+    Ok(string_item(string))
+}
+
+// (_ 'a' +... , << >>,), with the separator given in place of the first comma.
+fn stream<'a>(alloc: Global, dots_text: &'a str, separator: &'a str) -> Result<Item<'a>, Fail> {
+    let a: Piece<Texts<'a>> = literal("'a'", None)?;
+    let left_out: Piece<Texts<'a>> = dots(dots_text)?;
+    let first: CborString<Texts<'a>> = two_pieces(alloc, a, "", left_out)?;
+    let separator: Msc<'a> = between(separator)?;
+    let mut row: Vec<(CborString<Texts<'a>>, Msc<'a>)> = Vec::new(alloc);
+    row.push((first, separator))?;
+    let nothing: Piece<Texts<'a>> = nothing_embedded(alloc)?;
+    let last = Box::new(alloc, one_piece(alloc, nothing))?;
+    let soc: Soc<'a> = end(",")?;
+    let ms: Ms<'a> = mandatory(" ")?;
+    let strings = Strings { row, last, soc };
+    Ok(ItemOf {
+        inner: InnerItem::Stream(Stream { ms, strings }),
+    })
+}
+
 #[test]
 fn prints_spaces_and_commas(rt: HostRuntime) -> Result<(), Fail> {
     let sequence = two_items(rt.alloc(), " , ", ",# end\n")?;
@@ -246,6 +338,73 @@ fn an_item_is_copied_and_printed(rt: HostRuntime) -> Result<(), Fail> {
     let item: Item<'_> = pair(rt.alloc())?;
     assert!(rt; is_its_copy(&item)?);
     assert_eq!(rt; item.serialize(rt.alloc())?.as_str(), "[ 2,3, ]");
+    Ok(())
+}
+
+#[test]
+fn strings_are_printed(rt: HostRuntime) -> Result<(), Fail> {
+    let item: Item<'_> = mixed(rt.alloc(), "h'00'", "# b\n", Some(Indicator::Immediate))?;
+    assert_eq!(rt;
+        item.serialize(rt.alloc())?.as_str(),
+        "h'00'_0 +# b\n<<\n0x1,[ 2,3, ]>>_i"
+    );
+    let item: Item<'_> = stream(rt.alloc(), "....", " , ")?;
+    assert_eq!(rt;
+        item.serialize(rt.alloc())?.as_str(),
+        "(_ 'a' +.... , << >>,)"
+    );
+    Ok(())
+}
+
+#[test]
+fn strings_are_copied(rt: HostRuntime) -> Result<(), Fail> {
+    let item: Item<'_> = mixed(rt.alloc(), "\"a\"", "", None)?;
+    assert!(rt; is_its_copy(&item)?);
+    assert_eq!(rt;
+        text_of_copy(&item, rt.alloc())?.as_str(),
+        "\"a\"_0 +<<\n0x1,[ 2,3, ]>>"
+    );
+    let item: Item<'_> = stream(rt.alloc(), "...", ",")?;
+    assert!(rt; is_its_copy(&item)?);
+    assert_eq!(rt;
+        text_of_copy(&item, rt.alloc())?.as_str(),
+        "(_ 'a' +...,<< >>,)"
+    );
+    Ok(())
+}
+
+// Whether these strings are the same: one of `'a'` and an embedded sequence, and another with these parts.
+fn is_mixed(
+    alloc: Global,
+    text: &str,
+    behind: &str,
+    indicator: Option<Indicator>,
+) -> Result<bool, Fail> {
+    let given: Item<'_> = mixed(alloc, "'a'", "", None)?;
+    let other: Item<'_> = mixed(alloc, text, behind, indicator)?;
+    Ok(given == other)
+}
+
+#[test]
+fn another_part_is_another_string(rt: HostRuntime) -> Result<(), Fail> {
+    assert!(rt; is_mixed(rt.alloc(), "'a'", "", None)?);
+    assert!(rt; !is_mixed(rt.alloc(), "\"a\"", "", None)?);
+    assert!(rt; !is_mixed(rt.alloc(), "'a'", " ", None)?);
+    assert!(rt; !is_mixed(rt.alloc(), "'a'", "", Some(Indicator::One))?);
+    Ok(())
+}
+
+fn is_stream(alloc: Global, dots_text: &str, separator: &str) -> Result<bool, Fail> {
+    let given: Item<'_> = stream(alloc, "...", ",")?;
+    let other: Item<'_> = stream(alloc, dots_text, separator)?;
+    Ok(given == other)
+}
+
+#[test]
+fn another_separator_is_another_stream(rt: HostRuntime) -> Result<(), Fail> {
+    assert!(rt; is_stream(rt.alloc(), "...", ",")?);
+    assert!(rt; !is_stream(rt.alloc(), "....", ",")?);
+    assert!(rt; !is_stream(rt.alloc(), "...", " ")?);
     Ok(())
 }
 

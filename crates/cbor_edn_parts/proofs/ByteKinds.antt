@@ -4,21 +4,16 @@ use Rattle.std.specs.Prelude.{eqb, ltb, ◌||◌}
 use Rattle.std.specs.Char.{digit_value}
 use Rattle.std.proofs.lemmas.Bool.{cases_lt, agree_below_at, eqb-true, or_cases, lt-ltb, ltb-true, false≢true, false_from_ne_true, both_ways}
 use Rattle.std.proofs.lemmas.Bool.Decides.{nat_tests}
-use Rattle.cbor_edn_parts.specs.Bytes.{Kind, Control, Comma, Colon, Close, Plus, Minus, Zero, One, TwoToSeven, EightOrNine, Dot, B, E, HexLetter, O, P, X, Underscore, Other, kind, follows, closing}
+use Rattle.cbor_edn_parts.specs.Bytes.{Kind, Control, Comma, Colon, Close, Plus, Minus, Zero, One, TwoToSeven, EightOrNine, Dot, B, E, HexLetter, O, P, X, Underscore, IsLong, kind, follows, closing}
 use Rattle.cbor_edn_parts.specs.Number.{Base, Binary, Octal, Decimal, Hexadecimal, radix, IsDigitOf}
 use mathlib.Core.Logic.{⊎_elim}
-
--- a byte of a longer character
-pub kind-other : (c : ℕ) → 128 ≤ c → c < 256 → kind c ≡ Other
-unfolding kind
-kind-other c low high = grind (arith, nat_tests)
 
 pub kind-no_byte : (c : ℕ) → 256 ≤ c → kind c ≡ Control
 unfolding kind
 kind-no_byte c far = grind (arith, nat_tests)
 
-pub ascii_or_other : {P : Type 0} (c : ℕ) → c < 256 → (c < 128 → P) → (kind c ≡ Other → P) → P
-ascii_or_other c small ascii other = ⊎_elim ascii (λ low. other (kind-other c low small)) (cases_lt c 128)
+pub ascii_or_long : {P : Type 0} (c : ℕ) → c < 256 → (c < 128 → P) → (IsLong c → P) → P
+ascii_or_long c small ascii long = ⊎_elim ascii (λ low. long (low, small)) (cases_lt c 128)
 
 -- A test of kinds that agrees with a test of bytes agrees with it at each number, where neither takes what is no byte.
 pub at_each : (f : Kind → Bool) (g : ℕ → Bool) → ((c : ℕ) → c < 256 → f (kind c) ≡ g c) → f Control ≡ false → ((c : ℕ) → 256 ≤ c → g c ≡ false) → (c : ℕ) → f (kind c) ≡ g c

@@ -2,14 +2,14 @@
 use Rattle.std.proofs.Common.{ℕ, suc, ◌+◌, ◌<◌, ◌^◌, ◌≡◌, ◌≢◌, List, [], ◌∷◌, ◌++◌, length, Some, true, refl, sym, ap, ◌∙◌, arith}
 use Rattle.std.specs.Prelude.{ℤ, pos, negsuc}
 use Rattle.std.specs.Fmt.{decimal, signed_decimal}
-use Rattle.std.specs.Str.Parse.{AllDigits, IsNumeral, digits_value}
+use Rattle.std.specs.Str.Parse.{AllDigits}
 use Rattle.std.proofs.lemmas.Fmt.{decimal_is_IsNumeral_wide}
 use Rattle.cbor_edn_parts.specs.Leaves as leaves
 use Rattle.cbor_edn_parts.specs.Leaves.{HasMagnitude}
 use Rattle.cbor_edn_parts.specs.declared.number.Integer.{Integer}
 use Rattle.cbor_edn_parts.specs.declared.number.Integer.TheVariants.{Positive, Negative}
 use Rattle.cbor_edn_parts.specs.Space.{Each, end, next}
-use Rattle.cbor_edn_parts.specs.Number.{Sign, NoSign, MinusSign, sign_text, Decimal, radix, IsDigitOf, AreDigits, IsInteger, IsNumber, integer, signed, number_of, integer_of}
+use Rattle.cbor_edn_parts.specs.Number.{Sign, NoSign, MinusSign, sign_text, Decimal, IsDigitOf, AreDigits, IsInteger, integer, signed, number_of, integer_of}
 use Rattle.cbor_edn_parts.specs.NumberTokens.{is_number}
 use Rattle.cbor_edn_parts.proofs.NumberTexts.{number_texts}
 use Rattle.cbor_edn_parts.proofs.NumberParts.{integer_is, number_is}

@@ -1,9 +1,26 @@
 pub mod ByteKinds
 pub mod Decimals
+pub mod DotTexts
 pub mod Indicators
+pub mod LiteralContents
+pub mod LiteralRuns
+pub mod LiteralSteps
+pub mod LiteralTexts
 pub mod NumberParts
 pub mod NumberTexts
 pub mod Scans
+pub mod SeparatorTokens
 pub mod SpaceTexts
+pub mod Steps
 pub mod Tokens
 mod Walks
+pub mod Decoding
+pub mod Bases
+pub mod Hexadecimals
+pub mod Quoted
+pub mod HexTexts
+pub mod Bits
+pub mod Literals
+pub mod Escapes
+pub mod Refusals
+pub mod Prefixes

@@ -19,7 +19,7 @@ use Rattle.cbor_edn_parts.proofs.ByteKinds.{differs}
 use Rattle.cbor_edn_parts.proofs.NumberTexts.{parted, behind_sign-is, behind_prefix, after_prefix}
 
 -- A fold from the left is the sum by places.
-number_after : (base n : ℕ) (ds : List ℕ) → digits_value_after base n ds ≡ n * base ^ length ds + number_of base ds
+pub number_after : (base n : ℕ) (ds : List ℕ) → digits_value_after base n ds ≡ n * base ^ length ds + number_of base ds
 number_after base n [] = rw pow-zero (omega arith)
 number_after base n (d ∷ ds) = rw (number_after base (n * base + digit_value d) ds, pow-suc base (length ds)) (omega arith)
 

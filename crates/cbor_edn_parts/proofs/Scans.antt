@@ -2,11 +2,10 @@
 use Rattle.std.proofs.Common.{ℕ, zero, suc, ◌+◌, ◌-◌, ◌≤◌, ◌≡◌, Bool, true, false, List, [], ◌∷◌, ◌++◌, take, drop, cond, Option, Some, None, refl, sym, ap, ◌∙◌, append_assoc, arith}
 use Rattle.std.specs.Prelude.{slice_range}
 use Rattle.std.proofs.lemmas.List.{drop-drop, append-nil}
-use Rattle.cbor_edn_parts.specs.Bytes.{kind}
 use Rattle.cbor_edn_parts.specs.Lex.{Table, push, munch}
 
 -- a token with a beginning in front
-pub front : List ℕ → Option (List ℕ × List ℕ) → Option (List ℕ × List ℕ)
+unfoldable pub front : List ℕ → Option (List ℕ × List ℕ) → Option (List ℕ × List ℕ)
 front xs None = None
 front xs (Some p) = Some (xs ++ p.0, p.1)
 
@@ -42,15 +41,15 @@ pub piece_none : (text : List ℕ) (at : ℕ) → slice_range text at at ≡ []
 piece_none text at = let n : at - at ≡ 0 = omega arith in rw n
 
 module _ {State : Type 0} (T : Table State) where
-  munch_some : (m n : State) (c : ℕ) (xs : List ℕ) → T.step (kind c) m ≡ Some n → munch T m (c ∷ xs) ≡ push c (munch T n xs)
+  pub munch_some : (m n : State) (c : ℕ) (xs : List ℕ) → T.step c m ≡ Some n → munch T m (c ∷ xs) ≡ push c (munch T n xs)
   unfolding munch
   munch_some m n c xs e = rw (e, munch)
 
-  munch_none : (m : State) (c : ℕ) (xs : List ℕ) → T.step (kind c) m ≡ None → munch T m (c ∷ xs) ≡ cond (T.final m) (Some ([], c ∷ xs)) None
+  pub munch_none : (m : State) (c : ℕ) (xs : List ℕ) → T.step c m ≡ None → munch T m (c ∷ xs) ≡ cond (T.final m) (Some ([], c ∷ xs)) None
   unfolding munch
   munch_none m c xs e = rw (e, munch)
 
-  munch_end : (m : State) → munch T m [] ≡ cond (T.final m) (Some ([], [])) None
+  pub munch_end : (m : State) → munch T m [] ≡ cond (T.final m) (Some ([], [])) None
   unfolding munch
   munch_end m = refl
 
@@ -59,7 +58,7 @@ module _ {State : Type 0} (T : Table State) where
   begun m text from = rw (piece_none text from) (front_none (munch T m (drop from text)))
 
   -- one byte more is read
-  pub going : (total : Option (List ℕ × List ℕ)) (text : List ℕ) (from at c : ℕ) (m n : State) → from ≤ at → drop at text ≡ c ∷ drop (at + 1) text → T.step (kind c) m ≡ Some n
+  pub going : (total : Option (List ℕ × List ℕ)) (text : List ℕ) (from at c : ℕ) (m n : State) → from ≤ at → drop at text ≡ c ∷ drop (at + 1) text → T.step c m ≡ Some n
       → total ≡ front (slice_range text from at) (munch T m (drop at text)) → total ≡ front (slice_range text from (at + 1)) (munch T n (drop (at + 1) text))
   going total text from at c m n le here some so_far =
       so_far ∙ ap (front (slice_range text from at)) (ap (munch T m) here ∙ munch_some m n c (drop (at + 1) text) some)
@@ -67,7 +66,7 @@ module _ {State : Type 0} (T : Table State) where
       ∙ ap (λ (xs : List ℕ). front xs (munch T n (drop (at + 1) text))) (sym (piece_next text from at c (drop (at + 1) text) le here))
 
   -- the next byte leads no further
-  pub stopped : (total : Option (List ℕ × List ℕ)) (text : List ℕ) (from at c : ℕ) (rest : List ℕ) (m : State) → drop at text ≡ c ∷ rest → T.step (kind c) m ≡ None
+  pub stopped : (total : Option (List ℕ × List ℕ)) (text : List ℕ) (from at c : ℕ) (rest : List ℕ) (m : State) → drop at text ≡ c ∷ rest → T.step c m ≡ None
       → total ≡ front (slice_range text from at) (munch T m (drop at text)) → total ≡ cond (T.final m) (Some (slice_range text from at, drop at text)) None
   stopped total text from at c rest m here none so_far =
       so_far ∙ ap (front (slice_range text from at)) (ap (munch T m) here ∙ munch_none m c rest none)

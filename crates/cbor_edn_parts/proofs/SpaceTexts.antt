@@ -19,7 +19,7 @@ use Rattle.cbor_edn_parts.proofs.ByteKinds.{at_each, kind-comma}
 use Rattle.cbor_edn_parts.proofs.Tokens.{token_texts}
 
 -- The bytes that lead from one state to another.
-abbrev Moves : Within → Within → ℕ → Type 0
+abbrev pub Moves : Within → Within → ℕ → Type 0
 Moves Between Between c = IsBlank c
 Moves Between InSlashes c = c ≡ 47
 Moves Between InHash c = c ≡ 35
@@ -129,7 +129,7 @@ control InHash InHash = refl
 step_is : (m n : Within) (c : ℕ) → reaches n (space_step (kind c) m) ≡ moves m n c
 step_is m n = at_each (λ k. reaches n (space_step k m)) (moves m n) (near m n) (control m n) (far_moves m n)
 
-step-to : (m n : Within) (c : ℕ) → Moves m n c → space_step (kind c) m ≡ Some n
+pub step-to : (m n : Within) (c : ℕ) → Moves m n c → space_step (kind c) m ≡ Some n
 step-to m n c h = reached n (space_step (kind c) m) (step_is m n c ∙ (decides m n c).1 h)
 
 reaches_itself : (n : Within) → reaches n (Some n) ≡ true
@@ -137,7 +137,7 @@ reaches_itself Between = refl
 reaches_itself InSlashes = refl
 reaches_itself InHash = refl
 
-step-from : (m n : Within) (c : ℕ) → space_step (kind c) m ≡ Some n → Moves m n c
+pub step-from : (m n : Within) (c : ℕ) → space_step (kind c) m ≡ Some n → Moves m n c
 step-from m n c e = (decides m n c).0 (sym (step_is m n c) ∙ (ap (reaches n) e ∙ reaches_itself n))
 
 -- A text of the grammar is accepted.

@@ -2,7 +2,6 @@
 use Rattle.std.proofs.Common.{ℕ, List, [], ◌∷◌, ◌++◌, ◌≡◌, true, cond, Option, Some, None, refl, sym, ap, ◌∙◌, subst}
 use Rattle.std.proofs.lemmas.Bool.{cond_both, false≢true}
 use Rattle.std.proofs.lemmas.List.{append-nil}
-use Rattle.cbor_edn_parts.specs.Bytes.{kind}
 use Rattle.cbor_edn_parts.specs.Lex.{Table, Accepts, Is, push, munch, is_all, is_token}
 
 pub data Holds {A : Type 0} (P : A → Type 0) : Option A → Type 0 where
@@ -13,7 +12,7 @@ module _ {State : Type 0} (T : Table State) where
   -- Where the token may end, the rest leads no further.
   abbrev pub Halts : List ℕ → Type 0
   Halts [] = Unit {0}
-  Halts (c ∷ r) = (m : State) → T.final m ≡ true → T.step (kind c) m ≡ None
+  Halts (c ∷ r) = (m : State) → T.final m ≡ true → T.step c m ≡ None
 
   pub munch-again : (m : State) (x r : List ℕ) → Accepts T m x → Halts r → munch T m (x ++ r) ≡ Some (x, r)
   unfolding munch push
@@ -27,19 +26,19 @@ module _ {State : Type 0} (T : Table State) where
   stopped : (m : State) (xs : List ℕ) → Holds (Took m xs) (cond (T.final m) (Some ([], xs)) None)
   stopped m xs = cond_both (T.final m) (Some ([], xs)) None (Holds (Took m xs)) (λ e. just (e, refl)) (λ e. nothing)
 
-  pushed : (m n : State) (c : ℕ) (xs : List ℕ) (o : Option (List ℕ × List ℕ)) → T.step (kind c) m ≡ Some n → Holds (Took n xs) o → Holds (Took m (c ∷ xs)) (push c o)
+  pushed : (m n : State) (c : ℕ) (xs : List ℕ) (o : Option (List ℕ × List ℕ)) → T.step c m ≡ Some n → Holds (Took n xs) o → Holds (Took m (c ∷ xs)) (push c o)
   unfolding push
   pushed m n c xs _ e nothing = nothing
   pushed m n c xs _ e (just t) = just ((n, e, t.0), ap (◌∷◌ c) t.1)
 
-  stepped : (m : State) (c : ℕ) (xs : List ℕ) (o : Option State) → T.step (kind c) m ≡ o → ((n : State) → Holds (Took n xs) (munch T n xs)) → Holds (Took m (c ∷ xs)) (elim o [ Some n ↦ push c (munch T n xs) | None ↦ cond (T.final m) (Some ([], c ∷ xs)) None ])
+  stepped : (m : State) (c : ℕ) (xs : List ℕ) (o : Option State) → T.step c m ≡ o → ((n : State) → Holds (Took n xs) (munch T n xs)) → Holds (Took m (c ∷ xs)) (elim o [ Some n ↦ push c (munch T n xs) | None ↦ cond (T.final m) (Some ([], c ∷ xs)) None ])
   stepped m c xs None e ih = stopped m (c ∷ xs)
   stepped m c xs (Some n) e ih = pushed m n c xs (munch T n xs) e (ih n)
 
   pub munch-found : (m : State) (xs : List ℕ) → Holds (Took m xs) (munch T m xs)
   unfolding munch
   munch-found m [] = stopped m []
-  munch-found m (c ∷ xs) = stepped m c xs (T.step (kind c) m) refl (λ n. munch-found n xs)
+  munch-found m (c ∷ xs) = stepped m c xs (T.step c m) refl (λ n. munch-found n xs)
 
   took_of : (m : State) (xs : List ℕ) (o : Option (List ℕ × List ℕ)) (x r : List ℕ) → Holds (Took m xs) o → o ≡ Some (x, r) → Took m xs (x, r)
   took_of m xs _ x r nothing e = absurd (cc)

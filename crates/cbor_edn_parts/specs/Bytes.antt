@@ -1,7 +1,7 @@
 -- The kinds of bytes that the grammar tells apart. A text is the list of its UTF-8 bytes, each below 256.
-use Rattle.std.specs.Prelude.{ℕ, Bool, true, false, cond, eqb, leb, ltb, ◌||◌, ◌&&◌, List, [], ◌∷◌, ◌≡◌}
+use Rattle.std.specs.Prelude.{ℕ, ◌≤◌, ◌<◌, Bool, true, false, cond, eqb, leb, ltb, ◌||◌, ◌&&◌, List, [], ◌∷◌, ◌≡◌}
 pub use Rattle.cbor_edn_parts.specs.declared.bytes.Kind.{Kind}
-pub use Rattle.cbor_edn_parts.specs.declared.bytes.Kind.TheVariants.{Blank, Tab, Lf, Control, Slash, Hash, Comma, Colon, Open, Close, Plus, Minus, Zero, One, TwoToSeven, EightOrNine, Dot, B, E, HexLetter, O, P, X, Underscore, Other}
+pub use Rattle.cbor_edn_parts.specs.declared.bytes.Kind.TheVariants.{Blank, Tab, Lf, Control, Slash, Hash, Comma, Colon, Open, Close, Less, Quote, Plus, Minus, Zero, One, TwoToSeven, EightOrNine, Dot, B, E, HexLetter, O, P, X, Letter, Underscore, Other}
 
 abbrev pub is_close : ℕ → Bool
 is_close c = eqb c 93 || eqb c 125 || eqb c 41 || eqb c 62
@@ -21,8 +21,10 @@ kind c =
     cond (eqb c 35) Hash (
     cond (eqb c 44) Comma (
     cond (eqb c 58) Colon (
-    cond (eqb c 91 || eqb c 123) Open (
+    cond (eqb c 91 || eqb c 123 || eqb c 40) Open (
     cond (is_close c) Close (
+    cond (eqb c 60) Less (
+    cond (eqb c 34 || eqb c 39) Quote (
     cond (eqb c 43) Plus (
     cond (eqb c 45) Minus (
     cond (eqb c 48) Zero (
@@ -36,9 +38,14 @@ kind c =
     cond (eqb c 111 || eqb c 79) O (
     cond (eqb c 112 || eqb c 80) P (
     cond (eqb c 120 || eqb c 88) X (
-    cond (eqb c 95) Underscore Other)))))))))))))))))))))))
+    cond ((leb 97 c && leb c 122) || (leb 65 c && leb c 90)) Letter (
+    cond (eqb c 95) Underscore Other))))))))))))))))))))))))))
 
--- What may stand after a token of an item: a space, a separator, a colon or a closing byte.
+-- a byte of a character that takes more than one
+abbrev pub IsLong : ℕ → Type 0
+IsLong c = (128 ≤ c) × (c < 256)
+
+-- What may stand after a token of an item: a space, a separator, a colon, a plus sign or a closing byte.
 abbrev pub follows : Kind → Bool
 follows Blank = true
 follows Tab = true
@@ -47,6 +54,7 @@ follows Slash = true
 follows Hash = true
 follows Comma = true
 follows Colon = true
+follows Plus = true
 follows Close = true
 follows _ = false
 
@@ -65,6 +73,15 @@ begins One = true
 begins TwoToSeven = true
 begins EightOrNine = true
 begins Dot = true
+begins B = true
+begins E = true
+begins HexLetter = true
+begins O = true
+begins P = true
+begins X = true
+begins Letter = true
+begins Quote = true
+begins Less = true
 begins _ = false
 
 abbrev pub Follow : List ℕ → Type 0

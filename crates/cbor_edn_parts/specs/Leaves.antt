@@ -6,6 +6,8 @@ use Rattle.cbor_edn_parts.specs.declared.space.Ms.{Ms}
 use Rattle.cbor_edn_parts.specs.declared.space.Msc.{Msc}
 use Rattle.cbor_edn_parts.specs.declared.space.Soc.{Soc}
 use Rattle.cbor_edn_parts.specs.declared.number.Number.{Number}
+use Rattle.cbor_edn_parts.specs.declared.string.Literal.{Literal}
+use Rattle.cbor_edn_parts.specs.declared.string.Dots.{Dots}
 use Rattle.cbor_edn_parts.specs.declared.number.Integer.{Integer}
 use Rattle.cbor_edn_parts.specs.declared.number.Integer.TheVariants.{Positive, Negative}
 
@@ -24,6 +26,12 @@ soc_bytes s = cow_str_bytes s.text
 abbrev pub number_bytes : Number → List ℕ
 number_bytes n = cow_str_bytes n.text
 
+abbrev pub literal_bytes : Literal → List ℕ
+literal_bytes l = cow_str_bytes l.text
+
+abbrev pub dots_bytes : Dots → List ℕ
+dots_bytes d = cow_str_bytes d.text
+
 abbrev pub BorrowsS : S → Type 0
 BorrowsS s = IsBorrowedStr s.text
 
@@ -38,6 +46,12 @@ BorrowsSoc s = IsBorrowedStr s.text
 
 abbrev pub BorrowsNumber : Number → Type 0
 BorrowsNumber n = IsBorrowedStr n.text
+
+abbrev pub BorrowsLiteral : Literal → Type 0
+BorrowsLiteral l = IsBorrowedStr l.text
+
+abbrev pub BorrowsDots : Dots → Type 0
+BorrowsDots d = IsBorrowedStr d.text
 
 -- the integer of a value
 abbrev pub integer : Integer → ℤ

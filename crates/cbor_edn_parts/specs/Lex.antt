@@ -1,17 +1,16 @@
 -- Tokens as tables of states, and the longest beginning of a text that is one.
 use Rattle.std.specs.Prelude.{ℕ, Bool, true, false, cond, List, [], ◌∷◌, ◌≡◌, Option, Some, None}
-use Rattle.cbor_edn_parts.specs.Bytes.{Kind, kind}
 
--- Which kind of byte leads from one state to the next, where a text may end, and where it begins.
+-- Which byte leads from one state to the next, where a text may end, and where it begins.
 pub record Table (State : Type 0) : Type 0 where
-  pub step : Kind → State → Option State
+  pub step : ℕ → State → Option State
   pub final : State → Bool
   pub start : State
 
 module _ {State : Type 0} (T : Table State) where
   abbrev pub Accepts : State → List ℕ → Type 0
   Accepts m [] = T.final m ≡ true
-  Accepts m (c ∷ x) = (n : State) × (T.step (kind c) m ≡ Some n) × Accepts n x
+  Accepts m (c ∷ x) = (n : State) × (T.step c m ≡ Some n) × Accepts n x
 
   -- The texts of a token.
   abbrev pub Is : List ℕ → Type 0
@@ -25,7 +24,7 @@ module _ {State : Type 0} (T : Table State) where
   -- The longest beginning that leads on, and what follows it; none where it may not end there.
   unfoldable pub munch : State → List ℕ → Option (List ℕ × List ℕ)
   munch m [] = cond (T.final m) (Some ([], [])) None
-  munch m (c ∷ xs) = elim (T.step (kind c) m) [ Some n ↦ push c (munch n xs) | None ↦ cond (T.final m) (Some ([], c ∷ xs)) None ]
+  munch m (c ∷ xs) = elim (T.step c m) [ Some n ↦ push c (munch n xs) | None ↦ cond (T.final m) (Some ([], c ∷ xs)) None ]
 
   abbrev pub token : List ℕ → Option (List ℕ × List ℕ)
   token xs = munch T.start xs

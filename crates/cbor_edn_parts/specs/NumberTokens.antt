@@ -1,6 +1,6 @@
 -- The texts of numbers as a table of states.
 use Rattle.std.specs.Prelude.{ℕ, Bool, true, false, List, Option, Some, None}
-use Rattle.cbor_edn_parts.specs.Bytes.{Kind, Plus, Minus, Zero, One, TwoToSeven, EightOrNine, Dot, B, E, HexLetter, O, P, X}
+use Rattle.cbor_edn_parts.specs.Bytes.{Kind, kind, Plus, Minus, Zero, One, TwoToSeven, EightOrNine, Dot, B, E, HexLetter, O, P, X}
 use Rattle.cbor_edn_parts.specs.Lex.{Table, is_token}
 use Rattle.cbor_edn_parts.specs.declared.number.Reached.{Reached}
 use Rattle.cbor_edn_parts.specs.declared.number.Reached.TheVariants.{Start, Signed, AfterZero, DecimalDigits, Point, Fraction, Exponent, ExponentSigned, ExponentDigits, AfterX, HexadecimalDigits, HexadecimalPoint, HexadecimalFraction, BinaryExponent, BinaryExponentSigned, BinaryExponentDigits, AfterO, OctalDigits, AfterB, BinaryDigits}
@@ -116,7 +116,7 @@ number_final BinaryDigits = true
 number_final _ = false
 
 abbrev pub number : Table Reached
-number = record { step = number_step; final = number_final; start = Start }
+number = record { step = λ c. number_step (kind c); final = number_final; start = Start }
 
 abbrev pub is_number : List ℕ → Bool
 is_number t = is_token number t

@@ -1,6 +1,6 @@
 -- Space texts as tables of states.
 use Rattle.std.specs.Prelude.{ℕ, Bool, true, false, not, List, [], ◌∷◌, ◌&&◌, Option, Some, None}
-use Rattle.cbor_edn_parts.specs.Bytes.{Kind, Blank, Tab, Lf, Control, Slash, Hash, Comma}
+use Rattle.cbor_edn_parts.specs.Bytes.{Kind, kind, Blank, Tab, Lf, Control, Slash, Hash, Comma}
 use Rattle.cbor_edn_parts.specs.Lex.{Table, is_token}
 use Rattle.cbor_edn_parts.specs.declared.space.Within.{Within}
 use Rattle.cbor_edn_parts.specs.declared.space.Within.TheVariants.{Between, InSlashes, InHash}
@@ -27,7 +27,7 @@ space_final _ = false
 
 -- S
 abbrev pub space : Table Within
-space = record { step = space_step; final = space_final; start = Between }
+space = record { step = λ c. space_step (kind c); final = space_final; start = Between }
 
 abbrev pub before : Option Within → Option Around
 before None = None
@@ -48,7 +48,7 @@ separator_final (After m) = space_final m
 
 -- SOC, and MSC where it is not empty
 abbrev pub separator : Table Around
-separator = record { step = separator_step; final = separator_final; start = Before Between }
+separator = record { step = λ c. separator_step (kind c); final = separator_final; start = Before Between }
 
 abbrev pub is_empty : List ℕ → Bool
 is_empty [] = true

@@ -14,10 +14,14 @@ pub enum Kind {
     Hash,
     Comma,
     Colon,
-    /// `[` or `{`
+    /// `[`, `{` or `(`
     Open,
     /// `]`, `}`, `)` or `>`
     Close,
+    /// `<`
+    Less,
+    /// `'` or `"`
+    Quote,
     Plus,
     Minus,
     Zero,
@@ -35,6 +39,8 @@ pub enum Kind {
     O,
     P,
     X,
+    /// another letter
+    Letter,
     Underscore,
     Other,
 }
@@ -55,8 +61,10 @@ impl Kind {
             b'#' => Kind::Hash,
             b',' => Kind::Comma,
             b':' => Kind::Colon,
-            b'[' | b'{' => Kind::Open,
+            b'[' | b'{' | b'(' => Kind::Open,
             b']' | b'}' | b')' | b'>' => Kind::Close,
+            b'<' => Kind::Less,
+            b'"' | b'\'' => Kind::Quote,
             b'+' => Kind::Plus,
             b'-' => Kind::Minus,
             b'0' => Kind::Zero,
@@ -70,6 +78,7 @@ impl Kind {
             b'o' | b'O' => Kind::O,
             b'p' | b'P' => Kind::P,
             b'x' | b'X' => Kind::X,
+            b'a'..=b'z' | b'A'..=b'Z' => Kind::Letter,
             b'_' => Kind::Underscore,
             _ => Kind::Other,
         }

@@ -141,9 +141,21 @@ pub enum InconsistentEdn {
     /// A number that CBOR does not have, or not in the scope of this crate.
     #[error("Number has no encoding")]
     NumberWithoutEncoding,
-    /// An encoding indicator on a number or a list whose argument it does not fit.
+    /// An encoding indicator on a number, a string or a list whose argument it does not fit.
     #[error("Encoding indicator does not fit")]
     IndicatorDoesNotFit,
+    #[error("Encoding indicators present on string expressed in multiple EDN chunks")]
+    IndicatorOnPiece,
+    /// Dots, or a literal with a prefix that stands for no bytes.
+    #[error("Unsupported application oriented literal or ellipsis")]
+    UnsupportedLiteral,
+    /// A literal whose text is not one of its prefix, as `h'0'`.
+    #[error("String content can not be decoded")]
+    UndecodableContent,
+    #[error("Concatenated text string is not valid UTF-8")]
+    InvalidUtf8,
+    #[error("Chunk of another kind in indefinite length string")]
+    OtherChunk,
     /// A number too large for its type.
     #[error("Numeric range exceeded")]
     NumericRangeExceeded,

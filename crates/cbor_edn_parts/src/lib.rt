@@ -9,6 +9,7 @@ pub mod looks;
 pub mod number;
 mod scan;
 pub mod space;
+pub mod string;
 #[cfg(test)]
 mod tests;
 pub mod text;

@@ -221,8 +221,8 @@ impl Reached {
 impl State for Reached {
     ghost table = { tokens.number };
 
-    fn step(self, kind: Kind) -> Option<Reached> {
-        match kind {
+    fn step(self, byte: u8) -> Option<Reached> {
+        match Kind::of(byte) {
             Kind::Plus | Kind::Minus => self.sign(),
             Kind::Zero => self.zero(),
             Kind::One => self.binary_digit(),

@@ -1,12 +1,11 @@
 //! The longest token at a place of a text.
-ghost use Rattle.std.specs.Prelude.{◌≡◌, ◌≤◌, ◌+◌, Bool, cond, Option, Some, None, true, false, drop, length, slice_range, IsTrue};
+ghost use Rattle.std.specs.Prelude.{◌≡◌, ◌≤◌, ◌+◌, ℕ, Bool, cond, Option, Some, None, true, false, drop, length, slice_range, IsTrue};
 ghost use Rattle.std.specs.Str.{IsCharBoundary};
-ghost use Rattle.cbor_edn_parts.specs.Bytes.{Other};
+ghost use Rattle.cbor_edn_parts.specs.Bytes.{IsLong};
 ghost use Rattle.cbor_edn_parts.specs.Lex.{Table, munch};
 ghost use Rattle.cbor_edn_parts.specs.Scans.{Scans, Lands, Costs};
 ghost use Rattle.cbor_edn_parts.specs.Text.{text_bytes};
 
-use crate::bytes::Kind;
 use crate::error::Refusal;
 use crate::looks::Looks;
 use crate::text::Text;
@@ -16,17 +15,17 @@ pub(crate) trait State: Copy {
     ghost table: { Table Self };
 
     /// The state behind one more byte, or none where the token ends in front of it.
-    fn step(self, kind: Kind) -> Option<Self>
-        ensures { result ≡ table.step kind self };
+    fn step(self, byte: u8) -> Option<Self>
+        ensures { result ≡ table.step byte self };
 
     /// Whether the token may end here.
     fn is_final(self) -> bool
         ensures { result ≡ table.final self };
 
     // A byte of a longer character leads to where more of them are taken, and never to an end.
-    ghost stays: { (m n : Self) → table.step Other m ≡ Some n → table.step Other n ≡ Some n };
+    ghost stays: { (c d : ℕ) → IsLong c → IsLong d → (m n : Self) → table.step c m ≡ Some n → table.step d n ≡ Some n };
 
-    ghost inside: { (m : Self) → table.final m ≡ true → table.step Other m ≡ None };
+    ghost inside: { (c : ℕ) → IsLong c → (m : Self) → table.final m ≡ true → table.step c m ≡ None };
 }
 
 /// The token at a place, and the place behind it.
@@ -63,7 +62,7 @@ fn run<T: State>(start: T, text: &Text<'_>, from: usize, looks: &mut Looks) -> (
         let Some(byte) = text.byte(at, looks) else {
             return (state, at);
         };
-        let Some(next) = state.step(Kind::of(byte)) else {
+        let Some(next) = state.step(byte) else {
             return (state, at);
         };
         state = next;

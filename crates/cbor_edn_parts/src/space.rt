@@ -7,7 +7,7 @@ ghost use Rattle.cbor_edn_parts.specs.Inside.{space_stays, space_inside, separat
 
 use crate::bytes::Kind;
 use crate::scan::State;
-pub use read::{separator, space};
+pub use read::{End, separator, separator_behind, space, space_behind};
 use std::alloc::AllocError;
 use std::borrow::CowStr;
 
@@ -207,7 +207,24 @@ pub enum Around {
 impl State for Within {
     ghost table = { tokens.space };
 
-    fn step(self, kind: Kind) -> Option<Within> {
+    fn step(self, byte: u8) -> Option<Within> {
+        self.behind(Kind::of(byte))
+    }
+
+    fn is_final(self) -> bool {
+        matches!(self, Within::Between)
+    }
+
+    ghost stays = { space_stays };
+
+    ghost inside = { space_inside };
+}
+
+impl Within {
+    /// The state behind one more byte of this kind.
+    pub(crate) fn behind(self, kind: Kind) -> Option<Within>
+        ensures { result ≡ tokens.space_step kind self }
+    {
         match (kind, self) {
             (Kind::Blank | Kind::Tab, _) => Some(self),
             (Kind::Lf, Within::InHash) => Some(Within::Between),
@@ -220,26 +237,19 @@ impl State for Within {
             _ => Some(self),
         }
     }
-
-    fn is_final(self) -> bool {
-        matches!(self, Within::Between)
-    }
-
-    ghost stays = { space_stays };
-
-    ghost inside = { space_inside };
 }
 
 impl State for Around {
     ghost table = { tokens.separator };
 
-    fn step(self, kind: Kind) -> Option<Around> {
+    fn step(self, byte: u8) -> Option<Around> {
+        let kind = Kind::of(byte);
         match (kind, self) {
             (Kind::Comma, Around::Before(Within::Between)) => {
                 Some(Around::After(Within::Between))
             }
-            (_, Around::Before(within)) => Some(Around::Before(within.step(kind)?)),
-            (_, Around::After(within)) => Some(Around::After(within.step(kind)?)),
+            (_, Around::Before(within)) => Some(Around::Before(within.behind(kind)?)),
+            (_, Around::After(within)) => Some(Around::After(within.behind(kind)?)),
         }
     }
 

@@ -10,6 +10,8 @@ use crate::text::Text;
 use std::mem::size_of;
 use std::test::Fail;
 
+mod literals;
+
 // Leaves are equal exactly where they are the same text.
 fn same_space<'a>(a: &S<'a>, b: &S<'a>) -> bool
     ensures { IsTrue result ↔ (s_bytes a.now ≡ s_bytes b.now) }

@@ -22,7 +22,7 @@ fn bytes_of(alloc: Global, text: &str) -> Result<String, Fail> {
     }
 }
 
-const ROWS: [(&str, &str); 16] = [
+const ROWS: [(&str, &str); 32] = [
     ("", ""),
     ("8301181f80", "[1, 31, []]"),
     ("00012f", "0, 1, -16"),
@@ -42,6 +42,28 @@ const ROWS: [(&str, &str); 16] = [
     ("9b000000000000000103", "[_3 3]"),
     ("bf01a0ff", "{_ 1: {}}"),
     ("a201020380", "{1: 2, 3: []}"),
+    // strings
+    ("40", "h''"),
+    ("44deadbeef", "h'deadbeef'"),
+    ("580161", "h'61'_0"),
+    ("5f4161ff", "(_ h'61')"),
+    ("5fff", "''_"),
+    ("7fff", "\"\"_"),
+    ("60", "\"\""),
+    ("780161", "\"a\"_0"),
+    ("7f657374726561646d696e67ff", "(_ \"strea\", \"ming\")"),
+    ("64f09f9880", "\"\u{1f600}\""),
+    // a text as it is written anew
+    ("6948690a220d095c2708", "\"Hi\n\\\"\\r\\t\\\\\\u{27}\\b\""),
+    (
+        "6e48656c6c6f2022576f726c642200",
+        "\"Hello \\\"World\\\"\\u{0}\"",
+    ),
+    // RFC 8949, appendix A
+    ("62225c", "\"\\\"\\\\\""),
+    ("63e6b0b4", "\"\u{6c34}\""),
+    ("5f42010243030405ff", "(_ h'0102', h'030405')"),
+    ("826161a161626163", "[\"a\", {\"b\": \"c\"}]"),
 ];
 
 #[test]
@@ -56,7 +78,8 @@ fn decodes_rows(rt: HostRuntime) -> Result<(), Fail> {
 #[test]
 fn refuses_bytes(rt: HostRuntime) -> Result<(), Fail> {
     for digits in [
-        "bf01ff", "b80101", "9f8201ff", "1901", "ff", "18", "82", "8201", "9f", "1c", "1f",
+        "bf01ff", "b80101", "9f8201ff", "1901", "ff", "18", "82", "8201", "9f", "1c", "1f", "61ff",
+        "5f6161ff", "5f5f4161ffff",
     ] {
         assert_eq!(rt;
             text_of(rt.alloc(), digits)?.as_str(),
@@ -69,13 +92,20 @@ fn refuses_bytes(rt: HostRuntime) -> Result<(), Fail> {
 
 #[test]
 fn refuses_beginnings(rt: HostRuntime) -> Result<(), Fail> {
-    for digits in ["9f820102ff", "3bffffffffffffffff"] {
-        for length in 1..digits.len() / 2 {
-            assert_eq!(rt;
-                text_of(rt.alloc(), &digits[..2 * length])?.as_str(),
-                "refused",
-                "{length}"
-            );
+    let alloc = rt.alloc();
+    for digits in [
+        "9f820102ff",
+        "3bffffffffffffffff",
+        "5f4668656c6c6f2045776f726c64ff",
+        "9f03ff",
+        "9b000000000000000103",
+        "5b000000000000000568656c6c6f",
+        "43019fff",
+    ] {
+        let bytes = hex::decode(alloc, digits)?;
+        for length in 0..bytes.len() {
+            let refused = refusal(alloc, &bytes.as_slice()[..length])?;
+            assert!(rt; !refused.too_deep(), "{length} of {digits}");
         }
     }
     Ok(())
@@ -128,6 +158,19 @@ fn tells_why(rt: HostRuntime) -> Result<(), Fail> {
             refused.to_string(alloc)?.as_str(),
             "Expected item, out of data"
         );
+    }
+    for (bytes, word) in [
+        (
+            b"\x7f\x61\xc3\x61\xa9\xff".as_slice(),
+            "Text string must be valid UTF-8",
+        ),
+        (
+            b"\x5b\x7f\xff\xff\xff\xff\xff\xff\xff".as_slice(),
+            "Announced bytes unavailable",
+        ),
+    ] {
+        let refused = refusal(alloc, bytes)?;
+        assert_eq!(rt; refused.to_string(alloc)?.as_str(), word);
     }
     Ok(())
 }

@@ -1,7 +1,11 @@
-use super::{Width, length_of, push_head, push_integer, push_list_end, push_list_head, width_of};
+use super::{
+    Width, length_of, push_chunk, push_head, push_integer, push_list_end, push_list_head,
+    push_string, width_of,
+};
 use cbor_edn_parts::error::{Fault, InconsistentEdn};
 use cbor_edn_parts::indicator::Indicator;
 use cbor_edn_parts::number::Integer;
+use cbor_edn_parts::string::StringKind;
 use std::alloc::AllocError;
 use std::test::Fail;
 
@@ -144,4 +148,51 @@ fn lists(rt: HostRuntime) -> Result<(), Fail> {
     assert!(rt; matches!(length_of(None, 24), Ok(Some(Width::One))));
     assert!(rt; matches!(width_of(Some(Indicator::Two), 24), Ok(Width::Two)));
     Ok(())
+}
+
+// strings of RFC 8949, appendix A, with a wider head, and without chunks
+#[test]
+fn strings(rt: HostRuntime) -> Result<(), Fail> {
+    let table: [(StringKind, Option<Indicator>, &[u8], &[u8]); 5] = [
+        (StringKind::Bytes, None, b"", b"\x40"),
+        (StringKind::Text, None, b"IETF", b"\x64IETF"),
+        (StringKind::Text, Some(Indicator::One), b"a", b"\x78\x01a"),
+        (
+            StringKind::Bytes,
+            Some(Indicator::Indefinite),
+            b"",
+            b"\x5f\xff",
+        ),
+        (
+            StringKind::Text,
+            Some(Indicator::Indefinite),
+            b"",
+            b"\x7f\xff",
+        ),
+    ];
+    for (kind, indicator, content, wanted) in table {
+        let mut out = Vec::new(rt.alloc());
+        assert!(rt; push_string(&mut out, kind, indicator, content).is_ok());
+        assert!(rt; out.as_slice() == wanted, "at {content:?}");
+    }
+    Ok(())
+}
+
+#[test]
+fn unfit_strings(rt: HostRuntime) {
+    let mut out = Vec::new(rt.alloc());
+    let unsound = push_string(
+        &mut out,
+        StringKind::Text,
+        Some(Indicator::Immediate),
+        b"\xff",
+    );
+    assert!(rt; matches!(unsound, Err(Fault::Told(InconsistentEdn::InvalidUtf8))));
+    let open = push_chunk(
+        &mut out,
+        StringKind::Bytes,
+        Some(Indicator::Indefinite),
+        b"",
+    );
+    assert!(rt; matches!(open, Err(Fault::Told(InconsistentEdn::IndicatorDoesNotFit))));
 }

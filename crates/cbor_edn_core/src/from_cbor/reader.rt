@@ -1,35 +1,38 @@
 //! The reader of bytes: each function reads what stands at the front, and answers it with the bytes behind it.
-ghost use Rattle.std.specs.Prelude.{◌≡◌, ◌<◌, ◌≤◌, suc, length, map, option_map, IfSome, IfOk};
+ghost use Rattle.std.specs.Prelude.{List, ℕ, ◌≡◌, ◌<◌, ◌≤◌, ◌++◌, ◌∷◌, [], suc, length, map, option_map, Ok, IfSome, IfOk};
 ghost use Rattle.std.specs.Fmt.{signed_decimal};
 ghost use Rattle.cbor_edn_parts.specs.Leaves as leaves;
 ghost use Rattle.cbor_edn_parts.specs.Leaves.{HasMagnitude};
 ghost use Rattle.cbor_edn_core.specs.Items as kind;
-ghost use Rattle.cbor_edn_core.specs.Items.{Elements};
+ghost use Rattle.cbor_edn_core.specs.Items.{Array, Map};
 ghost use Rattle.cbor_edn_core.specs.Trees.{NumberTree, ListTree};
 ghost use Rattle.cbor_edn_core.specs.View.{texts, view_head, view_items, view_pairs, view_pair, item_tree};
 ghost use Rattle.cbor_edn_core.specs.Decoded as decoded;
 ghost use Rattle.cbor_edn_core.specs.Decoded.{inside};
 ghost use Rattle.cbor_edn_core.specs.CborReading as reading;
-ghost use Rattle.cbor_edn_core.specs.CborReading.{Gives, trees, head_at, many, until, several, pair_at, array_by, map_by, item_by, item_at, inner, row_of, element_row, argument_indicator};
+ghost use Rattle.cbor_edn_core.specs.CborReading.{Gives, trees, head_at, many, until, several, pair_at, array_by, map_by, item_by, item_at, inner, shown, argument_indicator};
 ghost use Rattle.cbor_edn_core.specs.Growing.{grown};
 
 use super::CborError;
+use super::finish::{finish_items, finish_pairs};
 use super::growing::Growing;
+use super::strings::string_of;
 use crate::cbor::Width;
 use crate::tree::{InnerItem, Item, ItemList, Items, Kp, PairList, Pairs, Texts};
 use cbor_edn_parts::error::Fault;
 use cbor_edn_parts::indicator::Indicator;
 use cbor_edn_parts::number::{Integer, Number};
-use cbor_edn_parts::space::{Ms, S, Soc};
+use cbor_edn_parts::space::{Ms, S};
+use cbor_edn_parts::string::StringKind;
 use std::alloc::{AllocError, Global};
 
-type Argument = Option<(Width, u64)>;
+pub(super) type Argument = Option<(Width, u64)>;
 
-type Head = (u8, Argument);
+pub(super) type Head = (u8, Argument);
 
 /// The head at the front.
 #[tactic(auto, unfolding(crate::specs::CborReading::head_at))]
-fn head_of(bytes: &[u8]) -> Result<(Head, &[u8]), Fault<CborError>>
+pub(super) fn head_of(bytes: &[u8]) -> Result<(Head, &[u8]), Fault<CborError>>
     ensures exact { Gives (λ x. (x.0, x.1.now)) result (head_at bytes.now) }
     ensures shorter { IfOk result (λ x. length x.1.now < length bytes.now) }
 {
@@ -91,7 +94,7 @@ pub(super) enum Stop {
 }
 
 /// What follows the end of a row, where it stands at the front.
-fn past_stop(stop: Stop, bytes: &[u8]) -> Option<&[u8]>
+pub(super) fn past_stop(stop: Stop, bytes: &[u8]) -> Option<&[u8]>
     ensures value { option_map (λ x. x.now) result ≡ reading.past stop bytes.now }
     ensures shorter { IfSome result (λ x. length x.now ≤ length bytes.now) }
 {
@@ -102,44 +105,8 @@ fn past_stop(stop: Stop, bytes: &[u8]) -> Option<&[u8]>
     }
 }
 
-pub(super) fn finish_items<'a>(
-    alloc: Global,
-    found: Growing<'a, Item<'a>>,
-) -> Result<Option<Items<Texts<'a>>>, AllocError>
-    ensures { IfOk result (λ r. option_map (view_items texts) r ≡ element_row (map item_tree (grown found.entry))) }
-{
-    let row = found.row;
-    let last = found.last;
-    match last {
-        None => Ok(None),
-        Some(last) => Ok(Some(Items {
-            row,
-            last: Box::new(alloc, last)?,
-            soc: Soc::empty(),
-        })),
-    }
-}
-
-fn finish_pairs<'a>(
-    alloc: Global,
-    found: Growing<'a, Kp<Texts<'a>>>,
-) -> Result<Option<Pairs<Texts<'a>>>, AllocError>
-    ensures { IfOk result (λ r. option_map (view_pairs texts) r ≡ row_of (map (view_pair texts) (grown found.entry))) }
-{
-    let row = found.row;
-    let last = found.last;
-    match last {
-        None => Ok(None),
-        Some(last) => Ok(Some(Pairs {
-            row,
-            last: Box::new(alloc, last)?,
-            soc: Soc::empty(),
-        })),
-    }
-}
-
 /// The indicator of a head: none where no narrower one would do.
-fn indicator_of(argument: Argument) -> Option<Indicator>
+pub(super) fn indicator_of(argument: Argument) -> Option<Indicator>
     ensures { result ≡ argument_indicator argument }
 {
     match argument {
@@ -159,7 +126,7 @@ fn if_below(limit: u64, n: u64, indicator: Indicator) -> Option<Indicator>
 }
 
 fn array<'a>(argument: Argument, items: Option<Items<Texts<'a>>>) -> Item<'a>
-    ensures { item_tree result ≡ ListTree Elements (inside (argument_indicator argument) (option_map (view_items texts) items.entry)) }
+    ensures { item_tree result ≡ ListTree Array (inside (argument_indicator argument) (option_map (view_items texts) items.entry)) }
 {
     let indicator = indicator_of(argument);
     let s = S::empty();
@@ -177,7 +144,7 @@ fn array<'a>(argument: Argument, items: Option<Items<Texts<'a>>>) -> Item<'a>
 }
 
 fn object<'a>(argument: Argument, pairs: Option<Pairs<Texts<'a>>>) -> Item<'a>
-    ensures { item_tree result ≡ ListTree kind.Pairs (inside (argument_indicator argument) (option_map (view_pairs texts) pairs.entry)) }
+    ensures { item_tree result ≡ ListTree Map (inside (argument_indicator argument) (option_map (view_pairs texts) pairs.entry)) }
 {
     let indicator = indicator_of(argument);
     let s = S::empty();
@@ -212,6 +179,17 @@ fn number<'a>(alloc: Global, integer: Integer, argument: Argument) -> Result<Ite
     Ok(Item {
         inner: InnerItem::Number(number, indicator_of(argument)),
     })
+}
+
+/// One entry more, and the bytes behind it.
+fn pushed<'a, 'b, T: Drop>(
+    found: Growing<'a, T>,
+    entry: T,
+    rest: &'b [u8],
+) -> Result<(Growing<'a, T>, &'b [u8]), Fault<CborError>>
+    ensures { Gives {Y = List T × List ℕ} (λ x. (grown x.0, x.1.now)) result (Ok (grown found.entry ++ entry ∷ [], rest.now)) }
+{
+    Ok((found.push(entry)?, rest))
 }
 
 #[cycle(item)]
@@ -279,6 +257,21 @@ fn pair_of<'a, 'b>(
     Ok((pair, rest))
 }
 
+/// One pair more.
+#[cycle(item)]
+fn with_pair<'a, 'b>(
+    alloc: Global,
+    found: Growing<'a, Kp<Texts<'a>>>,
+    bytes: &'b [u8],
+    limit: usize,
+) -> Result<(Growing<'a, Kp<Texts<'a>>>, &'b [u8]), Fault<CborError>>
+    ensures exact { Gives (λ x. (map (view_pair texts) (grown x.0), x.1.now)) result (shown (λ p. map (view_pair texts) (grown found.entry) ++ p ∷ []) (pair_at trees (item_at trees limit) bytes.now)) }
+    ensures shorter { IfOk result (λ x. length x.1.now < length bytes.now) }
+{
+    let (pair, rest) = pair_of(alloc, bytes, limit)?;
+    pushed(found, pair, rest)
+}
+
 #[cycle(item)]
 fn pairs_of<'a, 'b>(
     alloc: Global,
@@ -292,8 +285,8 @@ fn pairs_of<'a, 'b>(
     let mut found: Growing<'a, Kp<Texts<'a>>> = Growing::new(alloc);
     let mut rest = bytes;
     for _ in 0..count {
-        let (pair, after) = pair_of(alloc, rest, limit)?;
-        found = found.push(pair)?;
+        let (more, after) = with_pair(alloc, found, rest, limit)?;
+        found = more;
         rest = after;
     }
     Ok((found, rest))
@@ -314,8 +307,8 @@ fn pairs_until<'a, 'b>(
         match past_stop(Stop::Break, rest) {
             Some(after) => return Ok((found, after)),
             None => {
-                let (pair, after) = pair_of(alloc, rest, limit)?;
-                found = found.push(pair)?;
+                let (more, after) = with_pair(alloc, found, rest, limit)?;
+                found = more;
                 rest = after;
             }
         }
@@ -394,6 +387,8 @@ fn content_of<'a, 'b>(
             )),
             None => Err(Fault::Told(CborError::OpenNumber)),
         },
+        2 => string_of(alloc, StringKind::Bytes, argument, bytes),
+        3 => string_of(alloc, StringKind::Text, argument, bytes),
         4 => array_of(alloc, argument, bytes, limit),
         5 => map_of(alloc, argument, bytes, limit),
         7 => match argument {

@@ -21,7 +21,7 @@ fn refusal(alloc: Global, bytes: &[u8]) -> Option<CborError> {
 
 #[test]
 fn texts(rt: HostRuntime) -> Result<(), Fail> {
-    let table: [(&[u8], &str); 13] = [
+    let table: [(&[u8], &str); 19] = [
         (b"", ""),
         (b"\x83\x01\x18\x1f\x80", "[1, 31, []]"),
         (b"\x00\x01\x2f", "0, 1, -16"),
@@ -34,6 +34,12 @@ fn texts(rt: HostRuntime) -> Result<(), Fail> {
         (b"\x9f\xff", "[_]"),
         (b"\x9f\x82\x01\x02\xff", "[_ [1, 2]]"),
         (b"\xbf\x01\x02\xff", "{_ 1: 2}"),
+        (b"\x61a", "\"a\""),
+        (b"\x58\x01a", "h'61'_0"),
+        (b"\x5f\x41a\xff", "(_ h'61')"),
+        (b"\x5f\x40\xff", "(_ h'')"),
+        (b"\x5f\xff", "''_"),
+        (b"\x7f\xff", "\"\"_"),
         (
             b"\x3b\xff\xff\xff\xff\xff\xff\xff\xff",
             "-18446744073709551616",
@@ -62,7 +68,7 @@ fn zeros(rt: HostRuntime) -> Result<(), Fail> {
 
 #[test]
 fn refusals(rt: HostRuntime) {
-    let table: [(&[u8], CborError); 16] = [
+    let table: [(&[u8], CborError); 22] = [
         (b"", CborError::OutOfData),
         (b"\x82\x01", CborError::OutOfData),
         (
@@ -74,8 +80,6 @@ fn refusals(rt: HostRuntime) {
             CborError::OutOfData,
         ),
         (b"\x1c", CborError::Reserved),
-        (b"\x41\x00", CborError::Reserved),
-        (b"\x61\x00", CborError::Reserved),
         (b"\xc2\x41\x01", CborError::Reserved),
         (b"\xf5", CborError::Reserved),
         (b"\x19\x00", CborError::MissingArgument),
@@ -85,6 +89,18 @@ fn refusals(rt: HostRuntime) {
         (b"\xbf\x01\xff", CborError::MisplacedBreak),
         (b"\x9f\x82\x01\xff", CborError::MisplacedBreak),
         (b"\x00\x00", CborError::DataAfter),
+        (b"\x5f", CborError::OutOfData),
+        (b"\x5f\x61a\xff", CborError::OtherChunk),
+        (b"\x5f\x7f", CborError::OtherChunk),
+        (b"\x5f\x5f\x41a\xff\xff", CborError::OpenChunk),
+        (b"\x5b\x7f\xff\xff\xff\xff\xff\xff\xff", CborError::MissingBytes),
+        (
+            b"\x5b\xff\xff\xff\xff\xff\xff\xff\xff\x00",
+            CborError::MissingBytes,
+        ),
+        (b"\x61\xff", CborError::InvalidUtf8),
+        // a character does not go over from one string to the next
+        (b"\x7f\x61\xc3\x61\xa9\xff", CborError::InvalidUtf8),
     ];
     for (bytes, wanted) in table {
         assert!(rt;
@@ -140,6 +156,14 @@ fn limits(rt: HostRuntime) {
     assert!(rt; is_refused(rt.alloc(), b"\xa1\x01\xa0", 1));
     assert!(rt; is_refused(rt.alloc(), b"\x80", 0));
     assert!(rt; !CborError::Reserved.too_deep());
+}
+
+#[test]
+fn beginnings(rt: HostRuntime) {
+    let bytes = b"\x5f\x46hello \x45world\xff".as_slice();
+    for len in 0..bytes.len() {
+        assert!(rt; is_refused(rt.alloc(), &bytes[..len], 0));
+    }
 }
 
 fn first_text(alloc: Global, bytes: &[u8], limit: usize) -> Result<(String, &[u8]), Fail> {

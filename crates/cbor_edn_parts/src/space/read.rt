@@ -3,6 +3,7 @@ ghost use Rattle.std.specs.Prelude.{IfOk, drop};
 ghost use Rattle.std.specs.Str.{IsCharBoundary};
 ghost use Rattle.cbor_edn_parts.specs.Lex.{token};
 ghost use Rattle.cbor_edn_parts.specs.Leaves.{s_bytes, soc_bytes, BorrowsS, BorrowsSoc};
+ghost use Rattle.cbor_edn_parts.specs.Ends.{IsEnd, reached};
 ghost use Rattle.cbor_edn_parts.specs.Scans.{Scans, Lands, Costs};
 ghost use Rattle.cbor_edn_parts.specs.SpaceTokens as tokens;
 ghost use Rattle.cbor_edn_parts.specs.Text.{text_bytes};
@@ -41,5 +42,56 @@ pub fn separator<'a>(
 {
     let (text, to) = scan(Around::Before(Within::Between), text, from, looks)?;
     let text = CowStr::Borrowed(text);
+    Ok((Soc { text }, to))
+}
+
+/// Where an item ends, and where the space behind it does, if that is read.
+#[derive(Clone, Copy)]
+pub struct End {
+    pub item: usize,
+    pub space: Option<usize>,
+}
+
+/// The optional space behind an item, and the place behind it. Space that is read is not read again.
+pub fn space_behind<'a>(
+    text: &Text<'a>,
+    end: End,
+    looks: &mut Looks,
+) -> Result<(S<'a>, usize), Refusal>
+    requires { IsEnd (text_bytes text.now) end }
+    ensures value { Scans s_bytes (text_bytes text.now) result (token tokens.space (drop end.item (text_bytes text.now))) }
+    ensures borrowed { IfOk result (λ p. BorrowsS p.0) }
+    ensures place { Lands (text_bytes text.now) (reached end) result }
+    ensures cost { Costs 1 1 1 (text_bytes text.now) (reached end) looks.old.count looks.new.count result }
+{
+    match end.space {
+        None => space(text, end.item, looks),
+        Some(to) => {
+            let text = CowStr::Borrowed(text.slice(end.item, to));
+            Ok((S { text }, to))
+        }
+    }
+}
+
+/// The space with at most one comma behind an item, and the place behind it. Space that is read is not read again.
+pub fn separator_behind<'a>(
+    text: &Text<'a>,
+    end: End,
+    looks: &mut Looks,
+) -> Result<(Soc<'a>, usize), Refusal>
+    requires { IsEnd (text_bytes text.now) end }
+    ensures value { Scans soc_bytes (text_bytes text.now) result (token tokens.separator (drop end.item (text_bytes text.now))) }
+    ensures borrowed { IfOk result (λ p. BorrowsSoc p.0) }
+    ensures place { Lands (text_bytes text.now) (reached end) result }
+    ensures cost { Costs 1 2 2 (text_bytes text.now) (reached end) looks.old.count looks.new.count result }
+{
+    let Some(at) = end.space else {
+        return separator(text, end.item, looks);
+    };
+    let to = match text.byte(at, looks) {
+        Some(b',') => space(text, at + 1, looks)?.1,
+        _ => at,
+    };
+    let text = CowStr::Borrowed(text.slice(end.item, to));
     Ok((Soc { text }, to))
 }

@@ -1,6 +1,6 @@
 use Rattle.std.proofs.Common.{◌≡◌, length, drop, map}
-use Rattle.cbor_edn_core.specs.Same.{same_entries}
-use Rattle.cbor_edn_core.specs.View.{texts, seen, seen_pair}
+use Rattle.cbor_edn_core.specs.Same.{same_entries, same_pieces}
+use Rattle.cbor_edn_core.specs.View.{texts, seen, seen_pair, seen_piece, seen_string}
 use Rattle.cbor_edn_core.proofs.equal.+same.Given as goal
 
 -- the lists are the same exactly where what is left of them is
@@ -9,3 +9,9 @@ invariant-same_row-loop-i l = (same_entries (map (seen texts) (drop l.i l.a)) (m
 
 abbrev pub invariant-same_pair_row-loop-i : goal.invariant-same_pair_row-loop-i
 invariant-same_pair_row-loop-i l = (same_entries (map (seen_pair texts) (drop l.i l.a)) (map (seen_pair texts) (drop l.i l.b)) ≡ same_entries (map (seen_pair texts) l.a) (map (seen_pair texts) l.b)) × (length l.a ≡ length l.b)
+
+abbrev pub invariant-same_string_row-loop-i : goal.invariant-same_string_row-loop-i
+invariant-same_string_row-loop-i l = (same_entries (map (seen_string texts) (drop l.i l.a)) (map (seen_string texts) (drop l.i l.b)) ≡ same_entries (map (seen_string texts) l.a) (map (seen_string texts) l.b)) × (length l.a ≡ length l.b)
+
+abbrev pub invariant-same_piece_row-loop-i : goal.invariant-same_piece_row-loop-i
+invariant-same_piece_row-loop-i l = (same_pieces (map (seen_piece texts) (drop l.i l.a)) (map (seen_piece texts) (drop l.i l.b)) ≡ same_pieces (map (seen_piece texts) l.a) (map (seen_piece texts) l.b)) × (length l.a ≡ length l.b)

@@ -1,6 +1,6 @@
 use Rattle.std.proofs.Common.{◌≡◌, ◌++◌, drop}
 use Rattle.std.specs.String.{string_bytes}
-use Rattle.cbor_edn_core.specs.View.{texts, row_text, pair_row_text}
+use Rattle.cbor_edn_core.specs.View.{texts, row_text, pair_row_text, piece_row_text, string_row_text}
 use Rattle.cbor_edn_core.proofs.serialize.+push.Given as goal
 
 -- what is pushed so far and the text of what is left are the text of all
@@ -9,3 +9,9 @@ invariant-push_row-loop-item l = string_bytes l.out ++ row_text texts (drop l.it
 
 abbrev pub invariant-push_pair_row-loop-pair : goal.invariant-push_pair_row-loop-pair
 invariant-push_pair_row-loop-pair l = string_bytes l.out ++ pair_row_text texts (drop l.pair-index l.row) ≡ string_bytes l.initial.out ++ pair_row_text texts l.row
+
+abbrev pub invariant-push_piece_row-loop-piece : goal.invariant-push_piece_row-loop-piece
+invariant-push_piece_row-loop-piece l = string_bytes l.out ++ piece_row_text texts (drop l.piece-index l.row) ≡ string_bytes l.initial.out ++ piece_row_text texts l.row
+
+abbrev pub invariant-push_string_row-loop-string : goal.invariant-push_string_row-loop-string
+invariant-push_string_row-loop-string l = string_bytes l.out ++ string_row_text texts (drop l.string-index l.row) ≡ string_bytes l.initial.out ++ string_row_text texts l.row

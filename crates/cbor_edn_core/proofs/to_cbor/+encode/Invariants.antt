@@ -1,6 +1,7 @@
 use Rattle.std.proofs.Common.{map, drop}
-use Rattle.cbor_edn_core.specs.View.{texts, seen, seen_pair}
+use Rattle.cbor_edn_core.specs.View.{texts, seen, seen_pair, seen_piece, seen_string}
 use Rattle.cbor_edn_core.proofs.CborEncodes.{PushesRest}
+use Rattle.cbor_edn_core.proofs.StringEncodes.{GathersRest}
 use Rattle.cbor_edn_core.proofs.to_cbor.+encode.Given as goal
 
 abbrev pub invariant-push_row-loop-item : goal.invariant-push_row-loop-item
@@ -8,3 +9,9 @@ invariant-push_row-loop-item l = PushesRest (map (seen texts) (drop l.item-index
 
 abbrev pub invariant-push_pair_row-loop-pair : goal.invariant-push_pair_row-loop-pair
 invariant-push_pair_row-loop-pair l = PushesRest (map (seen_pair texts) (drop l.pair-index l.row)) (map (seen_pair texts) l.row) l.out.items l.initial.out.items
+
+abbrev pub invariant-push_part_row-loop-string : goal.invariant-push_part_row-loop-string
+invariant-push_part_row-loop-string l = PushesRest (map (seen_string texts) (drop l.string-index l.row)) (map (seen_string texts) l.row) l.out.items l.initial.out.items
+
+abbrev pub invariant-gather-loop-piece : goal.invariant-gather-loop-piece
+invariant-gather-loop-piece l = GathersRest (map (seen_piece texts) (drop l.piece-index l.piece-items)) (map (seen_piece texts) l.piece-items) l.kind l.out.items l.initial.out.items

@@ -1,7 +1,7 @@
-use Rattle.std.proofs.Common.{◌≡◌, ◌+◌, ◌-◌, ◌≤◌, None, length, drop}
+use Rattle.std.proofs.Common.{ℕ, ◌≡◌, ◌+◌, ◌-◌, ◌≤◌, None, length, drop}
 use Rattle.std.specs.Prelude.{slice_range}
 use Rattle.std.specs.Str.{IsCharBoundary}
-use Rattle.cbor_edn_parts.specs.Bytes.{Other}
+use Rattle.cbor_edn_parts.specs.Bytes.{IsLong}
 use Rattle.cbor_edn_parts.specs.Lex.{munch}
 use Rattle.cbor_edn_parts.specs.Text.{text_bytes}
 use Rattle.cbor_edn_parts.proofs.Scans.{front}
@@ -11,7 +11,7 @@ abbrev pub invariant-bytes : goal.invariant-bytes
 invariant-bytes g l = record {
   order : l.from ≤ l.at;
   within : l.at ≤ length (text_bytes l.text);
-  place : g.T.State.table.step Other l.state ≡ None → IsCharBoundary (text_bytes l.text) l.at;
+  place : (d : ℕ) → IsLong d → g.T.State.table.step d l.state ≡ None → IsCharBoundary (text_bytes l.text) l.at;
   reads : munch g.T.State.table l.fn.start (drop l.from (text_bytes l.text)) ≡ front (slice_range (text_bytes l.text) l.from l.at) (munch g.T.State.table l.state (drop l.at (text_bytes l.text)));
   cost : l.looks.count + l.from ≡ l.fn.looks.count + l.at;
 }

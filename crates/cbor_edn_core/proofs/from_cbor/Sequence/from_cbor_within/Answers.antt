@@ -1,8 +1,10 @@
-use Rattle.std.proofs.Common.{arith, map}
+use Rattle.std.proofs.Common.{arith, map, ◌∙◌}
 use Rattle.std.specs.Prelude.{option_map}
 use Rattle.std.proofs.lemmas.Result.{err_from_is_err_and}
+use Rattle.cbor_edn_parts.specs.Leaves.{s_bytes}
 use Rattle.cbor_edn_core.specs.View.{Sequence, texts, item_tree, view_items}
 use Rattle.cbor_edn_core.specs.Growing.{grown}
+use Rattle.cbor_edn_core.proofs.Views.{view_sequence_made}
 use Rattle.cbor_edn_core.proofs.Decodes.{sequence_fails_refused, sequence_fails_deep, sequence_decoded, sequence_view}
 use Rattle.cbor_edn_core.proofs.from_cbor.Sequence.from_cbor_within.Goals as goal
 
@@ -19,4 +21,4 @@ returns-in_err-found-clause-too_deep c =
 pub returns-clause-accepted : goal.returns-clause-accepted
 returns-clause-accepted c =
     sequence_decoded c.args.limit c.args.bytes.now _ (option_map (view_items texts) c.in_ok-items.items) (map item_tree (grown c.in_ok-found.found)) c.in_ok-found.field-0-1.now (λ i. omega (arith, c.type_inv.bytes i)) c.in_ok-found.ensures.exact
-    (sequence_view c.empty.result c.in_ok-items.items c.empty.ensures.bytes) c.in_ok-items.ensures
+    (view_sequence_made texts _ ∙ sequence_view (s_bytes c.empty.result) c.in_ok-items.items c.empty.ensures.bytes) c.in_ok-items.ensures

@@ -6,7 +6,7 @@ use Rattle.cbor_edn_core.specs.View.{texts, item_tree, view_pair}
 use Rattle.cbor_edn_core.specs.Growing.{grown}
 use Rattle.cbor_edn_core.specs.CborReading.{past, item_at, pair_at, trees}
 use Rattle.cbor_edn_core.proofs.CborAgain.{item_at_ok}
-use Rattle.cbor_edn_core.proofs.CborTurns.{goes_on, fails, is_done, until_more, until_fails, until_done, item_fails}
+use Rattle.cbor_edn_core.proofs.CborTurns.{pushed_shown, shown_fails, fails_shown, goes_on, goes_on_with, fails, is_done, until_more, until_more_with, until_fails, until_done, item_fails}
 use Rattle.cbor_edn_core.proofs.from_cbor.reader.+item.Goals as goal
 
 pub item_of-returns-in_err-head-clause-exact : goal.item_of-returns-in_err-head-clause-exact
@@ -61,18 +61,28 @@ items_until-turns-preserved t c =
       shorter = omega (arith, less, c.turns.invariant.shorter);
     }
 
-pub pairs_of-returns-in_err-pair-clause-exact : goal.pairs_of-returns-in_err-pair-clause-exact
-pairs_of-returns-in_err-pair-clause-exact t c =
+pub with_pair-returns-in_err-pair-clause-exact : goal.with_pair-returns-in_err-pair-clause-exact
+with_pair-returns-in_err-pair-clause-exact t c =
     let p = err_from_is_err_and c.from_residual.result c.from_residual.ensures.1 in
-    rw (p.1, p.2) (fails c.in_err-pair.field-0.0 (pair_at trees (item_at trees c.args.limit)) (map (view_pair texts) (grown c.loop.found)) c.args.count c.loop.counter c.loop.rest.now _ c.loop-test.true c.in_err-pair.ensures.exact c.loop.invariant.read)
+    rw (p.1, p.2) (shown_fails (λ x. map (view_pair texts) (grown c.args.found) ++ x ∷ []) c.in_err-pair.field-0.0 _ c.in_err-pair.ensures.exact)
+
+pub with_pair-returns-clause-exact : goal.with_pair-returns-clause-exact
+with_pair-returns-clause-exact t c =
+    pushed_shown (view_pair texts) (grown c.args.found) c.in_ok-pair.pair c.in_ok-pair.rest.now (λ x. (grown x.0, x.1.now)) c.pushed.result _ c.in_ok-pair.ensures.exact c.pushed.ensures
+
+pub pairs_of-returns-in_err-more-clause-exact : goal.pairs_of-returns-in_err-more-clause-exact
+pairs_of-returns-in_err-more-clause-exact t c =
+    let p = err_from_is_err_and c.from_residual.result c.from_residual.ensures.1 in
+    let so_far = map (view_pair texts) (grown c.loop.found) in
+    rw (p.1, p.2) (fails c.in_err-more.field-0.0 (pair_at trees (item_at trees c.args.limit)) so_far c.args.count c.loop.counter c.loop.rest.now _ c.loop-test.true (fails_shown (λ x. so_far ++ x ∷ []) c.in_err-more.field-0.0 _ c.in_err-more.ensures.exact) c.loop.invariant.read)
 
 pub pairs_of-loop-preserved : goal.pairs_of-loop-preserved
 pairs_of-loop-preserved t c =
-    let x = c.in_ok-pair.pair in
-    let pushed : map (view_pair texts) (grown c.in_ok-found.found) ≡ map (view_pair texts) (grown c.loop.found) ++ view_pair texts x ∷ [] = rw c.in_ok-found.ensures (map_push (view_pair texts) (grown c.loop.found) x) in
-    let less = c.in_ok-pair.ensures.shorter in
+    let one = pair_at trees (item_at trees c.args.limit) in
+    let so_far = map (view_pair texts) (grown c.loop.found) in
+    let less = c.in_ok-more.ensures.shorter in
     record {
-      read = rw pushed (goes_on (pair_at trees (item_at trees c.args.limit)) (map (view_pair texts) (grown c.loop.found)) c.args.count c.loop.counter c.loop.rest.now c.in_ok-pair.after.now (view_pair texts x) _ c.loop-test.true c.in_ok-pair.ensures.exact c.loop.invariant.read);
+      read = goes_on_with one so_far c.args.count c.loop.counter c.loop.rest.now c.in_ok-more.after.now (map (view_pair texts) (grown c.in_ok-more.more)) _ c.loop-test.true c.in_ok-more.ensures.exact c.loop.invariant.read;
       shorter = omega (arith, less, c.loop.invariant.shorter);
     }
 
@@ -85,21 +95,20 @@ pairs_until-returns-in-Some-clause-exact t c =
     let found : past Break c.turns.rest.now ≡ Some c.in-Some.after.now = grind arith in
     until_done Break (pair_at trees (item_at trees c.args.limit)) (map (view_pair texts) (grown c.turns.found)) so_far.0 c.turns.rest.now c.in-Some.after.now _ (omega (arith, so_far.1)) found so_far.2
 
-pub pairs_until-returns-in_err-pair-in-None-clause-exact : goal.pairs_until-returns-in_err-pair-in-None-clause-exact
-pairs_until-returns-in_err-pair-in-None-clause-exact t c =
+pub pairs_until-returns-in_err-more-in-None-clause-exact : goal.pairs_until-returns-in_err-more-in-None-clause-exact
+pairs_until-returns-in_err-more-in-None-clause-exact t c =
     let so_far = c.turns.invariant.read in
+    let front = map (view_pair texts) (grown c.turns.found) in
     let going : past Break c.turns.rest.now ≡ None = grind arith in
     let p = err_from_is_err_and c.from_residual.result c.from_residual.ensures.1 in
-    rw (p.1, p.2) (until_fails Break c.in_err-pair-in-None.field-0.0 (pair_at trees (item_at trees c.args.limit)) (map (view_pair texts) (grown c.turns.found)) so_far.0 c.turns.rest.now _ (omega (arith, so_far.1)) going c.in_err-pair-in-None.ensures.exact so_far.2)
+    rw (p.1, p.2) (until_fails Break c.in_err-more-in-None.field-0.0 (pair_at trees (item_at trees c.args.limit)) front so_far.0 c.turns.rest.now _ (omega (arith, so_far.1)) going (fails_shown (λ x. front ++ x ∷ []) c.in_err-more-in-None.field-0.0 _ c.in_err-more-in-None.ensures.exact) so_far.2)
 
 pub pairs_until-turns-preserved : goal.pairs_until-turns-preserved
 pairs_until-turns-preserved t c =
     let so_far = c.turns.invariant.read in
-    let x = c.in_ok-pair-in-None.pair in
     let going : past Break c.turns.rest.now ≡ None = grind arith in
-    let pushed : map (view_pair texts) (grown c.in_ok-found-in-None.found) ≡ map (view_pair texts) (grown c.turns.found) ++ view_pair texts x ∷ [] = rw c.in_ok-found-in-None.ensures (map_push (view_pair texts) (grown c.turns.found) x) in
-    let less = c.in_ok-pair-in-None.ensures.shorter in
+    let less = c.in_ok-more-in-None.ensures.shorter in
     record {
-      read = (so_far.0 - 1, omega (arith, so_far.1, less), rw pushed (until_more Break (pair_at trees (item_at trees c.args.limit)) (map (view_pair texts) (grown c.turns.found)) so_far.0 c.turns.rest.now c.in_ok-pair-in-None.after.now (view_pair texts x) _ (omega (arith, so_far.1)) going c.in_ok-pair-in-None.ensures.exact so_far.2));
+      read = (so_far.0 - 1, omega (arith, so_far.1, less), until_more_with Break (pair_at trees (item_at trees c.args.limit)) (map (view_pair texts) (grown c.turns.found)) so_far.0 c.turns.rest.now c.in_ok-more-in-None.after.now (map (view_pair texts) (grown c.in_ok-more-in-None.more)) _ (omega (arith, so_far.1)) going c.in_ok-more-in-None.ensures.exact so_far.2);
       shorter = omega (arith, less, c.turns.invariant.shorter);
     }

@@ -7,31 +7,34 @@ use Rattle.cbor_edn_core.proofs.CborTurns.{with_front}
 use Rattle.cbor_edn_core.proofs.from_cbor.reader.+item.Given as goal
 
 abbrev pub decreases-array_of : goal.decreases-array_of
-decreases-array_of l = 5 * l.limit + 2
+decreases-array_of l = 6 * l.limit + 3
 
 abbrev pub decreases-content_of : goal.decreases-content_of
-decreases-content_of l = 5 * l.limit + 3
+decreases-content_of l = 6 * l.limit + 4
 
 abbrev pub decreases-item_of : goal.decreases-item_of
-decreases-item_of l = 5 * l.limit + 4
+decreases-item_of l = 6 * l.limit + 5
 
 abbrev pub decreases-items_of : goal.decreases-items_of
-decreases-items_of l = 5 * l.limit + 5
+decreases-items_of l = 6 * l.limit + 6
 
 abbrev pub decreases-items_until : goal.decreases-items_until
-decreases-items_until l = 5 * l.limit + 5
+decreases-items_until l = 6 * l.limit + 6
 
 abbrev pub decreases-map_of : goal.decreases-map_of
-decreases-map_of l = 5 * l.limit + 2
+decreases-map_of l = 6 * l.limit + 3
 
 abbrev pub decreases-pair_of : goal.decreases-pair_of
-decreases-pair_of l = 5 * l.limit + 5
+decreases-pair_of l = 6 * l.limit + 6
 
 abbrev pub decreases-pairs_of : goal.decreases-pairs_of
-decreases-pairs_of l = 5 * l.limit + 6
+decreases-pairs_of l = 6 * l.limit + 8
 
 abbrev pub decreases-pairs_until : goal.decreases-pairs_until
-decreases-pairs_until l = 5 * l.limit + 6
+decreases-pairs_until l = 6 * l.limit + 8
+
+abbrev pub decreases-with_pair : goal.decreases-with_pair
+decreases-with_pair l = 6 * l.limit + 7
 
 abbrev pub invariant-items_of-loop : goal.invariant-items_of-loop
 invariant-items_of-loop l = record {

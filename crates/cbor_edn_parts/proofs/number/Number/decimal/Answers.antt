@@ -1,4 +1,4 @@
-use Rattle.std.proofs.Common.{◌≡◌, true, ap, ◌∙◌}
+use Rattle.std.proofs.Common.{ap, ◌∙◌}
 use Rattle.cbor_edn_parts.specs.Leaves.{integer}
 use Rattle.cbor_edn_parts.specs.NumberTokens.{is_number}
 use Rattle.cbor_edn_parts.proofs.Decimals.{decimal_number, is_decimal}

@@ -1,0 +1,15 @@
+use Rattle.std.proofs.Common.{Some, ap, sym, ◌∙◌}
+use Rattle.cbor_edn_core.specs.Trees.{ElementTree}
+use Rattle.cbor_edn_core.specs.View.{texts, item_tree}
+use Rattle.cbor_edn_core.specs.CborReading.{row_of}
+use Rattle.cbor_edn_core.specs.Growing.{grown}
+use Rattle.cbor_edn_core.proofs.CborRows.{row_finished, map-map}
+use Rattle.cbor_edn_core.proofs.Views.{view_items_made}
+use Rattle.cbor_edn_core.proofs.from_cbor.finish.finish_items.Goals as goal
+
+pub returns : goal.returns
+returns c =
+    let found = c.args.found in
+    ap (λ m. Some m) (view_items_made texts _)
+    ∙ row_finished (λ x. ElementTree (item_tree x)) found.row.items found.last c.in-Some.last _ _ found.commas c.in-Some.is c.in_ok-new.ensures.ok c.empty.ensures
+    ∙ ap row_of (sym (map-map ElementTree item_tree (grown found)))

@@ -1,0 +1,11 @@
+use Rattle.std.proofs.Common.{Some, ap, ◌∙◌}
+use Rattle.cbor_edn_core.specs.View.{texts, view_pair}
+use Rattle.cbor_edn_core.proofs.CborRows.{row_finished}
+use Rattle.cbor_edn_core.proofs.Views.{view_pairs_made}
+use Rattle.cbor_edn_core.proofs.from_cbor.finish.finish_pairs.Goals as goal
+
+pub returns : goal.returns
+returns c =
+    let found = c.args.found in
+    ap (λ m. Some m) (view_pairs_made texts _)
+    ∙ row_finished (view_pair texts) found.row.items found.last c.in-Some.last _ _ found.commas c.in-Some.is c.in_ok-new.ensures.ok c.empty.ensures

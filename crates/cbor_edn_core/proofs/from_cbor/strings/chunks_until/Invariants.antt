@@ -1,0 +1,17 @@
+use Rattle.std.proofs.Common.{◌≡◌, ℕ, suc, ◌≤◌, ◌<◌, length, map}
+use Rattle.cbor_edn_core.specs.declared.from_cbor.reader.Stop.TheVariants.{Break}
+use Rattle.cbor_edn_core.specs.View.{texts, view_string}
+use Rattle.cbor_edn_core.specs.Growing.{grown}
+use Rattle.cbor_edn_core.specs.CborReading.{until}
+use Rattle.cbor_edn_core.proofs.CborStrings.{one}
+use Rattle.cbor_edn_core.proofs.CborTurns.{with_front}
+use Rattle.cbor_edn_core.proofs.from_cbor.strings.chunks_until.Given as goal
+
+abbrev pub invariant-turns : goal.invariant-turns
+invariant-turns l = record {
+  read : (n : ℕ) × (length l.rest < n) × (with_front (map (view_string texts) (grown l.found)) (until Break (one l.kind) n l.rest) ≡ until Break (one l.kind) (suc (length l.bytes)) l.bytes);
+  shorter : length l.rest ≤ length l.bytes;
+}
+
+abbrev pub decreases-turns : goal.decreases-turns
+decreases-turns l = length l.rest

@@ -1,0 +1,11 @@
+use Rattle.std.proofs.Common.{refl}
+use Rattle.cbor_edn_core.specs.View.{texts}
+use Rattle.cbor_edn_core.proofs.Views.{view_strings_made}
+use Rattle.cbor_edn_core.proofs.Borrows.{borrows_strings_made}
+use Rattle.cbor_edn_core.proofs.grammar.last_string.Goals as goal
+
+pub returns-clause-view : goal.returns-clause-view
+returns-clause-view c = rw (view_strings_made texts, c.in_ok-last.ensures.ok)
+
+pub returns-clause-borrowed : goal.returns-clause-borrowed
+returns-clause-borrowed c = λ row last soc. borrows_strings_made _ _ refl row (rw c.in_ok-last.ensures.ok last) soc

@@ -1,0 +1,153 @@
+//! Strings from their encoding.
+ghost use Rattle.std.specs.Prelude.{◌≡◌, ◌<◌, ◌≤◌, suc, length, map, option_map, IfOk};
+ghost use Rattle.cbor_edn_parts.specs.Contents.{kind_literal};
+ghost use Rattle.cbor_edn_parts.specs.Leaves.{literal_bytes};
+ghost use Rattle.cbor_edn_core.specs.Value as values;
+ghost use Rattle.cbor_edn_core.specs.View.{texts, view_string, view_strings, item_tree};
+ghost use Rattle.cbor_edn_core.specs.CborReading.{Gives, trees, until, string_at, chunk_at, string_by, string_tree, chunked_tree, shown};
+ghost use Rattle.cbor_edn_core.specs.Growing.{grown};
+
+use super::CborError;
+use super::finish::finish_strings;
+use super::growing::Growing;
+use super::reader::{Argument, Stop, head_of, indicator_of, past_stop};
+use crate::cbor::Width;
+use crate::tree::{CborString, InnerItem, Item, Piece, Stream, Strings, Texts};
+use cbor_edn_parts::error::Fault;
+use cbor_edn_parts::indicator::Indicator;
+use cbor_edn_parts::space::Ms;
+use cbor_edn_parts::string::{Literal, StringKind};
+use std::alloc::Global;
+
+fn string_major(kind: StringKind) -> u8
+    ensures { result ≡ values.string_major kind }
+{
+    match kind {
+        StringKind::Bytes => 2,
+        StringKind::Text => 3,
+    }
+}
+
+/// The literal of so many bytes.
+fn literal_of<'a, 'b>(
+    alloc: Global,
+    kind: StringKind,
+    count: u64,
+    bytes: &'b [u8],
+) -> Result<(Literal<'a>, &'b [u8]), Fault<CborError>>
+    ensures exact { Gives (λ x. (literal_bytes x.0, x.1.now)) result (shown (kind_literal kind) (string_at kind count bytes.now)) }
+    ensures shorter { IfOk result (λ x. length x.1.now ≤ length bytes.now) }
+    ensures counted { IfOk result (λ x. count ≤ length bytes.now) }
+{
+    if (bytes.len() as u64) < count {
+        return Err(Fault::Told(CborError::MissingBytes));
+    }
+    let (front, rest) = bytes.split_at(count as usize);
+    let literal = match kind {
+        StringKind::Bytes => Literal::hex(alloc, front)?,
+        StringKind::Text => match std::str::from_utf8(front) {
+            Ok(text) => Literal::text(alloc, text)?,
+            Err(_) => return Err(Fault::Told(CborError::InvalidUtf8)),
+        },
+    };
+    Ok((literal, rest))
+}
+
+/// The string behind a head with an argument.
+fn definite<'a, 'b>(
+    alloc: Global,
+    kind: StringKind,
+    width: Width,
+    count: u64,
+    bytes: &'b [u8],
+) -> Result<(CborString<Texts<'a>>, &'b [u8]), Fault<CborError>>
+    ensures exact { Gives (λ x. (view_string texts x.0, x.1.now)) result (shown (λ bs. string_tree kind (width, bs)) (string_at kind count bytes.now)) }
+    ensures shorter { IfOk result (λ x. length x.1.now ≤ length bytes.now) }
+{
+    let (literal, rest) = literal_of(alloc, kind, count, bytes)?;
+    let last = Piece::Literal(literal, indicator_of(Some((width, count))));
+    let row = Vec::new(alloc);
+    Ok((CborString { row, last }, rest))
+}
+
+/// One of the strings that a string of indefinite length consists of.
+fn chunk_of<'a, 'b>(
+    alloc: Global,
+    kind: StringKind,
+    bytes: &'b [u8],
+) -> Result<(CborString<Texts<'a>>, &'b [u8]), Fault<CborError>>
+    ensures exact { Gives (λ x. (view_string texts x.0, x.1.now)) result (shown (string_tree kind) (chunk_at kind bytes.now)) }
+    ensures shorter { IfOk result (λ x. length x.1.now < length bytes.now) }
+{
+    let ((major, argument), rest) = head_of(bytes)?;
+    if major != string_major(kind) {
+        return Err(Fault::Told(CborError::OtherChunk));
+    }
+    match argument {
+        Some((width, count)) => definite(alloc, kind, width, count, rest),
+        None => Err(Fault::Told(CborError::OpenChunk)),
+    }
+}
+
+fn chunks_until<'a, 'b>(
+    alloc: Global,
+    kind: StringKind,
+    bytes: &'b [u8],
+) -> Result<(Growing<'a, CborString<Texts<'a>>>, &'b [u8]), Fault<CborError>>
+    ensures exact { Gives (λ x. (map (view_string texts) (grown x.0), x.1.now)) result (until Stop.Break (λ bs. shown (string_tree kind) (chunk_at kind bs)) (suc (length bytes.now)) bytes.now) }
+    ensures shorter { IfOk result (λ x. length x.1.now ≤ length bytes.now) }
+{
+    let mut found: Growing<'a, CborString<Texts<'a>>> = Growing::new(alloc);
+    let mut rest = bytes;
+    'turns: loop {
+        match past_stop(Stop::Break, rest) {
+            Some(after) => return Ok((found, after)),
+            None => {
+                let (string, after) = chunk_of(alloc, kind, rest)?;
+                found = found.push(string)?;
+                rest = after;
+            }
+        }
+    }
+}
+
+/// A string of indefinite length: `(_ h'61')`, and `''_` without strings.
+fn chunked<'a>(alloc: Global, kind: StringKind, strings: Option<Strings<Texts<'a>>>) -> Item<'a>
+    ensures { item_tree result ≡ chunked_tree kind (option_map (view_strings texts) strings.entry) }
+{
+    let inner = match strings {
+        Some(strings) => InnerItem::Stream(Stream {
+            ms: Ms::space(),
+            strings,
+        }),
+        None => InnerItem::String(CborString {
+            row: Vec::new(alloc),
+            last: Piece::Literal(Literal::empty(kind), Some(Indicator::Indefinite)),
+        }),
+    };
+    Item { inner }
+}
+
+/// The string behind a head.
+pub(super) fn string_of<'a, 'b>(
+    alloc: Global,
+    kind: StringKind,
+    argument: Argument,
+    bytes: &'b [u8],
+) -> Result<(Item<'a>, &'b [u8]), Fault<CborError>>
+    ensures exact { Gives (λ x. (item_tree x.0, x.1.now)) result (string_by trees kind argument bytes.now) }
+    ensures shorter { IfOk result (λ x. length x.1.now ≤ length bytes.now) }
+{
+    match argument {
+        Some((width, count)) => {
+            let (string, rest) = definite(alloc, kind, width, count, bytes)?;
+            let inner = InnerItem::String(string);
+            Ok((Item { inner }, rest))
+        }
+        None => {
+            let (found, rest) = chunks_until(alloc, kind, bytes)?;
+            let strings = finish_strings(alloc, found)?;
+            Ok((chunked(alloc, kind, strings), rest))
+        }
+    }
+}

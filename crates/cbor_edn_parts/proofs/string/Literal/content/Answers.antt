@@ -1,0 +1,58 @@
+use Rattle.std.proofs.Common.{◌≡◌, ◌≢◌, ℕ, List, [], true, false, refl, ap, sym, ◌∙◌, eqb, length, Option, arith}
+use Rattle.std.proofs.lemmas.Bool.Decides.{nat_tests}
+use Rattle.std.proofs.lemmas.List.{nil_from_length}
+use Rattle.std.proofs.lemmas.Result.{err_from_is_err_and}
+use Rattle.cbor_edn_parts.specs.Contents.{of_bytes, prefixed_bytes, literal_content, literal_kind, quote_of, behind_quote}
+use Rattle.cbor_edn_parts.specs.Leaves.{literal_bytes}
+use Rattle.cbor_edn_parts.specs.LiteralTokens.{is_literal, prefix_of, decoded}
+use Rattle.cbor_edn_parts.specs.declared.string.Part.TheVariants.{Between}
+use Rattle.cbor_edn_parts.specs.declared.string.Quote.{Quote}
+use Rattle.cbor_edn_parts.specs.declared.string.StringKind.{StringKind}
+use Rattle.cbor_edn_parts.specs.declared.string.StringKind.TheVariants.{Bytes}
+use Rattle.cbor_edn_parts.proofs.Prefixes.{plain_content, prefixed_content, bytes_kind}
+use Rattle.cbor_edn_parts.proofs.Refusals.{told_weaker}
+use Rattle.cbor_edn_parts.proofs.string.Literal.content.Goals as goal
+
+none : (p : List ℕ) → true ≡ eqb (length p) 0 → p ≡ []
+none p e = nil_from_length p (grind (arith, nat_tests))
+
+some : (p : List ℕ) → false ≡ eqb (length p) 0 → p ≢ []
+some p e empty = let zero : length p ≡ 0 = rw empty refl in absurd (grind (arith, nat_tests))
+
+pub returns-then-is_empty-clause-content : goal.returns-then-is_empty-clause-content
+returns-then-is_empty-clause-content c =
+    rw (c.in_ok-value.ensures, c.quote.ensures, c.quoted.ensures, c.kind-kind.ensures)
+    (plain_content (literal_bytes c.args.self.now) c.args.self.now.spelled (sym c.prefix-prefix.ensures ∙ none c.prefix-prefix.result.now c.if-is_empty.ensures))
+
+-- What the prefix makes of the value that is decoded.
+module _ (t p v b : List ℕ) (k : StringKind) (q : Quote) (o : Option (List ℕ)) (is : is_literal t ≡ true) (p_is : p ≡ prefix_of t) (filled : p ≢ []) (k_is : k ≡ literal_kind t) (q_is : q ≡ quote_of k)
+    (b_is : b ≡ behind_quote t) (v_is : v ≡ decoded q Between b) (found : prefixed_bytes p v ≡ o) where
+  value_is : v ≡ decoded (quote_of (literal_kind t)) Between (behind_quote t)
+  value_is = rw (v_is, q_is, k_is, b_is)
+
+  content_is : literal_content t ≡ of_bytes o
+  content_is = prefixed_content t is (rw p_is at filled) ∙ ap of_bytes (rw (← value_is, ← p_is) found)
+
+  kind_is : k ≡ Bytes
+  kind_is = k_is ∙ bytes_kind t is (rw p_is at filled)
+
+pub returns-in_ok-prefixed-clause-content : goal.returns-in_ok-prefixed-clause-content
+returns-in_ok-prefixed-clause-content c =
+    let t = literal_bytes c.args.self.now in
+    let p = c.prefix-prefix.result.now in
+    let v_is = c.deref.ensures.value ∙ c.in_ok-value.ensures in
+    let filled = some p c.if-is_empty.ensures in
+    let spelled = c.args.self.now.spelled in
+    let found = c.in_ok-prefixed.ensures.bytes in
+    rw (kind_is t p _ _ _ _ _ spelled c.prefix-prefix.ensures filled c.kind-kind.ensures c.quote.ensures c.quoted.ensures v_is found)
+    (content_is t p _ _ _ _ _ spelled c.prefix-prefix.ensures filled c.kind-kind.ensures c.quote.ensures c.quoted.ensures v_is found)
+
+pub returns-in_err-prefixed-clause-none : goal.returns-in_err-prefixed-clause-none
+returns-in_err-prefixed-clause-none c =
+    let t = literal_bytes c.args.self.now in
+    let p = c.prefix-prefix.result.now in
+    let v_is = c.deref.ensures.value ∙ c.in_ok-value.ensures in
+    let refused = err_from_is_err_and c.from_residual-in_err-prefixed.result c.from_residual-in_err-prefixed.ensures.1 in
+    rw (refused.1, refused.2) (told_weaker c.in_err-prefixed.field-0.0 _ _
+    (content_is t p _ _ _ _ _ c.args.self.now.spelled c.prefix-prefix.ensures (some p c.if-is_empty.ensures) c.kind-kind.ensures c.quote.ensures c.quoted.ensures v_is)
+    c.in_err-prefixed.ensures.none)

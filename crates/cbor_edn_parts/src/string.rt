@@ -1,0 +1,308 @@
+//! Literals: quoted texts, with or without a prefix, and dots.
+ghost use Rattle.std.specs.Prelude.{◌≡◌, ◌==◌, IsTrue, IfOk, Some, None, [], if◌then◌else◌};
+ghost use Rattle.std.specs.Cow.{cow_str_bytes};
+ghost use Rattle.cbor_edn_parts.specs.Ended.{Steps};
+ghost use Rattle.cbor_edn_parts.specs.Literal.{letter_escape};
+ghost use Rattle.cbor_edn_parts.specs.LiteralTokens as tokens;
+ghost use Rattle.cbor_edn_parts.specs.LiteralTokens.{is_literal, are_dots, quote_byte};
+ghost use Rattle.cbor_edn_parts.specs.Inside.{literal_stays, literal_inside, dots_stays, dots_inside};
+
+use crate::scan::State;
+pub use read::{dots_at, literal_at};
+use std::alloc::AllocError;
+use std::borrow::CowStr;
+
+mod base;
+mod content;
+mod digits;
+mod hexadecimal;
+mod read;
+#[cfg(test)]
+mod tests;
+mod write;
+
+/// A quoted text as it is written, with or without a prefix, as `"\n"`, `'a'` or `h'00'`.
+#[derive(Debug, PartialEq, Drop)]
+pub struct Literal<'a> {
+    text: CowStr<'a>,
+    pub ghost spelled: { IsTrue (is_literal (cow_str_bytes text)) },
+}
+
+/// Dots, three or more, in place of what is left out.
+#[derive(Debug, PartialEq, Drop)]
+pub struct Dots<'a> {
+    text: CowStr<'a>,
+    pub ghost spelled: { IsTrue (are_dots (cow_str_bytes text)) },
+}
+
+/// The kind of a CBOR string.
+#[derive(Clone, Copy, Debug, PartialEq, Eq)]
+pub enum StringKind {
+    Bytes,
+    Text,
+}
+
+/// What a text is quoted with.
+#[derive(Clone, Copy, Debug, PartialEq)]
+pub enum Quote {
+    Single,
+    Double,
+}
+
+/// Where a scan stands between two quotes. Numbers are those of the hexadecimal digits so far.
+#[derive(Clone, Copy, Debug, PartialEq)]
+pub enum Part {
+    /// Between two characters.
+    Between,
+    Backslash,
+    /// Behind `\u` and so many digits.
+    Unit(u8, u32),
+    /// Behind a high surrogate.
+    High(u32),
+    HighBackslash(u32),
+    /// Behind a high surrogate, `\u` and so many digits.
+    LowUnit(u32, u8, u32),
+    /// Behind `\u{`.
+    Brace,
+    Braced(u32),
+}
+
+/// Where a scan of a literal stands.
+#[derive(Clone, Copy, Debug, PartialEq)]
+pub enum InLiteral {
+    Start,
+    /// In a prefix of small letters, and of large ones.
+    Lower,
+    Upper,
+    Inside(Quote, Part),
+    Closed,
+}
+
+/// How many dots a scan has seen.
+#[derive(Clone, Copy, Debug, PartialEq)]
+pub enum InDots {
+    None,
+    One,
+    Two,
+    Enough,
+}
+
+/// What a byte between two quotes ends.
+#[derive(Clone, Copy, Debug, PartialEq)]
+pub(crate) enum Ended {
+    Nothing,
+    Byte(u8),
+    Character(char),
+}
+
+impl<'a> Literal<'a> {
+    ghost use Rattle.cbor_edn_parts.specs.Leaves.{literal_bytes};
+
+    /// The text as it is written.
+    pub fn as_str(&self) -> &str
+        ensures { result.now ≡ literal_bytes self.now }
+    {
+        self.text.as_str()
+    }
+
+    /// The same text. Fails where memory runs out.
+    pub fn clone(&self) -> Result<Literal<'a>, AllocError>
+        ensures { IfOk result (λ t. literal_bytes t ≡ literal_bytes self.now) }
+    {
+        let text = self.text.clone()?;
+        Ok(Literal { text })
+    }
+}
+
+impl<'a> Dots<'a> {
+    ghost use Rattle.cbor_edn_parts.specs.Leaves.{dots_bytes};
+
+    /// The text as it is written.
+    pub fn as_str(&self) -> &str
+        ensures { result.now ≡ dots_bytes self.now }
+    {
+        self.text.as_str()
+    }
+
+    /// The same text. Fails where memory runs out.
+    pub fn clone(&self) -> Result<Dots<'a>, AllocError>
+        ensures { IfOk result (λ t. dots_bytes t ≡ dots_bytes self.now) }
+    {
+        let text = self.text.clone()?;
+        Ok(Dots { text })
+    }
+}
+
+impl Quote {
+    fn byte(self) -> u8
+        ensures { result ≡ quote_byte self }
+    {
+        match self {
+            Quote::Single => b'\'',
+            Quote::Double => b'"',
+        }
+    }
+}
+
+impl Part {
+    /// The state behind one more byte, and what ends there.
+    pub(crate) fn step(self, quote: u8, byte: u8) -> Option<(Part, Ended)>
+        ensures { Steps result (tokens.part_step quote byte self) }
+    {
+        match self {
+            Part::Between => raw(byte),
+            Part::Backslash => escape(quote, byte),
+            Part::Unit(0, _) if byte == b'{' => Some((Part::Brace, Ended::Nothing)),
+            Part::Unit(digits, number) => {
+                let number = digits::with_digit(number, byte)?;
+                if digits < 3 {
+                    Some((Part::Unit(digits + 1, number), Ended::Nothing))
+                } else if digits::is_high(number) {
+                    Some((Part::High(number), Ended::Nothing))
+                } else {
+                    whole(number)
+                }
+            }
+            Part::High(high) => followed(byte, b'\\', Part::HighBackslash(high)),
+            Part::HighBackslash(high) => followed(byte, b'u', Part::LowUnit(high, 0, 0)),
+            Part::LowUnit(high, digits, number) => {
+                let number = digits::with_digit(number, byte)?;
+                if digits < 3 {
+                    Some((Part::LowUnit(high, digits + 1, number), Ended::Nothing))
+                } else {
+                    whole(digits::of_pair(high, number)?)
+                }
+            }
+            Part::Brace => {
+                let number = digits::with_digit(0, byte)?;
+                Some((Part::Braced(number), Ended::Nothing))
+            }
+            Part::Braced(number) if byte == b'}' => whole(number),
+            Part::Braced(number) => {
+                let number = digits::with_digit(number, byte)?;
+                Some((Part::Braced(number), Ended::Nothing))
+            }
+        }
+    }
+}
+
+/// The state behind this byte, where the wanted one stands.
+fn followed(byte: u8, wanted: u8, next: Part) -> Option<(Part, Ended)>
+    ensures { Steps result (if byte == wanted then Some (next, []) else None) }
+{
+    if byte == wanted {
+        Some((next, Ended::Nothing))
+    } else {
+        None
+    }
+}
+
+/// A character that ends a part, where the number is that of one.
+fn whole(number: u32) -> Option<(Part, Ended)>
+    ensures { Steps result (tokens.whole number) }
+{
+    let character = char::from_u32(number)?;
+    Some((Part::Between, Ended::Character(character)))
+}
+
+/// A byte between two characters.
+fn raw(byte: u8) -> Option<(Part, Ended)>
+    ensures { Steps result (tokens.raw_step byte) }
+{
+    match byte {
+        b'\\' => Some((Part::Backslash, Ended::Nothing)),
+        b'\r' => Some((Part::Between, Ended::Nothing)),
+        b'\n' | 32..=255 => Some((Part::Between, Ended::Byte(byte))),
+        _ => None,
+    }
+}
+
+/// The byte behind a backslash.
+fn escape(quote: u8, byte: u8) -> Option<(Part, Ended)>
+    ensures { Steps result (tokens.escape_step quote byte) }
+{
+    if byte == b'u' {
+        return Some((Part::Unit(0, 0), Ended::Nothing));
+    }
+    if byte == quote {
+        return Some((Part::Between, Ended::Byte(byte)));
+    }
+    let escaped = by_letter(byte)?;
+    Some((Part::Between, Ended::Byte(escaped)))
+}
+
+/// The character that a letter behind a backslash stands for.
+fn by_letter(letter: u8) -> Option<u8>
+    ensures { result ≡ letter_escape letter }
+{
+    match letter {
+        b'b' => Some(8),
+        b'f' => Some(12),
+        b'n' => Some(b'\n'),
+        b'r' => Some(b'\r'),
+        b't' => Some(b'\t'),
+        b'/' | b'\\' => Some(letter),
+        _ => None,
+    }
+}
+
+impl State for InLiteral {
+    ghost table = { tokens.literal };
+
+    fn step(self, byte: u8) -> Option<InLiteral> {
+        match (self, byte) {
+            (InLiteral::Start, b'"') => Some(InLiteral::Inside(Quote::Double, Part::Between)),
+            (InLiteral::Start | InLiteral::Lower | InLiteral::Upper, b'\'') => {
+                Some(InLiteral::Inside(Quote::Single, Part::Between))
+            }
+            (InLiteral::Start, b'a'..=b'z') => Some(InLiteral::Lower),
+            (InLiteral::Start, b'A'..=b'Z') => Some(InLiteral::Upper),
+            (InLiteral::Lower, b'a'..=b'z' | b'0'..=b'9') => Some(InLiteral::Lower),
+            (InLiteral::Upper, b'A'..=b'Z' | b'0'..=b'9') => Some(InLiteral::Upper),
+            (InLiteral::Inside(quote, part), _) => between(quote, part, byte),
+            _ => None,
+        }
+    }
+
+    fn is_final(self) -> bool {
+        matches!(self, InLiteral::Closed)
+    }
+
+    ghost stays = { literal_stays };
+
+    ghost inside = { literal_inside };
+}
+
+/// The state behind a byte that stands behind the first quote.
+fn between(quote: Quote, part: Part, byte: u8) -> Option<InLiteral>
+    ensures { result ≡ tokens.literal_step byte (InLiteral.Inside quote part) }
+{
+    if part == Part::Between && byte == quote.byte() {
+        return Some(InLiteral::Closed);
+    }
+    let (part, _) = part.step(quote.byte(), byte)?;
+    Some(InLiteral::Inside(quote, part))
+}
+
+impl State for InDots {
+    ghost table = { tokens.dots };
+
+    fn step(self, byte: u8) -> Option<InDots> {
+        if byte != b'.' {
+            return None;
+        }
+        match self {
+            InDots::None => Some(InDots::One),
+            InDots::One => Some(InDots::Two),
+            InDots::Two | InDots::Enough => Some(InDots::Enough),
+        }
+    }
+
+    fn is_final(self) -> bool {
+        matches!(self, InDots::Enough)
+    }
+
+    ghost stays = { dots_stays };
+
+    ghost inside = { dots_inside };
+}

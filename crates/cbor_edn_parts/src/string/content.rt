@@ -1,0 +1,141 @@
+//! What literals contribute to a string.
+ghost use Rattle.std.specs.Prelude.{◌≡◌, ◌++◌, IfOk, OnOk, Some, None, position};
+ghost use Rattle.cbor_edn_parts.specs.Contents as contents;
+ghost use Rattle.cbor_edn_parts.specs.Contents.{literal_content};
+ghost use Rattle.cbor_edn_parts.specs.Ended.{ended_bytes};
+ghost use Rattle.cbor_edn_parts.specs.Leaves.{literal_bytes};
+ghost use Rattle.cbor_edn_parts.specs.LiteralTokens as tokens;
+ghost use Rattle.cbor_edn_parts.specs.Refusals.{IfTold};
+
+use super::base::Alphabet;
+use super::{Ended, Literal, Part, Quote, StringKind, hexadecimal};
+use crate::error::{Fault, InconsistentEdn};
+use std::alloc::{AllocError, Global};
+
+impl Literal<'_> {
+    /// The kind and the bytes of the string that the literal stands for. Fails where its prefix is not one of `h`, `b64`,
+    /// `b32` and `h32`, where its text is not one of its prefix, and where memory runs out.
+    pub fn content(&self, alloc: Global) -> Result<(StringKind, Vec<u8>), Fault<InconsistentEdn>>
+        ensures content { IfOk result (λ p. literal_content (literal_bytes self.now) ≡ Some (p.0, p.1.items)) }
+        ensures none { IfTold result (λ e. literal_content (literal_bytes self.now) ≡ None) }
+    {
+        let kind = self.kind();
+        let prefix = self.prefix();
+        let value = kind.quote().decode(alloc, self.quoted())?;
+        if prefix.is_empty() {
+            Ok((kind, value))
+        } else {
+            Ok((kind, prefixed(alloc, prefix, &value)?))
+        }
+    }
+
+    /// What stands before the first quote.
+    fn prefix(&self) -> &str
+        ensures { result.now ≡ tokens.prefix_of (literal_bytes self.now) }
+    {
+        let text = self.as_str();
+        match first_quote(text.as_bytes()) {
+            Some(at) => &text[..at],
+            None => text,
+        }
+    }
+
+    /// What stands behind the first quote.
+    fn quoted(&self) -> &[u8]
+        ensures { result.now ≡ contents.behind_quote (literal_bytes self.now) }
+    {
+        let at = self.prefix().len() + 1;
+        &self.as_str().as_bytes()[at..]
+    }
+
+    /// Whether the literal has no prefix, or one of `h`, `b64`, `b32` and `h32`: only such a literal has a content.
+    pub fn is_supported(&self) -> bool
+        ensures { result ≡ contents.is_supported (literal_bytes self.now) }
+    {
+        matches!(self.prefix(), "" | "h" | "b64" | "b32" | "h32")
+    }
+
+    /// The kind of the string that the literal stands for, where it stands for one.
+    pub fn kind(&self) -> StringKind
+        ensures { result ≡ contents.literal_kind (literal_bytes self.now) }
+    {
+        match self.as_str().as_bytes() {
+            [b'"', ..] => StringKind::Text,
+            _ => StringKind::Bytes,
+        }
+    }
+}
+
+/// The bytes of a text behind a prefix.
+fn prefixed(alloc: Global, prefix: &str, text: &[u8]) -> Result<Vec<u8>, Fault<InconsistentEdn>>
+    ensures bytes { IfOk result (λ v. contents.prefixed_bytes prefix.now text.now ≡ Some v.items) }
+    ensures none { IfTold result (λ e. contents.prefixed_bytes prefix.now text.now ≡ None) }
+{
+    match prefix {
+        "h" => hexadecimal::decode(alloc, text),
+        "b64" => Alphabet::Base64.decode(alloc, text),
+        "b32" => Alphabet::Base32.decode(alloc, text),
+        "h32" => Alphabet::Base32Hex.decode(alloc, text),
+        _ => Err(Fault::Told(InconsistentEdn::UnsupportedLiteral)),
+    }
+}
+
+fn first_quote(text: &[u8]) -> Option<usize>
+    ensures { result ≡ position tokens.is_quote text.now }
+{
+    text.iter().position(|byte| matches!(*byte, b'\'' | b'"'))
+}
+
+impl StringKind {
+    /// What a literal of this kind is quoted with.
+    fn quote(self) -> Quote
+        ensures { result ≡ contents.quote_of self }
+    {
+        match self {
+            StringKind::Bytes => Quote::Single,
+            StringKind::Text => Quote::Double,
+        }
+    }
+}
+
+impl Quote {
+    /// The bytes that the text behind an opening quote stands for, up to the quote that ends it.
+    fn decode(self, alloc: Global, text: &[u8]) -> Result<Vec<u8>, AllocError>
+        ensures { IfOk result (λ v. v.items ≡ tokens.decoded self Part.Between text.now) }
+    {
+        let mut bytes = Vec::new(alloc);
+        let mut part = Part::Between;
+        for byte in text {
+            if self.ends(part, *byte) {
+                break;
+            }
+            let Some((next, ended)) = part.step(self.byte(), *byte) else {
+                break;
+            };
+            ended.append_to(&mut bytes)?;
+            part = next;
+        }
+        Ok(bytes)
+    }
+
+    /// Whether the byte is the quote that ends the text.
+    fn ends(self, part: Part, byte: u8) -> bool
+        ensures { result ≡ tokens.ends self byte part }
+    {
+        matches!(part, Part::Between) && byte == self.byte()
+    }
+}
+
+impl Ended {
+    fn append_to(self, bytes: &mut Vec<u8>) -> Result<(), AllocError>
+        ensures { OnOk result (bytes.new.items ≡ bytes.old.items ++ ended_bytes self) }
+    {
+        match self {
+            Ended::Nothing => Ok(()),
+            Ended::Byte(byte) => Ok(bytes.push(byte)?),
+            Ended::Character(character) => {
+                bytes.extend_from_slice(character.encode_utf8(&mut [0; 4]).as_bytes())
+            }
+        }
+    }
+}

@@ -1,0 +1,49 @@
+//! The literal and the dots at a place of a text.
+ghost use Rattle.std.specs.Prelude.{IfOk, drop};
+ghost use Rattle.std.specs.Str.{IsCharBoundary};
+ghost use Rattle.cbor_edn_parts.specs.Lex.{token};
+ghost use Rattle.cbor_edn_parts.specs.Leaves.{literal_bytes, dots_bytes, BorrowsLiteral, BorrowsDots};
+ghost use Rattle.cbor_edn_parts.specs.LiteralTokens as tokens;
+ghost use Rattle.cbor_edn_parts.specs.Scans.{Scans, Lands, Costs};
+ghost use Rattle.cbor_edn_parts.specs.Text.{text_bytes};
+
+use super::{Dots, InDots, InLiteral, Literal};
+use crate::error::Refusal;
+use crate::looks::Looks;
+use crate::scan::scan;
+use crate::text::Text;
+use std::borrow::CowStr;
+
+/// The literal at a place, and the place behind it.
+pub fn literal_at<'a>(
+    text: &Text<'a>,
+    from: usize,
+    looks: &mut Looks,
+) -> Result<(Literal<'a>, usize), Refusal>
+    requires { IsCharBoundary (text_bytes text.now) from }
+    ensures value { Scans literal_bytes (text_bytes text.now) result (token tokens.literal (drop from (text_bytes text.now))) }
+    ensures borrowed { IfOk result (λ p. BorrowsLiteral p.0) }
+    ensures place { Lands (text_bytes text.now) from result }
+    ensures cost { Costs 1 1 1 (text_bytes text.now) from looks.old.count looks.new.count result }
+{
+    let (text, to) = scan(InLiteral::Start, text, from, looks)?;
+    let text = CowStr::Borrowed(text);
+    Ok((Literal { text }, to))
+}
+
+/// The dots at a place, all that stand there, and the place behind them.
+pub fn dots_at<'a>(
+    text: &Text<'a>,
+    from: usize,
+    looks: &mut Looks,
+) -> Result<(Dots<'a>, usize), Refusal>
+    requires { IsCharBoundary (text_bytes text.now) from }
+    ensures value { Scans dots_bytes (text_bytes text.now) result (token tokens.dots (drop from (text_bytes text.now))) }
+    ensures borrowed { IfOk result (λ p. BorrowsDots p.0) }
+    ensures place { Lands (text_bytes text.now) from result }
+    ensures cost { Costs 1 1 1 (text_bytes text.now) from looks.old.count looks.new.count result }
+{
+    let (text, to) = scan(InDots::None, text, from, looks)?;
+    let text = CowStr::Borrowed(text);
+    Ok((Dots { text }, to))
+}
