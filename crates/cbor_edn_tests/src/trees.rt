@@ -15,16 +15,29 @@ fn copies_sequences(rt: HostRuntime) -> Result<(), Fail> {
     Ok(())
 }
 
-fn is_copied(item: &StandaloneItem<'_>, alloc: Global, text: &str) -> Result<bool, Fail> {
+fn equals_its_copy(item: &StandaloneItem<'_>) -> Result<bool, Fail> {
     let copy = item.clone()?;
-    Ok(copy == *item && copy.serialize(alloc)?.as_str() == text)
+    Ok(copy == *item)
+}
+
+fn text_of_copy(item: &StandaloneItem<'_>, alloc: Global) -> Result<String, Fail> {
+    let copy = item.clone()?;
+    Ok(copy.serialize(alloc)?)
 }
 
 #[test]
 fn copies_standalone_items(rt: HostRuntime) -> Result<(), Fail> {
-    let text = " {_0 1 : /c/ [2] ,} ";
+    let item = StandaloneItem::parse(rt.alloc(), " {_0 1 : /c/ [(_ 'a', <<2>>)] ,} ")?;
+    assert!(rt; equals_its_copy(&item)?);
+    Ok(())
+}
+
+#[test]
+fn prints_copies(rt: HostRuntime) -> Result<(), Fail> {
+    let text = " {_0 1 : /c/ [(_ 'a', <<2>>)] ,} ";
     let item = StandaloneItem::parse(rt.alloc(), text)?;
-    assert!(rt; is_copied(&item, rt.alloc(), text)?);
+    let copied = text_of_copy(&item, rt.alloc())?;
+    assert_eq!(rt; copied.as_str(), text);
     Ok(())
 }
 
@@ -35,6 +48,8 @@ fn spaces_tell_trees_apart(rt: HostRuntime) -> Result<(), Fail> {
         "[1,2]", "[1 2]", "[ 1,2]", "[1,2 ]", " [1,2]", "[1,2] ", "[1,2,]", "[01,2]", "[1]", "[]",
         "1,2", "", "[_ 1,2]", "[_1 1,2]", "[_i 1,2]", "1_1,2", "1_2,2", "{1:2}", "{1: 2}",
         "{1 :2}", "{2:1}", "{_ 1:2}", "{}", "{ }", "{_}", "{_1}",
+        "'a'", "\"a\"", "'a'_0", "'a'+'b'", "'a' +'b'", "'a'+ 'b'", "<<>>", "<< >>", "<<1>>", "<<1>>_1",
+        "(_ 'a')", "(_  'a')", "(_ 'a','b')", "...", "....", "h'a'",
     ];
     for (i, one) in texts.iter().enumerate() {
         for (j, other) in texts.iter().enumerate() {
