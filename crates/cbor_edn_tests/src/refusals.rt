@@ -15,7 +15,7 @@ fn refusal(alloc: Global, text: &str, limit: usize) -> Result<ParseError, Fail> 
 fn names_its_place(rt: HostRuntime) -> Result<(), Fail> {
     let alloc = rt.alloc();
     // two lines, and a character of two bytes in front of the fault
-    let refused = refusal(alloc, "[1,\n/\u{e9}/ x]", 9)?;
+    let refused = refusal(alloc, "[1,\n/\u{e9}/ =]", 9)?;
     assert_eq!(rt; refused.line(), 2);
     assert_eq!(rt; refused.column(), 5);
     assert_eq!(rt; refused.offset(), 9);
