@@ -5,6 +5,7 @@ use std::test::Fail;
 
 // An item of every form that is decoded.
 const MIXED: &[u8] = b"\xbf\x01\x82\x5f\x41a\xff\x61b\x58\x00\x20\xff";
+
 const MIXED_TEXT: &str = "{_ 1: [(_ h'61'), \"b\"], h''_0: -1}";
 
 fn decoded<'a>(alloc: Global, bytes: &[u8]) -> Result<Item<'a>, Fail> {

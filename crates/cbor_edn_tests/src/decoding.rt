@@ -78,8 +78,20 @@ fn decodes_rows(rt: HostRuntime) -> Result<(), Fail> {
 #[test]
 fn refuses_bytes(rt: HostRuntime) -> Result<(), Fail> {
     for digits in [
-        "bf01ff", "b80101", "9f8201ff", "1901", "ff", "18", "82", "8201", "9f", "1c", "1f", "61ff",
-        "5f6161ff", "5f5f4161ffff",
+        "bf01ff",
+        "b80101",
+        "9f8201ff",
+        "1901",
+        "ff",
+        "18",
+        "82",
+        "8201",
+        "9f",
+        "1c",
+        "1f",
+        "61ff",
+        "5f6161ff",
+        "5f5f4161ffff",
     ] {
         assert_eq!(rt;
             text_of(rt.alloc(), digits)?.as_str(),

@@ -61,7 +61,10 @@ const ENCODED: [(&str, &str); 37] = [
     ("\"\\u{1F600}\"", "64f09f9880"),
     ("\"a\rb\"", "626162"),
     ("(_ \"a\")", "7f6161ff"),
-    ("(_ 'hello'+' ', 'world', )", "5f4668656c6c6f2045776f726c64ff"),
+    (
+        "(_ 'hello'+' ', 'world', )",
+        "5f4668656c6c6f2045776f726c64ff",
+    ),
     ("\"\"_", "7fff"),
     ("''_", "5fff"),
     ("<<>>_", "5fff"),
@@ -81,7 +84,11 @@ const ENCODED: [(&str, &str); 37] = [
 #[test]
 fn encodes_strings(rt: HostRuntime) -> Result<(), Fail> {
     for (text, bytes) in ENCODED {
-        assert_eq!(rt; told(rt.alloc(), text)?.as_str(), bytes, "the bytes of {text:?}");
+        assert_eq!(rt;
+            told(rt.alloc(), text)?.as_str(),
+            bytes,
+            "the bytes of {text:?}"
+        );
         assert!(rt; prints_itself(rt.alloc(), text)?, "the text of {text:?}");
     }
     Ok(())

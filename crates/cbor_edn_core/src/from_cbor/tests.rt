@@ -93,7 +93,10 @@ fn refusals(rt: HostRuntime) {
         (b"\x5f\x61a\xff", CborError::OtherChunk),
         (b"\x5f\x7f", CborError::OtherChunk),
         (b"\x5f\x5f\x41a\xff\xff", CborError::OpenChunk),
-        (b"\x5b\x7f\xff\xff\xff\xff\xff\xff\xff", CborError::MissingBytes),
+        (
+            b"\x5b\x7f\xff\xff\xff\xff\xff\xff\xff",
+            CborError::MissingBytes,
+        ),
         (
             b"\x5b\xff\xff\xff\xff\xff\xff\xff\xff\x00",
             CborError::MissingBytes,
