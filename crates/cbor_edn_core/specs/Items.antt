@@ -11,6 +11,13 @@ pub data Row : Type 0 where
   -- the strings of a stream
   Strings : Row
 
+-- The simple values that have names.
+pub data Name : Type 0 where
+  False : Name
+  True : Name
+  Null : Name
+  Undefined : Name
+
 -- The lists between brackets.
 pub data Bracketed : Type 0 where
   Array : Bracketed
@@ -31,10 +38,16 @@ pub data Sort : Type 0 where
 
 -- Items, their parts, the entries of lists, and rows of these.
 pub data Node : Sort → Type 0 where
-  -- a number as it is written, and its encoding indicator
+  -- a number as it is written, `Infinity`, `-Infinity` and `NaN` among them, and its encoding indicator
   Number : List ℕ → Option Indicator → Node Item
   -- an array or a map, with its encoding indicator
   Listed : (k : Bracketed) → Option Indicator → Node (Entries (entries_of k)) → Node Item
+  -- a tag: its number, its encoding indicator, and the item that it holds
+  Tagged : ℕ → Option Indicator → Node Item → Node Item
+  -- `false`, `true`, `null` or `undefined`
+  Named : Name → Node Item
+  -- `simple(20)`
+  Simple : Node Item → Node Item
   -- a string: `"a" + 'b'`
   String : Node Pieces → Node Item
   -- a string of indefinite length: `(_ "a", "b")`
@@ -57,10 +70,13 @@ pub data Node : Sort → Type 0 where
 abbrev pub Items : Type 0
 Items = Node (Entries Elements)
 
--- How deep arrays, maps and embedded sequences nest: 0 for `1`, 1 for `[]` and `<<>>`; of a row the deepest.
+-- How deep arrays, maps, tags, `simple(..)` and embedded sequences nest: 0 for `1`, 1 for `[]` and `<<>>`; of a row the deepest.
 abbrev pub nesting : {s : Sort} → Node s → ℕ
 nesting (Number x i) = 0
 nesting (Listed k i m) = suc (nesting m)
+nesting (Tagged n i w) = suc (nesting w)
+nesting (Named b) = 0
+nesting (Simple w) = suc (nesting w)
 nesting (String w) = nesting w
 nesting (Stream m) = nesting m
 nesting (Literal x i) = 0

@@ -1,15 +1,16 @@
 -- What items mean: a CBOR value, its heads as the encoding indicators say, or nothing.
-use Rattle.std.specs.Prelude.{ℕ, ℤ, pos, negsuc, zero, suc, ◌+◌, ◌^◌, Bool, true, false, List, [], ◌∷◌, ◌++◌, ◌&&◌, is_none, length, Option, Some, None, nat_lt, if◌then◌else◌}
+use Rattle.std.specs.Prelude.{ℕ, ℤ, pos, negsuc, zero, suc, ◌+◌, ◌^◌, Bool, true, false, List, [], ◌∷◌, ◌++◌, ◌&&◌, is_none, length, Option, Some, None, ◌||◌, nat_le, nat_lt, if◌then◌else◌}
 use Rattle.std.specs.Int.{w128, to_be_bytes}
 use Rattle.cbor_edn_parts.specs.declared.indicator.Indicator.{Indicator}
 use Rattle.cbor_edn_parts.specs.declared.indicator.Indicator.TheVariants as indicator
 use Rattle.cbor_edn_parts.specs.Number.{integer_of}
-use Rattle.cbor_edn_parts.specs.Contents.{Content, literal_content}
+use Rattle.cbor_edn_parts.specs.Contents.{Content, literal_content, same}
+use Rattle.cbor_edn_parts.specs.Number.{infinity, negative_infinity, nan}
 use Rattle.cbor_edn_parts.specs.declared.string.StringKind.{StringKind}
 use Rattle.cbor_edn_parts.specs.declared.string.StringKind.TheVariants.{Bytes, Text}
 use Rattle.cbor_edn_core.specs.declared.cbor.Width.{Width}
 use Rattle.cbor_edn_core.specs.declared.cbor.Width.TheVariants.{Immediate, One, Two, Four, Eight}
-use Rattle.cbor_edn_core.specs.Items.{Row, Elements, Pairs, Strings, Bracketed, Array, Map, entries_of, Sort, Item, Piece, Pieces, Entry, Entries, Node, Number, Listed, String, Stream, Literal, Dots, Embedded, LastPiece, Plus, Element, Pair, Chunk, End, Then}
+use Rattle.cbor_edn_core.specs.Items.{Row, Elements, Pairs, Strings, Name, False, True, Null, Undefined, Bracketed, Array, Map, entries_of, Sort, Item, Piece, Pieces, Entry, Entries, Node, Number, Listed, Tagged, Named, Simple, String, Stream, Literal, Dots, Embedded, LastPiece, Plus, Element, Pair, Chunk, End, Then}
 use Rattle.cbor_edn_core.specs.Value as values
 use Rattle.cbor_edn_core.specs.Value.{Value, unsigned, negative, string, chunks, is_content, array, object, tag, Values, no_values, value, values_len, no_pairs, pair, pairs_len, limit_of, encodings}
 
@@ -74,6 +75,62 @@ bignum number n magnitude i = if nat_lt magnitude (2 ^ 128) then (unmarked i (ta
 abbrev pub means_integer : Option Indicator → ℤ → Option Value
 means_integer i (pos n) = if nat_lt n (2 ^ 64) then (width_of i n >>= λ w. Some (unsigned w n)) else bignum 2 n n i
 means_integer i (negsuc n) = if nat_lt n (2 ^ 64) then (width_of i n >>= λ w. Some (negative w n)) else bignum 3 n (n + 1) i
+
+-- ---- floating-point and simple values
+
+abbrev pub non_finite_text : values.NonFinite → List ℕ
+non_finite_text values.Infinity = infinity
+non_finite_text values.NegativeInfinity = negative_infinity
+non_finite_text values.NaN = nan
+
+-- `Infinity`, `-Infinity` and `NaN`
+abbrev pub non_finite : List ℕ → Option values.NonFinite
+non_finite x =
+    if same x infinity then Some values.Infinity
+    else if same x negative_infinity then Some values.NegativeInfinity
+    else if same x nan then Some values.NaN
+    else None
+
+-- The width of a floating-point number: two bytes without an indicator.
+abbrev pub float_width : Option Indicator → Option Width
+float_width None = Some Two
+float_width (Some indicator.Two) = Some Two
+float_width (Some indicator.Four) = Some Four
+float_width (Some indicator.Eight) = Some Eight
+float_width _ = None
+
+abbrev pub means_float : Option Indicator → values.NonFinite → Option Value
+means_float i f = float_width i >>= λ w. Some (values.float w f)
+
+-- a number: an integer, or one of the three words; what else has a point or an exponent means nothing
+abbrev pub means_number : Option Indicator → List ℕ → Option ℤ → Option Value
+means_number i x (Some z) = means_integer i z
+means_number i x None = non_finite x >>= means_float i
+
+abbrev pub name_number : Name → ℕ
+name_number False = 20
+name_number True = 21
+name_number Null = 22
+name_number Undefined = 23
+
+abbrev pub is_simple : ℕ → Bool
+is_simple n = nat_lt n 24 || (nat_le 32 n && nat_lt n 256)
+
+-- no indicator, or the shortest one: `_i` up to 23 and `_0` above
+abbrev pub is_shortest : Option Indicator → ℕ → Bool
+is_shortest None n = true
+is_shortest (Some indicator.Immediate) n = nat_lt n 24
+is_shortest (Some indicator.One) n = nat_le 24 n
+is_shortest _ n = false
+
+abbrev pub simple_number : Option Indicator → ℤ → Option Value
+simple_number i (pos n) = if is_simple n && is_shortest i n then Some (values.simple n) else None
+simple_number i (negsuc n) = None
+
+-- `simple(..)`: an integer literal alone stands in it
+abbrev pub means_simple : Node Item → Option Value
+means_simple (Number x i) = integer_of x >>= simple_number i
+means_simple _ = None
 
 -- ---- strings
 
@@ -167,7 +224,10 @@ one_more Strings c cs = c ∷ cs
 -- nothing where one of its entries does. `[_0 1, -1]` means the array, of width One, of `unsigned Immediate 1` and
 -- `negative Immediate 0`; `"a" + 'b'` means the text 61 62; `24_i` means nothing.
 unfoldable pub means : {s : Sort} → Node s → Option (MeaningOf s)
-means (Number x i) = integer_of x >>= means_integer i
+means (Number x i) = means_number i x (integer_of x)
+means (Tagged n i w) = width_of i n >>= λ d. means w >>= λ v. Some (tag d n v)
+means (Named b) = Some (values.simple (name_number b))
+means (Simple w) = means_simple w
 means (Listed k i m) = means m >>= listed k i
 means (String w) = means w >>= λ c. pieces_mark w >>= string_of c
 means (Stream m) = means m >>= stream_of

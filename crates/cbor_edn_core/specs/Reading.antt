@@ -1,5 +1,5 @@
 -- The plain reader on lists, rule by rule. It knows how deep lists may nest.
-use Rattle.std.specs.Prelude.{ℕ, suc, zero, Bool, false, cond, eqb, ◌||◌, ◌&&◌, nat_le, List, [], ◌∷◌, Option, Some, None, Result, Ok, Err, ◌+◌, ◌*◌, length}
+use Rattle.std.specs.Prelude.{ℕ, suc, zero, Bool, false, cond, eqb, ◌||◌, ◌&&◌, nat_le, nat_lt, ◌^◌, List, [], ◌∷◌, Option, Some, None, Result, Ok, Err, ◌+◌, ◌*◌, length}
 use Rattle.cbor_edn_parts.specs.declared.error.ParseErrorKind.{ParseErrorKind}
 use Rattle.cbor_edn_parts.specs.declared.error.ParseErrorKind.TheVariants.{Invalid, TooDeep}
 use Rattle.cbor_edn_parts.specs.declared.indicator.Indicator.{Indicator}
@@ -9,10 +9,15 @@ use Rattle.cbor_edn_parts.specs.Lex as lex
 use Rattle.cbor_edn_parts.specs.Lex.{Table}
 use Rattle.cbor_edn_parts.specs.SpaceTokens.{space, separator}
 use Rattle.cbor_edn_parts.specs.NumberTokens.{number}
-use Rattle.cbor_edn_parts.specs.LiteralTokens.{literal, dots, is_lower, is_upper}
-use Rattle.cbor_edn_core.specs.Items.{Row, Elements, Pairs, Strings, Bracketed, Array, Map, entries_of}
-use Rattle.cbor_edn_core.specs.Spelling.{ending}
-use Rattle.cbor_edn_core.specs.Trees.{Rule, OneItem, OnePiece, OneString, OneEntry, Inside, Rest, Seq, Standalone, Head, Unmarked, Marked, Tree, NumberTree, ListTree, StringTree, StreamTree, LiteralTree, DotsTree, EmbeddedTree, LastPieceTree, PlusTree, ElementTree, PairTree, ChunkTree, EmptyTree, FullTree, LastTree, MoreTree, NothingTree, SequenceTree, StandaloneTree, joins}
+use Rattle.cbor_edn_parts.specs.LiteralTokens.{literal, dots, is_lower, is_upper, is_digit}
+use Rattle.cbor_edn_parts.specs.Number.{number_of}
+use Rattle.cbor_edn_parts.specs.Contents.{same}
+use Rattle.std.specs.Fmt.{decimal}
+use Rattle.cbor_edn_core.specs.Value.{NonFinite, Infinity, NegativeInfinity, NaN}
+use Rattle.cbor_edn_core.specs.Meaning.{non_finite_text}
+use Rattle.cbor_edn_core.specs.Items.{Row, Elements, Pairs, Strings, Name, False, True, Null, Undefined, Bracketed, Array, Map, entries_of}
+use Rattle.cbor_edn_core.specs.Spelling.{ending, name_text, simple_text}
+use Rattle.cbor_edn_core.specs.Trees.{Rule, OneItem, OnePiece, OneString, OneEntry, Inside, Rest, Seq, Standalone, Head, Unmarked, Marked, Tree, NumberTree, TagTree, NameTree, SimpleTree, ListTree, StringTree, StreamTree, LiteralTree, DotsTree, EmbeddedTree, LastPieceTree, PlusTree, ElementTree, PairTree, ChunkTree, EmptyTree, FullTree, LastTree, MoreTree, NothingTree, SequenceTree, StandaloneTree, joins}
 
 infixl 10 ◌>>=◌
 unfoldable pub ◌>>=◌ : {A B : Type 0} → Result A ParseErrorKind → (A → Result B ParseErrorKind) → Result B ParseErrorKind
@@ -49,23 +54,91 @@ head_of None s = Ok (Unmarked, s)
 head_of (Some i) [] = Err Invalid
 head_of (Some i) (c ∷ s) = Ok (Marked i (c ∷ s), [])
 
-abbrev pub starts_dots : List ℕ → Bool
-starts_dots [] = false
-starts_dots (c ∷ r) = eqb c 46
+-- what follows the letters of one case, and digits, in front
+abbrev pub behind_lower : List ℕ → List ℕ
+behind_lower [] = []
+behind_lower (c ∷ r) = cond (is_lower c || is_digit c) (behind_lower r) (c ∷ r)
 
--- what alone begins a string: a quote, a letter, or `<`
+abbrev pub behind_upper : List ℕ → List ℕ
+behind_upper [] = []
+behind_upper (c ∷ r) = cond (is_upper c || is_digit c) (behind_upper r) (c ∷ r)
+
+abbrev pub starts_with : ℕ → List ℕ → Bool
+starts_with b [] = false
+starts_with b (c ∷ r) = eqb c b
+
+-- Whether a prefix with a quote behind it begins there: prefixes are read before words.
+abbrev pub is_prefixed : ℕ → List ℕ → Bool
+is_prefixed c r = (is_lower c && starts_with 39 (behind_lower r)) || (is_upper c && starts_with 39 (behind_upper r))
+
+-- what alone begins a string: a quote, or `<`
 abbrev pub begins_string : ℕ → Bool
-begins_string c = eqb c 34 || eqb c 39 || eqb c 60 || is_lower c || is_upper c
+begins_string c = eqb c 34 || eqb c 39 || eqb c 60
 
 -- Whether a string begins there, which two dots do too.
 unfoldable pub starts_string : List ℕ → Bool
 starts_string [] = false
-starts_string (c ∷ r) = begins_string c || (eqb c 46 && starts_dots r)
+starts_string (c ∷ r) = begins_string c || (eqb c 46 && starts_with 46 r) || is_prefixed c r
+
+-- the words
+pub data Word : Type 0 where
+  Named : Name → Word
+  Simple : Word
+  Float : NonFinite → Word
+
+abbrev pub spelling : Word → List ℕ
+spelling (Named b) = name_text b
+spelling Simple = simple_text
+spelling (Float f) = non_finite_text f
+
+-- The word that a byte begins: each begins with another one. A minus sign does so where `I` stands behind it.
+abbrev pub word_of : ℕ → List ℕ → Option Word
+word_of c r =
+    cond (eqb c 102) (Some (Named False)) (
+    cond (eqb c 116) (Some (Named True)) (
+    cond (eqb c 110) (Some (Named Null)) (
+    cond (eqb c 117) (Some (Named Undefined)) (
+    cond (eqb c 115) (Some Simple) (
+    cond (eqb c 73) (Some (Float Infinity)) (
+    cond (eqb c 78) (Some (Float NaN)) (
+    cond (eqb c 45 && starts_with 73 r) (Some (Float NegativeInfinity)) None)))))))
+
+-- These bytes, one behind the other.
+unfoldable pub bytes : List ℕ → List ℕ → Result (List ℕ) ParseErrorKind
+bytes [] xs = Ok xs
+bytes (b ∷ bs) xs = byte b xs >>= bytes bs
+
+-- the number of a tag, as it is written
+abbrev pub tag_number : List ℕ → Option ℕ
+tag_number x = cond (same x (decimal (number_of 10 x)) && nat_lt (number_of 10 x) (2 ^ 64)) (Some (number_of 10 x)) None
 
 -- Each rule, by readers for a smaller text: `g n` for what nests at most n deep.
 module _ (g : ℕ → (s : Rule) → Reader s) where
-  unfoldable pub number_item : Reader OneItem
-  number_item xs = token number xs >>= λ x. Ok (NumberTree x.0 (indicator_at x.1).0, (indicator_at x.1).1)
+  -- an item between parentheses, with the spaces round it
+  unfoldable pub enclosed : (limit : ℕ) → Reader Standalone
+  enclosed zero xs = byte 40 xs >>= λ r. Err TooDeep
+  enclosed (suc limit) xs = byte 40 xs >>= λ r. g limit Standalone r >>= λ w. byte 41 w.1 >>= λ r. Ok (w.0, r)
+
+  -- behind the number of a tag, where a parenthesis stands there
+  unfoldable pub tag_item : ℕ → List ℕ → Option Indicator → Reader OneItem
+  tag_item limit x i xs = or_invalid (tag_number x) >>= λ n. enclosed limit xs >>= λ w. Ok (TagTree n i w.0, w.1)
+
+  unfoldable pub number_item : ℕ → Reader OneItem
+  number_item limit xs = token number xs >>= λ x. cond (starts_with 40 (indicator_at x.1).1) (tag_item limit x.0 (indicator_at x.1).0 (indicator_at x.1).1) (Ok (NumberTree x.0 (indicator_at x.1).0, (indicator_at x.1).1))
+
+  -- behind a word
+  unfoldable pub word_end : ℕ → Word → Reader OneItem
+  word_end limit (Named b) xs = Ok (NameTree b, xs)
+  word_end limit Simple xs = enclosed limit xs >>= λ w. Ok (SimpleTree w.0, w.1)
+  word_end limit (Float f) xs = Ok (NumberTree (non_finite_text f) (indicator_at xs).0, (indicator_at xs).1)
+
+  unfoldable pub word_item : ℕ → Word → Reader OneItem
+  word_item limit w xs = bytes (spelling w) xs >>= word_end limit w
+
+  -- a word, where one begins there, else a number
+  unfoldable pub plain_item : ℕ → Option Word → Reader OneItem
+  plain_item limit None xs = number_item limit xs
+  plain_item limit (Some w) xs = word_item limit w xs
 
   -- behind the opening byte
   unfoldable pub list_item : (limit : ℕ) → Bracketed → Reader OneItem
@@ -85,7 +158,7 @@ module _ (g : ℕ → (s : Rule) → Reader s) where
       cond (eqb c 91) (list_item limit Array xs) (
       cond (eqb c 123) (list_item limit Map xs) (
       cond (eqb c 40) (stream_item limit xs) (
-      cond (starts_string (c ∷ xs)) (string_item limit (c ∷ xs)) (number_item (c ∷ xs)))))
+      cond (starts_string (c ∷ xs)) (string_item limit (c ∷ xs)) (plain_item limit (word_of c xs) (c ∷ xs)))))
 
   unfoldable pub literal_piece : Reader OnePiece
   literal_piece xs = token literal xs >>= λ x. Ok (LiteralTree x.0 (indicator_at x.1).0, (indicator_at x.1).1)

@@ -1,22 +1,25 @@
--- What spells an item, and what spells a sequence: the grammar of EDN, for the forms that are built.
+-- What spells an item, and what spells a sequence: the grammar of EDN.
 --   seq       = S [item *(MSC item) SOC]
 --   one-item  = S item S
---   item      = map / array / number / string / stream
+--   item      = map / array / tagged / number / simple / string / stream
 --   array     = "[" (specms S item *(MSC item) SOC / spec S) "]"
 --   map       = "{" (specms S keyp *(MSC keyp) SOC / spec S) "}"
 --   keyp      = item S ":" S item
+--   tagged    = uint spec "(" S item S ")"        uint = "0" / DIGIT1 *DIGIT, below 2^64
+--   simple    = "false" / "true" / "null" / "undefined" / "simple(" S item S ")"
 --   stream    = "(_" MS string *(MSC string) SOC ")"
 --   string    = piece *(S "+" S piece)
 --   piece     = (dquoted / [prefix] squoted / "<<" seq ">>") spec / 3*"."
---   number    = (hexfloat / hexint / octint / binint / decnumber) spec
+--   number    = (hexfloat / hexint / octint / binint / decnumber / "Infinity" / "-Infinity" / "NaN") spec
 --   specms    = ["_" word MS]
-use Rattle.std.specs.Prelude.{ℕ, List, [], ◌∷◌, ◌≡◌, ◌++◌, Option, Some, None}
+use Rattle.std.specs.Prelude.{ℕ, ◌<◌, ◌^◌, List, [], ◌∷◌, ◌≡◌, ◌++◌, Option, Some, None}
+use Rattle.std.specs.Fmt.{decimal}
 use Rattle.cbor_edn_parts.specs.declared.indicator.Indicator.{Indicator}
 use Rattle.cbor_edn_parts.specs.Indicator.{indicator_text}
 use Rattle.cbor_edn_parts.specs.Space.{IsS, IsMs, IsMsc, IsSoc}
 use Rattle.cbor_edn_parts.specs.Number.{IsNumber}
 use Rattle.cbor_edn_parts.specs.Literal.{IsQuoted, AreDots}
-use Rattle.cbor_edn_core.specs.Items.{Bracketed, Array, Map, Sort, Item, Node, Number, Listed, String, Stream, Literal, Dots, Embedded, LastPiece, Plus, Element, Pair, Chunk, End, Then, Items}
+use Rattle.cbor_edn_core.specs.Items.{Name, False, True, Null, Undefined, Bracketed, Array, Map, Sort, Item, Node, Number, Listed, Tagged, Named, Simple, String, Stream, Literal, Dots, Embedded, LastPiece, Plus, Element, Pair, Chunk, End, Then, Items}
 
 -- the bytes that open and end a list
 abbrev pub opening : Bracketed → ℕ
@@ -26,6 +29,17 @@ opening Map = 123
 abbrev pub ending : Bracketed → ℕ
 ending Array = 93
 ending Map = 125
+
+-- "false" / "true" / "null" / "undefined"
+abbrev pub name_text : Name → List ℕ
+name_text False = 102 ∷ 97 ∷ 108 ∷ 115 ∷ 101 ∷ []
+name_text True = 116 ∷ 114 ∷ 117 ∷ 101 ∷ []
+name_text Null = 110 ∷ 117 ∷ 108 ∷ 108 ∷ []
+name_text Undefined = 117 ∷ 110 ∷ 100 ∷ 101 ∷ 102 ∷ 105 ∷ 110 ∷ 101 ∷ 100 ∷ []
+
+-- "simple"
+abbrev pub simple_text : List ℕ
+simple_text = 115 ∷ 105 ∷ 109 ∷ 112 ∷ 108 ∷ 101 ∷ []
 
 -- specms
 abbrev pub IsSpecms : Option Indicator → List ℕ → Type 0
@@ -38,6 +52,9 @@ unfoldable mutual
   Spells (Number x i) t = IsNumber x × (t ≡ x ++ indicator_text i)
   Spells (Listed k i End) t = (s : List ℕ) × IsS s × (t ≡ opening k ∷ (indicator_text i ++ (s ++ (ending k ∷ []))))
   Spells (Listed k i (Then e m)) t = (h s a b : List ℕ) × IsSpecms i h × IsS s × Spells e a × Spells m b × (t ≡ opening k ∷ (h ++ (s ++ (a ++ (b ++ (ending k ∷ []))))))
+  Spells (Tagged n i w) t = (s a u : List ℕ) × (n < 2 ^ 64) × IsS s × Spells w a × IsS u × (t ≡ decimal n ++ (indicator_text i ++ (40 ∷ (s ++ (a ++ (u ++ (41 ∷ [])))))))
+  Spells (Named b) t = t ≡ name_text b
+  Spells (Simple w) t = (s a u : List ℕ) × IsS s × Spells w a × IsS u × (t ≡ simple_text ++ (40 ∷ (s ++ (a ++ (u ++ (41 ∷ []))))))
   Spells (String w) t = Spells w t
   Spells (Stream End) t = ⊥
   Spells (Stream (Then e m)) t = (ms a b : List ℕ) × IsMs ms × Spells e a × Spells m b × (t ≡ 40 ∷ 95 ∷ (ms ++ (a ++ (b ++ (41 ∷ [])))))

@@ -96,6 +96,16 @@ pub record IsHexFloat (text : List ℕ) : Type 0 where
   pub exponent_is : IsBinaryExponent exponent
   pub spelled : text ≡ sign_text sign ++ (prefix ++ (mantissa ++ exponent))
 
+-- "Infinity", "-Infinity" and "NaN"
+abbrev pub infinity : List ℕ
+infinity = 73 ∷ 110 ∷ 102 ∷ 105 ∷ 110 ∷ 105 ∷ 116 ∷ 121 ∷ []
+
+abbrev pub negative_infinity : List ℕ
+negative_infinity = 45 ∷ infinity
+
+abbrev pub nan : List ℕ
+nan = 78 ∷ 97 ∷ 78 ∷ []
+
 -- number = hexfloat / hexint / octint / binint / decnumber
 pub data IsNumber (text : List ℕ) : Type 0 where
   integer : IsInteger text → IsNumber text
