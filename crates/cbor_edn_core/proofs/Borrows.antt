@@ -1,6 +1,6 @@
 -- A list that is made of borrowed parts is borrowed.
 use Rattle.std.proofs.Common.{◌≡◌, List, [], ◌∷◌, ◌++◌, subst, sym, ap, ◌∙◌}
-use Rattle.cbor_edn_parts.specs.Leaves.{BorrowsS, BorrowsMs, BorrowsMsc, BorrowsSoc}
+use Rattle.cbor_edn_parts.specs.Leaves.{BorrowsS, BorrowsMsc, BorrowsSoc}
 use Rattle.cbor_edn_parts.specs.declared.space.S.{S}
 use Rattle.cbor_edn_parts.specs.declared.space.Ms.{Ms}
 use Rattle.cbor_edn_parts.specs.declared.space.Msc.{Msc}
@@ -17,11 +17,8 @@ use Rattle.cbor_edn_core.specs.declared.tree.Kp.{Kp}
 use Rattle.cbor_edn_core.specs.declared.tree.Pairs.{Pairs, Pairs', outs-Pairs', out-Pairs, roll-Pairs, out-roll-Pairs, Row_of-Pairs-row-2, end_of-Pairs-row-2, more_of-Pairs-row-2, items-the_row-Pairs-row-2, items_shown-the_row-Pairs-row-2-2}
 use Rattle.cbor_edn_core.specs.declared.tree.CborString.{CborString, Row_of-CborString-row-3, end_of-CborString-row-3, more_of-CborString-row-3, items-the_row-CborString-row-3, items_shown-the_row-CborString-row-3-0, items_hidden-the_row-CborString-row-3-0}
 use Rattle.cbor_edn_core.specs.declared.tree.Piece.{Piece}
-use Rattle.cbor_edn_core.specs.declared.tree.Stream.{Stream, Stream', outs-Stream', out-Stream, roll-Stream, out-roll-Stream}
 use Rattle.cbor_edn_core.specs.declared.tree.Strings.{Strings, Strings', outs-Strings', out-Strings, roll-Strings, out-roll-Strings, Row_of-Strings-row-2, end_of-Strings-row-2, more_of-Strings-row-2, items-the_row-Strings-row-2, items_shown-the_row-Strings-row-2-3}
-use Rattle.cbor_edn_core.specs.declared.tree.SequenceOf.{SequenceOf, SequenceOf', outs-SequenceOf', out-SequenceOf, roll-SequenceOf, out-roll-SequenceOf, Held-SequenceOf-items, view-SequenceOf-items}
-use Rattle.cbor_edn_core.specs.declared.tree.SequenceOf as sequence
-use Rattle.cbor_edn_core.specs.Borrowed.{BorrowsInner, BorrowsItem, BorrowsItems, BorrowsRow, BorrowsEach, BorrowsPair, BorrowsPairs, BorrowsPairRow, BorrowsEachPair, BorrowsPiece, BorrowsPieces, BorrowsEachPiece, BorrowsString, BorrowsStrings, BorrowsStringRow, BorrowsEachString, BorrowsStream, BorrowsSequence, BorrowsHeld, BorrowsSome}
+use Rattle.cbor_edn_core.specs.Borrowed.{BorrowsInner, BorrowsItem, BorrowsItems, BorrowsRow, BorrowsEach, BorrowsPair, BorrowsPairs, BorrowsPairRow, BorrowsEachPair, BorrowsPiece, BorrowsPieces, BorrowsEachPiece, BorrowsString, BorrowsStrings, BorrowsStringRow, BorrowsEachString}
 use Rattle.cbor_edn_core.specs.View.{Item}
 
 borrows_row : {n : _} (row : Row_of-Items-row-2 Texts S Ms Msc Soc Number Literal Dots n) → BorrowsEach (items-the_row-Items-row-2 Texts S Ms Msc Soc Number Literal Dots n row) → BorrowsRow row
@@ -105,23 +102,3 @@ borrows_strings_made x f is each one end =
 pub borrows_string_push : (ps : List (CborString Texts S Ms Msc Soc Number Literal Dots × Msc)) (p : CborString Texts S Ms Msc Soc Number Literal Dots × Msc) → BorrowsEachString ps → BorrowsString p.0 → BorrowsMsc p.1 → BorrowsEachString (ps ++ p ∷ [])
 borrows_string_push [] p all string separator = (string, separator, tt)
 borrows_string_push (q ∷ ps) p all string separator = (all.0, all.1, borrows_string_push ps p all.2 string separator)
-
-borrows_stream_out : (x : Stream Texts S Ms Msc Soc Number Literal Dots) → BorrowsMs (out-Stream Texts S Ms Msc Soc Number Literal Dots x).ms → BorrowsStrings (out-Stream Texts S Ms Msc Soc Number Literal Dots x).strings → BorrowsStream x
-borrows_stream_out (Stream' ms strings) space all = let e = outs-Stream' ms strings in (subst BorrowsMs (ap (λ f. f.ms) e) space, subst BorrowsStrings (ap (λ f. f.strings) e) all)
-
-pub borrows_stream_made : (x : Stream Texts S Ms Msc Soc Number Literal Dots) (f : _) → x ≡ roll-Stream Texts S Ms Msc Soc Number Literal Dots f → BorrowsMs f.ms → BorrowsStrings f.strings → BorrowsStream x
-borrows_stream_made x f is space all =
-    let e = sym (ap (out-Stream Texts S Ms Msc Soc Number Literal Dots) is ∙ out-roll-Stream Texts S Ms Msc Soc Number Literal Dots f) in
-    borrows_stream_out x (subst BorrowsMs (ap (λ g. g.ms) e) space) (subst BorrowsStrings (ap (λ g. g.strings) e) all)
-
-borrows_held : (x : Held-SequenceOf-items Texts S Ms Msc Soc Number Literal Dots) → BorrowsSome (view-SequenceOf-items Texts S Ms Msc Soc Number Literal Dots x) → BorrowsHeld x
-borrows_held sequence.None' h = tt
-borrows_held (sequence.Some' items) h = h
-
-borrows_sequence_out : (x : SequenceOf Texts S Ms Msc Soc Number Literal Dots) → BorrowsS (out-SequenceOf Texts S Ms Msc Soc Number Literal Dots x).before → BorrowsSome (out-SequenceOf Texts S Ms Msc Soc Number Literal Dots x).items → BorrowsSequence x
-borrows_sequence_out (SequenceOf' before items) space some = let e = outs-SequenceOf' before items in (subst BorrowsS (ap (λ f. f.before) e) space, borrows_held items (subst BorrowsSome (ap (λ f. f.items) e) some))
-
-pub borrows_sequence_made : (x : SequenceOf Texts S Ms Msc Soc Number Literal Dots) (f : _) → x ≡ roll-SequenceOf Texts S Ms Msc Soc Number Literal Dots f → BorrowsS f.before → BorrowsSome f.items → BorrowsSequence x
-borrows_sequence_made x f is space some =
-    let e = sym (ap (out-SequenceOf Texts S Ms Msc Soc Number Literal Dots) is ∙ out-roll-SequenceOf Texts S Ms Msc Soc Number Literal Dots f) in
-    borrows_sequence_out x (subst BorrowsS (ap (λ g. g.before) e) space) (subst BorrowsSome (ap (λ g. g.items) e) some)

@@ -37,10 +37,6 @@ too_large i PlusSign n le = not_small n _ _ (omega arith) ∙ if_large n (2 ^ 12
 too_large i MinusSign zero le = absurd (omega arith)
 too_large i MinusSign (suc n) le = not_small n _ _ (omega arith) ∙ if_large (n + 1) (2 ^ 128) _ (omega arith)
 
-numeral_too_large : (numeral : Bool) (i : Option Indicator) (z : ℤ) → means_integer i z ≡ None → (cond numeral (Some z) None >>= means_integer i) ≡ None
-numeral_too_large true i z none = none
-numeral_too_large false i z none = refl
-
 -- a literal of that magnitude, or what is no literal
 pub no_number : (x : List ℕ) (i : Option Indicator) → ((z : ℤ) → integer_of x ≡ Some z → 2 ^ 128 ≤ magnitude_of x) → means (Number x i) ≡ None
 unfolding means integer_of

@@ -1,5 +1,5 @@
 -- What is pushed of an integer is the encoding of what it means.
-use Rattle.std.proofs.Common.{◌≡◌, ℕ, pos, negsuc, ◌+◌, ◌^◌, ◌<◌, ◌≤◌, Bool, true, false, cond, ltb, List, ◌++◌, Option, Some, Result, Ok, Err, refl, sym, ap, subst, ◌∙◌}
+use Rattle.std.proofs.Common.{◌≡◌, ℕ, pos, negsuc, ◌^◌, ◌<◌, ◌≤◌, Bool, true, false, cond, ltb, List, ◌++◌, Option, Some, Result, Ok, Err, refl, sym, ap, ◌∙◌}
 use Rattle.std.proofs.lemmas.Bool.{lt-ltb, le-ltb}
 use Rattle.cbor_edn_parts.specs.declared.error.Fault.{Fault}
 use Rattle.cbor_edn_parts.specs.declared.error.Fault.TheVariants.{Memory, Told}
@@ -36,9 +36,3 @@ large_is n magnitude number i small le lt =
     let large : is_small n ≡ false = le-ltb n (2 ^ 64) le in
     let below : ltb magnitude (2 ^ 128) ≡ true = lt-ltb magnitude (2 ^ 128) lt in
     rw (large, below) refl
-
-pub positive_large : (i : Option Indicator) (n : ℕ) (old new : List ℕ) (r : Pushed) → 2 ^ 64 ≤ n → n < 2 ^ 128 → Encodes encoding (unmarked i (tagged 2 (magnitude_bytes n))) old new r → Encodes encoding (means_integer i (pos n)) old new r
-positive_large i n old new r le lt pushed = subst (λ o. Encodes encoding o old new r) (sym (large_is n n 2 i (width_of i n >>= λ w. Some (unsigned w n)) le lt)) pushed
-
-pub negative_large : (i : Option Indicator) (n : ℕ) (old new : List ℕ) (r : Pushed) → 2 ^ 64 ≤ n → n + 1 < 2 ^ 128 → Encodes encoding (unmarked i (tagged 3 (magnitude_bytes n))) old new r → Encodes encoding (means_integer i (negsuc n)) old new r
-negative_large i n old new r le lt pushed = subst (λ o. Encodes encoding o old new r) (sym (large_is n (n + 1) 3 i (width_of i n >>= λ w. Some (negative w n)) le lt)) pushed

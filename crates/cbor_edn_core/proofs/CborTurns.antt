@@ -52,10 +52,6 @@ regroup : {A : Type 0} → (front : List A) (a : A) (read : Reads (List A)) → 
 regroup {A} front a (Ok x) = ap (λ (as' : List A). Ok (as', x.1)) (simp append_assoc)
 regroup front a (Err f) = refl
 
-pub no_front : {A : Type 0} → (read : Reads (List A)) → read ≡ with_front [] read
-no_front (Ok x) = refl
-no_front (Err f) = refl
-
 ended : {A : Type 0} → (front : List A) (rest : List ℕ) → with_front front (Ok ([], rest)) ≡ Ok (front, rest)
 ended {A} front rest = ap (λ (as' : List A). Ok (as', rest)) (append-nil front)
 

@@ -39,16 +39,9 @@ head_bytes k bs w = head (string_major k) w (length bs)
 abbrev if_sound : Bool → Option Width → StringKind → List ℕ → Option (StringKind × values.Chunk)
 if_sound sound w k bs = cond sound (w >>= given_chunk k bs) None
 
-pub not_sound : (k : StringKind) (bs : List ℕ) (i : Option Indicator) → is_content k bs ≡ false → chunk_of (k, bs) i ≡ None
-not_sound k bs i e = ap (λ b. if_sound b (width_of i (length bs)) k bs) e
-
 pub chunk_pushed : (k : StringKind) (bs : List ℕ) (i : Option Indicator) (old middle new : List ℕ) → is_content k bs ≡ true → Encodes (head_bytes k bs) (width_of i (length bs)) old middle (Ok tt) → new ≡ middle ++ bs → Encodes chunk_bytes (chunk_of (k, bs) i) old new (Ok tt)
 chunk_pushed k bs i old middle new sound (w, width, is) behind =
     ((k, (w, bs)), ap (λ b. if_sound b (width_of i (length bs)) k bs) sound ∙ ap (λ o. if_sound true o k bs) width, behind ∙ ap (λ (l : List ℕ). l ++ bs) is ∙ append_assoc old (head_bytes k bs w) bs)
-
-pub chunk_unfit : (k : StringKind) (bs : List ℕ) (i : Option Indicator) (old middle new : List ℕ) (f : Fault InconsistentEdn) → is_content k bs ≡ true → Encodes (head_bytes k bs) (width_of i (length bs)) old middle (Err f) → Encodes chunk_bytes (chunk_of (k, bs) i) old new (Err f)
-chunk_unfit k bs i old middle new (Told e) sound none = ap (λ b. if_sound b (width_of i (length bs)) k bs) sound ∙ ap (λ o. if_sound true o k bs) none
-chunk_unfit k bs i old middle new (Memory e) sound none = tt
 
 definite : (k : StringKind) (bs : List ℕ) (i : Option Indicator) (old new : List ℕ) (r : Pushed) → Encodes chunk_bytes (chunk_of (k, bs) i) old new r → Encodes encoding (chunk_of (k, bs) i >>= string_value) old new r
 definite k bs i old new (Ok u) (p, is, e) = (values.string p.0 p.1.0 p.1.1, ap (λ o. o >>= string_value) is, e)

@@ -1,7 +1,7 @@
 -- What the reader gives for strings and their pieces, from what it gives for the parts, as the parser meets them.
 use Rattle.std.proofs.Common.{ℕ, zero, suc, List, [], ◌∷◌, ◌++◌, ◌≡◌, ◌≢◌, ◌-◌, ◌<◌, refl, sym, ap, ◌∙◌, arith, map, Ok, Err, true, false, Option}
 use Rattle.std.specs.Prelude.{Bool, eqb, cond}
-use Rattle.std.proofs.lemmas.Bool.{eqb-true}
+use Rattle.std.proofs.lemmas.Bool.{ne_eqb, eqb-true}
 use Rattle.std.proofs.lemmas.List.{map-append}
 use Rattle.cbor_edn_parts.specs.declared.error.ParseErrorKind.TheVariants.{Invalid, TooDeep}
 use Rattle.cbor_edn_parts.specs.declared.error.Refusal.{Refusal}
@@ -18,7 +18,7 @@ use Rattle.cbor_edn_core.specs.Reading.{◌>>=◌, Read, token, byte, not_empty,
 use Rattle.cbor_edn_core.specs.ParserResults.{Fails, IsNotAt, IsUnclosed}
 use Rattle.cbor_edn_core.specs.View.{pieces_onto}
 use Rattle.cbor_edn_core.proofs.Steps.{reads-rule}
-use Rattle.cbor_edn_core.proofs.Turns.{bind_fails, bind_ok, fails_at, not_eqb, byte_there, byte_other}
+use Rattle.cbor_edn_core.proofs.Turns.{bind_fails, bind_ok, fails_at, byte_there, byte_other}
 
 -- a refusal of which only the kind is of use
 abbrev invalid : Fault Refusal
@@ -95,7 +95,7 @@ no_literal = refl
 piece_literal_at : (limit : ℕ) (xs : List ℕ) → IsNotAt 60 xs → IsNotAt 46 xs → reads limit OnePiece xs ≡ literal_piece reads xs
 unfolding piece literal_piece ◌>>=◌
 piece_literal_at limit [] n m = reads-rule limit OnePiece [] ∙ rw no_literal refl
-piece_literal_at limit (c ∷ xs) n m = reads-rule limit OnePiece (c ∷ xs) ∙ rw (not_eqb c 60 n, not_eqb c 46 m) refl
+piece_literal_at limit (c ∷ xs) n m = reads-rule limit OnePiece (c ∷ xs) ∙ rw (ne_eqb c 60 n, ne_eqb c 46 m) refl
 
 pub literal_fails : (e : Fault Refusal) (limit : ℕ) (xs : List ℕ) → IsNotAt 60 xs → IsNotAt 46 xs → Fails e (token literal xs) → Fails e (reads limit OnePiece xs)
 unfolding literal_piece
@@ -158,10 +158,6 @@ embedded_read limit xs ys zs r q o w i some at next h close k =
 abbrev pub with_pieces : List (Tree OnePiece × List ℕ × List ℕ) → Read (Tree OneString) → Read (Tree OneString)
 with_pieces ps (Ok p) = Ok (pieces_onto ps p.0, p.1)
 with_pieces ps (Err e) = Err e
-
-pub with_no_pieces : (r : Read (Tree OneString)) → r ≡ with_pieces [] r
-with_no_pieces (Ok p) = refl
-with_no_pieces (Err e) = refl
 
 pieces_fail : (e : Fault Refusal) (ps : List (Tree OnePiece × List ℕ × List ℕ)) (r : Read (Tree OneString)) → Fails e r → Fails e (with_pieces ps r)
 pieces_fail (Memory m) ps r h = tt

@@ -2,8 +2,7 @@
 use Rattle.std.proofs.Common.{ℕ, zero, suc, List, [], ◌∷◌, ◌++◌, ◌≡◌, ◌≢◌, ◌+◌, ◌-◌, ◌<◌, ◌≤◌, length, drop, refl, sym, ap, ◌∙◌, arith, length-append, length-drop, map, Some, None, Ok, Err, true, false, Option, Result}
 use Rattle.std.specs.Prelude.{eqb, cond}
 use Rattle.std.proofs.lemmas.List.{map-append}
-use Rattle.std.proofs.lemmas.Bool.{false≢true, eqb-true, false_from_ne_true, both_ways}
-use Rattle.std.proofs.lemmas.Bool.Decides.{nat_tests}
+use Rattle.std.proofs.lemmas.Bool.{false≢true, eq-eqb, ne_eqb, eqb-true, false_from_ne_true, both_ways}
 use Rattle.cbor_edn_parts.specs.declared.error.ParseErrorKind.{ParseErrorKind}
 use Rattle.cbor_edn_parts.specs.declared.error.ParseErrorKind.TheVariants.{Invalid, TooDeep}
 use Rattle.cbor_edn_parts.specs.declared.error.Refusal.{Refusal}
@@ -73,26 +72,20 @@ token_behind T text x from to none h begins ends = omega (arith, token_end T tex
 pub scan_read : {State : Type 0} (T : Table State) (xs x q : List ℕ) → lex.token T xs ≡ Some (x, q) → token T xs ≡ Ok (x, q)
 scan_read T xs x q h = rw h
 
-pub not_eqb : (a b : ℕ) → a ≢ b → eqb a b ≡ false
-not_eqb a b ne = grind (arith, nat_tests)
-
-same_eqb : (a : ℕ) → eqb a a ≡ true
-same_eqb a = grind (arith, nat_tests)
-
 pub byte_there : (b : ℕ) (xs ys : List ℕ) → xs ≡ b ∷ ys → byte b xs ≡ Ok ys
 unfolding byte
-byte_there b xs ys e = rw (e, same_eqb b)
+byte_there b xs ys e = rw (e, eq-eqb b b refl)
 
 pub byte_other : (b : ℕ) (xs : List ℕ) → IsNotAt b xs → byte b xs ≡ Err Invalid
 unfolding byte
 byte_other b [] n = refl
-byte_other b (c ∷ xs) n = rw (not_eqb c b n)
+byte_other b (c ∷ xs) n = rw (ne_eqb c b n)
 
 -- items
 
 number_next : (limit : ℕ) (c : ℕ) (xs : List ℕ) → IsNotAt 91 (c ∷ xs) → IsNotAt 123 (c ∷ xs) → IsNotAt 40 (c ∷ xs) → starts_string (c ∷ xs) ≡ false → item reads limit (c ∷ xs) ≡ number_item reads (c ∷ xs)
 unfolding item
-number_next limit c xs a m s n = rw (not_eqb c 91 a, not_eqb c 123 m, not_eqb c 40 s, n)
+number_next limit c xs a m s n = rw (ne_eqb c 91 a, ne_eqb c 123 m, ne_eqb c 40 s, n)
 
 no_number : token number [] ≡ Err Invalid
 unfolding munch
@@ -289,10 +282,6 @@ more_of limit k e (c ∷ s) q n = bind_ok (Ok (c ∷ s)) (c ∷ s) _ refl
 abbrev pub with_row : {k : Row} → List (Tree (OneEntry k) × List ℕ) → Read (Tree (Rest k)) → Read (Tree (Rest k))
 with_row ps (Ok p) = Ok (entries_onto ps p.0, p.1)
 with_row ps (Err e) = Err e
-
-pub with_none : {k : Row} (r : Read (Tree (Rest k))) → r ≡ with_row [] r
-with_none (Ok p) = refl
-with_none (Err e) = refl
 
 with_fails : {k : Row} (e : Fault Refusal) (ps : List (Tree (OneEntry k) × List ℕ)) (r : Read (Tree (Rest k))) → Fails e r → Fails e (with_row ps r)
 with_fails (Memory m) ps r h = tt

@@ -2,7 +2,6 @@
 ghost use Rattle.std.specs.Prelude.{◌≡◌, ◌<◌, ◌≤◌, suc, length, map, option_map, IfOk};
 ghost use Rattle.cbor_edn_parts.specs.Contents.{kind_literal};
 ghost use Rattle.cbor_edn_parts.specs.Leaves.{literal_bytes};
-ghost use Rattle.cbor_edn_core.specs.Value as values;
 ghost use Rattle.cbor_edn_core.specs.View.{texts, view_string, view_strings, item_tree};
 ghost use Rattle.cbor_edn_core.specs.CborReading.{Gives, trees, until, string_at, chunk_at, string_by, string_tree, chunked_tree, shown};
 ghost use Rattle.cbor_edn_core.specs.Growing.{grown};
@@ -11,22 +10,13 @@ use super::CborError;
 use super::finish::finish_strings;
 use super::growing::Growing;
 use super::reader::{Argument, Stop, head_of, indicator_of, past_stop};
-use crate::cbor::Width;
+use crate::cbor::{Width, string_major};
 use crate::tree::{CborString, InnerItem, Item, Piece, Stream, Strings, Texts};
 use cbor_edn_parts::error::Fault;
 use cbor_edn_parts::indicator::Indicator;
 use cbor_edn_parts::space::Ms;
 use cbor_edn_parts::string::{Literal, StringKind};
 use std::alloc::Global;
-
-fn string_major(kind: StringKind) -> u8
-    ensures { result ≡ values.string_major kind }
-{
-    match kind {
-        StringKind::Bytes => 2,
-        StringKind::Text => 3,
-    }
-}
 
 /// The literal of so many bytes.
 fn literal_of<'a, 'b>(

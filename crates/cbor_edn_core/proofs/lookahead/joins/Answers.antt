@@ -1,13 +1,10 @@
-use Rattle.std.proofs.Common.{ℕ, List, [], ◌∷◌, ◌≡◌, ◌≢◌, drop, false, Bool, arith, refl, ◌∙◌}
-use Rattle.std.specs.Prelude.{eqb, not}
-use Rattle.std.proofs.lemmas.Bool.Decides.{nat_tests}
+use Rattle.std.proofs.Common.{ℕ, List, [], ◌∷◌, ◌≡◌, drop, false, Bool, refl, ◌∙◌}
+use Rattle.std.specs.Prelude.{not}
+use Rattle.std.proofs.lemmas.Bool.{ne_eqb}
 use Rattle.cbor_edn_parts.specs.Text.{text_bytes}
 use Rattle.cbor_edn_core.specs.ParserResults.{IsNotAt}
 use Rattle.cbor_edn_core.specs.Trees.{joins, starts_number}
 use Rattle.cbor_edn_core.proofs.lookahead.joins.Goals as goal
-
-not_eqb : (a b : ℕ) → a ≢ b → eqb a b ≡ false
-not_eqb a b ne = grind (arith, nat_tests)
 
 behind_plus : (xs r : List ℕ) (b : Bool) → xs ≡ 43 ∷ r → b ≡ starts_number r → not b ≡ joins xs
 unfolding joins
@@ -16,7 +13,7 @@ behind_plus xs r b here e = rw (here, e) refl
 no_plus : (xs : List ℕ) → IsNotAt 43 xs → false ≡ joins xs
 unfolding joins
 no_plus [] n = refl
-no_plus (c ∷ xs) n = rw (not_eqb c 43 n) refl
+no_plus (c ∷ xs) n = rw (ne_eqb c 43 n) refl
 
 pub returns-then-is_at-clause-value : goal.returns-then-is_at-clause-value
 returns-then-is_at-clause-value c = behind_plus (drop c.args.at (text_bytes c.args.text.now)) _ _ (c.if-is_at.ensures.yes refl).0 c.starts_number.ensures.value

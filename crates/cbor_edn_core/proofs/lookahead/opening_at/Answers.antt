@@ -1,8 +1,7 @@
 use Rattle.std.proofs.Common.{ℕ, List, [], ◌∷◌, ◌≡◌, ◌≢◌, ◌+◌, ◌<◌, drop, true, false, Bool, arith, refl, subst}
 use Rattle.std.specs.Prelude.{eqb, ◌||◌, ◌&&◌}
 use Rattle.std.specs.Str.{IsCharBoundary}
-use Rattle.std.proofs.lemmas.Bool.{false≢true}
-use Rattle.std.proofs.lemmas.Bool.Decides.{nat_tests}
+use Rattle.std.proofs.lemmas.Bool.{ne_eqb, false≢true}
 use Rattle.cbor_edn_parts.specs.Text.{text_bytes}
 use Rattle.cbor_edn_core.specs.Lookahead.{Opens, OpensWith}
 use Rattle.cbor_edn_core.specs.ParserResults.{IsNotAt}
@@ -10,9 +9,6 @@ use Rattle.cbor_edn_core.specs.Reading.{begins_string, starts_dots, starts_strin
 use Rattle.cbor_edn_core.specs.declared.lookahead.Opening.{Opening}
 use Rattle.cbor_edn_core.specs.declared.lookahead.Opening.TheVariants.{Array, Map, Stream, String, Number}
 use Rattle.cbor_edn_core.proofs.lookahead.opening_at.Goals as goal
-
-not_eqb : (a b : ℕ) → a ≢ b → eqb a b ≡ false
-not_eqb a b ne = grind (arith, nat_tests)
 
 or_true : (a b : Bool) → a ≡ true → (a || b) ≡ true
 or_true true b e = refl
@@ -32,12 +28,12 @@ begun c r e = or_true (begins_string c) (eqb c 46 && starts_dots r) e
 
 not_begun : (c : ℕ) (r : List ℕ) → begins_string c ≡ false → c ≢ 46 → starts_string (c ∷ r) ≡ false
 unfolding starts_string
-not_begun c r e n = or_false (begins_string c) (eqb c 46 && starts_dots r) e (and_false (eqb c 46) (starts_dots r) (not_eqb c 46 n))
+not_begun c r e n = or_false (begins_string c) (eqb c 46 && starts_dots r) e (and_false (eqb c 46) (starts_dots r) (ne_eqb c 46 n))
 
 one_dot : (r : List ℕ) → IsNotAt 46 r → starts_string (46 ∷ r) ≡ false
 unfolding starts_string
 one_dot [] n = refl
-one_dot (c ∷ r) n = rw (not_eqb c 46 n) refl
+one_dot (c ∷ r) n = rw (ne_eqb c 46 n) refl
 
 two_dots : (r : List ℕ) → starts_string (46 ∷ 46 ∷ r) ≡ true
 unfolding starts_string
