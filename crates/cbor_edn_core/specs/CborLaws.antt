@@ -1,6 +1,5 @@
 -- The laws of encodings, as contracts name them.
 use Rattle.std.specs.Prelude.{ℕ, List, ◌++◌, ◌≡◌, Some}
-use Rattle.cbor_edn_core.specs.Items.{Node, Item}
 use Rattle.cbor_edn_core.specs.Value.{Value, Fits, Enc}
 use Rattle.cbor_edn_core.specs.Meaning.{means}
 use Rattle.cbor_edn_core.specs.Decoded.{item_of}
@@ -13,4 +12,4 @@ OneEncoding =
 
 -- The item of a value means it.
 abbrev pub ItemMeans : Type 0
-ItemMeans = (v : Value) (x : Node Item) → Fits v → item_of v ≡ Some x → means x ≡ Some v
+ItemMeans = (v : Value) → Fits v → means (item_of v) ≡ Some v

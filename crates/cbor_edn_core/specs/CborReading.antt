@@ -13,14 +13,16 @@ use Rattle.cbor_edn_parts.specs.declared.string.StringKind.TheVariants.{Bytes, T
 use Rattle.cbor_edn_core.specs.declared.cbor.Width.{Width}
 use Rattle.cbor_edn_core.specs.declared.cbor.Width.TheVariants.{Immediate, One, Two, Four, Eight}
 use Rattle.cbor_edn_core.specs.declared.from_cbor.CborError.{CborError}
-use Rattle.cbor_edn_core.specs.declared.from_cbor.CborError.TheVariants.{OutOfData, Reserved, MissingArgument, OtherChunk, OpenChunk, OpenNumber, MisplacedBreak, MissingBytes, InvalidUtf8, DataAfter, TooDeep}
+use Rattle.cbor_edn_core.specs.declared.from_cbor.CborError.TheVariants.{OutOfData, Reserved, MissingArgument, OtherChunk, OpenChunk, OpenNumber, MisplacedBreak, MissingBytes, InvalidUtf8, DataAfter, TooDeep, InvalidSimple, FloatOutOfScope}
 use Rattle.cbor_edn_core.specs.declared.from_cbor.reader.Stop.{Stop}
 use Rattle.cbor_edn_core.specs.declared.from_cbor.reader.Stop.TheVariants.{Break, EndOfData}
 use Rattle.cbor_edn_core.specs.Items as kind
 use Rattle.cbor_edn_core.specs.Items.{Row, Elements, Strings, Bracketed, Array, Map, entries_of}
-use Rattle.cbor_edn_core.specs.Trees.{Tree, OneItem, OneString, OneEntry, Rest, NumberTree, ListTree, StringTree, LiteralTree, LastPieceTree, ElementTree, ChunkTree}
-use Rattle.cbor_edn_core.specs.Value.{Chunk, is_content, string_major, break}
-use Rattle.cbor_edn_core.specs.Decoded.{indicator_of, in_front, inside, key_value, stream_tree}
+use Rattle.cbor_edn_core.specs.Trees.{Tree, OneItem, OneString, OneEntry, Rest, NumberTree, FloatTree, TagTree, ListTree, StringTree, LiteralTree, LastPieceTree, ElementTree, ChunkTree}
+use Rattle.cbor_edn_core.specs.Value.{Chunk, is_content, string_major, break, float_bits, simple_nesting}
+use Rattle.cbor_edn_core.specs.declared.word.NonFinite.{NonFinite}
+use Rattle.cbor_edn_core.specs.declared.word.NonFinite.TheVariants.{Infinity, NegativeInfinity, NaN}
+use Rattle.cbor_edn_core.specs.Decoded.{indicator_of, float_indicator, simple_item, in_front, inside, key_value, stream_tree, alone, regular}
 
 -- what is read, and the bytes behind it
 abbrev pub Reads : Type 0 → Type 0
@@ -132,8 +134,9 @@ pub record Makes (A B : Type 0) : Type 0 where
   pub array : Argument → List A → A
   pub pair : A → A → B
   pub object : Argument → List B → A
-  -- none where tags are not built
-  pub tag : Option (Width → ℕ → A → A)
+  pub tag : Width → ℕ → A → A
+  pub simple : ℕ → A
+  pub float : Width → NonFinite → A
 
 unfoldable pub pair_at : {A B : Type 0} → Makes A B → Reader A → Reader B
 pair_at m one bytes = do
@@ -154,26 +157,38 @@ abbrev pub map_by : {A B : Type 0} → Makes A B → Option (Reader A) → Argum
 map_by m None argument rest = Err TooDeep
 map_by m (Some inner) argument rest = several (pair_at m inner) argument rest >>= λ xs. Ok (m.object argument xs.0, xs.1)
 
-abbrev pub tag_by : {A : Type 0} → (Width → ℕ → A → A) → Option (Reader A) → Argument → Reader A
-tag_by make inner None rest = Err OpenNumber
-tag_by make None (Some (w, n)) rest = Err TooDeep
-tag_by make (Some inner) (Some (w, n)) rest = inner rest >>= λ x. Ok (make w n x.0, x.1)
+abbrev pub tag_by : {A B : Type 0} → Makes A B → Option (Reader A) → Argument → Reader A
+tag_by m inner None rest = Err OpenNumber
+tag_by m None (Some (w, n)) rest = Err TooDeep
+tag_by m (Some inner) (Some (w, n)) rest = inner rest >>= λ x. Ok (m.tag w n x.0, x.1)
 
 abbrev pub string_by : {A B : Type 0} → Makes A B → StringKind → Argument → Reader A
 string_by m k (Some (w, n)) rest = string_at k n rest >>= λ s. Ok (m.string k w s.0, s.1)
 string_by m k None rest = until Break (chunk_at k) (suc (length rest)) rest >>= λ cs. Ok (m.chunks k cs.0, cs.1)
 
--- the items that are not built, and a break where an item has to stand
-abbrev pub if_break : {A : Type 0} → Argument → Reads A
-if_break None = Err MisplacedBreak
-if_break (Some _) = Err Reserved
+-- A simple value: one without a name nests.
+abbrev pub simple_by : {A B : Type 0} → Makes A B → Option (Reader A) → ℕ → Result A CborError
+simple_by m None n = if simple_nesting n == 0 then Ok (m.simple n) else Err TooDeep
+simple_by m (Some inner) n = Ok (m.simple n)
 
-abbrev pub other_by : {A : Type 0} → ℕ → Argument → Reads A
-other_by major argument = if major == 7 then (if_break argument) else Err Reserved
+-- the floating-point number with these bits, if it is read
+abbrev pub float_of : Width → ℕ → Option NonFinite
+float_of w n =
+    if n == float_bits w Infinity then Some Infinity
+    else if n == float_bits w NegativeInfinity then Some NegativeInfinity
+    else if n == float_bits w NaN then Some NaN
+    else None
 
-abbrev pub more_by : {A : Type 0} → Option (Width → ℕ → A → A) → Option (Reader A) → ℕ → Argument → Reader A
-more_by None inner major argument rest = other_by major argument
-more_by (Some make) inner major argument rest = if major == 6 then tag_by make inner argument rest else other_by major argument
+abbrev pub float_by : {A B : Type 0} → Makes A B → Width → Option NonFinite → Result A CborError
+float_by m w None = Err FloatOutOfScope
+float_by m w (Some f) = Ok (m.float w f)
+
+-- Simple values and floating-point numbers, and a break where an item has to stand.
+abbrev pub special_by : {A B : Type 0} → Makes A B → Option (Reader A) → Argument → Result A CborError
+special_by m inner None = Err MisplacedBreak
+special_by m inner (Some (Immediate, n)) = simple_by m inner n
+special_by m inner (Some (One, n)) = if nat_lt n 32 then Err InvalidSimple else simple_by m inner n
+special_by m inner (Some (w, n)) = float_by m w (float_of w n)
 
 unfoldable pub item_by : {A B : Type 0} → Makes A B → Option (Reader A) → ℕ → Argument → Reader A
 item_by m inner major argument rest =
@@ -183,7 +198,8 @@ item_by m inner major argument rest =
     else if major == 3 then string_by m Text argument rest
     else if major == 4 then array_by m inner argument rest
     else if major == 5 then map_by m inner argument rest
-    else more_by m.tag inner major argument rest
+    else if major == 6 then tag_by m inner argument rest
+    else special_by m inner argument >>= λ x. Ok (x, rest)
 
 -- one item, nested no deeper than the number
 unfoldable pub item_at : {A B : Type 0} → Makes A B → ℕ → Reader A
@@ -234,6 +250,10 @@ chunks_tree k cs = chunked_tree k (string_row (map (string_tree k) cs))
 abbrev pub list_tree : (k : Bracketed) → Argument → Option (Tree (Rest (entries_of k))) → Tree OneItem
 list_tree k argument m = ListTree k (inside (argument_indicator argument) m)
 
+-- a simple value by its name, or by its number in `simple(..)`
+abbrev pub simple_tree : ℕ → Tree OneItem
+simple_tree n = regular (simple_item n)
+
 -- the trees of items
 abbrev pub trees : Makes (Tree OneItem) (Tree (OneEntry kind.Pairs))
 trees = record {
@@ -244,7 +264,9 @@ trees = record {
   array = λ argument ws. list_tree Array argument (element_row ws);
   pair = key_value;
   object = λ argument es. list_tree Map argument (row_of es);
-  tag = None;
+  tag = λ w n t. TagTree n (indicator_of w n) (alone t);
+  simple = simple_tree;
+  float = λ w f. FloatTree f (float_indicator w);
 }
 
 -- An item with nothing behind it.

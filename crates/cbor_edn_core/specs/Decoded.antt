@@ -1,5 +1,5 @@
 -- The item that a value is decoded as, with the spaces that it is given.
-use Rattle.std.specs.Prelude.{ℕ, pos, negsuc, ◌≡◌, ◌++◌, ◌^◌, ◌≤◌, ◌<◌, nat_lt, nat_le, if◌then◌else◌, count_by, length, List, [], ◌∷◌, Option, Some, None}
+use Rattle.std.specs.Prelude.{ℕ, pos, negsuc, ◌≡◌, ◌++◌, ◌^◌, ◌≤◌, ◌<◌, nat_lt, nat_le, ◌==◌, if◌then◌else◌, count_by, length, List, [], ◌∷◌, Option, Some, None}
 use Rattle.std.specs.Fmt.{signed_decimal}
 use Rattle.cbor_edn_parts.specs.declared.indicator.Indicator.{Indicator}
 use Rattle.cbor_edn_parts.specs.declared.indicator.Indicator.TheVariants as indicator
@@ -7,12 +7,13 @@ use Rattle.cbor_edn_parts.specs.Contents.{kind_literal, empty_literal}
 use Rattle.cbor_edn_parts.specs.declared.string.StringKind.{StringKind}
 use Rattle.cbor_edn_core.specs.declared.cbor.Width.{Width}
 use Rattle.cbor_edn_core.specs.declared.cbor.Width.TheVariants.{Immediate, One, Two, Four, Eight}
+use Rattle.cbor_edn_core.specs.declared.word.NamedSimple.TheVariants.{False, True, Null, Undefined}
 use Rattle.cbor_edn_core.specs.Items as kind
-use Rattle.cbor_edn_core.specs.Items.{Row, Elements, Strings, Bracketed, Array, Map, entries_of, Sort, Item, Piece, Pieces, Entry, Entries, Node, Number, Listed, String, Stream, Literal, Dots, Embedded, LastPiece, Plus, Element, Pair, Chunk, End, Then, Items}
-use Rattle.cbor_edn_core.specs.Trees.{Tree, OneItem, OnePiece, OneString, OneEntry, Inside, Rest, Seq, Standalone, Head, Unmarked, Marked, NumberTree, ListTree, StringTree, StreamTree, LiteralTree, DotsTree, EmbeddedTree, LastPieceTree, PlusTree, ElementTree, PairTree, ChunkTree, EmptyTree, FullTree, LastTree, MoreTree, NothingTree, SequenceTree, StandaloneTree, items}
+use Rattle.cbor_edn_core.specs.Items.{Row, Elements, Strings, Bracketed, Array, Map, entries_of, Sort, Item, Piece, Pieces, Entry, Entries, Node, Number, Float, Listed, Tagged, Named, Simple, String, Stream, Literal, Dots, Embedded, LastPiece, Plus, Element, Pair, Chunk, End, Then, Items}
+use Rattle.cbor_edn_core.specs.Trees.{Tree, OneItem, OnePiece, OneString, OneEntry, Inside, Rest, Seq, Standalone, Head, Unmarked, Marked, NumberTree, FloatTree, TagTree, NamedTree, SimpleTree, ListTree, StringTree, StreamTree, LiteralTree, DotsTree, EmbeddedTree, LastPieceTree, PlusTree, ElementTree, PairTree, ChunkTree, EmptyTree, FullTree, LastTree, MoreTree, NothingTree, SequenceTree, StandaloneTree, items}
 use Rattle.cbor_edn_core.specs.Value as values
-use Rattle.cbor_edn_core.specs.Value.{Value, unsigned, negative, string, chunks, array, object, Values, no_values, value, values_len, Pairs, no_pairs, pair, pairs_len, nesting, values_nesting, Enc, EncAll}
-use Rattle.cbor_edn_core.specs.Meaning.{◌>>=◌, means}
+use Rattle.cbor_edn_core.specs.Value.{Value, unsigned, negative, string, chunks, array, object, tag, simple, float, Values, no_values, value, values_len, Pairs, no_pairs, pair, pairs_len, nesting, values_nesting, Enc, EncAll}
+use Rattle.cbor_edn_core.specs.Meaning.{means}
 
 -- ---- items
 
@@ -45,25 +46,43 @@ abbrev pub chunked_item : StringKind → List values.Chunk → Node Item
 chunked_item k [] = String (LastPiece (Literal (empty_literal k) (Some indicator.Indefinite)))
 chunked_item k (c ∷ cs) = Stream (chunk_items k (c ∷ cs))
 
--- The item of a value, for the values whose heads are decoded: integers in decimal, and indicators only where they are needed.
--- That of 18 0a is `10_0`, that of 9f 01 ff `[_ 1]`, and that of 5f 41 61 ff `(_ h'61')`.
+-- a simple value: by its name, or its number in `simple(..)`
+abbrev pub simple_item : ℕ → Node Item
+simple_item n =
+    if n == 20 then Named False
+    else if n == 21 then Named True
+    else if n == 22 then Named Null
+    else if n == 23 then Named Undefined
+    else Simple (Number (signed_decimal (pos n)) None)
+
+-- the indicator of a floating-point number, which is always printed
+abbrev pub float_indicator : Width → Option Indicator
+float_indicator Two = Some indicator.Two
+float_indicator Four = Some indicator.Four
+float_indicator Eight = Some indicator.Eight
+float_indicator _ = None
+
+-- The item of a value: integers in decimal, and indicators only where they are needed, but on each floating-point number.
+-- That of 18 0a is `10_0`, that of 9f 01 ff `[_ 1]`, that of 5f 41 61 ff `(_ h'61')`, and that of f9 7e 00 `NaN_1`.
 abbrev mutual
-  pub item_of : Value → Option (Node Item)
-  item_of (unsigned w n) = Some (Number (signed_decimal (pos n)) (indicator_of w n))
-  item_of (negative w n) = Some (Number (signed_decimal (negsuc n)) (indicator_of w n))
-  item_of (string k w bs) = Some (String (string_item k (w, bs)))
-  item_of (chunks k cs) = Some (chunked_item k cs)
-  item_of (array w vs) = items_of vs >>= λ m. Some (Listed Array (list_indicator w (values_len vs)) m)
-  item_of (object w ps) = pairs_of ps >>= λ m. Some (Listed Map (list_indicator w (pairs_len ps)) m)
-  item_of _ = None
+  pub item_of : Value → Node Item
+  item_of (unsigned w n) = Number (signed_decimal (pos n)) (indicator_of w n)
+  item_of (negative w n) = Number (signed_decimal (negsuc n)) (indicator_of w n)
+  item_of (string k w bs) = String (string_item k (w, bs))
+  item_of (chunks k cs) = chunked_item k cs
+  item_of (array w vs) = Listed Array (list_indicator w (values_len vs)) (items_of vs)
+  item_of (object w ps) = Listed Map (list_indicator w (pairs_len ps)) (pairs_of ps)
+  item_of (tag w n v) = Tagged n (indicator_of w n) (item_of v)
+  item_of (simple n) = simple_item n
+  item_of (float w f) = Float f (float_indicator w)
 
-  pub items_of : Values → Option Items
-  items_of no_values = Some End
-  items_of (value v vs) = item_of v >>= λ x. items_of vs >>= λ m. Some (Then (Element x) m)
+  pub items_of : Values → Items
+  items_of no_values = End
+  items_of (value v vs) = Then (Element (item_of v)) (items_of vs)
 
-  pub pairs_of : Pairs → Option (Node (Entries kind.Pairs))
-  pairs_of no_pairs = Some End
-  pairs_of (pair k v ps) = item_of k >>= λ x. item_of v >>= λ y. pairs_of ps >>= λ m. Some (Then (Pair x y) m)
+  pub pairs_of : Pairs → Node (Entries kind.Pairs)
+  pairs_of no_pairs = End
+  pairs_of (pair k v ps) = Then (Pair (item_of k) (item_of v)) (pairs_of ps)
 
 -- ---- their spaces
 
@@ -94,6 +113,10 @@ abbrev pub stream_tree : Option (Tree (Rest Strings)) → Tree OneItem
 stream_tree None = StringTree (LastPieceTree (LiteralTree [] None))
 stream_tree (Some m) = StreamTree (32 ∷ []) m
 
+-- an item without space round it
+abbrev pub alone : Tree OneItem → Tree Standalone
+alone w = StandaloneTree [] w []
+
 -- an embedded sequence
 abbrev pub embedded_tree : Option (Tree (Rest Elements)) → Option Indicator → Tree OnePiece
 embedded_tree m i = EmbeddedTree (sequence_tree_of m) i
@@ -108,7 +131,11 @@ Regular (Entries k) = Option (Tree (Rest k))
 -- An item with the spaces of a single line, as in `[_ 1, {2: 3}]`; of a row what stands behind the first space of its list, if anything.
 unfoldable pub regular : {s : Sort} → Node s → Regular s
 regular (Number x i) = NumberTree x i
+regular (Float f i) = FloatTree f i
 regular (Listed k i m) = ListTree k (inside i (regular m))
+regular (Tagged n i w) = TagTree n i (alone (regular w))
+regular (Named b) = NamedTree b
+regular (Simple w) = SimpleTree (alone (regular w))
 regular (String w) = StringTree (regular w)
 regular (Stream m) = stream_tree (regular m)
 regular (Literal x i) = LiteralTree x i
@@ -122,10 +149,6 @@ regular (Chunk w) = ChunkTree (regular w)
 regular End = None
 regular (Then e m) = Some (in_front (regular e) (regular m))
 
--- an item without space round it
-abbrev pub alone : Tree OneItem → Tree Standalone
-alone w = StandaloneTree [] w []
-
 abbrev pub regular_sequence : Items → Tree Seq
 regular_sequence m = sequence_tree_of (regular m)
 
@@ -137,27 +160,27 @@ Begins bytes rest v = (front : List ℕ) × Enc front v × (bytes ≡ front ++ r
 
 -- The tree is that of a value that is encoded so and nests no deeper than the limit, and it means this value.
 abbrev pub IsDecoded : ℕ → (Value → Type 0) → Tree OneItem → Type 0
-IsDecoded limit Encoded w = (v : Value) × (x : Node Item) × Encoded v × (nesting v ≤ limit) × (item_of v ≡ Some x) × (w ≡ regular x) × (means (items w) ≡ Some v)
+IsDecoded limit Encoded w = (v : Value) × Encoded v × (nesting v ≤ limit) × (w ≡ regular (item_of v)) × (means (items w) ≡ Some v)
 
 abbrev pub IsDecodedSequence : ℕ → List ℕ → Tree Seq → Type 0
-IsDecodedSequence limit bytes w = (vs : Values) × (m : Items) × EncAll bytes vs × (values_nesting vs ≤ limit) × (items_of vs ≡ Some m) × (w ≡ regular_sequence m) × (means (items w) ≡ Some vs)
+IsDecodedSequence limit bytes w = (vs : Values) × EncAll bytes vs × (values_nesting vs ≤ limit) × (w ≡ regular_sequence (items_of vs)) × (means (items w) ≡ Some vs)
 
 -- ---- refusals
 
--- No value that has an item is encoded so.
+-- No value is encoded so.
 abbrev pub NoneIs : (Value → Type 0) → Type 0
-NoneIs Encoded = (v : Value) (x : Node Item) → item_of v ≡ Some x → Encoded v → ⊥
+NoneIs Encoded = (v : Value) → Encoded v → ⊥
 
 -- how many bytes are 80 (hexadecimal) or more: only such bytes are heads of what nests
 abbrev pub high_bytes : List ℕ → ℕ
 high_bytes bytes = count_by (λ b. nat_le 128 b) bytes
 
--- More than `limit` bytes can be heads of what nests, and each value that has an item and is encoded so nests deeper.
+-- More than `limit` bytes can be heads of what nests, and each value that is encoded so nests deeper.
 abbrev pub IsTooDeep : ℕ → List ℕ → (Value → Type 0) → Type 0
-IsTooDeep limit bytes Encoded = (limit < high_bytes bytes) × ((v : Value) (x : Node Item) → item_of v ≡ Some x → Encoded v → limit < nesting v)
+IsTooDeep limit bytes Encoded = (limit < high_bytes bytes) × ((v : Value) → Encoded v → limit < nesting v)
 
 abbrev pub NoSequence : List ℕ → Type 0
-NoSequence bytes = (vs : Values) (m : Items) → items_of vs ≡ Some m → EncAll bytes vs → ⊥
+NoSequence bytes = (vs : Values) → EncAll bytes vs → ⊥
 
 abbrev pub IsTooDeepSequence : ℕ → List ℕ → Type 0
-IsTooDeepSequence limit bytes = (limit < high_bytes bytes) × ((vs : Values) (m : Items) → items_of vs ≡ Some m → EncAll bytes vs → limit < values_nesting vs)
+IsTooDeepSequence limit bytes = (limit < high_bytes bytes) × ((vs : Values) → EncAll bytes vs → limit < values_nesting vs)

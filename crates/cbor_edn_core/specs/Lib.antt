@@ -17,3 +17,4 @@ pub mod Spelling
 pub mod Trees
 pub mod Value
 pub mod View
+pub mod Words

@@ -1,16 +1,18 @@
 -- What begins at a place, in the words of the grammar.
-use Rattle.std.specs.Prelude.{ℕ, ◌≡◌, ◌≢◌, true, false, List, drop}
+use Rattle.std.specs.Prelude.{ℕ, ◌≡◌, ◌≢◌, true, false, List, drop, Some, None}
+use Rattle.std.specs.Str.{IsCharBoundary}
 use Rattle.cbor_edn_core.specs.ParserResults.{IsByteAt, IsNotAt}
-use Rattle.cbor_edn_core.specs.Reading.{begins_string, starts_string}
+use Rattle.cbor_edn_core.specs.Reading.{begins_string, starts_string, word_at}
 use Rattle.cbor_edn_core.specs.declared.lookahead.Opening.{Opening}
-use Rattle.cbor_edn_core.specs.declared.lookahead.Opening.TheVariants.{Array, Map, Stream, String, Number}
+use Rattle.cbor_edn_core.specs.declared.lookahead.Opening.TheVariants.{Array, Map, Stream, Word, String, Number}
 
 abbrev pub Opens : List ℕ → ℕ → Opening → Type 0
 Opens text at Array = IsByteAt text at 91
 Opens text at Map = IsByteAt text at 123
 Opens text at Stream = IsByteAt text at 40
-Opens text at String = starts_string (drop at text) ≡ true
-Opens text at Number = IsNotAt 91 (drop at text) × IsNotAt 123 (drop at text) × IsNotAt 40 (drop at text) × (starts_string (drop at text) ≡ false)
+Opens text at (Word w to) = (word_at (drop at text) ≡ Some (w, drop to text)) × IsCharBoundary text to
+Opens text at String = (word_at (drop at text) ≡ None) × (starts_string (drop at text) ≡ true)
+Opens text at Number = IsNotAt 91 (drop at text) × IsNotAt 123 (drop at text) × IsNotAt 40 (drop at text) × (word_at (drop at text) ≡ None) × (starts_string (drop at text) ≡ false)
 
 -- the same of a byte that is no dot
 abbrev pub OpensWith : ℕ → Opening → Type 0

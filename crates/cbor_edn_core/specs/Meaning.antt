@@ -1,5 +1,5 @@
 -- What items mean: a CBOR value, its heads as the encoding indicators say, or nothing.
-use Rattle.std.specs.Prelude.{ℕ, ℤ, pos, negsuc, zero, suc, ◌+◌, ◌^◌, Bool, true, false, List, [], ◌∷◌, ◌++◌, ◌&&◌, is_none, length, Option, Some, None, nat_lt, if◌then◌else◌}
+use Rattle.std.specs.Prelude.{ℕ, ℤ, pos, negsuc, zero, suc, ◌+◌, ◌^◌, Bool, true, false, List, [], ◌∷◌, ◌++◌, ◌&&◌, is_none, length, Option, Some, None, ◌||◌, nat_le, nat_lt, if◌then◌else◌}
 use Rattle.std.specs.Int.{w128, to_be_bytes}
 use Rattle.cbor_edn_parts.specs.declared.indicator.Indicator.{Indicator}
 use Rattle.cbor_edn_parts.specs.declared.indicator.Indicator.TheVariants as indicator
@@ -7,11 +7,14 @@ use Rattle.cbor_edn_parts.specs.Number.{integer_of}
 use Rattle.cbor_edn_parts.specs.Contents.{Content, literal_content}
 use Rattle.cbor_edn_parts.specs.declared.string.StringKind.{StringKind}
 use Rattle.cbor_edn_parts.specs.declared.string.StringKind.TheVariants.{Bytes, Text}
+use Rattle.cbor_edn_core.specs.declared.word.NamedSimple.{NamedSimple}
+use Rattle.cbor_edn_core.specs.declared.word.NamedSimple.TheVariants.{False, True, Null, Undefined}
+use Rattle.cbor_edn_core.specs.declared.word.NonFinite.{NonFinite}
 use Rattle.cbor_edn_core.specs.declared.cbor.Width.{Width}
 use Rattle.cbor_edn_core.specs.declared.cbor.Width.TheVariants.{Immediate, One, Two, Four, Eight}
-use Rattle.cbor_edn_core.specs.Items.{Row, Elements, Pairs, Strings, Bracketed, Array, Map, entries_of, Sort, Item, Piece, Pieces, Entry, Entries, Node, Number, Listed, String, Stream, Literal, Dots, Embedded, LastPiece, Plus, Element, Pair, Chunk, End, Then}
+use Rattle.cbor_edn_core.specs.Items.{Row, Elements, Pairs, Strings, Bracketed, Array, Map, entries_of, Sort, Item, Piece, Pieces, Entry, Entries, Node, Number, Float, Listed, Tagged, Named, Simple, String, Stream, Literal, Dots, Embedded, LastPiece, Plus, Element, Pair, Chunk, End, Then}
 use Rattle.cbor_edn_core.specs.Value as values
-use Rattle.cbor_edn_core.specs.Value.{Value, unsigned, negative, string, chunks, is_content, array, object, tag, Values, no_values, value, values_len, no_pairs, pair, pairs_len, limit_of, encodings}
+use Rattle.cbor_edn_core.specs.Value.{Value, unsigned, negative, string, chunks, is_content, array, object, tag, simple, float, Values, no_values, value, values_len, no_pairs, pair, pairs_len, limit_of, encodings}
 
 infixl 10 ◌>>=◌
 abbrev pub ◌>>=◌ : {A B : Type 0} → Option A → (A → Option B) → Option B
@@ -74,6 +77,47 @@ bignum number n magnitude i = if nat_lt magnitude (2 ^ 128) then (unmarked i (ta
 abbrev pub means_integer : Option Indicator → ℤ → Option Value
 means_integer i (pos n) = if nat_lt n (2 ^ 64) then (width_of i n >>= λ w. Some (unsigned w n)) else bignum 2 n n i
 means_integer i (negsuc n) = if nat_lt n (2 ^ 64) then (width_of i n >>= λ w. Some (negative w n)) else bignum 3 n (n + 1) i
+
+-- ---- floating-point and simple values
+
+-- The width of a floating-point number: two bytes without an indicator.
+abbrev pub float_width : Option Indicator → Option Width
+float_width None = Some Two
+float_width (Some indicator.Two) = Some Two
+float_width (Some indicator.Four) = Some Four
+float_width (Some indicator.Eight) = Some Eight
+float_width _ = None
+
+abbrev pub means_float : Option Indicator → NonFinite → Option Value
+means_float i f = float_width i >>= λ w. Some (float w f)
+
+abbrev pub named_number : NamedSimple → ℕ
+named_number False = 20
+named_number True = 21
+named_number Null = 22
+named_number Undefined = 23
+
+abbrev pub is_simple : ℕ → Bool
+is_simple n = nat_lt n 24 || (nat_le 32 n && nat_lt n 256)
+
+-- no indicator, or the shortest one: `_i` up to 23 and `_0` above
+abbrev pub is_shortest : Option Indicator → ℕ → Bool
+is_shortest None n = true
+is_shortest (Some indicator.Immediate) n = nat_lt n 24
+is_shortest (Some indicator.One) n = nat_le 24 n
+is_shortest _ n = false
+
+abbrev pub simple_number : Option Indicator → ℤ → Option ℕ
+simple_number i (pos n) = if is_simple n && is_shortest i n then Some n else None
+simple_number i (negsuc n) = None
+
+abbrev pub simple_of : List ℕ → Option Indicator → Option ℕ
+simple_of x i = integer_of x >>= simple_number i
+
+-- `simple(..)`: an integer literal alone stands in it
+abbrev pub means_simple : Node Item → Option Value
+means_simple (Number x i) = simple_of x i >>= λ n. Some (simple n)
+means_simple _ = None
 
 -- ---- strings
 
@@ -168,6 +212,10 @@ one_more Strings c cs = c ∷ cs
 -- `negative Immediate 0`; `"a" + 'b'` means the text 61 62; `24_i` means nothing.
 unfoldable pub means : {s : Sort} → Node s → Option (MeaningOf s)
 means (Number x i) = integer_of x >>= means_integer i
+means (Float f i) = means_float i f
+means (Tagged n i w) = width_of i n >>= λ d. means w >>= λ v. Some (tag d n v)
+means (Named b) = Some (simple (named_number b))
+means (Simple w) = means_simple w
 means (Listed k i m) = means m >>= listed k i
 means (String w) = means w >>= λ c. pieces_mark w >>= string_of c
 means (Stream m) = means m >>= stream_of

@@ -1,5 +1,5 @@
 -- The plain reader on lists, rule by rule. It knows how deep lists may nest.
-use Rattle.std.specs.Prelude.{ℕ, suc, zero, Bool, false, cond, eqb, ◌||◌, ◌&&◌, nat_le, List, [], ◌∷◌, Option, Some, None, Result, Ok, Err, ◌+◌, ◌*◌, length}
+use Rattle.std.specs.Prelude.{ℕ, suc, zero, Bool, false, cond, eqb, ◌||◌, ◌&&◌, nat_le, nat_lt, ◌^◌, List, [], ◌∷◌, Option, Some, None, Result, Ok, Err, ◌+◌, ◌*◌, length}
 use Rattle.cbor_edn_parts.specs.declared.error.ParseErrorKind.{ParseErrorKind}
 use Rattle.cbor_edn_parts.specs.declared.error.ParseErrorKind.TheVariants.{Invalid, TooDeep}
 use Rattle.cbor_edn_parts.specs.declared.indicator.Indicator.{Indicator}
@@ -9,10 +9,18 @@ use Rattle.cbor_edn_parts.specs.Lex as lex
 use Rattle.cbor_edn_parts.specs.Lex.{Table}
 use Rattle.cbor_edn_parts.specs.SpaceTokens.{space, separator}
 use Rattle.cbor_edn_parts.specs.NumberTokens.{number}
-use Rattle.cbor_edn_parts.specs.LiteralTokens.{literal, dots, is_lower, is_upper}
+use Rattle.cbor_edn_parts.specs.LiteralTokens.{literal, dots, is_lower, is_upper, is_digit}
+use Rattle.cbor_edn_parts.specs.Number.{number_of}
+use Rattle.cbor_edn_parts.specs.Contents.{same}
+use Rattle.std.specs.Fmt.{decimal}
+use Rattle.cbor_edn_core.specs.declared.word.NamedSimple.TheVariants.{False, True, Null, Undefined}
+use Rattle.cbor_edn_core.specs.declared.word.NonFinite.TheVariants.{Infinity, NegativeInfinity, NaN}
+use Rattle.cbor_edn_core.specs.declared.word.Word.{Word}
+use Rattle.cbor_edn_core.specs.declared.word.Word.TheVariants.{Named, Simple, NonFinite}
+use Rattle.cbor_edn_core.specs.Words.{word_text}
 use Rattle.cbor_edn_core.specs.Items.{Row, Elements, Pairs, Strings, Bracketed, Array, Map, entries_of}
 use Rattle.cbor_edn_core.specs.Spelling.{ending}
-use Rattle.cbor_edn_core.specs.Trees.{Rule, OneItem, OnePiece, OneString, OneEntry, Inside, Rest, Seq, Standalone, Head, Unmarked, Marked, Tree, NumberTree, ListTree, StringTree, StreamTree, LiteralTree, DotsTree, EmbeddedTree, LastPieceTree, PlusTree, ElementTree, PairTree, ChunkTree, EmptyTree, FullTree, LastTree, MoreTree, NothingTree, SequenceTree, StandaloneTree, joins}
+use Rattle.cbor_edn_core.specs.Trees.{Rule, OneItem, OnePiece, OneString, OneEntry, Inside, Rest, Seq, Standalone, Head, Unmarked, Marked, Tree, NumberTree, FloatTree, TagTree, NamedTree, SimpleTree, ListTree, StringTree, StreamTree, LiteralTree, DotsTree, EmbeddedTree, LastPieceTree, PlusTree, ElementTree, PairTree, ChunkTree, EmptyTree, FullTree, LastTree, MoreTree, NothingTree, SequenceTree, StandaloneTree, joins}
 
 infixl 10 ◌>>=◌
 unfoldable pub ◌>>=◌ : {A B : Type 0} → Result A ParseErrorKind → (A → Result B ParseErrorKind) → Result B ParseErrorKind
@@ -49,9 +57,9 @@ head_of None s = Ok (Unmarked, s)
 head_of (Some i) [] = Err Invalid
 head_of (Some i) (c ∷ s) = Ok (Marked i (c ∷ s), [])
 
-abbrev pub starts_dots : List ℕ → Bool
-starts_dots [] = false
-starts_dots (c ∷ r) = eqb c 46
+abbrev pub starts_with : ℕ → List ℕ → Bool
+starts_with b [] = false
+starts_with b (c ∷ r) = eqb c b
 
 -- what alone begins a string: a quote, a letter, or `<`
 abbrev pub begins_string : ℕ → Bool
@@ -60,12 +68,71 @@ begins_string c = eqb c 34 || eqb c 39 || eqb c 60 || is_lower c || is_upper c
 -- Whether a string begins there, which two dots do too.
 unfoldable pub starts_string : List ℕ → Bool
 starts_string [] = false
-starts_string (c ∷ r) = begins_string c || (eqb c 46 && starts_dots r)
+starts_string (c ∷ r) = begins_string c || (eqb c 46 && starts_with 46 r)
+
+-- The word that a byte begins: each begins with another one.
+abbrev pub word_of : ℕ → Option Word
+word_of c =
+    cond (eqb c 102) (Some (Named False)) (
+    cond (eqb c 116) (Some (Named True)) (
+    cond (eqb c 110) (Some (Named Null)) (
+    cond (eqb c 117) (Some (Named Undefined)) (
+    cond (eqb c 115) (Some Simple) (
+    cond (eqb c 73) (Some (NonFinite Infinity)) (
+    cond (eqb c 45) (Some (NonFinite NegativeInfinity)) (
+    cond (eqb c 78) (Some (NonFinite NaN)) None)))))))
+
+-- What stands behind these bytes, where they stand in front.
+abbrev pub behind : List ℕ → List ℕ → Option (List ℕ)
+behind [] xs = Some xs
+behind (b ∷ bs) [] = None
+behind (b ∷ bs) (c ∷ xs) = cond (eqb c b) (behind bs xs) None
+
+-- Whether a prefix goes on there, or ends: prefixes are read before words.
+abbrev pub is_prefix : List ℕ → Bool
+is_prefix [] = false
+is_prefix (c ∷ r) = is_lower c || is_digit c || eqb c 39
+
+abbrev pub ended : Word → Option (List ℕ) → Option (Word × List ℕ)
+ended w None = None
+ended w (Some r) = cond (is_prefix r) None (Some (w, r))
+
+abbrev pub if_word : Option Word → List ℕ → Option (Word × List ℕ)
+if_word None xs = None
+if_word (Some w) xs = ended w (behind (word_text w) xs)
+
+-- The word that stands in front, and what follows it.
+unfoldable pub word_at : List ℕ → Option (Word × List ℕ)
+word_at [] = None
+word_at (c ∷ r) = if_word (word_of c) (c ∷ r)
+
+-- the number of a tag: decimal digits without a leading zero
+abbrev pub tag_number : List ℕ → Option ℕ
+tag_number x = cond (same x (decimal (number_of 10 x)) && nat_lt (number_of 10 x) (2 ^ 64)) (Some (number_of 10 x)) None
 
 -- Each rule, by readers for a smaller text: `g n` for what nests at most n deep.
 module _ (g : ℕ → (s : Rule) → Reader s) where
-  unfoldable pub number_item : Reader OneItem
-  number_item xs = token number xs >>= λ x. Ok (NumberTree x.0 (indicator_at x.1).0, (indicator_at x.1).1)
+  -- an item between parentheses, with the spaces round it
+  unfoldable pub enclosed : (limit : ℕ) → Reader Standalone
+  enclosed zero xs = byte 40 xs >>= λ r. Err TooDeep
+  enclosed (suc limit) xs = byte 40 xs >>= λ r. g limit Standalone r >>= λ w. byte 41 w.1 >>= λ r. Ok (w.0, r)
+
+  -- behind the number of a tag and its indicator
+  unfoldable pub tag_item : ℕ → List ℕ → Option Indicator → Reader OneItem
+  tag_item limit x i xs = or_invalid (tag_number x) >>= λ n. enclosed limit xs >>= λ w. Ok (TagTree n i w.0, w.1)
+
+  -- behind a number and its indicator: where a parenthesis follows, they are those of a tag
+  unfoldable pub number_end : ℕ → List ℕ → Option Indicator → Reader OneItem
+  number_end limit x i xs = cond (starts_with 40 xs) (tag_item limit x i xs) (Ok (NumberTree x i, xs))
+
+  unfoldable pub number_item : ℕ → Reader OneItem
+  number_item limit xs = token number xs >>= λ x. number_end limit x.0 (indicator_at x.1).0 (indicator_at x.1).1
+
+  -- behind a word
+  unfoldable pub word_item : ℕ → Word → Reader OneItem
+  word_item limit (Named b) xs = Ok (NamedTree b, xs)
+  word_item limit Simple xs = enclosed limit xs >>= λ w. Ok (SimpleTree w.0, w.1)
+  word_item limit (NonFinite f) xs = Ok (FloatTree f (indicator_at xs).0, (indicator_at xs).1)
 
   -- behind the opening byte
   unfoldable pub list_item : (limit : ℕ) → Bracketed → Reader OneItem
@@ -79,13 +146,18 @@ module _ (g : ℕ → (s : Rule) → Reader s) where
   unfoldable pub string_item : ℕ → Reader OneItem
   string_item limit xs = g limit OneString xs >>= λ w. Ok (StringTree w.0, w.1)
 
+  -- a word, where one stands in front, else a string or a number
+  unfoldable pub plain_item : ℕ → Option (Word × List ℕ) → Reader OneItem
+  plain_item limit (Some w) xs = word_item limit w.0 w.1
+  plain_item limit None xs = cond (starts_string xs) (string_item limit xs) (number_item limit xs)
+
   unfoldable pub item : ℕ → Reader OneItem
   item limit [] = Err Invalid
   item limit (c ∷ xs) =
       cond (eqb c 91) (list_item limit Array xs) (
       cond (eqb c 123) (list_item limit Map xs) (
       cond (eqb c 40) (stream_item limit xs) (
-      cond (starts_string (c ∷ xs)) (string_item limit (c ∷ xs)) (number_item (c ∷ xs)))))
+      plain_item limit (word_at (c ∷ xs)) (c ∷ xs))))
 
   unfoldable pub literal_piece : Reader OnePiece
   literal_piece xs = token literal xs >>= λ x. Ok (LiteralTree x.0 (indicator_at x.1).0, (indicator_at x.1).1)

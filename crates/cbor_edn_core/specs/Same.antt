@@ -4,12 +4,16 @@ use Rattle.std.specs.Cmp.{IsPartialEquivalence}
 use Rattle.std.specs.Cmp.Lexicographic.{pointwise, same_text}
 use Rattle.std.specs.Cmp.Derive.{both_true}
 use Rattle.std.proofs.Common.{sym, ◌∙◌, subst}
-use Rattle.std.proofs.lemmas.Bool.{false≢true}
+use Rattle.std.proofs.lemmas.Bool.{false≢true, eqb-true, eq-eqb}
 use Rattle.std.proofs.lemmas.Cmp.{nat_list_eq_equiv}
 use Rattle.cbor_edn_parts.specs.declared.indicator.Indicator.{Indicator}
 use Rattle.cbor_edn_parts.specs.declared.indicator.Indicator.TheVariants.{Indefinite, Immediate, One, Two, Four, Eight}
+use Rattle.cbor_edn_core.specs.declared.word.NamedSimple.{NamedSimple}
+use Rattle.cbor_edn_core.specs.declared.word.NamedSimple.TheVariants.{False, True, Null, Undefined}
+use Rattle.cbor_edn_core.specs.declared.word.NonFinite.{NonFinite}
+use Rattle.cbor_edn_core.specs.declared.word.NonFinite.TheVariants.{Infinity, NegativeInfinity, NaN}
 use Rattle.cbor_edn_core.specs.Items.{Row, Array, Map}
-use Rattle.cbor_edn_core.specs.Trees.{Rule, OnePiece, OneEntry, Head, Unmarked, Marked, Tree, NumberTree, ListTree, StringTree, StreamTree, LiteralTree, DotsTree, EmbeddedTree, LastPieceTree, PlusTree, ElementTree, PairTree, ChunkTree, EmptyTree, FullTree, LastTree, MoreTree, NothingTree, SequenceTree, StandaloneTree}
+use Rattle.cbor_edn_core.specs.Trees.{Rule, OnePiece, OneEntry, Head, Unmarked, Marked, Tree, NumberTree, FloatTree, TagTree, NamedTree, SimpleTree, ListTree, StringTree, StreamTree, LiteralTree, DotsTree, EmbeddedTree, LastPieceTree, PlusTree, ElementTree, PairTree, ChunkTree, EmptyTree, FullTree, LastTree, MoreTree, NothingTree, SequenceTree, StandaloneTree}
 
 abbrev pub same_bytes : List ℕ → List ℕ → Bool
 same_bytes = pointwise nat_eq
@@ -28,6 +32,19 @@ same_indicator None None = true
 same_indicator (Some i) (Some j) = same_word i j
 same_indicator _ _ = false
 
+abbrev pub same_named : NamedSimple → NamedSimple → Bool
+same_named False False = true
+same_named True True = true
+same_named Null Null = true
+same_named Undefined Undefined = true
+same_named _ _ = false
+
+abbrev pub same_float : NonFinite → NonFinite → Bool
+same_float Infinity Infinity = true
+same_float NegativeInfinity NegativeInfinity = true
+same_float NaN NaN = true
+same_float _ _ = false
+
 abbrev pub same_head : Head → Head → Bool
 same_head Unmarked Unmarked = true
 same_head (Marked i s) (Marked j t) = same_word i j && same_bytes s t
@@ -36,6 +53,10 @@ same_head _ _ = false
 -- Whether two trees of one rule are the same, spaces included.
 abbrev pub same : {s : Rule} → Tree s → Tree s → Bool
 same (NumberTree x i) (NumberTree y j) = same_bytes x y && same_indicator i j
+same (FloatTree f i) (FloatTree g j) = same_float f g && same_indicator i j
+same (TagTree n i w) (TagTree k j v) = nat_eq n k && (same_indicator i j && same w v)
+same (NamedTree b) (NamedTree d) = same_named b d
+same (SimpleTree w) (SimpleTree v) = same w v
 same (ListTree Array w) (ListTree Array v) = same w v
 same (ListTree Map w) (ListTree Map v) = same w v
 same (StringTree w) (StringTree v) = same w v
@@ -91,6 +112,19 @@ indicators_are None None e = refl
 indicators_are (Some i) (Some j) e = λ k. Some (words_are i j e k)
 indicators_are _ _ e = absurd (false≢true e)
 
+named_are : (b d : NamedSimple) → same_named b d ≡ true → b ≡ d
+named_are False False e = refl
+named_are True True e = refl
+named_are Null Null e = refl
+named_are Undefined Undefined e = refl
+named_are _ _ e = absurd (false≢true e)
+
+floats_are : (f g : NonFinite) → same_float f g ≡ true → f ≡ g
+floats_are Infinity Infinity e = refl
+floats_are NegativeInfinity NegativeInfinity e = refl
+floats_are NaN NaN e = refl
+floats_are _ _ e = absurd (false≢true e)
+
 heads_are : (h g : Head) → same_head h g ≡ true → h ≡ g
 heads_are Unmarked Unmarked e = refl
 heads_are (Marked i s) (Marked j t) e = let h = both (words_are i j) (bytes_are s t) e in λ k. Marked (h.0 k) (h.1 k)
@@ -98,6 +132,10 @@ heads_are _ _ e = absurd (false≢true e)
 
 pub same_are : {s : Rule} (a b : Tree s) → same a b ≡ true → a ≡ b
 same_are (NumberTree x i) (NumberTree y j) e = let h = both (bytes_are x y) (indicators_are i j) e in λ k. NumberTree (h.0 k) (h.1 k)
+same_are (FloatTree f i) (FloatTree g j) e = let h = both (floats_are f g) (indicators_are i j) e in λ k. FloatTree (h.0 k) (h.1 k)
+same_are (TagTree n i w) (TagTree m j v) e = let h = both (eqb-true n m) (both (indicators_are i j) (same_are w v)) e in λ k. TagTree (h.0 k) (h.1.0 k) (h.1.1 k)
+same_are (NamedTree b) (NamedTree d) e = λ k. NamedTree (named_are b d e k)
+same_are (SimpleTree w) (SimpleTree v) e = λ k. SimpleTree (same_are w v e k)
 same_are (ListTree Array w) (ListTree Array v) e = λ i. ListTree Array (same_are w v e i)
 same_are (ListTree Map w) (ListTree Map v) e = λ i. ListTree Map (same_are w v e i)
 same_are (StringTree w) (StringTree v) e = λ i. StringTree (same_are w v e i)
@@ -137,12 +175,27 @@ indicator_refl : (i : Option Indicator) → same_indicator i i ≡ true
 indicator_refl None = refl
 indicator_refl (Some i) = word_refl i
 
+named_refl : (b : NamedSimple) → same_named b b ≡ true
+named_refl False = refl
+named_refl True = refl
+named_refl Null = refl
+named_refl Undefined = refl
+
+float_refl : (f : NonFinite) → same_float f f ≡ true
+float_refl Infinity = refl
+float_refl NegativeInfinity = refl
+float_refl NaN = refl
+
 head_refl : (h : Head) → same_head h h ≡ true
 head_refl Unmarked = refl
 head_refl (Marked i s) = both_true (word_refl i) (bytes_refl s)
 
 same_refl : {s : Rule} (a : Tree s) → same a a ≡ true
 same_refl (NumberTree x i) = both_true (bytes_refl x) (indicator_refl i)
+same_refl (FloatTree f i) = both_true (float_refl f) (indicator_refl i)
+same_refl (TagTree n i w) = both_true (eq-eqb n n refl) (both_true (indicator_refl i) (same_refl w))
+same_refl (NamedTree b) = named_refl b
+same_refl (SimpleTree w) = same_refl w
 same_refl (ListTree Array w) = same_refl w
 same_refl (ListTree Map w) = same_refl w
 same_refl (StringTree w) = same_refl w

@@ -1,14 +1,18 @@
 -- Items with the space texts between their tokens: one family, indexed by the rule of the grammar.
-use Rattle.std.specs.Prelude.{ℕ, suc, max, Bool, true, false, not, eqb, ◌||◌, ◌&&◌, List, [], ◌∷◌, ◌≡◌, ◌++◌, Option, Some, None}
+use Rattle.std.specs.Fmt.{decimal}
+use Rattle.std.specs.Prelude.{ℕ, ◌<◌, ◌^◌, suc, max, Bool, true, false, not, eqb, ◌||◌, ◌&&◌, List, [], ◌∷◌, ◌≡◌, ◌++◌, Option, Some, None}
 use Rattle.cbor_edn_parts.specs.declared.indicator.Indicator.{Indicator}
+use Rattle.cbor_edn_core.specs.declared.word.NamedSimple.{NamedSimple}
+use Rattle.cbor_edn_core.specs.declared.word.NonFinite.{NonFinite}
 use Rattle.cbor_edn_parts.specs.Bytes.{Follow, Closes}
 use Rattle.cbor_edn_parts.specs.Lex as lex
 use Rattle.cbor_edn_parts.specs.Indicator.{indicator_text}
 use Rattle.cbor_edn_parts.specs.SpaceTokens.{space, is_s, is_ms, is_msc, is_soc}
 use Rattle.cbor_edn_parts.specs.NumberTokens.{is_number}
 use Rattle.cbor_edn_parts.specs.LiteralTokens.{is_digit, is_literal, are_dots}
-use Rattle.cbor_edn_core.specs.Items.{Row, Elements, Pairs, Strings, Bracketed, entries_of, Item, Piece, Pieces, Entry, Entries, Node, Number, Listed, String, Stream, Literal, Dots, Embedded, LastPiece, Plus, Element, Pair, Chunk, End, Then, Items}
+use Rattle.cbor_edn_core.specs.Items.{Row, Elements, Pairs, Strings, Bracketed, entries_of, Item, Piece, Pieces, Entry, Entries, Node, Number, Float, Listed, Tagged, Named, Simple, String, Stream, Literal, Dots, Embedded, LastPiece, Plus, Element, Pair, Chunk, End, Then, Items}
 use Rattle.cbor_edn_core.specs.Spelling.{opening, ending}
+use Rattle.cbor_edn_core.specs.Words.{named_text, simple_text, non_finite_text}
 
 -- The rules of the grammar.
 pub data Rule : Type 0 where
@@ -39,6 +43,13 @@ head_text (Marked i ms) = indicator_text (Some i) ++ ms
 -- A use of a rule, with the texts that it leaves open.
 pub data Tree : Rule → Type 0 where
   NumberTree : List ℕ → Option Indicator → Tree OneItem
+  -- `Infinity`, `-Infinity` or `NaN`
+  FloatTree : NonFinite → Option Indicator → Tree OneItem
+  -- a tag's number, its indicator, and what stands between its parentheses
+  TagTree : ℕ → Option Indicator → Tree Standalone → Tree OneItem
+  NamedTree : NamedSimple → Tree OneItem
+  -- what stands between the parentheses of `simple(..)`
+  SimpleTree : Tree Standalone → Tree OneItem
   ListTree : (k : Bracketed) → Tree (Inside k) → Tree OneItem
   StringTree : Tree OneString → Tree OneItem
   -- the space behind `(_`, and the strings
@@ -71,6 +82,10 @@ pub data Tree : Rule → Type 0 where
 -- The text of a tree, with what follows it.
 unfoldable pub onto : {s : Rule} → Tree s → List ℕ → List ℕ
 onto (NumberTree x i) r = x ++ (indicator_text i ++ r)
+onto (FloatTree f i) r = non_finite_text f ++ (indicator_text i ++ r)
+onto (TagTree n i w) r = decimal n ++ (indicator_text i ++ (40 ∷ onto w (41 ∷ r)))
+onto (NamedTree b) r = named_text b ++ r
+onto (SimpleTree w) r = simple_text ++ (40 ∷ onto w (41 ∷ r))
 onto (ListTree k w) r = opening k ∷ onto w (ending k ∷ r)
 onto (StringTree w) r = onto w r
 onto (StreamTree ms m) r = 40 ∷ 95 ∷ (ms ++ onto m (41 ∷ r))
@@ -101,6 +116,10 @@ head_space_onto (Marked i ms) r = ms ∷ r
 -- Its space texts, in text order, in front of others.
 unfoldable pub spaces_onto : {s : Rule} → Tree s → List (List ℕ) → List (List ℕ)
 spaces_onto (NumberTree x i) r = r
+spaces_onto (FloatTree f i) r = r
+spaces_onto (TagTree n i w) r = spaces_onto w r
+spaces_onto (NamedTree b) r = r
+spaces_onto (SimpleTree w) r = spaces_onto w r
 spaces_onto (ListTree k w) r = spaces_onto w r
 spaces_onto (StringTree w) r = spaces_onto w r
 spaces_onto (StreamTree ms m) r = ms ∷ spaces_onto m r
@@ -136,6 +155,10 @@ Of Standalone = Node Item
 
 unfoldable pub items : {s : Rule} → Tree s → Of s
 items (NumberTree x i) = Number x i
+items (FloatTree f i) = Float f i
+items (TagTree n i w) = Tagged n i (items w)
+items (NamedTree b) = Named b
+items (SimpleTree w) = Simple (items w)
 items (ListTree k w) = Listed k (items w).0 (items w).1
 items (StringTree w) = String (items w)
 items (StreamTree ms m) = Stream (items m)
@@ -155,9 +178,13 @@ items (NothingTree s) = End
 items (SequenceTree s m) = items m
 items (StandaloneTree s w t) = items w
 
--- how deep arrays, maps and embedded sequences nest in it
+-- how deep arrays, maps, tags, `simple(..)` and embedded sequences nest in it
 abbrev pub depth : {s : Rule} → Tree s → ℕ
 depth (NumberTree x i) = 0
+depth (FloatTree f i) = 0
+depth (TagTree n i w) = suc (depth w)
+depth (NamedTree b) = 0
+depth (SimpleTree w) = suc (depth w)
 depth (ListTree k w) = suc (depth w)
 depth (StringTree w) = depth w
 depth (StreamTree ms m) = depth m
@@ -184,6 +211,10 @@ IsHead (Marked i ms) = is_ms ms ≡ true
 -- Each text of a tree is in its set.
 unfoldable pub Valid : {s : Rule} → Tree s → Type 0
 Valid (NumberTree x i) = is_number x ≡ true
+Valid (FloatTree f i) = Unit {0}
+Valid (TagTree n i w) = (n < 2 ^ 64) × Valid w
+Valid (NamedTree b) = Unit {0}
+Valid (SimpleTree w) = Valid w
 Valid (ListTree k w) = Valid w
 Valid (StringTree w) = Valid w
 Valid (StreamTree ms m) = (is_ms ms ≡ true) × Valid m
@@ -211,6 +242,10 @@ IsJoined (Marked i ms) s = s ≡ []
 -- The S after each indicator's MS is empty, as in every tree that is read: the MS takes all the space that is there.
 unfoldable pub Joined : {s : Rule} → Tree s → Type 0
 Joined (NumberTree x i) = Unit {0}
+Joined (FloatTree f i) = Unit {0}
+Joined (TagTree n i w) = Joined w
+Joined (NamedTree b) = Unit {0}
+Joined (SimpleTree w) = Joined w
 Joined (ListTree k w) = Joined w
 Joined (StringTree w) = Joined w
 Joined (StreamTree ms m) = Joined m

@@ -1,18 +1,20 @@
 -- CBOR data items with the form of each head, and their encodings (RFC 8949, section 3).
-use Rattle.std.specs.Prelude.{◌≡◌, ℕ, ◌+◌, ◌*◌, ◌^◌, ◌<◌, List, [], ◌∷◌, ◌++◌, length, max, Option, Some, None, All, Bool, true}
+use Rattle.std.specs.Prelude.{◌≡◌, ℕ, ◌+◌, ◌*◌, ◌^◌, ◌<◌, ◌≤◌, ◌⊎◌, ◌&&◌, nat_lt, nat_le, if◌then◌else◌, List, [], ◌∷◌, ◌++◌, length, max, Option, Some, None, All, Bool, true}
 use Rattle.std.specs.Int.{w8, w16, w32, w64, to_be_bytes}
 use Rattle.std.specs.Str.{is_utf8}
 use Rattle.cbor_edn_parts.specs.declared.string.StringKind.{StringKind}
 use Rattle.cbor_edn_parts.specs.declared.string.StringKind.TheVariants.{Bytes, Text}
 use Rattle.cbor_edn_core.specs.declared.cbor.Width.{Width}
+use Rattle.cbor_edn_core.specs.declared.word.NonFinite.{NonFinite}
+use Rattle.cbor_edn_core.specs.declared.word.NonFinite.TheVariants.{Infinity, NegativeInfinity, NaN}
 use Rattle.cbor_edn_core.specs.declared.cbor.Width.TheVariants.{Immediate, One, Two, Four, Eight}
 
 -- a string of definite length: the width of its length, and its bytes
 abbrev pub Chunk : Type 0
 Chunk = Width × List ℕ
 
--- Data items (section 3.1) of the major types 0 to 6, with the width of each argument. The bytes of a text are UTF-8.
--- An array or a map without one has indefinite length (section 3.2).
+-- Data items (section 3.1), with the width of each argument. The bytes of a text are UTF-8. An array or a map without
+-- one has indefinite length (section 3.2).
 mutual
   pub data Value : Type 0 where
     -- the integer n, as `unsigned One 10` for 10
@@ -26,6 +28,10 @@ mutual
     -- a map: `map` is a function on lists
     object : Option Width → Pairs → Value
     tag : Width → ℕ → Value → Value
+    -- a simple value (section 3.3): false is 20, true 21, null 22 and undefined 23
+    simple : ℕ → Value
+    -- a floating-point number of 2, 4 or 8 bytes
+    float : Width → NonFinite → Value
 
   pub data Values : Type 0 where
     no_values : Values
@@ -53,6 +59,44 @@ head major One n = (32 * major + 24) ∷ to_be_bytes w8 n
 head major Two n = (32 * major + 25) ∷ to_be_bytes w16 n
 head major Four n = (32 * major + 26) ∷ to_be_bytes w32 n
 head major Eight n = (32 * major + 27) ∷ to_be_bytes w64 n
+
+-- The bits of a floating-point number of 2, 4 or 8 bytes (IEEE 754): those of an infinity have all bits of the exponent
+-- and no bit of the fraction, those of NaN (the one that is read) the highest bit of the fraction too.
+abbrev pub infinity_bits : Width → ℕ
+infinity_bits Two = 0x7C00
+infinity_bits Four = 0x7F800000
+infinity_bits Eight = 0x7FF0000000000000
+infinity_bits _ = 0
+
+abbrev pub sign_bit : Width → ℕ
+sign_bit Two = 2 ^ 15
+sign_bit Four = 2 ^ 31
+sign_bit Eight = 2 ^ 63
+sign_bit _ = 0
+
+abbrev pub nan_bit : Width → ℕ
+nan_bit Two = 2 ^ 9
+nan_bit Four = 2 ^ 22
+nan_bit Eight = 2 ^ 51
+nan_bit _ = 0
+
+abbrev pub float_bits : Width → NonFinite → ℕ
+float_bits w Infinity = infinity_bits w
+float_bits w NegativeInfinity = sign_bit w + infinity_bits w
+float_bits w NaN = infinity_bits w + nan_bit w
+
+-- Simple values of one byte are 0 to 23, those of two bytes 32 to 255.
+abbrev pub simple_width : ℕ → Width
+simple_width n = if nat_lt n 24 then Immediate else One
+
+abbrev pub IsSimple : ℕ → Type 0
+IsSimple n = (n < 24) ⊎ ((32 ≤ n) × (n < 256))
+
+abbrev pub IsFloatWidth : Width → Type 0
+IsFloatWidth Two = Unit {0}
+IsFloatWidth Four = Unit {0}
+IsFloatWidth Eight = Unit {0}
+IsFloatWidth _ = ⊥
 
 -- what the arguments of a width are below
 abbrev pub limit_of : Width → ℕ
@@ -121,6 +165,8 @@ abbrev mutual
   encoding (array w vs) = list_encoding 4 w (values_len vs) (encodings vs)
   encoding (object w ps) = list_encoding 5 w (pairs_len ps) (pair_encodings ps)
   encoding (tag w n v) = head 6 w n ++ encoding v
+  encoding (simple n) = head 7 (simple_width n) n
+  encoding (float w f) = head 7 w (float_bits w f)
 
   pub encodings : Values → List ℕ
   encodings no_values = []
@@ -140,6 +186,8 @@ abbrev mutual
   Fits (array w vs) = LengthFits w (values_len vs) × ValuesFit vs
   Fits (object w ps) = LengthFits w (pairs_len ps) × PairsFit ps
   Fits (tag w n v) = ArgumentFits w n × Fits v
+  Fits (simple n) = IsSimple n
+  Fits (float w f) = IsFloatWidth w
 
   pub ValuesFit : Values → Type 0
   ValuesFit no_values = Unit {0}
@@ -149,7 +197,11 @@ abbrev mutual
   PairsFit no_pairs = Unit {0}
   PairsFit (pair k v ps) = Fits k × Fits v × PairsFit ps
 
--- How deep arrays, maps and tags nest: 0 for 1, 1 for [1].
+-- what nests of a simple value: nothing where it has a name, else `simple(..)`
+abbrev pub simple_nesting : ℕ → ℕ
+simple_nesting n = if nat_le 20 n && nat_lt n 24 then 0 else 1
+
+-- How deep arrays, maps, tags and the items of simple values without a name nest: 0 for 1, 1 for [1].
 abbrev mutual
   pub nesting : Value → ℕ
   nesting (unsigned w n) = 0
@@ -159,6 +211,8 @@ abbrev mutual
   nesting (array w vs) = values_nesting vs + 1
   nesting (object w ps) = pairs_nesting ps + 1
   nesting (tag w n v) = nesting v + 1
+  nesting (simple n) = simple_nesting n
+  nesting (float w f) = 0
 
   pub values_nesting : Values → ℕ
   values_nesting no_values = 0

@@ -1,5 +1,5 @@
 //! CBOR: the heads of data items, and integers.
-ghost use Rattle.std.specs.Prelude.{◌≡◌, ◌<◌, ◌++◌, OnOk, nat_lt};
+ghost use Rattle.std.specs.Prelude.{◌≡◌, ◌<◌, ◌++◌, OnOk, IfOk, nat_lt};
 ghost use Rattle.cbor_edn_parts.specs.Leaves as leaves;
 ghost use Rattle.cbor_edn_core.specs.Value as values;
 ghost use Rattle.cbor_edn_core.specs.Value.{head, ArgumentFits, LengthFits, chunk_encoding, encoding, limit_of};
@@ -10,6 +10,7 @@ ghost use Rattle.cbor_edn_core.specs.Encoding.{Encodes, Finds, list_head, list_e
 use cbor_edn_parts::error::{Fault, InconsistentEdn};
 use cbor_edn_parts::indicator::Indicator;
 use cbor_edn_parts::number::Integer;
+use crate::word::{NamedSimple, NonFinite};
 use cbor_edn_parts::string::StringKind;
 use std::alloc::AllocError;
 
@@ -216,15 +217,76 @@ pub(crate) fn push_chunk(
     Ok(())
 }
 
+/// Writes a floating-point number that is not finite, in two bytes without an indicator.
+pub(crate) fn push_float(
+    out: &mut Vec<u8>,
+    float: NonFinite,
+    indicator: Option<Indicator>,
+) -> Result<(), Fault<InconsistentEdn>>
+    ensures { Encodes encoding (meaning.means_float indicator float) out.old.items out.new.items result }
+{
+    let width = float_width(indicator)?;
+    push_head(out, 7, width, float_bits(width, float))?;
+    Ok(())
+}
+
+fn float_width(indicator: Option<Indicator>) -> Result<Width, Fault<InconsistentEdn>>
+    ensures value { Finds (meaning.float_width indicator) result }
+    ensures wide { IfOk result values.IsFloatWidth }
+{
+    match indicator {
+        None | Some(Indicator::Two) => Ok(Width::Two),
+        Some(Indicator::Four) => Ok(Width::Four),
+        Some(Indicator::Eight) => Ok(Width::Eight),
+        Some(_) => Err(Fault::Told(InconsistentEdn::IndicatorDoesNotFit)),
+    }
+}
+
+/// The bits of a floating-point number in so many bytes (IEEE 754).
+pub(crate) fn float_bits(width: Width, float: NonFinite) -> u64
+    ensures bits { result ≡ values.float_bits width float }
+    ensures fits { values.IsFloatWidth width → ArgumentFits width result }
+{
+    match (width, float) {
+        (Width::Two, NonFinite::Infinity) => 0x7c00,
+        (Width::Two, NonFinite::NegativeInfinity) => 0xfc00,
+        (Width::Two, NonFinite::NaN) => 0x7e00,
+        (Width::Four, NonFinite::Infinity) => 0x7f80_0000,
+        (Width::Four, NonFinite::NegativeInfinity) => 0xff80_0000,
+        (Width::Four, NonFinite::NaN) => 0x7fc0_0000,
+        (Width::Eight, NonFinite::Infinity) => 0x7ff0_0000_0000_0000,
+        (Width::Eight, NonFinite::NegativeInfinity) => 0xfff0_0000_0000_0000,
+        (Width::Eight, NonFinite::NaN) => 0x7ff8_0000_0000_0000,
+        _ => 0,
+    }
+}
+
+/// Writes a simple value.
+pub(crate) fn push_simple(out: &mut Vec<u8>, number: u8) -> Result<(), AllocError>
+    ensures { OnOk result (out.new.items ≡ out.old.items ++ encoding (values.simple number)) }
+{
+    let width = if number < 24 { Width::Immediate } else { Width::One };
+    push_head(out, 7, width, u64::from(number))
+}
+
+/// The number of a simple value that has a name.
+pub(crate) fn simple_number(name: NamedSimple) -> u8
+    ensures { result ≡ meaning.named_number name }
+{
+    match name {
+        NamedSimple::False => 20,
+        NamedSimple::True => 21,
+        NamedSimple::Null => 22,
+        NamedSimple::Undefined => 23,
+    }
+}
+
 fn is_content(kind: StringKind, content: &[u8]) -> bool
     ensures { result ≡ values.is_content kind content.now }
 {
     match kind {
         StringKind::Bytes => true,
-        StringKind::Text => match std::str::from_utf8(content) {
-            Ok(_) => true,
-            Err(_) => false,
-        },
+        StringKind::Text => std::str::from_utf8(content).is_ok(),
     }
 }
 

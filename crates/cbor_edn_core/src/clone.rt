@@ -25,14 +25,7 @@ impl<'a> StandaloneItem<'a> {
     pub fn clone(&self) -> Result<StandaloneItem<'a>, AllocError>
         ensures { IfOk result (λ t. standalone_tree t ≡ standalone_tree self.now) }
     {
-        let before = self.before.clone()?;
-        let item = clone_item(&self.item)?;
-        let after = self.after.clone()?;
-        Ok(StandaloneItemOf {
-            before,
-            item,
-            after,
-        })
+        clone_standalone(self)
     }
 }
 
@@ -79,6 +72,26 @@ fn clone_item<'a>(item: &Item<'a>) -> Result<Item<'a>, AllocError>
                 inner: InnerItem::Number(number, *indicator),
             })
         }
+        InnerItem::NonFinite(float, indicator) => Ok(ItemOf {
+            inner: InnerItem::NonFinite(*float, *indicator),
+        }),
+        InnerItem::Tagged(number, indicator, content) => {
+            let copy = clone_standalone(content)?;
+            let copy = Box::new(*Box::allocator(content), copy)?;
+            Ok(ItemOf {
+                inner: InnerItem::Tagged(*number, *indicator, copy),
+            })
+        }
+        InnerItem::Named(name) => Ok(ItemOf {
+            inner: InnerItem::Named(*name),
+        }),
+        InnerItem::Simple(content) => {
+            let copy = clone_standalone(content)?;
+            let copy = Box::new(*Box::allocator(content), copy)?;
+            Ok(ItemOf {
+                inner: InnerItem::Simple(copy),
+            })
+        }
         InnerItem::Array(list) => {
             let list = clone_list(list)?;
             Ok(ItemOf {
@@ -104,6 +117,20 @@ fn clone_item<'a>(item: &Item<'a>) -> Result<Item<'a>, AllocError>
             })
         }
     }
+}
+
+#[cycle(copy)]
+fn clone_standalone<'a>(content: &StandaloneItem<'a>) -> Result<StandaloneItem<'a>, AllocError>
+    ensures { IfOk result (λ t. standalone_tree t ≡ standalone_tree content.now) }
+{
+    let before = content.before.clone()?;
+    let item = clone_item(&content.item)?;
+    let after = content.after.clone()?;
+    Ok(StandaloneItemOf {
+        before,
+        item,
+        after,
+    })
 }
 
 #[cycle(copy)]

@@ -1,12 +1,13 @@
 //! Whether two trees are written the same, spaces included.
 ghost use Rattle.std.specs.Prelude.{◌≡◌, ◌↔◌, IsTrue, map};
-ghost use Rattle.cbor_edn_core.specs.Same.{same, same_indicator, same_word, same_head, same_entries, same_pieces, same_laws};
+ghost use Rattle.cbor_edn_core.specs.Same.{same, same_indicator, same_word, same_named, same_float, same_head, same_entries, same_pieces, same_laws};
 ghost use Rattle.cbor_edn_core.specs.View.{texts, view_head, view_list, view_items, seen, view_pair_list, view_pairs, view_pair, seen_pair, view_string, view_piece, seen_piece, view_stream, view_strings, seen_string, item_tree, standalone_tree, sequence_tree};
 
 use crate::tree::{
     CborString, Indicator, InnerItem, Item, ItemList, Items, Kp, PairList, Pairs, Piece, Sequence,
     StandaloneItem, Stream, Strings, Texts,
 };
+use crate::word::{NamedSimple, NonFinite};
 use cbor_edn_parts::space::{Ms, Msc, S};
 
 impl PartialEq for Item<'_> {
@@ -25,9 +26,7 @@ impl PartialEq for StandaloneItem<'_> {
     ghost laws = { same_laws standalone_tree };
 
     fn eq(&self, other: &Self) -> bool {
-        self.before == other.before
-            && same_item(&self.item, &other.item)
-            && self.after == other.after
+        same_standalone(self, other)
     }
 }
 
@@ -51,6 +50,29 @@ fn have_same_word(a: Indicator, b: Indicator) -> bool
         (Indicator::Two, Indicator::Two) => true,
         (Indicator::Four, Indicator::Four) => true,
         (Indicator::Eight, Indicator::Eight) => true,
+        _ => false,
+    }
+}
+
+fn have_same_name(a: NamedSimple, b: NamedSimple) -> bool
+    ensures { result ≡ same_named a b }
+{
+    match (a, b) {
+        (NamedSimple::False, NamedSimple::False) => true,
+        (NamedSimple::True, NamedSimple::True) => true,
+        (NamedSimple::Null, NamedSimple::Null) => true,
+        (NamedSimple::Undefined, NamedSimple::Undefined) => true,
+        _ => false,
+    }
+}
+
+fn have_same_float(a: NonFinite, b: NonFinite) -> bool
+    ensures { result ≡ same_float a b }
+{
+    match (a, b) {
+        (NonFinite::Infinity, NonFinite::Infinity) => true,
+        (NonFinite::NegativeInfinity, NonFinite::NegativeInfinity) => true,
+        (NonFinite::NaN, NonFinite::NaN) => true,
         _ => false,
     }
 }
@@ -84,12 +106,27 @@ fn same_item(a: &Item<'_>, b: &Item<'_>) -> bool
         (InnerItem::Number(x, i), InnerItem::Number(y, j)) => {
             *x == *y && have_same_indicator(*i, *j)
         }
+        (InnerItem::NonFinite(x, i), InnerItem::NonFinite(y, j)) => {
+            have_same_float(*x, *y) && have_same_indicator(*i, *j)
+        }
+        (InnerItem::Tagged(n, i, x), InnerItem::Tagged(m, j, y)) => {
+            *n == *m && have_same_indicator(*i, *j) && same_standalone(x, y)
+        }
+        (InnerItem::Named(x), InnerItem::Named(y)) => have_same_name(*x, *y),
+        (InnerItem::Simple(x), InnerItem::Simple(y)) => same_standalone(x, y),
         (InnerItem::Array(x), InnerItem::Array(y)) => same_list(x, y),
         (InnerItem::Map(x), InnerItem::Map(y)) => same_pair_list(x, y),
         (InnerItem::String(x), InnerItem::String(y)) => same_string(x, y),
         (InnerItem::Stream(x), InnerItem::Stream(y)) => same_stream(x, y),
         _ => false,
     }
+}
+
+#[cycle(same)]
+fn same_standalone(a: &StandaloneItem<'_>, b: &StandaloneItem<'_>) -> bool
+    ensures { result ≡ same (standalone_tree a.now) (standalone_tree b.now) }
+{
+    a.before == b.before && same_item(&a.item, &b.item) && a.after == b.after
 }
 
 #[cycle(same)]

@@ -1,6 +1,4 @@
 //! Items from their CBOR encoding.
-//!
-//! Tags and items of major type 7 are not built yet: their heads are refused as reserved.
 ghost use Rattle.std.specs.Prelude.{◌≡◌, ◌≢◌, ◌↔◌, ℕ, List, Err, IfOk, IsTrue};
 ghost use Rattle.cbor_edn_core.specs.Trees.{Tree, OneItem};
 ghost use Rattle.cbor_edn_core.specs.View.{item_tree, standalone_tree, sequence_tree};
@@ -20,6 +18,7 @@ use thiserror::Error;
 mod finish;
 mod growing;
 mod reader;
+mod special;
 mod strings;
 #[cfg(test)]
 mod tests;

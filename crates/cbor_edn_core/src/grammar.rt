@@ -14,17 +14,18 @@ ghost use Rattle.cbor_edn_parts.specs.Text.{text_bytes};
 ghost use Rattle.cbor_edn_core.specs.Borrowed.{BorrowsItem, BorrowsList, BorrowsItems, BorrowsPair, BorrowsPairList, BorrowsPairs, BorrowsPiece, BorrowsString, BorrowsStream, BorrowsStrings, BorrowsSequence, BorrowsStandalone, BorrowsEach, BorrowsEachPair, BorrowsEachString};
 ghost use Rattle.cbor_edn_core.specs.Items.{Elements, Pairs as Keyed, Strings as Chunks, Array as Bracket, Map as Brace};
 ghost use Rattle.cbor_edn_core.specs.ParserResults.{Reads, Gives, Lands, ReadsEnd, LandsEnd, CostsEnd, IsPlaced, IsPushed, IsByteAt, IsUnclosed, behind_colon, ReadsParted, LandsParted, CostsParted, parted, element_tree, chunk_tree};
-ghost use Rattle.cbor_edn_core.specs.Reading.{reads, reads_all, number_item, stream_item, starts_string};
+ghost use Rattle.cbor_edn_core.specs.Reading.{reads, reads_all, number_item, word_item, stream_item, starts_string};
 ghost use Rattle.cbor_edn_core.specs.Trees.{LastTree, OneItem, OnePiece, OneString, OneEntry, Inside, Rest, Seq, Standalone};
 ghost use Rattle.cbor_edn_core.specs.View.{texts, item_tree, view_list, view_items, view_pair, view_pair_list, view_pairs, view_piece, view_string, view_stream, view_strings, row_onto, pair_row_onto, string_row_onto, sequence_tree, standalone_tree};
 
-use crate::lookahead::{Opening, closes, ends, is_at, joins, marked, opening_at};
+use crate::lookahead::{Opening, closes, ends, is_at, joins, marked, opening_at, tag_number};
 use crate::tree::{
     CborString, InnerItem, Item, ItemList, Items, Kp, PairList, Pairs, Piece, Sequence,
     StandaloneItem, Stream, Strings, Texts,
 };
+use crate::word::Word;
 use cbor_edn_parts::error::{Fault, ParseErrorKind, Refusal};
-use cbor_edn_parts::indicator::indicator_at;
+use cbor_edn_parts::indicator::{Indicator, indicator_at};
 use cbor_edn_parts::looks::Looks;
 use cbor_edn_parts::number::number_at;
 use cbor_edn_parts::space::{End, Msc, S, Soc, separator_behind, space, space_behind};
@@ -52,30 +53,138 @@ fn item<'a>(
         Opening::Map => braced(alloc, text, from, limit, looks),
         Opening::Stream => chunked(alloc, text, from, limit, looks),
         Opening::String => joined(alloc, text, from, limit, looks),
-        Opening::Number => number(text, from, looks),
+        Opening::Word(word, to) => worded(alloc, text, word, to, limit, looks),
+        Opening::Number => numbered(alloc, text, from, limit, looks),
     }
 }
 
-/// A number with its indicator, where no other item begins.
-fn number<'a>(
+/// A number with its indicator, where no other item begins; or the tag whose number it is.
+#[cycle(item)]
+fn numbered<'a>(
+    alloc: Global,
     text: &Text<'a>,
     from: usize,
+    limit: usize,
     looks: &mut Looks,
 ) -> Result<(Item<'a>, End), Fault<Refusal>>
     requires { IsCharBoundary (text_bytes text.now) from }
-    ensures value { ReadsEnd item_tree (text_bytes text.now) result (number_item reads (drop from (text_bytes text.now))) }
+    ensures value { ReadsEnd item_tree (text_bytes text.now) result (number_item reads limit (drop from (text_bytes text.now))) }
     ensures borrowed { IfOk result (λ p. BorrowsItem p.0) }
     ensures place { LandsEnd (text_bytes text.now) from result }
     ensures cost { CostsEnd 12 4 4 (text_bytes text.now) from looks.old.count looks.new.count result }
 {
     let (number, at) = number_at(text, from, looks)?;
     let (indicator, to) = indicator_at(text, at, looks);
+    if is_at(text, to, b'(', looks) {
+        let Some(number) = tag_number(text, from, at, looks) else {
+            return Err(Fault::Told(Refusal::invalid(from)));
+        };
+        return tagged(alloc, text, number, indicator, to, limit, looks);
+    }
     Ok((
         Item {
             inner: InnerItem::Number(number, indicator),
         },
         unspaced(to),
     ))
+}
+
+/// The tag of a number and an indicator, with what stands between its parentheses.
+#[cycle(item)]
+fn tagged<'a>(
+    alloc: Global,
+    text: &Text<'a>,
+    number: u64,
+    indicator: Option<Indicator>,
+    from: usize,
+    limit: usize,
+    looks: &mut Looks,
+) -> Result<(Item<'a>, End), Fault<Refusal>>
+    requires { IsCharBoundary (text_bytes text.now) from }
+    ensures borrowed { IfOk result (λ p. BorrowsItem p.0) }
+    ensures place { LandsEnd (text_bytes text.now) from result }
+    ensures cost { CostsEnd 12 4 12 (text_bytes text.now) from looks.old.count looks.new.count result }
+{
+    let (content, to) = enclosed(alloc, text, from, limit, looks)?;
+    let content = Box::new(alloc, content)?;
+    Ok((
+        Item {
+            inner: InnerItem::Tagged(number, indicator, content),
+        },
+        unspaced(to),
+    ))
+}
+
+/// What stands behind a word.
+#[cycle(item)]
+fn worded<'a>(
+    alloc: Global,
+    text: &Text<'a>,
+    word: Word,
+    from: usize,
+    limit: usize,
+    looks: &mut Looks,
+) -> Result<(Item<'a>, End), Fault<Refusal>>
+    requires { IsCharBoundary (text_bytes text.now) from }
+    ensures value { ReadsEnd item_tree (text_bytes text.now) result (word_item reads limit word (drop from (text_bytes text.now))) }
+    ensures borrowed { IfOk result (λ p. BorrowsItem p.0) }
+    ensures place { LandsEnd (text_bytes text.now) from result }
+    ensures cost { CostsEnd 12 4 12 (text_bytes text.now) from looks.old.count looks.new.count result }
+{
+    match word {
+        Word::Named(name) => Ok((
+            Item {
+                inner: InnerItem::Named(name),
+            },
+            unspaced(from),
+        )),
+        Word::NonFinite(float) => {
+            let (indicator, to) = indicator_at(text, from, looks);
+            Ok((
+                Item {
+                    inner: InnerItem::NonFinite(float, indicator),
+                },
+                unspaced(to),
+            ))
+        }
+        Word::Simple => {
+            let (content, to) = enclosed(alloc, text, from, limit, looks)?;
+            let content = Box::new(alloc, content)?;
+            Ok((
+                Item {
+                    inner: InnerItem::Simple(content),
+                },
+                unspaced(to),
+            ))
+        }
+    }
+}
+
+/// An item between parentheses, with the spaces round it.
+#[cycle(item)]
+fn enclosed<'a>(
+    alloc: Global,
+    text: &Text<'a>,
+    from: usize,
+    limit: usize,
+    looks: &mut Looks,
+) -> Result<(StandaloneItem<'a>, usize), Fault<Refusal>>
+    requires { IsCharBoundary (text_bytes text.now) from }
+    ensures borrowed { IfOk result (λ p. BorrowsStandalone p.0) }
+    ensures place { Lands (text_bytes text.now) from result }
+    ensures cost { Costs 12 4 12 (text_bytes text.now) from looks.old.count looks.new.count result }
+{
+    if !is_at(text, from, b'(', looks) {
+        return Err(Fault::Told(Refusal::invalid(from)));
+    }
+    if limit == 0 {
+        return Err(Fault::Told(Refusal::too_deep(from)));
+    }
+    let (item, to) = standalone(alloc, text, from + 1, limit - 1, looks)?;
+    if !is_at(text, to, b')', looks) {
+        return Err(Fault::Told(Refusal::invalid(to)));
+    }
+    Ok((item, to + 1))
 }
 
 /// An end behind which no space is read.
@@ -675,19 +784,22 @@ fn sequence<'a>(
     ))
 }
 
-/// An item between spaces at the front of the text.
+/// An item between spaces.
+#[cycle(item)]
 fn standalone<'a>(
     alloc: Global,
     text: &Text<'a>,
+    from: usize,
     limit: usize,
     looks: &mut Looks,
 ) -> Result<(StandaloneItem<'a>, usize), Fault<Refusal>>
-    ensures value { Reads standalone_tree (text_bytes text.now) result (reads limit Standalone (text_bytes text.now)) }
+    requires { IsCharBoundary (text_bytes text.now) from }
+    ensures value { Reads standalone_tree (text_bytes text.now) result (reads limit Standalone (drop from (text_bytes text.now))) }
     ensures borrowed { IfOk result (λ p. BorrowsStandalone p.0) }
-    ensures place { Lands (text_bytes text.now) 0 result }
-    ensures cost { Costs 12 10 11 (text_bytes text.now) 0 looks.old.count looks.new.count result }
+    ensures place { Lands (text_bytes text.now) from result }
+    ensures cost { Costs 12 10 11 (text_bytes text.now) from looks.old.count looks.new.count result }
 {
-    let (before, at) = space(text, text.start(), looks)?;
+    let (before, at) = space(text, from, looks)?;
     let (item, end) = item(alloc, text, at, limit, looks)?;
     let (after, to) = space_behind(text, end, looks)?;
     Ok((
@@ -731,7 +843,7 @@ pub(crate) fn whole_standalone<'a>(
     ensures most { looks.new.count ≤ looks.old.count + 12 * length (text_bytes text.now) + 12 }
     ensures least { OnOk result (looks.old.count + length (text_bytes text.now) ≤ looks.new.count) }
 {
-    let (item, to) = standalone(alloc, text, limit, looks)?;
+    let (item, to) = standalone(alloc, text, text.start(), limit, looks)?;
     ends(text, to)?;
     Ok(item)
 }

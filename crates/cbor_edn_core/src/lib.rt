@@ -17,3 +17,4 @@ mod to_cbor;
 pub mod tree;
 #[cfg(test)]
 mod tree_tests;
+pub mod word;

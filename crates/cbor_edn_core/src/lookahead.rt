@@ -7,11 +7,13 @@ ghost use Rattle.cbor_edn_parts.specs.Leaves.{s_bytes, BorrowsS};
 ghost use Rattle.cbor_edn_core.specs.Borrowed.{BorrowsHead};
 ghost use Rattle.cbor_edn_core.specs.ParserResults.{IsNotAt, IsByteAt};
 ghost use Rattle.cbor_edn_core.specs.Lookahead.{Opens, OpensWith};
+ghost use Rattle.cbor_edn_core.specs.Reading as reading;
 ghost use Rattle.cbor_edn_core.specs.Reading.{head_of};
 ghost use Rattle.cbor_edn_core.specs.Trees as trees;
 ghost use Rattle.cbor_edn_core.specs.View.{texts, view_head};
 ghost use Rattle.cbor_edn_parts.specs.declared.error.ParseErrorKind.TheVariants.{Invalid};
 
+use crate::word::{NamedSimple, NonFinite, Word};
 use cbor_edn_parts::error::{Fault, ParseErrorKind, Refusal};
 use cbor_edn_parts::indicator::Indicator;
 use cbor_edn_parts::looks::Looks;
@@ -38,6 +40,8 @@ pub(crate) enum Opening {
     Map,
     /// A string of indefinite length.
     Stream,
+    /// A word, and the place behind it.
+    Word(Word, usize),
     String,
     Number,
 }
@@ -56,7 +60,78 @@ pub(crate) fn opening_at(text: &Text<'_>, at: usize, looks: &mut Looks) -> Openi
         }
         return Opening::Number;
     }
+    if let Some(word) = word_of(byte) {
+        if let Some(to) = word_at(text, at, word, looks) {
+            return Opening::Word(word, to);
+        }
+    }
     opening_of(byte)
+}
+
+/// The word that a byte begins: each begins with another one.
+fn word_of(byte: u8) -> Option<Word>
+    ensures { result ≡ reading.word_of byte }
+{
+    match byte {
+        b'f' => Some(Word::Named(NamedSimple::False)),
+        b't' => Some(Word::Named(NamedSimple::True)),
+        b'n' => Some(Word::Named(NamedSimple::Null)),
+        b'u' => Some(Word::Named(NamedSimple::Undefined)),
+        b's' => Some(Word::Simple),
+        b'I' => Some(Word::NonFinite(NonFinite::Infinity)),
+        b'-' => Some(Word::NonFinite(NonFinite::NegativeInfinity)),
+        b'N' => Some(Word::NonFinite(NonFinite::NaN)),
+        _ => None,
+    }
+}
+
+/// The place behind a word, where it stands at a place and is no prefix of a literal: those are read first.
+fn word_at(text: &Text<'_>, at: usize, word: Word, looks: &mut Looks) -> Option<usize>
+{
+    let to = behind(text, at, word.as_str().as_bytes(), looks)?;
+    if is_prefix(text, to, looks) { None } else { Some(to) }
+}
+
+/// The place behind ASCII bytes, where they stand at a place.
+fn behind(text: &Text<'_>, at: usize, bytes: &[u8], looks: &mut Looks) -> Option<usize>
+{
+    let mut to = at;
+    for byte in bytes {
+        if !is_at(text, to, *byte, looks) {
+            return None;
+        }
+        to += 1;
+    }
+    Some(to)
+}
+
+/// Whether the prefix of a literal goes on at a place, or ends there.
+fn is_prefix(text: &Text<'_>, at: usize, looks: &mut Looks) -> bool
+    ensures value { result ≡ reading.is_prefix (drop at (text_bytes text.now)) }
+    ensures count { looks.new.count ≡ looks.old.count + 1 }
+{
+    matches!(text.byte(at, looks), Some(b'a'..=b'z' | b'0'..=b'9' | b'\''))
+}
+
+/// The number of a tag, whose digits stand between two places: decimal, without a leading zero, and below 2^64.
+pub(crate) fn tag_number(
+    text: &Text<'_>,
+    from: usize,
+    to: usize,
+    looks: &mut Looks,
+) -> Option<u64>
+{
+    let mut number: u64 = 0;
+    for at in from..to {
+        let Some(digit @ b'0'..=b'9') = text.byte(at, looks) else {
+            return None;
+        };
+        if at > from && number == 0 {
+            return None;
+        }
+        number = number.checked_mul(10)?.checked_add(u64::from(digit - b'0'))?;
+    }
+    Some(number)
 }
 
 /// What begins with a byte that is no dot.

@@ -1,8 +1,8 @@
 //! The text of a tree.
-ghost use Rattle.std.specs.Prelude.{◌≡◌, ◌++◌, OnOk, IfOk};
+ghost use Rattle.std.specs.Prelude.{◌≡◌, ◌++◌, ◌∷◌, [], OnOk, IfOk};
 ghost use Rattle.std.specs.String.{string_bytes};
 ghost use Rattle.cbor_edn_parts.specs.Indicator.{indicator_text};
-ghost use Rattle.cbor_edn_core.specs.Trees.{text, head_text, items};
+ghost use Rattle.cbor_edn_core.specs.Trees.{text, onto, head_text, items};
 ghost use Rattle.cbor_edn_core.specs.Spelling.{Spells, SpellsSequence, SpellsOne};
 ghost use Rattle.cbor_edn_core.specs.View.{texts, view_head, view_list, view_items, row_text, view_pair_list, view_pairs, view_pair, pair_row_text, view_string, view_piece, piece_row_text, view_stream, view_strings, string_row_text, item_tree, standalone_tree, sequence_tree};
 
@@ -61,6 +61,16 @@ fn push_sequence(out: &mut String, sequence: &Sequence<'_>) -> Result<(), AllocE
     }
 }
 
+#[cycle(push)]
+fn push_enclosed(out: &mut String, content: &StandaloneItem<'_>) -> Result<(), AllocError>
+    ensures { OnOk result (string_bytes out.new ≡ string_bytes out.old ++ 40 ∷ onto (standalone_tree content.now) (41 ∷ [])) }
+{
+    out.push_str("(")?;
+    push_standalone(out, content)?;
+    out.push_str(")")
+}
+
+#[cycle(push)]
 #[tactic(auto, using(crate::proofs::Texts::text_standalone, std::proofs::Common::append_assoc))]
 fn push_standalone(out: &mut String, item: &StandaloneItem<'_>) -> Result<(), AllocError>
     ensures { OnOk result (string_bytes out.new ≡ string_bytes out.old ++ text (standalone_tree item.now)) }
@@ -100,6 +110,20 @@ fn push_item(out: &mut String, item: &Item<'_>) -> Result<(), AllocError>
         InnerItem::Number(number, indicator) => {
             out.push_str(number.as_str())?;
             push_indicator(out, *indicator)
+        }
+        InnerItem::NonFinite(float, indicator) => {
+            out.push_str(float.as_str())?;
+            push_indicator(out, *indicator)
+        }
+        InnerItem::Tagged(number, indicator, content) => {
+            write!(out, "{number}")?;
+            push_indicator(out, *indicator)?;
+            push_enclosed(out, content)
+        }
+        InnerItem::Named(name) => out.push_str(name.as_str()),
+        InnerItem::Simple(content) => {
+            out.push_str("simple")?;
+            push_enclosed(out, content)
         }
         InnerItem::Array(list) => {
             out.push_str("[")?;

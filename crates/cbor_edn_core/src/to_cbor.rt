@@ -13,8 +13,8 @@ ghost use Rattle.cbor_edn_core.specs.Encoding as calls;
 ghost use Rattle.cbor_edn_core.specs.Encoding.{Encodes, Finds, Gathers, NoEncoding, entry_encoding, string_encodings, row_items, list_head, list_end};
 
 use crate::cbor::{
-    length_of, push_chunk, push_integer, push_list_end, push_list_head, push_string, same_kind,
-    string_major,
+    length_of, push_chunk, push_float, push_integer, push_list_end, push_list_head,
+    push_marked_head, push_simple, push_string, same_kind, simple_number, string_major,
 };
 use crate::tree::{
     CborString, InnerItem, Item, ItemList, Items, Kp, PairList, Pairs, Piece, Sequence,
@@ -22,7 +22,7 @@ use crate::tree::{
 };
 use cbor_edn_parts::error::{Fault, InconsistentEdn};
 use cbor_edn_parts::indicator::Indicator;
-use cbor_edn_parts::number::Number;
+use cbor_edn_parts::number::{Integer, Number};
 use cbor_edn_parts::space::{Ms, Msc, S};
 use cbor_edn_parts::string::{Literal, StringKind};
 use std::alloc::Global;
@@ -70,10 +70,57 @@ fn push_item(out: &mut Vec<u8>, item: &Item<'_>) -> Result<(), Fault<Inconsisten
 {
     match &item.inner {
         InnerItem::Number(number, indicator) => push_number(out, number, *indicator),
+        InnerItem::NonFinite(float, indicator) => push_float(out, *float, *indicator),
+        InnerItem::Tagged(number, indicator, content) => {
+            push_marked_head(out, 6, *indicator, *number)?;
+            push_item(out, &content.item)
+        }
+        InnerItem::Named(name) => Ok(push_simple(out, simple_number(*name))?),
+        InnerItem::Simple(content) => push_numeric(out, &content.item),
         InnerItem::Array(list) => push_array(out, list),
         InnerItem::Map(list) => push_map(out, list),
         InnerItem::String(string) => push_pieces(out, string),
         InnerItem::Stream(stream) => push_stream(out, &stream.strings),
+    }
+}
+
+/// Writes the simple value that an item stands for, which is an integer literal.
+#[tactic(auto, unfolding(crate::specs::Trees::items))]
+fn push_numeric(out: &mut Vec<u8>, item: &Item<'_>) -> Result<(), Fault<InconsistentEdn>>
+    ensures { Encodes encoding (meaning.means_simple (trees.items (item_tree item.now))) out.old.items out.new.items result }
+{
+    let InnerItem::Number(number, indicator) = &item.inner else {
+        return Err(Fault::Told(InconsistentEdn::InvalidSimple));
+    };
+    let number = simple_of(number, *indicator)?;
+    push_simple(out, number)?;
+    Ok(())
+}
+
+/// The number of a simple value, where it is one, and its indicator the shortest.
+fn simple_of(
+    number: &Number<'_>,
+    indicator: Option<Indicator>,
+) -> Result<u8, Fault<InconsistentEdn>>
+    ensures { Finds (meaning.simple_of (number_bytes number.now) indicator) result }
+{
+    match number.integer() {
+        Some(Integer::Positive(n @ (0..=23 | 32..=255))) if is_shortest(indicator, n as u8) => {
+            Ok(n as u8)
+        }
+        _ => Err(Fault::Told(InconsistentEdn::InvalidSimple)),
+    }
+}
+
+/// Whether the indicator, if there is one, is that of the shortest head.
+fn is_shortest(indicator: Option<Indicator>, number: u8) -> bool
+    ensures { result ≡ meaning.is_shortest indicator number }
+{
+    match indicator {
+        None => true,
+        Some(Indicator::Immediate) => number < 24,
+        Some(Indicator::One) => number >= 24,
+        Some(_) => false,
     }
 }
 

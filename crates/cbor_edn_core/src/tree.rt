@@ -4,6 +4,7 @@
 ghost use Rattle.std.specs.Prelude.{List, ℕ};
 ghost use Rattle.cbor_edn_parts.specs.Leaves.{s_bytes, ms_bytes, msc_bytes, soc_bytes, number_bytes, literal_bytes, dots_bytes};
 
+use crate::word::{NamedSimple, NonFinite};
 pub use cbor_edn_parts::indicator::Indicator;
 use cbor_edn_parts::number::Number;
 use cbor_edn_parts::space::{Ms, Msc, S, Soc};
@@ -11,7 +12,7 @@ use cbor_edn_parts::string::{Dots, Literal};
 use std::fmt::Debug;
 use std::marker::PhantomData;
 
-/// How deep arrays, maps and embedded sequences may nest where no limit is given.
+/// How deep arrays, maps, tags, `simple(..)` and embedded sequences may nest where no limit is given.
 pub const NESTING_LIMIT: usize = 512;
 
 /// The types of the leaves of a tree, and the bytes that each stands for.
@@ -104,6 +105,14 @@ pub struct ItemOf<L: Leaves> {
 pub enum InnerItem<L: Leaves> {
     /// A number and its encoding indicator.
     Number(L::Number, Option<Indicator>),
+    /// A floating-point number that is not finite, and its encoding indicator.
+    NonFinite(NonFinite, Option<Indicator>),
+    /// A tag's number and encoding indicator, and what stands between its parentheses.
+    Tagged(u64, Option<Indicator>, Box<StandaloneItemOf<L>>),
+    /// A simple value by its name.
+    Named(NamedSimple),
+    /// What stands between the parentheses of `simple(..)`.
+    Simple(Box<StandaloneItemOf<L>>),
     Array(ItemList<L>),
     Map(PairList<L>),
     String(CborString<L>),
@@ -209,6 +218,7 @@ pub struct Pairs<L: Leaves> {
 }
 
 /// An item with the spaces round it, over any leaves.
+#[cycle(tree)]
 #[derive(Debug, Drop)]
 pub struct StandaloneItemOf<L: Leaves> {
     pub(crate) before: L::Space,

@@ -144,6 +144,9 @@ pub enum InconsistentEdn {
     /// An encoding indicator on a number, a string or a list whose argument it does not fit.
     #[error("Encoding indicator does not fit")]
     IndicatorDoesNotFit,
+    /// `simple(..)` over anything but an integer literal of 0 to 23 or 32 to 255 with the shortest head.
+    #[error("Invalid simple value")]
+    InvalidSimple,
     #[error("Encoding indicators present on string expressed in multiple EDN chunks")]
     IndicatorOnPiece,
     /// Dots, or a literal with a prefix that stands for no bytes.

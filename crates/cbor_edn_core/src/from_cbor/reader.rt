@@ -10,12 +10,13 @@ ghost use Rattle.cbor_edn_core.specs.View.{texts, view_head, view_items, view_pa
 ghost use Rattle.cbor_edn_core.specs.Decoded as decoded;
 ghost use Rattle.cbor_edn_core.specs.Decoded.{inside};
 ghost use Rattle.cbor_edn_core.specs.CborReading as reading;
-ghost use Rattle.cbor_edn_core.specs.CborReading.{Gives, trees, head_at, many, until, several, pair_at, array_by, map_by, item_by, item_at, inner, shown, argument_indicator};
+ghost use Rattle.cbor_edn_core.specs.CborReading.{Gives, trees, head_at, many, until, several, pair_at, array_by, map_by, tag_by, item_by, item_at, inner, shown, argument_indicator};
 ghost use Rattle.cbor_edn_core.specs.Growing.{grown};
 
 use super::CborError;
 use super::finish::{finish_items, finish_pairs};
 use super::growing::Growing;
+use super::special::{enclosed, special_of};
 use super::strings::string_of;
 use crate::cbor::Width;
 use crate::tree::{InnerItem, Item, ItemList, Items, Kp, PairList, Pairs, Texts};
@@ -359,6 +360,31 @@ fn map_of<'a, 'b>(
     Ok((object(argument, pairs), rest))
 }
 
+/// A tag and the item that it holds.
+#[cycle(item)]
+fn tag_of<'a, 'b>(
+    alloc: Global,
+    argument: Argument,
+    bytes: &'b [u8],
+    limit: usize,
+) -> Result<(Item<'a>, &'b [u8]), Fault<CborError>>
+    ensures exact { Gives (λ x. (item_tree x.0, x.1.now)) result (tag_by trees (inner trees limit) argument bytes.now) }
+    ensures shorter { IfOk result (λ x. length x.1.now ≤ length bytes.now) }
+{
+    let Some((_, number)) = argument else {
+        return Err(Fault::Told(CborError::OpenNumber));
+    };
+    if limit == 0 {
+        return Err(Fault::Told(CborError::TooDeep));
+    }
+    let (content, rest) = item_of(alloc, bytes, limit - 1)?;
+    let content = enclosed(alloc, content)?;
+    let item = Item {
+        inner: InnerItem::Tagged(number, indicator_of(argument), content),
+    };
+    Ok((item, rest))
+}
+
 /// The item behind a head.
 #[cycle(item)]
 #[tactic(auto, unfolding(crate::specs::CborReading::item_by))]
@@ -391,11 +417,8 @@ fn content_of<'a, 'b>(
         3 => string_of(alloc, StringKind::Text, argument, bytes),
         4 => array_of(alloc, argument, bytes, limit),
         5 => map_of(alloc, argument, bytes, limit),
-        7 => match argument {
-            Some(_) => Err(Fault::Told(CborError::Reserved)),
-            None => Err(Fault::Told(CborError::MisplacedBreak)),
-        },
-        _ => Err(Fault::Told(CborError::Reserved)),
+        6 => tag_of(alloc, argument, bytes, limit),
+        _ => Ok((special_of(alloc, argument, limit)?, bytes)),
     }
 }
 

@@ -1,0 +1,99 @@
+//! Simple values and floating-point numbers from their encoding.
+ghost use Rattle.std.specs.Prelude.{◌≡◌, IfOk, None};
+ghost use Rattle.cbor_edn_core.specs.CborReading as reading;
+ghost use Rattle.cbor_edn_core.specs.CborReading.{Gives, trees, inner};
+ghost use Rattle.cbor_edn_core.specs.Decoded as decoded;
+ghost use Rattle.cbor_edn_core.specs.Decoded.{alone};
+ghost use Rattle.cbor_edn_core.specs.Trees.{NumberTree};
+ghost use Rattle.std.specs.Fmt.{decimal};
+ghost use Rattle.cbor_edn_core.specs.View.{item_tree, standalone_tree};
+
+use super::CborError;
+use super::reader::{Argument, indicator_of};
+use crate::cbor::{Width, float_bits};
+use crate::tree::{Indicator, InnerItem, Item, StandaloneItem};
+use crate::word::{NamedSimple, NonFinite};
+use cbor_edn_parts::error::Fault;
+use cbor_edn_parts::number::{Integer, Number};
+use cbor_edn_parts::space::S;
+use std::alloc::{AllocError, Global};
+
+/// The simple value or the floating-point number of a head of major type 7.
+pub(super) fn special_of<'a>(
+    alloc: Global,
+    argument: Argument,
+    limit: usize,
+) -> Result<Item<'a>, Fault<CborError>>
+    ensures { Gives item_tree result (reading.special_by trees (inner trees limit) argument) }
+{
+    match argument {
+        None => Err(Fault::Told(CborError::MisplacedBreak)),
+        Some((Width::Immediate, n)) => simple_of(alloc, n as u8, limit),
+        Some((Width::One, n)) if n < 32 => Err(Fault::Told(CborError::InvalidSimple)),
+        Some((Width::One, n)) => simple_of(alloc, n as u8, limit),
+        Some((width, bits)) => float_of(width, bits),
+    }
+}
+
+/// A simple value by its name, or in `simple(..)`, which nests.
+fn simple_of<'a>(alloc: Global, number: u8, limit: usize) -> Result<Item<'a>, Fault<CborError>>
+    ensures { Gives item_tree result (reading.simple_by trees (inner trees limit) number) }
+{
+    let inner = match number {
+        20 => InnerItem::Named(NamedSimple::False),
+        21 => InnerItem::Named(NamedSimple::True),
+        22 => InnerItem::Named(NamedSimple::Null),
+        23 => InnerItem::Named(NamedSimple::Undefined),
+        _ if limit == 0 => return Err(Fault::Told(CborError::TooDeep)),
+        _ => InnerItem::Simple(enclosed(alloc, numeral(alloc, number)?)?),
+    };
+    Ok(Item { inner })
+}
+
+fn numeral<'a>(alloc: Global, number: u8) -> Result<Item<'a>, AllocError>
+    ensures { IfOk result (λ t. item_tree t ≡ NumberTree (decimal number) None) }
+{
+    let number = Number::decimal(alloc, Integer::Positive(u128::from(number)))?;
+    Ok(Item {
+        inner: InnerItem::Number(number, None),
+    })
+}
+
+/// The item with no space round it, behind a pointer.
+pub(super) fn enclosed<'a>(
+    alloc: Global,
+    item: Item<'a>,
+) -> Result<Box<StandaloneItem<'a>>, AllocError>
+    ensures { IfOk result (λ t. standalone_tree t ≡ alone (item_tree item.entry)) }
+{
+    let item = StandaloneItem {
+        before: S::empty(),
+        item,
+        after: S::empty(),
+    };
+    Ok(Box::new(alloc, item)?)
+}
+
+/// The floating-point number of so many bytes with these bits, which is none of the finite ones.
+fn float_of<'a>(width: Width, bits: u64) -> Result<Item<'a>, Fault<CborError>>
+    ensures { Gives item_tree result (reading.float_by trees width (reading.float_of width bits)) }
+{
+    for float in [NonFinite::Infinity, NonFinite::NegativeInfinity, NonFinite::NaN] {
+        if bits == float_bits(width, float) {
+            return Ok(Item { inner: InnerItem::NonFinite(float, float_indicator(width)) });
+        }
+    }
+    Err(Fault::Told(CborError::FloatOutOfScope))
+}
+
+/// The indicator of a floating-point number, which is always printed.
+fn float_indicator(width: Width) -> Option<Indicator>
+    ensures { result ≡ decoded.float_indicator width }
+{
+    match width {
+        Width::Two => Some(Indicator::Two),
+        Width::Four => Some(Indicator::Four),
+        Width::Eight => Some(Indicator::Eight),
+        Width::Immediate | Width::One => None,
+    }
+}
