@@ -37,9 +37,8 @@ abbrev mutual
   pub BorrowsInner : InnerItem Texts S Ms Msc Soc Number Literal Dots → Type 0
   BorrowsInner (inner.Number n i) = BorrowsNumber n
   BorrowsInner (inner.NonFinite f i) = Unit {0}
-  BorrowsInner (inner.Tagged' n i p before item after) = BorrowsS before × BorrowsInner item × BorrowsS after
   BorrowsInner (inner.Named b) = Unit {0}
-  BorrowsInner (inner.Simple' p before item after) = BorrowsS before × BorrowsInner item × BorrowsS after
+  BorrowsInner (inner.Enclosed' l p before item after) = BorrowsS before × BorrowsInner item × BorrowsS after
   BorrowsInner (inner.Array list) = BorrowsList list
   BorrowsInner (inner.Map list) = BorrowsPairList list
   BorrowsInner (inner.String' n row last) = BorrowsPieces row × BorrowsPiece last

@@ -18,8 +18,9 @@ use Rattle.cbor_edn_core.specs.declared.from_cbor.reader.Stop.{Stop}
 use Rattle.cbor_edn_core.specs.declared.from_cbor.reader.Stop.TheVariants.{Break, EndOfData}
 use Rattle.cbor_edn_core.specs.Items as kind
 use Rattle.cbor_edn_core.specs.Items.{Row, Elements, Strings, Bracketed, Array, Map, entries_of}
-use Rattle.cbor_edn_core.specs.Trees.{Tree, OneItem, OneString, OneEntry, Rest, NumberTree, FloatTree, TagTree, ListTree, StringTree, LiteralTree, LastPieceTree, ElementTree, ChunkTree}
+use Rattle.cbor_edn_core.specs.Trees.{Tree, OneItem, OneString, OneEntry, Rest, NumberTree, FloatTree, EnclosedTree, ListTree, StringTree, LiteralTree, LastPieceTree, ElementTree, ChunkTree}
 use Rattle.cbor_edn_core.specs.Value.{Chunk, is_content, string_major, break, float_bits, simple_nesting}
+use Rattle.cbor_edn_core.specs.declared.tree.Label.TheVariants.{Tag}
 use Rattle.cbor_edn_core.specs.declared.word.NonFinite.{NonFinite}
 use Rattle.cbor_edn_core.specs.declared.word.NonFinite.TheVariants.{Infinity, NegativeInfinity, NaN}
 use Rattle.cbor_edn_core.specs.Decoded.{indicator_of, float_indicator, simple_item, in_front, inside, key_value, stream_tree, alone, regular}
@@ -264,7 +265,7 @@ trees = record {
   array = λ argument ws. list_tree Array argument (element_row ws);
   pair = key_value;
   object = λ argument es. list_tree Map argument (row_of es);
-  tag = λ w n t. TagTree n (indicator_of w n) (alone t);
+  tag = λ w n t. EnclosedTree (Tag n (indicator_of w n)) (alone t);
   simple = simple_tree;
   float = λ w f. FloatTree f (float_indicator w);
 }

@@ -7,10 +7,11 @@ use Rattle.cbor_edn_parts.specs.Contents.{kind_literal, empty_literal}
 use Rattle.cbor_edn_parts.specs.declared.string.StringKind.{StringKind}
 use Rattle.cbor_edn_core.specs.declared.cbor.Width.{Width}
 use Rattle.cbor_edn_core.specs.declared.cbor.Width.TheVariants.{Immediate, One, Two, Four, Eight}
+use Rattle.cbor_edn_core.specs.declared.tree.Label.TheVariants as label
 use Rattle.cbor_edn_core.specs.declared.word.NamedSimple.TheVariants.{False, True, Null, Undefined}
 use Rattle.cbor_edn_core.specs.Items as kind
 use Rattle.cbor_edn_core.specs.Items.{Row, Elements, Strings, Bracketed, Array, Map, entries_of, Sort, Item, Piece, Pieces, Entry, Entries, Node, Number, Float, Listed, Tagged, Named, Simple, String, Stream, Literal, Dots, Embedded, LastPiece, Plus, Element, Pair, Chunk, End, Then, Items}
-use Rattle.cbor_edn_core.specs.Trees.{Tree, OneItem, OnePiece, OneString, OneEntry, Inside, Rest, Seq, Standalone, Head, Unmarked, Marked, NumberTree, FloatTree, TagTree, NamedTree, SimpleTree, ListTree, StringTree, StreamTree, LiteralTree, DotsTree, EmbeddedTree, LastPieceTree, PlusTree, ElementTree, PairTree, ChunkTree, EmptyTree, FullTree, LastTree, MoreTree, NothingTree, SequenceTree, StandaloneTree, items}
+use Rattle.cbor_edn_core.specs.Trees.{Tree, OneItem, OnePiece, OneString, OneEntry, Inside, Rest, Seq, Standalone, Head, Unmarked, Marked, NumberTree, FloatTree, NamedTree, EnclosedTree, ListTree, StringTree, StreamTree, LiteralTree, DotsTree, EmbeddedTree, LastPieceTree, PlusTree, ElementTree, PairTree, ChunkTree, EmptyTree, FullTree, LastTree, MoreTree, NothingTree, SequenceTree, StandaloneTree, items}
 use Rattle.cbor_edn_core.specs.Value as values
 use Rattle.cbor_edn_core.specs.Value.{Value, unsigned, negative, string, chunks, array, object, tag, simple, float, Values, no_values, value, values_len, Pairs, no_pairs, pair, pairs_len, nesting, values_nesting, Enc, EncAll}
 use Rattle.cbor_edn_core.specs.Meaning.{means}
@@ -133,9 +134,9 @@ unfoldable pub regular : {s : Sort} → Node s → Regular s
 regular (Number x i) = NumberTree x i
 regular (Float f i) = FloatTree f i
 regular (Listed k i m) = ListTree k (inside i (regular m))
-regular (Tagged n i w) = TagTree n i (alone (regular w))
+regular (Tagged n i w) = EnclosedTree (label.Tag n i) (alone (regular w))
 regular (Named b) = NamedTree b
-regular (Simple w) = SimpleTree (alone (regular w))
+regular (Simple w) = EnclosedTree label.Simple (alone (regular w))
 regular (String w) = StringTree (regular w)
 regular (Stream m) = stream_tree (regular m)
 regular (Literal x i) = LiteralTree x i

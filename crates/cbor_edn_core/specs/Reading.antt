@@ -13,6 +13,9 @@ use Rattle.cbor_edn_parts.specs.LiteralTokens.{literal, dots, is_lower, is_upper
 use Rattle.cbor_edn_parts.specs.Number.{number_of}
 use Rattle.cbor_edn_parts.specs.Contents.{same}
 use Rattle.std.specs.Fmt.{decimal}
+use Rattle.cbor_edn_core.specs.declared.tree.Label.{Label}
+use Rattle.cbor_edn_core.specs.declared.tree.Label.TheVariants.{Tag}
+use Rattle.cbor_edn_core.specs.declared.tree.Label.TheVariants as label
 use Rattle.cbor_edn_core.specs.declared.word.NamedSimple.TheVariants.{False, True, Null, Undefined}
 use Rattle.cbor_edn_core.specs.declared.word.NonFinite.TheVariants.{Infinity, NegativeInfinity, NaN}
 use Rattle.cbor_edn_core.specs.declared.word.Word.{Word}
@@ -20,7 +23,7 @@ use Rattle.cbor_edn_core.specs.declared.word.Word.TheVariants.{Named, Simple, No
 use Rattle.cbor_edn_core.specs.Words.{word_text}
 use Rattle.cbor_edn_core.specs.Items.{Row, Elements, Pairs, Strings, Bracketed, Array, Map, entries_of}
 use Rattle.cbor_edn_core.specs.Spelling.{ending}
-use Rattle.cbor_edn_core.specs.Trees.{Rule, OneItem, OnePiece, OneString, OneEntry, Inside, Rest, Seq, Standalone, Head, Unmarked, Marked, Tree, NumberTree, FloatTree, TagTree, NamedTree, SimpleTree, ListTree, StringTree, StreamTree, LiteralTree, DotsTree, EmbeddedTree, LastPieceTree, PlusTree, ElementTree, PairTree, ChunkTree, EmptyTree, FullTree, LastTree, MoreTree, NothingTree, SequenceTree, StandaloneTree, joins}
+use Rattle.cbor_edn_core.specs.Trees.{Rule, OneItem, OnePiece, OneString, OneEntry, Inside, Rest, Seq, Standalone, Head, Unmarked, Marked, Tree, NumberTree, FloatTree, NamedTree, EnclosedTree, ListTree, StringTree, StreamTree, LiteralTree, DotsTree, EmbeddedTree, LastPieceTree, PlusTree, ElementTree, PairTree, ChunkTree, EmptyTree, FullTree, LastTree, MoreTree, NothingTree, SequenceTree, StandaloneTree, joins}
 
 infixl 10 ◌>>=◌
 unfoldable pub ◌>>=◌ : {A B : Type 0} → Result A ParseErrorKind → (A → Result B ParseErrorKind) → Result B ParseErrorKind
@@ -112,14 +115,14 @@ tag_number x = cond (same x (decimal (number_of 10 x)) && nat_lt (number_of 10 x
 
 -- Each rule, by readers for a smaller text: `g n` for what nests at most n deep.
 module _ (g : ℕ → (s : Rule) → Reader s) where
-  -- an item between parentheses, with the spaces round it
-  unfoldable pub enclosed : (limit : ℕ) → Reader Standalone
-  enclosed zero xs = byte 40 xs >>= λ r. Err TooDeep
-  enclosed (suc limit) xs = byte 40 xs >>= λ r. g limit Standalone r >>= λ w. byte 41 w.1 >>= λ r. Ok (w.0, r)
+  -- an item between parentheses, behind a label
+  unfoldable pub enclosed_item : (limit : ℕ) → Label → Reader OneItem
+  enclosed_item zero l xs = byte 40 xs >>= λ r. Err TooDeep
+  enclosed_item (suc limit) l xs = byte 40 xs >>= λ r. g limit Standalone r >>= λ w. byte 41 w.1 >>= λ r. Ok (EnclosedTree l w.0, r)
 
   -- behind the number of a tag and its indicator
   unfoldable pub tag_item : ℕ → List ℕ → Option Indicator → Reader OneItem
-  tag_item limit x i xs = or_invalid (tag_number x) >>= λ n. enclosed limit xs >>= λ w. Ok (TagTree n i w.0, w.1)
+  tag_item limit x i xs = or_invalid (tag_number x) >>= λ n. enclosed_item limit (Tag n i) xs
 
   -- behind a number and its indicator: where a parenthesis follows, they are those of a tag
   unfoldable pub number_end : ℕ → List ℕ → Option Indicator → Reader OneItem
@@ -131,7 +134,7 @@ module _ (g : ℕ → (s : Rule) → Reader s) where
   -- behind a word
   unfoldable pub word_item : ℕ → Word → Reader OneItem
   word_item limit (Named b) xs = Ok (NamedTree b, xs)
-  word_item limit Simple xs = enclosed limit xs >>= λ w. Ok (SimpleTree w.0, w.1)
+  word_item limit Simple xs = enclosed_item limit label.Simple xs
   word_item limit (NonFinite f) xs = Ok (FloatTree f (indicator_at xs).0, (indicator_at xs).1)
 
   -- behind the opening byte

@@ -8,12 +8,14 @@ use Rattle.std.proofs.lemmas.Bool.{false≢true, eqb-true, eq-eqb}
 use Rattle.std.proofs.lemmas.Cmp.{nat_list_eq_equiv}
 use Rattle.cbor_edn_parts.specs.declared.indicator.Indicator.{Indicator}
 use Rattle.cbor_edn_parts.specs.declared.indicator.Indicator.TheVariants.{Indefinite, Immediate, One, Two, Four, Eight}
+use Rattle.cbor_edn_core.specs.declared.tree.Label.{Label}
+use Rattle.cbor_edn_core.specs.declared.tree.Label.TheVariants.{Tag, Simple}
 use Rattle.cbor_edn_core.specs.declared.word.NamedSimple.{NamedSimple}
 use Rattle.cbor_edn_core.specs.declared.word.NamedSimple.TheVariants.{False, True, Null, Undefined}
 use Rattle.cbor_edn_core.specs.declared.word.NonFinite.{NonFinite}
 use Rattle.cbor_edn_core.specs.declared.word.NonFinite.TheVariants.{Infinity, NegativeInfinity, NaN}
 use Rattle.cbor_edn_core.specs.Items.{Row, Array, Map}
-use Rattle.cbor_edn_core.specs.Trees.{Rule, OnePiece, OneEntry, Head, Unmarked, Marked, Tree, NumberTree, FloatTree, TagTree, NamedTree, SimpleTree, ListTree, StringTree, StreamTree, LiteralTree, DotsTree, EmbeddedTree, LastPieceTree, PlusTree, ElementTree, PairTree, ChunkTree, EmptyTree, FullTree, LastTree, MoreTree, NothingTree, SequenceTree, StandaloneTree}
+use Rattle.cbor_edn_core.specs.Trees.{Rule, OnePiece, OneEntry, Head, Unmarked, Marked, Tree, NumberTree, FloatTree, NamedTree, EnclosedTree, ListTree, StringTree, StreamTree, LiteralTree, DotsTree, EmbeddedTree, LastPieceTree, PlusTree, ElementTree, PairTree, ChunkTree, EmptyTree, FullTree, LastTree, MoreTree, NothingTree, SequenceTree, StandaloneTree}
 
 abbrev pub same_bytes : List ℕ → List ℕ → Bool
 same_bytes = pointwise nat_eq
@@ -45,6 +47,11 @@ same_float NegativeInfinity NegativeInfinity = true
 same_float NaN NaN = true
 same_float _ _ = false
 
+abbrev pub same_label : Label → Label → Bool
+same_label (Tag n i) (Tag k j) = nat_eq n k && same_indicator i j
+same_label Simple Simple = true
+same_label _ _ = false
+
 abbrev pub same_head : Head → Head → Bool
 same_head Unmarked Unmarked = true
 same_head (Marked i s) (Marked j t) = same_word i j && same_bytes s t
@@ -54,9 +61,8 @@ same_head _ _ = false
 abbrev pub same : {s : Rule} → Tree s → Tree s → Bool
 same (NumberTree x i) (NumberTree y j) = same_bytes x y && same_indicator i j
 same (FloatTree f i) (FloatTree g j) = same_float f g && same_indicator i j
-same (TagTree n i w) (TagTree k j v) = nat_eq n k && (same_indicator i j && same w v)
 same (NamedTree b) (NamedTree d) = same_named b d
-same (SimpleTree w) (SimpleTree v) = same w v
+same (EnclosedTree l w) (EnclosedTree m v) = same_label l m && same w v
 same (ListTree Array w) (ListTree Array v) = same w v
 same (ListTree Map w) (ListTree Map v) = same w v
 same (StringTree w) (StringTree v) = same w v
@@ -125,6 +131,11 @@ floats_are NegativeInfinity NegativeInfinity e = refl
 floats_are NaN NaN e = refl
 floats_are _ _ e = absurd (false≢true e)
 
+labels_are : (l m : Label) → same_label l m ≡ true → l ≡ m
+labels_are (Tag n i) (Tag k j) e = let h = both (eqb-true n k) (indicators_are i j) e in λ a. Tag (h.0 a) (h.1 a)
+labels_are Simple Simple e = refl
+labels_are _ _ e = absurd (false≢true e)
+
 heads_are : (h g : Head) → same_head h g ≡ true → h ≡ g
 heads_are Unmarked Unmarked e = refl
 heads_are (Marked i s) (Marked j t) e = let h = both (words_are i j) (bytes_are s t) e in λ k. Marked (h.0 k) (h.1 k)
@@ -133,9 +144,8 @@ heads_are _ _ e = absurd (false≢true e)
 pub same_are : {s : Rule} (a b : Tree s) → same a b ≡ true → a ≡ b
 same_are (NumberTree x i) (NumberTree y j) e = let h = both (bytes_are x y) (indicators_are i j) e in λ k. NumberTree (h.0 k) (h.1 k)
 same_are (FloatTree f i) (FloatTree g j) e = let h = both (floats_are f g) (indicators_are i j) e in λ k. FloatTree (h.0 k) (h.1 k)
-same_are (TagTree n i w) (TagTree m j v) e = let h = both (eqb-true n m) (both (indicators_are i j) (same_are w v)) e in λ k. TagTree (h.0 k) (h.1.0 k) (h.1.1 k)
 same_are (NamedTree b) (NamedTree d) e = λ k. NamedTree (named_are b d e k)
-same_are (SimpleTree w) (SimpleTree v) e = λ k. SimpleTree (same_are w v e k)
+same_are (EnclosedTree l w) (EnclosedTree m v) e = let h = both (labels_are l m) (same_are w v) e in λ k. EnclosedTree (h.0 k) (h.1 k)
 same_are (ListTree Array w) (ListTree Array v) e = λ i. ListTree Array (same_are w v e i)
 same_are (ListTree Map w) (ListTree Map v) e = λ i. ListTree Map (same_are w v e i)
 same_are (StringTree w) (StringTree v) e = λ i. StringTree (same_are w v e i)
@@ -186,6 +196,10 @@ float_refl Infinity = refl
 float_refl NegativeInfinity = refl
 float_refl NaN = refl
 
+label_refl : (l : Label) → same_label l l ≡ true
+label_refl (Tag n i) = both_true (eq-eqb n n refl) (indicator_refl i)
+label_refl Simple = refl
+
 head_refl : (h : Head) → same_head h h ≡ true
 head_refl Unmarked = refl
 head_refl (Marked i s) = both_true (word_refl i) (bytes_refl s)
@@ -193,9 +207,8 @@ head_refl (Marked i s) = both_true (word_refl i) (bytes_refl s)
 same_refl : {s : Rule} (a : Tree s) → same a a ≡ true
 same_refl (NumberTree x i) = both_true (bytes_refl x) (indicator_refl i)
 same_refl (FloatTree f i) = both_true (float_refl f) (indicator_refl i)
-same_refl (TagTree n i w) = both_true (eq-eqb n n refl) (both_true (indicator_refl i) (same_refl w))
 same_refl (NamedTree b) = named_refl b
-same_refl (SimpleTree w) = same_refl w
+same_refl (EnclosedTree l w) = both_true (label_refl l) (same_refl w)
 same_refl (ListTree Array w) = same_refl w
 same_refl (ListTree Map w) = same_refl w
 same_refl (StringTree w) = same_refl w

@@ -2,6 +2,8 @@
 use Rattle.std.specs.Fmt.{decimal}
 use Rattle.std.specs.Prelude.{ℕ, ◌<◌, ◌^◌, suc, max, Bool, true, false, not, eqb, ◌||◌, ◌&&◌, List, [], ◌∷◌, ◌≡◌, ◌++◌, Option, Some, None}
 use Rattle.cbor_edn_parts.specs.declared.indicator.Indicator.{Indicator}
+use Rattle.cbor_edn_core.specs.declared.tree.Label.{Label}
+use Rattle.cbor_edn_core.specs.declared.tree.Label.TheVariants as label
 use Rattle.cbor_edn_core.specs.declared.word.NamedSimple.{NamedSimple}
 use Rattle.cbor_edn_core.specs.declared.word.NonFinite.{NonFinite}
 use Rattle.cbor_edn_parts.specs.Bytes.{Follow, Closes}
@@ -40,16 +42,28 @@ abbrev pub head_text : Head → List ℕ
 head_text Unmarked = []
 head_text (Marked i ms) = indicator_text (Some i) ++ ms
 
+-- what stands in front of an item between parentheses: a tag's number and its indicator, or `simple`
+abbrev pub label_text : Label → List ℕ
+label_text (label.Tag n i) = decimal n ++ indicator_text i
+label_text label.Simple = simple_text
+
+-- a tag's number is below 2^64
+abbrev pub IsLabel : Label → Type 0
+IsLabel (label.Tag n i) = n < 2 ^ 64
+IsLabel label.Simple = Unit {0}
+
+abbrev pub labelled : Label → Node Item → Node Item
+labelled (label.Tag n i) w = Tagged n i w
+labelled label.Simple w = Simple w
+
 -- A use of a rule, with the texts that it leaves open.
 pub data Tree : Rule → Type 0 where
   NumberTree : List ℕ → Option Indicator → Tree OneItem
   -- `Infinity`, `-Infinity` or `NaN`
   FloatTree : NonFinite → Option Indicator → Tree OneItem
-  -- a tag's number, its indicator, and what stands between its parentheses
-  TagTree : ℕ → Option Indicator → Tree Standalone → Tree OneItem
   NamedTree : NamedSimple → Tree OneItem
-  -- what stands between the parentheses of `simple(..)`
-  SimpleTree : Tree Standalone → Tree OneItem
+  -- a label, and what stands between the parentheses behind it
+  EnclosedTree : Label → Tree Standalone → Tree OneItem
   ListTree : (k : Bracketed) → Tree (Inside k) → Tree OneItem
   StringTree : Tree OneString → Tree OneItem
   -- the space behind `(_`, and the strings
@@ -83,9 +97,8 @@ pub data Tree : Rule → Type 0 where
 unfoldable pub onto : {s : Rule} → Tree s → List ℕ → List ℕ
 onto (NumberTree x i) r = x ++ (indicator_text i ++ r)
 onto (FloatTree f i) r = non_finite_text f ++ (indicator_text i ++ r)
-onto (TagTree n i w) r = decimal n ++ (indicator_text i ++ (40 ∷ onto w (41 ∷ r)))
 onto (NamedTree b) r = named_text b ++ r
-onto (SimpleTree w) r = simple_text ++ (40 ∷ onto w (41 ∷ r))
+onto (EnclosedTree l w) r = label_text l ++ (40 ∷ onto w (41 ∷ r))
 onto (ListTree k w) r = opening k ∷ onto w (ending k ∷ r)
 onto (StringTree w) r = onto w r
 onto (StreamTree ms m) r = 40 ∷ 95 ∷ (ms ++ onto m (41 ∷ r))
@@ -117,9 +130,8 @@ head_space_onto (Marked i ms) r = ms ∷ r
 unfoldable pub spaces_onto : {s : Rule} → Tree s → List (List ℕ) → List (List ℕ)
 spaces_onto (NumberTree x i) r = r
 spaces_onto (FloatTree f i) r = r
-spaces_onto (TagTree n i w) r = spaces_onto w r
 spaces_onto (NamedTree b) r = r
-spaces_onto (SimpleTree w) r = spaces_onto w r
+spaces_onto (EnclosedTree l w) r = spaces_onto w r
 spaces_onto (ListTree k w) r = spaces_onto w r
 spaces_onto (StringTree w) r = spaces_onto w r
 spaces_onto (StreamTree ms m) r = ms ∷ spaces_onto m r
@@ -156,9 +168,8 @@ Of Standalone = Node Item
 unfoldable pub items : {s : Rule} → Tree s → Of s
 items (NumberTree x i) = Number x i
 items (FloatTree f i) = Float f i
-items (TagTree n i w) = Tagged n i (items w)
 items (NamedTree b) = Named b
-items (SimpleTree w) = Simple (items w)
+items (EnclosedTree l w) = labelled l (items w)
 items (ListTree k w) = Listed k (items w).0 (items w).1
 items (StringTree w) = String (items w)
 items (StreamTree ms m) = Stream (items m)
@@ -182,9 +193,8 @@ items (StandaloneTree s w t) = items w
 abbrev pub depth : {s : Rule} → Tree s → ℕ
 depth (NumberTree x i) = 0
 depth (FloatTree f i) = 0
-depth (TagTree n i w) = suc (depth w)
 depth (NamedTree b) = 0
-depth (SimpleTree w) = suc (depth w)
+depth (EnclosedTree l w) = suc (depth w)
 depth (ListTree k w) = suc (depth w)
 depth (StringTree w) = depth w
 depth (StreamTree ms m) = depth m
@@ -212,9 +222,8 @@ IsHead (Marked i ms) = is_ms ms ≡ true
 unfoldable pub Valid : {s : Rule} → Tree s → Type 0
 Valid (NumberTree x i) = is_number x ≡ true
 Valid (FloatTree f i) = Unit {0}
-Valid (TagTree n i w) = (n < 2 ^ 64) × Valid w
 Valid (NamedTree b) = Unit {0}
-Valid (SimpleTree w) = Valid w
+Valid (EnclosedTree l w) = IsLabel l × Valid w
 Valid (ListTree k w) = Valid w
 Valid (StringTree w) = Valid w
 Valid (StreamTree ms m) = (is_ms ms ≡ true) × Valid m
@@ -243,9 +252,8 @@ IsJoined (Marked i ms) s = s ≡ []
 unfoldable pub Joined : {s : Rule} → Tree s → Type 0
 Joined (NumberTree x i) = Unit {0}
 Joined (FloatTree f i) = Unit {0}
-Joined (TagTree n i w) = Joined w
 Joined (NamedTree b) = Unit {0}
-Joined (SimpleTree w) = Joined w
+Joined (EnclosedTree l w) = Joined w
 Joined (ListTree k w) = Joined w
 Joined (StringTree w) = Joined w
 Joined (StreamTree ms m) = Joined m

@@ -31,7 +31,7 @@ use Rattle.cbor_edn_core.specs.declared.tree.SequenceOf.{SequenceOf, SequenceOf'
 use Rattle.cbor_edn_core.specs.declared.tree.SequenceOf as sequence
 use Rattle.cbor_edn_core.specs.Items as kind
 use Rattle.cbor_edn_core.specs.Items.{Row}
-use Rattle.cbor_edn_core.specs.Trees.{Head, Unmarked, Marked, Tree, OneItem, OnePiece, OneString, OneEntry, Inside, Rest, Seq, Standalone, NumberTree, FloatTree, TagTree, NamedTree, SimpleTree, ListTree, StringTree, StreamTree, LiteralTree, DotsTree, EmbeddedTree, LastPieceTree, PlusTree, ElementTree, PairTree, ChunkTree, EmptyTree, FullTree, LastTree, MoreTree, NothingTree, SequenceTree, StandaloneTree, text}
+use Rattle.cbor_edn_core.specs.Trees.{Head, Unmarked, Marked, Tree, OneItem, OnePiece, OneString, OneEntry, Inside, Rest, Seq, Standalone, NumberTree, FloatTree, NamedTree, EnclosedTree, ListTree, StringTree, StreamTree, LiteralTree, DotsTree, EmbeddedTree, LastPieceTree, PlusTree, ElementTree, PairTree, ChunkTree, EmptyTree, FullTree, LastTree, MoreTree, NothingTree, SequenceTree, StandaloneTree, text}
 
 -- entries, each with the separator behind it, in front of a rest
 abbrev pub entries_onto : {k : Row} → List (Tree (OneEntry k) × List ℕ) → Tree (Rest k) → Tree (Rest k)
@@ -63,9 +63,8 @@ module _ {L S P M O N T D : Type 0} (leaves : Ghosts L S P M O N T D) where
     pub view_inner : InnerItem L S P M O N T D → Tree OneItem
     view_inner (inner.Number n i) = NumberTree (leaves.number n) i
     view_inner (inner.NonFinite f i) = FloatTree f i
-    view_inner (inner.Tagged' n i p before item after) = TagTree n i (StandaloneTree (leaves.space before) (view_inner item) (leaves.space after))
     view_inner (inner.Named b) = NamedTree b
-    view_inner (inner.Simple' p before item after) = SimpleTree (StandaloneTree (leaves.space before) (view_inner item) (leaves.space after))
+    view_inner (inner.Enclosed' l p before item after) = EnclosedTree l (StandaloneTree (leaves.space before) (view_inner item) (leaves.space after))
     view_inner (inner.Array list) = ListTree kind.Array (view_list list)
     view_inner (inner.Map list) = ListTree kind.Map (view_pair_list list)
     view_inner (inner.String' n row last) = StringTree (view_pieces row (LastPieceTree (view_piece last)))

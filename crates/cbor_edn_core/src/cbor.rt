@@ -7,10 +7,10 @@ ghost use Rattle.cbor_edn_core.specs.Meaning as meaning;
 ghost use Rattle.cbor_edn_core.specs.Meaning.{shortest, means_integer, tagged, magnitude_bytes};
 ghost use Rattle.cbor_edn_core.specs.Encoding.{Encodes, Finds, list_head, list_end};
 
+use crate::word::{NamedSimple, NonFinite};
 use cbor_edn_parts::error::{Fault, InconsistentEdn};
 use cbor_edn_parts::indicator::Indicator;
 use cbor_edn_parts::number::Integer;
-use crate::word::{NamedSimple, NonFinite};
 use cbor_edn_parts::string::StringKind;
 use std::alloc::AllocError;
 
@@ -265,7 +265,11 @@ pub(crate) fn float_bits(width: Width, float: NonFinite) -> u64
 pub(crate) fn push_simple(out: &mut Vec<u8>, number: u8) -> Result<(), AllocError>
     ensures { OnOk result (out.new.items ≡ out.old.items ++ encoding (values.simple number)) }
 {
-    let width = if number < 24 { Width::Immediate } else { Width::One };
+    let width = if number < 24 {
+        Width::Immediate
+    } else {
+        Width::One
+    };
     push_head(out, 7, width, u64::from(number))
 }
 

@@ -75,21 +75,14 @@ fn clone_item<'a>(item: &Item<'a>) -> Result<Item<'a>, AllocError>
         InnerItem::NonFinite(float, indicator) => Ok(ItemOf {
             inner: InnerItem::NonFinite(*float, *indicator),
         }),
-        InnerItem::Tagged(number, indicator, content) => {
-            let copy = clone_standalone(content)?;
-            let copy = Box::new(*Box::allocator(content), copy)?;
-            Ok(ItemOf {
-                inner: InnerItem::Tagged(*number, *indicator, copy),
-            })
-        }
         InnerItem::Named(name) => Ok(ItemOf {
             inner: InnerItem::Named(*name),
         }),
-        InnerItem::Simple(content) => {
+        InnerItem::Enclosed(label, content) => {
             let copy = clone_standalone(content)?;
             let copy = Box::new(*Box::allocator(content), copy)?;
             Ok(ItemOf {
-                inner: InnerItem::Simple(copy),
+                inner: InnerItem::Enclosed(*label, copy),
             })
         }
         InnerItem::Array(list) => {

@@ -1,11 +1,11 @@
 //! Whether two trees are written the same, spaces included.
 ghost use Rattle.std.specs.Prelude.{◌≡◌, ◌↔◌, IsTrue, map};
-ghost use Rattle.cbor_edn_core.specs.Same.{same, same_indicator, same_word, same_named, same_float, same_head, same_entries, same_pieces, same_laws};
+ghost use Rattle.cbor_edn_core.specs.Same.{same, same_indicator, same_word, same_named, same_float, same_label, same_head, same_entries, same_pieces, same_laws};
 ghost use Rattle.cbor_edn_core.specs.View.{texts, view_head, view_list, view_items, seen, view_pair_list, view_pairs, view_pair, seen_pair, view_string, view_piece, seen_piece, view_stream, view_strings, seen_string, item_tree, standalone_tree, sequence_tree};
 
 use crate::tree::{
-    CborString, Indicator, InnerItem, Item, ItemList, Items, Kp, PairList, Pairs, Piece, Sequence,
-    StandaloneItem, Stream, Strings, Texts,
+    CborString, Indicator, InnerItem, Item, ItemList, Items, Kp, Label, PairList, Pairs, Piece,
+    Sequence, StandaloneItem, Stream, Strings, Texts,
 };
 use crate::word::{NamedSimple, NonFinite};
 use cbor_edn_parts::space::{Ms, Msc, S};
@@ -87,6 +87,16 @@ fn have_same_indicator(a: Option<Indicator>, b: Option<Indicator>) -> bool
     }
 }
 
+fn have_same_label(a: Label, b: Label) -> bool
+    ensures { result ≡ same_label a b }
+{
+    match (a, b) {
+        (Label::Tag(n, i), Label::Tag(m, j)) => n == m && have_same_indicator(i, j),
+        (Label::Simple, Label::Simple) => true,
+        _ => false,
+    }
+}
+
 fn have_same_head(a: &Option<(Indicator, Ms<'_>)>, b: &Option<(Indicator, Ms<'_>)>) -> bool
     ensures { result ≡ same_head (view_head texts a.now) (view_head texts b.now) }
 {
@@ -109,11 +119,10 @@ fn same_item(a: &Item<'_>, b: &Item<'_>) -> bool
         (InnerItem::NonFinite(x, i), InnerItem::NonFinite(y, j)) => {
             have_same_float(*x, *y) && have_same_indicator(*i, *j)
         }
-        (InnerItem::Tagged(n, i, x), InnerItem::Tagged(m, j, y)) => {
-            *n == *m && have_same_indicator(*i, *j) && same_standalone(x, y)
-        }
         (InnerItem::Named(x), InnerItem::Named(y)) => have_same_name(*x, *y),
-        (InnerItem::Simple(x), InnerItem::Simple(y)) => same_standalone(x, y),
+        (InnerItem::Enclosed(m, x), InnerItem::Enclosed(n, y)) => {
+            have_same_label(*m, *n) && same_standalone(x, y)
+        }
         (InnerItem::Array(x), InnerItem::Array(y)) => same_list(x, y),
         (InnerItem::Map(x), InnerItem::Map(y)) => same_pair_list(x, y),
         (InnerItem::String(x), InnerItem::String(y)) => same_string(x, y),

@@ -14,18 +14,18 @@ ghost use Rattle.cbor_edn_parts.specs.Text.{text_bytes};
 ghost use Rattle.cbor_edn_core.specs.Borrowed.{BorrowsItem, BorrowsList, BorrowsItems, BorrowsPair, BorrowsPairList, BorrowsPairs, BorrowsPiece, BorrowsString, BorrowsStream, BorrowsStrings, BorrowsSequence, BorrowsStandalone, BorrowsEach, BorrowsEachPair, BorrowsEachString};
 ghost use Rattle.cbor_edn_core.specs.Items.{Elements, Pairs as Keyed, Strings as Chunks, Array as Bracket, Map as Brace};
 ghost use Rattle.cbor_edn_core.specs.ParserResults.{Reads, Gives, Lands, ReadsEnd, LandsEnd, CostsEnd, IsPlaced, IsPushed, IsByteAt, IsUnclosed, behind_colon, ReadsParted, LandsParted, CostsParted, parted, element_tree, chunk_tree};
-ghost use Rattle.cbor_edn_core.specs.Reading.{reads, reads_all, number_item, word_item, stream_item, starts_string};
+ghost use Rattle.cbor_edn_core.specs.Reading.{reads, reads_all, number_item, word_item, enclosed_item, stream_item, starts_string};
 ghost use Rattle.cbor_edn_core.specs.Trees.{LastTree, OneItem, OnePiece, OneString, OneEntry, Inside, Rest, Seq, Standalone};
 ghost use Rattle.cbor_edn_core.specs.View.{texts, item_tree, view_list, view_items, view_pair, view_pair_list, view_pairs, view_piece, view_string, view_stream, view_strings, row_onto, pair_row_onto, string_row_onto, sequence_tree, standalone_tree};
 
 use crate::lookahead::{Opening, closes, ends, is_at, joins, marked, opening_at, tag_number};
 use crate::tree::{
-    CborString, InnerItem, Item, ItemList, Items, Kp, PairList, Pairs, Piece, Sequence,
+    CborString, InnerItem, Item, ItemList, Items, Kp, Label, PairList, Pairs, Piece, Sequence,
     StandaloneItem, Stream, Strings, Texts,
 };
 use crate::word::Word;
 use cbor_edn_parts::error::{Fault, ParseErrorKind, Refusal};
-use cbor_edn_parts::indicator::{Indicator, indicator_at};
+use cbor_edn_parts::indicator::indicator_at;
 use cbor_edn_parts::looks::Looks;
 use cbor_edn_parts::number::number_at;
 use cbor_edn_parts::space::{End, Msc, S, Soc, separator_behind, space, space_behind};
@@ -79,37 +79,11 @@ fn numbered<'a>(
         let Some(number) = tag_number(text, from, at, looks) else {
             return Err(Fault::Told(Refusal::invalid(from)));
         };
-        return tagged(alloc, text, number, indicator, to, limit, looks);
+        return enclosed(alloc, text, Label::Tag(number, indicator), to, limit, looks);
     }
     Ok((
         Item {
             inner: InnerItem::Number(number, indicator),
-        },
-        unspaced(to),
-    ))
-}
-
-/// The tag of a number and an indicator, with what stands between its parentheses.
-#[cycle(item)]
-fn tagged<'a>(
-    alloc: Global,
-    text: &Text<'a>,
-    number: u64,
-    indicator: Option<Indicator>,
-    from: usize,
-    limit: usize,
-    looks: &mut Looks,
-) -> Result<(Item<'a>, End), Fault<Refusal>>
-    requires { IsCharBoundary (text_bytes text.now) from }
-    ensures borrowed { IfOk result (λ p. BorrowsItem p.0) }
-    ensures place { LandsEnd (text_bytes text.now) from result }
-    ensures cost { CostsEnd 12 4 12 (text_bytes text.now) from looks.old.count looks.new.count result }
-{
-    let (content, to) = enclosed(alloc, text, from, limit, looks)?;
-    let content = Box::new(alloc, content)?;
-    Ok((
-        Item {
-            inner: InnerItem::Tagged(number, indicator, content),
         },
         unspaced(to),
     ))
@@ -147,32 +121,25 @@ fn worded<'a>(
                 unspaced(to),
             ))
         }
-        Word::Simple => {
-            let (content, to) = enclosed(alloc, text, from, limit, looks)?;
-            let content = Box::new(alloc, content)?;
-            Ok((
-                Item {
-                    inner: InnerItem::Simple(content),
-                },
-                unspaced(to),
-            ))
-        }
+        Word::Simple => enclosed(alloc, text, Label::Simple, from, limit, looks),
     }
 }
 
-/// An item between parentheses, with the spaces round it.
+/// An item between parentheses, behind a label.
 #[cycle(item)]
 fn enclosed<'a>(
     alloc: Global,
     text: &Text<'a>,
+    label: Label,
     from: usize,
     limit: usize,
     looks: &mut Looks,
-) -> Result<(StandaloneItem<'a>, usize), Fault<Refusal>>
+) -> Result<(Item<'a>, End), Fault<Refusal>>
     requires { IsCharBoundary (text_bytes text.now) from }
-    ensures borrowed { IfOk result (λ p. BorrowsStandalone p.0) }
-    ensures place { Lands (text_bytes text.now) from result }
-    ensures cost { Costs 12 4 12 (text_bytes text.now) from looks.old.count looks.new.count result }
+    ensures value { ReadsEnd item_tree (text_bytes text.now) result (enclosed_item reads limit label (drop from (text_bytes text.now))) }
+    ensures borrowed { IfOk result (λ p. BorrowsItem p.0) }
+    ensures place { LandsEnd (text_bytes text.now) from result }
+    ensures cost { CostsEnd 12 4 14 (text_bytes text.now) from looks.old.count looks.new.count result }
 {
     if !is_at(text, from, b'(', looks) {
         return Err(Fault::Told(Refusal::invalid(from)));
@@ -184,7 +151,13 @@ fn enclosed<'a>(
     if !is_at(text, to, b')', looks) {
         return Err(Fault::Told(Refusal::invalid(to)));
     }
-    Ok((item, to + 1))
+    let item = Box::new(alloc, item)?;
+    Ok((
+        Item {
+            inner: InnerItem::Enclosed(label, item),
+        },
+        unspaced(to + 1),
+    ))
 }
 
 /// An end behind which no space is read.

@@ -86,15 +86,17 @@ fn word_of(byte: u8) -> Option<Word>
 }
 
 /// The place behind a word, where it stands at a place and is no prefix of a literal: those are read first.
-fn word_at(text: &Text<'_>, at: usize, word: Word, looks: &mut Looks) -> Option<usize>
-{
+fn word_at(text: &Text<'_>, at: usize, word: Word, looks: &mut Looks) -> Option<usize> {
     let to = behind(text, at, word.as_str().as_bytes(), looks)?;
-    if is_prefix(text, to, looks) { None } else { Some(to) }
+    if is_prefix(text, to, looks) {
+        None
+    } else {
+        Some(to)
+    }
 }
 
 /// The place behind ASCII bytes, where they stand at a place.
-fn behind(text: &Text<'_>, at: usize, bytes: &[u8], looks: &mut Looks) -> Option<usize>
-{
+fn behind(text: &Text<'_>, at: usize, bytes: &[u8], looks: &mut Looks) -> Option<usize> {
     let mut to = at;
     for byte in bytes {
         if !is_at(text, to, *byte, looks) {
@@ -119,8 +121,7 @@ pub(crate) fn tag_number(
     from: usize,
     to: usize,
     looks: &mut Looks,
-) -> Option<u64>
-{
+) -> Option<u64> {
     let mut number: u64 = 0;
     for at in from..to {
         let Some(digit @ b'0'..=b'9') = text.byte(at, looks) else {
@@ -129,7 +130,9 @@ pub(crate) fn tag_number(
         if at > from && number == 0 {
             return None;
         }
-        number = number.checked_mul(10)?.checked_add(u64::from(digit - b'0'))?;
+        number = number
+            .checked_mul(10)?
+            .checked_add(u64::from(digit - b'0'))?;
     }
     Some(number)
 }

@@ -1,14 +1,14 @@
 //! The text of a tree.
-ghost use Rattle.std.specs.Prelude.{◌≡◌, ◌++◌, ◌∷◌, [], OnOk, IfOk};
+ghost use Rattle.std.specs.Prelude.{◌≡◌, ◌++◌, OnOk, IfOk};
 ghost use Rattle.std.specs.String.{string_bytes};
 ghost use Rattle.cbor_edn_parts.specs.Indicator.{indicator_text};
-ghost use Rattle.cbor_edn_core.specs.Trees.{text, onto, head_text, items};
+ghost use Rattle.cbor_edn_core.specs.Trees.{text, label_text, head_text, items};
 ghost use Rattle.cbor_edn_core.specs.Spelling.{Spells, SpellsSequence, SpellsOne};
 ghost use Rattle.cbor_edn_core.specs.View.{texts, view_head, view_list, view_items, row_text, view_pair_list, view_pairs, view_pair, pair_row_text, view_string, view_piece, piece_row_text, view_stream, view_strings, string_row_text, item_tree, standalone_tree, sequence_tree};
 
 use crate::tree::{
-    CborString, Indicator, InnerItem, Item, ItemList, Items, Kp, PairList, Pairs, Piece, Sequence,
-    StandaloneItem, Stream, Strings, Texts,
+    CborString, Indicator, InnerItem, Item, ItemList, Items, Kp, Label, PairList, Pairs, Piece,
+    Sequence, StandaloneItem, Stream, Strings, Texts,
 };
 use cbor_edn_parts::space::{Ms, Msc, S};
 use std::alloc::{AllocError, Global};
@@ -62,15 +62,6 @@ fn push_sequence(out: &mut String, sequence: &Sequence<'_>) -> Result<(), AllocE
 }
 
 #[cycle(push)]
-fn push_enclosed(out: &mut String, content: &StandaloneItem<'_>) -> Result<(), AllocError>
-    ensures { OnOk result (string_bytes out.new ≡ string_bytes out.old ++ 40 ∷ onto (standalone_tree content.now) (41 ∷ [])) }
-{
-    out.push_str("(")?;
-    push_standalone(out, content)?;
-    out.push_str(")")
-}
-
-#[cycle(push)]
 #[tactic(auto, using(crate::proofs::Texts::text_standalone, std::proofs::Common::append_assoc))]
 fn push_standalone(out: &mut String, item: &StandaloneItem<'_>) -> Result<(), AllocError>
     ensures { OnOk result (string_bytes out.new ≡ string_bytes out.old ++ text (standalone_tree item.now)) }
@@ -86,6 +77,18 @@ fn push_indicator(out: &mut String, indicator: Option<Indicator>) -> Result<(), 
     match indicator {
         None => Ok(()),
         Some(indicator) => out.push_str(indicator.as_str()),
+    }
+}
+
+fn push_label(out: &mut String, label: Label) -> Result<(), AllocError>
+    ensures { OnOk result (string_bytes out.new ≡ string_bytes out.old ++ label_text label) }
+{
+    match label {
+        Label::Tag(number, indicator) => {
+            write!(out, "{number}")?;
+            push_indicator(out, indicator)
+        }
+        Label::Simple => out.push_str("simple"),
     }
 }
 
@@ -115,15 +118,12 @@ fn push_item(out: &mut String, item: &Item<'_>) -> Result<(), AllocError>
             out.push_str(float.as_str())?;
             push_indicator(out, *indicator)
         }
-        InnerItem::Tagged(number, indicator, content) => {
-            write!(out, "{number}")?;
-            push_indicator(out, *indicator)?;
-            push_enclosed(out, content)
-        }
         InnerItem::Named(name) => out.push_str(name.as_str()),
-        InnerItem::Simple(content) => {
-            out.push_str("simple")?;
-            push_enclosed(out, content)
+        InnerItem::Enclosed(label, content) => {
+            push_label(out, *label)?;
+            out.push_str("(")?;
+            push_standalone(out, content)?;
+            out.push_str(")")
         }
         InnerItem::Array(list) => {
             out.push_str("[")?;

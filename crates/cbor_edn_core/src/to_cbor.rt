@@ -17,7 +17,7 @@ use crate::cbor::{
     push_marked_head, push_simple, push_string, same_kind, simple_number, string_major,
 };
 use crate::tree::{
-    CborString, InnerItem, Item, ItemList, Items, Kp, PairList, Pairs, Piece, Sequence,
+    CborString, InnerItem, Item, ItemList, Items, Kp, Label, PairList, Pairs, Piece, Sequence,
     StandaloneItem, Strings, Texts,
 };
 use cbor_edn_parts::error::{Fault, InconsistentEdn};
@@ -71,12 +71,12 @@ fn push_item(out: &mut Vec<u8>, item: &Item<'_>) -> Result<(), Fault<Inconsisten
     match &item.inner {
         InnerItem::Number(number, indicator) => push_number(out, number, *indicator),
         InnerItem::NonFinite(float, indicator) => push_float(out, *float, *indicator),
-        InnerItem::Tagged(number, indicator, content) => {
+        InnerItem::Named(name) => Ok(push_simple(out, simple_number(*name))?),
+        InnerItem::Enclosed(Label::Tag(number, indicator), content) => {
             push_marked_head(out, 6, *indicator, *number)?;
             push_item(out, &content.item)
         }
-        InnerItem::Named(name) => Ok(push_simple(out, simple_number(*name))?),
-        InnerItem::Simple(content) => push_numeric(out, &content.item),
+        InnerItem::Enclosed(Label::Simple, content) => push_numeric(out, &content.item),
         InnerItem::Array(list) => push_array(out, list),
         InnerItem::Map(list) => push_map(out, list),
         InnerItem::String(string) => push_pieces(out, string),

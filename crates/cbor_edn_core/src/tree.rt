@@ -107,17 +107,24 @@ pub enum InnerItem<L: Leaves> {
     Number(L::Number, Option<Indicator>),
     /// A floating-point number that is not finite, and its encoding indicator.
     NonFinite(NonFinite, Option<Indicator>),
-    /// A tag's number and encoding indicator, and what stands between its parentheses.
-    Tagged(u64, Option<Indicator>, Box<StandaloneItemOf<L>>),
     /// A simple value by its name.
     Named(NamedSimple),
-    /// What stands between the parentheses of `simple(..)`.
-    Simple(Box<StandaloneItemOf<L>>),
+    /// An item between parentheses, and what stands in front of them.
+    Enclosed(Label, Box<StandaloneItemOf<L>>),
     Array(ItemList<L>),
     Map(PairList<L>),
     String(CborString<L>),
     /// A string of indefinite length.
     Stream(Stream<L>),
+}
+
+/// What stands in front of an item between parentheses.
+#[derive(Clone, Copy, Debug, PartialEq, Eq)]
+pub enum Label {
+    /// The number of a tag and its encoding indicator.
+    Tag(u64, Option<Indicator>),
+    /// The word `simple`.
+    Simple,
 }
 
 /// A string: one piece or more, all but the last with the space before and the space behind the plus sign that follows.

@@ -11,7 +11,7 @@ ghost use Rattle.cbor_edn_core.specs.Decoded as decoded;
 ghost use Rattle.cbor_edn_core.specs.Decoded.{inside};
 ghost use Rattle.cbor_edn_core.specs.CborReading as reading;
 ghost use Rattle.cbor_edn_core.specs.CborReading.{Gives, trees, head_at, many, until, several, pair_at, array_by, map_by, tag_by, item_by, item_at, inner, shown, argument_indicator};
-ghost use Rattle.cbor_edn_core.specs.Growing.{grown};
+ghost use Rattle.cbor_edn_core.specs.Growing.{grown, Pushes};
 
 use super::CborError;
 use super::finish::{finish_items, finish_pairs};
@@ -19,7 +19,7 @@ use super::growing::Growing;
 use super::special::{enclosed, special_of};
 use super::strings::string_of;
 use crate::cbor::Width;
-use crate::tree::{InnerItem, Item, ItemList, Items, Kp, PairList, Pairs, Texts};
+use crate::tree::{InnerItem, Item, ItemList, Items, Kp, Label, PairList, Pairs, Texts};
 use cbor_edn_parts::error::Fault;
 use cbor_edn_parts::indicator::Indicator;
 use cbor_edn_parts::number::{Integer, Number};
@@ -182,14 +182,14 @@ fn number<'a>(alloc: Global, integer: Integer, argument: Argument) -> Result<Ite
     })
 }
 
-/// One entry more, and the bytes behind it.
+/// The entry that is read, behind the others, and the bytes behind it.
 fn pushed<'a, 'b, T: Drop>(
     found: Growing<'a, T>,
-    entry: T,
-    rest: &'b [u8],
+    read: Result<(T, &'b [u8]), Fault<CborError>>,
 ) -> Result<(Growing<'a, T>, &'b [u8]), Fault<CborError>>
-    ensures { Gives {Y = List T × List ℕ} (λ x. (grown x.0, x.1.now)) result (Ok (grown found.entry ++ entry ∷ [], rest.now)) }
+    ensures { Pushes found.entry read.entry result }
 {
+    let (entry, rest) = read?;
     Ok((found.push(entry)?, rest))
 }
 
@@ -269,8 +269,7 @@ fn with_pair<'a, 'b>(
     ensures exact { Gives (λ x. (map (view_pair texts) (grown x.0), x.1.now)) result (shown (λ p. map (view_pair texts) (grown found.entry) ++ p ∷ []) (pair_at trees (item_at trees limit) bytes.now)) }
     ensures shorter { IfOk result (λ x. length x.1.now < length bytes.now) }
 {
-    let (pair, rest) = pair_of(alloc, bytes, limit)?;
-    pushed(found, pair, rest)
+    pushed(found, pair_of(alloc, bytes, limit))
 }
 
 #[cycle(item)]
@@ -380,7 +379,7 @@ fn tag_of<'a, 'b>(
     let (content, rest) = item_of(alloc, bytes, limit - 1)?;
     let content = enclosed(alloc, content)?;
     let item = Item {
-        inner: InnerItem::Tagged(number, indicator_of(argument), content),
+        inner: InnerItem::Enclosed(Label::Tag(number, indicator_of(argument)), content),
     };
     Ok((item, rest))
 }

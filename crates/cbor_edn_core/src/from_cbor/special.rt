@@ -11,7 +11,7 @@ ghost use Rattle.cbor_edn_core.specs.View.{item_tree, standalone_tree};
 use super::CborError;
 use super::reader::{Argument, indicator_of};
 use crate::cbor::{Width, float_bits};
-use crate::tree::{Indicator, InnerItem, Item, StandaloneItem};
+use crate::tree::{Indicator, InnerItem, Item, Label, StandaloneItem};
 use crate::word::{NamedSimple, NonFinite};
 use cbor_edn_parts::error::Fault;
 use cbor_edn_parts::number::{Integer, Number};
@@ -45,7 +45,7 @@ fn simple_of<'a>(alloc: Global, number: u8, limit: usize) -> Result<Item<'a>, Fa
         22 => InnerItem::Named(NamedSimple::Null),
         23 => InnerItem::Named(NamedSimple::Undefined),
         _ if limit == 0 => return Err(Fault::Told(CborError::TooDeep)),
-        _ => InnerItem::Simple(enclosed(alloc, numeral(alloc, number)?)?),
+        _ => InnerItem::Enclosed(Label::Simple, enclosed(alloc, numeral(alloc, number)?)?),
     };
     Ok(Item { inner })
 }
@@ -78,9 +78,15 @@ pub(super) fn enclosed<'a>(
 fn float_of<'a>(width: Width, bits: u64) -> Result<Item<'a>, Fault<CborError>>
     ensures { Gives item_tree result (reading.float_by trees width (reading.float_of width bits)) }
 {
-    for float in [NonFinite::Infinity, NonFinite::NegativeInfinity, NonFinite::NaN] {
+    for float in [
+        NonFinite::Infinity,
+        NonFinite::NegativeInfinity,
+        NonFinite::NaN,
+    ] {
         if bits == float_bits(width, float) {
-            return Ok(Item { inner: InnerItem::NonFinite(float, float_indicator(width)) });
+            return Ok(Item {
+                inner: InnerItem::NonFinite(float, float_indicator(width)),
+            });
         }
     }
     Err(Fault::Told(CborError::FloatOutOfScope))
