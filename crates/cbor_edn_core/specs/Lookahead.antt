@@ -1,5 +1,5 @@
 -- What begins at a place, in the words of the grammar.
-use Rattle.std.specs.Prelude.{ℕ, ◌≡◌, ◌≢◌, true, false, List, drop, Some, None}
+use Rattle.std.specs.Prelude.{ℕ, ◌≡◌, ◌≢◌, ◌≤◌, ◌<◌, ◌+◌, ◌-◌, min, true, false, List, drop, length, Some, None}
 use Rattle.std.specs.Str.{IsCharBoundary}
 use Rattle.cbor_edn_core.specs.ParserResults.{IsByteAt, IsNotAt}
 use Rattle.cbor_edn_core.specs.Reading.{begins_string, starts_string, word_at}
@@ -14,10 +14,22 @@ Opens text at (Word w to) = (word_at (drop at text) ≡ Some (w, drop to text)) 
 Opens text at String = (word_at (drop at text) ≡ None) × (starts_string (drop at text) ≡ true)
 Opens text at Number = IsNotAt 91 (drop at text) × IsNotAt 123 (drop at text) × IsNotAt 40 (drop at text) × (word_at (drop at text) ≡ None) × (starts_string (drop at text) ≡ false)
 
+-- how many looks a word may take that does not stand there: none is longer
+abbrev pub ahead : List ℕ → ℕ → ℕ
+ahead text at = min 9 (length text - at)
+
+-- What the looks cost that tell it.
+abbrev pub Looked : List ℕ → ℕ → ℕ → ℕ → Opening → Type 0
+Looked text at old new (Word w to) = (at < to) × (new + at ≡ old + to + 2)
+Looked text at old new String = new ≤ old + ahead text at + 2
+Looked text at old new Number = new ≤ old + ahead text at + 2
+Looked text at old new o = new ≤ old + 2
+
 -- the same of a byte that is no dot
 abbrev pub OpensWith : ℕ → Opening → Type 0
 OpensWith c Array = c ≡ 91
 OpensWith c Map = c ≡ 123
 OpensWith c Stream = c ≡ 40
+OpensWith c (Word w to) = ⊥
 OpensWith c String = begins_string c ≡ true
 OpensWith c Number = (c ≢ 91) × (c ≢ 123) × (c ≢ 40) × (begins_string c ≡ false)

@@ -1,12 +1,12 @@
 //! What stands at a place of a text.
-ghost use Rattle.std.specs.Prelude.{◌≡◌, ◌≢◌, ◌+◌, ◌<◌, ◌≤◌, ◌∷◌, [], true, false, length, drop, OnOk, IfErr, IfSome, IfNone, Ok, Err};
+ghost use Rattle.std.specs.Prelude.{◌≡◌, ◌≢◌, ◌+◌, ◌-◌, ◌<◌, ◌≤◌, ◌∷◌, [], true, false, length, take, drop, All, OnOk, IfErr, IfSome, IfNone, Ok, Err, Some, None};
 ghost use Rattle.std.specs.Str.{IsCharBoundary};
 ghost use Rattle.cbor_edn_parts.specs.Bytes.{is_closed, closing, kind};
 ghost use Rattle.cbor_edn_parts.specs.Text.{text_bytes};
 ghost use Rattle.cbor_edn_parts.specs.Leaves.{s_bytes, BorrowsS};
 ghost use Rattle.cbor_edn_core.specs.Borrowed.{BorrowsHead};
 ghost use Rattle.cbor_edn_core.specs.ParserResults.{IsNotAt, IsByteAt};
-ghost use Rattle.cbor_edn_core.specs.Lookahead.{Opens, OpensWith};
+ghost use Rattle.cbor_edn_core.specs.Lookahead.{Opens, OpensWith, Looked, ahead};
 ghost use Rattle.cbor_edn_core.specs.Reading as reading;
 ghost use Rattle.cbor_edn_core.specs.Reading.{head_of};
 ghost use Rattle.cbor_edn_core.specs.Trees as trees;
@@ -48,8 +48,9 @@ pub(crate) enum Opening {
 
 /// What an item at a place is, by its first byte, and by two where it begins with a dot.
 pub(crate) fn opening_at(text: &Text<'_>, at: usize, looks: &mut Looks) -> Opening
+    requires { IsCharBoundary (text_bytes text.now) at }
     ensures opens { Opens (text_bytes text.now) at result }
-    ensures count { (looks.old.count < looks.new.count) × (looks.new.count ≤ looks.old.count + 2) }
+    ensures count { (looks.old.count < looks.new.count) × Looked (text_bytes text.now) at looks.old.count looks.new.count result }
 {
     let Some(byte) = text.byte(at, looks) else {
         return Opening::Number;
@@ -86,7 +87,13 @@ fn word_of(byte: u8) -> Option<Word>
 }
 
 /// The place behind a word, where it stands at a place and is no prefix of a literal: those are read first.
-fn word_at(text: &Text<'_>, at: usize, word: Word, looks: &mut Looks) -> Option<usize> {
+fn word_at(text: &Text<'_>, at: usize, word: Word, looks: &mut Looks) -> Option<usize>
+    requires { IsCharBoundary (text_bytes text.now) at }
+    ensures some { IfSome result (λ to. (reading.if_word (Some word) (drop at (text_bytes text.now)) ≡ Some (word, drop to (text_bytes text.now))) × IsCharBoundary (text_bytes text.now) to) }
+    ensures none { IfNone result (reading.if_word (Some word) (drop at (text_bytes text.now)) ≡ None) }
+    ensures found { IfSome result (λ to. (at < to) × (looks.new.count + at ≡ looks.old.count + to + 1)) }
+    ensures missed { IfNone result ((looks.old.count ≤ looks.new.count) × (looks.new.count ≤ looks.old.count + ahead (text_bytes text.now) at + 1)) }
+{
     let to = behind(text, at, word.as_str().as_bytes(), looks)?;
     if is_prefix(text, to, looks) {
         None
@@ -96,15 +103,19 @@ fn word_at(text: &Text<'_>, at: usize, word: Word, looks: &mut Looks) -> Option<
 }
 
 /// The place behind ASCII bytes, where they stand at a place.
-fn behind(text: &Text<'_>, at: usize, bytes: &[u8], looks: &mut Looks) -> Option<usize> {
-    let mut to = at;
-    for byte in bytes {
-        if !is_at(text, to, *byte, looks) {
-            return None;
-        }
-        to += 1;
+fn behind(text: &Text<'_>, at: usize, bytes: &[u8], looks: &mut Looks) -> Option<usize>
+    requires begins { IsCharBoundary (text_bytes text.now) at }
+    requires ascii { All (λ b. b < 128) bytes.now }
+    ensures some { IfSome result (λ to. (reading.behind bytes.now (drop at (text_bytes text.now)) ≡ Some (drop to (text_bytes text.now))) × IsCharBoundary (text_bytes text.now) to) }
+    ensures none { IfNone result (reading.behind bytes.now (drop at (text_bytes text.now)) ≡ None) }
+    ensures found { IfSome result (λ to. (to ≡ at + length bytes.now) × (looks.new.count ≡ looks.old.count + length bytes.now)) }
+    ensures missed { IfNone result ((looks.old.count ≤ looks.new.count) × (looks.new.count ≤ looks.old.count + length bytes.now) × (looks.new.count + at ≤ looks.old.count + length (text_bytes text.now) + 1)) }
+{
+    match bytes {
+        [] => Some(at),
+        [first, rest @ ..] if is_at(text, at, *first, looks) => behind(text, at + 1, rest, looks),
+        _ => None,
     }
-    Some(to)
 }
 
 /// Whether the prefix of a literal goes on at a place, or ends there.
@@ -115,13 +126,25 @@ fn is_prefix(text: &Text<'_>, at: usize, looks: &mut Looks) -> bool
     matches!(text.byte(at, looks), Some(b'a'..=b'z' | b'0'..=b'9' | b'\''))
 }
 
+/// The value of the decimal digit at a place.
+fn digit_at(text: &Text<'_>, at: usize, looks: &mut Looks) -> Option<u8> {
+    match text.byte(at, looks) {
+        Some(digit @ b'0'..=b'9') => Some(digit - b'0'),
+        _ => None,
+    }
+}
+
 /// The number of a tag, whose digits stand between two places: decimal, without a leading zero, and below 2^64.
 pub(crate) fn tag_number(
     text: &Text<'_>,
     from: usize,
     to: usize,
     looks: &mut Looks,
-) -> Option<u64> {
+) -> Option<u64>
+    requires { (from < to) × (to ≤ length (text_bytes text.now)) }
+    ensures value { result ≡ reading.tag_number (take (to - from) (drop from (text_bytes text.now))) }
+    ensures count { (looks.old.count ≤ looks.new.count) × (looks.new.count + from ≤ looks.old.count + to) }
+{
     let mut number: u64 = 0;
     for at in from..to {
         let Some(digit @ b'0'..=b'9') = text.byte(at, looks) else {
