@@ -7,21 +7,36 @@ use Rattle.cbor_edn_parts.specs.Bytes.{Follow, Closes}
 use Rattle.cbor_edn_parts.specs.Indicator.{indicator_text, indicator_at}
 use Rattle.cbor_edn_parts.specs.Lex.{Table, is_token}
 use Rattle.cbor_edn_parts.specs.SpaceTokens.{space, separator, is_s, is_ms, is_soc, is_msc}
+use Rattle.std.specs.Fmt.{decimal}
 use Rattle.cbor_edn_parts.specs.NumberTokens.{number, is_number}
 use Rattle.cbor_edn_parts.specs.LiteralTokens.{literal, dots, is_literal, are_dots}
 use Rattle.cbor_edn_core.specs.Items.{Row, Elements, Pairs, Strings, Bracketed, Array, Map, entries_of}
 use Rattle.cbor_edn_core.specs.Spelling.{opening, ending}
-use Rattle.cbor_edn_core.specs.Trees.{Rule, OneItem, OnePiece, OneString, OneEntry, Inside, Rest, Seq, Head, Unmarked, Marked, head_text, Tree, NumberTree, ListTree, StringTree, StreamTree, LiteralTree, DotsTree, EmbeddedTree, LastPieceTree, PlusTree, ElementTree, PairTree, ChunkTree, EmptyTree, FullTree, LastTree, MoreTree, NothingTree, SequenceTree, StandaloneTree, onto, IsHead, Valid, IsJoined, Joined, Parts, FollowOf, depth}
-use Rattle.cbor_edn_core.specs.Reading.{◌>>=◌, Reader, or_invalid, token, byte, not_empty, head_of, starts_string, number_item, list_item, stream_item, string_item, item, literal_piece, dots_piece, embedded_piece, piece, plus_string, string, entry, inside_full, inside, more, rest, sequence, standalone, read, outcome}
+use Rattle.cbor_edn_core.specs.Trees.{Rule, OneItem, OnePiece, OneString, OneEntry, Inside, Rest, Seq, Standalone, Head, Unmarked, Marked, head_text, label_text, IsLabel, Tree, NumberTree, FloatTree, NamedTree, EnclosedTree, ListTree, StringTree, StreamTree, LiteralTree, DotsTree, EmbeddedTree, LastPieceTree, PlusTree, ElementTree, PairTree, ChunkTree, EmptyTree, FullTree, LastTree, MoreTree, NothingTree, SequenceTree, StandaloneTree, onto, IsHead, Valid, IsJoined, Joined, Parts, FollowOf, depth}
+use Rattle.cbor_edn_core.specs.declared.tree.Label.{Label}
+use Rattle.cbor_edn_core.specs.declared.tree.Label.TheVariants as label
+use Rattle.cbor_edn_core.specs.declared.word.NamedSimple.{NamedSimple}
+use Rattle.cbor_edn_core.specs.declared.word.NamedSimple.TheVariants.{False}
+use Rattle.cbor_edn_core.specs.declared.word.NonFinite.{NonFinite}
+use Rattle.cbor_edn_core.specs.declared.word.NonFinite.TheVariants.{NaN}
+use Rattle.cbor_edn_core.specs.declared.word.Word.{Word}
+use Rattle.cbor_edn_core.specs.declared.word.Word.TheVariants as word
+use Rattle.cbor_edn_core.specs.Words.{named_text, non_finite_text, word_text}
+use Rattle.cbor_edn_core.specs.Reading.{◌>>=◌, Reader, or_invalid, token, byte, not_empty, head_of, starts_string, is_prefix, word_at, enclosed_item, tag_item, number_end, number_item, word_item, plain_item, list_item, stream_item, string_item, item, literal_piece, dots_piece, embedded_piece, piece, plus_string, string, entry, inside_full, inside, more, rest, sequence, standalone, read, outcome}
 use Rattle.cbor_edn_parts.proofs.Indicators.{spec-none, spec-some, spec-again}
 use Rattle.cbor_edn_parts.proofs.Tokens.{Halts, munch-again, token_texts}
-use Rattle.cbor_edn_core.proofs.Follows.{number_some, Solid, solid_spaceless, halts_space, halts_separator, halts_marked, halts_literal, halts_dots, closes_solid, closes_closed, closes_follow, begins_solid, begins_open, ending_closes, stream_closes, embedded_closes, space_before, space_follow, space_plain, colon_solid, plus_solid, plus_follow}
+use Rattle.cbor_edn_core.proofs.Follows.{number_some, Solid, solid_spaceless, halts_space, halts_separator, halts_marked, halts_tag, spec-tag, follow_unopened, halts_literal, halts_dots, closes_solid, closes_closed, closes_follow, begins_solid, begins_open, ending_closes, stream_closes, embedded_closes, space_before, space_follow, space_plain, colon_solid, plus_solid, plus_follow}
 use Rattle.cbor_edn_core.proofs.Begins.{number_stringless, literal_some, literal_differs, dots_begin, Unopened, number_unopened, string_unopened, joins_string, string_starts, string_begins, item_starts, rest_starts, end_next, more_next, colon_next, last_next}
+use Rattle.cbor_edn_core.proofs.TagNumbers.{tag_number-again, tag_digits}
+use Rattle.cbor_edn_core.proofs.Words.{word-again, number_wordless, string_wordless, follow_ends, marked_ends}
 use Rattle.cbor_edn_core.proofs.Outcomes.{then_ok, then_done, then_outcome, flat, deeper, too_deep}
 
 -- How many steps a tree takes at most.
 unfoldable pub size : {s : Rule} → Tree s → ℕ
 size (NumberTree x i) = 1
+size (FloatTree f i) = 1
+size (NamedTree b) = 1
+size (EnclosedTree l w) = size w + 1
 size (ListTree k w) = size w + 1
 size (StringTree w) = size w + 1
 size (StreamTree ms m) = size m + 1
@@ -56,23 +71,51 @@ separator-again s r v h = taken separator s r v (halts_separator r h)
 
 -- Each rule reads its tree again, where the readers of its parts do.
 module _ (g : ℕ → (s : Rule) → Reader s) where
-  number_next : (limit c : ℕ) (xs : List ℕ) → Unopened c → starts_string (c ∷ xs) ≡ false → item g limit (c ∷ xs) ≡ number_item g (c ∷ xs)
+  plain_next : (limit c : ℕ) (xs : List ℕ) → Unopened c → item g limit (c ∷ xs) ≡ plain_item g limit (word_at (c ∷ xs)) (c ∷ xs)
   unfolding item
-  number_next limit c xs o h = rw (o.0, o.1, o.2, h)
+  plain_next limit c xs o = rw (o.0, o.1, o.2)
+
+  number_next : (limit : ℕ) (x : List ℕ) (i : Option Indicator) (r : List ℕ) → is_number x ≡ true → Halts number (indicator_text i ++ r) → indicator_at (indicator_text i ++ r) ≡ (i, r) → item g limit (x ++ (indicator_text i ++ r)) ≡ number_end g limit x i r
+  unfolding plain_item number_item
+  number_next limit [] i r v h e = absurd (number_some v)
+  number_next limit (c ∷ x) i r v h e = plain_next limit c _ (number_unopened c x v) ∙ rw (number_wordless c x (indicator_text i ++ r) v, number_stringless c x (indicator_text i ++ r) v) (then_ok _ (taken number (c ∷ x) (indicator_text i ++ r) v h) (rw e))
 
   number-again : (limit : ℕ) (x : List ℕ) (i : Option Indicator) (r : List ℕ) → is_number x ≡ true → Follow r → item g limit (x ++ (indicator_text i ++ r)) ≡ outcome 0 limit (NumberTree x i, r)
-  unfolding number_item
-  number-again limit [] i r v h = absurd (number_some v)
-  number-again limit (c ∷ x) i r v h = rw (flat {A = Tree OneItem × List ℕ} limit (NumberTree (c ∷ x) i, r)) (number_next limit c _ (number_unopened c x v) (number_stringless c x _ v) ∙ then_ok _ (taken number (c ∷ x) (indicator_text i ++ r) v (halts_marked i r h)) (rw (spec-again i r h)))
+  unfolding number_end
+  number-again limit x i r v h = rw (flat {A = Tree OneItem × List ℕ} limit (NumberTree x i, r)) (number_next limit x i r v (halts_marked i r h) (spec-again i r h) ∙ rw (follow_unopened r h))
 
-  string_next : (limit c : ℕ) (xs : List ℕ) → Unopened c → starts_string (c ∷ xs) ≡ true → item g limit (c ∷ xs) ≡ string_item g limit (c ∷ xs)
+  opened_word : (limit : ℕ) (w : Word) (xs : List ℕ) → item g limit (word_text w ++ xs) ≡ plain_item g limit (word_at (word_text w ++ xs)) (word_text w ++ xs)
   unfolding item
-  string_next limit c xs o h = rw (o.0, o.1, o.2, h)
+  opened_word limit (word.Named False) xs = refl
+  opened_word limit (word.NonFinite NaN) xs = refl
+  opened_word limit _ xs = refl
 
-  string-again : (limit : ℕ) (w : Tree OneString) (xs r : List ℕ) → starts_string xs ≡ true → g limit OneString xs ≡ outcome (depth w) limit (w, r) → item g limit xs ≡ outcome (depth w) limit (StringTree w, r)
-  unfolding string_item starts_string
-  string-again limit w [] r h e = absurd (cc)
-  string-again limit w (c ∷ xs) r h e = string_next limit c xs (string_unopened c xs h) h ∙ then_done (depth w) limit _ e refl
+  word_next : (limit : ℕ) (w : Word) (xs : List ℕ) → is_prefix xs ≡ false → item g limit (word_text w ++ xs) ≡ word_item g limit w xs
+  unfolding plain_item
+  word_next limit w xs h = opened_word limit w xs ∙ ap (λ o. plain_item g limit o (word_text w ++ xs)) (word-again w xs h)
+
+  named-again : (limit : ℕ) (b : NamedSimple) (r : List ℕ) → Follow r → item g limit (named_text b ++ r) ≡ outcome 0 limit (NamedTree b, r)
+  unfolding word_item
+  named-again limit b r h = rw (flat {A = Tree OneItem × List ℕ} limit (NamedTree b, r)) (word_next limit (word.Named b) r (follow_ends r h))
+
+  float-again : (limit : ℕ) (f : NonFinite) (i : Option Indicator) (r : List ℕ) → Follow r → item g limit (non_finite_text f ++ (indicator_text i ++ r)) ≡ outcome 0 limit (FloatTree f i, r)
+  unfolding word_item
+  float-again limit f i r h = rw (flat {A = Tree OneItem × List ℕ} limit (FloatTree f i, r)) (word_next limit (word.NonFinite f) (indicator_text i ++ r) (marked_ends i r h) ∙ rw (spec-again i r h))
+
+  label_next : (limit : ℕ) (l : Label) (xs : List ℕ) → IsLabel l → item g limit (label_text l ++ (40 ∷ xs)) ≡ enclosed_item g limit l (40 ∷ xs)
+  unfolding word_item number_end tag_item
+  label_next limit (label.Tag n i) xs v = rw append_assoc (number_next limit (decimal n) i (40 ∷ xs) (tag_digits n v) (halts_tag i xs) (spec-tag i xs) ∙ then_ok _ (ap or_invalid (tag_number-again n v)) refl)
+  label_next limit label.Simple xs v = word_next limit word.Simple (40 ∷ xs) refl
+
+  enclosed-again : (limit : ℕ) (l : Label) (w : Tree Standalone) (r : List ℕ) → ((limit : ℕ) → g limit Standalone (onto w (41 ∷ r)) ≡ outcome (depth w) limit (w, 41 ∷ r)) → enclosed_item g limit l (40 ∷ onto w (41 ∷ r)) ≡ outcome (suc (depth w)) limit (EnclosedTree l w, r)
+  unfolding enclosed_item
+  enclosed-again zero l w r e = then_ok _ (byte-again 40 _) (sym (too_deep {A = Tree OneItem × List ℕ} (depth w) (EnclosedTree l w, r)))
+  enclosed-again (suc limit) l w r e = then_ok _ (byte-again 40 _) (then_done (depth w) limit _ (e limit) (then_ok _ (byte-again 41 r) refl)) ∙ sym (deeper {A = Tree OneItem × List ℕ} (depth w) limit (EnclosedTree l w, r))
+
+  string-again : (limit : ℕ) (w : Tree OneString) (xs r : List ℕ) → word_at xs ≡ None → starts_string xs ≡ true → g limit OneString xs ≡ outcome (depth w) limit (w, r) → item g limit xs ≡ outcome (depth w) limit (StringTree w, r)
+  unfolding plain_item string_item starts_string
+  string-again limit w [] r n h e = absurd (cc)
+  string-again limit w (c ∷ xs) r n h e = plain_next limit c xs (string_unopened c xs h) ∙ rw (n, h) (then_done (depth w) limit _ e refl)
 
   stream-again : (limit : ℕ) (ms : List ℕ) (m : Tree (Rest Strings)) (r : List ℕ) → is_ms ms ≡ true → Valid m → g limit (Rest Strings) (onto m (41 ∷ r)) ≡ outcome (depth m) limit (m, 41 ∷ r) → stream_item g limit (95 ∷ (ms ++ onto m (41 ∷ r))) ≡ outcome (depth m) limit (StreamTree ms m, r)
   unfolding stream_item not_empty
@@ -179,6 +222,9 @@ module _ (g : ℕ → (s : Rule) → Reader s) where
 pub positive : {s : Rule} (w : Tree s) → size w ≤ 0 → ⊥
 unfolding size
 positive (NumberTree x i) h = omega arith
+positive (FloatTree f i) h = omega arith
+positive (NamedTree b) h = omega arith
+positive (EnclosedTree l w) h = omega arith
 positive (ListTree k w) h = omega arith
 positive (StringTree w) h = omega arith
 positive (StreamTree ms m) h = omega arith
@@ -202,8 +248,11 @@ pub again : (f limit : ℕ) {s : Rule} (w : Tree s) (r : List ℕ) → Valid w �
 unfolding read onto Valid Joined size
 again zero limit w r v j h n = absurd (positive w n)
 again (suc f) limit (NumberTree x i) r v j h n = number-again (read f) limit x i r v h.0
+again (suc f) limit (FloatTree e i) r v j h n = float-again (read f) limit e i r h.0
+again (suc f) limit (NamedTree b) r v j h n = named-again (read f) limit b r h.0
+again (suc f) limit (EnclosedTree l w) r v j h n = label_next (read f) limit l _ v.0 ∙ enclosed-again (read f) limit l w r (λ limit. again f limit w (41 ∷ r) v.1 j (stream_closes r) (omega arith))
 again (suc f) limit (ListTree k w) r v j h n = opened (read f) limit k (onto w (ending k ∷ r)) ∙ list-again (read f) limit k w r (λ limit. again f limit w (ending k ∷ r) v j (ending_closes k r) (omega arith))
-again (suc f) limit (StringTree w) r v j h n = string-again (read f) limit w _ r (string_begins w r v) (again f limit w r v j h (omega arith))
+again (suc f) limit (StringTree w) r v j h n = string-again (read f) limit w _ r (string_wordless w r v) (string_begins w r v) (again f limit w r v j h (omega arith))
 again (suc f) limit (StreamTree ms m) r v j h n = opened_stream (read f) limit _ ∙ stream-again (read f) limit ms m r v.0 v.1 (again f limit m (41 ∷ r) v.1 j (stream_closes r) (omega arith))
 again (suc f) limit (LiteralTree x i) r v j h n = literal-again (read f) limit x i r v h
 again (suc f) limit (DotsTree x) r v j h n = dots-again (read f) limit x r v h

@@ -7,6 +7,7 @@ use Rattle.std.proofs.lemmas.Option.{same_Some}
 use Rattle.cbor_edn_parts.specs.Bytes.{kind, follows, closing, begins, Follow, Closes, Begins}
 use Rattle.cbor_edn_parts.specs.declared.bytes.Kind.{Kind}
 use Rattle.cbor_edn_parts.specs.declared.bytes.Kind.TheVariants.{Control, Open, Less, Quote, Plus, Zero, One, TwoToSeven, EightOrNine, Dot, B, E, HexLetter, O, P, X, Letter}
+use Rattle.std.specs.Fmt.{decimal}
 use Rattle.cbor_edn_parts.specs.Indicator.{indicator_text}
 use Rattle.cbor_edn_parts.specs.Lex.{Accepts, Is, munch}
 use Rattle.cbor_edn_parts.specs.Space.{IsSoc, space as space_alone, comma}
@@ -21,11 +22,15 @@ use Rattle.cbor_edn_parts.specs.declared.string.InLiteral.TheVariants as in_lite
 use Rattle.cbor_edn_parts.specs.declared.string.InDots.{InDots}
 use Rattle.cbor_edn_parts.specs.declared.string.InDots.TheVariants as in_dots
 use Rattle.cbor_edn_core.specs.Items.{Row, Array, Map}
-use Rattle.cbor_edn_core.specs.Trees.{OneItem, OnePiece, OneString, OneEntry, Rest, Tree, NumberTree, ListTree, StringTree, StreamTree, LiteralTree, DotsTree, EmbeddedTree, LastPieceTree, PlusTree, ElementTree, PairTree, ChunkTree, LastTree, MoreTree, onto, Valid, starts_digits, starts_number, joins, Parts, Next}
-use Rattle.cbor_edn_core.specs.Reading.{starts_dots, starts_string}
+use Rattle.cbor_edn_core.specs.Trees.{OneItem, OnePiece, OneString, OneEntry, Rest, Tree, NumberTree, FloatTree, NamedTree, EnclosedTree, ListTree, StringTree, StreamTree, LiteralTree, DotsTree, EmbeddedTree, LastPieceTree, PlusTree, ElementTree, PairTree, ChunkTree, LastTree, MoreTree, onto, Valid, starts_digits, starts_number, joins, Parts, Next}
+use Rattle.cbor_edn_core.specs.declared.tree.Label.TheVariants as label
+use Rattle.cbor_edn_core.specs.declared.word.NamedSimple.TheVariants.{False}
+use Rattle.cbor_edn_core.specs.declared.word.NonFinite.TheVariants.{Infinity}
+use Rattle.cbor_edn_core.specs.Reading.{starts_with, starts_string}
 use Rattle.cbor_edn_parts.proofs.ByteKinds.{is_digit, at_each, differs}
 use Rattle.cbor_edn_parts.proofs.Tokens.{munch-again, token_texts}
 use Rattle.cbor_edn_parts.proofs.SpaceTexts.{s_texts, soc_texts}
+use Rattle.cbor_edn_core.proofs.TagNumbers.{tag_digits}
 use Rattle.cbor_edn_core.proofs.Follows.{numeric, quoted, numeric-begins, numeric_start, number_some, Solid, Spaceless, solid_spaceless, halts_space, closes_solid, closes_follow, begins_solid, space_before, space_follow, separator_follow, msc_follow, colon_solid, colon_follow}
 
 -- Tests of bytes as tests of their kinds.
@@ -48,14 +53,14 @@ dot_byte : (c : ℕ) → dot (kind c) ≡ eqb c 46
 unfolding kind
 dot_byte = by_kind dot (λ c. eqb c 46) refl refl (λ c far. grind (arith, nat_tests))
 
-digit_byte : (c : ℕ) → is_digit Decimal (kind c) ≡ tokens.is_digit c
+pub digit_byte : (c : ℕ) → is_digit Decimal (kind c) ≡ tokens.is_digit c
 unfolding kind
 digit_byte = by_kind (is_digit Decimal) tokens.is_digit refl refl (λ c far. grind (arith, nat_tests))
 
-abbrev quoted_at : ℕ → Bool
+abbrev pub quoted_at : ℕ → Bool
 quoted_at c = eqb c 34 || eqb c 39 || eqb c 60 || is_lower c || is_upper c
 
-quoted_byte : (c : ℕ) → quoted (kind c) ≡ quoted_at c
+pub quoted_byte : (c : ℕ) → quoted (kind c) ≡ quoted_at c
 unfolding kind
 quoted_byte = by_kind quoted quoted_at refl refl (λ c far. grind (arith, nat_tests))
 
@@ -72,7 +77,7 @@ point_digit : (x r : List ℕ) → Accepts number Point x → starts_digits (x +
 point_digit [] r v = cc
 point_digit (d ∷ x) r v = sym (digit_byte d) ∙ point_next (kind d) v.0 v.1
 
-point_dotless : (x r : List ℕ) → Accepts number Point x → starts_dots (x ++ r) ≡ false
+point_dotless : (x r : List ℕ) → Accepts number Point x → starts_with 46 (x ++ r) ≡ false
 unfolding kind
 point_dotless [] r v = cc
 point_dotless (d ∷ x) r v = differs (is_digit Decimal) d 46 (point_next (kind d) v.0 v.1) refl
@@ -92,7 +97,7 @@ signed_next EightOrNine n x r h v = refl
 signed_next Dot n x r h v = point_digit x r (rw (sym (same_Some _ _ h)) at v)
 signed_next _ n x r h v = cc
 
-signed_digit : (x r : List ℕ) → Accepts number Signed x → starts_number (x ++ r) ≡ true
+pub signed_digit : (x r : List ℕ) → Accepts number Signed x → starts_number (x ++ r) ≡ true
 signed_digit [] r v = cc
 signed_digit (d ∷ x) r v = starts_number_at d (x ++ r) ∙ signed_next (kind d) v.0 x r v.1 v.2
 
@@ -102,7 +107,7 @@ joins_first _ n x r e v = refl
 
 -- whether a text whose first byte is of a kind begins a string
 abbrev string_at : Kind → List ℕ → Bool
-string_at k r = quoted k || (dot k && starts_dots r)
+string_at k r = quoted k || (dot k && starts_with 46 r)
 
 starts_string_at : (c : ℕ) (r : List ℕ) → starts_string (c ∷ r) ≡ string_at (kind c) r
 unfolding starts_string
@@ -234,6 +239,10 @@ joins_string (c ∷ t) r v h = ap not (starts_number_at c (t ++ r) ∙ follows-n
 abbrev pub Starts : List ℕ → Type 0
 Starts r = Begins r × (joins r ≡ false)
 
+number_starts : (x r : List ℕ) → is_number x ≡ true → Starts (x ++ r)
+number_starts [] r v = absurd (number_some v)
+number_starts (c ∷ x) r v = (numeric-begins (kind c) (numeric_start c x v), number_joins c x r v)
+
 pub string_starts : (xs : List ℕ) → starts_string xs ≡ true → Starts xs
 unfolding joins starts_string kind
 string_starts [] h = absurd (cc)
@@ -253,8 +262,13 @@ string_begins (PlusTree p s t w) r v = piece_begins p _ v.0
 
 pub item_starts : (w : Tree OneItem) (r : List ℕ) → Valid w → Starts (onto w r)
 unfolding onto Valid kind joins
-item_starts (NumberTree [] i) r v = absurd (number_some v)
-item_starts (NumberTree (c ∷ x) i) r v = (numeric-begins (kind c) (numeric_start c x v), number_joins c x (indicator_text i ++ r) v)
+item_starts (NumberTree x i) r v = number_starts x (indicator_text i ++ r) v
+item_starts (FloatTree Infinity i) r v = (refl, refl)
+item_starts (FloatTree _ i) r v = (refl, refl)
+item_starts (NamedTree False) r v = (refl, refl)
+item_starts (NamedTree _) r v = (refl, refl)
+item_starts (EnclosedTree (label.Tag n i) w) r v = rw append_assoc (number_starts (decimal n) _ (tag_digits n v.0))
+item_starts (EnclosedTree label.Simple w) r v = (refl, refl)
 item_starts (ListTree Array w) r v = (refl, refl)
 item_starts (ListTree Map w) r v = (refl, refl)
 item_starts (StringTree w) r v = string_starts (onto w r) (string_begins w r v)

@@ -6,7 +6,8 @@ use Rattle.cbor_edn_parts.specs.declared.bytes.Kind.{Kind}
 use Rattle.cbor_edn_parts.specs.declared.bytes.Kind.TheVariants.{Blank, Tab, Lf, Slash, Hash, Comma, Close, Less, Quote, Plus, Minus, Zero, One, TwoToSeven, EightOrNine, Dot, B, E, HexLetter, O, P, X, Letter}
 use Rattle.cbor_edn_parts.specs.declared.indicator.Indicator.{Indicator}
 use Rattle.cbor_edn_parts.specs.Bytes.{kind, follows, closing, begins, Follow, Closes, Begins, is_closed}
-use Rattle.cbor_edn_parts.specs.Indicator.{indicator_text}
+use Rattle.cbor_edn_parts.specs.declared.indicator.Indicator.TheVariants.{Indefinite}
+use Rattle.cbor_edn_parts.specs.Indicator.{indicator_text, indicator_at, word_at}
 use Rattle.cbor_edn_parts.specs.Lex.{munch, is_token}
 use Rattle.cbor_edn_parts.specs.SpaceTokens.{space, separator, space_step, space_final, separator_step, separator_final, before, after, is_msc}
 use Rattle.cbor_edn_parts.specs.NumberTokens.{number, number_step, number_final}
@@ -21,6 +22,7 @@ use Rattle.cbor_edn_parts.specs.declared.string.InLiteral.{InLiteral}
 use Rattle.cbor_edn_parts.specs.declared.string.InLiteral.TheVariants.{Closed}
 use Rattle.cbor_edn_core.specs.Items.{Bracketed, Array, Map}
 use Rattle.cbor_edn_core.specs.Spelling.{ending}
+use Rattle.cbor_edn_core.specs.Reading.{starts_with}
 use Rattle.cbor_edn_parts.proofs.ByteKinds.{differs}
 use Rattle.cbor_edn_parts.proofs.Indicators.{Plain, begins-plain, Follow-plain}
 use Rattle.cbor_edn_parts.proofs.Tokens.{Halts, token_texts}
@@ -256,6 +258,23 @@ pub halts_marked : (i : Option Indicator) (r : List ℕ) → Follow r → Halts 
 unfolding kind
 halts_marked None r h = halts_number r h
 halts_marked (Some i) r h = λ m e. refl
+
+-- A tag's number and its indicator end at a parenthesis, and behind a number no parenthesis follows.
+pub halts_tag : (i : Option Indicator) (r : List ℕ) → Halts number (indicator_text i ++ (40 ∷ r))
+unfolding kind
+halts_tag None r = λ m e. refl
+halts_tag (Some i) r = λ m e. refl
+
+pub spec-tag : (i : Option Indicator) (r : List ℕ) → indicator_at (indicator_text i ++ (40 ∷ r)) ≡ (i, 40 ∷ r)
+unfolding indicator_at word_at
+spec-tag None r = refl
+spec-tag (Some Indefinite) r = refl
+spec-tag (Some _) r = refl
+
+pub follow_unopened : (r : List ℕ) → Follow r → starts_with 40 r ≡ false
+unfolding kind
+follow_unopened [] h = refl
+follow_unopened (c ∷ r) h = differs follows c 40 h refl
 
 -- A key's colon.
 pub colon_solid : (r : List ℕ) → Solid (58 ∷ r)

@@ -11,15 +11,23 @@ use Rattle.cbor_edn_parts.specs.Indicator.{indicator_text, indicator_at}
 use Rattle.cbor_edn_parts.specs.Lex as lex
 use Rattle.cbor_edn_parts.specs.Lex.{Table, is_token, munch}
 use Rattle.cbor_edn_parts.specs.SpaceTokens.{space, separator, is_empty, is_s}
-use Rattle.cbor_edn_parts.specs.NumberTokens.{number}
+use Rattle.std.specs.Fmt.{decimal}
+use Rattle.cbor_edn_parts.specs.NumberTokens.{number, is_number}
 use Rattle.cbor_edn_parts.specs.LiteralTokens.{literal, dots}
 use Rattle.cbor_edn_core.specs.Items.{Row, Elements, Pairs, Strings, Bracketed, Array, Map, entries_of}
 use Rattle.cbor_edn_core.specs.Spelling.{opening, ending}
-use Rattle.cbor_edn_core.specs.Trees.{Rule, OneItem, OnePiece, OneString, OneEntry, Inside, Rest, Seq, Standalone, Head, head_text, Tree, onto, IsHead, Valid, IsJoined, Joined, depth, joins}
-use Rattle.cbor_edn_core.specs.Reading.{◌>>=◌, Reader, or_invalid, token, byte, not_empty, head_of, starts_string, number_item, list_item, stream_item, string_item, item, literal_piece, dots_piece, embedded_piece, piece, plus_string, string, entry, inside_full, inside, more, rest, sequence, standalone, rule, read}
+use Rattle.cbor_edn_core.specs.Trees.{Rule, OneItem, OnePiece, OneString, OneEntry, Inside, Rest, Seq, Standalone, Head, head_text, label_text, IsLabel, Tree, onto, IsHead, Valid, IsJoined, Joined, depth, joins}
+use Rattle.cbor_edn_core.specs.declared.tree.Label.{Label}
+use Rattle.cbor_edn_core.specs.declared.tree.Label.TheVariants as label
+use Rattle.cbor_edn_core.specs.declared.word.Word.{Word}
+use Rattle.cbor_edn_core.specs.declared.word.Word.TheVariants.{Named, Simple, NonFinite}
+use Rattle.cbor_edn_core.specs.Words.{non_finite_text, word_text}
+use Rattle.cbor_edn_core.specs.Reading.{◌>>=◌, Reader, or_invalid, token, byte, not_empty, head_of, starts_with, starts_string, word_at, tag_number, enclosed_item, tag_item, number_end, number_item, word_item, plain_item, list_item, stream_item, string_item, item, literal_piece, dots_piece, embedded_piece, piece, plus_string, string, entry, inside_full, inside, more, rest, sequence, standalone, rule, read}
 use Rattle.cbor_edn_core.specs.Marks.{marks}
 use Rattle.cbor_edn_parts.proofs.Indicators.{spec-found}
 use Rattle.cbor_edn_parts.proofs.Tokens.{Holds, nothing, just, munch-found, token_texts}
+use Rattle.cbor_edn_core.proofs.TagNumbers.{tag_number-found}
+use Rattle.cbor_edn_core.proofs.Words.{IsFront, word-found}
 use Rattle.cbor_edn_core.proofs.Marking.{marks_end, marks_between, marks_onto}
 
 -- Of an answer: what holds of the value, or what holds where it is too deep.
@@ -89,9 +97,29 @@ module _ (g : ℕ → (s : Rule) → Reader s) (gs : (limit : ℕ) (s : Rule) (x
   later : (limit : ℕ) (s : Rule) (xs ys : List ℕ) → marks ys ≤ marks xs → Meets (Sound limit s ys) (limit < marks xs) (g limit s ys)
   later limit s xs ys h = weaker (λ p v. v) (λ d. omega arith) (gs limit s ys)
 
-  number-found : (limit : ℕ) (xs : List ℕ) → IsSound limit OneItem xs (number_item g xs)
-  unfolding number_item onto Valid Joined
-  number-found limit xs = bound _ (taken number xs) (λ x v. fine (v.0, tt, v.1 ∙ ap (x.0 ++◌) (spec-found x.1), omega arith))
+  enclosed-found : (limit : ℕ) (l : Label) (xs ys : List ℕ) → IsLabel l → xs ≡ label_text l ++ ys → IsSound limit OneItem xs (enclosed_item g limit l ys)
+  unfolding enclosed_item onto Valid Joined
+  enclosed-found zero l xs ys v e = bound _ (byte-found 40 ys) (λ r h. deep (rw (e, h) (omega (arith, marks_end (label_text l) (40 ∷ r)))))
+  enclosed-found (suc limit) l xs ys v e = bound _ (byte-found 40 ys) (λ r h. bound _ (weaker (λ p s. s) (λ (d : limit < marks r). rw (e, h) (omega (arith, marks_end (label_text l) (40 ∷ r)))) (gs limit Standalone r)) (λ w vw. bound _ (byte-found 41 w.1) (λ q d. fine ((v, vw.0), vw.1, cc, omega (arith, vw.3)))))
+
+  number_end-found : (limit : ℕ) (x : List ℕ) (i : Option Indicator) (xs ys : List ℕ) → is_number x ≡ true → xs ≡ x ++ (indicator_text i ++ ys) → IsSound limit OneItem xs (number_end g limit x i ys)
+  unfolding number_end tag_item onto Valid Joined
+  number_end-found limit x i xs ys v e = chosen (starts_with 40 ys) _ _ (λ t. bound _ (told (tag_number x) (λ n h. h) (tag_number-found x)) (λ n h. enclosed-found limit (label.Tag n i) xs ys h.1 (rw (e, h.0) (sym (append_assoc (decimal n) (indicator_text i) ys))))) (λ t. fine (v, tt, e, omega arith))
+
+  number-found : (limit : ℕ) (xs : List ℕ) → IsSound limit OneItem xs (number_item g limit xs)
+  unfolding number_item
+  number-found limit xs = bound _ (taken number xs) (λ x v. number_end-found limit x.0 (indicator_at x.1).0 xs (indicator_at x.1).1 v.0 (v.1 ∙ ap (x.0 ++◌) (spec-found x.1)))
+
+  word_item-found : (limit : ℕ) (w : Word) (xs ys : List ℕ) → xs ≡ word_text w ++ ys → IsSound limit OneItem xs (word_item g limit w ys)
+  unfolding word_item onto Valid Joined
+  word_item-found limit (Named b) xs ys e = fine (tt, tt, e, omega arith)
+  word_item-found limit Simple xs ys e = enclosed-found limit label.Simple xs ys tt e
+  word_item-found limit (NonFinite f) xs ys e = fine (tt, tt, e ∙ ap (non_finite_text f ++◌) (spec-found ys), omega arith)
+
+  plain-found : (limit : ℕ) (xs : List ℕ) (o : Option (Word × List ℕ)) → Holds (IsFront xs) o → IsSound limit OneItem xs (plain_item g limit o xs)
+  unfolding plain_item string_item onto Valid Joined
+  plain-found limit xs _ nothing = chosen (starts_string xs) _ _ (λ e. bound _ (gs limit OneString xs) (λ w v. fine v)) (λ n. number-found limit xs)
+  plain-found limit xs _ (just {x = p} h) = word_item-found limit p.0 xs p.1 h.0
 
   list-found : (limit : ℕ) (k : Bracketed) (xs : List ℕ) → IsSound limit OneItem (opening k ∷ xs) (list_item g limit k xs)
   unfolding list_item onto Valid Joined
@@ -108,13 +136,13 @@ module _ (g : ℕ → (s : Rule) → Reader s) (gs : (limit : ℕ) (s : Rule) (x
   stream-found limit xs = bound _ (byte-found 95 xs) (λ r e. bound _ (taken space r) (λ s vs. bound _ (not_empty-found s.0) (λ t n. bound _ (later limit (Rest Strings) (40 ∷ xs) s.1 (rw (e, vs.1) (omega (arith, marks_end (40 ∷ 95 ∷ s.0) s.1)))) (λ m vm. bound _ (byte-found 41 m.1) (λ q d. fine ((rw n.1 (rw n.0 vs.0), vm.0), vm.1, cc, vm.3))))))
 
   item-found : (limit : ℕ) (xs : List ℕ) → IsSound limit OneItem xs (item g limit xs)
-  unfolding item string_item onto Valid Joined
+  unfolding item
   item-found limit [] = invalid
   item-found limit (c ∷ xs) =
       chosen (eqb c 91) _ _ (λ e. rw (eqb-true c 91 e) (list-found limit Array xs)) (λ n.
       chosen (eqb c 123) _ _ (λ e. rw (eqb-true c 123 e) (list-found limit Map xs)) (λ n.
       chosen (eqb c 40) _ _ (λ e. rw (eqb-true c 40 e) (stream-found limit xs)) (λ n.
-      chosen (starts_string (c ∷ xs)) _ _ (λ e. bound _ (gs limit OneString (c ∷ xs)) (λ w v. fine v)) (λ n. number-found limit (c ∷ xs)))))
+      plain-found limit (c ∷ xs) (word_at (c ∷ xs)) (word-found (c ∷ xs)))))
 
   literal-found : (limit : ℕ) (xs : List ℕ) → IsSound limit OnePiece xs (literal_piece g xs)
   unfolding literal_piece onto Valid Joined

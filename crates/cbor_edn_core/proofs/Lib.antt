@@ -34,7 +34,9 @@ pub mod Steps
 pub mod StringEncodes
 pub mod StringKinds
 pub mod StringTurns
+pub mod TagNumbers
 pub mod Texts
 pub mod Turns
 pub mod Views
 pub mod Whole
+pub mod Words

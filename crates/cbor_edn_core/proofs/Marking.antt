@@ -4,7 +4,8 @@ use Rattle.std.specs.Prelude.{cond, eqb}
 use Rattle.std.proofs.lemmas.Bool.{cond_both}
 use Rattle.cbor_edn_parts.specs.Indicator.{indicator_text}
 use Rattle.cbor_edn_core.specs.Spelling.{opening, ending}
-use Rattle.cbor_edn_core.specs.Trees.{Rule, head_text, Tree, NumberTree, ListTree, StringTree, StreamTree, LiteralTree, DotsTree, EmbeddedTree, LastPieceTree, PlusTree, ElementTree, PairTree, ChunkTree, EmptyTree, FullTree, LastTree, MoreTree, NothingTree, SequenceTree, StandaloneTree, onto}
+use Rattle.cbor_edn_core.specs.Trees.{Rule, head_text, label_text, Tree, NumberTree, FloatTree, NamedTree, EnclosedTree, ListTree, StringTree, StreamTree, LiteralTree, DotsTree, EmbeddedTree, LastPieceTree, PlusTree, ElementTree, PairTree, ChunkTree, EmptyTree, FullTree, LastTree, MoreTree, NothingTree, SequenceTree, StandaloneTree, onto}
+use Rattle.cbor_edn_core.specs.Words.{named_text, non_finite_text}
 use Rattle.cbor_edn_core.specs.Marks.{opens, marks, marks_behind}
 
 -- Behind a `<` a text has as many marks, or one more.
@@ -32,6 +33,9 @@ marks_between s c t r = omega (arith, marks_end t r, marks_next c (t ++ r), mark
 pub marks_onto : {s : Rule} (w : Tree s) (r : List ℕ) → marks r ≤ marks (onto w r)
 unfolding onto
 marks_onto (NumberTree x i) r = marks_text x (indicator_text i) r
+marks_onto (FloatTree f i) r = marks_text (non_finite_text f) (indicator_text i) r
+marks_onto (NamedTree b) r = marks_end (named_text b) r
+marks_onto (EnclosedTree l w) r = omega (arith, marks_next 41 r, marks_onto w (41 ∷ r), marks_next 40 (onto w (41 ∷ r)), marks_end (label_text l) (40 ∷ onto w (41 ∷ r)))
 marks_onto (ListTree k w) r = omega (arith, marks_next (ending k) r, marks_onto w (ending k ∷ r), marks_next (opening k) (onto w (ending k ∷ r)))
 marks_onto (StringTree w) r = marks_onto w r
 marks_onto (StreamTree ms m) r = omega (arith, marks_next 41 r, marks_onto m (41 ∷ r), marks_end ms (onto m (41 ∷ r)), marks_next 95 (ms ++ onto m (41 ∷ r)), marks_next 40 (95 ∷ (ms ++ onto m (41 ∷ r))))

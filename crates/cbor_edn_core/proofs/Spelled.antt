@@ -3,12 +3,16 @@ use Rattle.std.proofs.Common.{ℕ, suc, List, [], ◌∷◌, ◌++◌, ◌≡◌
 use Rattle.std.proofs.lemmas.List.{append-nil}
 use Rattle.std.specs.Prelude.{true, Option, Some, None, ◌≢◌}
 use Rattle.cbor_edn_parts.specs.declared.indicator.Indicator.{Indicator}
+use Rattle.std.specs.Fmt.{decimal}
 use Rattle.cbor_edn_parts.specs.Indicator.{indicator_text}
 use Rattle.cbor_edn_parts.specs.Space.{IsS, empty, blank, comment, IsMs, IsMsc, IsSoc}
 use Rattle.cbor_edn_parts.specs.SpaceTokens.{is_s}
-use Rattle.cbor_edn_core.specs.Items.{Row, Elements, Strings, Bracketed, entries_of, Sort, Item, Piece, Pieces, Entry, Entries, Node, Number, Listed, String, Stream, Literal, Dots, Embedded, LastPiece, Plus, Element, Pair, Chunk, End, Then, Items, nesting}
+use Rattle.cbor_edn_core.specs.Items.{Row, Elements, Strings, Bracketed, entries_of, Sort, Item, Piece, Pieces, Entry, Entries, Node, Number, Float, Listed, Tagged, Named, Simple, String, Stream, Literal, Dots, Embedded, LastPiece, Plus, Element, Pair, Chunk, End, Then, Items, nesting}
 use Rattle.cbor_edn_core.specs.Spelling.{opening, ending, IsSpecms, Spells, SpellsSequence, SpellsOne}
-use Rattle.cbor_edn_core.specs.Trees.{Rule, OneItem, OnePiece, OneString, OneEntry, Inside, Rest, Seq, Standalone, Head, Unmarked, Marked, mark, head_text, Tree, NumberTree, ListTree, StringTree, StreamTree, LiteralTree, DotsTree, EmbeddedTree, LastPieceTree, PlusTree, ElementTree, PairTree, ChunkTree, EmptyTree, FullTree, LastTree, MoreTree, NothingTree, SequenceTree, StandaloneTree, onto, text, Of, items, depth, IsHead, Valid, IsJoined, Joined}
+use Rattle.cbor_edn_core.specs.Trees.{Rule, OneItem, OnePiece, OneString, OneEntry, Inside, Rest, Seq, Standalone, Head, Unmarked, Marked, mark, head_text, label_text, IsLabel, labelled, Tree, NumberTree, FloatTree, NamedTree, EnclosedTree, ListTree, StringTree, StreamTree, LiteralTree, DotsTree, EmbeddedTree, LastPieceTree, PlusTree, ElementTree, PairTree, ChunkTree, EmptyTree, FullTree, LastTree, MoreTree, NothingTree, SequenceTree, StandaloneTree, onto, text, Of, items, depth, IsHead, Valid, IsJoined, Joined}
+use Rattle.cbor_edn_core.specs.declared.tree.Label.{Label}
+use Rattle.cbor_edn_core.specs.declared.tree.Label.TheVariants as label
+use Rattle.cbor_edn_core.specs.Words.{named_text}
 use Rattle.cbor_edn_parts.proofs.SpaceTexts.{s_texts, soc_texts, ms_texts, msc_texts}
 use Rattle.cbor_edn_parts.proofs.NumberTexts.{number_texts}
 use Rattle.cbor_edn_core.proofs.Found.{no_space}
@@ -29,6 +33,10 @@ nesting_of Standalone x = nesting x
 pub nested : {s : Rule} (w : Tree s) → depth w ≡ nesting_of s (items w)
 unfolding items
 nested (NumberTree x i) = refl
+nested (FloatTree f i) = refl
+nested (NamedTree b) = refl
+nested (EnclosedTree (label.Tag n i) w) = ap suc (nested w)
+nested (EnclosedTree label.Simple w) = ap suc (nested w)
 nested (ListTree k w) = ap suc (nested w)
 nested (StringTree w) = nested w
 nested (StreamTree ms m) = nested m
@@ -59,6 +67,9 @@ full-append h s m r = simp append_assoc
 pub onto-append : {s : Rule} (w : Tree s) (q r : List ℕ) → onto w (q ++ r) ≡ onto w q ++ r
 unfolding onto
 onto-append (NumberTree x i) q r = simp append_assoc
+onto-append (FloatTree f i) q r = simp append_assoc
+onto-append (NamedTree b) q r = simp append_assoc
+onto-append (EnclosedTree l w) q r = ap (λ (x : List ℕ). label_text l ++ (40 ∷ x)) (onto-append w (41 ∷ q) r) ∙ sym (append_assoc (label_text l) (40 ∷ onto w (41 ∷ q)) r)
 onto-append (ListTree k w) q r = ap (opening k ∷◌) (onto-append w (ending k ∷ q) r)
 onto-append (StringTree w) q r = onto-append w q r
 onto-append (StreamTree ms m) q r = ap (λ (x : List ℕ). 40 ∷ 95 ∷ x) (ap (ms ++◌) (onto-append m (41 ∷ q) r) ∙ sym (append_assoc ms (onto m (41 ∷ q)) r))
@@ -197,9 +208,23 @@ embedded_given m i a v = record {
   text_is = λ r. rw (v.text_is (62 ∷ 62 ∷ (indicator_text i ++ r))) (simp append_assoc);
 }
 
+enclosed_given : (l : Label) (x : Node Item) (s a u : List ℕ) → IsLabel l → IsS s → HasTree OneItem x a → IsS u → HasTree OneItem (labelled l x) (label_text l ++ (40 ∷ (s ++ (a ++ (u ++ (41 ∷ []))))))
+unfolding onto Valid Joined items
+enclosed_given l x s a u vl vs v vu = record {
+  tree = EnclosedTree l (StandaloneTree s v.tree u);
+  valid = (vl, ((s_texts s).0 vs, v.valid, (s_texts u).0 vu));
+  joined = v.joined;
+  same = ap (labelled l) v.same;
+  text_is = λ r. rw (v.text_is (u ++ (41 ∷ r))) (simp append_assoc);
+}
+
 pub spelled : {s : Sort} (x : Node s) (t : List ℕ) → Spells x t → Given s x t
 unfolding Spells SpellsSequence onto Valid Joined items
 spelled (Number x i) t h = record { tree = NumberTree x i; valid = (number_texts x).0 h.0; joined = tt; same = refl; text_is = λ r. rw h.1 (simp append_assoc) }
+spelled (Float f i) t h = record { tree = FloatTree f i; valid = tt; joined = tt; same = refl; text_is = λ r. rw h (simp append_assoc) }
+spelled (Tagged n i w) t h = rw (h.7 ∙ sym (append_assoc (decimal n) (indicator_text i) _)) (enclosed_given (label.Tag n i) w h.0 h.1 h.2 h.3 h.4 (spelled w h.1 h.5) h.6)
+spelled (Named b) t h = record { tree = NamedTree b; valid = tt; joined = tt; same = refl; text_is = λ r. rw h refl }
+spelled (Simple w) t h = rw h.6 (enclosed_given label.Simple w h.0 h.1 h.2 tt h.3 (spelled w h.1 h.4) h.5)
 spelled (Listed k i End) t h = record { tree = ListTree k (EmptyTree i h.0); valid = (s_texts h.0).0 h.1; joined = tt; same = refl; text_is = λ r. rw h.2 (simp append_assoc) }
 spelled (Listed k i (Then e m)) t h = let v = spelled e h.2 h.6 in rw h.8 (full_given k i e m h.0 h.1 h.2 h.3 (head_given i h.0 h.1 h.4 h.5) v (spelled m h.3 h.7 v.tree v.valid v.joined))
 spelled (String w) t h = let v = spelled w t h in record { tree = StringTree v.tree; valid = v.valid; joined = v.joined; same = ap String v.same; text_is = v.text_is }
@@ -266,6 +291,11 @@ tells_stream : (ms : List ℕ) (m : Tree (Rest Strings)) → IsMs ms → Told m 
 unfolding Spells
 tells_stream ms m v t = rw t.same (ms, t.front, t.back, v, t.first_spelled, t.others_spelled, rw (t.text_is (41 ∷ [])) refl)
 
+tells_enclosed : (l : Label) (w : Tree Standalone) → IsLabel l → SpellsOne (items w) (text w) → Spells (labelled l (items w)) (label_text l ++ (40 ∷ onto w (41 ∷ [])))
+unfolding Spells SpellsOne
+tells_enclosed (label.Tag n i) w v h = (h.0, h.1, h.2, v, h.3, h.4, h.5, rw (parted w (41 ∷ []), h.6) (simp append_assoc))
+tells_enclosed label.Simple w v h = (h.0, h.1, h.2, h.3, h.4, h.5, rw (parted w (41 ∷ []), h.6) (simp append_assoc))
+
 tells_embedded : (w : Tree Seq) (i : Option Indicator) → SpellsSequence (items w) (text w) → Spells (Embedded (items w) i) (60 ∷ 60 ∷ onto w (62 ∷ 62 ∷ (indicator_text i ++ [])))
 unfolding Spells
 tells_embedded w i h = (text w, h, ap (λ (x : List ℕ). 60 ∷ 60 ∷ x) (ap (λ (x : List ℕ). onto w (62 ∷ 62 ∷ x)) (append-nil (indicator_text i)) ∙ parted w (62 ∷ 62 ∷ indicator_text i)))
@@ -298,6 +328,9 @@ tells_sequence s m v h = rw h.same (s, h.front, h.back, v, h.first_spelled, h.ot
 pub tells : {s : Rule} (w : Tree s) → Valid w → Tells s w
 unfolding Valid onto items Spells SpellsSequence SpellsOne
 tells (NumberTree x i) v = ((number_texts x).1 v, simp append-nil)
+tells (FloatTree f i) v = simp append-nil
+tells (NamedTree b) v = append-nil (named_text b)
+tells (EnclosedTree l w) v = tells_enclosed l w v.0 (tells w v.1)
 tells (ListTree k w) v = tells w v
 tells (StringTree w) v = tells w v
 tells (StreamTree ms m) v = tells_stream ms m ((ms_texts ms).1 v.0) (tells m v.1)

@@ -8,15 +8,22 @@ use Rattle.cbor_edn_parts.specs.Bytes.{is_closed}
 use Rattle.cbor_edn_parts.specs.Indicator.{indicator_text, indicator_at}
 use Rattle.cbor_edn_parts.specs.Lex.{Table}
 use Rattle.cbor_edn_parts.specs.SpaceTokens.{space, separator}
-use Rattle.cbor_edn_parts.specs.NumberTokens.{is_number}
+use Rattle.cbor_edn_parts.specs.NumberTokens.{number, is_number}
 use Rattle.cbor_edn_parts.specs.LiteralTokens.{is_literal, are_dots}
 use Rattle.cbor_edn_core.specs.Items.{Row, Elements, Pairs, Strings, Bracketed, Array, Map, entries_of}
 use Rattle.cbor_edn_core.specs.Spelling.{ending}
-use Rattle.cbor_edn_core.specs.Trees.{Rule, OneItem, OnePiece, OneString, OneEntry, Inside, Rest, Seq, Standalone, head_text, Tree, NumberTree, ListTree, StringTree, StreamTree, LiteralTree, DotsTree, EmbeddedTree, LastPieceTree, PlusTree, ElementTree, PairTree, ChunkTree, EmptyTree, FullTree, LastTree, MoreTree, NothingTree, SequenceTree, StandaloneTree, onto, Valid, Joined, FollowOf, depth, joins}
-use Rattle.cbor_edn_core.specs.Reading.{◌>>=◌, Reader, token, byte, not_empty, head_of, number_item, list_item, stream_item, string_item, item, literal_piece, dots_piece, embedded_piece, piece, plus_string, string, entry, inside_full, inside, more, rest, sequence, standalone, rule, read, reads, outcome}
+use Rattle.cbor_edn_core.specs.Trees.{Rule, OneItem, OnePiece, OneString, OneEntry, Inside, Rest, Seq, Standalone, head_text, label_text, Tree, NumberTree, FloatTree, NamedTree, EnclosedTree, ListTree, StringTree, StreamTree, LiteralTree, DotsTree, EmbeddedTree, LastPieceTree, PlusTree, ElementTree, PairTree, ChunkTree, EmptyTree, FullTree, LastTree, MoreTree, NothingTree, SequenceTree, StandaloneTree, onto, Valid, Joined, FollowOf, depth, joins}
+use Rattle.cbor_edn_core.specs.declared.tree.Label.{Label}
+use Rattle.cbor_edn_core.specs.declared.tree.Label.TheVariants as label
+use Rattle.cbor_edn_core.specs.declared.word.Word.{Word}
+use Rattle.cbor_edn_core.specs.declared.word.Word.TheVariants.{Named, Simple, NonFinite}
+use Rattle.cbor_edn_core.specs.Words.{word_text}
+use Rattle.cbor_edn_core.specs.Reading.{◌>>=◌, Reader, or_invalid, token, byte, not_empty, head_of, starts_with, word_at, tag_number, enclosed_item, tag_item, number_end, number_item, word_item, plain_item, list_item, stream_item, string_item, item, literal_piece, dots_piece, embedded_piece, piece, plus_string, string, entry, inside_full, inside, more, rest, sequence, standalone, rule, read, reads, outcome}
 use Rattle.cbor_edn_parts.proofs.Indicators.{spec-found}
+use Rattle.cbor_edn_parts.proofs.Tokens.{Holds, nothing, just}
 use Rattle.cbor_edn_core.proofs.Follows.{number_some}
 use Rattle.cbor_edn_core.proofs.Begins.{literal_some, dots_begin}
+use Rattle.cbor_edn_core.proofs.Words.{IsFront, word-found, word_length}
 use Rattle.cbor_edn_core.proofs.Again.{size, positive, again}
 use Rattle.cbor_edn_core.proofs.Found.{Meets, invalid, deep, fine, weaker, taken, Sound, IsSound, found, byte-found, not_empty-found}
 
@@ -43,6 +50,9 @@ dots_length x v = rw (dots_begin x v).1 (omega arith)
 pub size_fits : {s : Rule} (w : Tree s) (r : List ℕ) → Valid w → size w + extra s + 8 * length r ≤ 8 * length (onto w r) + 1
 unfolding size onto Valid
 size_fits (NumberTree x i) r v = omega (arith, number_length x v, length-append x (indicator_text i ++ r), length-append (indicator_text i) r)
+size_fits (FloatTree f i) r v = omega (arith, word_length (NonFinite f), length-append (word_text (NonFinite f)) (indicator_text i ++ r), length-append (indicator_text i) r)
+size_fits (NamedTree b) r v = omega (arith, word_length (Named b), length-append (word_text (Named b)) r)
+size_fits (EnclosedTree l w) r v = omega (arith, size_fits w (41 ∷ r) v.1, length-append (label_text l) (40 ∷ onto w (41 ∷ r)))
 size_fits (ListTree k w) r v = omega (arith, size_fits w (ending k ∷ r) v)
 size_fits (StringTree w) r v = omega (arith, size_fits w r v)
 size_fits (StreamTree ms m) r v = omega (arith, length-append ms (onto m (41 ∷ r)), size_fits m (41 ∷ r) v.1)
@@ -153,10 +163,30 @@ module _ (g h : ℕ → (s : Rule) → Reader s) (gs : (limit : ℕ) (s : Rule) 
   unfolding string_item
   string_item-same limit xs a = alike limit OneString xs _ (a limit OneString xs (omega arith))
 
+  enclosed-same : (limit : ℕ) (l : Label) (xs : List ℕ) → Agree (8 * length xs + 2) → enclosed_item g limit l xs ≡ enclosed_item h limit l xs
+  unfolding enclosed_item
+  enclosed-same zero l xs a = refl
+  enclosed-same (suc limit) l xs a = same_then _ _ refl (byte-shorter 40 xs) (λ r lr. alike limit Standalone r _ (a limit Standalone r (omega arith)))
+
+  number-same : (limit : ℕ) (xs : List ℕ) → Agree (8 * length xs + 2) → number_item g limit xs ≡ number_item h limit xs
+  unfolding number_item number_end tag_item
+  number-same limit xs a = same_then _ _ refl (token-shorter number xs) (λ x lx. let i = (indicator_at x.1).0 in let ys = (indicator_at x.1).1 in ap (λ r. cond (starts_with 40 ys) r (Ok (NumberTree x.0 i, ys))) (same_then _ _ refl (any (or_invalid (tag_number x.0))) (λ n u. enclosed-same limit (label.Tag n i) ys (fewer _ _ (omega (arith, indicator-shorter x.1)) a))))
+
+  word-same : (limit : ℕ) (w : Word) (xs : List ℕ) → Agree (8 * length xs + 2) → word_item g limit w xs ≡ word_item h limit w xs
+  unfolding word_item
+  word-same limit (Named b) xs a = refl
+  word-same limit Simple xs a = enclosed-same limit label.Simple xs a
+  word-same limit (NonFinite f) xs a = refl
+
+  plain-same : (limit : ℕ) (xs : List ℕ) (o : Option (Word × List ℕ)) → Holds (IsFront xs) o → Agree (8 * length xs + 2) → plain_item g limit o xs ≡ plain_item h limit o xs
+  unfolding plain_item
+  plain-same limit xs _ nothing a = rw (string_item-same limit xs a, number-same limit xs a)
+  plain-same limit xs _ (just {x = p} f) a = word-same limit p.0 p.1 (fewer _ _ (rw f.0 (omega (arith, length-append (word_text p.0) p.1))) a)
+
   item-same : (limit : ℕ) (xs : List ℕ) → Agree (8 * length xs + 2) → item g limit xs ≡ item h limit xs
-  unfolding item number_item
+  unfolding item
   item-same limit [] a = refl
-  item-same limit (c ∷ xs) a = rw (list-same limit Array xs (fewer _ _ (omega arith) a), list-same limit Map xs (fewer _ _ (omega arith) a), stream-same limit xs (fewer _ _ (omega arith) a), string_item-same limit (c ∷ xs) a)
+  item-same limit (c ∷ xs) a = rw (list-same limit Array xs (fewer _ _ (omega arith) a), list-same limit Map xs (fewer _ _ (omega arith) a), stream-same limit xs (fewer _ _ (omega arith) a), plain-same limit (c ∷ xs) (word_at (c ∷ xs)) (word-found (c ∷ xs)) a)
 
   embedded-same : (limit : ℕ) (xs : List ℕ) → Agree (8 * length xs + 8) → embedded_piece g limit xs ≡ embedded_piece h limit xs
   unfolding embedded_piece
