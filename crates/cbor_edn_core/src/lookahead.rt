@@ -135,27 +135,18 @@ fn digit_at(text: &Text<'_>, at: usize, looks: &mut Looks) -> Option<u8> {
 }
 
 /// The number of a tag, whose digits stand between two places: decimal, without a leading zero, and below 2^64.
-pub(crate) fn tag_number(
-    text: &Text<'_>,
-    from: usize,
-    to: usize,
-    looks: &mut Looks,
-) -> Option<u64>
+pub(crate) fn tag_number(text: &Text<'_>, from: usize, to: usize, looks: &mut Looks) -> Option<u64>
     requires { (from < to) × (to ≤ length (text_bytes text.now)) }
     ensures value { result ≡ reading.tag_number (take (to - from) (drop from (text_bytes text.now))) }
     ensures count { (looks.old.count ≤ looks.new.count) × (looks.new.count + from ≤ looks.old.count + to) }
 {
-    let mut number: u64 = 0;
-    for at in from..to {
-        let Some(digit @ b'0'..=b'9') = text.byte(at, looks) else {
-            return None;
-        };
-        if at > from && number == 0 {
-            return None;
-        }
-        number = number
-            .checked_mul(10)?
-            .checked_add(u64::from(digit - b'0'))?;
+    let mut number = u64::from(digit_at(text, from, looks)?);
+    if number == 0 && from + 1 < to {
+        return None;
+    }
+    for at in from + 1..to {
+        let digit = digit_at(text, at, looks)?;
+        number = number.checked_mul(10)?.checked_add(u64::from(digit))?;
     }
     Some(number)
 }
