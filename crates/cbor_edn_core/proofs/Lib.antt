@@ -17,10 +17,12 @@ pub mod CborValues
 pub mod DecodedLiterals
 pub mod Decodes
 pub mod Decoding
+pub mod EnclosedTurns
 pub mod Examples
 pub mod Follows
 pub mod Found
 pub mod GrammarLaws
+pub mod Looks
 pub mod Marking
 pub mod MeaningSteps
 pub mod Meanings

@@ -17,8 +17,8 @@ use Rattle.cbor_edn_parts.specs.SpaceTokens.{space, separator}
 use Rattle.cbor_edn_parts.specs.NumberTokens.{number}
 use Rattle.cbor_edn_core.specs.Items.{Row, Elements, Pairs, Bracketed, Array, Map, entries_of}
 use Rattle.cbor_edn_core.specs.Spelling.{opening, ending}
-use Rattle.cbor_edn_core.specs.Trees.{Rule, OneItem, OneString, OneEntry, Inside, Rest, Seq, Standalone, Head, Tree, NumberTree, ListTree, StringTree, ElementTree, PairTree, EmptyTree, FullTree, LastTree, MoreTree, NothingTree, SequenceTree, StandaloneTree}
-use Rattle.cbor_edn_core.specs.Reading.{◌>>=◌, Read, token, byte, not_empty, number_item, list_item, string_item, stream_item, starts_string, item, entry, head_of, inside, inside_full, more, rest, sequence, standalone, reads, reads_all, at_end}
+use Rattle.cbor_edn_core.specs.Trees.{Rule, OneItem, OneString, OneEntry, Inside, Rest, Seq, Standalone, Head, Tree, ListTree, StringTree, ElementTree, PairTree, EmptyTree, FullTree, LastTree, MoreTree, NothingTree, SequenceTree, StandaloneTree}
+use Rattle.cbor_edn_core.specs.Reading.{◌>>=◌, Read, token, byte, not_empty, number_item, list_item, string_item, stream_item, starts_string, word_at, plain_item, item, entry, head_of, inside, inside_full, more, rest, sequence, standalone, reads, reads_all, at_end}
 use Rattle.cbor_edn_core.specs.ParserResults.{Fails, ReadsEnd, IsNotAt, behind_colon, parted}
 use Rattle.cbor_edn_parts.specs.Refusals.{IfTold}
 use Rattle.cbor_edn_parts.specs.declared.space.read.End.{End}
@@ -83,45 +83,45 @@ byte_other b (c ∷ xs) n = rw (ne_eqb c b n)
 
 -- items
 
-number_next : (limit : ℕ) (c : ℕ) (xs : List ℕ) → IsNotAt 91 (c ∷ xs) → IsNotAt 123 (c ∷ xs) → IsNotAt 40 (c ∷ xs) → starts_string (c ∷ xs) ≡ false → item reads limit (c ∷ xs) ≡ number_item reads (c ∷ xs)
-unfolding item
-number_next limit c xs a m s n = rw (ne_eqb c 91 a, ne_eqb c 123 m, ne_eqb c 40 s, n)
+number_next : (limit : ℕ) (c : ℕ) (xs : List ℕ) → IsNotAt 91 (c ∷ xs) → IsNotAt 123 (c ∷ xs) → IsNotAt 40 (c ∷ xs) → word_at (c ∷ xs) ≡ None → starts_string (c ∷ xs) ≡ false → item reads limit (c ∷ xs) ≡ number_item reads limit (c ∷ xs)
+unfolding item plain_item
+number_next limit c xs a m s w n = rw (ne_eqb c 91 a, ne_eqb c 123 m, ne_eqb c 40 s, w, n) refl
 
 no_number : token number [] ≡ Err Invalid
 unfolding munch
 no_number = refl
 
 -- where nothing else begins
-pub number_at : (limit : ℕ) (xs : List ℕ) → IsNotAt 91 xs → IsNotAt 123 xs → IsNotAt 40 xs → starts_string xs ≡ false → reads limit OneItem xs ≡ number_item reads xs
+pub number_at : (limit : ℕ) (xs : List ℕ) → IsNotAt 91 xs → IsNotAt 123 xs → IsNotAt 40 xs → word_at xs ≡ None → starts_string xs ≡ false → reads limit OneItem xs ≡ number_item reads limit xs
 unfolding item number_item ◌>>=◌
-number_at limit [] a m s n = reads-rule limit OneItem [] ∙ rw no_number refl
-number_at limit (c ∷ xs) a m s n = reads-rule limit OneItem (c ∷ xs) ∙ number_next limit c xs a m s n
+number_at limit [] a m s w n = reads-rule limit OneItem [] ∙ rw no_number refl
+number_at limit (c ∷ xs) a m s w n = reads-rule limit OneItem (c ∷ xs) ∙ number_next limit c xs a m s w n
 
-pub number_fails : (e : Fault Refusal) (xs : List ℕ) → Fails e (token number xs) → Fails e (number_item reads xs)
+pub number_fails : (e : Fault Refusal) (limit : ℕ) (xs : List ℕ) → Fails e (token number xs) → Fails e (number_item reads limit xs)
 unfolding number_item
-number_fails e xs h = bind_fails e (token number xs) _ h
-
-pub number_read : (xs x r : List ℕ) (i : Option Indicator) (q : List ℕ) → token number xs ≡ Ok (x, r) → indicator_at r ≡ (i, q) → number_item reads xs ≡ Ok (NumberTree x i, q)
-unfolding number_item
-number_read xs x r i q h k = bind_ok (token number xs) (x, r) _ h ∙ ap (λ (p : Option Indicator × List ℕ). Ok (NumberTree x p.0, p.1)) k
+number_fails e limit xs h = bind_fails e (token number xs) _ h
 
 other_byte : (c b : ℕ) (xs : List ℕ) → starts_string (c ∷ xs) ≡ true → starts_string (b ∷ xs) ≡ false → eqb c b ≡ false
 other_byte c b xs h n = false_from_ne_true (eqb c b) (λ e. both_ways (starts_string (b ∷ xs)) n (rw (eqb-true c b e) at h))
 
-string_next : (limit : ℕ) (c : ℕ) (xs : List ℕ) → starts_string (c ∷ xs) ≡ true → item reads limit (c ∷ xs) ≡ string_item reads limit (c ∷ xs)
-unfolding item starts_string
-string_next limit c xs h = rw (other_byte c 91 xs h refl, other_byte c 123 xs h refl, other_byte c 40 xs h refl, h)
+-- neither a word nor anything else than a string
+abbrev pub Quoted : List ℕ → Type 0
+Quoted xs = (word_at xs ≡ None) × (starts_string xs ≡ true)
 
-pub string_at : (limit : ℕ) (xs : List ℕ) → starts_string xs ≡ true → reads limit OneItem xs ≡ string_item reads limit xs
+string_next : (limit : ℕ) (c : ℕ) (xs : List ℕ) → Quoted (c ∷ xs) → item reads limit (c ∷ xs) ≡ string_item reads limit (c ∷ xs)
+unfolding item plain_item starts_string
+string_next limit c xs h = rw (other_byte c 91 xs h.1 refl, other_byte c 123 xs h.1 refl, other_byte c 40 xs h.1 refl, h.0, h.1) refl
+
+pub string_at : (limit : ℕ) (xs : List ℕ) → Quoted xs → reads limit OneItem xs ≡ string_item reads limit xs
 unfolding starts_string
-string_at limit [] h = absurd (false≢true h)
+string_at limit [] h = absurd (false≢true h.1)
 string_at limit (c ∷ xs) h = reads-rule limit OneItem (c ∷ xs) ∙ string_next limit c xs h
 
-pub string_item_fails : (e : Fault Refusal) (limit : ℕ) (xs : List ℕ) → starts_string xs ≡ true → Fails e (reads limit OneString xs) → Fails e (reads limit OneItem xs)
+pub string_item_fails : (e : Fault Refusal) (limit : ℕ) (xs : List ℕ) → Quoted xs → Fails e (reads limit OneString xs) → Fails e (reads limit OneItem xs)
 unfolding string_item
 string_item_fails e limit xs s h = fails_at e _ _ (string_at limit xs s) (bind_fails e (reads limit OneString xs) _ h)
 
-pub string_item_read : (limit : ℕ) (xs r : List ℕ) (w : Tree OneString) → starts_string xs ≡ true → reads limit OneString xs ≡ Ok (w, r) → reads limit OneItem xs ≡ Ok (StringTree w, r)
+pub string_item_read : (limit : ℕ) (xs r : List ℕ) (w : Tree OneString) → Quoted xs → reads limit OneString xs ≡ Ok (w, r) → reads limit OneItem xs ≡ Ok (StringTree w, r)
 unfolding string_item
 string_item_read limit xs r w s h = string_at limit xs s ∙ bind_ok (reads limit OneString xs) (w, r) _ h
 

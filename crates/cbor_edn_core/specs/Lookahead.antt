@@ -1,7 +1,7 @@
 -- What begins at a place, in the words of the grammar.
-use Rattle.std.specs.Prelude.{ℕ, ◌≡◌, ◌≢◌, ◌≤◌, ◌<◌, ◌+◌, ◌-◌, min, true, false, List, drop, length, Some, None}
+use Rattle.std.specs.Prelude.{ℕ, ◌≡◌, ◌≢◌, ◌≤◌, ◌<◌, ◌+◌, true, false, List, drop, Some, None}
 use Rattle.std.specs.Str.{IsCharBoundary}
-use Rattle.cbor_edn_core.specs.ParserResults.{IsByteAt, IsNotAt}
+use Rattle.cbor_edn_core.specs.ParserResults.{IsByteAt, IsNotAt, ahead}
 use Rattle.cbor_edn_core.specs.Reading.{begins_string, starts_string, word_at}
 use Rattle.cbor_edn_core.specs.declared.lookahead.Opening.{Opening}
 use Rattle.cbor_edn_core.specs.declared.lookahead.Opening.TheVariants.{Array, Map, Stream, Word, String, Number}
@@ -13,10 +13,6 @@ Opens text at Stream = IsByteAt text at 40
 Opens text at (Word w to) = (word_at (drop at text) ≡ Some (w, drop to text)) × IsCharBoundary text to
 Opens text at String = (word_at (drop at text) ≡ None) × (starts_string (drop at text) ≡ true)
 Opens text at Number = IsNotAt 91 (drop at text) × IsNotAt 123 (drop at text) × IsNotAt 40 (drop at text) × (word_at (drop at text) ≡ None) × (starts_string (drop at text) ≡ false)
-
--- how many looks a word may take that does not stand there: none is longer
-abbrev pub ahead : List ℕ → ℕ → ℕ
-ahead text at = min 9 (length text - at)
 
 -- What the looks cost that tell it.
 abbrev pub Looked : List ℕ → ℕ → ℕ → ℕ → Opening → Type 0

@@ -1,5 +1,5 @@
 -- How a result of the parser stands to what the reader on lists gives.
-use Rattle.std.specs.Prelude.{ℕ, ◌+◌, ◌*◌, ◌≡◌, ◌≢◌, ◌≤◌, List, [], ◌∷◌, ◌++◌, length, drop, Result, Ok, Err}
+use Rattle.std.specs.Prelude.{ℕ, ◌+◌, ◌*◌, ◌≡◌, ◌≢◌, ◌≤◌, ◌-◌, min, List, [], ◌∷◌, ◌++◌, length, drop, Result, Ok, Err}
 use Rattle.std.specs.Str.{IsCharBoundary}
 use Rattle.cbor_edn_parts.specs.declared.error.ParseErrorKind.{ParseErrorKind}
 use Rattle.cbor_edn_parts.specs.declared.error.Refusal.{Refusal}
@@ -61,6 +61,19 @@ LandsEnd text at (Err e) = IsPlaced text e
 abbrev pub CostsEnd : {X E : Type 0} → ℕ → ℕ → ℕ → List ℕ → ℕ → ℕ → ℕ → Result (X × End) E → Type 0
 CostsEnd rate k failed text at old new (Ok p) = (new + rate * at + p.1.item ≤ old + rate * p.1.item + reached p.1 + k) × (old + reached p.1 ≤ new + at)
 CostsEnd rate k failed text at old new (Err e) = new + rate * at ≤ old + rate * length text + failed
+
+-- how many looks a word may take that does not stand there: none is longer
+abbrev pub ahead : List ℕ → ℕ → ℕ
+ahead text at = min 9 (length text - at)
+
+-- The same of what may have been taken for a word: the looks for that come on top.
+abbrev pub CostsEndAhead : {X E : Type 0} → ℕ → ℕ → ℕ → List ℕ → ℕ → ℕ → ℕ → Result (X × End) E → Type 0
+CostsEndAhead rate k failed text at old new (Ok p) = (new + ahead text at + rate * at + p.1.item ≤ old + rate * p.1.item + reached p.1 + k) × (old + reached p.1 ≤ new + at)
+CostsEndAhead rate k failed text at old new (Err e) = new + ahead text at + rate * at ≤ old + rate * length text + failed
+
+abbrev pub CostsAhead : {X E : Type 0} → ℕ → ℕ → ℕ → List ℕ → ℕ → ℕ → ℕ → Result (X × ℕ) E → Type 0
+CostsAhead rate k failed text at old new (Ok p) = (new + ahead text at + rate * at ≤ old + rate * p.1 + k) × (old + p.1 ≤ new + at)
+CostsAhead rate k failed text at old new (Err e) = new + ahead text at + rate * at ≤ old + rate * length text + failed
 
 -- This byte stands there, and a character behind it begins.
 abbrev pub IsByteAt : List ℕ → ℕ → ℕ → Type 0

@@ -13,8 +13,8 @@ ghost use Rattle.cbor_edn_parts.specs.Refusals.{IfTold};
 ghost use Rattle.cbor_edn_parts.specs.Text.{text_bytes};
 ghost use Rattle.cbor_edn_core.specs.Borrowed.{BorrowsItem, BorrowsList, BorrowsItems, BorrowsPair, BorrowsPairList, BorrowsPairs, BorrowsPiece, BorrowsString, BorrowsStream, BorrowsStrings, BorrowsSequence, BorrowsStandalone, BorrowsEach, BorrowsEachPair, BorrowsEachString};
 ghost use Rattle.cbor_edn_core.specs.Items.{Elements, Pairs as Keyed, Strings as Chunks, Array as Bracket, Map as Brace};
-ghost use Rattle.cbor_edn_core.specs.ParserResults.{Reads, Gives, Lands, ReadsEnd, LandsEnd, CostsEnd, IsPlaced, IsPushed, IsByteAt, IsUnclosed, behind_colon, ReadsParted, LandsParted, CostsParted, parted, element_tree, chunk_tree};
-ghost use Rattle.cbor_edn_core.specs.Reading.{reads, reads_all, number_item, word_item, enclosed_item, stream_item, starts_string};
+ghost use Rattle.cbor_edn_core.specs.ParserResults.{Reads, Gives, Lands, ReadsEnd, LandsEnd, CostsEnd, CostsEndAhead, CostsAhead, IsPlaced, IsPushed, IsByteAt, IsUnclosed, behind_colon, ReadsParted, LandsParted, CostsParted, parted, element_tree, chunk_tree};
+ghost use Rattle.cbor_edn_core.specs.Reading.{reads, reads_all, number_item, word_item, enclosed_item, stream_item, starts_string, word_at};
 ghost use Rattle.cbor_edn_core.specs.Trees.{LastTree, OneItem, OnePiece, OneString, OneEntry, Inside, Rest, Seq, Standalone};
 ghost use Rattle.cbor_edn_core.specs.View.{texts, item_tree, view_list, view_items, view_pair, view_pair_list, view_pairs, view_piece, view_string, view_stream, view_strings, row_onto, pair_row_onto, string_row_onto, sequence_tree, standalone_tree};
 
@@ -71,7 +71,7 @@ fn numbered<'a>(
     ensures value { ReadsEnd item_tree (text_bytes text.now) result (number_item reads limit (drop from (text_bytes text.now))) }
     ensures borrowed { IfOk result (λ p. BorrowsItem p.0) }
     ensures place { LandsEnd (text_bytes text.now) from result }
-    ensures cost { CostsEnd 12 4 4 (text_bytes text.now) from looks.old.count looks.new.count result }
+    ensures cost { CostsEndAhead 12 4 4 (text_bytes text.now) from looks.old.count looks.new.count result }
 {
     let (number, at) = number_at(text, from, looks)?;
     let (indicator, to) = indicator_at(text, at, looks);
@@ -103,7 +103,7 @@ fn worded<'a>(
     ensures value { ReadsEnd item_tree (text_bytes text.now) result (word_item reads limit word (drop from (text_bytes text.now))) }
     ensures borrowed { IfOk result (λ p. BorrowsItem p.0) }
     ensures place { LandsEnd (text_bytes text.now) from result }
-    ensures cost { CostsEnd 12 4 12 (text_bytes text.now) from looks.old.count looks.new.count result }
+    ensures cost { CostsEnd 12 4 4 (text_bytes text.now) from looks.old.count looks.new.count result }
 {
     match word {
         Word::Named(name) => Ok((
@@ -139,7 +139,7 @@ fn enclosed<'a>(
     ensures value { ReadsEnd item_tree (text_bytes text.now) result (enclosed_item reads limit label (drop from (text_bytes text.now))) }
     ensures borrowed { IfOk result (λ p. BorrowsItem p.0) }
     ensures place { LandsEnd (text_bytes text.now) from result }
-    ensures cost { CostsEnd 12 4 14 (text_bytes text.now) from looks.old.count looks.new.count result }
+    ensures cost { CostsEnd 12 0 1 (text_bytes text.now) from looks.old.count looks.new.count result }
 {
     if !is_at(text, from, b'(', looks) {
         return Err(Fault::Told(Refusal::invalid(from)));
@@ -264,11 +264,11 @@ fn joined<'a>(
     looks: &mut Looks,
 ) -> Result<(Item<'a>, End), Fault<Refusal>>
     requires begins { IsCharBoundary (text_bytes text.now) from }
-    requires opens { starts_string (drop from (text_bytes text.now)) ≡ true }
+    requires opens { (word_at (drop from (text_bytes text.now)) ≡ None) × (starts_string (drop from (text_bytes text.now)) ≡ true) }
     ensures value { ReadsEnd item_tree (text_bytes text.now) result (reads limit OneItem (drop from (text_bytes text.now))) }
     ensures borrowed { IfOk result (λ p. BorrowsItem p.0) }
     ensures place { LandsEnd (text_bytes text.now) from result }
-    ensures cost { CostsEnd 12 4 8 (text_bytes text.now) from looks.old.count looks.new.count result }
+    ensures cost { CostsEndAhead 12 4 8 (text_bytes text.now) from looks.old.count looks.new.count result }
 {
     let (string, end) = string(alloc, text, from, limit, looks)?;
     Ok((
@@ -629,7 +629,7 @@ fn string<'a>(
     ensures value { ReadsEnd (view_string texts) (text_bytes text.now) result (reads limit OneString (drop from (text_bytes text.now))) }
     ensures borrowed { IfOk result (λ p. BorrowsString p.0) }
     ensures place { LandsEnd (text_bytes text.now) from result }
-    ensures cost { CostsEnd 12 4 8 (text_bytes text.now) from looks.old.count looks.new.count result }
+    ensures cost { CostsEndAhead 12 4 8 (text_bytes text.now) from looks.old.count looks.new.count result }
 {
     let mut row = Vec::new(alloc);
     let mut at = from;
@@ -662,7 +662,7 @@ fn piece<'a>(
     ensures value { Reads (view_piece texts) (text_bytes text.now) result (reads limit OnePiece (drop from (text_bytes text.now))) }
     ensures borrowed { IfOk result (λ p. BorrowsPiece p.0) }
     ensures place { Lands (text_bytes text.now) from result }
-    ensures cost { Costs 12 0 5 (text_bytes text.now) from looks.old.count looks.new.count result }
+    ensures cost { CostsAhead 12 0 5 (text_bytes text.now) from looks.old.count looks.new.count result }
 {
     if is_at(text, from, b'<', looks) {
         return embedded(alloc, text, from, limit, looks);

@@ -9,14 +9,15 @@ use Rattle.cbor_edn_parts.proofs.SeparatorTokens.{spaced_of}
 use Rattle.cbor_edn_core.specs.Items.{Elements, Pairs, Strings, Array, Map}
 use Rattle.cbor_edn_core.specs.ParserResults.{element_tree, chunk_tree}
 use Rattle.cbor_edn_core.specs.View.{texts, seen, seen_pair, seen_string, seen_piece, view_pair}
-use Rattle.cbor_edn_core.proofs.Turns.{ends_same, fails_at, scan_fails, scan_read, number_at, string_item_fails, string_item_read, stream_at, list_too_deep, list_fails, list_open, list_read, inside_fails, inside_empty, inside_unparted, inside_rest_fails, inside_read, element_read, element_fails, parted_fails, parted_fails_behind, parted_read, pair_fails, pair_fails_before, pair_no_colon, pair_behind_colon, value_fails_before, value_fails, value_read, turn_fails, turn_last, turn_refused, turn_more, with_more, some_length, token_end, token_behind, sequence_fails, sequence_empty, sequence_rest_fails, sequence_full}
+use Rattle.cbor_edn_core.proofs.Turns.{ends_same, fails_at, scan_fails, scan_read, number_at, string_item_fails, string_item_read, stream_at, list_too_deep, list_fails, list_open, list_read, standalone_fails, standalone_fails_item, standalone_fails_after, standalone_read, inside_fails, inside_empty, inside_unparted, inside_rest_fails, inside_read, element_read, element_fails, parted_fails, parted_fails_behind, parted_read, pair_fails, pair_fails_before, pair_no_colon, pair_behind_colon, value_fails_before, value_fails, value_read, turn_fails, turn_last, turn_refused, turn_more, with_more, some_length, token_end, token_behind, sequence_fails, sequence_empty, sequence_rest_fails, sequence_full}
+use Rattle.cbor_edn_core.proofs.EnclosedTurns.{enclosed_shut, enclosed_too_deep, enclosed_fails, enclosed_open, enclosed_read, number_read, no_tag, tag_at, word_here, float_read, simple_at}
 use Rattle.cbor_edn_core.proofs.StringTurns.{stream_unmarked, stream_fails, stream_unspaced, stream_rest_fails, stream_open, stream_read, chunk_fails, chunk_read, dots_fail, dots_read, literal_fails, literal_read, embedded_single, embedded_too_deep, embedded_fails, embedded_unclosed, embedded_read, with_more_pieces, pieces_turn_fails, pieces_turn_fails_before, pieces_turn_last, pieces_turn_fails_after, pieces_turn_more}
 use Rattle.cbor_edn_core.proofs.Views.{view_string_is, view_stream_made, view_sequence_made}
 use Rattle.cbor_edn_core.proofs.Borrows.{borrows_push, borrows_pair_push, borrows_string_made, borrows_string_push, borrows_piece_push}
 use Rattle.cbor_edn_core.proofs.grammar.+item.Goals as goal
 
 pub item-returns-in-Number-clause-value : goal.item-returns-in-Number-clause-value
-item-returns-in-Number-clause-value t c = ends_same _ _ _ _ _ (number_at c.args.limit _ c.in-Number.ensures.opens.0 c.in-Number.ensures.opens.1 c.in-Number.ensures.opens.2 c.in-Number.ensures.opens.3) c.number.ensures.value
+item-returns-in-Number-clause-value t c = ends_same _ _ _ _ _ (number_at c.args.limit _ c.in-Number.ensures.opens.0 c.in-Number.ensures.opens.1 c.in-Number.ensures.opens.2 c.in-Number.ensures.opens.3 c.in-Number.ensures.opens.4) c.numbered.ensures.value
 
 pub bracketed-returns-then-limit-eq0-clause-value : goal.bracketed-returns-then-limit-eq0-clause-value
 bracketed-returns-then-limit-eq0-clause-value t c = rw c.too_deep.ensures (list_too_deep c.args.limit Array _ _ c.if-limit-eq0.true c.requires.opens.0)
@@ -323,7 +324,8 @@ pub string-pieces-preserved : goal.string-pieces-preserved
 string-pieces-preserved t c = record {
   order = omega (arith, c.in_ok-piece.ensures.place.0, c.in_ok-before.ensures.place.0, c.in_ok-after.ensures.place.0);
   place = c.in_ok-after.ensures.place.1;
-  cost = omega (arith, c.in_ok-piece.ensures.cost, c.in_ok-before.ensures.cost, c.in_ok-after.ensures.cost, c.joins.ensures.count, c.in_ok-before.ensures.place.0, c.in_ok-after.ensures.place.0);
+  first = ?;
+  cost = ?;
   least = omega (arith, c.in_ok-piece.ensures.cost, c.in_ok-before.ensures.cost, c.in_ok-after.ensures.cost, c.joins.ensures.count);
   borrowed = rw (c.in_ok-push.ensures.items) (borrows_piece_push c.pieces.row.items _ c.pieces.invariant.borrowed c.in_ok-piece.ensures.borrowed c.in_ok-before.ensures.borrowed c.in_ok-after.ensures.borrowed);
   reads = rw (c.in_ok-push.ensures.items) (pieces_turn_more c.args.limit _ _ _ c.pieces.invariant.reads _ _ c.in_ok-piece.ensures.value _ _ (scan_read space _ _ _ c.in_ok-before.ensures.value) _ (sym c.if-not-joins.ensures.value) (c.if-not-joins.ensures.yes refl).0 _ _ (scan_read space _ _ _ c.in_ok-after.ensures.value)
@@ -427,3 +429,39 @@ pub piece-returns-clause-cost : goal.piece-returns-clause-cost
 piece-returns-clause-cost t c =
     let some = token_behind literal _ _ c.args.from c.in_ok-literal.at refl c.in_ok-literal.ensures.value c.requires.0 c.in_ok-literal.ensures.place.1.0 in
     (omega (arith, some, c.in_ok-literal.ensures.cost.0, c.is_at.ensures.count, c.is_at-2.ensures.count, c.indicator_at-indicator.ensures.cost, c.indicator_at-indicator.ensures.place.0), omega (arith, c.in_ok-literal.ensures.cost.1, c.is_at.ensures.count, c.is_at-2.ensures.count, c.indicator_at-indicator.ensures.cost))
+
+pub standalone-returns-in_err-before-clause-value : goal.standalone-returns-in_err-before-clause-value
+standalone-returns-in_err-before-clause-value t c =
+    let p = err_from_is_err_and c.from_residual.result c.from_residual.ensures.1 in
+    rw (p.1, p.2) (standalone_fails (Told c.in_err-before.field-0.0) c.args.limit _ (scan_fails space _ c.in_err-before.field-0.0 c.in_err-before.ensures.value))
+
+pub standalone-returns-in_err-item-clause-value : goal.standalone-returns-in_err-item-clause-value
+standalone-returns-in_err-item-clause-value t c =
+    let p = err_from_is_err_and c.from_residual-in_err-item.result c.from_residual-in_err-item.ensures.1 in
+    rw (p.1, p.2) (standalone_fails_item c.in_err-item.field-0.0 c.args.limit _ _ _ (scan_read space _ _ _ c.in_ok-before.ensures.value) c.in_err-item.ensures.value)
+
+pub standalone-returns-in_err-after-clause-value : goal.standalone-returns-in_err-after-clause-value
+standalone-returns-in_err-after-clause-value t c =
+    let p = err_from_is_err_and c.from_residual-in_err-after.result c.from_residual-in_err-after.ensures.1 in
+    rw (p.1, p.2) (standalone_fails_after (Told c.in_err-after.field-0.0) c.args.limit _ _ _ _ _ (scan_read space _ _ _ c.in_ok-before.ensures.value) c.in_ok-item.ensures.value (scan_fails space _ c.in_err-after.field-0.0 c.in_err-after.ensures.value))
+
+pub standalone-returns-clause-value : goal.standalone-returns-clause-value
+standalone-returns-clause-value t c =
+    standalone_read c.args.limit _ _ _ _ _ _ _ (scan_read space _ _ _ c.in_ok-before.ensures.value) c.in_ok-item.ensures.value (scan_read space _ _ _ c.in_ok-after.ensures.value)
+
+pub enclosed-returns-then-not-is_at-clause-value : goal.enclosed-returns-then-not-is_at-clause-value
+enclosed-returns-then-not-is_at-clause-value t c = rw c.invalid.ensures (enclosed_shut c.args.limit c.args.label _ (c.if-not-is_at.ensures.no refl))
+
+pub enclosed-returns-then-limit-eq0-clause-value : goal.enclosed-returns-then-limit-eq0-clause-value
+enclosed-returns-then-limit-eq0-clause-value t c = rw c.too_deep.ensures (enclosed_too_deep c.args.limit c.args.label _ _ c.if-limit-eq0.true (c.if-not-is_at.ensures.yes refl).0)
+
+pub enclosed-returns-in_err-item-clause-value : goal.enclosed-returns-in_err-item-clause-value
+enclosed-returns-in_err-item-clause-value t c =
+    let p = err_from_is_err_and c.from_residual.result c.from_residual.ensures.1 in
+    rw (p.1, p.2) (enclosed_fails c.in_err-item.field-0.0 c.args.limit c.args.label _ _ (omega arith) (c.if-not-is_at.ensures.yes refl).0 c.in_err-item.ensures.value)
+
+pub enclosed-returns-then-not-is_at-2-clause-value : goal.enclosed-returns-then-not-is_at-2-clause-value
+enclosed-returns-then-not-is_at-2-clause-value t c = rw c.invalid-then-not-is_at-2.ensures (enclosed_open c.args.limit c.args.label _ _ _ _ (omega arith) (c.if-not-is_at.ensures.yes refl).0 c.in_ok-item.ensures.value (c.if-not-is_at-2.ensures.no refl))
+
+pub enclosed-returns-clause-value : goal.enclosed-returns-clause-value
+enclosed-returns-clause-value t c = rw (c.unspaced.ensures, c.in_ok-item-2.ensures.ok) (enclosed_read c.args.limit c.args.label _ _ _ _ _ (omega arith) (c.if-not-is_at.ensures.yes refl).0 c.in_ok-item.ensures.value (c.if-not-is_at-2.ensures.yes refl).0)

@@ -1,12 +1,14 @@
-use Rattle.std.proofs.Common.{◌≡◌, ◌+◌, ◌-◌, ◌*◌, ◌≤◌, length, drop, map}
+use Rattle.std.proofs.Common.{◌≡◌, ◌+◌, ◌-◌, ◌*◌, ◌≤◌, [], length, drop, map}
 use Rattle.std.specs.Str.{IsCharBoundary}
 use Rattle.cbor_edn_core.specs.Borrowed.{BorrowsEach, BorrowsEachPair, BorrowsEachString, BorrowsEachPiece}
 use Rattle.cbor_edn_core.specs.Items.{Elements, Pairs, Strings}
+use Rattle.cbor_edn_core.specs.ParserResults.{ahead}
 use Rattle.cbor_edn_core.specs.Reading.{reads}
 use Rattle.cbor_edn_core.specs.Trees.{Rest, OneString}
 use Rattle.cbor_edn_core.specs.View.{texts, seen, seen_pair, seen_string, seen_piece}
 use Rattle.cbor_edn_core.proofs.Turns.{with_row}
 use Rattle.cbor_edn_core.proofs.StringTurns.{with_pieces}
+use Rattle.cbor_edn_core.proofs.Looks.{spared}
 use Rattle.cbor_edn_core.proofs.grammar.+item.Given as goal
 
 abbrev pub decreases-embedded : goal.decreases-embedded
@@ -17,6 +19,18 @@ decreases-bracketed l = 13 * l.limit + 0
 
 abbrev pub decreases-braced : goal.decreases-braced
 decreases-braced l = 13 * l.limit + 0
+
+abbrev pub decreases-enclosed : goal.decreases-enclosed
+decreases-enclosed l = 13 * l.limit + 0
+
+abbrev pub decreases-numbered : goal.decreases-numbered
+decreases-numbered l = 13 * l.limit + 1
+
+abbrev pub decreases-worded : goal.decreases-worded
+decreases-worded l = 13 * l.limit + 1
+
+abbrev pub decreases-standalone : goal.decreases-standalone
+decreases-standalone l = 13 * l.limit + 8
 
 abbrev pub decreases-piece : goal.decreases-piece
 decreases-piece l = 13 * l.limit + 1
@@ -112,7 +126,8 @@ abbrev pub invariant-string-pieces : goal.invariant-string-pieces
 invariant-string-pieces l = record {
   order : l.fn.from ≤ l.at;
   place : IsCharBoundary l.text.all.now l.at;
-  cost : l.looks.count + 12 * l.fn.from ≤ l.fn.looks.count + 12 * l.at;
+  first : l.row.items ≡ [] → l.at ≡ l.fn.from;
+  cost : l.looks.count + spared l.row.items (ahead l.text.all.now l.fn.from) + 12 * l.fn.from ≤ l.fn.looks.count + 12 * l.at;
   least : l.fn.looks.count + l.at ≤ l.looks.count + l.fn.from;
   borrowed : BorrowsEachPiece l.row.items;
   reads : reads l.limit OneString (drop l.fn.from l.text.all.now) ≡ with_pieces (map (seen_piece texts) l.row.items) (reads l.limit OneString (drop l.at l.text.all.now));
