@@ -1,33 +1,38 @@
 -- Words: what is read as one is its text, its text is read as it, and no number and no string begins with one.
-use Rattle.std.proofs.Common.{ℕ, suc, List, [], ◌∷◌, ◌++◌, ◌≡◌, refl, ap, sym, ◌∙◌, ◌<◌, length, get_or, drop, arith}
+use Rattle.std.proofs.Common.{ℕ, suc, List, [], ◌∷◌, ◌++◌, ◌≡◌, refl, ap, sym, ◌∙◌, ◌<◌, ◌≤◌, ◌+◌, length, get_or, drop, arith}
 use Rattle.std.specs.Prelude.{Bool, true, false, cond, eqb, ◌||◌, ◌&&◌, Option, Some, None}
 use Rattle.std.specs.List.{list_all}
-use Rattle.std.proofs.lemmas.Bool.{and_parts, cond_both, eqb-true, eq-eqb, false_from_ne_true, both_ways}
+use Rattle.std.proofs.lemmas.Bool.{cases_Bool, and_parts, or_cases, cond_both, eqb-true, false_from_ne_true, both_ways}
+use Rattle.std.proofs.lemmas.Bool.Decides.{nat_tests}
 use Rattle.std.proofs.lemmas.Option.{same_Some, none-some}
 use Rattle.cbor_edn_parts.specs.declared.bytes.Kind.{Kind}
 use Rattle.cbor_edn_parts.specs.declared.bytes.Kind.TheVariants.{Zero, One, TwoToSeven, EightOrNine, Quote, Less, B, E, HexLetter, O, P, X, Letter}
 use Rattle.cbor_edn_parts.specs.declared.indicator.Indicator.{Indicator}
 use Rattle.cbor_edn_parts.specs.declared.number.Reached.{Reached}
-use Rattle.cbor_edn_parts.specs.declared.number.Reached.TheVariants.{Start, Signed}
+use Rattle.cbor_edn_parts.specs.declared.number.Reached.TheVariants.{Start}
 use Rattle.cbor_edn_parts.specs.declared.string.InLiteral.{InLiteral}
 use Rattle.cbor_edn_parts.specs.declared.string.InLiteral.TheVariants as in_literal
 use Rattle.cbor_edn_parts.specs.Bytes.{kind, follows, Follow}
 use Rattle.cbor_edn_parts.specs.Indicator.{indicator_text}
+use mathlib.Core.Logic.{⊎_elim}
+use Rattle.cbor_edn_parts.specs.Lex as lex
 use Rattle.cbor_edn_parts.specs.Lex.{Accepts}
 use Rattle.cbor_edn_parts.specs.Number.{Decimal}
 use Rattle.cbor_edn_parts.specs.NumberTokens.{number, number_step, is_number}
-use Rattle.cbor_edn_parts.specs.LiteralTokens.{literal, literal_step, is_literal, is_lower, is_upper, is_digit}
+use Rattle.cbor_edn_parts.specs.LiteralTokens.{literal, literal_step, is_literal, is_lower, is_upper, is_digit, is_quote, quoted_of}
 use Rattle.cbor_edn_parts.proofs.ByteKinds as kinds
-use Rattle.cbor_edn_parts.proofs.Tokens.{Holds, nothing, just, token_texts}
+use Rattle.cbor_edn_parts.proofs.Prefixes.{Opened, literal_opened}
+use Rattle.cbor_edn_parts.proofs.Tokens.{Holds, nothing, just, munch-took, token_texts}
 use Rattle.cbor_edn_core.specs.declared.word.NamedSimple.TheVariants.{False, True, Null, Undefined}
 use Rattle.cbor_edn_core.specs.declared.word.NonFinite.TheVariants.{Infinity, NegativeInfinity, NaN}
 use Rattle.cbor_edn_core.specs.declared.word.Word.{Word}
 use Rattle.cbor_edn_core.specs.declared.word.Word.TheVariants.{Named, Simple, NonFinite}
 use Rattle.cbor_edn_core.specs.Words.{word_text}
-use Rattle.cbor_edn_core.specs.Trees.{OnePiece, OneString, Tree, LiteralTree, DotsTree, EmbeddedTree, LastPieceTree, PlusTree, onto, Valid, starts_number}
-use Rattle.cbor_edn_core.specs.Reading.{word_of, behind, is_prefix, ended, if_word, word_at}
+use Rattle.cbor_edn_core.specs.Trees.{OnePiece, OneString, Tree, LiteralTree, DotsTree, EmbeddedTree, LastPieceTree, PlusTree, onto, Valid, starts_digits, starts_number}
+use Rattle.cbor_edn_core.specs.Lookahead.{is_lead, lead}
+use Rattle.cbor_edn_core.specs.Reading.{starts_with, starts_string, word_of, behind, is_prefix, ended, if_word, word_at}
 use Rattle.cbor_edn_core.proofs.Follows.{quoted}
-use Rattle.cbor_edn_core.proofs.Begins.{quoted_byte, digit_byte, quoted_at, signed_digit, literal_some, dots_begin}
+use Rattle.cbor_edn_core.proofs.Begins.{quoted_byte, digit_byte, signed_digit, number_stringless, literal_some, dots_begin}
 
 -- ---- what is read as a word
 
@@ -168,18 +173,70 @@ follows-prefixless TwoToSeven h = cc
 follows-prefixless EightOrNine h = cc
 follows-prefixless _ h = refl
 
-none_of : (double single less lower upper digit : Bool) → ((double || single || less || lower || upper) || digit) ≡ false → (lower || digit || single) ≡ false
-none_of true single less lower upper digit e = cc
-none_of false true less lower upper digit e = cc
-none_of false false true lower upper digit e = cc
-none_of false false false true upper digit e = cc
-none_of false false false false true digit e = cc
-none_of false false false false false digit e = rw e
+none_of : (double single less lower upper other : Bool) → ((double || single || less || lower || upper) || other) ≡ false → (single ≡ false) × (lower ≡ false) × (upper ≡ false) × (other ≡ false)
+none_of true single less lower upper other e = absurd (cc)
+none_of false true less lower upper other e = absurd (cc)
+none_of false false true lower upper other e = absurd (cc)
+none_of false false false true upper other e = absurd (cc)
+none_of false false false false true other e = absurd (cc)
+none_of false false false false false other e = (refl, refl, refl, e)
 
 pub follow_ends : (r : List ℕ) → Follow r → is_prefix r ≡ false
 follow_ends [] h = refl
-follow_ends (c ∷ r) h = none_of (eqb c 34) (eqb c 39) (eqb c 60) (is_lower c) (is_upper c) (is_digit c) (rw (← quoted_byte c, ← digit_byte c) (follows-prefixless (kind c) h))
+follow_ends (c ∷ r) h = let none = none_of (eqb c 34) (eqb c 39) (eqb c 60) (is_lower c) (is_upper c) (is_digit c) (rw (← quoted_byte c, ← digit_byte c) (follows-prefixless (kind c) h)) in rw (none.0, none.1, none.3)
 
 pub marked_ends : (i : Option Indicator) (r : List ℕ) → Follow r → is_prefix (indicator_text i ++ r) ≡ false
 marked_ends None r h = follow_ends r h
 marked_ends (Some i) r h = refl
+
+-- ---- how far words go
+
+pub lead_front : (bs xs : List ℕ) → list_all is_lead bs ≡ true → lead (bs ++ xs) ≡ length bs + lead xs
+lead_front [] xs l = omega arith
+lead_front (b ∷ bs) xs l = let both = and_parts (is_lead b) (list_all is_lead bs) l in rw both.0 (omega (arith, lead_front bs xs both.1))
+
+pub word_leads : (w : Word) → list_all is_lead (word_text w) ≡ true
+word_leads (Named False) = refl
+word_leads (NonFinite NaN) = refl
+word_leads _ = refl
+
+lead_next : (c : ℕ) (xs : List ℕ) → lead (c ∷ xs) ≤ suc (lead xs)
+lead_next c xs = cond_both (is_lead c) (suc (lead xs)) 0 (λ n. n ≤ suc (lead xs)) (λ e. omega arith) (λ e. omega arith)
+
+lead_none : (c : ℕ) (xs : List ℕ) → is_lead c ≡ false → lead (c ∷ xs) ≡ 0
+lead_none c xs e = rw e
+
+quote_stops : (c : ℕ) → is_quote c ≡ true → is_lead c ≡ false
+quote_stops c e = ⊎_elim (λ h. rw (eqb-true c 39 h)) (λ h. rw (eqb-true c 34 h)) (or_cases (eqb c 39) (eqb c 34) e)
+
+quote_lead : (x r : List ℕ) → Opened x → lead (x ++ r) ≤ length x
+unfolding quoted_of
+quote_lead [] r o = absurd (cc)
+quote_lead (c ∷ x) r o = by (is_quote c) refl o.2 (λ more. quote_lead x r more)
+  where
+    by : (b : Bool) → is_quote c ≡ b → cond b (c ∷ x) (quoted_of x) ≡ o.0 ∷ o.1 → (Opened x → lead (x ++ r) ≤ length x) → lead (c ∷ (x ++ r)) ≤ suc (length x)
+    by true e h k = omega (arith, lead_none c (x ++ r) (quote_stops c e))
+    by false e h k = omega (arith, lead_next c (x ++ r), k (o.0, o.1, h))
+
+-- The letters in front of a literal are part of it.
+pub literal_lead : (xs x r : List ℕ) → lex.token literal xs ≡ Some (x, r) → lead xs ≤ length x
+literal_lead xs x r e = let took = munch-took literal in_literal.Start xs x r e in rw took.1 (quote_lead x r (literal_opened x ((token_texts literal x).0 took.0)))
+
+digit_stops : (c : ℕ) → is_digit c ≡ true → is_lead c ≡ false
+digit_stops c h = grind (arith, nat_tests)
+
+digits_lead : (xs : List ℕ) → starts_number xs ≡ true → lead xs ≡ 0
+digits_lead [] h = refl
+digits_lead (c ∷ xs) h = lead_none c xs (⊎_elim (digit_stops c) (λ p. rw (eqb-true c 46 (and_parts (eqb c 46) (starts_digits xs) p).0)) (or_cases (is_digit c) (eqb c 46 && starts_digits xs) h))
+
+-- The sign in front of a number is part of it.
+pub number_lead : (xs x r : List ℕ) → lex.token number xs ≡ Some (x, r) → lead xs ≤ length x
+unfolding kind starts_string
+number_lead xs x r e = let took = munch-took number Start xs x r e in rw took.1 (go x took.0)
+  where
+    signed : (c : ℕ) (n : Reached) (x : List ℕ) → number_step (kind c) Start ≡ Some n → Accepts number n x → eqb c 45 ≡ true → lead (c ∷ (x ++ r)) ≤ suc (length x)
+    signed c n x s a e = omega (arith, lead_next c (x ++ r), digits_lead (x ++ r) (signed_digit x r (rw (sym (same_Some _ _ (sym (ap (λ d. number_step (kind d) Start) (eqb-true c 45 e)) ∙ s))) at a)))
+
+    go : (x : List ℕ) → Accepts number Start x → lead (x ++ r) ≤ length x
+    go [] a = absurd (cc)
+    go (c ∷ x) a = ⊎_elim (signed c a.0 x a.1 a.2) (λ e. let none = none_of (eqb c 34) (eqb c 39) (eqb c 60) (is_lower c) (is_upper c) (eqb c 46 && starts_with 46 (x ++ r)) (number_stringless c x r ((token_texts number (c ∷ x)).0 a)) in omega (arith, lead_none c (x ++ r) (rw (none.1, none.2, e)))) (cases_Bool (eqb c 45))
