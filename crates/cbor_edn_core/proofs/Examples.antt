@@ -4,12 +4,16 @@ use Rattle.std.specs.Prelude.{Some, None, Ok, Err}
 use Rattle.cbor_edn_parts.specs.declared.error.ParseErrorKind.TheVariants.{Invalid, TooDeep}
 use Rattle.cbor_edn_parts.specs.declared.indicator.Indicator.TheVariants.{Immediate, Two}
 use Rattle.cbor_edn_parts.specs.Bytes.{kind}
-use Rattle.cbor_edn_parts.specs.Indicator.{indicator_at, word_at}
+use Rattle.cbor_edn_parts.specs.Indicator.{indicator_at, word_at as indicator_word}
 use Rattle.cbor_edn_parts.specs.Lex.{munch, push}
 use Rattle.cbor_edn_core.specs.Items.{Array, Map, Number, Listed, Element, Pair, End, Then}
-use Rattle.cbor_edn_core.specs.Trees.{OneItem, Seq, Unmarked, Marked, Tree, NumberTree, ListTree, StringTree, StreamTree, LiteralTree, DotsTree, EmbeddedTree, LastPieceTree, PlusTree, ElementTree, PairTree, ChunkTree, EmptyTree, FullTree, LastTree, MoreTree, NothingTree, SequenceTree, items, text, onto, joins}
+use Rattle.cbor_edn_core.specs.Trees.{OneItem, Seq, Unmarked, Marked, Tree, NumberTree, FloatTree, NamedTree, EnclosedTree, ListTree, StringTree, StreamTree, LiteralTree, DotsTree, EmbeddedTree, LastPieceTree, PlusTree, ElementTree, PairTree, ChunkTree, EmptyTree, FullTree, LastTree, MoreTree, NothingTree, SequenceTree, StandaloneTree, items, text, onto, joins}
+use Rattle.std.specs.Fmt.{digits}
+use Rattle.cbor_edn_core.specs.declared.tree.Label.TheVariants as label
+use Rattle.cbor_edn_core.specs.declared.word.NamedSimple.TheVariants.{True}
+use Rattle.cbor_edn_core.specs.declared.word.NonFinite.TheVariants.{NegativeInfinity}
 use Rattle.cbor_edn_core.specs.Marks.{marks}
-use Rattle.cbor_edn_core.specs.Reading.{reads_all, reads, read, byte, not_empty, head_of, starts_string, number_item, list_item, stream_item, string_item, item, literal_piece, dots_piece, embedded_piece, piece, plus_string, string, entry, inside_full, inside, more, rest, sequence, ◌>>=◌}
+use Rattle.cbor_edn_core.specs.Reading.{reads_all, reads, read, byte, not_empty, head_of, starts_string, word_at, tag_number, enclosed_item, tag_item, number_end, number_item, word_item, plain_item, list_item, stream_item, string_item, item, literal_piece, dots_piece, embedded_piece, piece, plus_string, string, entry, inside_full, inside, more, rest, sequence, standalone, ◌>>=◌}
 
 abbrev Reads : ℕ → List ℕ → Tree Seq → Type 0
 Reads limit xs w = reads_all limit Seq xs ≡ Ok w
@@ -36,7 +40,7 @@ lists :
     × Reads 1 (91 ∷ 95 ∷ 49 ∷ 32 ∷ 49 ∷ 93 ∷ []) (alone (ListTree Array (FullTree (Marked Two (32 ∷ [])) [] (LastTree (ElementTree (NumberTree (49 ∷ []) None)) []))))
     -- {_1}
     × Reads 1 (123 ∷ 95 ∷ 49 ∷ 125 ∷ []) (alone (ListTree Map (EmptyTree (Some Two) [])))
-unfolding reads_all reads read byte not_empty head_of starts_string joins number_item list_item stream_item string_item item literal_piece dots_piece embedded_piece piece plus_string string entry inside_full inside more rest sequence ◌>>=◌ indicator_at word_at kind munch push
+unfolding reads_all reads read byte not_empty head_of starts_string joins word_at enclosed_item tag_item number_end number_item word_item plain_item list_item stream_item string_item item literal_piece dots_piece embedded_piece piece plus_string string entry inside_full inside more rest sequence standalone ◌>>=◌ indicator_at indicator_word kind munch push
 lists = (refl, refl, refl, refl, refl)
 
 -- Strings.
@@ -55,8 +59,23 @@ strings :
     × Reads 0 (34 ∷ 97 ∷ 34 ∷ 32 ∷ 43 ∷ 49 ∷ []) (SequenceTree [] (MoreTree (ElementTree (StringTree (LastPieceTree (LiteralTree (34 ∷ 97 ∷ 34 ∷ []) None)))) (32 ∷ []) (LastTree (ElementTree (NumberTree (43 ∷ 49 ∷ []) None)) [])))
     -- ... .5
     × Reads 0 (46 ∷ 46 ∷ 46 ∷ 32 ∷ 46 ∷ 53 ∷ []) (SequenceTree [] (MoreTree (ElementTree (StringTree (LastPieceTree (DotsTree (46 ∷ 46 ∷ 46 ∷ []))))) (32 ∷ []) (LastTree (ElementTree (NumberTree (46 ∷ 53 ∷ []) None)) [])))
-unfolding reads_all reads read byte not_empty head_of starts_string joins number_item list_item stream_item string_item item literal_piece dots_piece embedded_piece piece plus_string string entry inside_full inside more rest sequence ◌>>=◌ indicator_at word_at kind munch push
+unfolding reads_all reads read byte not_empty head_of starts_string joins word_at enclosed_item tag_item number_end number_item word_item plain_item list_item stream_item string_item item literal_piece dots_piece embedded_piece piece plus_string string entry inside_full inside more rest sequence standalone ◌>>=◌ indicator_at indicator_word kind munch push
 strings = (refl, refl, refl, refl, refl, refl, refl)
+
+-- Words and tags.
+words :
+    -- true
+    Reads 0 (116 ∷ 114 ∷ 117 ∷ 101 ∷ []) (alone (NamedTree True))
+    -- -Infinity_1
+    × Reads 0 (45 ∷ 73 ∷ 110 ∷ 102 ∷ 105 ∷ 110 ∷ 105 ∷ 116 ∷ 121 ∷ 95 ∷ 49 ∷ []) (alone (FloatTree NegativeInfinity (Some Two)))
+    -- true'': a prefix is no word
+    × Reads 0 (116 ∷ 114 ∷ 117 ∷ 101 ∷ 39 ∷ 39 ∷ []) (alone (StringTree (LastPieceTree (LiteralTree (116 ∷ 114 ∷ 117 ∷ 101 ∷ 39 ∷ 39 ∷ []) None))))
+    -- simple( 20)
+    × Reads 1 (115 ∷ 105 ∷ 109 ∷ 112 ∷ 108 ∷ 101 ∷ 40 ∷ 32 ∷ 50 ∷ 48 ∷ 41 ∷ []) (alone (EnclosedTree label.Simple (StandaloneTree (32 ∷ []) (NumberTree (50 ∷ 48 ∷ []) None) [])))
+    -- 0_i(12(3))
+    × Reads 2 (48 ∷ 95 ∷ 105 ∷ 40 ∷ 49 ∷ 50 ∷ 40 ∷ 51 ∷ 41 ∷ 41 ∷ []) (alone (EnclosedTree (label.Tag 0 (Some Immediate)) (StandaloneTree [] (EnclosedTree (label.Tag 12 None) (StandaloneTree [] (NumberTree (51 ∷ []) None) [])) [])))
+unfolding reads_all reads read byte not_empty head_of starts_string joins word_at enclosed_item tag_item number_end number_item word_item plain_item list_item stream_item string_item item literal_piece dots_piece embedded_piece piece plus_string string entry inside_full inside more rest sequence standalone ◌>>=◌ indicator_at indicator_word kind munch push digits
+words = (refl, refl, refl, refl, refl)
 
 -- What is refused.
 refused :
@@ -80,8 +99,32 @@ refused :
     × Refused (40 ∷ 95 ∷ 32 ∷ 49 ∷ 41 ∷ [])
     -- <<1>: an embedded sequence has two brackets at its end
     × Refused (60 ∷ 60 ∷ 49 ∷ 62 ∷ [])
-unfolding reads_all reads read byte not_empty head_of starts_string joins number_item list_item stream_item string_item item literal_piece dots_piece embedded_piece piece plus_string string entry inside_full inside more rest sequence ◌>>=◌ indicator_at word_at kind munch push
+unfolding reads_all reads read byte not_empty head_of starts_string joins word_at enclosed_item tag_item number_end number_item word_item plain_item list_item stream_item string_item item literal_piece dots_piece embedded_piece piece plus_string string entry inside_full inside more rest sequence standalone ◌>>=◌ indicator_at indicator_word kind munch push
 refused = (refl, refl, refl, refl, refl, refl, refl, refl, refl, refl)
+
+-- What is refused of words and tags.
+words_refused :
+    -- nullx
+    Refused (110 ∷ 117 ∷ 108 ∷ 108 ∷ 120 ∷ [])
+    -- simple
+    × Refused (115 ∷ 105 ∷ 109 ∷ 112 ∷ 108 ∷ 101 ∷ [])
+    -- +Infinity
+    × Refused (43 ∷ 73 ∷ 110 ∷ 102 ∷ 105 ∷ 110 ∷ 105 ∷ 116 ∷ 121 ∷ [])
+    -- 1.0(2): the number of a tag is an integer
+    × Refused (49 ∷ 46 ∷ 48 ∷ 40 ∷ 50 ∷ 41 ∷ [])
+    -- 01(2): without a leading zero
+    × Refused (48 ∷ 49 ∷ 40 ∷ 50 ∷ 41 ∷ [])
+    -- 1 (2): with nothing in front of the parenthesis
+    × Refused (49 ∷ 32 ∷ 40 ∷ 50 ∷ 41 ∷ [])
+    -- 1(2,): one item
+    × Refused (49 ∷ 40 ∷ 50 ∷ 44 ∷ 41 ∷ [])
+unfolding reads_all reads read byte not_empty head_of starts_string joins word_at enclosed_item tag_item number_end number_item word_item plain_item list_item stream_item string_item item literal_piece dots_piece embedded_piece piece plus_string string entry inside_full inside more rest sequence standalone ◌>>=◌ indicator_at indicator_word kind munch push digits
+words_refused = (refl, refl, refl, refl, refl, refl, refl)
+
+-- 18446744073709551616 is 2^64: no number of a tag
+number_too_large : tag_number (49 ∷ 56 ∷ 52 ∷ 52 ∷ 54 ∷ 55 ∷ 52 ∷ 52 ∷ 48 ∷ 55 ∷ 51 ∷ 55 ∷ 48 ∷ 57 ∷ 53 ∷ 53 ∷ 49 ∷ 54 ∷ 49 ∷ 54 ∷ []) ≡ None
+unfolding digits
+number_too_large = refl
 
 -- What nests too deep.
 too_deep :
@@ -93,8 +136,12 @@ too_deep :
     × Deep 1 (60 ∷ 60 ∷ 60 ∷ 60 ∷ 62 ∷ 62 ∷ 62 ∷ 62 ∷ [])
     -- (_ <<1>>)
     × Deep 0 (40 ∷ 95 ∷ 32 ∷ 60 ∷ 60 ∷ 49 ∷ 62 ∷ 62 ∷ 41 ∷ [])
-unfolding reads_all reads read byte not_empty head_of starts_string joins number_item list_item stream_item string_item item literal_piece dots_piece embedded_piece piece plus_string string entry inside_full inside more rest sequence ◌>>=◌ indicator_at word_at kind munch push
-too_deep = (refl, refl, refl, refl)
+    -- 1(2(3))
+    × Deep 1 (49 ∷ 40 ∷ 50 ∷ 40 ∷ 51 ∷ 41 ∷ 41 ∷ [])
+    -- simple(1)
+    × Deep 0 (115 ∷ 105 ∷ 109 ∷ 112 ∷ 108 ∷ 101 ∷ 40 ∷ 49 ∷ 41 ∷ [])
+unfolding reads_all reads read byte not_empty head_of starts_string joins word_at enclosed_item tag_item number_end number_item word_item plain_item list_item stream_item string_item item literal_piece dots_piece embedded_piece piece plus_string string entry inside_full inside more rest sequence standalone ◌>>=◌ indicator_at indicator_word kind munch push digits
+too_deep = (refl, refl, refl, refl, refl, refl)
 
 -- What stands first decides: `[[` is too deep before it is unfinished, and `1][` is refused before anything is too deep.
 first_decides :
@@ -102,7 +149,7 @@ first_decides :
     Deep 1 (91 ∷ 91 ∷ [])
     -- 1][
     × reads_all 0 Seq (49 ∷ 93 ∷ 91 ∷ []) ≡ Err Invalid
-unfolding reads_all reads read byte not_empty head_of starts_string joins number_item list_item stream_item string_item item literal_piece dots_piece embedded_piece piece plus_string string entry inside_full inside more rest sequence ◌>>=◌ indicator_at word_at kind munch push
+unfolding reads_all reads read byte not_empty head_of starts_string joins word_at enclosed_item tag_item number_end number_item word_item plain_item list_item stream_item string_item item literal_piece dots_piece embedded_piece piece plus_string string entry inside_full inside more rest sequence standalone ◌>>=◌ indicator_at indicator_word kind munch push
 first_decides = (refl, refl)
 
 -- the items of `1_i {1 : 2}`

@@ -40,6 +40,8 @@ mutual
 
   inner_valid : (x : InnerItem Texts S Ms Msc Soc Number Literal Dots) → Valid (view_inner texts x)
   inner_valid (inner.Number n i) = n.spelled
+  inner_valid (inner.NonFinite f i) = tt
+  inner_valid (inner.Named b) = tt
   inner_valid (inner.Array list) = list_valid list
   inner_valid (inner.Map list) = pair_list_valid list
   inner_valid (inner.String' n row last) = pieces_valid row _ (piece_valid last)

@@ -1,6 +1,6 @@
 -- The number of a tag: what is read as one are its decimal digits, and they are read as it.
 use Rattle.std.proofs.Common.{ℕ, ◌<◌, ◌^◌, ◌≡◌, true, List, [], ◌∷◌, Some, None, refl, sym, ◌∙◌, arith}
-use Rattle.std.specs.Prelude.{◌&&◌, cond, eqb, nat_lt, pos}
+use Rattle.std.specs.Prelude.{◌&&◌, eqb, nat_lt, pos}
 use Rattle.std.specs.Fmt.{decimal}
 use Rattle.std.proofs.lemmas.Bool.{and_parts, cond_both, eqb-true, eq-eqb, ltb-true, lt-ltb}
 use Rattle.std.proofs.lemmas.Fmt.{decimal_is_IsNumeral_wide}
