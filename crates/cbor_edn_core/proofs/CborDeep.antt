@@ -79,7 +79,7 @@ unfolding several
 several_deep P spelled one d sound deep (Some (w, n)) bytes fits e = many_deep P spelled one d sound deep n bytes fits e
 several_deep P spelled one d sound deep None bytes fits e = until_deep Break P spelled one d sound deep (suc (length bytes)) bytes fits e
 
-pair_deep : (d : ℕ) (one : Reader Value) → Sound (Within d) encoding one → Deep d one → Deep d (pair_at (makes false) one)
+pair_deep : (d : ℕ) (one : Reader Value) → Sound (Within d) encoding one → Deep d one → Deep d (pair_at makes one)
 unfolding pair_at
 pair_deep d one sound deep bytes fits e =
     elim (bind_err (one bytes) (λ k. one k.1 >>= λ v. Ok ((k.0, v.0), v.1)) TooDeep e) [
@@ -154,7 +154,7 @@ abbrev InnerDeep : ℕ → Option (Reader Value) → Type 0
 InnerDeep limit None = limit ≡ 0
 InnerDeep limit (Some one) = (d : ℕ) × (limit ≡ d + 1) × Sound (Within d) encoding one × Deep d one
 
-array_deep : (limit : ℕ) (i : Option (Reader Value)) (argument : Option (Width × ℕ)) (bytes rest : List ℕ) → InnerDeep limit i → HeadIs bytes 4 argument rest → array_by (makes false) i argument rest ≡ Err TooDeep → limit < high_bytes bytes
+array_deep : (limit : ℕ) (i : Option (Reader Value)) (argument : Option (Width × ℕ)) (bytes rest : List ℕ) → InnerDeep limit i → HeadIs bytes 4 argument rest → array_by makes i argument rest ≡ Err TooDeep → limit < high_bytes bytes
 array_deep limit None argument bytes rest inner h e = past_head limit 4 argument bytes rest (omega arith) h (omega arith)
 array_deep limit (Some one) argument bytes rest inner h e =
     elim (bind_err (several one argument rest) (λ xs. Ok (array (argument_width argument) (values_of xs.0), xs.1)) TooDeep e) [
@@ -162,12 +162,12 @@ array_deep limit (Some one) argument bytes rest inner h e =
       | inr a ↦ absurd (not_given _ TooDeep a.2)
     ]
 
-map_deep : (limit : ℕ) (i : Option (Reader Value)) (argument : Option (Width × ℕ)) (bytes rest : List ℕ) → InnerDeep limit i → HeadIs bytes 5 argument rest → map_by (makes false) i argument rest ≡ Err TooDeep → limit < high_bytes bytes
+map_deep : (limit : ℕ) (i : Option (Reader Value)) (argument : Option (Width × ℕ)) (bytes rest : List ℕ) → InnerDeep limit i → HeadIs bytes 5 argument rest → map_by makes i argument rest ≡ Err TooDeep → limit < high_bytes bytes
 map_deep limit None argument bytes rest inner h e = past_head limit 5 argument bytes rest (omega arith) h (omega arith)
 map_deep limit (Some one) argument bytes rest inner h e =
-    elim (bind_err (several (pair_at (makes false) one) argument rest) (λ xs. Ok (object (argument_width argument) (pairs_of xs.0), xs.1)) TooDeep e) [
+    elim (bind_err (several (pair_at makes one) argument rest) (λ xs. Ok (object (argument_width argument) (pairs_of xs.0), xs.1)) TooDeep e) [
       | inl a ↦ past_head limit 5 argument bytes rest (omega arith) h
-          (omega (arith, inner.1, several_deep (BothWithin inner.0) pair_encoding (pair_at (makes false) one) inner.0 (pair_takes inner.0 one inner.2) (pair_deep inner.0 one inner.2 inner.3) argument rest (head_rest 5 argument bytes rest h) a))
+          (omega (arith, inner.1, several_deep (BothWithin inner.0) pair_encoding (pair_at makes one) inner.0 (pair_takes inner.0 one inner.2) (pair_deep inner.0 one inner.2 inner.3) argument rest (head_rest 5 argument bytes rest h) a))
       | inr a ↦ absurd (not_given _ TooDeep a.2)
     ]
 
@@ -197,7 +197,7 @@ chunk_not_deep : (k : StringKind) (bytes : List ℕ) → chunk_at k bytes ≡ Er
 unfolding chunk_at
 chunk_not_deep k bytes e = elim (bind_err (head_at bytes) (λ h. chunk_by k h.0 h.1) TooDeep e) [ inl a ↦ head_not_deep bytes a | inr a ↦ chunk_by_not_deep k a.0.0.0 a.0.0.1 a.0.1 a.2 ]
 
-string_deep : (limit : ℕ) (k : StringKind) (argument : Option (Width × ℕ)) (bytes rest : List ℕ) → HeadIs bytes (string_major k) argument rest → string_by (makes false) k argument rest ≡ Err TooDeep → limit < high_bytes bytes
+string_deep : (limit : ℕ) (k : StringKind) (argument : Option (Width × ℕ)) (bytes rest : List ℕ) → HeadIs bytes (string_major k) argument rest → string_by makes k argument rest ≡ Err TooDeep → limit < high_bytes bytes
 string_deep limit k (Some (w, n)) bytes rest h e = absurd (definite_not_deep k n rest (string k w) e)
 string_deep limit k None bytes rest h e =
     elim (bind_err (until Break (chunk_at k) (suc (length rest)) rest) (λ cs. Ok (chunks k cs.0, cs.1)) TooDeep e) [
@@ -212,7 +212,7 @@ other_not_deep : (major : ℕ) (argument : Option (Width × ℕ)) → other majo
 other_not_deep major None e = elim (chosen (eqb major 7) _ _ _ e) [ inl k ↦ (let g = k.1 in cc) | inr k ↦ (let g = k.1 in cc) ]
 other_not_deep major (Some a) e = elim (chosen (eqb major 7) _ _ _ e) [ inl k ↦ (let g = k.1 in cc) | inr k ↦ (let g = k.1 in cc) ]
 
-item_by_deep : (limit : ℕ) (i : Option (Reader Value)) (major : ℕ) (argument : Option (Width × ℕ)) (bytes rest : List ℕ) → InnerDeep limit i → HeadIs bytes major argument rest → item_by (makes false) i major argument rest ≡ Err TooDeep → limit < high_bytes bytes
+item_by_deep : (limit : ℕ) (i : Option (Reader Value)) (major : ℕ) (argument : Option (Width × ℕ)) (bytes rest : List ℕ) → InnerDeep limit i → HeadIs bytes major argument rest → item_by makes i major argument rest ≡ Err TooDeep → limit < high_bytes bytes
 unfolding item_by
 item_by_deep limit i major argument bytes rest inner h e =
     let at : (m : ℕ) → eqb major m ≡ true → HeadIs bytes m argument rest = λ m same. subst (λ (k : ℕ). HeadIs bytes k argument rest) (eqb-true major m same) h in
@@ -236,15 +236,15 @@ item_by_deep limit i major argument bytes rest inner h e =
       ]
     ]
 
-pub item_deep : (limit : ℕ) → Deep limit (value_at false limit)
+pub item_deep : (limit : ℕ) → Deep limit (value_at limit)
 unfolding item_at
 item_deep zero bytes fits e =
-    elim (bind_err (head_at bytes) (λ h. item_by (makes false) None h.0.0 h.0.1 h.1) TooDeep e) [
+    elim (bind_err (head_at bytes) (λ h. item_by makes None h.0.0 h.0.1 h.1) TooDeep e) [
       | inl a ↦ absurd (head_not_deep bytes a)
       | inr a ↦ item_by_deep 0 None a.0.0.0 a.0.0.1 bytes a.0.1 refl (head_takes bytes a.0 fits a.1).0 a.2
     ]
 item_deep (suc d) bytes fits e =
-    elim (bind_err (head_at bytes) (λ h. item_by (makes false) (Some (value_at false d)) h.0.0 h.0.1 h.1) TooDeep e) [
+    elim (bind_err (head_at bytes) (λ h. item_by makes (Some (value_at d)) h.0.0 h.0.1 h.1) TooDeep e) [
       | inl a ↦ absurd (head_not_deep bytes a)
-      | inr a ↦ item_by_deep (suc d) (Some (value_at false d)) a.0.0.0 a.0.0.1 bytes a.0.1 (d, omega arith, item_takes d, item_deep d) (head_takes bytes a.0 fits a.1).0 a.2
+      | inr a ↦ item_by_deep (suc d) (Some (value_at d)) a.0.0.0 a.0.0.1 bytes a.0.1 (d, omega arith, item_takes d, item_deep d) (head_takes bytes a.0 fits a.1).0 a.2
     ]

@@ -130,7 +130,7 @@ BothWithin limit p = Within limit p.0 × Within limit p.1
 abbrev pub pair_encoding : Value × Value → List ℕ
 pair_encoding p = encoding p.0 ++ encoding p.1
 
-pub pair_takes : (limit : ℕ) (one : Reader Value) → Sound (Within limit) encoding one → Sound (BothWithin limit) pair_encoding (pair_at (makes false) one)
+pub pair_takes : (limit : ℕ) (one : Reader Value) → Sound (Within limit) encoding one → Sound (BothWithin limit) pair_encoding (pair_at makes one)
 unfolding pair_at
 pair_takes limit one sound bytes x fits e =
     let a = bind_ok (one bytes) (λ k. one k.1 >>= λ v. Ok ((k.0, v.0), v.1)) x e in
@@ -215,7 +215,7 @@ abbrev InnerSound : ℕ → Option (Reader Value) → Type 0
 InnerSound limit None = Unit {0}
 InnerSound limit (Some one) = (d : ℕ) × (limit ≡ d + 1) × Sound (Within d) encoding one
 
-array_takes : (limit : ℕ) (i : Option (Reader Value)) (argument : Option (Width × ℕ)) (bytes rest : List ℕ) (x : Value × List ℕ) → InnerSound limit i → HeadIs bytes 4 argument rest → array_by (makes false) i argument rest ≡ Ok x → Good limit bytes x
+array_takes : (limit : ℕ) (i : Option (Reader Value)) (argument : Option (Width × ℕ)) (bytes rest : List ℕ) (x : Value × List ℕ) → InnerSound limit i → HeadIs bytes 4 argument rest → array_by makes i argument rest ≡ Ok x → Good limit bytes x
 array_takes limit None argument bytes rest x sound h e = absurd cc
 array_takes limit (Some one) argument bytes rest x sound h e =
     let d = sound.0 in
@@ -223,13 +223,13 @@ array_takes limit (Some one) argument bytes rest x sound h e =
     subst (λ (y : Value × List ℕ). Good limit bytes y) (ok_is (array (argument_width argument) (values_of b.0.0), b.0.1) x b.2)
     (subst (λ k. Good k bytes (array (argument_width argument) (values_of b.0.0), b.0.1)) (sym sound.1) (list_takes (Within d) encoding one (λ w vs. array w (values_of vs)) 4 d sound.2 (array_made d) argument bytes rest b.0 h b.1))
 
-map_takes : (limit : ℕ) (i : Option (Reader Value)) (argument : Option (Width × ℕ)) (bytes rest : List ℕ) (x : Value × List ℕ) → InnerSound limit i → HeadIs bytes 5 argument rest → map_by (makes false) i argument rest ≡ Ok x → Good limit bytes x
+map_takes : (limit : ℕ) (i : Option (Reader Value)) (argument : Option (Width × ℕ)) (bytes rest : List ℕ) (x : Value × List ℕ) → InnerSound limit i → HeadIs bytes 5 argument rest → map_by makes i argument rest ≡ Ok x → Good limit bytes x
 map_takes limit None argument bytes rest x sound h e = absurd cc
 map_takes limit (Some one) argument bytes rest x sound h e =
     let d = sound.0 in
-    let b = bind_ok (several (pair_at (makes false) one) argument rest) (λ xs. Ok (object (argument_width argument) (pairs_of xs.0), xs.1)) x e in
+    let b = bind_ok (several (pair_at makes one) argument rest) (λ xs. Ok (object (argument_width argument) (pairs_of xs.0), xs.1)) x e in
     subst (λ (y : Value × List ℕ). Good limit bytes y) (ok_is (object (argument_width argument) (pairs_of b.0.0), b.0.1) x b.2)
-    (subst (λ k. Good k bytes (object (argument_width argument) (pairs_of b.0.0), b.0.1)) (sym sound.1) (list_takes (BothWithin d) pair_encoding (pair_at (makes false) one) (λ w ps. object w (pairs_of ps)) 5 d (pair_takes d one sound.2) (object_made d) argument bytes rest b.0 h b.1))
+    (subst (λ k. Good k bytes (object (argument_width argument) (pairs_of b.0.0), b.0.1)) (sym sound.1) (list_takes (BothWithin d) pair_encoding (pair_at makes one) (λ w ps. object w (pairs_of ps)) 5 d (pair_takes d one sound.2) (object_made d) argument bytes rest b.0 h b.1))
 
 unsigned_takes : (limit : ℕ) (argument : Option (Width × ℕ)) (bytes rest : List ℕ) (x : Value × List ℕ) → HeadIs bytes 0 argument rest → number_by unsigned argument rest ≡ Ok x → Good limit bytes x
 unsigned_takes limit None bytes rest x h e = absurd cc
@@ -239,7 +239,7 @@ negative_takes : (limit : ℕ) (argument : Option (Width × ℕ)) (bytes rest : 
 negative_takes limit None bytes rest x h e = absurd cc
 negative_takes limit (Some (w, n)) bytes rest x h e = subst (λ (y : Value × List ℕ). Good limit bytes y) (ok_is (negative w n, rest) x e) ((h.0, omega arith, tt), h.1)
 
-string_by_takes : (limit : ℕ) (k : StringKind) (argument : Option (Width × ℕ)) (bytes rest : List ℕ) (x : Value × List ℕ) → HeadIs bytes (string_major k) argument rest → string_by (makes false) k argument rest ≡ Ok x → Good limit bytes x
+string_by_takes : (limit : ℕ) (k : StringKind) (argument : Option (Width × ℕ)) (bytes rest : List ℕ) (x : Value × List ℕ) → HeadIs bytes (string_major k) argument rest → string_by makes k argument rest ≡ Ok x → Good limit bytes x
 string_by_takes limit k (Some (w, n)) bytes rest x h e =
     let b = bind_ok (string_at k n rest) (λ s. Ok (string k w s.0, s.1)) x e in
     let t = definite_takes k w n bytes rest b.0 h b.1 in
@@ -259,7 +259,7 @@ other_takes : (limit major : ℕ) (argument : Option (Width × ℕ)) (bytes : Li
 other_takes limit major None bytes x e = elim (chosen (eqb major 7) _ _ _ e) [ inl k ↦ absurd (let g = k.1 in cc) | inr k ↦ absurd (let g = k.1 in cc) ]
 other_takes limit major (Some a) bytes x e = elim (chosen (eqb major 7) _ _ _ e) [ inl k ↦ absurd (let g = k.1 in cc) | inr k ↦ absurd (let g = k.1 in cc) ]
 
-item_by_takes : (limit : ℕ) (i : Option (Reader Value)) (major : ℕ) (argument : Option (Width × ℕ)) (bytes rest : List ℕ) (x : Value × List ℕ) → InnerSound limit i → HeadIs bytes major argument rest → item_by (makes false) i major argument rest ≡ Ok x → Good limit bytes x
+item_by_takes : (limit : ℕ) (i : Option (Reader Value)) (major : ℕ) (argument : Option (Width × ℕ)) (bytes rest : List ℕ) (x : Value × List ℕ) → InnerSound limit i → HeadIs bytes major argument rest → item_by makes i major argument rest ≡ Ok x → Good limit bytes x
 unfolding item_by
 item_by_takes limit i major argument bytes rest x sound h e =
     let at : (m : ℕ) → eqb major m ≡ true → HeadIs bytes m argument rest = λ m same. subst (λ (k : ℕ). HeadIs bytes k argument rest) (eqb-true major m same) h in
@@ -284,11 +284,11 @@ item_by_takes limit i major argument bytes rest x sound h e =
     ]
 
 -- the other law of the reader: what is read is written so
-pub item_takes : (limit : ℕ) → Sound (Within limit) encoding (value_at false limit)
+pub item_takes : (limit : ℕ) → Sound (Within limit) encoding (value_at limit)
 unfolding item_at
 item_takes zero bytes x fits e =
-    let a = bind_ok (head_at bytes) (λ h. item_by (makes false) None h.0.0 h.0.1 h.1) x e in
+    let a = bind_ok (head_at bytes) (λ h. item_by makes None h.0.0 h.0.1 h.1) x e in
     item_by_takes 0 None a.0.0.0 a.0.0.1 bytes a.0.1 x tt (head_takes bytes a.0 fits a.1).0 a.2
 item_takes (suc d) bytes x fits e =
-    let a = bind_ok (head_at bytes) (λ h. item_by (makes false) (Some (value_at false d)) h.0.0 h.0.1 h.1) x e in
-    item_by_takes (suc d) (Some (value_at false d)) a.0.0.0 a.0.0.1 bytes a.0.1 x (d, omega arith, item_takes d) (head_takes bytes a.0 fits a.1).0 a.2
+    let a = bind_ok (head_at bytes) (λ h. item_by makes (Some (value_at d)) h.0.0 h.0.1 h.1) x e in
+    item_by_takes (suc d) (Some (value_at d)) a.0.0.0 a.0.0.1 bytes a.0.1 x (d, omega arith, item_takes d) (head_takes bytes a.0 fits a.1).0 a.2

@@ -117,7 +117,7 @@ several_shown f one other shows None bytes = until_shown f Break one other shows
 abbrev pair_tree : Value × Value → Tree (OneEntry kind.Pairs)
 pair_tree p = key_value (tree_of p.0) (tree_of p.1)
 
-pair_shown : (one : Reader (Tree OneItem)) (other : Reader Value) → Shows tree_of one other → Shows pair_tree (pair_at trees one) (pair_at (makes false) other)
+pair_shown : (one : Reader (Tree OneItem)) (other : Reader Value) → Shows tree_of one other → Shows pair_tree (pair_at trees one) (pair_at makes other)
 unfolding pair_at
 pair_shown one other shows bytes =
     shown_step tree_of pair_tree (one bytes) (other bytes) (λ k. one k.1 >>= λ v. Ok (key_value k.0 v.0, v.1)) (λ k. other k.1 >>= λ v. Ok ((k.0, v.0), v.1)) (shows bytes)
@@ -154,7 +154,7 @@ InnerShows None None = Unit {0}
 InnerShows (Some one) (Some other) = Shows tree_of one other
 InnerShows _ _ = ⊥
 
-array_shown : (i : Option (Reader (Tree OneItem))) (j : Option (Reader Value)) (argument : Option (Width × ℕ)) (rest : List ℕ) → InnerShows i j → array_by trees i argument rest ≡ shown tree_of (array_by (makes false) j argument rest)
+array_shown : (i : Option (Reader (Tree OneItem))) (j : Option (Reader Value)) (argument : Option (Width × ℕ)) (rest : List ℕ) → InnerShows i j → array_by trees i argument rest ≡ shown tree_of (array_by makes j argument rest)
 array_shown None None argument rest shows = refl
 array_shown (Some one) (Some other) argument rest shows =
     shown_step (map tree_of) tree_of (several one argument rest) (several other argument rest) (λ xs. Ok (list_tree Array argument (element_row xs.0), xs.1)) (λ xs. Ok (array (argument_width argument) (values_of xs.0), xs.1)) (several_shown tree_of one other shows argument rest)
@@ -164,13 +164,13 @@ array_shown (Some one) (Some other) argument rest shows =
 array_shown None (Some other) argument rest shows = absurd shows
 array_shown (Some one) None argument rest shows = absurd shows
 
-map_shown : (i : Option (Reader (Tree OneItem))) (j : Option (Reader Value)) (argument : Option (Width × ℕ)) (rest : List ℕ) → InnerShows i j → map_by trees i argument rest ≡ shown tree_of (map_by (makes false) j argument rest)
+map_shown : (i : Option (Reader (Tree OneItem))) (j : Option (Reader Value)) (argument : Option (Width × ℕ)) (rest : List ℕ) → InnerShows i j → map_by trees i argument rest ≡ shown tree_of (map_by makes j argument rest)
 map_shown None None argument rest shows = refl
 map_shown (Some one) (Some other) argument rest shows =
-    shown_step (map pair_tree) tree_of (several (pair_at trees one) argument rest) (several (pair_at (makes false) other) argument rest) (λ xs. Ok (list_tree Map argument (row_of xs.0), xs.1)) (λ xs. Ok (object (argument_width argument) (pairs_of xs.0), xs.1))
-    (several_shown pair_tree (pair_at trees one) (pair_at (makes false) other) (pair_shown one other shows) argument rest)
+    shown_step (map pair_tree) tree_of (several (pair_at trees one) argument rest) (several (pair_at makes other) argument rest) (λ xs. Ok (list_tree Map argument (row_of xs.0), xs.1)) (λ xs. Ok (object (argument_width argument) (pairs_of xs.0), xs.1))
+    (several_shown pair_tree (pair_at trees one) (pair_at makes other) (pair_shown one other shows) argument rest)
     (λ xs is. let row = pairs_row xs.0 in
-    ap (λ i. Ok (ListTree Map (inside i (row_of (map pair_tree xs.0))), xs.1)) (indicator_is (pair_at (makes false) other) argument rest xs is ∙ ap (list_indicator (argument_width argument)) (sym row.1))
+    ap (λ i. Ok (ListTree Map (inside i (row_of (map pair_tree xs.0))), xs.1)) (indicator_is (pair_at makes other) argument rest xs is ∙ ap (list_indicator (argument_width argument)) (sym row.1))
     ∙ ap (λ m. Ok (ListTree Map (inside (list_indicator (argument_width argument) (pairs_len (pairs_of xs.0))) m), xs.1)) row.0)
 map_shown None (Some other) argument rest shows = absurd shows
 map_shown (Some one) None argument rest shows = absurd shows
@@ -183,7 +183,7 @@ pub shown_again : {A B C : Type 0} (f : A → B) (g : B → C) (r : Reads A) →
 shown_again f g (Ok x) = refl
 shown_again f g (Err e) = refl
 
-string_shown : (k : StringKind) (argument : Option (Width × ℕ)) (rest : List ℕ) → string_by trees k argument rest ≡ shown tree_of (string_by (makes false) k argument rest)
+string_shown : (k : StringKind) (argument : Option (Width × ℕ)) (rest : List ℕ) → string_by trees k argument rest ≡ shown tree_of (string_by makes k argument rest)
 string_shown k None rest = sym (shown_again (chunks k) tree_of (until Break (chunk_at k) (suc (length rest)) rest))
 string_shown k (Some (w, n)) rest = sym (shown_again (string k w) tree_of (string_at k n rest))
 
@@ -201,7 +201,7 @@ other_shown : (major : ℕ) (argument : Option (Width × ℕ)) → other_tree ma
 other_shown major None = choice (eqb major 7) _ _ _ _ refl refl
 other_shown major (Some a) = choice (eqb major 7) _ _ _ _ refl refl
 
-item_by_shown : (i : Option (Reader (Tree OneItem))) (j : Option (Reader Value)) (major : ℕ) (argument : Option (Width × ℕ)) (rest : List ℕ) → InnerShows i j → item_by trees i major argument rest ≡ shown tree_of (item_by (makes false) j major argument rest)
+item_by_shown : (i : Option (Reader (Tree OneItem))) (j : Option (Reader Value)) (major : ℕ) (argument : Option (Width × ℕ)) (rest : List ℕ) → InnerShows i j → item_by trees i major argument rest ≡ shown tree_of (item_by makes j major argument rest)
 unfolding item_by
 item_by_shown i j major argument rest shows =
     choice (eqb major 0) _ _ _ _ (number_shown (λ w n. number_tree (pos n) w n) unsigned argument rest (λ w n. refl))
@@ -215,9 +215,9 @@ head_step f (Ok h) k l next = next h
 head_step f (Err e) k l next = refl
 
 -- the trees that are read are those of the values
-pub tree_read : (limit : ℕ) → Shows tree_of (item_at trees limit) (value_at false limit)
+pub tree_read : (limit : ℕ) → Shows tree_of (item_at trees limit) (value_at limit)
 unfolding item_at
-tree_read zero bytes = head_step tree_of (head_at bytes) (λ h. item_by trees None h.0.0 h.0.1 h.1) (λ h. item_by (makes false) None h.0.0 h.0.1 h.1) (λ h. item_by_shown None None h.0.0 h.0.1 h.1 tt)
+tree_read zero bytes = head_step tree_of (head_at bytes) (λ h. item_by trees None h.0.0 h.0.1 h.1) (λ h. item_by makes None h.0.0 h.0.1 h.1) (λ h. item_by_shown None None h.0.0 h.0.1 h.1 tt)
 tree_read (suc d) bytes =
-    head_step tree_of (head_at bytes) (λ h. item_by trees (Some (item_at trees d)) h.0.0 h.0.1 h.1) (λ h. item_by (makes false) (Some (value_at false d)) h.0.0 h.0.1 h.1)
-    (λ h. item_by_shown (Some (item_at trees d)) (Some (value_at false d)) h.0.0 h.0.1 h.1 (tree_read d))
+    head_step tree_of (head_at bytes) (λ h. item_by trees (Some (item_at trees d)) h.0.0 h.0.1 h.1) (λ h. item_by makes (Some (value_at d)) h.0.0 h.0.1 h.1)
+    (λ h. item_by_shown (Some (item_at trees d)) (Some (value_at d)) h.0.0 h.0.1 h.1 (tree_read d))

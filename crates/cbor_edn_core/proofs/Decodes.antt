@@ -93,11 +93,11 @@ Somewhere bytes v = (rest : List ℕ) × Begins bytes rest v
 module _ (limit : ℕ) (bytes : List ℕ) where
   tree_found : (v : Value) (rest : List ℕ) → Begins bytes rest v → (x : Node Item) → item_of v ≡ Some x → item_at trees limit bytes ≡ outcome (nesting v) limit (tree_of v, rest)
   tree_found v rest begins x is =
-      tree_read limit bytes ∙ ap (shown tree_of) (ap (value_at false limit) (begins.2 ∙ ap (λ (l : List ℕ). l ++ rest) begins.1.1) ∙ item_again false v limit rest begins.1.0 (with_item v x is)) ∙ shown_outcome tree_of (nesting v) limit v rest
+      tree_read limit bytes ∙ ap (shown tree_of) (ap (value_at limit) (begins.2 ∙ ap (λ (l : List ℕ). l ++ rest) begins.1.1) ∙ item_again false v limit rest begins.1.0 (with_item v x is)) ∙ shown_outcome tree_of (nesting v) limit v rest
 
   pub found : (y : Tree OneItem × List ℕ) → IsBytes bytes → item_at trees limit bytes ≡ Ok y → IsDecoded limit (Begins bytes y.1) y.0
   found y fits e =
-      let s = shown_ok tree_of (value_at false limit bytes) y (sym (tree_read limit bytes) ∙ e) in
+      let s = shown_ok tree_of (value_at limit bytes) y (sym (tree_read limit bytes) ∙ e) in
       let v = s.0.0 in
       let good = item_takes limit bytes s.0 fits s.1 in
       let x = has_item v good.0.2 in
@@ -110,7 +110,7 @@ module _ (limit : ℕ) (bytes : List ℕ) where
 
   pub too_deep : IsBytes bytes → item_at trees limit bytes ≡ Err TooDeep → IsTooDeep limit bytes (Somewhere bytes)
   too_deep fits is = (
-    item_deep limit bytes fits (shown_err tree_of (value_at false limit bytes) TooDeep (sym (tree_read limit bytes) ∙ is)),
+    item_deep limit bytes fits (shown_err tree_of (value_at limit bytes) TooDeep (sym (tree_read limit bytes) ∙ is)),
     λ v x item somewhere. (outcome_err (nesting v) limit (tree_of v, somewhere.0) TooDeep (sym (tree_found v somewhere.0 somewhere.1 x item) ∙ is)).0,
   )
 
@@ -180,25 +180,25 @@ ends_at one zero bytes x e = absurd cc
 ends_at one (suc n) bytes x e = ends_by one (until EndOfData one n) (ends_at one n) bytes x (past EndOfData bytes) refl e
 
 module _ (limit : ℕ) (bytes : List ℕ) where
-  sequence_read : sequence_at trees limit bytes ≡ shown (map tree_of) (until EndOfData (value_at false limit) (suc (length bytes)) bytes)
-  sequence_read = until_shown tree_of EndOfData (item_at trees limit) (value_at false limit) (tree_read limit) (suc (length bytes)) bytes
+  sequence_read : sequence_at trees limit bytes ≡ shown (map tree_of) (until EndOfData (value_at limit) (suc (length bytes)) bytes)
+  sequence_read = until_shown tree_of EndOfData (item_at trees limit) (value_at limit) (tree_read limit) (suc (length bytes)) bytes
 
   sequence_again : (vs : Values) (m : Items) → items_of vs ≡ Some m → EncAll bytes vs → sequence_at trees limit bytes ≡ outcome (values_nesting vs) limit (map tree_of (list_of vs), [])
   sequence_again vs m item enc =
       let all : encodings vs ++ [] ≡ bytes = append-nil (encodings vs) ∙ sym enc.1 in
-      let read : until EndOfData (value_at false limit) (suc (length bytes)) bytes ≡ outcome (values_nesting vs) limit (list_of vs, []) =
-      ap (until EndOfData (value_at false limit) (suc (length bytes))) (sym all)
+      let read : until EndOfData (value_at limit) (suc (length bytes)) bytes ≡ outcome (values_nesting vs) limit (list_of vs, []) =
+      ap (until EndOfData (value_at limit) (suc (length bytes))) (sym all)
       ∙ values_until false vs enc.0 (with_items vs m item) EndOfData limit (suc (length bytes)) [] [] refl (omega (arith, values_many vs, ap length enc.1)) in
       sequence_read ∙ ap (shown (map tree_of)) read ∙ shown_outcome (map tree_of) (values_nesting vs) limit (list_of vs) []
 
   pub sequence_found : (y : List (Tree OneItem) × List ℕ) → IsBytes bytes → sequence_at trees limit bytes ≡ Ok y → (vs : Values) × (m : Items) × EncAll bytes vs × (values_nesting vs ≤ limit) × (items_of vs ≡ Some m) × (element_row y.0 ≡ regular m) × (means m ≡ Some vs)
   sequence_found y fits e =
-      let s = shown_ok (map tree_of) (until EndOfData (value_at false limit) (suc (length bytes)) bytes) y (sym sequence_read ∙ e) in
-      let t = until_takes EndOfData (Within limit) encoding (value_at false limit) (item_takes limit) (suc (length bytes)) bytes s.0 fits s.1 in
+      let s = shown_ok (map tree_of) (until EndOfData (value_at limit) (suc (length bytes)) bytes) y (sym sequence_read ∙ e) in
+      let t = until_takes EndOfData (Within limit) encoding (value_at limit) (item_takes limit) (suc (length bytes)) bytes s.0 fits s.1 in
       let are = values_are limit s.0.0 t.0 in
       let vs = values_of s.0.0 in
       let m = has_items vs are.known in
-      let split : bytes ≡ encodings vs = t.1.parts ∙ ap (λ (l : List ℕ). (flat_map encoding s.0.0 ++ []) ++ l) (ends_at (value_at false limit) (suc (length bytes)) bytes s.0 s.1) ∙ append-nil _ ∙ append-nil (flat_map encoding s.0.0) ∙ are.spelled in
+      let split : bytes ≡ encodings vs = t.1.parts ∙ ap (λ (l : List ℕ). (flat_map encoding s.0.0 ++ []) ++ l) (ends_at (value_at limit) (suc (length bytes)) bytes s.0 s.1) ∙ append-nil _ ∙ append-nil (flat_map encoding s.0.0) ∙ are.spelled in
       (vs, m.0, (are.fit, split), are.nested, m.1, ap (λ (p : List (Tree OneItem) × List ℕ). element_row p.0) (sym s.2) ∙ (values_row s.0.0).0 ∙ row_tree_of_items vs m.0 m.1, items_mean vs m.0 are.fit m.1)
 
   pub sequence_refused : (e : CborError) → sequence_at trees limit bytes ≡ Err e → e ≢ TooDeep → NoSequence bytes
@@ -206,8 +206,8 @@ module _ (limit : ℕ) (bytes : List ℕ) where
 
   pub sequence_too_deep : IsBytes bytes → sequence_at trees limit bytes ≡ Err TooDeep → IsTooDeepSequence limit bytes
   sequence_too_deep fits is = (
-    until_deep EndOfData (Within limit) encoding (value_at false limit) limit (item_takes limit) (item_deep limit) (suc (length bytes)) bytes fits
-        (shown_err (map tree_of) (until EndOfData (value_at false limit) (suc (length bytes)) bytes) TooDeep (sym sequence_read ∙ is)),
+    until_deep EndOfData (Within limit) encoding (value_at limit) limit (item_takes limit) (item_deep limit) (suc (length bytes)) bytes fits
+        (shown_err (map tree_of) (until EndOfData (value_at limit) (suc (length bytes)) bytes) TooDeep (sym sequence_read ∙ is)),
     λ vs m item enc. (outcome_err (values_nesting vs) limit (map tree_of (list_of vs), []) TooDeep (sym (sequence_again vs m item enc) ∙ is)).0,
   )
 
