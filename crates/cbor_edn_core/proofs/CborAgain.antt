@@ -16,7 +16,7 @@ use Rattle.cbor_edn_core.specs.CborReading.{◌>>=◌, Reads, Reader, Head, head
 use Rattle.cbor_edn_core.proofs.CborHeads.{head_again, open_again}
 use Rattle.cbor_edn_core.proofs.CborSpecials.{one_byte, two_bytes, simple_fits, simple_shallow, float_fits, float_again}
 use Rattle.cbor_edn_core.proofs.CborOutcomes.{outcome, within, beyond, none, outcome_then, outcome_map, many_none, more, until_more_at, until_end_at, string_again, chunks_again, chunks_many, values_many, pairs_many, going}
-use Rattle.cbor_edn_core.proofs.CborValues.{values_of, pairs_of, list_of, pair_list_of, values_of_list, pairs_of_list, argument_width, makes, value_at}
+use Rattle.cbor_edn_core.proofs.CborValues.{values_of, pairs_of, list_of, pair_list_of, values_of_list, pairs_of_list, argument_width, makes, value_at, in_front_of}
 
 -- ---- an item by its head
 
@@ -162,9 +162,6 @@ simple_opened i n (inl lt) = ap (λ w. special_by makes i (Some (w, n))) (one_by
 simple_opened i n (inr wide) =
     let long : ltb n 32 ≡ false = le-ltb n 32 wide.0 in
     ap (λ w. special_by makes i (Some (w, n))) (two_bytes n (omega (arith, wide.0))) ∙ rw long refl
-
-abbrev in_front_of : List ℕ → Value → Reads Value
-in_front_of rest v = Ok (v, rest)
 
 named_again : (named : Bool) (n : ℕ) (rest : List ℕ) → (cond (eqb (cond named 0 1) 0) (Ok (simple n)) (Err TooDeep) >>= in_front_of rest) ≡ outcome (cond named 0 1) 0 (simple n, rest)
 named_again true n rest = refl

@@ -1,7 +1,7 @@
 -- Simple values and floating-point numbers: their heads, and what is read of them.
 use Rattle.std.proofs.Common.{◌≡◌, ℕ, ◌<◌, ◌≤◌, Bool, true, false, cond, leb, ltb, eqb, Option, Some, None, refl, sym, ap, subst, ◌∙◌, arith, inl, inr}
 use Rattle.std.specs.Prelude.{◌&&◌}
-use Rattle.std.proofs.lemmas.Bool.{lt-ltb, le-ltb, eqb-true}
+use Rattle.std.proofs.lemmas.Bool.{lt-ltb, le-ltb, eqb-true, eqb-false}
 use Rattle.cbor_edn_core.specs.declared.cbor.Width.{Width}
 use Rattle.cbor_edn_core.specs.declared.cbor.Width.TheVariants.{Immediate, One, Two, Four, Eight}
 use Rattle.cbor_edn_core.specs.declared.word.NonFinite.{NonFinite}
@@ -10,6 +10,10 @@ use Rattle.cbor_edn_core.specs.Value.{ArgumentFits, float_bits, simple_width, si
 use Rattle.cbor_edn_core.specs.CborReading.{float_of}
 use Rattle.cbor_edn_core.proofs.CborHeads.{chosen}
 use Rattle.cbor_edn_core.proofs.MeaningSteps.{some_is}
+
+-- the major type that is none of the others
+pub last_major : (major : ℕ) → major < 8 → eqb major 0 ≡ false → eqb major 1 ≡ false → eqb major 2 ≡ false → eqb major 3 ≡ false → eqb major 4 ≡ false → eqb major 5 ≡ false → eqb major 6 ≡ false → major ≡ 7
+last_major major lt a b c d e f g = omega (arith, eqb-false major 0 a, eqb-false major 1 b, eqb-false major 2 c, eqb-false major 3 d, eqb-false major 4 e, eqb-false major 5 f, eqb-false major 6 g)
 
 -- ---- simple values
 

@@ -1,9 +1,9 @@
 -- The reader that makes values.
-use Rattle.std.proofs.Common.{◌≡◌, ℕ, List, [], ◌∷◌, Option, Some, None, refl, ap}
+use Rattle.std.proofs.Common.{◌≡◌, ℕ, List, [], ◌∷◌, Option, Some, None, Ok, refl, ap}
 use Rattle.cbor_edn_core.specs.declared.cbor.Width.{Width}
 use Rattle.cbor_edn_core.specs.Value as cbor
 use Rattle.cbor_edn_core.specs.Value.{Value, array, Values, no_values, value, Pairs, no_pairs, pair, object}
-use Rattle.cbor_edn_core.specs.CborReading.{Argument, Reader, Makes, item_at}
+use Rattle.cbor_edn_core.specs.CborReading.{Argument, Reads, Reader, Makes, item_at}
 
 abbrev pub values_of : List Value → Values
 values_of [] = no_values
@@ -49,3 +49,7 @@ makes = record {
 
 abbrev pub value_at : ℕ → Reader Value
 value_at = item_at makes
+
+-- what is read with these bytes behind it
+abbrev pub in_front_of : List ℕ → Value → Reads Value
+in_front_of rest v = Ok (v, rest)
