@@ -114,7 +114,7 @@ pub chunk_takes : (k : StringKind) → Sound (ChunkFits k) (chunk_encoding k) (c
 unfolding chunk_at
 chunk_takes k bytes x fits e =
     let a = bind_ok (head_at bytes) (λ h. chunk_by k h.0 h.1) x e in
-    chunk_by_takes k a.0.0.0 a.0.0.1 bytes a.0.1 x (head_takes bytes a.0 fits a.1) a.2
+    chunk_by_takes k a.0.0.0 a.0.0.1 bytes a.0.1 x (head_takes bytes a.0 fits a.1).0 a.2
 
 -- chunks that were read one behind the other
 chunks_are : (k : StringKind) (cs : List Chunk) → AllByRecursion (ChunkFits k) cs → ChunksFit k cs × (flat_map (chunk_encoding k) cs ≡ chunk_encodings k cs)
