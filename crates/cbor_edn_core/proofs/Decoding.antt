@@ -3,6 +3,7 @@ use Rattle.std.proofs.Common.{◌≡◌, ℕ, ◌+◌, ◌^◌, ◌<◌, Bool, t
 use Rattle.std.specs.Prelude.{pos, negsuc, ◌&&◌}
 use Rattle.std.specs.Fmt.{signed_decimal}
 use Rattle.std.proofs.lemmas.Bool.{cases_lt, cases_eq, lt-ltb, le-ltb, le-leb, eq-eqb, ne_eqb}
+use Rattle.std.proofs.lemmas.Bool.Decides.{nat_tests}
 use Rattle.cbor_edn_parts.specs.Number.{integer_of}
 use Rattle.cbor_edn_parts.proofs.Decimals.{integer_of_decimal}
 use Rattle.cbor_edn_parts.specs.declared.indicator.Indicator.{Indicator}
@@ -251,12 +252,8 @@ chunks_mean k (c ∷ cs) fit = ap (λ o. bind o stream_of) (chunk_items_mean k (
 -- ---- simple values and floating-point numbers
 
 is_simple_true : (n : ℕ) → IsSimple n → is_simple n ≡ true
-is_simple_true n (inl lt) = let a : below n 24 = lt-ltb n 24 lt in rw a refl
-is_simple_true n (inr wide) =
-    let a : not_below n 24 = le-ltb n 24 (omega (arith, wide.0)) in
-    let b : leb 32 n ≡ true = le-leb 32 n wide.0 in
-    let c : below n 256 = lt-ltb n 256 wide.1 in
-    rw (a, b, c) refl
+is_simple_true n (inl lt) = grind (arith, nat_tests)
+is_simple_true n (inr wide) = grind (arith, nat_tests)
 
 abbrev MeansSimple : ℕ → Node Item → Type 0
 MeansSimple n x = means x ≡ Some (simple n)
