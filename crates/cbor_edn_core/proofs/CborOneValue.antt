@@ -1,5 +1,5 @@
 -- One value, one encoding, and no encoding begins another: the reader finds each value again.
-use Rattle.std.proofs.Common.{◌≡◌, ℕ, ◌≤◌, max, true, List, ◌++◌, Ok, refl, sym, ap, ◌∙◌, arith}
+use Rattle.std.proofs.Common.{◌≡◌, ℕ, ◌≤◌, max, List, ◌++◌, Ok, refl, sym, ap, ◌∙◌, arith}
 use Rattle.cbor_edn_core.specs.Value.{Value, encoding, nesting, Enc}
 use Rattle.cbor_edn_core.specs.CborLaws.{OneEncoding}
 use Rattle.cbor_edn_core.proofs.CborHeads.{ok_is}

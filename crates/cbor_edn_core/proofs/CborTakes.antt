@@ -1,5 +1,5 @@
 -- What is read is written so, and nests no deeper than it may.
-use Rattle.std.proofs.Common.{◌≡◌, ℕ, zero, suc, ◌+◌, ◌≤◌, ◌<◌, true, false, ltb, eqb, take, drop, List, [], ◌∷◌, ◌++◌, length, Option, Some, None, Ok, refl, sym, ap, subst, ◌∙◌, append_assoc, arith, inl, inr}
+use Rattle.std.proofs.Common.{◌≡◌, ℕ, zero, suc, ◌+◌, ◌≤◌, ◌<◌, true, ltb, eqb, take, drop, List, [], ◌∷◌, ◌++◌, length, Option, Some, None, Ok, refl, sym, ap, subst, ◌∙◌, append_assoc, arith, inl, inr}
 use Rattle.std.specs.List.{flat_map, AllByRecursion}
 use Rattle.std.proofs.lemmas.Bool.{eqb-true, ltb-false}
 use Rattle.std.proofs.lemmas.List.{append-nil, take-append-drop, length-take}
@@ -12,7 +12,7 @@ use Rattle.cbor_edn_core.specs.declared.word.NonFinite.{NonFinite}
 use Rattle.cbor_edn_core.specs.declared.from_cbor.reader.Stop.{Stop}
 use Rattle.cbor_edn_core.specs.declared.from_cbor.reader.Stop.TheVariants.{Break, EndOfData}
 use Rattle.cbor_edn_core.specs.Value.{Value, Chunk, unsigned, negative, string, chunks, array, object, tag, simple, float, head, ArgumentFits, LengthFits, open_head, list_encoding, string_major, chunk_encoding, chunk_encodings, is_content, AreBytes, ChunkFits, ChunksFit, encoding, encodings, pair_encodings, values_len, pairs_len, Fits, ValuesFit, PairsFit, nesting, values_nesting, pairs_nesting, simple_nesting, simple_width, IsSimple, IsFloatWidth}
-use Rattle.cbor_edn_core.specs.CborReading.{◌>>=◌, Reads, Reader, head_at, many, until, several, past, turn, string_at, chunk_at, chunk_by, string_by, pair_at, item_by, item_at, array_by, map_by, number_by, tag_by, simple_by, float_by, special_by, float_of}
+use Rattle.cbor_edn_core.specs.CborReading.{◌>>=◌, Reader, head_at, many, until, several, past, turn, string_at, chunk_at, chunk_by, string_by, pair_at, item_by, item_at, array_by, map_by, number_by, tag_by, simple_by, float_by, special_by, float_of}
 use Rattle.cbor_edn_core.proofs.CborHeads.{IsBytes, IsBytes-rest, IsBytes-take, IsBytes-drop, bind_ok, ok_is, chosen, Takes, Takes-then, HeadIs, head_takes}
 use Rattle.cbor_edn_core.proofs.CborValues.{values_of, pairs_of, argument_width, makes, value_at, in_front_of}
 use Rattle.cbor_edn_core.proofs.CborSpecials.{last_major, one_byte, two_bytes, simple_shallow, float_found}

@@ -19,7 +19,7 @@ use Rattle.cbor_edn_core.specs.Decoded as decoded
 use Rattle.cbor_edn_core.specs.Decoded.{item_of, items_of, chunk_items, chunked_item, list_indicator, in_front, inside, key_value, stream_tree, float_indicator, alone, regular}
 use Rattle.cbor_edn_core.specs.CborReading.{◌>>=◌, Reads, Reader, shown, head_at, many, until, several, past, turn, string_at, chunk_at, string_by, pair_at, item_by, item_at, array_by, map_by, number_by, tag_by, simple_by, float_by, special_by, float_of, simple_tree, number_tree, string_tree, string_row, chunks_tree, argument_indicator, list_tree, row_of, element_row, trees}
 use Rattle.cbor_edn_core.proofs.CborHeads.{bind_ok}
-use Rattle.cbor_edn_core.proofs.CborValues.{values_of, pairs_of, argument_width, makes, value_at}
+use Rattle.cbor_edn_core.proofs.CborValues.{values_of, pairs_of, argument_width, makes, value_at, in_front_of}
 
 -- the tree of a value
 abbrev mutual
@@ -197,30 +197,26 @@ tag_shown (Some one) (Some other) (Some (w, n)) rest shows =
 tag_shown None (Some other) (Some (w, n)) rest shows = absurd shows
 tag_shown (Some one) None (Some (w, n)) rest shows = absurd shows
 
--- with these bytes behind
-abbrev behind : {A : Type 0} → List ℕ → A → Reads A
-behind rest x = Ok (x, rest)
-
-named_shown : (b : Bool) (n : ℕ) (rest : List ℕ) → (cond b (Ok (simple_tree n)) (Err TooDeep) >>= behind rest) ≡ shown tree_of (cond b (Ok (simple n)) (Err TooDeep) >>= behind rest)
+named_shown : (b : Bool) (n : ℕ) (rest : List ℕ) → (cond b (Ok (simple_tree n)) (Err TooDeep) >>= in_front_of rest) ≡ shown tree_of (cond b (Ok (simple n)) (Err TooDeep) >>= in_front_of rest)
 named_shown true n rest = refl
 named_shown false n rest = refl
 
-simple_shown : (i : Option (Reader (Tree OneItem))) (j : Option (Reader Value)) (n : ℕ) (rest : List ℕ) → InnerShows i j → (simple_by trees i n >>= behind rest) ≡ shown tree_of (simple_by makes j n >>= behind rest)
+simple_shown : (i : Option (Reader (Tree OneItem))) (j : Option (Reader Value)) (n : ℕ) (rest : List ℕ) → InnerShows i j → (simple_by trees i n >>= in_front_of rest) ≡ shown tree_of (simple_by makes j n >>= in_front_of rest)
 simple_shown None None n rest shows = named_shown (eqb (simple_nesting n) 0) n rest
 simple_shown (Some one) (Some other) n rest shows = refl
 simple_shown None (Some other) n rest shows = absurd shows
 simple_shown (Some one) None n rest shows = absurd shows
 
-float_shown : (w : Width) (o : Option NonFinite) (rest : List ℕ) → (float_by trees w o >>= behind rest) ≡ shown tree_of (float_by makes w o >>= behind rest)
+float_shown : (w : Width) (o : Option NonFinite) (rest : List ℕ) → (float_by trees w o >>= in_front_of rest) ≡ shown tree_of (float_by makes w o >>= in_front_of rest)
 float_shown w None rest = refl
 float_shown w (Some f) rest = refl
 
-valid_shown : (b : Bool) (r : Result (Tree OneItem) CborError) (s : Result Value CborError) (rest : List ℕ) → (r >>= behind rest) ≡ shown tree_of (s >>= behind rest)
-    → (cond b (Err InvalidSimple) r >>= behind rest) ≡ shown tree_of (cond b (Err InvalidSimple) s >>= behind rest)
+valid_shown : (b : Bool) (r : Result (Tree OneItem) CborError) (s : Result Value CborError) (rest : List ℕ) → (r >>= in_front_of rest) ≡ shown tree_of (s >>= in_front_of rest)
+    → (cond b (Err InvalidSimple) r >>= in_front_of rest) ≡ shown tree_of (cond b (Err InvalidSimple) s >>= in_front_of rest)
 valid_shown true r s rest e = refl
 valid_shown false r s rest e = e
 
-special_shown : (i : Option (Reader (Tree OneItem))) (j : Option (Reader Value)) (argument : Option (Width × ℕ)) (rest : List ℕ) → InnerShows i j → (special_by trees i argument >>= behind rest) ≡ shown tree_of (special_by makes j argument >>= behind rest)
+special_shown : (i : Option (Reader (Tree OneItem))) (j : Option (Reader Value)) (argument : Option (Width × ℕ)) (rest : List ℕ) → InnerShows i j → (special_by trees i argument >>= in_front_of rest) ≡ shown tree_of (special_by makes j argument >>= in_front_of rest)
 special_shown i j None rest shows = refl
 special_shown i j (Some (Immediate, n)) rest shows = simple_shown i j n rest shows
 special_shown i j (Some (One, n)) rest shows = valid_shown (ltb n 32) (simple_by trees i n) (simple_by makes j n) rest (simple_shown i j n rest shows)

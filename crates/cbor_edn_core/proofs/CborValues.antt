@@ -51,5 +51,5 @@ abbrev pub value_at : ℕ → Reader Value
 value_at = item_at makes
 
 -- what is read with these bytes behind it
-abbrev pub in_front_of : List ℕ → Value → Reads Value
-in_front_of rest v = Ok (v, rest)
+abbrev pub in_front_of : {A : Type 0} → List ℕ → A → Reads A
+in_front_of rest x = Ok (x, rest)

@@ -19,7 +19,7 @@ use Rattle.cbor_edn_core.specs.View.{texts, view_items, view_some}
 use Rattle.cbor_edn_core.specs.declared.from_cbor.CborError.{CborError}
 use Rattle.cbor_edn_core.specs.declared.from_cbor.CborError.TheVariants.{TooDeep}
 use Rattle.cbor_edn_core.specs.declared.from_cbor.reader.Stop.TheVariants.{EndOfData}
-use Rattle.cbor_edn_core.specs.Items.{Elements, Node, Item, Items}
+use Rattle.cbor_edn_core.specs.Items.{Elements, Items}
 use Rattle.cbor_edn_core.specs.Trees.{Tree, OneItem, Rest, Seq, NothingTree, SequenceTree, items}
 use Rattle.cbor_edn_core.specs.Value.{Value, Values, encoding, encodings, nesting, values_nesting, Enc, EncAll}
 use Rattle.cbor_edn_core.specs.Meaning.{means}

@@ -9,7 +9,7 @@ ghost use Rattle.std.specs.Fmt.{decimal};
 ghost use Rattle.cbor_edn_core.specs.View.{item_tree, standalone_tree};
 
 use super::CborError;
-use super::reader::{Argument, indicator_of};
+use super::reader::Argument;
 use crate::cbor::{Width, float_bits};
 use crate::tree::{Indicator, InnerItem, Item, Label, StandaloneItem};
 use crate::word::{NamedSimple, NonFinite};
@@ -75,7 +75,7 @@ pub(super) fn enclosed<'a>(
     Ok(Box::new(alloc, item)?)
 }
 
-/// The floating-point number of so many bytes with these bits.
+/// The floating-point number of so many bytes with these bits: finite ones are refused.
 fn float_of<'a>(width: Width, bits: u64) -> Result<Item<'a>, Fault<CborError>>
     ensures { Gives item_tree result (reading.float_by trees width (reading.float_of width bits)) }
 {
@@ -87,7 +87,7 @@ fn float_of<'a>(width: Width, bits: u64) -> Result<Item<'a>, Fault<CborError>>
     })
 }
 
-/// The one of these bits that is not finite.
+/// The number with these bits, where it is one of the three.
 fn non_finite(width: Width, bits: u64) -> Option<NonFinite>
     ensures { result ≡ reading.float_of width bits }
 {
