@@ -1,5 +1,5 @@
 -- Bytes are refused as too deep only where more than `limit` of them can be heads of what nests.
-use Rattle.std.proofs.Common.{◌≡◌, ℕ, zero, suc, ◌+◌, ◌*◌, ◌/◌, ◌%◌, ◌<◌, ◌≤◌, true, false, cond, leb, ltb, eqb, List, [], ◌∷◌, ◌++◌, length, take, Option, Some, None, Result, Ok, Err, refl, ap, subst, ◌∙◌, ◌⊎◌, arith, inl, inr}
+use Rattle.std.proofs.Common.{◌≡◌, ℕ, zero, suc, ◌+◌, ◌*◌, ◌/◌, ◌%◌, ◌<◌, ◌≤◌, true, cond, leb, ltb, eqb, List, [], ◌∷◌, ◌++◌, length, take, Option, Some, None, Result, Ok, Err, refl, ap, subst, ◌∙◌, ◌⊎◌, arith, inl, inr}
 use Rattle.std.specs.Int.{w8, w16, w32, w64, byte_len, to_be_bytes}
 use Rattle.std.specs.Int.{Width as Bits}
 use Rattle.std.proofs.lemmas.Bool.{eqb-true, le-leb}
@@ -8,16 +8,18 @@ use Rattle.cbor_edn_parts.specs.declared.string.StringKind.{StringKind}
 use Rattle.cbor_edn_parts.specs.declared.string.StringKind.TheVariants.{Bytes, Text}
 use Rattle.cbor_edn_core.specs.declared.cbor.Width.{Width}
 use Rattle.cbor_edn_core.specs.declared.cbor.Width.TheVariants.{Immediate, One, Two, Four, Eight}
+use Rattle.cbor_edn_core.specs.declared.word.NonFinite.{NonFinite}
 use Rattle.cbor_edn_core.specs.declared.from_cbor.CborError.{CborError}
 use Rattle.cbor_edn_core.specs.declared.from_cbor.CborError.TheVariants.{TooDeep}
 use Rattle.cbor_edn_core.specs.declared.from_cbor.reader.Stop.{Stop}
 use Rattle.cbor_edn_core.specs.declared.from_cbor.reader.Stop.TheVariants.{Break}
-use Rattle.cbor_edn_core.specs.Value.{Value, unsigned, negative, string, chunks, array, object, head, open_head, string_major, is_content, chunk_encoding, ChunkFits, encoding}
+use Rattle.cbor_edn_core.specs.Value.{Value, unsigned, negative, string, chunks, array, object, tag, head, open_head, string_major, is_content, chunk_encoding, ChunkFits, encoding}
 use Rattle.cbor_edn_core.specs.Decoded.{high_bytes}
-use Rattle.cbor_edn_core.specs.CborReading.{◌>>=◌, Reads, Reader, shown, head_at, head_by, argument_at, many, until, several, past, turn, string_at, chunk_at, chunk_by, string_by, pair_at, item_by, item_at, array_by, map_by, number_by, other_by}
+use Rattle.cbor_edn_core.specs.CborReading.{◌>>=◌, Reads, Reader, shown, head_at, head_by, argument_at, many, until, several, past, turn, string_at, chunk_at, chunk_by, string_by, pair_at, item_by, item_at, array_by, map_by, number_by, tag_by, simple_by, float_by, special_by, float_of}
 use Rattle.cbor_edn_core.proofs.CborHeads.{IsBytes, chosen, Takes, HeadIs, head_takes}
+use Rattle.cbor_edn_core.proofs.CborSpecials.{last_major}
 use Rattle.cbor_edn_core.proofs.CborTurns.{shown_err}
-use Rattle.cbor_edn_core.proofs.CborValues.{values_of, pairs_of, argument_width, makes, value_at}
+use Rattle.cbor_edn_core.proofs.CborValues.{values_of, pairs_of, argument_width, makes, value_at, in_front_of}
 use Rattle.cbor_edn_core.proofs.CborTakes.{Sound, Within, BothWithin, pair_encoding, chunk_takes, pair_takes, item_takes}
 
 high-append : (xs ys : List ℕ) → high_bytes (xs ++ ys) ≡ high_bytes xs + high_bytes ys
@@ -79,7 +81,7 @@ unfolding several
 several_deep P spelled one d sound deep (Some (w, n)) bytes fits e = many_deep P spelled one d sound deep n bytes fits e
 several_deep P spelled one d sound deep None bytes fits e = until_deep Break P spelled one d sound deep (suc (length bytes)) bytes fits e
 
-pair_deep : (d : ℕ) (one : Reader Value) → Sound (Within d) encoding one → Deep d one → Deep d (pair_at (makes false) one)
+pair_deep : (d : ℕ) (one : Reader Value) → Sound (Within d) encoding one → Deep d one → Deep d (pair_at makes one)
 unfolding pair_at
 pair_deep d one sound deep bytes fits e =
     elim (bind_err (one bytes) (λ k. one k.1 >>= λ v. Ok ((k.0, v.0), v.1)) TooDeep e) [
@@ -154,7 +156,7 @@ abbrev InnerDeep : ℕ → Option (Reader Value) → Type 0
 InnerDeep limit None = limit ≡ 0
 InnerDeep limit (Some one) = (d : ℕ) × (limit ≡ d + 1) × Sound (Within d) encoding one × Deep d one
 
-array_deep : (limit : ℕ) (i : Option (Reader Value)) (argument : Option (Width × ℕ)) (bytes rest : List ℕ) → InnerDeep limit i → HeadIs bytes 4 argument rest → array_by (makes false) i argument rest ≡ Err TooDeep → limit < high_bytes bytes
+array_deep : (limit : ℕ) (i : Option (Reader Value)) (argument : Option (Width × ℕ)) (bytes rest : List ℕ) → InnerDeep limit i → HeadIs bytes 4 argument rest → array_by makes i argument rest ≡ Err TooDeep → limit < high_bytes bytes
 array_deep limit None argument bytes rest inner h e = past_head limit 4 argument bytes rest (omega arith) h (omega arith)
 array_deep limit (Some one) argument bytes rest inner h e =
     elim (bind_err (several one argument rest) (λ xs. Ok (array (argument_width argument) (values_of xs.0), xs.1)) TooDeep e) [
@@ -162,12 +164,12 @@ array_deep limit (Some one) argument bytes rest inner h e =
       | inr a ↦ absurd (not_given _ TooDeep a.2)
     ]
 
-map_deep : (limit : ℕ) (i : Option (Reader Value)) (argument : Option (Width × ℕ)) (bytes rest : List ℕ) → InnerDeep limit i → HeadIs bytes 5 argument rest → map_by (makes false) i argument rest ≡ Err TooDeep → limit < high_bytes bytes
+map_deep : (limit : ℕ) (i : Option (Reader Value)) (argument : Option (Width × ℕ)) (bytes rest : List ℕ) → InnerDeep limit i → HeadIs bytes 5 argument rest → map_by makes i argument rest ≡ Err TooDeep → limit < high_bytes bytes
 map_deep limit None argument bytes rest inner h e = past_head limit 5 argument bytes rest (omega arith) h (omega arith)
 map_deep limit (Some one) argument bytes rest inner h e =
-    elim (bind_err (several (pair_at (makes false) one) argument rest) (λ xs. Ok (object (argument_width argument) (pairs_of xs.0), xs.1)) TooDeep e) [
+    elim (bind_err (several (pair_at makes one) argument rest) (λ xs. Ok (object (argument_width argument) (pairs_of xs.0), xs.1)) TooDeep e) [
       | inl a ↦ past_head limit 5 argument bytes rest (omega arith) h
-          (omega (arith, inner.1, several_deep (BothWithin inner.0) pair_encoding (pair_at (makes false) one) inner.0 (pair_takes inner.0 one inner.2) (pair_deep inner.0 one inner.2 inner.3) argument rest (head_rest 5 argument bytes rest h) a))
+          (omega (arith, inner.1, several_deep (BothWithin inner.0) pair_encoding (pair_at makes one) inner.0 (pair_takes inner.0 one inner.2) (pair_deep inner.0 one inner.2 inner.3) argument rest (head_rest 5 argument bytes rest h) a))
       | inr a ↦ absurd (not_given _ TooDeep a.2)
     ]
 
@@ -197,7 +199,7 @@ chunk_not_deep : (k : StringKind) (bytes : List ℕ) → chunk_at k bytes ≡ Er
 unfolding chunk_at
 chunk_not_deep k bytes e = elim (bind_err (head_at bytes) (λ h. chunk_by k h.0 h.1) TooDeep e) [ inl a ↦ head_not_deep bytes a | inr a ↦ chunk_by_not_deep k a.0.0.0 a.0.0.1 a.0.1 a.2 ]
 
-string_deep : (limit : ℕ) (k : StringKind) (argument : Option (Width × ℕ)) (bytes rest : List ℕ) → HeadIs bytes (string_major k) argument rest → string_by (makes false) k argument rest ≡ Err TooDeep → limit < high_bytes bytes
+string_deep : (limit : ℕ) (k : StringKind) (argument : Option (Width × ℕ)) (bytes rest : List ℕ) → HeadIs bytes (string_major k) argument rest → string_by makes k argument rest ≡ Err TooDeep → limit < high_bytes bytes
 string_deep limit k (Some (w, n)) bytes rest h e = absurd (definite_not_deep k n rest (string k w) e)
 string_deep limit k None bytes rest h e =
     elim (bind_err (until Break (chunk_at k) (suc (length rest)) rest) (λ cs. Ok (chunks k cs.0, cs.1)) TooDeep e) [
@@ -205,17 +207,45 @@ string_deep limit k None bytes rest h e =
       | inr a ↦ absurd (not_given _ TooDeep a.2)
     ]
 
-abbrev other : ℕ → Option (Width × ℕ) → Reads Value
-other major argument = other_by major argument
+-- ---- tags and simple values
 
-other_not_deep : (major : ℕ) (argument : Option (Width × ℕ)) → other major argument ≡ Err TooDeep → ⊥
-other_not_deep major None e = elim (chosen (eqb major 7) _ _ _ e) [ inl k ↦ (let g = k.1 in cc) | inr k ↦ (let g = k.1 in cc) ]
-other_not_deep major (Some a) e = elim (chosen (eqb major 7) _ _ _ e) [ inl k ↦ (let g = k.1 in cc) | inr k ↦ (let g = k.1 in cc) ]
+tag_deep : (limit : ℕ) (i : Option (Reader Value)) (argument : Option (Width × ℕ)) (bytes rest : List ℕ) → InnerDeep limit i → HeadIs bytes 6 argument rest → tag_by makes i argument rest ≡ Err TooDeep → limit < high_bytes bytes
+tag_deep limit i None bytes rest inner h e = absurd cc
+tag_deep limit None (Some (w, n)) bytes rest inner h e = past_head limit 6 (Some (w, n)) bytes rest (omega arith) h (omega arith)
+tag_deep limit (Some one) (Some (w, n)) bytes rest inner h e =
+    elim (bind_err (one rest) (λ y. Ok (tag w n y.0, y.1)) TooDeep e) [
+      | inl a ↦ past_head limit 6 (Some (w, n)) bytes rest (omega arith) h (omega (arith, inner.1, inner.3 rest h.1.rest_fits a))
+      | inr a ↦ absurd (not_given _ TooDeep a.2)
+    ]
 
-item_by_deep : (limit : ℕ) (i : Option (Reader Value)) (major : ℕ) (argument : Option (Width × ℕ)) (bytes rest : List ℕ) → InnerDeep limit i → HeadIs bytes major argument rest → item_by (makes false) i major argument rest ≡ Err TooDeep → limit < high_bytes bytes
+simple_deep : (limit : ℕ) (i : Option (Reader Value)) (n : ℕ) → InnerDeep limit i → simple_by makes i n ≡ Err TooDeep → limit ≡ 0
+simple_deep limit None n inner e = inner
+simple_deep limit (Some one) n inner e = absurd cc
+
+float_not_deep : (w : Width) (o : Option NonFinite) → float_by makes w o ≡ Err TooDeep → ⊥
+float_not_deep w None e = cc
+float_not_deep w (Some f) e = cc
+
+special_by_deep : (limit : ℕ) (i : Option (Reader Value)) (argument : Option (Width × ℕ)) → InnerDeep limit i → special_by makes i argument ≡ Err TooDeep → limit ≡ 0
+special_by_deep limit i None inner e = absurd cc
+special_by_deep limit i (Some (Immediate, n)) inner e = simple_deep limit i n inner e
+special_by_deep limit i (Some (One, n)) inner e = elim (chosen (ltb n 32) _ _ _ e) [ inl a ↦ absurd (let g = a.1 in cc) | inr a ↦ simple_deep limit i n inner a.1 ]
+special_by_deep limit i (Some (Two, n)) inner e = absurd (float_not_deep Two (float_of Two n) e)
+special_by_deep limit i (Some (Four, n)) inner e = absurd (float_not_deep Four (float_of Four n) e)
+special_by_deep limit i (Some (Eight, n)) inner e = absurd (float_not_deep Eight (float_of Eight n) e)
+
+special_deep : (limit : ℕ) (i : Option (Reader Value)) (argument : Option (Width × ℕ)) (bytes rest : List ℕ) → InnerDeep limit i → HeadIs bytes 7 argument rest → (special_by makes i argument >>= in_front_of rest) ≡ Err TooDeep → limit < high_bytes bytes
+special_deep limit i argument bytes rest inner h e =
+    elim (bind_err (special_by makes i argument) (in_front_of rest) TooDeep e) [
+      | inl a ↦ past_head limit 7 argument bytes rest (omega arith) h (omega (arith, special_by_deep limit i argument inner a))
+      | inr a ↦ absurd (not_given _ TooDeep a.2)
+    ]
+
+item_by_deep : (limit : ℕ) (i : Option (Reader Value)) (major : ℕ) (argument : Option (Width × ℕ)) (bytes rest : List ℕ) → InnerDeep limit i → HeadIs bytes major argument rest × (major < 8) → item_by makes i major argument rest ≡ Err TooDeep → limit < high_bytes bytes
 unfolding item_by
 item_by_deep limit i major argument bytes rest inner h e =
-    let at : (m : ℕ) → eqb major m ≡ true → HeadIs bytes m argument rest = λ m same. subst (λ (k : ℕ). HeadIs bytes k argument rest) (eqb-true major m same) h in
+    let of : (m : ℕ) → major ≡ m → HeadIs bytes m argument rest = λ m same. subst (λ (k : ℕ). HeadIs bytes k argument rest) same h.0 in
+    let at : (m : ℕ) → eqb major m ≡ true → HeadIs bytes m argument rest = λ m same. of m (eqb-true major m same) in
     elim (chosen (eqb major 0) _ _ _ e) [
       | inl a ↦ absurd (number_not_deep unsigned argument rest a.1)
       | inr a ↦ elim (chosen (eqb major 1) _ _ _ a.1) [
@@ -228,7 +258,10 @@ item_by_deep limit i major argument bytes rest inner h e =
               | inl f ↦ array_deep limit i argument bytes rest inner (at 4 f.0) f.1
               | inr f ↦ elim (chosen (eqb major 5) _ _ _ f.1) [
                 | inl g ↦ map_deep limit i argument bytes rest inner (at 5 g.0) g.1
-                | inr g ↦ absurd (other_not_deep major argument g.1)
+                | inr g ↦ elim (chosen (eqb major 6) _ _ _ g.1) [
+                  | inl k ↦ tag_deep limit i argument bytes rest inner (at 6 k.0) k.1
+                  | inr k ↦ special_deep limit i argument bytes rest inner (of 7 (last_major major h.1 a.0 b.0 c.0 d.0 f.0 g.0 k.0)) k.1
+                ]
               ]
             ]
           ]
@@ -236,15 +269,15 @@ item_by_deep limit i major argument bytes rest inner h e =
       ]
     ]
 
-pub item_deep : (limit : ℕ) → Deep limit (value_at false limit)
+pub item_deep : (limit : ℕ) → Deep limit (value_at limit)
 unfolding item_at
 item_deep zero bytes fits e =
-    elim (bind_err (head_at bytes) (λ h. item_by (makes false) None h.0.0 h.0.1 h.1) TooDeep e) [
+    elim (bind_err (head_at bytes) (λ h. item_by makes None h.0.0 h.0.1 h.1) TooDeep e) [
       | inl a ↦ absurd (head_not_deep bytes a)
-      | inr a ↦ item_by_deep 0 None a.0.0.0 a.0.0.1 bytes a.0.1 refl (head_takes bytes a.0 fits a.1).0 a.2
+      | inr a ↦ item_by_deep 0 None a.0.0.0 a.0.0.1 bytes a.0.1 refl (head_takes bytes a.0 fits a.1) a.2
     ]
 item_deep (suc d) bytes fits e =
-    elim (bind_err (head_at bytes) (λ h. item_by (makes false) (Some (value_at false d)) h.0.0 h.0.1 h.1) TooDeep e) [
+    elim (bind_err (head_at bytes) (λ h. item_by makes (Some (value_at d)) h.0.0 h.0.1 h.1) TooDeep e) [
       | inl a ↦ absurd (head_not_deep bytes a)
-      | inr a ↦ item_by_deep (suc d) (Some (value_at false d)) a.0.0.0 a.0.0.1 bytes a.0.1 (d, omega arith, item_takes d, item_deep d) (head_takes bytes a.0 fits a.1).0 a.2
+      | inr a ↦ item_by_deep (suc d) (Some (value_at d)) a.0.0.0 a.0.0.1 bytes a.0.1 (d, omega arith, item_takes d, item_deep d) (head_takes bytes a.0 fits a.1) a.2
     ]

@@ -10,9 +10,10 @@ use Rattle.cbor_edn_core.specs.declared.from_cbor.CborError.{CborError}
 use Rattle.cbor_edn_core.specs.declared.from_cbor.CborError.TheVariants.{TooDeep}
 use Rattle.cbor_edn_core.specs.declared.from_cbor.reader.Stop.{Stop}
 use Rattle.cbor_edn_core.specs.declared.from_cbor.reader.Stop.TheVariants.{Break, EndOfData}
-use Rattle.cbor_edn_core.specs.Value.{Value, unsigned, negative, string, chunks, array, object, tag, Values, no_values, value, Pairs, no_pairs, pair, Chunk, head, ArgumentFits, LengthFits, open_head, break, list_encoding, string_major, is_content, chunk_encoding, chunk_encodings, ChunkFits, ChunksFit, encoding, encodings, pair_encodings, values_len, pairs_len, Fits}
+use Rattle.cbor_edn_core.specs.Value.{Value, unsigned, negative, string, chunks, array, object, tag, simple, float, Values, no_values, value, Pairs, no_pairs, pair, Chunk, head, ArgumentFits, LengthFits, float_bits, simple_width, open_head, break, list_encoding, string_major, is_content, chunk_encoding, chunk_encodings, ChunkFits, ChunksFit, encoding, encodings, pair_encodings, values_len, pairs_len, Fits}
 use Rattle.cbor_edn_core.specs.CborReading.{◌>>=◌, Reader, many, until, past, string_at, chunk_at}
 use Rattle.cbor_edn_core.proofs.CborHeads.{head_again}
+use Rattle.cbor_edn_core.proofs.CborSpecials.{simple_fits, float_fits}
 
 -- x, where n is no more than the limit
 abbrev pub outcome : {X : Type 0} → ℕ → ℕ → X → Result X CborError
@@ -91,7 +92,7 @@ until_end_at stop one turns limit bytes rest lt ends =
 
 -- ---- heads and strings
 
-head_going : (major : ℕ) (w : Width) (n : ℕ) (rest : List ℕ) → major < 7 → ArgumentFits w n → past Break (head major w n ++ rest) ≡ None
+head_going : (major : ℕ) (w : Width) (n : ℕ) (rest : List ℕ) → major < 8 → ArgumentFits w n → past Break (head major w n ++ rest) ≡ None
 unfolding head
 head_going major Immediate n rest lt fits = let e : eqb (32 * major + n) 255 ≡ false = ne_eqb _ _ (λ h. omega arith) in rw e refl
 head_going major One n rest lt fits = let e : eqb (32 * major + 24) 255 ≡ false = ne_eqb _ _ (λ h. omega arith) in rw e refl
@@ -121,7 +122,7 @@ string_small Bytes = omega arith
 string_small Text = omega arith
 
 pub chunk_going : (k : StringKind) (c : Chunk) (rest : List ℕ) → ArgumentFits c.0 (length c.1) → past Break (chunk_encoding k c ++ rest) ≡ None
-chunk_going k c rest fits = ap (past Break) (append_assoc (head (string_major k) c.0 (length c.1)) c.1 rest) ∙ head_going (string_major k) c.0 (length c.1) (c.1 ++ rest) (string_small k) fits
+chunk_going k c rest fits = ap (past Break) (append_assoc (head (string_major k) c.0 (length c.1)) c.1 rest) ∙ head_going (string_major k) c.0 (length c.1) (c.1 ++ rest) (omega (arith, string_small k)) fits
 
 chunk_some : (k : StringKind) (c : Chunk) → 0 < length (chunk_encoding k c)
 chunk_some k c = omega (arith, length-append (head (string_major k) c.0 (length c.1)) c.1, head_some (string_major k) c.0 (length c.1))
@@ -151,7 +152,7 @@ module _ (k : StringKind) where
 -- ---- values
 
 list_going : (major : ℕ) (w : Option Width) (n : ℕ) (contents rest : List ℕ) → major < 7 → LengthFits w n → past Break (list_encoding major w n contents ++ rest) ≡ None
-list_going major (Some w) n contents rest lt fits = ap (past Break) (append_assoc (head major w n) contents rest) ∙ head_going major w n (contents ++ rest) lt fits
+list_going major (Some w) n contents rest lt fits = ap (past Break) (append_assoc (head major w n) contents rest) ∙ head_going major w n (contents ++ rest) (omega arith) fits
 list_going major None n contents rest lt fits = open_going major ((contents ++ break ∷ []) ++ rest) lt
 
 break_going : (v : Value) (rest : List ℕ) → Fits v → past Break (encoding v ++ rest) ≡ None
@@ -162,6 +163,8 @@ break_going (chunks k cs) rest fits = open_going (string_major k) ((chunk_encodi
 break_going (array w vs) rest fits = list_going 4 w (values_len vs) (encodings vs) rest (omega arith) fits.0
 break_going (object w ps) rest fits = list_going 5 w (pairs_len ps) (pair_encodings ps) rest (omega arith) fits.0
 break_going (tag w n v) rest fits = ap (past Break) (append_assoc (head 6 w n) (encoding v) rest) ∙ head_going 6 w n (encoding v ++ rest) (omega arith) fits.0
+break_going (simple n) rest fits = head_going 7 (simple_width n) n rest (omega arith) (simple_fits n fits)
+break_going (float w f) rest fits = head_going 7 w (float_bits w f) rest (omega arith) (float_fits w f fits)
 
 list_some : (major : ℕ) (w : Option Width) (n : ℕ) (contents : List ℕ) → 0 < length (list_encoding major w n contents)
 list_some major (Some w) n contents = omega (arith, length-append (head major w n) contents, head_some major w n)
@@ -175,6 +178,8 @@ encoding_some (chunks k cs) = omega arith
 encoding_some (array w vs) = list_some 4 w (values_len vs) (encodings vs)
 encoding_some (object w ps) = list_some 5 w (pairs_len ps) (pair_encodings ps)
 encoding_some (tag w n v) = omega (arith, length-append (head 6 w n) (encoding v), head_some 6 w n)
+encoding_some (simple n) = head_some 7 (simple_width n) n
+encoding_some (float w f) = head_some 7 w (float_bits w f)
 
 pub values_many : (vs : Values) → values_len vs ≤ length (encodings vs)
 values_many no_values = omega arith

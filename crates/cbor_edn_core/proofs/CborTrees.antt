@@ -1,24 +1,27 @@
 -- The reader that makes trees makes those of the values that are read.
-use Rattle.std.proofs.Common.{◌≡◌, ℕ, zero, suc, Bool, true, false, cond, eqb, List, [], ◌∷◌, length, map, Option, Some, None, Result, Ok, Err, refl, sym, ap, ◌∙◌, arith}
+use Rattle.std.proofs.Common.{◌≡◌, ℕ, zero, suc, Bool, true, false, cond, ltb, eqb, List, [], ◌∷◌, length, map, Option, Some, None, Result, Ok, Err, refl, sym, ap, ◌∙◌, arith}
 use Rattle.std.specs.Prelude.{pos, negsuc}
 use Rattle.cbor_edn_parts.specs.declared.string.StringKind.{StringKind}
 use Rattle.cbor_edn_parts.specs.declared.string.StringKind.TheVariants.{Bytes, Text}
 use Rattle.cbor_edn_core.specs.declared.cbor.Width.{Width}
+use Rattle.cbor_edn_core.specs.declared.cbor.Width.TheVariants.{Immediate, One, Two, Four, Eight}
 use Rattle.cbor_edn_core.specs.declared.from_cbor.CborError.{CborError}
+use Rattle.cbor_edn_core.specs.declared.from_cbor.CborError.TheVariants.{InvalidSimple, TooDeep}
 use Rattle.cbor_edn_core.specs.declared.from_cbor.reader.Stop.{Stop}
 use Rattle.cbor_edn_core.specs.declared.from_cbor.reader.Stop.TheVariants.{Break}
+use Rattle.cbor_edn_core.specs.declared.tree.Label.TheVariants.{Tag}
+use Rattle.cbor_edn_core.specs.declared.word.NonFinite.{NonFinite}
 use Rattle.cbor_edn_core.specs.Items as kind
-use Rattle.cbor_edn_core.specs.Items.{Node, Item, Items, Entries, Elements, Array, Map, Number, Listed, Element, Pair, End, Then}
-use Rattle.cbor_edn_core.specs.Trees.{Tree, OneItem, OneEntry, Rest, NumberTree, ListTree, StringTree, ElementTree, ChunkTree}
-use Rattle.cbor_edn_core.specs.Value.{Value, Chunk, unsigned, negative, string, chunks, array, object, tag, Values, no_values, value, values_len, Pairs, no_pairs, pair, pairs_len}
+use Rattle.cbor_edn_core.specs.Items.{Elements, Array, Map}
+use Rattle.cbor_edn_core.specs.Trees.{Tree, OneItem, OneEntry, Rest, FloatTree, EnclosedTree, ListTree, StringTree, ElementTree, ChunkTree}
+use Rattle.cbor_edn_core.specs.Value.{Value, Chunk, unsigned, negative, string, chunks, array, object, tag, simple, float, simple_nesting, Values, no_values, value, values_len, Pairs, no_pairs, pair, pairs_len}
 use Rattle.cbor_edn_core.specs.Decoded as decoded
-use Rattle.cbor_edn_core.specs.Decoded.{item_of, items_of, chunk_items, chunked_item, list_indicator, in_front, inside, key_value, stream_tree, regular}
-use Rattle.cbor_edn_core.specs.CborReading.{◌>>=◌, Reads, Reader, shown, head_at, many, until, several, past, turn, string_at, chunk_at, string_by, pair_at, item_by, item_at, array_by, map_by, number_by, other_by, number_tree, string_tree, string_row, chunks_tree, argument_indicator, list_tree, row_of, element_row, trees}
-use Rattle.cbor_edn_core.proofs.MeaningSteps.{bind, both_steps, some_is}
+use Rattle.cbor_edn_core.specs.Decoded.{item_of, items_of, chunk_items, chunked_item, list_indicator, in_front, inside, key_value, stream_tree, float_indicator, alone, regular}
+use Rattle.cbor_edn_core.specs.CborReading.{◌>>=◌, Reads, Reader, shown, head_at, many, until, several, past, turn, string_at, chunk_at, string_by, pair_at, item_by, item_at, array_by, map_by, number_by, tag_by, simple_by, float_by, special_by, float_of, simple_tree, number_tree, string_tree, string_row, chunks_tree, argument_indicator, list_tree, row_of, element_row, trees}
 use Rattle.cbor_edn_core.proofs.CborHeads.{bind_ok}
-use Rattle.cbor_edn_core.proofs.CborValues.{values_of, pairs_of, argument_width, makes, value_at}
+use Rattle.cbor_edn_core.proofs.CborValues.{values_of, pairs_of, argument_width, makes, value_at, in_front_of}
 
--- the tree of a value that has an item
+-- the tree of a value
 abbrev mutual
   pub tree_of : Value → Tree OneItem
   tree_of (unsigned w n) = number_tree (pos n) w n
@@ -27,7 +30,9 @@ abbrev mutual
   tree_of (chunks k cs) = chunks_tree k cs
   tree_of (array w vs) = ListTree Array (inside (list_indicator w (values_len vs)) (row_tree vs))
   tree_of (object w ps) = ListTree Map (inside (list_indicator w (pairs_len ps)) (pair_row_tree ps))
-  tree_of _ = NumberTree [] None
+  tree_of (tag w n v) = EnclosedTree (Tag n (decoded.indicator_of w n)) (alone (tree_of v))
+  tree_of (simple n) = simple_tree n
+  tree_of (float w f) = FloatTree f (float_indicator w)
 
   pub row_tree : Values → Option (Tree (Rest Elements))
   row_tree no_values = None
@@ -50,34 +55,27 @@ chunks_tree_is k (c ∷ cs) = ap stream_tree (chunk_row k (c ∷ cs))
 mutual
   unfolding regular
 
-  pub tree_of_item : (v : Value) (x : Node Item) → item_of v ≡ Some x → tree_of v ≡ regular x
-  tree_of_item (unsigned w n) x e = ap regular (some_is _ x e)
-  tree_of_item (negative w n) x e = ap regular (some_is _ x e)
-  tree_of_item (string k w bs) x e = ap regular (some_is _ x e)
-  tree_of_item (chunks k cs) x e = chunks_tree_is k cs ∙ ap regular (some_is _ x e)
-  tree_of_item (array w vs) x e =
-      let a = both_steps (items_of vs) (λ m. Some (Listed Array (list_indicator w (values_len vs)) m)) x e in
-      ap (λ m. ListTree Array (inside (list_indicator w (values_len vs)) m)) (row_tree_of_items vs a.0 a.1) ∙ ap regular (some_is _ x a.2)
-  tree_of_item (object w ps) x e =
-      let a = both_steps (decoded.pairs_of ps) (λ m. Some (Listed Map (list_indicator w (pairs_len ps)) m)) x e in
-      ap (λ m. ListTree Map (inside (list_indicator w (pairs_len ps)) m)) (row_tree_of_pairs ps a.0 a.1) ∙ ap regular (some_is _ x a.2)
-  tree_of_item (tag w n v) x e = absurd cc
+  pub tree_of_item : (v : Value) → tree_of v ≡ regular (item_of v)
+  tree_of_item (unsigned w n) = refl
+  tree_of_item (negative w n) = refl
+  tree_of_item (string k w bs) = refl
+  tree_of_item (chunks k cs) = chunks_tree_is k cs
+  tree_of_item (array w vs) = ap (λ m. ListTree Array (inside (list_indicator w (values_len vs)) m)) (row_tree_of_items vs)
+  tree_of_item (object w ps) = ap (λ m. ListTree Map (inside (list_indicator w (pairs_len ps)) m)) (row_tree_of_pairs ps)
+  tree_of_item (tag w n v) = ap (λ t. EnclosedTree (Tag n (decoded.indicator_of w n)) (alone t)) (tree_of_item v)
+  tree_of_item (simple n) = refl
+  tree_of_item (float w f) = refl
 
-  pub row_tree_of_items : (vs : Values) (m : Items) → items_of vs ≡ Some m → row_tree vs ≡ regular m
-  row_tree_of_items no_values m e = ap regular (some_is End m e)
-  row_tree_of_items (value v vs) m e =
-      let a = both_steps (item_of v) (λ x. bind (items_of vs) (λ m. Some (Then (Element x) m))) m e in
-      let b = both_steps (items_of vs) (λ m. Some (Then (Element a.0) m)) m a.2 in
-      ap (λ w. Some (in_front (ElementTree w) (row_tree vs))) (tree_of_item v a.0 a.1) ∙ ap (λ r. Some (in_front (ElementTree (regular a.0)) r)) (row_tree_of_items vs b.0 b.1) ∙ ap regular (some_is _ m b.2)
+  pub row_tree_of_items : (vs : Values) → row_tree vs ≡ regular (items_of vs)
+  row_tree_of_items no_values = refl
+  row_tree_of_items (value v vs) =
+      ap (λ w. Some (in_front (ElementTree w) (row_tree vs))) (tree_of_item v) ∙ ap (λ r. Some (in_front (ElementTree (regular (item_of v))) r)) (row_tree_of_items vs)
 
-  row_tree_of_pairs : (ps : Pairs) (m : Node (Entries kind.Pairs)) → decoded.pairs_of ps ≡ Some m → pair_row_tree ps ≡ regular m
-  row_tree_of_pairs no_pairs m e = ap regular (some_is End m e)
-  row_tree_of_pairs (pair k v ps) m e =
-      let a = both_steps (item_of k) (λ x. bind (item_of v) (λ y. bind (decoded.pairs_of ps) (λ m. Some (Then (Pair x y) m)))) m e in
-      let b = both_steps (item_of v) (λ y. bind (decoded.pairs_of ps) (λ m. Some (Then (Pair a.0 y) m))) m a.2 in
-      let c = both_steps (decoded.pairs_of ps) (λ m. Some (Then (Pair a.0 b.0) m)) m b.2 in
-      ap (λ w. Some (in_front (key_value w (tree_of v)) (pair_row_tree ps))) (tree_of_item k a.0 a.1) ∙ ap (λ w. Some (in_front (key_value (regular a.0) w) (pair_row_tree ps))) (tree_of_item v b.0 b.1)
-      ∙ ap (λ r. Some (in_front (key_value (regular a.0) (regular b.0)) r)) (row_tree_of_pairs ps c.0 c.1) ∙ ap regular (some_is _ m c.2)
+  row_tree_of_pairs : (ps : Pairs) → pair_row_tree ps ≡ regular (decoded.pairs_of ps)
+  row_tree_of_pairs no_pairs = refl
+  row_tree_of_pairs (pair k v ps) =
+      ap (λ w. Some (in_front (key_value w (tree_of v)) (pair_row_tree ps))) (tree_of_item k) ∙ ap (λ w. Some (in_front (key_value (regular (item_of k)) w) (pair_row_tree ps))) (tree_of_item v)
+      ∙ ap (λ r. Some (in_front (key_value (regular (item_of k)) (regular (item_of v))) r)) (row_tree_of_pairs ps)
 
 -- ---- reading, seen by a function
 
@@ -117,7 +115,7 @@ several_shown f one other shows None bytes = until_shown f Break one other shows
 abbrev pair_tree : Value × Value → Tree (OneEntry kind.Pairs)
 pair_tree p = key_value (tree_of p.0) (tree_of p.1)
 
-pair_shown : (one : Reader (Tree OneItem)) (other : Reader Value) → Shows tree_of one other → Shows pair_tree (pair_at trees one) (pair_at (makes false) other)
+pair_shown : (one : Reader (Tree OneItem)) (other : Reader Value) → Shows tree_of one other → Shows pair_tree (pair_at trees one) (pair_at makes other)
 unfolding pair_at
 pair_shown one other shows bytes =
     shown_step tree_of pair_tree (one bytes) (other bytes) (λ k. one k.1 >>= λ v. Ok (key_value k.0 v.0, v.1)) (λ k. other k.1 >>= λ v. Ok ((k.0, v.0), v.1)) (shows bytes)
@@ -154,7 +152,7 @@ InnerShows None None = Unit {0}
 InnerShows (Some one) (Some other) = Shows tree_of one other
 InnerShows _ _ = ⊥
 
-array_shown : (i : Option (Reader (Tree OneItem))) (j : Option (Reader Value)) (argument : Option (Width × ℕ)) (rest : List ℕ) → InnerShows i j → array_by trees i argument rest ≡ shown tree_of (array_by (makes false) j argument rest)
+array_shown : (i : Option (Reader (Tree OneItem))) (j : Option (Reader Value)) (argument : Option (Width × ℕ)) (rest : List ℕ) → InnerShows i j → array_by trees i argument rest ≡ shown tree_of (array_by makes j argument rest)
 array_shown None None argument rest shows = refl
 array_shown (Some one) (Some other) argument rest shows =
     shown_step (map tree_of) tree_of (several one argument rest) (several other argument rest) (λ xs. Ok (list_tree Array argument (element_row xs.0), xs.1)) (λ xs. Ok (array (argument_width argument) (values_of xs.0), xs.1)) (several_shown tree_of one other shows argument rest)
@@ -164,13 +162,13 @@ array_shown (Some one) (Some other) argument rest shows =
 array_shown None (Some other) argument rest shows = absurd shows
 array_shown (Some one) None argument rest shows = absurd shows
 
-map_shown : (i : Option (Reader (Tree OneItem))) (j : Option (Reader Value)) (argument : Option (Width × ℕ)) (rest : List ℕ) → InnerShows i j → map_by trees i argument rest ≡ shown tree_of (map_by (makes false) j argument rest)
+map_shown : (i : Option (Reader (Tree OneItem))) (j : Option (Reader Value)) (argument : Option (Width × ℕ)) (rest : List ℕ) → InnerShows i j → map_by trees i argument rest ≡ shown tree_of (map_by makes j argument rest)
 map_shown None None argument rest shows = refl
 map_shown (Some one) (Some other) argument rest shows =
-    shown_step (map pair_tree) tree_of (several (pair_at trees one) argument rest) (several (pair_at (makes false) other) argument rest) (λ xs. Ok (list_tree Map argument (row_of xs.0), xs.1)) (λ xs. Ok (object (argument_width argument) (pairs_of xs.0), xs.1))
-    (several_shown pair_tree (pair_at trees one) (pair_at (makes false) other) (pair_shown one other shows) argument rest)
+    shown_step (map pair_tree) tree_of (several (pair_at trees one) argument rest) (several (pair_at makes other) argument rest) (λ xs. Ok (list_tree Map argument (row_of xs.0), xs.1)) (λ xs. Ok (object (argument_width argument) (pairs_of xs.0), xs.1))
+    (several_shown pair_tree (pair_at trees one) (pair_at makes other) (pair_shown one other shows) argument rest)
     (λ xs is. let row = pairs_row xs.0 in
-    ap (λ i. Ok (ListTree Map (inside i (row_of (map pair_tree xs.0))), xs.1)) (indicator_is (pair_at (makes false) other) argument rest xs is ∙ ap (list_indicator (argument_width argument)) (sym row.1))
+    ap (λ i. Ok (ListTree Map (inside i (row_of (map pair_tree xs.0))), xs.1)) (indicator_is (pair_at makes other) argument rest xs is ∙ ap (list_indicator (argument_width argument)) (sym row.1))
     ∙ ap (λ m. Ok (ListTree Map (inside (list_indicator (argument_width argument) (pairs_len (pairs_of xs.0))) m), xs.1)) row.0)
 map_shown None (Some other) argument rest shows = absurd shows
 map_shown (Some one) None argument rest shows = absurd shows
@@ -183,41 +181,67 @@ pub shown_again : {A B C : Type 0} (f : A → B) (g : B → C) (r : Reads A) →
 shown_again f g (Ok x) = refl
 shown_again f g (Err e) = refl
 
-string_shown : (k : StringKind) (argument : Option (Width × ℕ)) (rest : List ℕ) → string_by trees k argument rest ≡ shown tree_of (string_by (makes false) k argument rest)
+string_shown : (k : StringKind) (argument : Option (Width × ℕ)) (rest : List ℕ) → string_by trees k argument rest ≡ shown tree_of (string_by makes k argument rest)
 string_shown k None rest = sym (shown_again (chunks k) tree_of (until Break (chunk_at k) (suc (length rest)) rest))
 string_shown k (Some (w, n)) rest = sym (shown_again (string k w) tree_of (string_at k n rest))
-
-abbrev other_value : ℕ → Option (Width × ℕ) → Reads Value
-other_value major argument = other_by major argument
-
-abbrev other_tree : ℕ → Option (Width × ℕ) → Reads (Tree OneItem)
-other_tree major argument = other_by major argument
 
 choice : (b : Bool) (r t : Reads (Tree OneItem)) (s u : Reads Value) → r ≡ shown tree_of s → t ≡ shown tree_of u → cond b r t ≡ shown tree_of (cond b s u)
 choice true r t s u first second = first
 choice false r t s u first second = second
 
-other_shown : (major : ℕ) (argument : Option (Width × ℕ)) → other_tree major argument ≡ shown tree_of (other_value major argument)
-other_shown major None = choice (eqb major 7) _ _ _ _ refl refl
-other_shown major (Some a) = choice (eqb major 7) _ _ _ _ refl refl
+tag_shown : (i : Option (Reader (Tree OneItem))) (j : Option (Reader Value)) (argument : Option (Width × ℕ)) (rest : List ℕ) → InnerShows i j → tag_by trees i argument rest ≡ shown tree_of (tag_by makes j argument rest)
+tag_shown i j None rest shows = refl
+tag_shown None None (Some (w, n)) rest shows = refl
+tag_shown (Some one) (Some other) (Some (w, n)) rest shows =
+    shown_step tree_of tree_of (one rest) (other rest) (λ x. Ok (EnclosedTree (Tag n (decoded.indicator_of w n)) (alone x.0), x.1)) (λ x. Ok (tag w n x.0, x.1)) (shows rest) (λ x _. refl)
+tag_shown None (Some other) (Some (w, n)) rest shows = absurd shows
+tag_shown (Some one) None (Some (w, n)) rest shows = absurd shows
 
-item_by_shown : (i : Option (Reader (Tree OneItem))) (j : Option (Reader Value)) (major : ℕ) (argument : Option (Width × ℕ)) (rest : List ℕ) → InnerShows i j → item_by trees i major argument rest ≡ shown tree_of (item_by (makes false) j major argument rest)
+named_shown : (b : Bool) (n : ℕ) (rest : List ℕ) → (cond b (Ok (simple_tree n)) (Err TooDeep) >>= in_front_of rest) ≡ shown tree_of (cond b (Ok (simple n)) (Err TooDeep) >>= in_front_of rest)
+named_shown true n rest = refl
+named_shown false n rest = refl
+
+simple_shown : (i : Option (Reader (Tree OneItem))) (j : Option (Reader Value)) (n : ℕ) (rest : List ℕ) → InnerShows i j → (simple_by trees i n >>= in_front_of rest) ≡ shown tree_of (simple_by makes j n >>= in_front_of rest)
+simple_shown None None n rest shows = named_shown (eqb (simple_nesting n) 0) n rest
+simple_shown (Some one) (Some other) n rest shows = refl
+simple_shown None (Some other) n rest shows = absurd shows
+simple_shown (Some one) None n rest shows = absurd shows
+
+float_shown : (w : Width) (o : Option NonFinite) (rest : List ℕ) → (float_by trees w o >>= in_front_of rest) ≡ shown tree_of (float_by makes w o >>= in_front_of rest)
+float_shown w None rest = refl
+float_shown w (Some f) rest = refl
+
+valid_shown : (b : Bool) (r : Result (Tree OneItem) CborError) (s : Result Value CborError) (rest : List ℕ) → (r >>= in_front_of rest) ≡ shown tree_of (s >>= in_front_of rest)
+    → (cond b (Err InvalidSimple) r >>= in_front_of rest) ≡ shown tree_of (cond b (Err InvalidSimple) s >>= in_front_of rest)
+valid_shown true r s rest e = refl
+valid_shown false r s rest e = e
+
+special_shown : (i : Option (Reader (Tree OneItem))) (j : Option (Reader Value)) (argument : Option (Width × ℕ)) (rest : List ℕ) → InnerShows i j → (special_by trees i argument >>= in_front_of rest) ≡ shown tree_of (special_by makes j argument >>= in_front_of rest)
+special_shown i j None rest shows = refl
+special_shown i j (Some (Immediate, n)) rest shows = simple_shown i j n rest shows
+special_shown i j (Some (One, n)) rest shows = valid_shown (ltb n 32) (simple_by trees i n) (simple_by makes j n) rest (simple_shown i j n rest shows)
+special_shown i j (Some (Two, n)) rest shows = float_shown Two (float_of Two n) rest
+special_shown i j (Some (Four, n)) rest shows = float_shown Four (float_of Four n) rest
+special_shown i j (Some (Eight, n)) rest shows = float_shown Eight (float_of Eight n) rest
+
+item_by_shown : (i : Option (Reader (Tree OneItem))) (j : Option (Reader Value)) (major : ℕ) (argument : Option (Width × ℕ)) (rest : List ℕ) → InnerShows i j → item_by trees i major argument rest ≡ shown tree_of (item_by makes j major argument rest)
 unfolding item_by
 item_by_shown i j major argument rest shows =
     choice (eqb major 0) _ _ _ _ (number_shown (λ w n. number_tree (pos n) w n) unsigned argument rest (λ w n. refl))
     (choice (eqb major 1) _ _ _ _ (number_shown (λ w n. number_tree (negsuc n) w n) negative argument rest (λ w n. refl))
     (choice (eqb major 2) _ _ _ _ (string_shown Bytes argument rest)
     (choice (eqb major 3) _ _ _ _ (string_shown Text argument rest)
-    (choice (eqb major 4) _ _ _ _ (array_shown i j argument rest shows) (choice (eqb major 5) _ _ _ _ (map_shown i j argument rest shows) (other_shown major argument))))))
+    (choice (eqb major 4) _ _ _ _ (array_shown i j argument rest shows)
+    (choice (eqb major 5) _ _ _ _ (map_shown i j argument rest shows) (choice (eqb major 6) _ _ _ _ (tag_shown i j argument rest shows) (special_shown i j argument rest shows)))))))
 
 head_step : {H A B : Type 0} (f : A → B) (r : Result H CborError) (k : H → Reads B) (l : H → Reads A) → ((h : H) → k h ≡ shown f (l h)) → (r >>= k) ≡ shown f (r >>= l)
 head_step f (Ok h) k l next = next h
 head_step f (Err e) k l next = refl
 
 -- the trees that are read are those of the values
-pub tree_read : (limit : ℕ) → Shows tree_of (item_at trees limit) (value_at false limit)
+pub tree_read : (limit : ℕ) → Shows tree_of (item_at trees limit) (value_at limit)
 unfolding item_at
-tree_read zero bytes = head_step tree_of (head_at bytes) (λ h. item_by trees None h.0.0 h.0.1 h.1) (λ h. item_by (makes false) None h.0.0 h.0.1 h.1) (λ h. item_by_shown None None h.0.0 h.0.1 h.1 tt)
+tree_read zero bytes = head_step tree_of (head_at bytes) (λ h. item_by trees None h.0.0 h.0.1 h.1) (λ h. item_by makes None h.0.0 h.0.1 h.1) (λ h. item_by_shown None None h.0.0 h.0.1 h.1 tt)
 tree_read (suc d) bytes =
-    head_step tree_of (head_at bytes) (λ h. item_by trees (Some (item_at trees d)) h.0.0 h.0.1 h.1) (λ h. item_by (makes false) (Some (value_at false d)) h.0.0 h.0.1 h.1)
-    (λ h. item_by_shown (Some (item_at trees d)) (Some (value_at false d)) h.0.0 h.0.1 h.1 (tree_read d))
+    head_step tree_of (head_at bytes) (λ h. item_by trees (Some (item_at trees d)) h.0.0 h.0.1 h.1) (λ h. item_by makes (Some (value_at d)) h.0.0 h.0.1 h.1)
+    (λ h. item_by_shown (Some (item_at trees d)) (Some (value_at d)) h.0.0 h.0.1 h.1 (tree_read d))

@@ -5,6 +5,8 @@ use Rattle.cbor_edn_core.specs.declared.from_cbor.CborError.{CborError}
 use Rattle.cbor_edn_core.specs.declared.from_cbor.reader.Stop.{Stop}
 use Rattle.cbor_edn_parts.specs.declared.error.Fault.{Fault}
 use Rattle.cbor_edn_parts.specs.declared.error.Fault.TheVariants.{Memory, Told}
+use Rattle.cbor_edn_core.specs.declared.from_cbor.growing.Growing.{Growing}
+use Rattle.cbor_edn_core.specs.Growing.{grown, Pushes}
 use Rattle.cbor_edn_core.specs.CborReading.{Reads, Reader, ◌>>=◌, shown, Gives, Fails, many, until, past, turn, head_at, item_at, Makes}
 
 -- ---- what is seen by a function
@@ -35,14 +37,15 @@ pub fails_shown : {A B : Type 0} (f : A → B) (e : Fault CborError) (r : Reads 
 fails_shown f (Memory m) r h = tt
 fails_shown f (Told e) r h = shown_err f r e h
 
--- one entry more
-pub pushed_shown : {X A Y : Type 0} (view : X → A) (front : List X) (x : X) (rest : List ℕ) (of : Y → List X × List ℕ) (r : Result Y (Fault CborError)) (read : Reads A) → read ≡ Ok (view x, rest) → Gives of r (Ok (front ++ x ∷ [], rest))
-    → Gives (λ y. (map view (of y).0, (of y).1)) r (shown (λ a. map view front ++ a ∷ []) read)
-pushed_shown view front x rest of (Ok y) read is given =
-    let same : (front ++ x ∷ [], rest) ≡ of y = answers _ _ given in
-    rw is (ap (λ l. Ok (l, rest)) (sym (map_push view front x)) ∙ ap (λ p. Ok (map view p.0, p.1)) same)
-pushed_shown view front x rest of (Err (Memory m)) read is given = tt
-pushed_shown view front x rest of (Err (Told e)) read is given = absurd cc
+-- one entry more, of what a call read
+pub pushed_shown : {X R A : Type 0} (view : X → A) (now : R → List ℕ) (found : Growing X) (read : Result (X × R) (Fault CborError)) (result : Result (Growing X × R) (Fault CborError)) (expected : Reads A)
+    → Gives (λ x. (view x.0, now x.1)) read expected → Pushes found read result → Gives (λ x. (map view (grown x.0), now x.1)) result (shown (λ a. map view (grown found) ++ a ∷ []) expected)
+pushed_shown view now found (Err e) result expected given pushes = rw pushes (shown_fails (λ a. map view (grown found) ++ a ∷ []) e expected given)
+pushed_shown {X} view now found (Ok (x, rest)) (Ok p) expected given pushes =
+    let seen : map view (grown p.0) ≡ map view (grown found) ++ view x ∷ [] = ap (map view) pushes.0 ∙ map_push view (grown found) x in
+    rw (given, seen, pushes.1) refl
+pushed_shown view now found (Ok (x, rest)) (Err (Memory e)) expected given pushes = tt
+pushed_shown view now found (Ok (x, rest)) (Err (Told e)) expected given pushes = absurd pushes
 
 -- what was read before, and what is still read
 abbrev pub with_front : {A : Type 0} → List A → Reads (List A) → Reads (List A)

@@ -1,9 +1,9 @@
 -- The reader that makes values.
-use Rattle.std.proofs.Common.{◌≡◌, ℕ, List, [], ◌∷◌, Bool, cond, Option, Some, None, refl, ap}
+use Rattle.std.proofs.Common.{◌≡◌, ℕ, List, [], ◌∷◌, Option, Some, None, Ok, refl, ap}
 use Rattle.cbor_edn_core.specs.declared.cbor.Width.{Width}
 use Rattle.cbor_edn_core.specs.Value as cbor
 use Rattle.cbor_edn_core.specs.Value.{Value, array, Values, no_values, value, Pairs, no_pairs, pair, object}
-use Rattle.cbor_edn_core.specs.CborReading.{Argument, Reader, Makes, item_at}
+use Rattle.cbor_edn_core.specs.CborReading.{Argument, Reads, Reader, Makes, item_at}
 
 abbrev pub values_of : List Value → Values
 values_of [] = no_values
@@ -33,9 +33,8 @@ abbrev pub argument_width : Argument → Option Width
 argument_width None = None
 argument_width (Some (w, n)) = Some w
 
--- tags too, or the values alone that have items
-abbrev pub makes : Bool → Makes Value (Value × Value)
-makes all = record {
+abbrev pub makes : Makes Value (Value × Value)
+makes = record {
   unsigned = cbor.unsigned;
   negative = cbor.negative;
   string = cbor.string;
@@ -43,8 +42,14 @@ makes all = record {
   array = λ argument vs. array (argument_width argument) (values_of vs);
   pair = λ k v. (k, v);
   object = λ argument ps. object (argument_width argument) (pairs_of ps);
-  tag = cond all (Some cbor.tag) None;
+  tag = cbor.tag;
+  simple = cbor.simple;
+  float = cbor.float;
 }
 
-abbrev pub value_at : Bool → ℕ → Reader Value
-value_at all = item_at (makes all)
+abbrev pub value_at : ℕ → Reader Value
+value_at = item_at makes
+
+-- what is read with these bytes behind it
+abbrev pub in_front_of : {A : Type 0} → List ℕ → A → Reads A
+in_front_of rest x = Ok (x, rest)

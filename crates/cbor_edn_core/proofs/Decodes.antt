@@ -19,14 +19,13 @@ use Rattle.cbor_edn_core.specs.View.{texts, view_items, view_some}
 use Rattle.cbor_edn_core.specs.declared.from_cbor.CborError.{CborError}
 use Rattle.cbor_edn_core.specs.declared.from_cbor.CborError.TheVariants.{TooDeep}
 use Rattle.cbor_edn_core.specs.declared.from_cbor.reader.Stop.TheVariants.{EndOfData}
-use Rattle.cbor_edn_core.specs.Items.{Elements, Node, Item, Items}
+use Rattle.cbor_edn_core.specs.Items.{Elements, Items}
 use Rattle.cbor_edn_core.specs.Trees.{Tree, OneItem, Rest, Seq, NothingTree, SequenceTree, items}
 use Rattle.cbor_edn_core.specs.Value.{Value, Values, encoding, encodings, nesting, values_nesting, Enc, EncAll}
 use Rattle.cbor_edn_core.specs.Meaning.{means}
 use Rattle.cbor_edn_parts.specs.Refusals.{IfTold}
 use Rattle.cbor_edn_core.specs.Decoded.{item_of, items_of, regular, sequence_tree_of, regular_sequence, Begins, IsDecoded, IsDecodedSequence, NoneIs, IsTooDeep, NoSequence, IsTooDeepSequence}
 use Rattle.cbor_edn_core.specs.CborReading.{◌>>=◌, Reader, Gives, Fails, shown, item_at, until, past, turn, trees, element_row, sequence_at}
-use Rattle.cbor_edn_core.proofs.Readable.{with_item, with_items, has_item, has_items}
 use Rattle.cbor_edn_core.proofs.CborHeads.{IsBytes, bind_ok}
 use Rattle.cbor_edn_core.proofs.CborTurns.{shown_ok, shown_err}
 use Rattle.cbor_edn_core.proofs.CborValues.{values_of, list_of, value_at}
@@ -91,27 +90,26 @@ abbrev Somewhere : List ℕ → Value → Type 0
 Somewhere bytes v = (rest : List ℕ) × Begins bytes rest v
 
 module _ (limit : ℕ) (bytes : List ℕ) where
-  tree_found : (v : Value) (rest : List ℕ) → Begins bytes rest v → (x : Node Item) → item_of v ≡ Some x → item_at trees limit bytes ≡ outcome (nesting v) limit (tree_of v, rest)
-  tree_found v rest begins x is =
-      tree_read limit bytes ∙ ap (shown tree_of) (ap (value_at false limit) (begins.2 ∙ ap (λ (l : List ℕ). l ++ rest) begins.1.1) ∙ item_again false v limit rest begins.1.0 (with_item v x is)) ∙ shown_outcome tree_of (nesting v) limit v rest
+  tree_found : (v : Value) (rest : List ℕ) → Begins bytes rest v → item_at trees limit bytes ≡ outcome (nesting v) limit (tree_of v, rest)
+  tree_found v rest begins =
+      tree_read limit bytes ∙ ap (shown tree_of) (ap (value_at limit) (begins.2 ∙ ap (λ (l : List ℕ). l ++ rest) begins.1.1) ∙ item_again v limit rest begins.1.0) ∙ shown_outcome tree_of (nesting v) limit v rest
 
   pub found : (y : Tree OneItem × List ℕ) → IsBytes bytes → item_at trees limit bytes ≡ Ok y → IsDecoded limit (Begins bytes y.1) y.0
   found y fits e =
-      let s = shown_ok tree_of (value_at false limit bytes) y (sym (tree_read limit bytes) ∙ e) in
+      let s = shown_ok tree_of (value_at limit bytes) y (sym (tree_read limit bytes) ∙ e) in
       let v = s.0.0 in
       let good = item_takes limit bytes s.0 fits s.1 in
-      let x = has_item v good.0.2 in
-      let tree : y.0 ≡ regular x.0 = ap (λ (p : Tree OneItem × List ℕ). p.0) (sym s.2) ∙ tree_of_item v x.0 x.1 in
+      let tree : y.0 ≡ regular (item_of v) = ap (λ (p : Tree OneItem × List ℕ). p.0) (sym s.2) ∙ tree_of_item v in
       let rest_is : s.0.1 ≡ y.1 = ap (λ (p : Tree OneItem × List ℕ). p.1) s.2 in
-      (v, x.0, (encoding v, (good.0.0, refl), good.1.parts ∙ ap (λ (l : List ℕ). encoding v ++ l) rest_is), good.0.1, x.1, tree, ap (λ w. means (items w)) tree ∙ ap means (items_again v x.0 x.1) ∙ item_means v x.0 good.0.0 x.1)
+      (v, (encoding v, (good.0.0, refl), good.1.parts ∙ ap (λ (l : List ℕ). encoding v ++ l) rest_is), good.0.1, tree, ap (λ w. means (items w)) tree ∙ ap means (items_again v) ∙ item_means v good.0.0)
 
   pub refused : (e : CborError) → item_at trees limit bytes ≡ Err e → e ≢ TooDeep → NoneIs (Somewhere bytes)
-  refused e is other v x item somewhere = other (outcome_err (nesting v) limit (tree_of v, somewhere.0) e (sym (tree_found v somewhere.0 somewhere.1 x item) ∙ is)).1
+  refused e is other v somewhere = other (outcome_err (nesting v) limit (tree_of v, somewhere.0) e (sym (tree_found v somewhere.0 somewhere.1) ∙ is)).1
 
   pub too_deep : IsBytes bytes → item_at trees limit bytes ≡ Err TooDeep → IsTooDeep limit bytes (Somewhere bytes)
   too_deep fits is = (
-    item_deep limit bytes fits (shown_err tree_of (value_at false limit bytes) TooDeep (sym (tree_read limit bytes) ∙ is)),
-    λ v x item somewhere. (outcome_err (nesting v) limit (tree_of v, somewhere.0) TooDeep (sym (tree_found v somewhere.0 somewhere.1 x item) ∙ is)).0,
+    item_deep limit bytes fits (shown_err tree_of (value_at limit bytes) TooDeep (sym (tree_read limit bytes) ∙ is)),
+    λ v somewhere. (outcome_err (nesting v) limit (tree_of v, somewhere.0) TooDeep (sym (tree_found v somewhere.0 somewhere.1) ∙ is)).0,
   )
 
   -- all of the bytes
@@ -121,20 +119,20 @@ module _ (limit : ℕ) (bytes : List ℕ) where
   pub found_whole : (y : Tree OneItem × List ℕ) → IsBytes bytes → item_at trees limit bytes ≡ Ok y → y.1 ≡ [] → IsDecoded limit (Enc bytes) y.0
   found_whole y fits e ends =
       let d = found y fits e in
-      let same : bytes ≡ d.2.0 = d.2.2 ∙ ap (λ (l : List ℕ). d.2.0 ++ l) ends ∙ append-nil d.2.0 in
-      (d.0, d.1, subst (λ (l : List ℕ). Enc l d.0) (sym same) d.2.1, d.3, d.4, d.5, d.6)
+      let same : bytes ≡ d.1.0 = d.1.2 ∙ ap (λ (l : List ℕ). d.1.0 ++ l) ends ∙ append-nil d.1.0 in
+      (d.0, subst (λ (l : List ℕ). Enc l d.0) (sym same) d.1.1, d.2, d.3, d.4)
 
   pub refused_whole : (e : CborError) → item_at trees limit bytes ≡ Err e → e ≢ TooDeep → NoneIs (Enc bytes)
-  refused_whole e is other v x item enc = refused e is other v x item (whole v enc)
+  refused_whole e is other v enc = refused e is other v (whole v enc)
 
   pub too_deep_whole : IsBytes bytes → item_at trees limit bytes ≡ Err TooDeep → IsTooDeep limit bytes (Enc bytes)
-  too_deep_whole fits is = let t = too_deep fits is in (t.0, λ v x item enc. t.1 v x item (whole v enc))
+  too_deep_whole fits is = let t = too_deep fits is in (t.0, λ v enc. t.1 v (whole v enc))
 
   -- where more follows
   pub refused_behind : (y : Tree OneItem × List ℕ) → item_at trees limit bytes ≡ Ok y → y.1 ≢ [] → NoneIs (Enc bytes)
-  refused_behind y e more v x item enc =
+  refused_behind y e more v enc =
       let w = whole v enc in
-      let same = outcome_ok (nesting v) limit (tree_of v, []) y (sym (tree_found v [] w.1 x item) ∙ e) in
+      let same = outcome_ok (nesting v) limit (tree_of v, []) y (sym (tree_found v [] w.1) ∙ e) in
       more (ap (λ (p : Tree OneItem × List ℕ). p.1) (sym same))
 
   -- of a call's result
@@ -180,35 +178,34 @@ ends_at one zero bytes x e = absurd cc
 ends_at one (suc n) bytes x e = ends_by one (until EndOfData one n) (ends_at one n) bytes x (past EndOfData bytes) refl e
 
 module _ (limit : ℕ) (bytes : List ℕ) where
-  sequence_read : sequence_at trees limit bytes ≡ shown (map tree_of) (until EndOfData (value_at false limit) (suc (length bytes)) bytes)
-  sequence_read = until_shown tree_of EndOfData (item_at trees limit) (value_at false limit) (tree_read limit) (suc (length bytes)) bytes
+  sequence_read : sequence_at trees limit bytes ≡ shown (map tree_of) (until EndOfData (value_at limit) (suc (length bytes)) bytes)
+  sequence_read = until_shown tree_of EndOfData (item_at trees limit) (value_at limit) (tree_read limit) (suc (length bytes)) bytes
 
-  sequence_again : (vs : Values) (m : Items) → items_of vs ≡ Some m → EncAll bytes vs → sequence_at trees limit bytes ≡ outcome (values_nesting vs) limit (map tree_of (list_of vs), [])
-  sequence_again vs m item enc =
+  sequence_again : (vs : Values) → EncAll bytes vs → sequence_at trees limit bytes ≡ outcome (values_nesting vs) limit (map tree_of (list_of vs), [])
+  sequence_again vs enc =
       let all : encodings vs ++ [] ≡ bytes = append-nil (encodings vs) ∙ sym enc.1 in
-      let read : until EndOfData (value_at false limit) (suc (length bytes)) bytes ≡ outcome (values_nesting vs) limit (list_of vs, []) =
-      ap (until EndOfData (value_at false limit) (suc (length bytes))) (sym all)
-      ∙ values_until false vs enc.0 (with_items vs m item) EndOfData limit (suc (length bytes)) [] [] refl (omega (arith, values_many vs, ap length enc.1)) in
+      let read : until EndOfData (value_at limit) (suc (length bytes)) bytes ≡ outcome (values_nesting vs) limit (list_of vs, []) =
+      ap (until EndOfData (value_at limit) (suc (length bytes))) (sym all)
+      ∙ values_until vs enc.0 EndOfData limit (suc (length bytes)) [] [] refl (omega (arith, values_many vs, ap length enc.1)) in
       sequence_read ∙ ap (shown (map tree_of)) read ∙ shown_outcome (map tree_of) (values_nesting vs) limit (list_of vs) []
 
-  pub sequence_found : (y : List (Tree OneItem) × List ℕ) → IsBytes bytes → sequence_at trees limit bytes ≡ Ok y → (vs : Values) × (m : Items) × EncAll bytes vs × (values_nesting vs ≤ limit) × (items_of vs ≡ Some m) × (element_row y.0 ≡ regular m) × (means m ≡ Some vs)
+  pub sequence_found : (y : List (Tree OneItem) × List ℕ) → IsBytes bytes → sequence_at trees limit bytes ≡ Ok y → (vs : Values) × EncAll bytes vs × (values_nesting vs ≤ limit) × (element_row y.0 ≡ regular (items_of vs)) × (means (items_of vs) ≡ Some vs)
   sequence_found y fits e =
-      let s = shown_ok (map tree_of) (until EndOfData (value_at false limit) (suc (length bytes)) bytes) y (sym sequence_read ∙ e) in
-      let t = until_takes EndOfData (Within limit) encoding (value_at false limit) (item_takes limit) (suc (length bytes)) bytes s.0 fits s.1 in
+      let s = shown_ok (map tree_of) (until EndOfData (value_at limit) (suc (length bytes)) bytes) y (sym sequence_read ∙ e) in
+      let t = until_takes EndOfData (Within limit) encoding (value_at limit) (item_takes limit) (suc (length bytes)) bytes s.0 fits s.1 in
       let are = values_are limit s.0.0 t.0 in
       let vs = values_of s.0.0 in
-      let m = has_items vs are.known in
-      let split : bytes ≡ encodings vs = t.1.parts ∙ ap (λ (l : List ℕ). (flat_map encoding s.0.0 ++ []) ++ l) (ends_at (value_at false limit) (suc (length bytes)) bytes s.0 s.1) ∙ append-nil _ ∙ append-nil (flat_map encoding s.0.0) ∙ are.spelled in
-      (vs, m.0, (are.fit, split), are.nested, m.1, ap (λ (p : List (Tree OneItem) × List ℕ). element_row p.0) (sym s.2) ∙ (values_row s.0.0).0 ∙ row_tree_of_items vs m.0 m.1, items_mean vs m.0 are.fit m.1)
+      let split : bytes ≡ encodings vs = t.1.parts ∙ ap (λ (l : List ℕ). (flat_map encoding s.0.0 ++ []) ++ l) (ends_at (value_at limit) (suc (length bytes)) bytes s.0 s.1) ∙ append-nil _ ∙ append-nil (flat_map encoding s.0.0) ∙ are.spelled in
+      (vs, (are.fit, split), are.nested, ap (λ (p : List (Tree OneItem) × List ℕ). element_row p.0) (sym s.2) ∙ (values_row s.0.0).0 ∙ row_tree_of_items vs, items_mean vs are.fit)
 
   pub sequence_refused : (e : CborError) → sequence_at trees limit bytes ≡ Err e → e ≢ TooDeep → NoSequence bytes
-  sequence_refused e is other vs m item enc = other (outcome_err (values_nesting vs) limit (map tree_of (list_of vs), []) e (sym (sequence_again vs m item enc) ∙ is)).1
+  sequence_refused e is other vs enc = other (outcome_err (values_nesting vs) limit (map tree_of (list_of vs), []) e (sym (sequence_again vs enc) ∙ is)).1
 
   pub sequence_too_deep : IsBytes bytes → sequence_at trees limit bytes ≡ Err TooDeep → IsTooDeepSequence limit bytes
   sequence_too_deep fits is = (
-    until_deep EndOfData (Within limit) encoding (value_at false limit) limit (item_takes limit) (item_deep limit) (suc (length bytes)) bytes fits
-        (shown_err (map tree_of) (until EndOfData (value_at false limit) (suc (length bytes)) bytes) TooDeep (sym sequence_read ∙ is)),
-    λ vs m item enc. (outcome_err (values_nesting vs) limit (map tree_of (list_of vs), []) TooDeep (sym (sequence_again vs m item enc) ∙ is)).0,
+    until_deep EndOfData (Within limit) encoding (value_at limit) limit (item_takes limit) (item_deep limit) (suc (length bytes)) bytes fits
+        (shown_err (map tree_of) (until EndOfData (value_at limit) (suc (length bytes)) bytes) TooDeep (sym sequence_read ∙ is)),
+    λ vs enc. (outcome_err (values_nesting vs) limit (map tree_of (list_of vs), []) TooDeep (sym (sequence_again vs enc) ∙ is)).0,
   )
 
   pub sequence_fails_refused : (T : Type 0) (f : Fault CborError) → Fails f (sequence_at trees limit bytes) → IfTold {X = T} (Err f) (λ e. e ≢ TooDeep → NoSequence bytes)
@@ -228,8 +225,8 @@ module _ (limit : ℕ) (bytes : List ℕ) where
   pub sequence_decoded : (w : Tree Seq) (o : Option (Tree (Rest Elements))) (ws : List (Tree OneItem)) (rest : List ℕ) → IsBytes bytes → sequence_at trees limit bytes ≡ Ok (ws, rest) → w ≡ sequence_tree_of o → o ≡ element_row ws → IsDecodedSequence limit bytes w
   sequence_decoded w o ws rest fits e tree row =
       let f = sequence_found (ws, rest) fits e in
-      let is : w ≡ regular_sequence f.1 = tree ∙ ap sequence_tree_of (row ∙ f.5) in
-      (f.0, f.1, f.2, f.3, f.4, is, ap (λ t. means (items t)) is ∙ ap means (sequence_items f.1 (regular f.1) (row_again f.0 f.1 f.4)) ∙ f.6)
+      let is : w ≡ regular_sequence (items_of f.0) = tree ∙ ap sequence_tree_of (row ∙ f.3) in
+      (f.0, f.1, f.2, is, ap (λ t. means (items t)) is ∙ ap means (sequence_items (items_of f.0) (regular (items_of f.0)) (row_again f.0)) ∙ f.4)
 
 pub sequence_view : (s : List ℕ) (o : Option (ItemsOf Texts S Ms Msc Soc Number Literal Dots)) → s ≡ [] → view_some texts s o ≡ sequence_tree_of (option_map (view_items texts) o)
 sequence_view s None e = ap NothingTree e

@@ -1,8 +1,9 @@
 -- What is decoded: the tree of an item that means its value, and what refusals say.
-use Rattle.std.proofs.Common.{◌≡◌, ℕ, ◌+◌, ◌^◌, ◌<◌, Bool, true, false, cond, ltb, List, [], ◌∷◌, length, map, Option, Some, None, refl, sym, ap, subst, ◌∙◌, arith, inl, inr}
-use Rattle.std.specs.Prelude.{pos, negsuc}
+use Rattle.std.proofs.Common.{◌≡◌, ℕ, ◌+◌, ◌^◌, ◌<◌, Bool, true, false, cond, ltb, eqb, List, [], ◌∷◌, length, map, Option, Some, None, refl, sym, ap, ◌∙◌, arith, inl, inr}
+use Rattle.std.specs.Prelude.{pos, negsuc, ◌&&◌}
 use Rattle.std.specs.Fmt.{signed_decimal}
-use Rattle.std.proofs.lemmas.Bool.{cases_lt, lt-ltb, le-ltb}
+use Rattle.std.proofs.lemmas.Bool.{cases_lt, cases_eq, lt-ltb, le-ltb, eq-eqb, ne_eqb}
+use Rattle.std.proofs.lemmas.Bool.Decides.{nat_tests}
 use Rattle.cbor_edn_parts.specs.Number.{integer_of}
 use Rattle.cbor_edn_parts.proofs.Decimals.{integer_of_decimal}
 use Rattle.cbor_edn_parts.specs.declared.indicator.Indicator.{Indicator}
@@ -12,15 +13,16 @@ use Rattle.cbor_edn_parts.specs.declared.string.StringKind.TheVariants.{Bytes, T
 use Rattle.cbor_edn_parts.specs.Contents.{Content}
 use Rattle.cbor_edn_core.specs.declared.cbor.Width.{Width}
 use Rattle.cbor_edn_core.specs.declared.cbor.Width.TheVariants.{Immediate, One, Two, Four, Eight}
+use Rattle.cbor_edn_core.specs.declared.word.NonFinite.{NonFinite}
 use Rattle.cbor_edn_core.specs.Items as kind
-use Rattle.cbor_edn_core.specs.Items.{Row, Strings, Bracketed, Array, Map, entries_of, Node, Item, Items, Entry, Entries, Number, Listed, String, Stream, Element, Pair, End, Then}
+use Rattle.cbor_edn_core.specs.Items.{Row, Strings, Bracketed, Array, Map, entries_of, Node, Item, Items, Entry, Entries, Number, Float, Listed, Tagged, Simple, String, Stream, Element, Pair, End, Then}
 use Rattle.cbor_edn_core.specs.Trees.{Tree, OneEntry, Rest, items}
-use Rattle.cbor_edn_core.specs.Value.{Value, unsigned, negative, Chunk, string, chunks, array, object, tag, Values, no_values, value, values_len, Pairs, no_pairs, pair, pairs_len, limit_of, ArgumentFits, LengthFits, ChunkFits, ChunksFit, Fits, ValuesFit, PairsFit}
-use Rattle.cbor_edn_core.specs.Meaning.{shortest, fitting, width_of, length_of, means_integer, bignum, chunk_of, string_of, chunks_of, stream_of, means, listed}
+use Rattle.cbor_edn_core.specs.Value.{Value, unsigned, negative, Chunk, string, chunks, array, object, tag, simple, float, Values, no_values, value, values_len, Pairs, no_pairs, pair, pairs_len, limit_of, IsSimple, IsFloatWidth, ArgumentFits, LengthFits, ChunkFits, ChunksFit, Fits, ValuesFit, PairsFit}
+use Rattle.cbor_edn_core.specs.Meaning.{shortest, fitting, width_of, length_of, means_integer, bignum, chunk_of, string_of, chunks_of, stream_of, is_simple, simple_number, means, listed}
 use Rattle.cbor_edn_core.specs.Decoded as decoded
-use Rattle.cbor_edn_core.specs.Decoded.{indicator_of, list_indicator, string_item, chunk_items, chunked_item, item_of, items_of, in_front, inside, regular}
+use Rattle.cbor_edn_core.specs.Decoded.{indicator_of, list_indicator, string_item, chunk_items, chunked_item, simple_item, float_indicator, item_of, items_of, in_front, inside, regular}
 use Rattle.cbor_edn_core.proofs.DecodedLiterals.{literal_again, empty_again}
-use Rattle.cbor_edn_core.proofs.MeaningSteps.{bind, both_steps, some_is}
+use Rattle.cbor_edn_core.proofs.MeaningSteps.{bind}
 
 -- ---- the items of a regular tree
 
@@ -78,38 +80,35 @@ unfolding items regular
 chunked_again k [] = refl
 chunked_again k (c ∷ cs) = stream_again (kind.Chunk (string_item k c)) (chunk_items k cs) (chunk_items_again k (c ∷ cs))
 
+either : (b : Bool) (x y : Node Item) → Again x → Again y → Again (cond b x y)
+either true x y first second = first
+either false x y first second = second
+
+simple_again : (n : ℕ) → Again (simple_item n)
+unfolding items regular
+simple_again n = either (eqb n 20) _ _ refl (either (eqb n 21) _ _ refl (either (eqb n 22) _ _ refl (either (eqb n 23) _ _ refl refl)))
+
 mutual
   unfolding items regular
 
-  pub items_again : (v : Value) (x : Node Item) → item_of v ≡ Some x → Again x
-  items_again (unsigned w n) x e = subst Again (some_is _ x e) refl
-  items_again (negative w n) x e = subst Again (some_is _ x e) refl
-  items_again (string k w bs) x e = subst Again (some_is _ x e) refl
-  items_again (chunks k cs) x e = subst Again (some_is _ x e) (chunked_again k cs)
-  items_again (array w vs) x e =
-      let i = list_indicator w (values_len vs) in
-      let a = both_steps (items_of vs) (λ m. Some (Listed Array i m)) x e in
-      subst Again (some_is _ x a.2) (listed_again Array i a.0 (row_again vs a.0 a.1))
-  items_again (object w ps) x e =
-      let i = list_indicator w (pairs_len ps) in
-      let a = both_steps (decoded.pairs_of ps) (λ m. Some (Listed Map i m)) x e in
-      subst Again (some_is _ x a.2) (listed_again Map i a.0 (pair_row_again ps a.0 a.1))
-  items_again (tag w n v) x e = absurd cc
+  pub items_again : (v : Value) → Again (item_of v)
+  items_again (unsigned w n) = refl
+  items_again (negative w n) = refl
+  items_again (string k w bs) = refl
+  items_again (chunks k cs) = chunked_again k cs
+  items_again (array w vs) = listed_again Array (list_indicator w (values_len vs)) (items_of vs) (row_again vs)
+  items_again (object w ps) = listed_again Map (list_indicator w (pairs_len ps)) (decoded.pairs_of ps) (pair_row_again ps)
+  items_again (tag w n v) = ap (Tagged n (indicator_of w n)) (items_again v)
+  items_again (simple n) = simple_again n
+  items_again (float w f) = refl
 
-  pub row_again : (vs : Values) (m : Items) → items_of vs ≡ Some m → RowAgain m
-  row_again no_values m e = subst RowAgain (some_is End m e) refl
-  row_again (value v vs) m e =
-      let a = both_steps (item_of v) (λ x. bind (items_of vs) (λ m. Some (Then (Element x) m))) m e in
-      let b = both_steps (items_of vs) (λ m. Some (Then (Element a.0) m)) m a.2 in
-      subst RowAgain (some_is _ m b.2) (then_again (Element a.0) b.0 (element_again a.0 (items_again v a.0 a.1)) (row_again vs b.0 b.1))
+  pub row_again : (vs : Values) → RowAgain (items_of vs)
+  row_again no_values = refl
+  row_again (value v vs) = then_again (Element (item_of v)) (items_of vs) (element_again (item_of v) (items_again v)) (row_again vs)
 
-  pair_row_again : (ps : Pairs) (m : Node (Entries kind.Pairs)) → decoded.pairs_of ps ≡ Some m → RowAgain m
-  pair_row_again no_pairs m e = subst RowAgain (some_is End m e) refl
-  pair_row_again (pair k v ps) m e =
-      let a = both_steps (item_of k) (λ x. bind (item_of v) (λ y. bind (decoded.pairs_of ps) (λ m. Some (Then (Pair x y) m)))) m e in
-      let b = both_steps (item_of v) (λ y. bind (decoded.pairs_of ps) (λ m. Some (Then (Pair a.0 y) m))) m a.2 in
-      let c = both_steps (decoded.pairs_of ps) (λ m. Some (Then (Pair a.0 b.0) m)) m b.2 in
-      subst RowAgain (some_is _ m c.2) (then_again (Pair a.0 b.0) c.0 (pair_again a.0 b.0 (items_again k a.0 a.1) (items_again v b.0 b.1)) (pair_row_again ps c.0 c.1))
+  pair_row_again : (ps : Pairs) → RowAgain (decoded.pairs_of ps)
+  pair_row_again no_pairs = refl
+  pair_row_again (pair k v ps) = then_again (Pair (item_of k) (item_of v)) (decoded.pairs_of ps) (pair_again (item_of k) (item_of v) (items_again k) (items_again v)) (pair_row_again ps)
 
 -- ---- the item of a value means the value
 
@@ -250,6 +249,44 @@ unfolding means
 chunks_mean k [] fit = ap (λ o. bind o (λ c. string_of c (Some indicator.Indefinite))) (empty_again k)
 chunks_mean k (c ∷ cs) fit = ap (λ o. bind o stream_of) (chunk_items_mean k (c ∷ cs) fit) ∙ ap (λ o. bind o (λ ds. Some (chunks k ds))) (chunks_of_kind k (c ∷ cs))
 
+-- ---- simple values and floating-point numbers
+
+is_simple_true : (n : ℕ) → IsSimple n → is_simple n ≡ true
+is_simple_true n (inl lt) = grind (arith, nat_tests)
+is_simple_true n (inr wide) = grind (arith, nat_tests)
+
+abbrev MeansSimple : ℕ → Node Item → Type 0
+MeansSimple n x = means x ≡ Some (simple n)
+
+-- the word of a number, or what has none
+named_means : (n k : ℕ) (x y : Node Item) → MeansSimple k x → MeansSimple n y → MeansSimple n (cond (eqb n k) x y)
+named_means n k x y named other =
+    elim (cases_eq n k) [
+      | inl same ↦ (let is : eqb n k ≡ true = eq-eqb n k same in rw is (named ∙ ap (λ (m : ℕ). Some (simple m)) (sym same)))
+      | inr differs ↦ (let is : eqb n k ≡ false = ne_eqb n k differs in rw is other)
+    ]
+
+simple_number_again : (n : ℕ) → IsSimple n → simple_number None (pos n) ≡ Some n
+simple_number_again n is = let e : is_simple n ≡ true = is_simple_true n is in ap (λ b. cond (b && true) (Some n) None) e
+
+numbered_means : (n : ℕ) → IsSimple n → MeansSimple n (Simple (Number (signed_decimal (pos n)) None))
+unfolding means
+numbered_means n is =
+    let read : integer_of (signed_decimal (pos n)) ≡ Some (pos n) = integer_of_decimal (pos n) (omega (arith, is)) in
+    ap (λ o. bind (bind o (simple_number None)) (λ m. Some (simple m))) read ∙ ap (λ o. bind o (λ m. Some (simple m))) (simple_number_again n is)
+
+simple_means : (n : ℕ) → IsSimple n → MeansSimple n (simple_item n)
+unfolding means
+simple_means n is = named_means n 20 _ _ refl (named_means n 21 _ _ refl (named_means n 22 _ _ refl (named_means n 23 _ _ refl (numbered_means n is))))
+
+float_means : (w : Width) (f : NonFinite) → IsFloatWidth w → means (Float f (float_indicator w)) ≡ Some (float w f)
+unfolding means
+float_means Two f is = refl
+float_means Four f is = refl
+float_means Eight f is = refl
+float_means Immediate f is = absurd is
+float_means One f is = absurd is
+
 -- ---- items
 
 abbrev with_value : Node Item → Value → Option (Value × Value)
@@ -264,35 +301,30 @@ in_front_of m p = bind (means m) (λ r. Some (pair p.0 p.1 r))
 mutual
   unfolding means
 
-  pub item_means : (v : Value) (x : Node Item) → Fits v → item_of v ≡ Some x → means x ≡ Some v
-  item_means (unsigned w n) x fit e = ap means (sym (some_is _ x e)) ∙ unsigned_means w n fit
-  item_means (negative w n) x fit e = ap means (sym (some_is _ x e)) ∙ negative_means w n fit
-  item_means (string k w bs) x fit e = ap means (sym (some_is _ x e)) ∙ string_means k w bs fit
-  item_means (chunks k cs) x fit e = ap means (sym (some_is _ x e)) ∙ chunks_mean k cs fit
-  item_means (array w vs) x fit e =
+  pub item_means : (v : Value) → Fits v → means (item_of v) ≡ Some v
+  item_means (unsigned w n) fit = unsigned_means w n fit
+  item_means (negative w n) fit = negative_means w n fit
+  item_means (string k w bs) fit = string_means k w bs fit
+  item_means (chunks k cs) fit = chunks_mean k cs fit
+  item_means (array w vs) fit =
       let i = list_indicator w (values_len vs) in
-      let a = both_steps (items_of vs) (λ m. Some (Listed Array i m)) x e in
-      ap means (sym (some_is _ x a.2)) ∙ ap (λ o. bind o (listed Array i)) (items_mean vs a.0 fit.1 a.1) ∙ ap (λ o. bind o (λ w. Some (array w vs))) (length_again w (values_len vs) fit.0)
-  item_means (object w ps) x fit e =
+      ap (λ o. bind o (listed Array i)) (items_mean vs fit.1) ∙ ap (λ o. bind o (λ w. Some (array w vs))) (length_again w (values_len vs) fit.0)
+  item_means (object w ps) fit =
       let i = list_indicator w (pairs_len ps) in
-      let a = both_steps (decoded.pairs_of ps) (λ m. Some (Listed Map i m)) x e in
-      ap means (sym (some_is _ x a.2)) ∙ ap (λ o. bind o (listed Map i)) (pairs_mean ps a.0 fit.1 a.1) ∙ ap (λ o. bind o (λ w. Some (object w ps))) (length_again w (pairs_len ps) fit.0)
-  item_means (tag w n v) x fit e = absurd cc
+      ap (λ o. bind o (listed Map i)) (pairs_mean ps fit.1) ∙ ap (λ o. bind o (λ w. Some (object w ps))) (length_again w (pairs_len ps) fit.0)
+  item_means (tag w n v) fit =
+      ap (λ o. bind o (λ d. bind (means (item_of v)) (λ u. Some (tag d n u)))) (width_again w n fit.0).0 ∙ ap (λ o. bind o (λ u. Some (tag w n u))) (item_means v fit.1)
+  item_means (simple n) fit = simple_means n fit
+  item_means (float w f) fit = float_means w f fit
 
-  pub items_mean : (vs : Values) (m : Items) → ValuesFit vs → items_of vs ≡ Some m → means m ≡ Some vs
-  items_mean no_values m fit e = ap means (sym (some_is End m e))
-  items_mean (value v vs) m fit e =
-      let a = both_steps (item_of v) (λ x. bind (items_of vs) (λ m. Some (Then (Element x) m))) m e in
-      let b = both_steps (items_of vs) (λ m. Some (Then (Element a.0) m)) m a.2 in
-      ap means (sym (some_is _ m b.2)) ∙ ap (λ o. bind o (λ v. bind (means b.0) (λ vs. Some (value v vs)))) (item_means v a.0 fit.0 a.1) ∙ ap (λ o. bind o (λ vs. Some (value v vs))) (items_mean vs b.0 fit.1 b.1)
+  pub items_mean : (vs : Values) → ValuesFit vs → means (items_of vs) ≡ Some vs
+  items_mean no_values fit = refl
+  items_mean (value v vs) fit =
+      ap (λ o. bind o (λ v. bind (means (items_of vs)) (λ vs. Some (value v vs)))) (item_means v fit.0) ∙ ap (λ o. bind o (λ vs. Some (value v vs))) (items_mean vs fit.1)
 
-  pairs_mean : (ps : Pairs) (m : Node (Entries kind.Pairs)) → PairsFit ps → decoded.pairs_of ps ≡ Some m → means m ≡ Some ps
-  pairs_mean no_pairs m fit e = ap means (sym (some_is End m e))
-  pairs_mean (pair k v ps) m fit e =
-      let a = both_steps (item_of k) (λ x. bind (item_of v) (λ y. bind (decoded.pairs_of ps) (λ m. Some (Then (Pair x y) m)))) m e in
-      let b = both_steps (item_of v) (λ y. bind (decoded.pairs_of ps) (λ m. Some (Then (Pair a.0 y) m))) m a.2 in
-      let c = both_steps (decoded.pairs_of ps) (λ m. Some (Then (Pair a.0 b.0) m)) m b.2 in
-      ap means (sym (some_is _ m c.2))
-      ∙ ap (λ o. bind (bind o (with_value b.0)) (in_front_of c.0)) (item_means k a.0 fit.0 a.1)
-      ∙ ap (λ o. bind (bind o (with_key k)) (in_front_of c.0)) (item_means v b.0 fit.1 b.1)
-      ∙ ap (λ o. bind o (λ r. Some (pair k v r))) (pairs_mean ps c.0 fit.2 c.1)
+  pairs_mean : (ps : Pairs) → PairsFit ps → means (decoded.pairs_of ps) ≡ Some ps
+  pairs_mean no_pairs fit = refl
+  pairs_mean (pair k v ps) fit =
+      ap (λ o. bind (bind o (with_value (item_of v))) (in_front_of (decoded.pairs_of ps))) (item_means k fit.0)
+      ∙ ap (λ o. bind (bind o (with_key k)) (in_front_of (decoded.pairs_of ps))) (item_means v fit.1)
+      ∙ ap (λ o. bind o (λ r. Some (pair k v r))) (pairs_mean ps fit.2)

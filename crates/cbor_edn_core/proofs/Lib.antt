@@ -9,6 +9,7 @@ pub mod CborIntegers
 pub mod CborOneValue
 pub mod CborOutcomes
 pub mod CborRows
+pub mod CborSpecials
 pub mod CborStrings
 pub mod CborTakes
 pub mod CborTrees
@@ -29,7 +30,6 @@ pub mod Meanings
 pub mod Outcomes
 pub mod Places
 pub mod Printable
-pub mod Readable
 pub mod Rows
 pub mod Spelled
 pub mod Steps

@@ -75,7 +75,7 @@ impl<'a> Item<'a> {
         Item::from_cbor_within(alloc, bytes, NESTING_LIMIT)
     }
 
-    /// The same with a limit of its own: arrays and maps may nest so deep.
+    /// The same with a limit of its own: arrays, maps, tags and `simple(..)` may nest so deep.
     pub fn from_cbor_within(
         alloc: Global,
         bytes: &[u8],
@@ -134,7 +134,7 @@ impl<'a> StandaloneItem<'a> {
         StandaloneItem::from_cbor_within(alloc, bytes, NESTING_LIMIT)
     }
 
-    /// The same with a limit of its own: arrays and maps may nest so deep.
+    /// The same with a limit of its own: arrays, maps, tags and `simple(..)` may nest so deep.
     pub fn from_cbor_within(
         alloc: Global,
         bytes: &[u8],
@@ -190,7 +190,7 @@ impl<'a> Sequence<'a> {
         Sequence::from_cbor_within(alloc, bytes, NESTING_LIMIT)
     }
 
-    /// The same with a limit of its own: arrays and maps may nest so deep.
+    /// The same with a limit of its own: arrays, maps, tags and `simple(..)` may nest so deep.
     pub fn from_cbor_within(
         alloc: Global,
         bytes: &[u8],

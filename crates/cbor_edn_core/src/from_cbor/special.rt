@@ -9,7 +9,7 @@ ghost use Rattle.std.specs.Fmt.{decimal};
 ghost use Rattle.cbor_edn_core.specs.View.{item_tree, standalone_tree};
 
 use super::CborError;
-use super::reader::{Argument, indicator_of};
+use super::reader::Argument;
 use crate::cbor::{Width, float_bits};
 use crate::tree::{Indicator, InnerItem, Item, Label, StandaloneItem};
 use crate::word::{NamedSimple, NonFinite};
@@ -28,15 +28,16 @@ pub(super) fn special_of<'a>(
 {
     match argument {
         None => Err(Fault::Told(CborError::MisplacedBreak)),
-        Some((Width::Immediate, n)) => simple_of(alloc, n as u8, limit),
+        Some((Width::Immediate, n)) => simple_of(alloc, n, limit),
         Some((Width::One, n)) if n < 32 => Err(Fault::Told(CborError::InvalidSimple)),
-        Some((Width::One, n)) => simple_of(alloc, n as u8, limit),
+        Some((Width::One, n)) => simple_of(alloc, n, limit),
         Some((width, bits)) => float_of(width, bits),
     }
 }
 
 /// A simple value by its name, or in `simple(..)`, which nests.
-fn simple_of<'a>(alloc: Global, number: u8, limit: usize) -> Result<Item<'a>, Fault<CborError>>
+#[tactic(auto, unfolding(crate::specs::Decoded::regular))]
+fn simple_of<'a>(alloc: Global, number: u64, limit: usize) -> Result<Item<'a>, Fault<CborError>>
     ensures { Gives item_tree result (reading.simple_by trees (inner trees limit) number) }
 {
     let inner = match number {
@@ -50,7 +51,7 @@ fn simple_of<'a>(alloc: Global, number: u8, limit: usize) -> Result<Item<'a>, Fa
     Ok(Item { inner })
 }
 
-fn numeral<'a>(alloc: Global, number: u8) -> Result<Item<'a>, AllocError>
+fn numeral<'a>(alloc: Global, number: u64) -> Result<Item<'a>, AllocError>
     ensures { IfOk result (λ t. item_tree t ≡ NumberTree (decimal number) None) }
 {
     let number = Number::decimal(alloc, Integer::Positive(u128::from(number)))?;
@@ -64,7 +65,7 @@ pub(super) fn enclosed<'a>(
     alloc: Global,
     item: Item<'a>,
 ) -> Result<Box<StandaloneItem<'a>>, AllocError>
-    ensures { IfOk result (λ t. standalone_tree t ≡ alone (item_tree item.entry)) }
+    ensures { IfOk result (λ t. standalone_tree t.value ≡ alone (item_tree item.entry)) }
 {
     let item = StandaloneItem {
         before: S::empty(),
@@ -74,22 +75,31 @@ pub(super) fn enclosed<'a>(
     Ok(Box::new(alloc, item)?)
 }
 
-/// The floating-point number of so many bytes with these bits, which is none of the finite ones.
+/// The floating-point number of so many bytes with these bits: finite ones are refused.
 fn float_of<'a>(width: Width, bits: u64) -> Result<Item<'a>, Fault<CborError>>
     ensures { Gives item_tree result (reading.float_by trees width (reading.float_of width bits)) }
 {
-    for float in [
-        NonFinite::Infinity,
-        NonFinite::NegativeInfinity,
-        NonFinite::NaN,
-    ] {
-        if bits == float_bits(width, float) {
-            return Ok(Item {
-                inner: InnerItem::NonFinite(float, float_indicator(width)),
-            });
-        }
+    let Some(float) = non_finite(width, bits) else {
+        return Err(Fault::Told(CborError::FloatOutOfScope));
+    };
+    Ok(Item {
+        inner: InnerItem::NonFinite(float, float_indicator(width)),
+    })
+}
+
+/// The number with these bits, where it is one of the three.
+fn non_finite(width: Width, bits: u64) -> Option<NonFinite>
+    ensures { result ≡ reading.float_of width bits }
+{
+    if bits == float_bits(width, NonFinite::Infinity) {
+        Some(NonFinite::Infinity)
+    } else if bits == float_bits(width, NonFinite::NegativeInfinity) {
+        Some(NonFinite::NegativeInfinity)
+    } else if bits == float_bits(width, NonFinite::NaN) {
+        Some(NonFinite::NaN)
+    } else {
+        None
     }
-    Err(Fault::Told(CborError::FloatOutOfScope))
 }
 
 /// The indicator of a floating-point number, which is always printed.

@@ -21,7 +21,7 @@ fn refusal(alloc: Global, bytes: &[u8]) -> Option<CborError> {
 
 #[test]
 fn texts(rt: HostRuntime) -> Result<(), Fail> {
-    let table: [(&[u8], &str); 19] = [
+    let table: [(&[u8], &str); 27] = [
         (b"", ""),
         (b"\x83\x01\x18\x1f\x80", "[1, 31, []]"),
         (b"\x00\x01\x2f", "0, 1, -16"),
@@ -44,6 +44,14 @@ fn texts(rt: HostRuntime) -> Result<(), Fail> {
             b"\x3b\xff\xff\xff\xff\xff\xff\xff\xff",
             "-18446744073709551616",
         ),
+        (b"\xc2\x41\x01", "2(h'01')"),
+        (b"\xd8\x02\x81\xc1\x00", "2_0([1(0)])"),
+        (b"\xf4\xf5\xf6\xf7", "false, true, null, undefined"),
+        (b"\xf0", "simple(16)"),
+        (b"\xf8\xff", "simple(255)"),
+        (b"\xf9\x7c\x00", "Infinity_1"),
+        (b"\xfa\xff\x80\x00\x00", "-Infinity_2"),
+        (b"\xfb\x7f\xf8\x00\x00\x00\x00\x00\x00", "NaN_3"),
     ];
     for (bytes, wanted) in table {
         let found = text(rt.alloc(), bytes)?;
@@ -68,7 +76,7 @@ fn zeros(rt: HostRuntime) -> Result<(), Fail> {
 
 #[test]
 fn refusals(rt: HostRuntime) {
-    let table: [(&[u8], CborError); 22] = [
+    let table: [(&[u8], CborError); 27] = [
         (b"", CborError::OutOfData),
         (b"\x82\x01", CborError::OutOfData),
         (
@@ -80,11 +88,16 @@ fn refusals(rt: HostRuntime) {
             CborError::OutOfData,
         ),
         (b"\x1c", CborError::Reserved),
-        (b"\xc2\x41\x01", CborError::Reserved),
-        (b"\xf5", CborError::Reserved),
+        (b"\xfc", CborError::Reserved),
+        (b"\xf8\x18", CborError::InvalidSimple),
+        (b"\xf8\x1f", CborError::InvalidSimple),
+        (b"\xf9\x3c\x00", CborError::FloatOutOfScope),
+        (b"\xf9\x7e\x01", CborError::FloatOutOfScope),
+        (b"\xc1", CborError::OutOfData),
         (b"\x19\x00", CborError::MissingArgument),
         (b"\x1f", CborError::OpenNumber),
         (b"\x3f", CborError::OpenNumber),
+        (b"\xdf\x00", CborError::OpenNumber),
         (b"\xff", CborError::MisplacedBreak),
         (b"\xbf\x01\xff", CborError::MisplacedBreak),
         (b"\x9f\x82\x01\xff", CborError::MisplacedBreak),
@@ -158,6 +171,11 @@ fn limits(rt: HostRuntime) {
     assert!(rt; !is_refused(rt.alloc(), b"\xa1\x01\xa0", 2));
     assert!(rt; is_refused(rt.alloc(), b"\xa1\x01\xa0", 1));
     assert!(rt; is_refused(rt.alloc(), b"\x80", 0));
+    assert!(rt; is_refused(rt.alloc(), b"\xc1\x00", 0));
+    assert!(rt; !is_refused(rt.alloc(), b"\xc1\x00", 1));
+    assert!(rt; is_refused(rt.alloc(), b"\xf0", 0));
+    assert!(rt; !is_refused(rt.alloc(), b"\xf0", 1));
+    assert!(rt; !is_refused(rt.alloc(), b"\xf5", 0));
     assert!(rt; !CborError::Reserved.too_deep());
 }
 

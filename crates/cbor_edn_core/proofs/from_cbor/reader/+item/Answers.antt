@@ -6,7 +6,7 @@ use Rattle.cbor_edn_core.specs.View.{texts, item_tree, view_pair}
 use Rattle.cbor_edn_core.specs.Growing.{grown}
 use Rattle.cbor_edn_core.specs.CborReading.{past, item_at, pair_at, trees}
 use Rattle.cbor_edn_core.proofs.CborAgain.{item_at_ok}
-use Rattle.cbor_edn_core.proofs.CborTurns.{pushed_shown, shown_fails, fails_shown, goes_on, goes_on_with, fails, is_done, until_more, until_more_with, until_fails, until_done, item_fails}
+use Rattle.cbor_edn_core.proofs.CborTurns.{pushed_shown, fails_shown, goes_on, goes_on_with, fails, is_done, until_more, until_more_with, until_fails, until_done, item_fails}
 use Rattle.cbor_edn_core.proofs.from_cbor.reader.+item.Goals as goal
 
 pub item_of-returns-in_err-head-clause-exact : goal.item_of-returns-in_err-head-clause-exact
@@ -61,14 +61,8 @@ items_until-turns-preserved t c =
       shorter = omega (arith, less, c.turns.invariant.shorter);
     }
 
-pub with_pair-returns-in_err-pair-clause-exact : goal.with_pair-returns-in_err-pair-clause-exact
-with_pair-returns-in_err-pair-clause-exact t c =
-    let p = err_from_is_err_and c.from_residual.result c.from_residual.ensures.1 in
-    rw (p.1, p.2) (shown_fails (λ x. map (view_pair texts) (grown c.args.found) ++ x ∷ []) c.in_err-pair.field-0.0 _ c.in_err-pair.ensures.exact)
-
 pub with_pair-returns-clause-exact : goal.with_pair-returns-clause-exact
-with_pair-returns-clause-exact t c =
-    pushed_shown (view_pair texts) (grown c.args.found) c.in_ok-pair.pair c.in_ok-pair.rest.now (λ x. (grown x.0, x.1.now)) c.pushed.result _ c.in_ok-pair.ensures.exact c.pushed.ensures
+with_pair-returns-clause-exact t c = pushed_shown (view_pair texts) (λ r. r.now) c.args.found c.pair_of.result c.pushed.result _ c.pair_of.ensures.exact c.pushed.ensures
 
 pub pairs_of-returns-in_err-more-clause-exact : goal.pairs_of-returns-in_err-more-clause-exact
 pairs_of-returns-in_err-more-clause-exact t c =

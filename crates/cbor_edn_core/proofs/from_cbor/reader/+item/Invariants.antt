@@ -33,6 +33,9 @@ decreases-pairs_of l = 6 * l.limit + 8
 abbrev pub decreases-pairs_until : goal.decreases-pairs_until
 decreases-pairs_until l = 6 * l.limit + 8
 
+abbrev pub decreases-tag_of : goal.decreases-tag_of
+decreases-tag_of l = 6 * l.limit + 3
+
 abbrev pub decreases-with_pair : goal.decreases-with_pair
 decreases-with_pair l = 6 * l.limit + 7
 
