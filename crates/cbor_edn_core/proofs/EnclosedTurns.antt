@@ -15,10 +15,11 @@ use Rattle.cbor_edn_parts.specs.NumberTokens.{number}
 use Rattle.cbor_edn_core.specs.declared.tree.Label.{Label}
 use Rattle.cbor_edn_core.specs.declared.tree.Label.TheVariants.{Tag}
 use Rattle.cbor_edn_core.specs.declared.tree.Label.TheVariants as label
+use Rattle.cbor_edn_core.specs.declared.word.NamedSimple.{NamedSimple}
 use Rattle.cbor_edn_core.specs.declared.word.NonFinite.{NonFinite}
 use Rattle.cbor_edn_core.specs.declared.word.Word.{Word}
 use Rattle.cbor_edn_core.specs.declared.word.Word.TheVariants as word
-use Rattle.cbor_edn_core.specs.Trees.{OneItem, Standalone, Tree, NumberTree, FloatTree, EnclosedTree}
+use Rattle.cbor_edn_core.specs.Trees.{OneItem, Standalone, Tree, NumberTree, FloatTree, NamedTree, EnclosedTree}
 use Rattle.cbor_edn_core.specs.Reading.{◌>>=◌, token, byte, or_invalid, starts_with, word_at, tag_number, enclosed_item, tag_item, number_end, number_item, word_item, plain_item, item, reads}
 use Rattle.cbor_edn_core.specs.ParserResults.{Fails, IsNotAt}
 use Rattle.cbor_edn_parts.proofs.Tokens.{munch-took}
@@ -108,6 +109,10 @@ pub word_here : (limit : ℕ) (xs : List ℕ) (w : Word) (r : List ℕ) → word
 unfolding word_at
 word_here limit [] w r h = absurd (none-some (w, r) h)
 word_here limit (c ∷ xs) w r h = reads-rule limit OneItem (c ∷ xs) ∙ word_next limit c xs w r h
+
+pub named_read : (limit : ℕ) (b : NamedSimple) (xs : List ℕ) → word_item reads limit (word.Named b) xs ≡ Ok (NamedTree b, xs)
+unfolding word_item
+named_read limit b xs = refl
 
 pub float_read : (limit : ℕ) (f : NonFinite) (xs : List ℕ) (i : Option Indicator) (q : List ℕ) → indicator_at xs ≡ (i, q) → word_item reads limit (word.NonFinite f) xs ≡ Ok (FloatTree f i, q)
 unfolding word_item

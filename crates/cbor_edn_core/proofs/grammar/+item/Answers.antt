@@ -4,13 +4,15 @@ use Rattle.std.proofs.lemmas.Result.{err_from_is_err_and}
 use Rattle.cbor_edn_parts.specs.declared.error.Fault.TheVariants.{Told}
 use Rattle.cbor_edn_parts.specs.SpaceTokens.{space, separator}
 use Rattle.cbor_edn_parts.specs.LiteralTokens.{literal, dots}
+use Rattle.cbor_edn_parts.specs.NumberTokens.{number}
 use Rattle.cbor_edn_parts.specs.Leaves.{soc_bytes}
 use Rattle.cbor_edn_parts.proofs.SeparatorTokens.{spaced_of}
 use Rattle.cbor_edn_core.specs.Items.{Elements, Pairs, Strings, Array, Map}
 use Rattle.cbor_edn_core.specs.ParserResults.{element_tree, chunk_tree}
 use Rattle.cbor_edn_core.specs.View.{texts, seen, seen_pair, seen_string, seen_piece, view_pair}
-use Rattle.cbor_edn_core.proofs.Turns.{ends_same, fails_at, scan_fails, scan_read, number_at, string_item_fails, string_item_read, stream_at, list_too_deep, list_fails, list_open, list_read, standalone_fails, standalone_fails_item, standalone_fails_after, standalone_read, inside_fails, inside_empty, inside_unparted, inside_rest_fails, inside_read, element_read, element_fails, parted_fails, parted_fails_behind, parted_read, pair_fails, pair_fails_before, pair_no_colon, pair_behind_colon, value_fails_before, value_fails, value_read, turn_fails, turn_last, turn_refused, turn_more, with_more, some_length, token_end, token_behind, sequence_fails, sequence_empty, sequence_rest_fails, sequence_full}
-use Rattle.cbor_edn_core.proofs.EnclosedTurns.{enclosed_shut, enclosed_too_deep, enclosed_fails, enclosed_open, enclosed_read, number_read, no_tag, tag_at, word_here, float_read, simple_at}
+use Rattle.cbor_edn_core.proofs.Turns.{ends_same, fails_at, scan_fails, scan_read, number_at, number_fails, string_item_fails, string_item_read, stream_at, list_too_deep, list_fails, list_open, list_read, standalone_fails, standalone_fails_item, standalone_fails_after, standalone_read, inside_fails, inside_empty, inside_unparted, inside_rest_fails, inside_read, element_read, element_fails, parted_fails, parted_fails_behind, parted_read, pair_fails, pair_fails_before, pair_no_colon, pair_behind_colon, value_fails_before, value_fails, value_read, turn_fails, turn_last, turn_refused, turn_more, with_more, some_length, token_end, token_behind, sequence_fails, sequence_empty, sequence_rest_fails, sequence_full}
+use Rattle.cbor_edn_core.proofs.EnclosedTurns.{enclosed_shut, enclosed_too_deep, enclosed_fails, enclosed_open, enclosed_read, number_read, no_tag, tag_at, word_here, named_read, float_read, simple_at}
+use Rattle.cbor_edn_core.proofs.Looks.{ahead_small, token_two, literal_open, dots_open, spared_push, pushed_some, spared_first, costs_ahead}
 use Rattle.cbor_edn_core.proofs.StringTurns.{stream_unmarked, stream_fails, stream_unspaced, stream_rest_fails, stream_open, stream_read, chunk_fails, chunk_read, dots_fail, dots_read, literal_fails, literal_read, embedded_single, embedded_too_deep, embedded_fails, embedded_unclosed, embedded_read, with_more_pieces, pieces_turn_fails, pieces_turn_fails_before, pieces_turn_last, pieces_turn_fails_after, pieces_turn_more}
 use Rattle.cbor_edn_core.proofs.Views.{view_string_is, view_stream_made, view_sequence_made}
 use Rattle.cbor_edn_core.proofs.Borrows.{borrows_push, borrows_pair_push, borrows_string_made, borrows_string_push, borrows_piece_push}
@@ -324,8 +326,8 @@ pub string-pieces-preserved : goal.string-pieces-preserved
 string-pieces-preserved t c = record {
   order = omega (arith, c.in_ok-piece.ensures.place.0, c.in_ok-before.ensures.place.0, c.in_ok-after.ensures.place.0);
   place = c.in_ok-after.ensures.place.1;
-  first = ?;
-  cost = ?;
+  first = λ e. absurd (pushed_some c.pieces.row.items _ (sym c.in_ok-push.ensures.items ∙ e));
+  cost = rw (c.in_ok-push.ensures.items, spared_push c.pieces.row.items (c.in_ok-piece.piece, c.in_ok-before.before, c.in_ok-after.after) _) (omega (arith, spared_first c.pieces.row.items _ c.pieces.at c.args.from _ _ c.pieces.invariant.first c.pieces.invariant.cost, c.in_ok-piece.ensures.cost.0, c.in_ok-before.ensures.cost, c.in_ok-after.ensures.cost, c.joins.ensures.count, c.in_ok-before.ensures.place.0, c.in_ok-after.ensures.place.0));
   least = omega (arith, c.in_ok-piece.ensures.cost, c.in_ok-before.ensures.cost, c.in_ok-after.ensures.cost, c.joins.ensures.count);
   borrowed = rw (c.in_ok-push.ensures.items) (borrows_piece_push c.pieces.row.items _ c.pieces.invariant.borrowed c.in_ok-piece.ensures.borrowed c.in_ok-before.ensures.borrowed c.in_ok-after.ensures.borrowed);
   reads = rw (c.in_ok-push.ensures.items) (pieces_turn_more c.args.limit _ _ _ c.pieces.invariant.reads _ _ c.in_ok-piece.ensures.value _ _ (scan_read space _ _ _ c.in_ok-before.ensures.value) _ (sym c.if-not-joins.ensures.value) (c.if-not-joins.ensures.yes refl).0 _ _ (scan_read space _ _ _ c.in_ok-after.ensures.value)
@@ -422,13 +424,13 @@ string-returns-then-not-joins-clause-place t c = (omega (arith, c.in_ok-piece.en
 
 pub piece-returns-then-is_at-2-clause-cost : goal.piece-returns-then-is_at-2-clause-cost
 piece-returns-then-is_at-2-clause-cost t c =
-    let some = token_behind dots _ _ c.args.from c.in_ok-dots.to refl c.in_ok-dots.ensures.value c.requires.0 c.in_ok-dots.ensures.place.1.0 in
-    (omega (arith, some, c.in_ok-dots.ensures.cost.0, c.is_at.ensures.count, c.is_at-2.ensures.count), omega (arith, c.in_ok-dots.ensures.cost.1, c.is_at.ensures.count, c.is_at-2.ensures.count))
+    let some = token_two dots _ _ c.args.from c.in_ok-dots.to refl dots_open c.in_ok-dots.ensures.value c.requires.0 c.in_ok-dots.ensures.place.1.0 in
+    (omega (arith, some, ahead_small _ c.args.from, c.in_ok-dots.ensures.cost.0, c.is_at.ensures.count, c.is_at-2.ensures.count), omega (arith, c.in_ok-dots.ensures.cost.1, c.is_at.ensures.count, c.is_at-2.ensures.count))
 
 pub piece-returns-clause-cost : goal.piece-returns-clause-cost
 piece-returns-clause-cost t c =
-    let some = token_behind literal _ _ c.args.from c.in_ok-literal.at refl c.in_ok-literal.ensures.value c.requires.0 c.in_ok-literal.ensures.place.1.0 in
-    (omega (arith, some, c.in_ok-literal.ensures.cost.0, c.is_at.ensures.count, c.is_at-2.ensures.count, c.indicator_at-indicator.ensures.cost, c.indicator_at-indicator.ensures.place.0), omega (arith, c.in_ok-literal.ensures.cost.1, c.is_at.ensures.count, c.is_at-2.ensures.count, c.indicator_at-indicator.ensures.cost))
+    let some = token_two literal _ _ c.args.from c.in_ok-literal.at refl literal_open c.in_ok-literal.ensures.value c.requires.0 c.in_ok-literal.ensures.place.1.0 in
+    (omega (arith, some, ahead_small _ c.args.from, c.in_ok-literal.ensures.cost.0, c.is_at.ensures.count, c.is_at-2.ensures.count, c.indicator_at-indicator.ensures.cost, c.indicator_at-indicator.ensures.place.0), omega (arith, c.in_ok-literal.ensures.cost.1, c.is_at.ensures.count, c.is_at-2.ensures.count, c.indicator_at-indicator.ensures.cost))
 
 pub standalone-returns-in_err-before-clause-value : goal.standalone-returns-in_err-before-clause-value
 standalone-returns-in_err-before-clause-value t c =
@@ -465,3 +467,45 @@ enclosed-returns-then-not-is_at-2-clause-value t c = rw c.invalid-then-not-is_at
 
 pub enclosed-returns-clause-value : goal.enclosed-returns-clause-value
 enclosed-returns-clause-value t c = rw (c.unspaced.ensures, c.in_ok-item-2.ensures.ok) (enclosed_read c.args.limit c.args.label _ _ _ _ _ (omega arith) (c.if-not-is_at.ensures.yes refl).0 c.in_ok-item.ensures.value (c.if-not-is_at-2.ensures.yes refl).0)
+
+pub item-returns-in-Word-clause-value : goal.item-returns-in-Word-clause-value
+item-returns-in-Word-clause-value t c = ends_same _ _ _ _ _ (word_here c.args.limit _ _ _ c.in-Word.ensures.opens.0) c.worded.ensures.value
+
+pub numbered-returns-in_err-number-clause-value : goal.numbered-returns-in_err-number-clause-value
+numbered-returns-in_err-number-clause-value t c =
+    let p = err_from_is_err_and c.from_residual.result c.from_residual.ensures.1 in
+    rw (p.1, p.2) (number_fails (Told c.in_err-number.field-0.0) c.args.limit _ (scan_fails number _ c.in_err-number.field-0.0 c.in_err-number.ensures.value))
+
+pub numbered-tag_number-requires : goal.numbered-tag_number-requires
+numbered-tag_number-requires t c = (token_behind number _ _ c.args.from c.in_ok-number.at refl c.in_ok-number.ensures.value c.requires.0 c.in_ok-number.ensures.place.1.0, c.in_ok-number.ensures.place.1.0)
+
+pub numbered-returns-in_default-clause-value : goal.numbered-returns-in_default-clause-value
+numbered-returns-in_default-clause-value t c = rw c.invalid.ensures (no_tag c.args.limit _ _ _ _ _ _ _ c.in_ok-number.ensures.value c.requires.0 c.in_ok-number.ensures.place.1.0 c.indicator_at-indicator.ensures.value (c.if-is_at.ensures.yes refl).0 c.in_default.ensures.value)
+
+pub numbered-returns-then-is_at-clause-value : goal.numbered-returns-then-is_at-clause-value
+numbered-returns-then-is_at-clause-value t c = ends_same _ _ _ _ _ (tag_at c.args.limit _ _ _ _ _ _ _ _ c.in_ok-number.ensures.value c.requires.0 c.in_ok-number.ensures.place.1.0 c.indicator_at-indicator.ensures.value (c.if-is_at.ensures.yes refl).0 c.in-Some.ensures.value) c.enclosed.ensures.value
+
+pub numbered-returns-then-is_at-clause-cost : goal.numbered-returns-then-is_at-clause-cost
+numbered-returns-then-is_at-clause-cost t c =
+    let some = token_behind number _ _ c.args.from c.in_ok-number.at refl c.in_ok-number.ensures.value c.requires.0 c.in_ok-number.ensures.place.1.0 in
+    costs_ahead _ c.args.from _ _ _ _ c.enclosed.result
+        (omega (arith, some, ahead_small _ c.args.from, c.in_ok-number.ensures.cost.0, c.indicator_at-indicator.ensures.cost, c.indicator_at-indicator.ensures.place.0, c.is_at.ensures.count, c.in-Some.ensures.count))
+        (omega (arith, c.in_ok-number.ensures.cost.1, c.indicator_at-indicator.ensures.cost, c.is_at.ensures.count, c.in-Some.ensures.count))
+        c.enclosed.ensures.cost
+
+pub numbered-returns-clause-value : goal.numbered-returns-clause-value
+numbered-returns-clause-value t c = rw c.unspaced.ensures (number_read c.args.limit _ _ _ _ _ (scan_read number _ _ _ c.in_ok-number.ensures.value) c.indicator_at-indicator.ensures.value (c.if-is_at.ensures.no refl))
+
+pub numbered-returns-clause-cost : goal.numbered-returns-clause-cost
+numbered-returns-clause-cost t c =
+    let some = token_behind number _ _ c.args.from c.in_ok-number.at refl c.in_ok-number.ensures.value c.requires.0 c.in_ok-number.ensures.place.1.0 in
+    rw c.unspaced.ensures (omega (arith, some, ahead_small _ c.args.from, c.in_ok-number.ensures.cost.0, c.indicator_at-indicator.ensures.cost, c.indicator_at-indicator.ensures.place.0, c.is_at.ensures.count), omega (arith, c.in_ok-number.ensures.cost.1, c.indicator_at-indicator.ensures.cost, c.is_at.ensures.count))
+
+pub worded-returns-in-Named-clause-value : goal.worded-returns-in-Named-clause-value
+worded-returns-in-Named-clause-value t c = rw (c.unspaced.ensures, c.in-Named.is) (named_read c.args.limit _ _)
+
+pub worded-returns-in-NonFinite-clause-value : goal.worded-returns-in-NonFinite-clause-value
+worded-returns-in-NonFinite-clause-value t c = rw (c.unspaced.ensures, c.in-NonFinite.is) (float_read c.args.limit _ _ _ _ c.indicator_at-indicator.ensures.value)
+
+pub worded-returns-in-Simple-clause-value : goal.worded-returns-in-Simple-clause-value
+worded-returns-in-Simple-clause-value t c = rw c.in-Simple.is (ends_same _ _ _ _ _ (simple_at c.args.limit _) c.enclosed.ensures.value)
