@@ -34,12 +34,12 @@ held {P = P} _ n nothing e = absurd (cc)
 held {P = P} _ n (just {x = m} p) e = let same : m ≡ n = cc in rw same at p
 
 two_accepted : {State : Type 0} (T : Table State) (x : List ℕ) → T.final T.start ≡ false → Open T → Accepts T T.start x → 2 ≤ length x
-two_accepted T [] none open a = absurd (both_ways (T.final T.start) none a)
-two_accepted T (c ∷ []) none open a = absurd (both_ways (T.final a.0) (held (T.step c T.start) a.0 (open c) a.1) a.2)
-two_accepted T (c ∷ d ∷ x) none open a = omega arith
+two_accepted T [] none none_final a = absurd (both_ways (T.final T.start) none a)
+two_accepted T (c ∷ []) none none_final a = absurd (both_ways (T.final a.0) (held (T.step c T.start) a.0 (none_final c) a.1) a.2)
+two_accepted T (c ∷ d ∷ x) none none_final a = omega arith
 
 pub token_two : {State : Type 0} (T : Table State) (text x : List ℕ) (from to : ℕ) → T.final T.start ≡ false → Open T → lex.token T (drop from text) ≡ Some (x, drop to text) → from ≤ length text → to ≤ length text → from + 2 ≤ to
-token_two T text x from to none open h begins ends = omega (arith, token_end T text x from to h begins ends, two_accepted T x none open (munch-took T T.start (drop from text) x (drop to text) h).0)
+token_two T text x from to none none_final h begins ends = omega (arith, token_end T text x from to h begins ends, two_accepted T x none none_final (munch-took T T.start (drop from text) x (drop to text) h).0)
 
 pub literal_open : Open literal
 literal_open c =

@@ -6,6 +6,7 @@ use Rattle.cbor_edn_parts.specs.SpaceTokens.{space, separator}
 use Rattle.cbor_edn_parts.specs.LiteralTokens.{literal, dots}
 use Rattle.cbor_edn_parts.specs.NumberTokens.{number}
 use Rattle.cbor_edn_parts.specs.Leaves.{soc_bytes}
+use Rattle.cbor_edn_parts.specs.Text.{text_bytes}
 use Rattle.cbor_edn_parts.proofs.SeparatorTokens.{spaced_of}
 use Rattle.cbor_edn_core.specs.Items.{Elements, Pairs, Strings, Array, Map}
 use Rattle.cbor_edn_core.specs.ParserResults.{element_tree, chunk_tree}
@@ -425,12 +426,12 @@ string-returns-then-not-joins-clause-place t c = (omega (arith, c.in_ok-piece.en
 pub piece-returns-then-is_at-2-clause-cost : goal.piece-returns-then-is_at-2-clause-cost
 piece-returns-then-is_at-2-clause-cost t c =
     let some = token_two dots _ _ c.args.from c.in_ok-dots.to refl dots_open c.in_ok-dots.ensures.value c.requires.0 c.in_ok-dots.ensures.place.1.0 in
-    (omega (arith, some, ahead_small _ c.args.from, c.in_ok-dots.ensures.cost.0, c.is_at.ensures.count, c.is_at-2.ensures.count), omega (arith, c.in_ok-dots.ensures.cost.1, c.is_at.ensures.count, c.is_at-2.ensures.count))
+    (omega (arith, some, ahead_small (text_bytes c.args.text.now) c.args.from, c.in_ok-dots.ensures.cost.0, c.is_at.ensures.count, c.is_at-2.ensures.count), omega (arith, c.in_ok-dots.ensures.cost.1, c.is_at.ensures.count, c.is_at-2.ensures.count))
 
 pub piece-returns-clause-cost : goal.piece-returns-clause-cost
 piece-returns-clause-cost t c =
     let some = token_two literal _ _ c.args.from c.in_ok-literal.at refl literal_open c.in_ok-literal.ensures.value c.requires.0 c.in_ok-literal.ensures.place.1.0 in
-    (omega (arith, some, ahead_small _ c.args.from, c.in_ok-literal.ensures.cost.0, c.is_at.ensures.count, c.is_at-2.ensures.count, c.indicator_at-indicator.ensures.cost, c.indicator_at-indicator.ensures.place.0), omega (arith, c.in_ok-literal.ensures.cost.1, c.is_at.ensures.count, c.is_at-2.ensures.count, c.indicator_at-indicator.ensures.cost))
+    (omega (arith, some, ahead_small (text_bytes c.args.text.now) c.args.from, c.in_ok-literal.ensures.cost.0, c.is_at.ensures.count, c.is_at-2.ensures.count, c.indicator_at-indicator.ensures.cost, c.indicator_at-indicator.ensures.place.0), omega (arith, c.in_ok-literal.ensures.cost.1, c.is_at.ensures.count, c.is_at-2.ensures.count, c.indicator_at-indicator.ensures.cost))
 
 pub standalone-returns-in_err-before-clause-value : goal.standalone-returns-in_err-before-clause-value
 standalone-returns-in_err-before-clause-value t c =
@@ -488,8 +489,8 @@ numbered-returns-then-is_at-clause-value t c = ends_same _ _ _ _ _ (tag_at c.arg
 pub numbered-returns-then-is_at-clause-cost : goal.numbered-returns-then-is_at-clause-cost
 numbered-returns-then-is_at-clause-cost t c =
     let some = token_behind number _ _ c.args.from c.in_ok-number.at refl c.in_ok-number.ensures.value c.requires.0 c.in_ok-number.ensures.place.1.0 in
-    costs_ahead _ c.args.from _ _ _ _ c.enclosed.result
-        (omega (arith, some, ahead_small _ c.args.from, c.in_ok-number.ensures.cost.0, c.indicator_at-indicator.ensures.cost, c.indicator_at-indicator.ensures.place.0, c.is_at.ensures.count, c.in-Some.ensures.count))
+    costs_ahead (text_bytes c.args.text.now) c.args.from _ _ _ _ c.enclosed.result
+        (omega (arith, some, ahead_small (text_bytes c.args.text.now) c.args.from, c.in_ok-number.ensures.cost.0, c.indicator_at-indicator.ensures.cost, c.indicator_at-indicator.ensures.place.0, c.is_at.ensures.count, c.in-Some.ensures.count))
         (omega (arith, c.in_ok-number.ensures.cost.1, c.indicator_at-indicator.ensures.cost, c.is_at.ensures.count, c.in-Some.ensures.count))
         c.enclosed.ensures.cost
 
@@ -499,13 +500,13 @@ numbered-returns-clause-value t c = rw c.unspaced.ensures (number_read c.args.li
 pub numbered-returns-clause-cost : goal.numbered-returns-clause-cost
 numbered-returns-clause-cost t c =
     let some = token_behind number _ _ c.args.from c.in_ok-number.at refl c.in_ok-number.ensures.value c.requires.0 c.in_ok-number.ensures.place.1.0 in
-    rw c.unspaced.ensures (omega (arith, some, ahead_small _ c.args.from, c.in_ok-number.ensures.cost.0, c.indicator_at-indicator.ensures.cost, c.indicator_at-indicator.ensures.place.0, c.is_at.ensures.count), omega (arith, c.in_ok-number.ensures.cost.1, c.indicator_at-indicator.ensures.cost, c.is_at.ensures.count))
+    rw c.unspaced.ensures (omega (arith, some, ahead_small (text_bytes c.args.text.now) c.args.from, c.in_ok-number.ensures.cost.0, c.indicator_at-indicator.ensures.cost, c.indicator_at-indicator.ensures.place.0, c.is_at.ensures.count), omega (arith, c.in_ok-number.ensures.cost.1, c.indicator_at-indicator.ensures.cost, c.is_at.ensures.count))
 
 pub worded-returns-in-Named-clause-value : goal.worded-returns-in-Named-clause-value
 worded-returns-in-Named-clause-value t c = rw (c.unspaced.ensures, c.in-Named.is) (named_read c.args.limit _ _)
 
 pub worded-returns-in-NonFinite-clause-value : goal.worded-returns-in-NonFinite-clause-value
-worded-returns-in-NonFinite-clause-value t c = rw (c.unspaced.ensures, c.in-NonFinite.is) (float_read c.args.limit _ _ _ _ c.indicator_at-indicator.ensures.value)
+worded-returns-in-NonFinite-clause-value t c = rw (c.unspaced-in-NonFinite.ensures, c.in-NonFinite.is) (float_read c.args.limit _ _ _ _ c.indicator_at-indicator.ensures.value)
 
 pub worded-returns-in-Simple-clause-value : goal.worded-returns-in-Simple-clause-value
 worded-returns-in-Simple-clause-value t c = rw c.in-Simple.is (ends_same _ _ _ _ _ (simple_at c.args.limit _) c.enclosed.ensures.value)
