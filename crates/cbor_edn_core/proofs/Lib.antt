@@ -26,7 +26,6 @@ pub mod MeaningSteps
 pub mod Meanings
 pub mod Outcomes
 pub mod Places
-pub mod Printable
 pub mod Readable
 pub mod Rows
 pub mod Spelled
