@@ -1,6 +1,7 @@
 -- What is pushed by parts is the encoding of the whole.
-use Rattle.std.proofs.Common.{◌≡◌, ℕ, ℤ, zero, suc, ◌+◌, ◌^◌, ◌<◌, ◌≤◌, Bool, true, false, cond, ltb, List, [], ◌∷◌, ◌++◌, length, map, drop, get_or, drop-cons, add-one, Option, Some, None, Result, Ok, Err, refl, sym, ap, subst, ◌∙◌, append_assoc, arith}
+use Rattle.std.proofs.Common.{◌≡◌, ℕ, ℤ, pos, zero, suc, ◌+◌, ◌^◌, ◌<◌, ◌≤◌, Bool, true, false, cond, ltb, List, [], ◌∷◌, ◌++◌, length, map, drop, get_or, drop-cons, add-one, Option, Some, None, Result, Ok, Err, refl, sym, ap, subst, ◌∙◌, append_assoc, arith}
 use Rattle.std.proofs.lemmas.Bool.{le-ltb}
+use Rattle.std.proofs.lemmas.Bool.Decides.{nat_tests}
 use Rattle.std.proofs.lemmas.List.{append-nil}
 use Rattle.cbor_edn_parts.specs.declared.error.Fault.{Fault}
 use Rattle.cbor_edn_parts.specs.declared.error.Fault.TheVariants.{Memory, Told}
@@ -8,11 +9,11 @@ use Rattle.cbor_edn_parts.specs.declared.error.InconsistentEdn.{InconsistentEdn}
 use Rattle.cbor_edn_parts.specs.declared.indicator.Indicator.{Indicator}
 use Rattle.cbor_edn_parts.specs.Number.{Sign, NoSign, PlusSign, MinusSign, signed, sign_of, is_numeral, radix, base_of, digits_of, magnitude_of, integer_of}
 use Rattle.cbor_edn_core.specs.declared.cbor.Width.{Width}
-use Rattle.cbor_edn_core.specs.Items.{Row, Elements, Pairs, Strings, Bracketed, Array, Map, entries_of, Node, Item, Number, Listed, Items}
+use Rattle.cbor_edn_core.specs.Items.{Row, Elements, Pairs, Strings, Bracketed, Array, Map, entries_of, Node, Item, Number, Listed, Tagged, Items}
 use Rattle.cbor_edn_core.specs.Trees.{Tree, OneItem, OneEntry, Rest, LastTree, ElementTree, PairTree, EmptyTree, FullTree, Head, mark, items}
 use Rattle.cbor_edn_core.specs.View.{entries_onto}
-use Rattle.cbor_edn_core.specs.Value.{Value, Values, AreBytes, head, encoding, encodings, Enc, EncAll}
-use Rattle.cbor_edn_core.specs.Meaning.{◌>>=◌, length_of, means_integer, EntryOf, RowOf, row_len, list_value, listed, no_entries, one_more, means}
+use Rattle.cbor_edn_core.specs.Value.{Value, Values, tag, AreBytes, head, encoding, encodings, Enc, EncAll}
+use Rattle.cbor_edn_core.specs.Meaning.{◌>>=◌, width_of, length_of, means_integer, is_simple, simple_number, simple_of, EntryOf, RowOf, row_len, list_value, listed, no_entries, one_more, means}
 use Rattle.cbor_edn_core.specs.Encoding.{Encodes, Finds, list_head, list_end, major_of, entry_encoding, row_encoding, row_items}
 use Rattle.cbor_edn_core.proofs.MeaningSteps.{both_steps, some_is}
 use Rattle.cbor_edn_core.proofs.Meanings.{meaning_fits}
@@ -37,18 +38,49 @@ too_large i PlusSign n le = not_small n _ _ (omega arith) ∙ if_large n (2 ^ 12
 too_large i MinusSign zero le = absurd (omega arith)
 too_large i MinusSign (suc n) le = not_small n _ _ (omega arith) ∙ if_large (n + 1) (2 ^ 128) _ (omega arith)
 
+-- The integer of a literal whose magnitude is below that, put to a use that larger ones do not have.
+no_integer : {A : Type 0} (use_of : ℤ → Option A) (x : List ℕ) → ((sign : Sign) (n : ℕ) → 2 ^ 128 ≤ n → use_of (signed sign n) ≡ None) → ((z : ℤ) → integer_of x ≡ Some z → 2 ^ 128 ≤ magnitude_of x) → (integer_of x >>= use_of) ≡ None
+unfolding integer_of
+no_integer {A} use_of x useless large = by_test (is_numeral (radix (base_of x)) (digits_of x)) (large (signed (sign_of x) (magnitude_of x)))
+  where
+    by_test : (numeral : Bool) → (cond numeral (Some (signed (sign_of x) (magnitude_of x))) None ≡ Some (signed (sign_of x) (magnitude_of x)) → 2 ^ 128 ≤ magnitude_of x) → (cond numeral (Some (signed (sign_of x) (magnitude_of x))) None >>= use_of) ≡ None
+    by_test true le = useless (sign_of x) (magnitude_of x) (le refl)
+    by_test false le = refl
+
 -- a literal of that magnitude, or what is no literal
 pub no_number : (x : List ℕ) (i : Option Indicator) → ((z : ℤ) → integer_of x ≡ Some z → 2 ^ 128 ≤ magnitude_of x) → means (Number x i) ≡ None
-unfolding means integer_of
-no_number x i large = by_test (is_numeral (radix (base_of x)) (digits_of x)) (large (signed (sign_of x) (magnitude_of x)))
-  where
-    by_test : (numeral : Bool) → (cond numeral (Some (signed (sign_of x) (magnitude_of x))) None ≡ Some (signed (sign_of x) (magnitude_of x)) → 2 ^ 128 ≤ magnitude_of x) → (cond numeral (Some (signed (sign_of x) (magnitude_of x))) None >>= means_integer i) ≡ None
-    by_test true le = too_large i (sign_of x) (magnitude_of x) (le refl)
-    by_test false le = refl
+unfolding means
+no_number x i large = no_integer (means_integer i) x (too_large i) large
+
+too_large_to_be_simple : (i : Option Indicator) (n : ℕ) → 2 ^ 128 ≤ n → simple_number i (pos n) ≡ None
+too_large_to_be_simple i n le = let is : is_simple n ≡ false = grind (arith, nat_tests) in rw is refl
+
+never_simple : (i : Option Indicator) (sign : Sign) (n : ℕ) → 2 ^ 128 ≤ n → simple_number i (signed sign n) ≡ None
+never_simple i NoSign n le = too_large_to_be_simple i n le
+never_simple i PlusSign n le = too_large_to_be_simple i n le
+never_simple i MinusSign zero le = absurd (omega arith)
+never_simple i MinusSign (suc n) le = refl
+
+pub no_simple : (x : List ℕ) (i : Option Indicator) → ((z : ℤ) → integer_of x ≡ Some z → 2 ^ 128 ≤ magnitude_of x) → simple_of x i ≡ None
+no_simple x i large = no_integer (simple_number i) x (never_simple i) large
 
 pub number_means : (x : List ℕ) (i : Option Indicator) (z : ℤ) → integer_of x ≡ Some z → means (Number x i) ≡ means_integer i z
 unfolding means
 number_means x i z e = rw e refl
+
+-- ---- tags
+
+pub tag_pushed : (n : ℕ) (i : Option Indicator) (w : Node Item) (old middle new : List ℕ) (r : Pushed) → Encodes (λ d. head 6 d n) (width_of i n) old middle (Ok tt) → Encodes encoding (means w) middle new r → Encodes encoding (means (Tagged n i w)) old new r
+unfolding means
+tag_pushed n i w old middle new (Ok u) width content =
+    (tag width.0 n content.0, rw (width.1, content.1) refl, content.2 ∙ ap (λ (l : List ℕ). l ++ encoding content.0) width.2 ∙ append_assoc old (head 6 width.0 n) (encoding content.0))
+tag_pushed n i w old middle new (Err (Told e)) width content = rw (width.1, content) refl
+tag_pushed n i w old middle new (Err (Memory e)) width content = tt
+
+pub tag_stops : (n : ℕ) (i : Option Indicator) (w : Node Item) (old middle new : List ℕ) (f : Fault InconsistentEdn) → Encodes (λ d. head 6 d n) (width_of i n) old middle (Err f) → Encodes encoding (means (Tagged n i w)) old new (Err f)
+unfolding means
+tag_stops n i w old middle new (Told e) width = rw width refl
+tag_stops n i w old middle new (Memory e) width = tt
 
 -- ---- one entry, and more
 

@@ -29,7 +29,6 @@ pub mod MeaningSteps
 pub mod Meanings
 pub mod Outcomes
 pub mod Places
-pub mod Printable
 pub mod Rows
 pub mod Spelled
 pub mod Steps

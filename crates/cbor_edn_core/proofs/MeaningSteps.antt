@@ -1,5 +1,5 @@
 -- Steps that may give nothing.
-use Rattle.std.proofs.Common.{◌≡◌, Bool, true, false, cond, Option, Some, None, refl}
+use Rattle.std.proofs.Common.{◌≡◌, Bool, true, false, ◌&&◌, cond, Option, Some, None, refl}
 use Rattle.cbor_edn_core.specs.Meaning.{◌>>=◌}
 
 -- a step and what follows it
@@ -20,3 +20,7 @@ given x = Some x
 
 pub some_is : {A : Type 0} (x y : A) → given x ≡ given y → x ≡ y
 some_is x y e = cc
+
+pub if_both : (a b : Bool) → (a && b) ≡ true → (a ≡ true) × (b ≡ true)
+if_both true b e = (refl, e)
+if_both false b e = absurd cc

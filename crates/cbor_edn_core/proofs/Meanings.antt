@@ -1,8 +1,9 @@
 -- What items mean can be encoded.
-use Rattle.std.proofs.Common.{◌≡◌, ℕ, ℤ, pos, negsuc, zero, suc, ◌+◌, ◌^◌, ◌<◌, ◌≤◌, List, [], ◌∷◌, ◌++◌, length, Bool, true, false, cond, ltb, Option, Some, None, refl, sym, ap, subst, inl, inr, arith}
+use Rattle.std.proofs.Common.{◌≡◌, ℕ, ℤ, pos, negsuc, zero, suc, ◌+◌, ◌^◌, ◌<◌, ◌≤◌, List, [], ◌∷◌, ◌++◌, length, Bool, true, false, ◌&&◌, cond, ltb, Option, Some, None, refl, sym, ap, subst, inl, inr, arith}
 use Rattle.std.specs.List.{AllByRecursion}
 use Rattle.std.specs.Int.{byte_at, bytes_high_first}
 use Rattle.std.proofs.lemmas.Bool.{cases_lt, lt-ltb, le-ltb, ltb-true}
+use Rattle.std.proofs.lemmas.Bool.Decides.{nat_tests}
 use Rattle.std.proofs.lemmas.List.Elements.{All-nil, All-cons, All-head, All-tail}
 use Rattle.cbor_edn_parts.specs.Number.{integer_of}
 use Rattle.cbor_edn_parts.specs.declared.indicator.Indicator.{Indicator}
@@ -12,12 +13,14 @@ use Rattle.cbor_edn_parts.specs.declared.string.StringKind.TheVariants.{Bytes, T
 use Rattle.cbor_edn_parts.specs.Contents.{Content}
 use Rattle.cbor_edn_core.specs.declared.cbor.Width.{Width}
 use Rattle.cbor_edn_core.specs.declared.cbor.Width.TheVariants.{Immediate, One, Two, Four, Eight}
-use Rattle.cbor_edn_core.specs.Items.{Row, Elements, Pairs, Strings, Bracketed, Array, Map, entries_of, Sort, Item, Piece, Pieces, Entry, Entries, Node, Number, Listed, String, Stream, Literal, Dots, Embedded, LastPiece, Plus, Element, Pair, Chunk, End, Then}
+use Rattle.cbor_edn_core.specs.Items.{Row, Elements, Pairs, Strings, Bracketed, Array, Map, entries_of, Sort, Item, Piece, Pieces, Entry, Entries, Node, Number, Float, Listed, Tagged, Named, Simple, String, Stream, Literal, Dots, Embedded, LastPiece, Plus, Element, Pair, Chunk, End, Then}
+use Rattle.cbor_edn_core.specs.declared.word.NamedSimple.{NamedSimple}
+use Rattle.cbor_edn_core.specs.declared.word.NamedSimple.TheVariants.{False, True, Null, Undefined}
 use Rattle.cbor_edn_core.specs.Value as values
-use Rattle.cbor_edn_core.specs.Value.{Value, unsigned, negative, string, chunks, limit_of, ArgumentFits, LengthFits, AreBytes, is_content, ChunkFits, ChunksFit, Fits, ValuesFit, PairsFit, values_len, pairs_len, head, string_major, open_head, break, list_encoding, chunk_encoding, chunk_encodings, encoding, encodings, pair_encodings}
-use Rattle.cbor_edn_core.specs.Meaning.{◌>>=◌, shortest, fitting, width_of, length_of, without_zeros, magnitude_bytes, tagged, unmarked, bignum, means_integer, pieces_mark, chunk_of, string_of, chunks_of, stream_of, MeaningOf, EntryOf, RowOf, row_len, list_value, listed, no_entries, one_more, means}
+use Rattle.cbor_edn_core.specs.Value.{Value, unsigned, negative, string, chunks, tag, simple, float, limit_of, IsSimple, IsFloatWidth, ArgumentFits, LengthFits, AreBytes, is_content, ChunkFits, ChunksFit, Fits, ValuesFit, PairsFit, values_len, pairs_len, head, string_major, open_head, break, list_encoding, chunk_encoding, chunk_encodings, encoding, encodings, pair_encodings}
+use Rattle.cbor_edn_core.specs.Meaning.{◌>>=◌, shortest, fitting, width_of, length_of, without_zeros, magnitude_bytes, tagged, unmarked, bignum, means_integer, float_width, named_number, is_simple, is_shortest, simple_number, simple_of, means_simple, pieces_mark, chunk_of, string_of, chunks_of, stream_of, MeaningOf, EntryOf, RowOf, row_len, list_value, listed, no_entries, one_more, means}
 use Rattle.cbor_edn_core.specs.Encoding.{entry_encoding, row_encoding, string_encodings}
-use Rattle.cbor_edn_core.proofs.MeaningSteps.{both_steps, some_if, some_is}
+use Rattle.cbor_edn_core.proofs.MeaningSteps.{if_both, both_steps, some_if, some_is}
 
 narrow : (n limit : ℕ) (w x : Width) → (n < limit → ArgumentFits w n) → ArgumentFits x n → ArgumentFits (cond (ltb n limit) w x) n
 narrow n limit w x below otherwise =
@@ -100,6 +103,35 @@ number_fits false make i n big v made large e = large e
 integer_fits : (i : Option Indicator) (z : ℤ) (v : Value) → means_integer i z ≡ Some v → Fits v
 integer_fits i (pos n) v e = number_fits (ltb n (2 ^ 64)) (λ w. unsigned w n) i n (bignum 2 n n i) v (λ w lt. lt) (bignum_fits 2 n n i v (omega arith)) e
 integer_fits i (negsuc n) v e = number_fits (ltb n (2 ^ 64)) (λ w. negative w n) i n (bignum 3 n (n + 1) i) v (λ w lt. lt) (bignum_fits 3 n (n + 1) i v (omega arith)) e
+
+-- ---- floating-point and simple values
+
+float_fits : (i : Option Indicator) (w : Width) → float_width i ≡ Some w → IsFloatWidth w
+float_fits None w e = subst IsFloatWidth (some_is Two w e) tt
+float_fits (Some indicator.Two) w e = subst IsFloatWidth (some_is Two w e) tt
+float_fits (Some indicator.Four) w e = subst IsFloatWidth (some_is Four w e) tt
+float_fits (Some indicator.Eight) w e = subst IsFloatWidth (some_is Eight w e) tt
+float_fits (Some _) w e = absurd cc
+
+named_fits : (b : NamedSimple) → IsSimple (named_number b)
+named_fits False = inl (omega arith)
+named_fits True = inl (omega arith)
+named_fits Null = inl (omega arith)
+named_fits Undefined = inl (omega arith)
+
+is_simple_fits : (n : ℕ) → is_simple n ≡ true → IsSimple n
+is_simple_fits n e = grind (arith, nat_tests)
+
+simple_number_fits : (i : Option Indicator) (z : ℤ) (n : ℕ) → simple_number i z ≡ Some n → IsSimple n
+simple_number_fits i (pos m) n e = let b = some_if (is_simple m && is_shortest i m) m n e in subst IsSimple b.1 (is_simple_fits m (if_both (is_simple m) (is_shortest i m) b.0).0)
+simple_number_fits i (negsuc m) n e = absurd cc
+
+simple_fits : (w : Node Item) (v : Value) → means_simple w ≡ Some v → Fits v
+simple_fits (Number x i) v e =
+    let a = both_steps (simple_of x i) (λ n. Some (simple n)) v e in
+    let b = both_steps (integer_of x) (simple_number i) a.0 a.1 in
+    subst Fits (some_is (simple a.0) v a.2) (simple_number_fits i b.0 a.0 b.2)
+simple_fits _ v e = absurd cc
 
 -- ---- strings
 
@@ -222,6 +254,13 @@ one_more_fits Strings p ps first others all = let b = both_bytes (chunk_encoding
 pub meaning_fits : {s : Sort} (w : Node s) (v : MeaningOf s) → means w ≡ Some v → MeaningFits s v
 unfolding means
 meaning_fits (Number x i) v e = let b = both_steps (integer_of x) (means_integer i) v e in λ all. integer_fits i b.0 v b.2
+meaning_fits (Float f i) v e = let b = both_steps (float_width i) (λ w. Some (float w f)) v e in λ all. subst Fits (some_is (float b.0 f) v b.2) (float_fits i b.0 b.1)
+meaning_fits (Tagged n i w) v e =
+    let a = both_steps (width_of i n) (λ d. means w >>= λ x. Some (tag d n x)) v e in
+    let b = both_steps (means w) (λ x. Some (tag a.0 n x)) v a.2 in
+    subst (λ v. AreBytes (encoding v) → Fits v) (some_is (tag a.0 n b.0) v b.2) (λ all. (width_fits i a.0 n a.1, meaning_fits w b.0 b.1 (both_bytes (head 6 a.0 n) (encoding b.0) all).1))
+meaning_fits (Named b) v e = λ all. subst Fits (some_is (simple (named_number b)) v e) (named_fits b)
+meaning_fits (Simple w) v e = λ all. simple_fits w v e
 meaning_fits (Listed k i m) v e = let b = both_steps (means m) (listed k i) v e in listed_fits k i b.0 v (meaning_fits m b.0 b.1) b.2
 meaning_fits (String w) v e =
     let a = both_steps (means w) (λ c. pieces_mark w >>= string_of c) v e in

@@ -12,7 +12,7 @@ use Rattle.cbor_edn_core.specs.Value as values
 use Rattle.cbor_edn_core.specs.Value.{is_content, encodings}
 use Rattle.cbor_edn_core.specs.Meaning.{◌>>=◌, width_of, joined, pieces_mark, chunk_of, same_kind, chunks_of, means}
 use Rattle.cbor_edn_core.specs.Encoding.{piece_kind, form_kind, kinds_are}
-use Rattle.cbor_edn_core.proofs.MeaningSteps.{both_steps, some_is}
+use Rattle.cbor_edn_core.proofs.MeaningSteps.{if_both, both_steps, some_is}
 use Rattle.cbor_edn_core.proofs.Meanings.{if_content, given_chunk}
 
 empty_or_not : (xs : List ℕ) → (xs ≡ []) ⊎ ((x : ℕ) × (t : List ℕ) × (xs ≡ x ∷ t))
@@ -80,10 +80,6 @@ chunk_of_kind w p e =
     sym (ap (λ (p : StringKind × values.Chunk). p.0) (some_is (a.0.0, (f.0, a.0.1)) p f.2)) ∙ string_of_kind w a.0 a.1
 
 -- ---- the kinds of a stream's strings
-
-if_both : (a b : Bool) → (a && b) ≡ true → (a ≡ true) × (b ≡ true)
-if_both true b e = (refl, e)
-if_both false b e = absurd cc
 
 abbrev pub Strings_of : Type 0
 Strings_of = List (StringKind × values.Chunk)

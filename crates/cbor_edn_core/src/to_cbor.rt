@@ -72,11 +72,7 @@ fn push_item(out: &mut Vec<u8>, item: &Item<'_>) -> Result<(), Fault<Inconsisten
         InnerItem::Number(number, indicator) => push_number(out, number, *indicator),
         InnerItem::NonFinite(float, indicator) => push_float(out, *float, *indicator),
         InnerItem::Named(name) => Ok(push_simple(out, simple_number(*name))?),
-        InnerItem::Enclosed(Label::Tag(number, indicator), content) => {
-            push_marked_head(out, 6, *indicator, *number)?;
-            push_item(out, &content.item)
-        }
-        InnerItem::Enclosed(Label::Simple, content) => push_numeric(out, &content.item),
+        InnerItem::Enclosed(label, content) => push_enclosed(out, *label, content),
         InnerItem::Array(list) => push_array(out, list),
         InnerItem::Map(list) => push_map(out, list),
         InnerItem::String(string) => push_pieces(out, string),
@@ -84,31 +80,48 @@ fn push_item(out: &mut Vec<u8>, item: &Item<'_>) -> Result<(), Fault<Inconsisten
     }
 }
 
-/// Writes the simple value that an item stands for, which is an integer literal.
+#[cycle(encode)]
+#[tactic(auto, unfolding(crate::specs::Trees::items))]
+fn push_enclosed(
+    out: &mut Vec<u8>,
+    label: Label,
+    content: &StandaloneItem<'_>,
+) -> Result<(), Fault<InconsistentEdn>>
+    ensures { Encodes encoding (means (trees.labelled label (trees.items (standalone_tree content.now)))) out.old.items out.new.items result }
+{
+    match label {
+        Label::Tag(number, indicator) => {
+            push_marked_head(out, 6, indicator, number)?;
+            push_item(out, &content.item)
+        }
+        Label::Simple => push_numeric(out, &content.item),
+    }
+}
+
+/// Writes the simple value whose number an item is. Fails where the item is no such number.
 #[tactic(auto, unfolding(crate::specs::Trees::items))]
 fn push_numeric(out: &mut Vec<u8>, item: &Item<'_>) -> Result<(), Fault<InconsistentEdn>>
     ensures { Encodes encoding (meaning.means_simple (trees.items (item_tree item.now))) out.old.items out.new.items result }
 {
-    let InnerItem::Number(number, indicator) = &item.inner else {
-        return Err(Fault::Told(InconsistentEdn::InvalidSimple));
+    let simple = match &item.inner {
+        InnerItem::Number(number, indicator) => simple_of(number, *indicator),
+        _ => None,
     };
-    let number = simple_of(number, *indicator)?;
-    push_simple(out, number)?;
-    Ok(())
+    match simple {
+        Some(number) => Ok(push_simple(out, number)?),
+        None => Err(Fault::Told(InconsistentEdn::InvalidSimple)),
+    }
 }
 
 /// The number of a simple value, where it is one, and its indicator the shortest.
-fn simple_of(
-    number: &Number<'_>,
-    indicator: Option<Indicator>,
-) -> Result<u8, Fault<InconsistentEdn>>
-    ensures { Finds (meaning.simple_of (number_bytes number.now) indicator) result }
+fn simple_of(number: &Number<'_>, indicator: Option<Indicator>) -> Option<u8>
+    ensures { result ≡ meaning.simple_of (number_bytes number.now) indicator }
 {
-    match number.integer() {
-        Some(Integer::Positive(n @ (0..=23 | 32..=255))) if is_shortest(indicator, n as u8) => {
-            Ok(n as u8)
+    match number.integer()? {
+        Integer::Positive(n @ (0..=23 | 32..=255)) if is_shortest(indicator, n as u8) => {
+            Some(n as u8)
         }
-        _ => Err(Fault::Told(InconsistentEdn::InvalidSimple)),
+        _ => None,
     }
 }
 

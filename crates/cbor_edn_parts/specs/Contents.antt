@@ -8,6 +8,8 @@ use Rattle.cbor_edn_parts.specs.SpaceTokens.{space_step}
 use Rattle.cbor_edn_parts.specs.Number.{Hexadecimal, IsDigitOf}
 use Rattle.cbor_edn_parts.specs.Literal.{single_quote, double_quote, backslash, Quoting, Double, Single, Prefixed}
 use Rattle.cbor_edn_parts.specs.LiteralTokens.{decoded, prefix_of, quoted_of}
+use Rattle.cbor_edn_parts.specs.declared.error.InconsistentEdn.{InconsistentEdn}
+use Rattle.cbor_edn_parts.specs.declared.error.InconsistentEdn.TheVariants.{UnsupportedLiteral, UndecodableContent}
 use Rattle.cbor_edn_parts.specs.declared.space.Within.{Within}
 use Rattle.cbor_edn_parts.specs.declared.space.Within.TheVariants.{Between, InSlashes}
 use Rattle.cbor_edn_parts.specs.declared.string.Quote.{Quote}
@@ -170,9 +172,17 @@ content_behind (c ∷ p) (q ∷ t) = of_bytes (prefixed_bytes (c ∷ p) (decoded
 abbrev pub literal_content : List ℕ → Option Content
 literal_content t = content_behind (prefix_of t) (quoted_of t)
 
+-- whether a prefix is one of the four
+abbrev pub is_decoded : List ℕ → Bool
+is_decoded p = same p h || same p b64 || same p b32 || same p h32
+
 -- whether a literal has no prefix or one of the four: only such a literal has a content
 abbrev pub is_supported : List ℕ → Bool
-is_supported t = same (prefix_of t) [] || same (prefix_of t) h || same (prefix_of t) b64 || same (prefix_of t) b32 || same (prefix_of t) h32
+is_supported t = same (prefix_of t) [] || is_decoded (prefix_of t)
+
+-- What is told of a literal that has no content, by whether it is supported.
+abbrev pub refusal : Bool → InconsistentEdn
+refusal supported = if supported then UndecodableContent else UnsupportedLiteral
 
 -- the kind by the quote
 abbrev pub literal_kind : List ℕ → StringKind

@@ -28,6 +28,7 @@ impl Alphabet {
     ) -> Result<Vec<u8>, Fault<InconsistentEdn>>
         ensures bytes { IfOk result (λ v. base_bytes (alphabet self) 0 0 text.now ≡ Some v.items) }
         ensures none { IfTold result (λ e. base_bytes (alphabet self) 0 0 text.now ≡ None) }
+        ensures told { IfTold result (λ e. e ≡ InconsistentEdn.UndecodableContent) }
     {
         let undecodable = Fault::Told(InconsistentEdn::UndecodableContent);
         let width = self.width();

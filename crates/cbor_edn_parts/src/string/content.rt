@@ -18,6 +18,7 @@ impl Literal<'_> {
     pub fn content(&self, alloc: Global) -> Result<(StringKind, Vec<u8>), Fault<InconsistentEdn>>
         ensures content { IfOk result (λ p. literal_content (literal_bytes self.now) ≡ Some (p.0, p.1.items)) }
         ensures none { IfTold result (λ e. literal_content (literal_bytes self.now) ≡ None) }
+        ensures told { IfTold result (λ e. e ≡ contents.refusal (contents.is_supported (literal_bytes self.now))) }
     {
         let kind = self.kind();
         let prefix = self.prefix();
@@ -70,6 +71,7 @@ impl Literal<'_> {
 fn prefixed(alloc: Global, prefix: &str, text: &[u8]) -> Result<Vec<u8>, Fault<InconsistentEdn>>
     ensures bytes { IfOk result (λ v. contents.prefixed_bytes prefix.now text.now ≡ Some v.items) }
     ensures none { IfTold result (λ e. contents.prefixed_bytes prefix.now text.now ≡ None) }
+    ensures told { IfTold result (λ e. e ≡ contents.refusal (contents.is_decoded prefix.now)) }
 {
     match prefix {
         "h" => hexadecimal::decode(alloc, text),

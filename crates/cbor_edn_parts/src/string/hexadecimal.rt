@@ -13,6 +13,7 @@ use std::alloc::Global;
 pub(super) fn decode(alloc: Global, text: &[u8]) -> Result<Vec<u8>, Fault<InconsistentEdn>>
     ensures bytes { IfOk result (λ v. hex_bytes Within.Between None text.now ≡ Some v.items) }
     ensures none { IfTold result (λ e. hex_bytes Within.Between None text.now ≡ None) }
+    ensures told { IfTold result (λ e. e ≡ InconsistentEdn.UndecodableContent) }
 {
     let undecodable = Fault::Told(InconsistentEdn::UndecodableContent);
     let mut bytes = Vec::new(alloc);

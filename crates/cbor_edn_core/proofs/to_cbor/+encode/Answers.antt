@@ -1,10 +1,10 @@
-use Rattle.std.proofs.Common.{◌≡◌, ◌+◌, ◌++◌, length, None, refl, map, drop, ap, sym, subst, ◌∙◌, arith, Some, Ok, Err}
+use Rattle.std.proofs.Common.{◌≡◌, ℕ, ◌+◌, ◌++◌, length, None, refl, map, drop, ap, sym, subst, ◌∙◌, arith, Some, Ok, Err}
 use Rattle.cbor_edn_core.specs.Items.{Elements, Pairs, Strings, Array, Map}
 use Rattle.cbor_edn_core.specs.Trees.{ElementTree, ChunkTree, LastPieceTree, items, mark}
-use Rattle.cbor_edn_core.specs.Meaning.{length_of, means}
+use Rattle.cbor_edn_core.specs.Meaning.{length_of, named_number, means}
 use Rattle.cbor_edn_core.specs.Encoding.{Encodes, Finds, list_head}
 use Rattle.cbor_edn_core.specs.View.{texts, seen, seen_pair, seen_piece, seen_string, item_tree, view_piece, view_sequence, view_string, view_strings, view_head, view_items, view_pairs, view_pair}
-use Rattle.cbor_edn_core.proofs.CborEncodes.{empty_encoded, full_encoded, full_stops, full_unfit, row_then_last, row_stops, element_encoded, pair_encoded, pair_stops, next_pushed, next_stops, all_pushed, rest_at, PushesRest}
+use Rattle.cbor_edn_core.proofs.CborEncodes.{empty_encoded, full_encoded, full_stops, full_unfit, row_then_last, row_stops, element_encoded, pair_encoded, pair_stops, next_pushed, next_stops, all_pushed, rest_at, tag_pushed, tag_stops, PushesRest}
 use Rattle.std.proofs.lemmas.Result.{err_from_is_err_and}
 use Rattle.std.proofs.lemmas.List.{drop_all, length-map}
 use Rattle.cbor_edn_parts.specs.Leaves.{s_bytes, soc_bytes}
@@ -12,7 +12,7 @@ use Rattle.cbor_edn_core.specs.declared.tree.Items.{out-Items}
 use Rattle.cbor_edn_core.specs.declared.tree.Pairs.{out-Pairs}
 use Rattle.cbor_edn_core.specs.declared.tree.SequenceOf.{out-SequenceOf}
 use Rattle.cbor_edn_core.specs.declared.tree.Strings.{out-Strings}
-use Rattle.cbor_edn_core.specs.Value.{encoding}
+use Rattle.cbor_edn_core.specs.Value.{encoding, simple}
 use Rattle.cbor_edn_core.proofs.Views.{view_items_is, view_pairs_is, view_sequence_is, view_stream_is, view_string_is, view_strings_is}
 use Rattle.cbor_edn_core.proofs.StringEncodes.{GathersRest, none_gathered, next_gathered, next_ungathered, all_gathered, embedded_gathered, embedded_stops, stream_pushed, stream_stops, stream_mixed, has_first, string_pushed, string_marked, string_lacks, part_pushed, part_marked, part_lacks, part_is, refused_so, content_is, sequence_pushed, nothing_pushed}
 use Rattle.cbor_edn_core.proofs.to_cbor.+encode.Goals as goal
@@ -336,3 +336,32 @@ push_part_row-returns t c =
     let row = c.args.row.now in
     all_pushed (map (seen_string texts) row) _ _
     (subst (λ left. PushesRest (map (seen_string texts) left) (map (seen_string texts) row) c.loop-string.out.items c.args.out.now.items) (drop_all c.loop-string.string-index row (omega arith)) c.loop-string.invariant)
+
+-- ---- floating-point numbers, simple values and tags
+
+pub push_item-returns-in-NonFinite : goal.push_item-returns-in-NonFinite
+unfolding items means
+push_item-returns-in-NonFinite t c = rw c.in-NonFinite.is c.push_float.ensures
+
+pub push_item-returns-in_ok-push_simple-in-Named : goal.push_item-returns-in_ok-push_simple-in-Named
+unfolding items means
+push_item-returns-in_ok-push_simple-in-Named t c = rw c.in-Named.is (simple (named_number c.in-Named.name), refl, c.in_ok-push_simple-in-Named.ensures ∙ ap (λ (n : ℕ). c.args.out.now.items ++ encoding (simple n)) c.simple_number.ensures)
+
+pub push_item-returns-in-Enclosed : goal.push_item-returns-in-Enclosed
+unfolding items
+push_item-returns-in-Enclosed t c = rw (c.in-Enclosed.is, ← c.deref.ensures) c.push_enclosed.ensures
+
+pub push_enclosed-returns-in_err-push_marked_head-in-Tag : goal.push_enclosed-returns-in_err-push_marked_head-in-Tag
+unfolding items
+push_enclosed-returns-in_err-push_marked_head-in-Tag t c =
+    let p = err_from_is_err_and c.from_residual.result c.from_residual.ensures.1 in
+    rw (c.in-Tag.is, p.1, p.2) (tag_stops c.in-Tag.number c.in-Tag.indicator (items (item_tree c.args.content.now.item)) c.args.out.now.items c.push_marked_head.new.out.items c.push_marked_head.new.out.items c.in_err-push_marked_head-in-Tag.field-0.0 c.in_err-push_marked_head-in-Tag.ensures)
+
+pub push_enclosed-returns-in_ok-push_marked_head-in-Tag : goal.push_enclosed-returns-in_ok-push_marked_head-in-Tag
+unfolding items
+push_enclosed-returns-in_ok-push_marked_head-in-Tag t c =
+    rw c.in-Tag.is (tag_pushed c.in-Tag.number c.in-Tag.indicator (items (item_tree c.args.content.now.item)) c.args.out.now.items c.push_marked_head.new.out.items c.push_item.new.out.items c.push_item.result c.in_ok-push_marked_head-in-Tag.ensures c.push_item.ensures)
+
+pub push_enclosed-returns-in-Simple : goal.push_enclosed-returns-in-Simple
+unfolding items means
+push_enclosed-returns-in-Simple t c = rw c.in-Simple.is c.push_numeric.ensures

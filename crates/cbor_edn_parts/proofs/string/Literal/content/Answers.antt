@@ -9,7 +9,7 @@ use Rattle.cbor_edn_parts.specs.declared.string.Part.TheVariants.{Between}
 use Rattle.cbor_edn_parts.specs.declared.string.Quote.{Quote}
 use Rattle.cbor_edn_parts.specs.declared.string.StringKind.{StringKind}
 use Rattle.cbor_edn_parts.specs.declared.string.StringKind.TheVariants.{Bytes}
-use Rattle.cbor_edn_parts.proofs.Prefixes.{plain_content, prefixed_content, bytes_kind}
+use Rattle.cbor_edn_parts.proofs.Prefixes.{differ, plain_content, prefixed_content, bytes_kind}
 use Rattle.cbor_edn_parts.proofs.Refusals.{told_weaker}
 use Rattle.cbor_edn_parts.proofs.string.Literal.content.Goals as goal
 
@@ -56,3 +56,8 @@ returns-in_err-prefixed-clause-none c =
     rw (refused.1, refused.2) (told_weaker c.in_err-prefixed.field-0.0 _ _
     (content_is t p _ _ _ _ _ c.args.self.now.spelled c.prefix-prefix.ensures (some p c.if-is_empty.ensures) c.kind-kind.ensures c.quote.ensures c.quoted.ensures v_is)
     c.in_err-prefixed.ensures.none)
+
+pub returns-in_err-prefixed-clause-told : goal.returns-in_err-prefixed-clause-told
+returns-in_err-prefixed-clause-told c =
+    let refused = err_from_is_err_and c.from_residual-in_err-prefixed.result c.from_residual-in_err-prefixed.ensures.1 in
+    rw (refused.1, refused.2, ← c.prefix-prefix.ensures, differ _ _ (some c.prefix-prefix.result.now c.if-is_empty.ensures)) c.in_err-prefixed.ensures.told

@@ -39,8 +39,6 @@ pub returns-in-InSlashes-clause-none : goal.returns-in-InSlashes-clause-none
 returns-in-InSlashes-clause-none c =
     unended (hex_bytes c.loop-byte.within c.loop-byte.waiting) _ _ _ _ c.loop-byte.invariant.reads c.loop-byte-test.false (rw c.in-InSlashes.is (hex_in_comment _))
 
-pub returns-in-Between : goal.returns-in-Between
-returns-in-Between c = record {
-  bytes = ended (hex_bytes c.loop-byte.within c.loop-byte.waiting) _ _ _ _ c.loop-byte.invariant.reads c.loop-byte-test.false (hex_all c.loop-byte.within _ c.if-is_some.ensures c.in-Between.is);
-  none = tt;
-}
+pub returns-in-Between-clause-bytes : goal.returns-in-Between-clause-bytes
+returns-in-Between-clause-bytes c =
+    ended (hex_bytes c.loop-byte.within c.loop-byte.waiting) _ _ _ _ c.loop-byte.invariant.reads c.loop-byte-test.false (hex_all c.loop-byte.within _ c.if-is_some.ensures c.in-Between.is)

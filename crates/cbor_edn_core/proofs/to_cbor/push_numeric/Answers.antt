@@ -1,0 +1,17 @@
+use Rattle.std.proofs.Common.{◌≡◌, Some, ap}
+use Rattle.cbor_edn_parts.specs.Leaves.{number_bytes}
+use Rattle.cbor_edn_core.specs.Trees.{items}
+use Rattle.cbor_edn_core.specs.Value.{simple}
+use Rattle.cbor_edn_core.specs.Meaning.{◌>>=◌, simple_of}
+use Rattle.cbor_edn_core.proofs.to_cbor.push_numeric.Goals as goal
+use Rattle.cbor_edn_core.proofs.to_cbor.push_numeric.Goals.{in-Number, in_default}
+
+pub returns-in_ok-push_simple-in-Some : goal.returns-in_ok-push_simple-in-Some
+unfolding items
+returns-in_ok-push_simple-in-Some c =
+    elim c.match-item.branch [
+      | in-Number w ↦ (
+          let found : simple_of (number_bytes w.in-Number.number) w.in-Number.indicator ≡ Some c.in-Some.number = cc in
+          (simple c.in-Some.number, rw w.in-Number.is (ap (λ o. o >>= λ n. Some (simple n)) found), c.in_ok-push_simple-in-Some.ensures))
+      | in_default w ↦ absurd cc
+    ]
