@@ -1,5 +1,5 @@
 //! Laws of the definitions: each function's contract is a law, and its body is empty.
-ghost use Rattle.cbor_edn_core.specs.CborLaws.{OneEncoding, ItemMeans};
+ghost use Rattle.cbor_edn_core.specs.CborLaws.{OneEncoding, ItemMeans, SpelledMeans};
 ghost use Rattle.cbor_edn_core.specs.Laws.{SpelledByTrees, UniqueItems, UniqueSpaces};
 
 /// A text spells at most one list of items, and has one tree.
@@ -23,4 +23,9 @@ pub fn one_encoding()
 /// The item that a value is decoded as means this value.
 pub fn item_means()
     ensures { ItemMeans }
+{}
+
+/// Whatever is spelled like the item of a value means this value; the same for lists.
+pub fn spelled_means()
+    ensures { SpelledMeans }
 {}
