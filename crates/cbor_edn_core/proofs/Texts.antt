@@ -3,12 +3,12 @@ use Rattle.std.proofs.Common.{◌≡◌, ℕ, List, [], ◌∷◌, ◌++◌, ref
 use Rattle.std.proofs.lemmas.List.{append-nil}
 use Rattle.cbor_edn_parts.specs.declared.indicator.Indicator.{Indicator}
 use Rattle.cbor_edn_parts.specs.Indicator.{indicator_text}
-use Rattle.cbor_edn_core.specs.declared.tree.Label.{Label}
-use Rattle.cbor_edn_core.specs.declared.word.NamedSimple.{NamedSimple}
-use Rattle.cbor_edn_core.specs.declared.word.NonFinite.{NonFinite}
 use Rattle.cbor_edn_core.specs.Items.{Row, Elements, Strings, Bracketed, entries_of}
 use Rattle.cbor_edn_core.specs.Spelling.{opening, ending}
 use Rattle.cbor_edn_core.specs.Trees.{OneItem, OnePiece, OneString, OneEntry, Inside, Rest, Seq, Standalone, Head, Tree, NumberTree, FloatTree, NamedTree, EnclosedTree, ListTree, StringTree, StreamTree, LiteralTree, DotsTree, EmbeddedTree, LastPieceTree, PlusTree, ElementTree, ChunkTree, PairTree, EmptyTree, FullTree, LastTree, MoreTree, NothingTree, SequenceTree, StandaloneTree, head_text, label_text, onto, text}
+use Rattle.cbor_edn_core.specs.declared.tree.Label.{Label}
+use Rattle.cbor_edn_core.specs.declared.word.NamedSimple.{NamedSimple}
+use Rattle.cbor_edn_core.specs.declared.word.NonFinite.{NonFinite}
 use Rattle.cbor_edn_core.specs.Words.{named_text, non_finite_text}
 use Rattle.cbor_edn_core.specs.View.{entries_onto, entries_text, pieces_onto, pieces_text}
 use Rattle.cbor_edn_core.proofs.Spelled.{parted}
@@ -16,6 +16,18 @@ use Rattle.cbor_edn_core.proofs.Spelled.{parted}
 pub text_number : (x : List ℕ) (i : Option Indicator) → text (NumberTree x i) ≡ x ++ indicator_text i
 unfolding onto
 text_number x i = ap (λ t. x ++ t) (append-nil (indicator_text i))
+
+pub text_float : (f : NonFinite) (i : Option Indicator) → text (FloatTree f i) ≡ non_finite_text f ++ indicator_text i
+unfolding onto
+text_float f i = ap (λ t. non_finite_text f ++ t) (append-nil (indicator_text i))
+
+pub text_named : (b : NamedSimple) → text (NamedTree b) ≡ named_text b
+unfolding onto
+text_named b = append-nil (named_text b)
+
+pub text_enclosed : (l : Label) (w : Tree Standalone) → text (EnclosedTree l w) ≡ label_text l ++ (40 ∷ (text w ++ (41 ∷ [])))
+unfolding onto
+text_enclosed l w = ap (λ t. label_text l ++ (40 ∷ t)) (parted w (41 ∷ []))
 
 pub text_list : (k : Bracketed) (w : Tree (Inside k)) → text (ListTree k w) ≡ opening k ∷ (text w ++ (ending k ∷ []))
 unfolding onto
@@ -98,15 +110,3 @@ text_sequence s m = refl
 pub text_standalone : (s : List ℕ) (w : Tree OneItem) (t : List ℕ) → text (StandaloneTree s w t) ≡ s ++ (text w ++ t)
 unfolding onto
 text_standalone s w t = ap (λ u. s ++ u) (parted w (t ++ []) ∙ ap (λ u. text w ++ u) (append-nil t))
-
-pub text_float : (f : NonFinite) (i : Option Indicator) → text (FloatTree f i) ≡ non_finite_text f ++ indicator_text i
-unfolding onto
-text_float f i = ap (λ t. non_finite_text f ++ t) (append-nil (indicator_text i))
-
-pub text_named : (b : NamedSimple) → text (NamedTree b) ≡ named_text b
-unfolding onto
-text_named b = append-nil (named_text b)
-
-pub text_enclosed : (l : Label) (w : Tree Standalone) → text (EnclosedTree l w) ≡ label_text l ++ (40 ∷ (text w ++ (41 ∷ [])))
-unfolding onto
-text_enclosed l w = ap (λ t. label_text l ++ (40 ∷ t)) (parted w (41 ∷ []))

@@ -4,9 +4,10 @@ use std::alloc::Global;
 use std::test::Fail;
 
 // An item of every form that is decoded.
-const MIXED: &[u8] = b"\xbf\x01\x82\x5f\x41a\xff\x61b\x58\x00\x20\xff";
+const MIXED: &[u8] =
+    b"\xbf\x01\x82\x5f\x41a\xff\x61b\x58\x00\x20\xc1\xf8\x63\x82\xf4\xf9\x7c\x00\xff";
 
-const MIXED_TEXT: &str = "{_ 1: [(_ h'61'), \"b\"], h''_0: -1}";
+const MIXED_TEXT: &str = "{_ 1: [(_ h'61'), \"b\"], h''_0: -1, 1(simple(99)): [false, Infinity_1]}";
 
 fn decoded<'a>(alloc: Global, bytes: &[u8]) -> Result<Item<'a>, Fail> {
     Ok(Item::from_cbor(alloc, bytes)?)

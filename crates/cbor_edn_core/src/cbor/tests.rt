@@ -1,7 +1,8 @@
 use super::{
-    Width, length_of, push_chunk, push_head, push_integer, push_list_end, push_list_head,
-    push_string, width_of,
+    Width, length_of, push_chunk, push_float, push_head, push_integer, push_list_end,
+    push_list_head, push_simple, push_string, width_of,
 };
+use crate::word::NonFinite;
 use cbor_edn_parts::error::{Fault, InconsistentEdn};
 use cbor_edn_parts::indicator::Indicator;
 use cbor_edn_parts::number::Integer;
@@ -195,4 +196,72 @@ fn unfit_strings(rt: HostRuntime) {
         b"",
     );
     assert!(rt; matches!(open, Err(Fault::Told(InconsistentEdn::IndicatorDoesNotFit))));
+}
+
+// floating-point numbers of RFC 8949, appendix A
+#[test]
+fn floats(rt: HostRuntime) {
+    let table: [(NonFinite, Option<Indicator>, &[u8]); 9] = [
+        (NonFinite::Infinity, None, b"\xf9\x7c\x00"),
+        (NonFinite::NaN, Some(Indicator::Two), b"\xf9\x7e\x00"),
+        (NonFinite::NegativeInfinity, None, b"\xf9\xfc\x00"),
+        (
+            NonFinite::Infinity,
+            Some(Indicator::Four),
+            b"\xfa\x7f\x80\x00\x00",
+        ),
+        (
+            NonFinite::NaN,
+            Some(Indicator::Four),
+            b"\xfa\x7f\xc0\x00\x00",
+        ),
+        (
+            NonFinite::NegativeInfinity,
+            Some(Indicator::Four),
+            b"\xfa\xff\x80\x00\x00",
+        ),
+        (
+            NonFinite::Infinity,
+            Some(Indicator::Eight),
+            b"\xfb\x7f\xf0\x00\x00\x00\x00\x00\x00",
+        ),
+        (
+            NonFinite::NaN,
+            Some(Indicator::Eight),
+            b"\xfb\x7f\xf8\x00\x00\x00\x00\x00\x00",
+        ),
+        (
+            NonFinite::NegativeInfinity,
+            Some(Indicator::Eight),
+            b"\xfb\xff\xf0\x00\x00\x00\x00\x00\x00",
+        ),
+    ];
+    for (float, indicator, wanted) in table {
+        let mut out = Vec::new(rt.alloc());
+        assert!(rt; push_float(&mut out, float, indicator).is_ok());
+        assert!(rt; out.as_slice() == wanted, "at {float:?} {indicator:?}");
+    }
+}
+
+#[test]
+fn unfit_floats(rt: HostRuntime) {
+    for indicator in [Indicator::Indefinite, Indicator::Immediate, Indicator::One] {
+        let mut out = Vec::new(rt.alloc());
+        let told = matches!(
+            push_float(&mut out, NonFinite::NaN, Some(indicator)),
+            Err(Fault::Told(InconsistentEdn::IndicatorDoesNotFit))
+        );
+        assert!(rt; told, "at {indicator:?}");
+    }
+}
+
+// simple values of RFC 8949, appendix A
+#[test]
+fn simple_values(rt: HostRuntime) -> Result<(), AllocError> {
+    let mut out = Vec::new(rt.alloc());
+    for number in [20, 21, 22, 23, 16, 255] {
+        push_simple(&mut out, number)?;
+    }
+    assert!(rt; out.as_slice() == b"\xf4\xf5\xf6\xf7\xf0\xf8\xff".as_slice());
+    Ok(())
 }
