@@ -35,6 +35,7 @@ pub mod Steps
 pub mod StringEncodes
 pub mod StringKinds
 pub mod StringTurns
+pub mod TagDigits
 pub mod TagNumbers
 pub mod Texts
 pub mod Turns

@@ -1,6 +1,7 @@
 -- What begins at a place, in the words of the grammar.
-use Rattle.std.specs.Prelude.{ℕ, ◌≡◌, ◌≢◌, ◌≤◌, ◌<◌, ◌+◌, true, false, List, drop, Some, None}
+use Rattle.std.specs.Prelude.{ℕ, ◌≡◌, ◌≢◌, ◌≤◌, ◌<◌, ◌+◌, ◌-◌, cond, true, false, List, [], ◌∷◌, drop, Option, Some, None}
 use Rattle.std.specs.Str.{IsCharBoundary}
+use Rattle.cbor_edn_parts.specs.LiteralTokens.{is_digit}
 use Rattle.cbor_edn_core.specs.ParserResults.{IsByteAt, IsNotAt, ahead}
 use Rattle.cbor_edn_core.specs.Reading.{begins_string, starts_string, word_at}
 use Rattle.cbor_edn_core.specs.declared.lookahead.Opening.{Opening}
@@ -29,3 +30,8 @@ OpensWith c Stream = c ≡ 40
 OpensWith c (Word w to) = ⊥
 OpensWith c String = begins_string c ≡ true
 OpensWith c Number = (c ≢ 91) × (c ≢ 123) × (c ≢ 40) × (begins_string c ≡ false)
+
+-- the decimal digit that stands in front
+abbrev pub digit_in_front : List ℕ → Option ℕ
+digit_in_front [] = None
+digit_in_front (c ∷ r) = cond (is_digit c) (Some (c - 48)) None

@@ -6,7 +6,7 @@ ghost use Rattle.cbor_edn_parts.specs.Text.{text_bytes};
 ghost use Rattle.cbor_edn_parts.specs.Leaves.{s_bytes, BorrowsS};
 ghost use Rattle.cbor_edn_core.specs.Borrowed.{BorrowsHead};
 ghost use Rattle.cbor_edn_core.specs.ParserResults.{IsNotAt, IsByteAt, ahead};
-ghost use Rattle.cbor_edn_core.specs.Lookahead.{Opens, OpensWith, Looked};
+ghost use Rattle.cbor_edn_core.specs.Lookahead.{Opens, OpensWith, Looked, digit_in_front};
 ghost use Rattle.cbor_edn_core.specs.Reading as reading;
 ghost use Rattle.cbor_edn_core.specs.Reading.{head_of};
 ghost use Rattle.cbor_edn_core.specs.Trees as trees;
@@ -127,7 +127,10 @@ fn is_prefix(text: &Text<'_>, at: usize, looks: &mut Looks) -> bool
 }
 
 /// The value of the decimal digit at a place.
-fn digit_at(text: &Text<'_>, at: usize, looks: &mut Looks) -> Option<u8> {
+fn digit_at(text: &Text<'_>, at: usize, looks: &mut Looks) -> Option<u8>
+    ensures value { result ≡ digit_in_front (drop at (text_bytes text.now)) }
+    ensures count { looks.new.count ≡ looks.old.count + 1 }
+{
     match text.byte(at, looks) {
         Some(digit @ b'0'..=b'9') => Some(digit - b'0'),
         _ => None,
