@@ -113,6 +113,9 @@ fn refuses_beginnings(rt: HostRuntime) -> Result<(), Fail> {
         "9b000000000000000103",
         "5b000000000000000568656c6c6f",
         "43019fff",
+        "f97e00",
+        "f8ff",
+        "d8184100",
     ] {
         let bytes = hex::decode(alloc, digits)?;
         for length in 0..bytes.len() {

@@ -13,3 +13,5 @@ mod rows;
 mod strings;
 #[cfg(test)]
 mod trees;
+#[cfg(test)]
+mod words;

@@ -5,7 +5,7 @@ use std::test::Fail;
 
 /// The bytes of a sequence's text in lower case hexadecimal digits, or the word of `to_cbor`'s refusal; `parse` where that call
 /// refuses.
-fn told(alloc: Global, text: &str) -> Result<String, Fail> {
+pub(crate) fn told(alloc: Global, text: &str) -> Result<String, Fail> {
     let sequence = match Sequence::parse(alloc, text) {
         Ok(sequence) => sequence,
         Err(Fault::Told(_)) => return Ok(String::from_str(alloc, "parse")?),
@@ -19,7 +19,7 @@ fn told(alloc: Global, text: &str) -> Result<String, Fail> {
 }
 
 /// Whether an accepted text prints itself.
-fn prints_itself(alloc: Global, text: &str) -> Result<bool, Fail> {
+pub(crate) fn prints_itself(alloc: Global, text: &str) -> Result<bool, Fail> {
     let sequence = Sequence::parse(alloc, text)?;
     let printed = sequence.serialize(alloc)?;
     Ok(printed.as_str() == text)
