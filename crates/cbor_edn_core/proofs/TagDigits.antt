@@ -1,16 +1,15 @@
 -- The number of a tag, digit by digit.
-use Rattle.std.proofs.Common.{ℕ, zero, suc, ◌+◌, ◌-◌, ◌*◌, ◌^◌, ◌<◌, ◌≤◌, ◌≡◌, true, false, List, [], ◌∷◌, length, get_or, Option, Some, None, refl, sym, ap, ◌∙◌, subst, arith}
+use Rattle.std.proofs.Common.{ℕ, zero, suc, ◌+◌, ◌-◌, ◌*◌, ◌^◌, ◌<◌, ◌≤◌, ◌≡◌, true, false, List, [], ◌∷◌, length, get_or, Option, Some, None, refl, sym, ap, ◌∙◌, arith}
 use Rattle.std.specs.Prelude.{Bool, cond, eqb, nat_lt, ◌&&◌}
 use Rattle.std.specs.Char.{digit_value}
 use Rattle.std.specs.Fmt.{decimal}
 use Rattle.std.specs.Str.Parse.{AllDigits, digits_value, digits_value_after}
-use Rattle.std.proofs.lemmas.Bool.{and_parts, and_left, and_right, and_from, cond-true, cond-false, cond_both, eqb-true, eq-eqb, ne_eqb, ltb-true, ltb-false, lt-ltb, le-ltb, leb-true, le-leb, false≢true, false_from_ne_true}
+use Rattle.std.proofs.lemmas.Bool.{and_parts, and_left, and_from, cond-true, cond-false, cond_both, eqb-true, eq-eqb, ne_eqb, ltb-true, ltb-false, lt-ltb, le-ltb, leb-true, le-leb, false≢true, false_from_ne_true}
 use Rattle.std.proofs.lemmas.Fmt.{decimal-digits_value, decimal_digit, decimal_is_IsNumeral, first_decimal}
 use Rattle.std.proofs.lemmas.Option.{same_Some}
 use Rattle.std.proofs.lemmas.Str.{digit_value_digit}
 use Rattle.std.proofs.lemmas.Str.Parse.{numerals_by_value, tells_digits, digit_from_value}
 use Rattle.cbor_edn_parts.specs.LiteralTokens.{is_digit}
-use Rattle.cbor_edn_parts.proofs.NumberParts.{number_after}
 use Rattle.cbor_edn_parts.proofs.Tokens.{Holds, nothing, just}
 use Rattle.cbor_edn_core.specs.Lookahead.{digit_in_front}
 use Rattle.cbor_edn_core.specs.Reading.{tag_number}
@@ -26,10 +25,10 @@ tag_after n [] = Some n
 tag_after n (c ∷ x) = cond (goes_on n c) (tag_after (n * 10 + digit_value c) x) None
 
 -- whether a zero stands in front of other digits
-abbrev pub leads_zero : List ℕ → Bool
+abbrev leads_zero : List ℕ → Bool
 leads_zero x = eqb (get_or x 0 0) 48 && nat_lt 1 (length x)
 
-abbrev pub tag_digits : List ℕ → Option ℕ
+abbrev tag_digits : List ℕ → Option ℕ
 tag_digits x = cond (leads_zero x) None (tag_after 0 x)
 
 -- ---- what is found so are the digits of the number
@@ -40,7 +39,11 @@ AreOf n x k = AllDigits 10 x × (digits_value_after 10 n x ≡ k) × (k < 2 ^ 64
 after-found : (n : ℕ) (x : List ℕ) → n < 2 ^ 64 → Holds (AreOf n x) (tag_after n x)
 unfolding tag_after
 after-found n [] small = just (tt, refl, small)
-after-found n (c ∷ x) small = let m : ℕ = n * 10 + digit_value c in cond_both (goes_on n c) (tag_after m x) None (Holds (AreOf n (c ∷ x))) (λ e. let both = and_parts (nat_lt (digit_value c) 10) (nat_lt m (2 ^ 64)) e in longer (ltb-true _ _ both.0) (tag_after m x) (after-found m x (ltb-true _ _ both.1))) (λ e. nothing)
+after-found n (c ∷ x) small =
+    let m : ℕ = n * 10 + digit_value c in
+    cond_both (goes_on n c) (tag_after m x) None (Holds (AreOf n (c ∷ x)))
+    (λ e. let both = and_parts (nat_lt (digit_value c) 10) (nat_lt m (2 ^ 64)) e in longer (ltb-true _ _ both.0) (tag_after m x) (after-found m x (ltb-true _ _ both.1)))
+    (λ e. nothing)
   where
     longer : digit_value c < 10 → (o : Option ℕ) → Holds (AreOf (n * 10 + digit_value c) x) o → Holds (AreOf n (c ∷ x)) o
     longer d _ nothing = nothing
@@ -90,14 +93,16 @@ agree _ p (just h) g = sym h
 agree _ _ nothing nothing = refl
 agree _ _ nothing (just g) = g
 
-pub tag_digits_are : (x : List ℕ) → 0 < length x → tag_number x ≡ tag_digits x
+tag_digits_are : (x : List ℕ) → 0 < length x → tag_number x ≡ tag_digits x
 tag_digits_are x some = sym (agree (tag_digits x) (tag_number x) (found x some) (again x))
 
 -- ---- digit by digit
 
 no_digit : (c : ℕ) → None ≡ digit_in_front (c ∷ []) → 10 ≤ digit_value c
-no_digit c = cond_both (is_digit c) (Some (c - 48)) None (λ o. None ≡ o → 10 ≤ digit_value c) (λ e s. absurd (cc))
-    (λ e s. ltb-false (digit_value c) 10 (false_from_ne_true (nat_lt (digit_value c) 10) (λ l. let range = digit_from_value c (ltb-true (digit_value c) 10 l) in false≢true (sym e ∙ and_from _ _ (le-leb 48 c range.0) (le-leb c 57 range.1)))))
+no_digit c = cond_both (is_digit c) (Some (c - 48)) None (λ o. None ≡ o → 10 ≤ digit_value c) (λ e s. absurd (cc)) (λ e s. ltb-false (digit_value c) 10 (false_from_ne_true (nat_lt (digit_value c) 10) (λ l. false≢true (sym e ∙ digit l))))
+  where
+    digit : nat_lt (digit_value c) 10 ≡ true → is_digit c ≡ true
+    digit l = let range = digit_from_value c (ltb-true (digit_value c) 10 l) in and_from _ _ (le-leb 48 c range.0) (le-leb c 57 range.1)
 
 pub after_none : (n c : ℕ) (x : List ℕ) → None ≡ digit_in_front (c ∷ []) → tag_after n (c ∷ x) ≡ None
 unfolding tag_after

@@ -1,7 +1,7 @@
-use Rattle.std.proofs.Common.{ℕ, List, [], ◌∷◌, ◌≡◌, ◌≢◌, ◌+◌, ◌<◌, drop, true, false, Bool, Option, Some, None, arith, refl, sym, ap, ◌∙◌, subst}
-use Rattle.std.specs.Prelude.{eqb, ◌||◌, ◌&&◌}
+use Rattle.std.proofs.Common.{ℕ, List, [], ◌∷◌, ◌≡◌, ◌≢◌, ◌+◌, ◌<◌, drop, true, false, Option, None, arith, refl, sym, ap, ◌∙◌, subst}
+use Rattle.std.specs.Prelude.{eqb, ◌&&◌}
 use Rattle.std.specs.Str.{IsCharBoundary}
-use Rattle.std.proofs.lemmas.Bool.{ne_eqb, false≢true}
+use Rattle.std.proofs.lemmas.Bool.{ne_eqb, or_left, or_from, and_left}
 use Rattle.cbor_edn_parts.specs.Text.{text_bytes}
 use Rattle.cbor_edn_core.specs.Lookahead.{Opens, OpensWith}
 use Rattle.cbor_edn_core.specs.ParserResults.{IsNotAt}
@@ -12,25 +12,13 @@ use Rattle.cbor_edn_core.specs.declared.word.Word.{Word as TheWord}
 use Rattle.cbor_edn_core.proofs.lookahead.opening_at.Goals as goal
 use Rattle.cbor_edn_core.proofs.lookahead.opening_at.Goals.{in-Some-word_of+in_default-word_at, in_default-word_of}
 
-or_true : (a b : Bool) → a ≡ true → (a || b) ≡ true
-or_true true b e = refl
-or_true false b e = absurd (false≢true e)
-
-or_false : (a b : Bool) → a ≡ false → b ≡ false → (a || b) ≡ false
-or_false true b e f = e
-or_false false b e f = f
-
-and_false : (a b : Bool) → a ≡ false → (a && b) ≡ false
-and_false true b e = absurd (cc)
-and_false false b e = refl
-
 begun : (c : ℕ) (r : List ℕ) → begins_string c ≡ true → starts_string (c ∷ r) ≡ true
 unfolding starts_string
-begun c r e = or_true (begins_string c) (eqb c 46 && starts_with 46 r) e
+begun c r e = or_left (begins_string c) (eqb c 46 && starts_with 46 r) e
 
 not_begun : (c : ℕ) (r : List ℕ) → begins_string c ≡ false → c ≢ 46 → starts_string (c ∷ r) ≡ false
 unfolding starts_string
-not_begun c r e n = or_false (begins_string c) (eqb c 46 && starts_with 46 r) e (and_false (eqb c 46) (starts_with 46 r) (ne_eqb c 46 n))
+not_begun c r e n = or_from (begins_string c) (eqb c 46 && starts_with 46 r) e (and_left (eqb c 46) (starts_with 46 r) (ne_eqb c 46 n))
 
 one_dot : (r : List ℕ) → IsNotAt 46 r → starts_string (46 ∷ r) ≡ false
 unfolding starts_string
@@ -84,7 +72,7 @@ returns-clause-opens c =
     let text = text_bytes c.args.text.now in
     let here = c.in-Some.ensures.value.0 in
     let wordless : word_at (drop c.args.at text) ≡ None = elim c.match-word_of.branch [
-      in-Some-word_of+in_default-word_at w ↦ worded text c.args.at c.in-Some.byte _ _ here w.in-Some-word_of.ensures w.in_default-word_at.ensures.none
+      | in-Some-word_of+in_default-word_at w ↦ worded text c.args.at c.in-Some.byte _ _ here w.in-Some-word_of.ensures w.in_default-word_at.ensures.none
       | in_default-word_of w ↦ worded text c.args.at c.in-Some.byte _ _ here w.in_default-word_of.ensures refl
     ] in
     opens_with text c.args.at _ _ here c.in-Some.ensures.behind c.if-byte-eq46.false wordless c.opening_of.ensures

@@ -1,4 +1,4 @@
-use Rattle.std.proofs.Common.{ℕ, suc, ◌≡◌, ◌+◌, ◌-◌, ◌*◌, ◌^◌, ◌<◌, ◌≤◌, List, [], ◌∷◌, length, get_or, take, drop, drop-cons, add-one, Some, None, refl, sym, ap, ◌∙◌, arith}
+use Rattle.std.proofs.Common.{ℕ, suc, ◌≡◌, ◌+◌, ◌-◌, ◌*◌, ◌^◌, ◌<◌, ◌≤◌, List, [], ◌∷◌, length, get_or, take, drop, drop-cons, add-one, Some, None, sym, ap, ◌∙◌, arith}
 use Rattle.std.proofs.lemmas.List.{length-take, length-drop}
 use Rattle.cbor_edn_parts.specs.Text.{text_bytes}
 use Rattle.cbor_edn_core.specs.Lookahead.{digit_in_front}
@@ -59,7 +59,7 @@ returns-then-from-to-clause-value c =
 pub loop-at-init : goal.loop-at-init
 loop-at-init c =
     let alone : c.in_ok-digit_at.field-0 ≡ 0 → c.args.to ≤ c.args.from + 1 = elim c.else-number-eq0.branch [
-      else-number-eq0-via-then-number-eq0+else-from-to w ↦ λ zero. w.if-from-to.false
+      | else-number-eq0-via-then-number-eq0+else-from-to w ↦ λ zero. w.if-from-to.false
       | else-number-eq0-via-else-number-eq0 w ↦ λ zero. absurd (w.if-number-eq0.false (c.from-number.ensures ∙ zero))
     ] in
     record {
