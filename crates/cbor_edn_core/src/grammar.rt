@@ -13,12 +13,12 @@ ghost use Rattle.cbor_edn_parts.specs.Refusals.{IfTold};
 ghost use Rattle.cbor_edn_parts.specs.Text.{text_bytes};
 ghost use Rattle.cbor_edn_core.specs.Borrowed.{BorrowsItem, BorrowsList, BorrowsItems, BorrowsPair, BorrowsPairList, BorrowsPairs, BorrowsPiece, BorrowsString, BorrowsStream, BorrowsStrings, BorrowsSequence, BorrowsStandalone, BorrowsEach, BorrowsEachPair, BorrowsEachString};
 ghost use Rattle.cbor_edn_core.specs.Items.{Elements, Pairs as Keyed, Strings as Chunks, Array as Bracket, Map as Brace};
-ghost use Rattle.cbor_edn_core.specs.ParserResults.{Reads, Gives, Lands, ReadsEnd, LandsEnd, CostsEnd, CostsEndAhead, CostsAhead, IsPlaced, IsPushed, IsByteAt, IsUnclosed, behind_colon, ReadsParted, LandsParted, CostsParted, parted, element_tree, chunk_tree};
-ghost use Rattle.cbor_edn_core.specs.Reading.{reads, reads_all, number_item, word_item, enclosed_item, stream_item, starts_string, word_at};
+ghost use Rattle.cbor_edn_core.specs.ParserResults.{Reads, Lands, ReadsEnd, LandsEnd, CostsEnd, CostsEndAhead, CostsAhead, IsPlaced, IsPushed, IsByteAt, IsUnclosed, behind_colon, ReadsParted, LandsParted, CostsParted, parted, element_tree, chunk_tree};
+ghost use Rattle.cbor_edn_core.specs.Reading.{reads, number_item, word_item, enclosed_item, stream_item, starts_string, word_at};
 ghost use Rattle.cbor_edn_core.specs.Trees.{LastTree, OneItem, OnePiece, OneString, OneEntry, Inside, Rest, Seq, Standalone};
 ghost use Rattle.cbor_edn_core.specs.View.{texts, item_tree, view_list, view_items, view_pair, view_pair_list, view_pairs, view_piece, view_string, view_stream, view_strings, row_onto, pair_row_onto, string_row_onto, sequence_tree, standalone_tree};
 
-use crate::lookahead::{Opening, closes, ends, is_at, joins, marked, opening_at, tag_number};
+use crate::lookahead::{Opening, closes, is_at, joins, marked, opening_at, tag_number};
 use crate::tree::{
     CborString, InnerItem, Item, ItemList, Items, Kp, Label, PairList, Pairs, Piece, Sequence,
     StandaloneItem, Stream, Strings, Texts,
@@ -724,7 +724,7 @@ fn closed(text: &Text<'_>, at: usize, looks: &mut Looks) -> Result<usize, Refusa
 
 /// Items, or none, and the spaces round them.
 #[cycle(item)]
-fn sequence<'a>(
+pub(crate) fn sequence<'a>(
     alloc: Global,
     text: &Text<'a>,
     from: usize,
@@ -759,7 +759,7 @@ fn sequence<'a>(
 
 /// An item between spaces.
 #[cycle(item)]
-fn standalone<'a>(
+pub(crate) fn standalone<'a>(
     alloc: Global,
     text: &Text<'a>,
     from: usize,
@@ -783,40 +783,4 @@ fn standalone<'a>(
         },
         to,
     ))
-}
-
-/// All of the text as a sequence.
-pub(crate) fn whole_sequence<'a>(
-    alloc: Global,
-    text: &Text<'a>,
-    limit: usize,
-    looks: &mut Looks,
-) -> Result<Sequence<'a>, Fault<Refusal>>
-    ensures value { Gives sequence_tree result (reads_all limit Seq (text_bytes text.now)) }
-    ensures borrowed { IfOk result BorrowsSequence }
-    ensures place { IfErr result (IsPlaced (text_bytes text.now)) }
-    ensures most { looks.new.count ≤ looks.old.count + 12 * length (text_bytes text.now) + 12 }
-    ensures least { OnOk result (looks.old.count + length (text_bytes text.now) ≤ looks.new.count) }
-{
-    let (sequence, to) = sequence(alloc, text, text.start(), limit, looks)?;
-    ends(text, to)?;
-    Ok(sequence)
-}
-
-/// All of the text as an item between spaces.
-pub(crate) fn whole_standalone<'a>(
-    alloc: Global,
-    text: &Text<'a>,
-    limit: usize,
-    looks: &mut Looks,
-) -> Result<StandaloneItem<'a>, Fault<Refusal>>
-    ensures value { Gives standalone_tree result (reads_all limit Standalone (text_bytes text.now)) }
-    ensures borrowed { IfOk result BorrowsStandalone }
-    ensures place { IfErr result (IsPlaced (text_bytes text.now)) }
-    ensures most { looks.new.count ≤ looks.old.count + 12 * length (text_bytes text.now) + 12 }
-    ensures least { OnOk result (looks.old.count + length (text_bytes text.now) ≤ looks.new.count) }
-{
-    let (item, to) = standalone(alloc, text, text.start(), limit, looks)?;
-    ends(text, to)?;
-    Ok(item)
 }

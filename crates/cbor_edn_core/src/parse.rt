@@ -1,24 +1,28 @@
 //! The public calls that read a text.
-ghost use Rattle.std.specs.Prelude.{◌≡◌, ◌≤◌, ◌+◌, ◌*◌, length, IfOk, OnOk};
+ghost use Rattle.std.specs.Prelude.{◌≡◌, ◌≤◌, ◌+◌, ◌*◌, length, IfOk, IfErr, OnOk};
 ghost use Rattle.cbor_edn_parts.specs.Errors.{error_kind, error_offset, error_line, error_column};
 ghost use Rattle.cbor_edn_parts.specs.Place.{IsPlace};
 ghost use Rattle.cbor_edn_core.specs.Borrowed.{BorrowsSequence, BorrowsStandalone};
+ghost use Rattle.cbor_edn_parts.specs.Text.{text_bytes};
+ghost use Rattle.cbor_edn_core.specs.ParserResults.{Gives, IsPlaced};
+ghost use Rattle.cbor_edn_core.specs.Reading.{reads_all};
 ghost use Rattle.cbor_edn_core.specs.Parsing.{IsAccepted, IsInvalid, IsTooDeep};
 ghost use Rattle.cbor_edn_parts.specs.Refusals.{IfTold};
 ghost use Rattle.cbor_edn_core.specs.Spelling.{SpellsOne, SpellsSequence};
-ghost use Rattle.cbor_edn_core.specs.Trees.{items, text};
+ghost use Rattle.cbor_edn_core.specs.Trees.{Seq, Standalone, items, text};
 ghost use Rattle.cbor_edn_core.specs.View.{sequence_tree, standalone_tree};
 
-use crate::grammar::{whole_sequence, whole_standalone};
+use crate::grammar::{sequence, standalone};
 use crate::location::located;
+use crate::lookahead::ends;
 use crate::tree::{NESTING_LIMIT, Sequence, StandaloneItem};
-use cbor_edn_parts::error::{Fault, ParseError, ParseErrorKind};
+use cbor_edn_parts::error::{Fault, ParseError, ParseErrorKind, Refusal};
 use cbor_edn_parts::looks::Looks;
 use cbor_edn_parts::text::Text;
 use std::alloc::Global;
 
 impl<'a> Sequence<'a> {
-    /// The items of a text, with their spaces: arrays may nest [`NESTING_LIMIT`] deep.
+    /// The items of a text, with their spaces: what nests may do so [`NESTING_LIMIT`] deep.
     pub fn parse(alloc: Global, input: &'a str) -> Result<Sequence<'a>, Fault<ParseError>>
         ensures text { IfOk result (λ t. text (sequence_tree t) ≡ input.now) }
         ensures accepted { IfOk result (λ t. IsAccepted SpellsSequence NESTING_LIMIT input.now (items (sequence_tree t))) }
@@ -30,7 +34,7 @@ impl<'a> Sequence<'a> {
         Sequence::parse_within(alloc, input, NESTING_LIMIT)
     }
 
-    /// The same for arrays that nest `limit` deep at most. The stack has to hold that many levels.
+    /// The same for what nests `limit` deep at most. The stack has to hold that many levels.
     pub fn parse_within(
         alloc: Global,
         input: &'a str,
@@ -89,7 +93,7 @@ impl<'a> Sequence<'a> {
 }
 
 impl<'a> StandaloneItem<'a> {
-    /// The one item of a text, with its spaces: arrays may nest [`NESTING_LIMIT`] deep.
+    /// The one item of a text, with its spaces: what nests may do so [`NESTING_LIMIT`] deep.
     pub fn parse(alloc: Global, input: &'a str) -> Result<StandaloneItem<'a>, Fault<ParseError>>
         ensures text { IfOk result (λ t. text (standalone_tree t) ≡ input.now) }
         ensures accepted { IfOk result (λ t. IsAccepted SpellsOne NESTING_LIMIT input.now (items (standalone_tree t))) }
@@ -101,7 +105,7 @@ impl<'a> StandaloneItem<'a> {
         StandaloneItem::parse_within(alloc, input, NESTING_LIMIT)
     }
 
-    /// The same for arrays that nest `limit` deep at most. The stack has to hold that many levels.
+    /// The same for what nests `limit` deep at most. The stack has to hold that many levels.
     pub fn parse_within(
         alloc: Global,
         input: &'a str,
@@ -157,4 +161,40 @@ impl<'a> StandaloneItem<'a> {
             Err(Fault::Told(refusal)) => Err(Fault::Told(located(&text, refusal, looks))),
         }
     }
+}
+
+/// All of the text as a sequence.
+fn whole_sequence<'a>(
+    alloc: Global,
+    text: &Text<'a>,
+    limit: usize,
+    looks: &mut Looks,
+) -> Result<Sequence<'a>, Fault<Refusal>>
+    ensures value { Gives sequence_tree result (reads_all limit Seq (text_bytes text.now)) }
+    ensures borrowed { IfOk result BorrowsSequence }
+    ensures place { IfErr result (IsPlaced (text_bytes text.now)) }
+    ensures most { looks.new.count ≤ looks.old.count + 12 * length (text_bytes text.now) + 12 }
+    ensures least { OnOk result (looks.old.count + length (text_bytes text.now) ≤ looks.new.count) }
+{
+    let (sequence, to) = sequence(alloc, text, text.start(), limit, looks)?;
+    ends(text, to)?;
+    Ok(sequence)
+}
+
+/// All of the text as an item between spaces.
+fn whole_standalone<'a>(
+    alloc: Global,
+    text: &Text<'a>,
+    limit: usize,
+    looks: &mut Looks,
+) -> Result<StandaloneItem<'a>, Fault<Refusal>>
+    ensures value { Gives standalone_tree result (reads_all limit Standalone (text_bytes text.now)) }
+    ensures borrowed { IfOk result BorrowsStandalone }
+    ensures place { IfErr result (IsPlaced (text_bytes text.now)) }
+    ensures most { looks.new.count ≤ looks.old.count + 12 * length (text_bytes text.now) + 12 }
+    ensures least { OnOk result (looks.old.count + length (text_bytes text.now) ≤ looks.new.count) }
+{
+    let (item, to) = standalone(alloc, text, text.start(), limit, looks)?;
+    ends(text, to)?;
+    Ok(item)
 }

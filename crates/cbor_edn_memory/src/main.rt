@@ -11,15 +11,15 @@ use std::alloc::Global;
 use std::io::Read;
 use std::{fmt, io};
 
-const TEXT: &str = "[1, 0x10000000000000000, {_ 3: []}, 'a' + <<\"b\">>, (_ h'63', b64'Zg')]";
+const TEXT: &str = "[1, 0x10000000000000000, {_ 3: []}, 'a' + <<\"b\">>, (_ h'63', b64'Zg'), 1(simple(32))]";
 
 const BYTES: &[u8] =
-    b"\x85\x01\xc2\x49\x01\0\0\0\0\0\0\0\0\xbf\x03\x80\xff\x43aab\x5f\x41c\x41f\xff";
+    b"\x86\x01\xc2\x49\x01\0\0\0\0\0\0\0\0\xbf\x03\x80\xff\x43aab\x5f\x41c\x41f\xff\xc1\xf8\x20";
 
 // A text as it is decoded.
-const DECODED: &str = "[_ 1, {2: -4_0}, \"a\", (_ h'62')]";
+const DECODED: &str = "[_ 1, {2: -4_0}, \"a\", (_ h'62'), 1(simple(32))]";
 
-const ENCODED: &[u8] = b"\x9f\x01\xa1\x02\x38\x03\x61a\x5f\x41b\xff\xff";
+const ENCODED: &[u8] = b"\x9f\x01\xa1\x02\x38\x03\x61a\x5f\x41b\xff\xc1\xf8\x20\xff";
 
 const DIAG_TO_CBOR: Options = Options {
     command: Command::Diag2Cbor,

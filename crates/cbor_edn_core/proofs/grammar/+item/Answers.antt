@@ -490,9 +490,9 @@ pub numbered-returns-then-is_at-clause-cost : goal.numbered-returns-then-is_at-c
 numbered-returns-then-is_at-clause-cost t c =
     let some = token_behind number _ _ c.args.from c.in_ok-number.at refl c.in_ok-number.ensures.value c.requires.0 c.in_ok-number.ensures.place.1.0 in
     costs_ahead (text_bytes c.args.text.now) c.args.from _ _ _ _ c.enclosed.result
-        (omega (arith, some, ahead_small (text_bytes c.args.text.now) c.args.from, c.in_ok-number.ensures.cost.0, c.indicator_at-indicator.ensures.cost, c.indicator_at-indicator.ensures.place.0, c.is_at.ensures.count, c.in-Some.ensures.count))
-        (omega (arith, c.in_ok-number.ensures.cost.1, c.indicator_at-indicator.ensures.cost, c.is_at.ensures.count, c.in-Some.ensures.count))
-        c.enclosed.ensures.cost
+    (omega (arith, some, ahead_small (text_bytes c.args.text.now) c.args.from, c.in_ok-number.ensures.cost.0, c.indicator_at-indicator.ensures.cost, c.indicator_at-indicator.ensures.place.0, c.is_at.ensures.count, c.in-Some.ensures.count))
+    (omega (arith, c.in_ok-number.ensures.cost.1, c.indicator_at-indicator.ensures.cost, c.is_at.ensures.count, c.in-Some.ensures.count))
+    c.enclosed.ensures.cost
 
 pub numbered-returns-clause-value : goal.numbered-returns-clause-value
 numbered-returns-clause-value t c = rw c.unspaced.ensures (number_read c.args.limit _ _ _ _ _ (scan_read number _ _ _ c.in_ok-number.ensures.value) c.indicator_at-indicator.ensures.value (c.if-is_at.ensures.no refl))
