@@ -1,14 +1,10 @@
 -- What is paid with the looks for a word that does not stand there.
-use Rattle.std.proofs.Common.{ℕ, zero, suc, List, [], ◌∷◌, ◌++◌, ◌≡◌, ◌≤◌, ◌<◌, ◌+◌, ◌-◌, ◌*◌, length, drop, refl, ap, arith, Bool, true, false, Option, Some, None, Result, Ok, Err}
+use Rattle.std.proofs.Common.{ℕ, List, [], ◌∷◌, ◌++◌, ◌≡◌, ◌≤◌, ◌+◌, ◌*◌, length, drop, refl, ap, arith, false, Option, Some, Result, Ok, Err}
 use Rattle.std.specs.Prelude.{eqb}
 use Rattle.std.proofs.lemmas.Bool.{cond_both, both_ways}
 use Rattle.cbor_edn_parts.specs.Lex as lex
 use Rattle.cbor_edn_parts.specs.Lex.{Table, Accepts}
-use Rattle.cbor_edn_parts.specs.LiteralTokens.{literal, dots, literal_step, literal_final, dots_step, dots_final, is_lower, is_upper}
-use Rattle.cbor_edn_parts.specs.declared.string.InLiteral.{InLiteral}
-use Rattle.cbor_edn_parts.specs.declared.string.InLiteral.TheVariants as in_literal
-use Rattle.cbor_edn_parts.specs.declared.string.InDots.{InDots}
-use Rattle.cbor_edn_parts.specs.declared.string.InDots.TheVariants as in_dots
+use Rattle.cbor_edn_parts.specs.LiteralTokens.{literal, dots, literal_final, dots_final, is_lower, is_upper}
 use Rattle.cbor_edn_parts.specs.declared.space.read.End.{End}
 use Rattle.cbor_edn_parts.proofs.Tokens.{munch-took, Holds, nothing, just}
 use Rattle.cbor_edn_core.specs.ParserResults.{CostsEnd, CostsEndAhead, ahead}

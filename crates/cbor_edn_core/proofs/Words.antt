@@ -1,14 +1,14 @@
 -- Words: what is read as one is its text, its text is read as it, and no number and no string begins with one.
-use Rattle.std.proofs.Common.{ℕ, suc, List, [], ◌∷◌, ◌++◌, ◌≡◌, refl, ap, sym, ◌∙◌, ◌<◌, length, get_or, drop, arith}
-use Rattle.std.specs.Prelude.{Bool, true, false, cond, eqb, ◌||◌, ◌&&◌, Option, Some, None}
+use Rattle.std.proofs.Common.{ℕ, List, [], ◌∷◌, ◌++◌, ◌≡◌, refl, ap, sym, ◌∙◌, ◌<◌, length, get_or, drop, arith}
+use Rattle.std.specs.Prelude.{Bool, true, false, cond, eqb, ◌||◌, Option, Some, None}
 use Rattle.std.specs.List.{list_all}
-use Rattle.std.proofs.lemmas.Bool.{and_parts, cond_both, eqb-true, eq-eqb, false_from_ne_true, both_ways}
+use Rattle.std.proofs.lemmas.Bool.{and_parts, cond_both, eqb-true, false_from_ne_true, both_ways}
 use Rattle.std.proofs.lemmas.Option.{same_Some, none-some}
 use Rattle.cbor_edn_parts.specs.declared.bytes.Kind.{Kind}
 use Rattle.cbor_edn_parts.specs.declared.bytes.Kind.TheVariants.{Zero, One, TwoToSeven, EightOrNine, Quote, Less, B, E, HexLetter, O, P, X, Letter}
 use Rattle.cbor_edn_parts.specs.declared.indicator.Indicator.{Indicator}
 use Rattle.cbor_edn_parts.specs.declared.number.Reached.{Reached}
-use Rattle.cbor_edn_parts.specs.declared.number.Reached.TheVariants.{Start, Signed}
+use Rattle.cbor_edn_parts.specs.declared.number.Reached.TheVariants.{Start}
 use Rattle.cbor_edn_parts.specs.declared.string.InLiteral.{InLiteral}
 use Rattle.cbor_edn_parts.specs.declared.string.InLiteral.TheVariants as in_literal
 use Rattle.cbor_edn_parts.specs.Bytes.{kind, follows, Follow}
@@ -27,7 +27,7 @@ use Rattle.cbor_edn_core.specs.Words.{word_text}
 use Rattle.cbor_edn_core.specs.Trees.{OnePiece, OneString, Tree, LiteralTree, DotsTree, EmbeddedTree, LastPieceTree, PlusTree, onto, Valid, starts_number}
 use Rattle.cbor_edn_core.specs.Reading.{word_of, behind, is_prefix, ended, if_word, word_at}
 use Rattle.cbor_edn_core.proofs.Follows.{quoted}
-use Rattle.cbor_edn_core.proofs.Begins.{quoted_byte, digit_byte, quoted_at, signed_digit, literal_some, dots_begin}
+use Rattle.cbor_edn_core.proofs.Begins.{quoted_byte, digit_byte, signed_digit, literal_some, dots_begin}
 
 -- ---- what is read as a word
 

@@ -33,7 +33,7 @@ use cbor_edn_parts::string::{dots_at, literal_at};
 use cbor_edn_parts::text::Text;
 use std::alloc::{AllocError, Global};
 
-/// An item with arrays, maps and embedded sequences at most `limit` deep, and its end.
+/// An item with what nests at most `limit` deep, and its end.
 #[cycle(item)]
 fn item<'a>(
     alloc: Global,
