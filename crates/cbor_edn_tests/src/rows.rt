@@ -202,8 +202,6 @@ fn refuses_texts(rt: HostRuntime) -> Result<(), Fail> {
         "1_4",
         "1__",
         "1 _0",
-        "1(2)",
-        "true",
         "0b",
         "0b2",
         "0o8",

@@ -23,7 +23,7 @@ const ENCODED: [(&str, &str); 20] = [
     ("Infinity_3", "fb7ff0000000000000"),
     ("[true false,null/c/undefined]", "84f5f4f6f7"),
     ("{-Infinity:true}", "a1f9fc00f5"),
-    ("[1(2)-1]", "82c10220"),
+    ("[1(2) -1]", "82c10220"),
     ("1(2(3))", "c1c203"),
     ("'true' + '('", "457472756528"),
 ];
@@ -151,8 +151,9 @@ fn decodes_words(rt: HostRuntime) -> Result<(), Fail> {
     Ok(())
 }
 
-/// The examples of RFC 8949, appendix A, but for the finite floating-point numbers: each in the text that it is decoded as.
-const APPENDIX: [(&str, &str); 63] = [
+/// The examples of RFC 8949, appendix A, but for the finite floating-point numbers, each in the text that it is decoded as:
+/// numbers, words and tags.
+const SCALARS: [(&str, &str); 38] = [
     ("0", "00"),
     ("1", "01"),
     ("10", "0a"),
@@ -197,6 +198,10 @@ const APPENDIX: [(&str, &str); 63] = [
     ),
     ("2(h'010000000000000000')", "c249010000000000000000"),
     ("3(h'010000000000000000')", "c349010000000000000000"),
+];
+
+/// Strings, arrays and maps.
+const COMPOUNDS: [(&str, &str); 25] = [
     ("h''", "40"),
     ("h'01020304'", "4401020304"),
     ("\"\"", "60"),
@@ -233,11 +238,25 @@ const APPENDIX: [(&str, &str); 63] = [
     ("{_ \"Fun\": true, \"Amt\": -2}", "bf6346756ef563416d7421ff"),
 ];
 
+/// Whether the text means the bytes, and they are decoded as the text.
+fn stand_for_each_other(alloc: Global, text: &str, digits: &str) -> Result<bool, Fail> {
+    let encoded = told(alloc, text)?;
+    let decoded = text_of(alloc, digits)?;
+    Ok(encoded.as_str() == digits && decoded.as_str() == text)
+}
+
 #[test]
-fn takes_the_examples_of_the_standard(rt: HostRuntime) -> Result<(), Fail> {
-    for (text, digits) in APPENDIX {
-        assert_eq!(rt; told(rt.alloc(), text)?.as_str(), digits, "{text:?}");
-        assert_eq!(rt; text_of(rt.alloc(), digits)?.as_str(), text, "{digits}");
+fn takes_scalars_of_the_standard(rt: HostRuntime) -> Result<(), Fail> {
+    for (text, digits) in SCALARS {
+        assert!(rt; stand_for_each_other(rt.alloc(), text, digits)?, "{text:?}");
+    }
+    Ok(())
+}
+
+#[test]
+fn takes_compounds_of_the_standard(rt: HostRuntime) -> Result<(), Fail> {
+    for (text, digits) in COMPOUNDS {
+        assert!(rt; stand_for_each_other(rt.alloc(), text, digits)?, "{text:?}");
     }
     Ok(())
 }
@@ -376,27 +395,39 @@ fn tells_why_items_are_refused(rt: HostRuntime) -> Result<(), Fail> {
     Ok(())
 }
 
+fn is_too_deep(alloc: Global, text: &str, limit: usize) -> Result<bool, Fail> {
+    match Sequence::parse_within(alloc, text, limit) {
+        Ok(_) => Ok(false),
+        Err(Fault::Told(refused)) => Ok(refused.too_deep()),
+        Err(Fault::Memory(refused)) => Err(Fail::from(refused)),
+    }
+}
+
 #[test]
-fn counts_nested_words(rt: HostRuntime) -> Result<(), Fail> {
+fn counts_what_words_hold(rt: HostRuntime) -> Result<(), Fail> {
     let alloc = rt.alloc();
     for text in ["[simple(20)]", "<<[1]>>", "1(2(3))", "simple([])", "[1(2)]"] {
-        match Sequence::parse_within(alloc, text, 1) {
-            Err(Fault::Told(refused)) => assert!(rt; refused.too_deep(), "{text:?}"),
-            _ => assert!(rt; false, "accepted {text:?}"),
-        }
-        assert!(rt; Sequence::parse_within(alloc, text, 2).is_ok(), "{text:?}");
+        assert!(rt; is_too_deep(alloc, text, 1)?, "{text:?}");
+        assert!(rt; !is_too_deep(alloc, text, 2)?, "{text:?}");
     }
-    assert!(rt; Sequence::parse_within(alloc, "[true, NaN]", 1).is_ok());
-    // words do not nest, nor do simple values that have names
+    assert!(rt; !is_too_deep(alloc, "[true, NaN]", 1)?);
+    Ok(())
+}
+
+fn accepts(alloc: Global, digits: &str, limit: usize) -> Result<bool, Fail> {
+    let bytes = hex::decode(alloc, digits)?;
+    Ok(Item::from_cbor_within(alloc, bytes.as_slice(), limit).is_ok())
+}
+
+#[test]
+fn counts_what_nests_in_bytes(rt: HostRuntime) -> Result<(), Fail> {
+    let alloc = rt.alloc();
     for digits in ["81e4", "81f820", "c1c102"] {
         assert!(rt; refusal(alloc, digits, 1)?.too_deep(), "{digits}");
     }
+    // simple values that have names do not nest
     for digits in ["81f4", "81f97e00", "c102", "f820"] {
-        let bytes = hex::decode(alloc, digits)?;
-        assert!(rt;
-            Item::from_cbor_within(alloc, bytes.as_slice(), 1).is_ok(),
-            "{digits}"
-        );
+        assert!(rt; accepts(alloc, digits, 1)?, "{digits}");
     }
     Ok(())
 }
