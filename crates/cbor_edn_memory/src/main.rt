@@ -11,7 +11,8 @@ use std::alloc::Global;
 use std::io::Read;
 use std::{fmt, io};
 
-const TEXT: &str = "[1, 0x10000000000000000, {_ 3: []}, 'a' + <<\"b\">>, (_ h'63', b64'Zg'), 1(simple(32))]";
+const TEXT: &str =
+    "[1, 0x10000000000000000, {_ 3: []}, 'a' + <<\"b\">>, (_ h'63', b64'Zg'), 1(simple(32))]";
 
 const BYTES: &[u8] =
     b"\x86\x01\xc2\x49\x01\0\0\0\0\0\0\0\0\xbf\x03\x80\xff\x43aab\x5f\x41c\x41f\xff\xc1\xf8\x20";
