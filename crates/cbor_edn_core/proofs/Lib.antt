@@ -27,8 +27,10 @@ pub mod Looks
 pub mod Marking
 pub mod MeaningSteps
 pub mod Meanings
+pub mod Nestings
 pub mod Outcomes
 pub mod Places
+pub mod Recoding
 pub mod Rows
 pub mod Spelled
 pub mod Steps

@@ -12,6 +12,7 @@ pub mod Meaning
 pub mod ParserResults
 pub mod Parsing
 pub mod Reading
+pub mod Recoding
 pub mod Same
 pub mod Spelling
 pub mod Trees
