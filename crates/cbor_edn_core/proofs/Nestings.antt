@@ -1,6 +1,6 @@
 -- The item of a value nests no deeper than the value.
-use Rattle.std.proofs.Common.{ℕ, ◌≤◌, Bool, true, false, cond, eqb, List, [], ◌∷◌, max, arith}
-use Rattle.std.proofs.Math.Nat.{le-max_left, le-max_right, max-le}
+use Rattle.std.proofs.Common.{ℕ, ◌≡◌, ◌≤◌, Bool, true, false, cond, eqb, List, [], ◌∷◌, max, refl, arith}
+use Rattle.std.proofs.lemmas.Bool.Decides.{nat_tests}
 use Rattle.cbor_edn_parts.specs.declared.string.StringKind.{StringKind}
 use Rattle.cbor_edn_core.specs.Items.{Node, Item, nesting}
 use Rattle.cbor_edn_core.specs.Value as values
@@ -9,18 +9,28 @@ use Rattle.cbor_edn_core.specs.Decoded.{chunk_items, chunked_item, simple_item, 
 
 -- of two, the deeper
 both : (a b c d : ℕ) → a ≤ c → b ≤ d → max a b ≤ max c d
-both a b c d first second = ?
+both a b c d first second = omega (arith, first, second)
 
 chunk_items_nest : (k : StringKind) (cs : List Chunk) → nesting (chunk_items k cs) ≤ 0
-chunk_items_nest k [] = ?
-chunk_items_nest k (c ∷ cs) = ?
+chunk_items_nest k [] = omega arith
+chunk_items_nest k (c ∷ cs) = omega (arith, chunk_items_nest k cs)
 
 chunked_nests : (k : StringKind) (cs : List Chunk) → nesting (chunked_item k cs) ≤ 0
-chunked_nests k [] = ?
+chunked_nests k [] = omega arith
 chunked_nests k (c ∷ cs) = chunk_items_nest k (c ∷ cs)
 
+-- one of two
+either : (b : Bool) (x y : Node Item) (k : ℕ) → (b ≡ true → nesting x ≤ k) → (b ≡ false → nesting y ≤ k) → nesting (cond b x y) ≤ k
+either true x y k first second = first refl
+either false x y k first second = second refl
+
+-- A number without a name is one of those outside 20 to 23.
+unnamed : (n : ℕ) → eqb n 20 ≡ false → eqb n 21 ≡ false → eqb n 22 ≡ false → eqb n 23 ≡ false → 1 ≤ simple_nesting n
+unnamed n a b c d = grind (arith, nat_tests)
+
 simple_nests : (n : ℕ) → nesting (simple_item n) ≤ simple_nesting n
-simple_nests n = ?
+simple_nests n =
+    either (eqb n 20) _ _ _ (λ is. omega arith) (λ a. either (eqb n 21) _ _ _ (λ is. omega arith) (λ b. either (eqb n 22) _ _ _ (λ is. omega arith) (λ c. either (eqb n 23) _ _ _ (λ is. omega arith) (unnamed n a b c))))
 
 mutual
   pub item_nests : (v : Value) → nesting (item_of v) ≤ values.nesting v
