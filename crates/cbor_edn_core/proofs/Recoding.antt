@@ -1,5 +1,5 @@
 -- The text of decoded items is one of their bytes, and no text is of other bytes too.
-use Rattle.std.proofs.Common.{ℕ, List, ◌≡◌, ap, sym, ◌∙◌, Some, subst, arith}
+use Rattle.std.proofs.Common.{ℕ, List, ◌≡◌, ap, sym, ◌∙◌, Some, arith}
 use Rattle.cbor_edn_core.specs.Items.{Items, nesting}
 use Rattle.cbor_edn_core.specs.Trees.{Tree, Seq, items}
 use Rattle.cbor_edn_core.specs.Spelling.{SpellsSequence}
