@@ -9,8 +9,8 @@ const ENCODED: &[u8] = b"\x82\xc1\x1a\x51\x4b\x67\xb0\xf9\x7e\x00";
 /// An array of two items, the second of which is cut off.
 const CUT: &[u8] = b"\x82\xc1\x1a\x51\x4b\x67\xb0";
 
-fn told(result: Result<Vec<u8>, Fault<CborError>>) -> Option<CborError> {
-    match result {
+fn told(found: Result<Vec<u8>, Fault<CborError>>) -> Option<CborError> {
+    match found {
         Err(Fault::Told(refusal)) => Some(refusal),
         _ => None,
     }
@@ -19,12 +19,12 @@ fn told(result: Result<Vec<u8>, Fault<CborError>>) -> Option<CborError> {
 #[test]
 fn same_bytes(rt: HostRuntime) -> Result<(), Fail> {
     for by_text in [false, true] {
-        let result = if by_text {
+        let found = if by_text {
             recoded_by_text(rt.alloc(), ENCODED)
         } else {
             recoded(rt.alloc(), ENCODED)
         };
-        match result {
+        match found {
             Ok(bytes) => assert!(rt; bytes.as_slice() == ENCODED),
             Err(_) => return Err(Fail::from("refused")),
         }
