@@ -1,5 +1,6 @@
 -- Each text of a declared tree is in its set.
-use Rattle.std.proofs.Common.{◌≡◌, ℕ, List, Option, None, Some, subst, sym}
+use Rattle.std.proofs.Common.{◌≡◌, ℕ, ◌^◌, true, List, Option, None, Some, subst, sym}
+use Rattle.std.proofs.lemmas.Bool.{ltb-true}
 use Rattle.cbor_edn_parts.specs.Leaves.{s_bytes}
 use Rattle.cbor_edn_parts.specs.declared.indicator.Indicator.{Indicator}
 use Rattle.cbor_edn_parts.specs.declared.space.S.{S}
@@ -25,8 +26,11 @@ use Rattle.cbor_edn_core.specs.declared.tree.Stream.{Stream, Stream'}
 use Rattle.cbor_edn_core.specs.declared.tree.Strings.{Strings, Strings', Row_of-Strings-row-2, end_of-Strings-row-2, more_of-Strings-row-2}
 use Rattle.cbor_edn_core.specs.declared.tree.SequenceOf.{SequenceOf', Held-SequenceOf-items}
 use Rattle.cbor_edn_core.specs.declared.tree.SequenceOf as sequence
+use Rattle.cbor_edn_core.specs.declared.tree.Label.{Label}
+use Rattle.cbor_edn_core.specs.declared.tree.Label.TheVariants as label
+use Rattle.cbor_edn_core.specs.Labels.{is_label}
 use Rattle.cbor_edn_core.specs.Items as kind
-use Rattle.cbor_edn_core.specs.Trees.{Tree, OneString, Rest, IsHead, Valid, items, text}
+use Rattle.cbor_edn_core.specs.Trees.{Tree, OneString, Rest, IsHead, IsLabel, Valid, items, text}
 use Rattle.cbor_edn_core.specs.Spelling.{Spells, SpellsSequence, SpellsOne}
 use Rattle.cbor_edn_core.proofs.Spelled.{tells}
 use Rattle.cbor_edn_core.specs.View.{texts, view_head, view_inner, view_list, view_items, view_row, view_pair_list, view_pairs, view_pair_row, view_pieces, view_piece, view_held, view_stream, view_strings, view_string_row, Item, StandaloneItem, Sequence, item_tree, standalone_tree, sequence_tree}
@@ -35,6 +39,10 @@ head_valid : (h : Option (Indicator × Ms)) → IsHead (view_head texts h)
 head_valid None = tt
 head_valid (Some h) = h.1.spelled
 
+label_fits : (l : Label) → is_label l ≡ true → IsLabel l
+label_fits (label.Tag n i) e = ltb-true n (2 ^ 64) e
+label_fits label.Simple e = tt
+
 mutual
   unfolding Valid
 
@@ -42,6 +50,7 @@ mutual
   inner_valid (inner.Number n i) = n.spelled
   inner_valid (inner.NonFinite f i) = tt
   inner_valid (inner.Named b) = tt
+  inner_valid (inner.Enclosed' front p before item after) = (label_fits front.label front.fits, (before.spelled, inner_valid item, after.spelled))
   inner_valid (inner.Array list) = list_valid list
   inner_valid (inner.Map list) = pair_list_valid list
   inner_valid (inner.String' n row last) = pieces_valid row _ (piece_valid last)

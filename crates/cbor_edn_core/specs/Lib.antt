@@ -5,6 +5,7 @@ pub mod Decoded
 pub mod Encoding
 pub mod Growing
 pub mod Items
+pub mod Labels
 pub mod Laws
 pub mod Lookahead
 pub mod Marks

@@ -20,7 +20,7 @@ ghost use Rattle.cbor_edn_core.specs.View.{texts, item_tree, view_list, view_ite
 
 use crate::lookahead::{Opening, closes, ends, is_at, joins, marked, opening_at, tag_number};
 use crate::tree::{
-    CborString, InnerItem, Item, ItemList, Items, Kp, Label, PairList, Pairs, Piece, Sequence,
+    CborString, Front, InnerItem, Item, ItemList, Items, Kp, PairList, Pairs, Piece, Sequence,
     StandaloneItem, Stream, Strings, Texts,
 };
 use crate::word::Word;
@@ -79,7 +79,7 @@ fn numbered<'a>(
         let Some(number) = tag_number(text, from, at, looks) else {
             return Err(Fault::Told(Refusal::invalid(from)));
         };
-        return enclosed(alloc, text, Label::Tag(number, indicator), to, limit, looks);
+        return enclosed(alloc, text, Front::tag(number, indicator), to, limit, looks);
     }
     Ok((
         Item {
@@ -121,7 +121,7 @@ fn worded<'a>(
                 unspaced(to),
             ))
         }
-        Word::Simple => enclosed(alloc, text, Label::Simple, from, limit, looks),
+        Word::Simple => enclosed(alloc, text, Front::simple(), from, limit, looks),
     }
 }
 
@@ -130,13 +130,13 @@ fn worded<'a>(
 fn enclosed<'a>(
     alloc: Global,
     text: &Text<'a>,
-    label: Label,
+    front: Front,
     from: usize,
     limit: usize,
     looks: &mut Looks,
 ) -> Result<(Item<'a>, End), Fault<Refusal>>
     requires { IsCharBoundary (text_bytes text.now) from }
-    ensures value { ReadsEnd item_tree (text_bytes text.now) result (enclosed_item reads limit label (drop from (text_bytes text.now))) }
+    ensures value { ReadsEnd item_tree (text_bytes text.now) result (enclosed_item reads limit front.label (drop from (text_bytes text.now))) }
     ensures borrowed { IfOk result (λ p. BorrowsItem p.0) }
     ensures place { LandsEnd (text_bytes text.now) from result }
     ensures cost { CostsEnd 12 4 14 (text_bytes text.now) from looks.old.count looks.new.count result }
@@ -154,7 +154,7 @@ fn enclosed<'a>(
     let item = Box::new(alloc, item)?;
     Ok((
         Item {
-            inner: InnerItem::Enclosed(label, item),
+            inner: InnerItem::Enclosed(front, item),
         },
         unspaced(to + 1),
     ))

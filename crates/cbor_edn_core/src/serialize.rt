@@ -105,7 +105,7 @@ fn push_head(out: &mut String, head: &Option<(Indicator, Ms<'_>)>) -> Result<(),
 }
 
 #[cycle(push)]
-#[tactic(auto, using(crate::proofs::Views::view_string_is, crate::proofs::Texts::text_number, crate::proofs::Texts::text_list, crate::proofs::Texts::text_string, std::proofs::Common::append_assoc))]
+#[tactic(auto, using(crate::proofs::Views::view_string_is, crate::proofs::Texts::text_number, crate::proofs::Texts::text_float, crate::proofs::Texts::text_named, crate::proofs::Texts::text_enclosed, crate::proofs::Texts::text_list, crate::proofs::Texts::text_string, std::proofs::Common::append_assoc))]
 fn push_item(out: &mut String, item: &Item<'_>) -> Result<(), AllocError>
     ensures { OnOk result (string_bytes out.new ≡ string_bytes out.old ++ text (item_tree item.now)) }
 {
@@ -119,8 +119,8 @@ fn push_item(out: &mut String, item: &Item<'_>) -> Result<(), AllocError>
             push_indicator(out, *indicator)
         }
         InnerItem::Named(name) => out.push_str(name.as_str()),
-        InnerItem::Enclosed(label, content) => {
-            push_label(out, *label)?;
+        InnerItem::Enclosed(front, content) => {
+            push_label(out, front.label)?;
             out.push_str("(")?;
             push_standalone(out, content)?;
             out.push_str(")")

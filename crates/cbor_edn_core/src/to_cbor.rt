@@ -72,11 +72,13 @@ fn push_item(out: &mut Vec<u8>, item: &Item<'_>) -> Result<(), Fault<Inconsisten
         InnerItem::Number(number, indicator) => push_number(out, number, *indicator),
         InnerItem::NonFinite(float, indicator) => push_float(out, *float, *indicator),
         InnerItem::Named(name) => Ok(push_simple(out, simple_number(*name))?),
-        InnerItem::Enclosed(Label::Tag(number, indicator), content) => {
-            push_marked_head(out, 6, *indicator, *number)?;
-            push_item(out, &content.item)
-        }
-        InnerItem::Enclosed(Label::Simple, content) => push_numeric(out, &content.item),
+        InnerItem::Enclosed(front, content) => match front.label {
+            Label::Tag(number, indicator) => {
+                push_marked_head(out, 6, indicator, number)?;
+                push_item(out, &content.item)
+            }
+            Label::Simple => push_numeric(out, &content.item),
+        },
         InnerItem::Array(list) => push_array(out, list),
         InnerItem::Map(list) => push_map(out, list),
         InnerItem::String(string) => push_pieces(out, string),
