@@ -13,12 +13,6 @@ use Rattle.cbor_edn_core.proofs.Turns.{token_end}
 pub ahead_small : (text : List ℕ) (at : ℕ) → ahead text at ≤ 9
 ahead_small text at = omega arith
 
-pub ahead_within : (text : List ℕ) (at : ℕ) → at ≤ length text → at + ahead text at ≤ length text
-ahead_within text at h = omega (arith, h)
-
-pub ahead_least : (text : List ℕ) (at n : ℕ) → n ≤ 9 → at + n ≤ length text → n ≤ ahead text at
-ahead_least text at n small within = omega (arith, small, within)
-
 -- tokens of two bytes or more
 
 -- No text is one of a single byte.
