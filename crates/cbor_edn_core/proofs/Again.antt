@@ -12,7 +12,8 @@ use Rattle.cbor_edn_parts.specs.NumberTokens.{number, is_number}
 use Rattle.cbor_edn_parts.specs.LiteralTokens.{literal, dots, is_literal, are_dots}
 use Rattle.cbor_edn_core.specs.Items.{Row, Elements, Pairs, Strings, Bracketed, Array, Map, entries_of}
 use Rattle.cbor_edn_core.specs.Spelling.{opening, ending}
-use Rattle.cbor_edn_core.specs.Trees.{Rule, OneItem, OnePiece, OneString, OneEntry, Inside, Rest, Seq, Standalone, Head, Unmarked, Marked, head_text, label_text, IsLabel, Tree, NumberTree, FloatTree, NamedTree, EnclosedTree, ListTree, StringTree, StreamTree, LiteralTree, DotsTree, EmbeddedTree, LastPieceTree, PlusTree, ElementTree, PairTree, ChunkTree, EmptyTree, FullTree, LastTree, MoreTree, NothingTree, SequenceTree, StandaloneTree, onto, IsHead, Valid, IsJoined, Joined, Parts, FollowOf, depth}
+use Rattle.cbor_edn_core.specs.Labels.{IsLabel}
+use Rattle.cbor_edn_core.specs.Trees.{Rule, OneItem, OnePiece, OneString, OneEntry, Inside, Rest, Seq, Standalone, Head, Unmarked, Marked, head_text, label_text, Tree, NumberTree, FloatTree, NamedTree, EnclosedTree, ListTree, StringTree, StreamTree, LiteralTree, DotsTree, EmbeddedTree, LastPieceTree, PlusTree, ElementTree, PairTree, ChunkTree, EmptyTree, FullTree, LastTree, MoreTree, NothingTree, SequenceTree, StandaloneTree, onto, IsHead, Valid, IsJoined, Joined, Parts, FollowOf, depth}
 use Rattle.cbor_edn_core.specs.declared.tree.Label.{Label}
 use Rattle.cbor_edn_core.specs.declared.tree.Label.TheVariants as label
 use Rattle.cbor_edn_core.specs.declared.word.NamedSimple.{NamedSimple}

@@ -216,7 +216,7 @@ module _ (limit : ℕ) (bytes : List ℕ) where
   sequence_fails_deep T (Memory e) fits fails = tt
   sequence_fails_deep T (Told e) fits fails = λ is. sequence_too_deep fits (fails ∙ ap (λ d. refusal d) is)
 
-  sequence_items : (m : Items) (o : Option (Tree (Rest Elements))) → row_items o ≡ m → items (sequence_tree_of o) ≡ m
+  pub sequence_items : (m : Items) (o : Option (Tree (Rest Elements))) → row_items o ≡ m → items (sequence_tree_of o) ≡ m
   unfolding items
   sequence_items m None e = e
   sequence_items m (Some t) e = e

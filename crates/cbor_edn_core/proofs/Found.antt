@@ -16,7 +16,8 @@ use Rattle.cbor_edn_parts.specs.NumberTokens.{number, is_number}
 use Rattle.cbor_edn_parts.specs.LiteralTokens.{literal, dots}
 use Rattle.cbor_edn_core.specs.Items.{Row, Elements, Pairs, Strings, Bracketed, Array, Map, entries_of}
 use Rattle.cbor_edn_core.specs.Spelling.{opening, ending}
-use Rattle.cbor_edn_core.specs.Trees.{Rule, OneItem, OnePiece, OneString, OneEntry, Inside, Rest, Seq, Standalone, Head, head_text, label_text, IsLabel, Tree, onto, IsHead, Valid, IsJoined, Joined, depth, joins}
+use Rattle.cbor_edn_core.specs.Labels.{IsLabel}
+use Rattle.cbor_edn_core.specs.Trees.{Rule, OneItem, OnePiece, OneString, OneEntry, Inside, Rest, Seq, Standalone, Head, head_text, label_text, Tree, onto, IsHead, Valid, IsJoined, Joined, depth, joins}
 use Rattle.cbor_edn_core.specs.declared.tree.Label.{Label}
 use Rattle.cbor_edn_core.specs.declared.tree.Label.TheVariants as label
 use Rattle.cbor_edn_core.specs.declared.word.Word.{Word}

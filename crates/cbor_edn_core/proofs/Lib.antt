@@ -25,10 +25,14 @@ pub mod Found
 pub mod GrammarLaws
 pub mod Looks
 pub mod Marking
+pub mod MeaningExamples
 pub mod MeaningSteps
 pub mod Meanings
+pub mod Nestings
 pub mod Outcomes
 pub mod Places
+pub mod Printable
+pub mod Recoding
 pub mod Rows
 pub mod Spelled
 pub mod Steps

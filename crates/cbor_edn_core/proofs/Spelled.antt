@@ -9,7 +9,8 @@ use Rattle.cbor_edn_parts.specs.Space.{IsS, empty, blank, comment, IsMs, IsMsc, 
 use Rattle.cbor_edn_parts.specs.SpaceTokens.{is_s}
 use Rattle.cbor_edn_core.specs.Items.{Row, Elements, Strings, Bracketed, entries_of, Sort, Item, Piece, Pieces, Entry, Entries, Node, Number, Float, Listed, Tagged, Named, Simple, String, Stream, Literal, Dots, Embedded, LastPiece, Plus, Element, Pair, Chunk, End, Then, Items, nesting}
 use Rattle.cbor_edn_core.specs.Spelling.{opening, ending, IsSpecms, Spells, SpellsSequence, SpellsOne}
-use Rattle.cbor_edn_core.specs.Trees.{Rule, OneItem, OnePiece, OneString, OneEntry, Inside, Rest, Seq, Standalone, Head, Unmarked, Marked, mark, head_text, label_text, IsLabel, labelled, Tree, NumberTree, FloatTree, NamedTree, EnclosedTree, ListTree, StringTree, StreamTree, LiteralTree, DotsTree, EmbeddedTree, LastPieceTree, PlusTree, ElementTree, PairTree, ChunkTree, EmptyTree, FullTree, LastTree, MoreTree, NothingTree, SequenceTree, StandaloneTree, onto, text, Of, items, depth, IsHead, Valid, IsJoined, Joined}
+use Rattle.cbor_edn_core.specs.Labels.{IsLabel}
+use Rattle.cbor_edn_core.specs.Trees.{Rule, OneItem, OnePiece, OneString, OneEntry, Inside, Rest, Seq, Standalone, Head, Unmarked, Marked, mark, head_text, label_text, labelled, Tree, NumberTree, FloatTree, NamedTree, EnclosedTree, ListTree, StringTree, StreamTree, LiteralTree, DotsTree, EmbeddedTree, LastPieceTree, PlusTree, ElementTree, PairTree, ChunkTree, EmptyTree, FullTree, LastTree, MoreTree, NothingTree, SequenceTree, StandaloneTree, onto, text, Of, items, depth, IsHead, Valid, IsJoined, Joined}
 use Rattle.cbor_edn_core.specs.declared.tree.Label.{Label}
 use Rattle.cbor_edn_core.specs.declared.tree.Label.TheVariants as label
 use Rattle.cbor_edn_core.specs.Words.{named_text}

@@ -1,14 +1,12 @@
 -- The number of a tag: what is read as one are its decimal digits, and they are read as it.
-use Rattle.std.proofs.Common.{ℕ, ◌<◌, ◌^◌, ◌≡◌, true, List, [], ◌∷◌, Some, None, refl, sym, ◌∙◌, arith}
+use Rattle.std.proofs.Common.{ℕ, ◌<◌, ◌^◌, ◌≡◌, true, List, [], ◌∷◌, Some, None, refl, arith}
 use Rattle.std.specs.Prelude.{◌&&◌, eqb, nat_lt, pos}
 use Rattle.std.specs.Fmt.{decimal}
 use Rattle.std.proofs.lemmas.Bool.{and_parts, cond_both, eqb-true, eq-eqb, ltb-true, lt-ltb}
-use Rattle.std.proofs.lemmas.Fmt.{decimal_is_IsNumeral_wide}
 use Rattle.cbor_edn_parts.specs.Contents.{same}
 use Rattle.cbor_edn_parts.specs.Number.{number_of}
 use Rattle.cbor_edn_parts.specs.NumberTokens.{is_number}
-use Rattle.cbor_edn_parts.proofs.Decimals.{decimal_number}
-use Rattle.cbor_edn_parts.proofs.NumberParts.{number_is}
+use Rattle.cbor_edn_parts.proofs.Decimals.{decimal_number, value_is}
 use Rattle.cbor_edn_parts.proofs.Tokens.{Holds, nothing, just}
 use Rattle.cbor_edn_core.specs.Reading.{tag_number}
 
@@ -25,11 +23,8 @@ same-again (c ∷ x) = rw (eq-eqb c c refl) (same-again x)
 pub tag_number-found : (x : List ℕ) → Holds (λ n. (x ≡ decimal n) × (n < 2 ^ 64)) (tag_number x)
 tag_number-found x = let n = number_of 10 x in cond_both (same x (decimal n) && nat_lt n (2 ^ 64)) (Some n) None (Holds (λ n. (x ≡ decimal n) × (n < 2 ^ 64))) (λ e. let both = and_parts (same x (decimal n)) (nat_lt n (2 ^ 64)) e in just (same-found x (decimal n) both.0, ltb-true n (2 ^ 64) both.1)) (λ e. nothing)
 
-value_is : (n : ℕ) → n < 2 ^ 64 → number_of 10 (decimal n) ≡ n
-value_is n lt = sym (number_is 10 (decimal n)) ∙ (decimal_is_IsNumeral_wide n (omega arith)).1
-
 pub tag_number-again : (n : ℕ) → n < 2 ^ 64 → tag_number (decimal n) ≡ Some n
-tag_number-again n lt = rw (value_is n lt, same-again (decimal n), lt-ltb n (2 ^ 64) lt)
+tag_number-again n lt = rw (value_is n (omega arith), same-again (decimal n), lt-ltb n (2 ^ 64) lt)
 
 pub tag_digits : (n : ℕ) → n < 2 ^ 64 → is_number (decimal n) ≡ true
 tag_digits n lt = decimal_number (pos n) (omega arith)

@@ -236,8 +236,12 @@ parted_behind limit k xs r w h = bind_ok (reads limit (OneEntry k) xs) (w, r) _ 
 pub parted_fails_behind : (e : Fault Refusal) (limit : ℕ) (k : Row) (xs r : List ℕ) (w : Tree (OneEntry k)) → reads limit (OneEntry k) xs ≡ Ok (w, r) → Fails e (token separator r) → Fails e (parted limit k xs)
 parted_fails_behind e limit k xs r w h t = fails_at e _ _ (parted_behind limit k xs r w h) (bind_fails e (token separator r) _ t)
 
-pub parted_read : (limit : ℕ) (k : Row) (xs r s q : List ℕ) (w : Tree (OneEntry k)) → reads limit (OneEntry k) xs ≡ Ok (w, r) → token separator r ≡ Ok (s, q) → parted limit k xs ≡ Ok ((w, s), q)
+parted_read : (limit : ℕ) (k : Row) (xs r s q : List ℕ) (w : Tree (OneEntry k)) → reads limit (OneEntry k) xs ≡ Ok (w, r) → token separator r ≡ Ok (s, q) → parted limit k xs ≡ Ok ((w, s), q)
 parted_read limit k xs r s q w h t = parted_behind limit k xs r w h ∙ bind_ok (token separator r) (s, q) _ t
+
+-- the same of an entry that was handed on
+pub parted_entry : {X : Type 0} {k : Row} (view : X → Tree (OneEntry k)) (limit : ℕ) (xs r s q : List ℕ) (x y : X) → y ≡ x → reads limit (OneEntry k) xs ≡ Ok (view x, r) → token separator r ≡ Ok (s, q) → parted limit k xs ≡ Ok ((view y, s), q)
+parted_entry {k} view limit xs r s q x y same h t = parted_read limit k xs r s q (view y) (h ∙ ap (λ z. Ok (view z, r)) (sym same)) t
 
 -- behind an entry and its separator
 abbrev Behind : (limit : ℕ) (k : Row) → (Tree (OneEntry k) × List ℕ) × List ℕ → Read (Tree (Rest k))

@@ -38,7 +38,7 @@ abbrev mutual
   BorrowsInner (inner.Number n i) = BorrowsNumber n
   BorrowsInner (inner.NonFinite f i) = Unit {0}
   BorrowsInner (inner.Named b) = Unit {0}
-  BorrowsInner (inner.Enclosed' l p before item after) = BorrowsS before × BorrowsInner item × BorrowsS after
+  BorrowsInner (inner.Enclosed' front p before item after) = BorrowsS before × BorrowsInner item × BorrowsS after
   BorrowsInner (inner.Array list) = BorrowsList list
   BorrowsInner (inner.Map list) = BorrowsPairList list
   BorrowsInner (inner.String' n row last) = BorrowsPieces row × BorrowsPiece last

@@ -5,6 +5,7 @@ pub mod Decoded
 pub mod Encoding
 pub mod Growing
 pub mod Items
+pub mod Labels
 pub mod Laws
 pub mod Lookahead
 pub mod Marks
@@ -12,6 +13,7 @@ pub mod Meaning
 pub mod ParserResults
 pub mod Parsing
 pub mod Reading
+pub mod Recoding
 pub mod Same
 pub mod Spelling
 pub mod Trees

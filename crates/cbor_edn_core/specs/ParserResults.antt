@@ -111,15 +111,15 @@ element_tree x = ElementTree (item_tree x)
 abbrev pub chunk_tree : CborString Texts S Ms Msc Soc Number Literal Dots → Tree (OneEntry Strings)
 chunk_tree x = ChunkTree (view_string texts x)
 
-abbrev pub ReadsParted : {X : Type 0} {k : Row} → (X → Tree (OneEntry k)) → List ℕ → Result (X × Soc × ℕ) (Fault Refusal) → Read (Tree (OneEntry k) × List ℕ) → Type 0
-ReadsParted view text (Ok p) read = read ≡ Ok ((view p.0, soc_bytes p.1), drop p.2 text)
-ReadsParted view text (Err e) read = Fails e read
+-- The same three of what stands behind an entry: its separator, and how little that costs.
+abbrev pub Parts : {X : Type 0} → List ℕ → Result (X × Soc × ℕ) (Fault Refusal) → ℕ → Type 0
+Parts text (Ok p) at = token separator (drop at text) ≡ Ok (soc_bytes p.1, drop p.2 text)
+Parts text (Err e) at = Fails e (token separator (drop at text))
 
 abbrev pub LandsParted : {X : Type 0} → List ℕ → ℕ → Result (X × Soc × ℕ) (Fault Refusal) → Type 0
 LandsParted text at (Ok p) = (at + length (soc_bytes p.1) ≤ p.2) × IsCharBoundary text p.2
 LandsParted text at (Err e) = IsPlaced text e
 
--- the separator costs little of what its bytes allow
-abbrev pub CostsParted : {X E : Type 0} → ℕ → ℕ → ℕ → List ℕ → ℕ → ℕ → ℕ → Result (X × Soc × ℕ) E → Type 0
-CostsParted rate k failed text at old new (Ok p) = (new + rate * at + 10 * length (soc_bytes p.1) ≤ old + rate * p.2 + k) × (old + p.2 ≤ new + at)
-CostsParted rate k failed text at old new (Err e) = new + rate * at ≤ old + rate * length text + failed
+abbrev pub CostsParted : {X E : Type 0} → List ℕ → ℕ → ℕ → ℕ → Result (X × Soc × ℕ) E → Type 0
+CostsParted text at old new (Ok p) = (new + at ≤ old + p.2 + 2) × (old + p.2 ≤ new + at)
+CostsParted text at old new (Err e) = new + at ≤ old + length text + 2

@@ -64,7 +64,7 @@ module _ {L S P M O N T D : Type 0} (leaves : Ghosts L S P M O N T D) where
     view_inner (inner.Number n i) = NumberTree (leaves.number n) i
     view_inner (inner.NonFinite f i) = FloatTree f i
     view_inner (inner.Named b) = NamedTree b
-    view_inner (inner.Enclosed' l p before item after) = EnclosedTree l (StandaloneTree (leaves.space before) (view_inner item) (leaves.space after))
+    view_inner (inner.Enclosed' front p before item after) = EnclosedTree front.label (StandaloneTree (leaves.space before) (view_inner item) (leaves.space after))
     view_inner (inner.Array list) = ListTree kind.Array (view_list list)
     view_inner (inner.Map list) = ListTree kind.Map (view_pair_list list)
     view_inner (inner.String' n row last) = StringTree (view_pieces row (LastPieceTree (view_piece last)))

@@ -78,11 +78,11 @@ fn clone_item<'a>(item: &Item<'a>) -> Result<Item<'a>, AllocError>
         InnerItem::Named(name) => Ok(ItemOf {
             inner: InnerItem::Named(*name),
         }),
-        InnerItem::Enclosed(label, content) => {
+        InnerItem::Enclosed(front, content) => {
             let copy = clone_standalone(content)?;
             let copy = Box::new(*Box::allocator(content), copy)?;
             Ok(ItemOf {
-                inner: InnerItem::Enclosed(*label, copy),
+                inner: InnerItem::Enclosed(*front, copy),
             })
         }
         InnerItem::Array(list) => {

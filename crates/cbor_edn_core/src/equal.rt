@@ -121,7 +121,7 @@ fn same_item(a: &Item<'_>, b: &Item<'_>) -> bool
         }
         (InnerItem::Named(x), InnerItem::Named(y)) => have_same_name(*x, *y),
         (InnerItem::Enclosed(m, x), InnerItem::Enclosed(n, y)) => {
-            have_same_label(*m, *n) && same_standalone(x, y)
+            have_same_label(m.label, n.label) && same_standalone(x, y)
         }
         (InnerItem::Array(x), InnerItem::Array(y)) => same_list(x, y),
         (InnerItem::Map(x), InnerItem::Map(y)) => same_pair_list(x, y),

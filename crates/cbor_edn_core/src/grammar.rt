@@ -13,14 +13,14 @@ ghost use Rattle.cbor_edn_parts.specs.Refusals.{IfTold};
 ghost use Rattle.cbor_edn_parts.specs.Text.{text_bytes};
 ghost use Rattle.cbor_edn_core.specs.Borrowed.{BorrowsItem, BorrowsList, BorrowsItems, BorrowsPair, BorrowsPairList, BorrowsPairs, BorrowsPiece, BorrowsString, BorrowsStream, BorrowsStrings, BorrowsSequence, BorrowsStandalone, BorrowsEach, BorrowsEachPair, BorrowsEachString};
 ghost use Rattle.cbor_edn_core.specs.Items.{Elements, Pairs as Keyed, Strings as Chunks, Array as Bracket, Map as Brace};
-ghost use Rattle.cbor_edn_core.specs.ParserResults.{Reads, Lands, ReadsEnd, LandsEnd, CostsEnd, CostsEndAhead, CostsAhead, IsPlaced, IsPushed, IsByteAt, IsUnclosed, behind_colon, ReadsParted, LandsParted, CostsParted, parted, element_tree, chunk_tree};
+ghost use Rattle.cbor_edn_core.specs.ParserResults.{Reads, Lands, ReadsEnd, LandsEnd, CostsEnd, CostsEndAhead, CostsAhead, IsPlaced, IsPushed, IsByteAt, IsUnclosed, behind_colon, Parts, LandsParted, CostsParted, element_tree, chunk_tree};
 ghost use Rattle.cbor_edn_core.specs.Reading.{reads, number_item, word_item, enclosed_item, stream_item, starts_string, word_at};
 ghost use Rattle.cbor_edn_core.specs.Trees.{LastTree, OneItem, OnePiece, OneString, OneEntry, Inside, Rest, Seq, Standalone};
 ghost use Rattle.cbor_edn_core.specs.View.{texts, item_tree, view_list, view_items, view_pair, view_pair_list, view_pairs, view_piece, view_string, view_stream, view_strings, row_onto, pair_row_onto, string_row_onto, sequence_tree, standalone_tree};
 
 use crate::lookahead::{Opening, closes, is_at, joins, marked, opening_at, tag_number};
 use crate::tree::{
-    CborString, InnerItem, Item, ItemList, Items, Kp, Label, PairList, Pairs, Piece, Sequence,
+    CborString, Front, InnerItem, Item, ItemList, Items, Kp, PairList, Pairs, Piece, Sequence,
     StandaloneItem, Stream, Strings, Texts,
 };
 use crate::word::Word;
@@ -79,7 +79,7 @@ fn numbered<'a>(
         let Some(number) = tag_number(text, from, at, looks) else {
             return Err(Fault::Told(Refusal::invalid(from)));
         };
-        return enclosed(alloc, text, Label::Tag(number, indicator), to, limit, looks);
+        return enclosed(alloc, text, Front::tag(number, indicator), to, limit, looks);
     }
     Ok((
         Item {
@@ -121,7 +121,7 @@ fn worded<'a>(
                 unspaced(to),
             ))
         }
-        Word::Simple => enclosed(alloc, text, Label::Simple, from, limit, looks),
+        Word::Simple => enclosed(alloc, text, Front::simple(), from, limit, looks),
     }
 }
 
@@ -130,13 +130,13 @@ fn worded<'a>(
 fn enclosed<'a>(
     alloc: Global,
     text: &Text<'a>,
-    label: Label,
+    front: Front,
     from: usize,
     limit: usize,
     looks: &mut Looks,
 ) -> Result<(Item<'a>, End), Fault<Refusal>>
     requires { IsCharBoundary (text_bytes text.now) from }
-    ensures value { ReadsEnd item_tree (text_bytes text.now) result (enclosed_item reads limit label (drop from (text_bytes text.now))) }
+    ensures value { ReadsEnd item_tree (text_bytes text.now) result (enclosed_item reads limit front.label (drop from (text_bytes text.now))) }
     ensures borrowed { IfOk result (λ p. BorrowsItem p.0) }
     ensures place { LandsEnd (text_bytes text.now) from result }
     ensures cost { CostsEnd 12 0 1 (text_bytes text.now) from looks.old.count looks.new.count result }
@@ -154,7 +154,7 @@ fn enclosed<'a>(
     let item = Box::new(alloc, item)?;
     Ok((
         Item {
-            inner: InnerItem::Enclosed(label, item),
+            inner: InnerItem::Enclosed(front, item),
         },
         unspaced(to + 1),
     ))
@@ -351,33 +351,14 @@ fn items<'a>(
     let mut row = Vec::new(alloc);
     let mut at = from;
     'items: loop {
-        let (item, soc, next) = parted_item(alloc, text, at, limit, looks)?;
+        let read = item(alloc, text, at, limit, looks)?;
+        let (item, soc, next) = parted(text, read, looks)?;
         if closes(text, next, looks) {
             return Ok((last_item(alloc, row, item, soc)?, next));
         }
         push_entry(&mut row, item, soc, next)?;
         at = next;
     }
-}
-
-/// An item with the space and the comma behind it.
-#[cycle(item)]
-fn parted_item<'a>(
-    alloc: Global,
-    text: &Text<'a>,
-    from: usize,
-    limit: usize,
-    looks: &mut Looks,
-) -> Result<(Item<'a>, Soc<'a>, usize), Fault<Refusal>>
-    requires { IsCharBoundary (text_bytes text.now) from }
-    ensures value { ReadsParted (element_tree) (text_bytes text.now) result (parted limit Elements (drop from (text_bytes text.now))) }
-    ensures borrowed { IfOk result (λ p. BorrowsItem p.0 × BorrowsSoc p.1) }
-    ensures place { LandsParted (text_bytes text.now) from result }
-    ensures cost { CostsParted 12 8 10 (text_bytes text.now) from looks.old.count looks.new.count result }
-{
-    let (item, end) = item(alloc, text, from, limit, looks)?;
-    let (soc, next) = separator_behind(text, end, looks)?;
-    Ok((item, soc, next))
 }
 
 /// The row with its last entry.
@@ -412,33 +393,14 @@ fn pairs<'a>(
     let mut row = Vec::new(alloc);
     let mut at = from;
     'pairs: loop {
-        let (pair, soc, next) = parted_pair(alloc, text, at, limit, looks)?;
+        let read = pair(alloc, text, at, limit, looks)?;
+        let (pair, soc, next) = parted(text, read, looks)?;
         if closes(text, next, looks) {
             return Ok((last_pair(alloc, row, pair, soc)?, next));
         }
         push_entry(&mut row, pair, soc, next)?;
         at = next;
     }
-}
-
-/// A pair with the space and the comma behind it.
-#[cycle(item)]
-fn parted_pair<'a>(
-    alloc: Global,
-    text: &Text<'a>,
-    from: usize,
-    limit: usize,
-    looks: &mut Looks,
-) -> Result<(Kp<Texts<'a>>, Soc<'a>, usize), Fault<Refusal>>
-    requires { IsCharBoundary (text_bytes text.now) from }
-    ensures value { ReadsParted (view_pair texts) (text_bytes text.now) result (parted limit Keyed (drop from (text_bytes text.now))) }
-    ensures borrowed { IfOk result (λ p. BorrowsPair p.0 × BorrowsSoc p.1) }
-    ensures place { LandsParted (text_bytes text.now) from result }
-    ensures cost { CostsParted 12 8 10 (text_bytes text.now) from looks.old.count looks.new.count result }
-{
-    let (pair, end) = pair(alloc, text, from, limit, looks)?;
-    let (soc, next) = separator_behind(text, end, looks)?;
-    Ok((pair, soc, next))
 }
 
 /// The row with its last entry.
@@ -473,33 +435,14 @@ fn strings<'a>(
     let mut row = Vec::new(alloc);
     let mut at = from;
     'strings: loop {
-        let (string, soc, next) = parted_string(alloc, text, at, limit, looks)?;
+        let read = string(alloc, text, at, limit, looks)?;
+        let (string, soc, next) = parted(text, read, looks)?;
         if closes(text, next, looks) {
             return Ok((last_string(alloc, row, string, soc)?, next));
         }
         push_entry(&mut row, string, soc, next)?;
         at = next;
     }
-}
-
-/// A string with the space and the comma behind it.
-#[cycle(item)]
-fn parted_string<'a>(
-    alloc: Global,
-    text: &Text<'a>,
-    from: usize,
-    limit: usize,
-    looks: &mut Looks,
-) -> Result<(CborString<Texts<'a>>, Soc<'a>, usize), Fault<Refusal>>
-    requires { IsCharBoundary (text_bytes text.now) from }
-    ensures value { ReadsParted (chunk_tree) (text_bytes text.now) result (parted limit Chunks (drop from (text_bytes text.now))) }
-    ensures borrowed { IfOk result (λ p. BorrowsString p.0 × BorrowsSoc p.1) }
-    ensures place { LandsParted (text_bytes text.now) from result }
-    ensures cost { CostsParted 12 8 10 (text_bytes text.now) from looks.old.count looks.new.count result }
-{
-    let (string, end) = string(alloc, text, from, limit, looks)?;
-    let (soc, next) = separator_behind(text, end, looks)?;
-    Ok((string, soc, next))
 }
 
 /// The row with its last entry.
@@ -514,6 +457,24 @@ fn last_string<'a>(
 {
     let last = Box::new(alloc, last)?;
     Ok(Strings { row, last, soc })
+}
+
+/// An entry that was read, with the space and the comma behind it.
+fn parted<'a, T: Drop>(
+    text: &Text<'a>,
+    read: (T, End),
+    looks: &mut Looks,
+) -> Result<(T, Soc<'a>, usize), Fault<Refusal>>
+    requires { IsEnd (text_bytes text.now) read.1 }
+    ensures value { Parts (text_bytes text.now) result read.1.item }
+    ensures entry { IfOk result (λ p. p.0 ≡ read.0) }
+    ensures borrowed { IfOk result (λ p. BorrowsSoc p.1) }
+    ensures place { LandsParted (text_bytes text.now) read.1.item result }
+    ensures cost { CostsParted (text_bytes text.now) (reached read.1) looks.old.count looks.new.count result }
+{
+    let (entry, end) = read;
+    let (soc, next) = separator_behind(text, end, looks)?;
+    Ok((entry, soc, next))
 }
 
 /// Sets an entry behind the others, with the separator between it and the next. Where that is empty, the text is

@@ -12,6 +12,7 @@ pub mod laws;
 mod location;
 mod lookahead;
 mod parse;
+pub mod recode;
 mod serialize;
 mod to_cbor;
 pub mod tree;

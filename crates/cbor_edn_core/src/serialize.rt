@@ -2,10 +2,9 @@
 ghost use Rattle.std.specs.Prelude.{◌≡◌, ◌++◌, OnOk, IfOk};
 ghost use Rattle.std.specs.String.{string_bytes};
 ghost use Rattle.cbor_edn_parts.specs.Indicator.{indicator_text};
-ghost use Rattle.cbor_edn_core.specs.Items as kind;
-ghost use Rattle.cbor_edn_core.specs.Trees.{Tree, OneString, Rest, IsLabel, Valid, text, label_text, head_text, items};
+ghost use Rattle.cbor_edn_core.specs.Trees.{text, label_text, head_text, items};
 ghost use Rattle.cbor_edn_core.specs.Spelling.{Spells, SpellsSequence, SpellsOne};
-ghost use Rattle.cbor_edn_core.specs.View.{texts, view_head, view_list, view_items, row_onto, row_text, view_pair_list, view_pairs, view_pair, pair_row_onto, pair_row_text, view_string, view_piece, piece_row_onto, piece_row_text, view_stream, view_strings, string_row_onto, string_row_text, item_tree, standalone_tree, sequence_tree};
+ghost use Rattle.cbor_edn_core.specs.View.{texts, view_head, view_list, view_items, row_text, view_pair_list, view_pairs, view_pair, pair_row_text, view_string, view_piece, piece_row_text, view_stream, view_strings, string_row_text, item_tree, standalone_tree, sequence_tree};
 
 use crate::tree::{
     CborString, Indicator, InnerItem, Item, ItemList, Items, Kp, Label, PairList, Pairs, Piece,
@@ -51,10 +50,9 @@ impl Sequence<'_> {
 }
 
 #[cycle(push)]
-#[tactic(auto, using(crate::proofs::Views::view_sequence_is, crate::proofs::Texts::text_nothing, crate::proofs::Texts::text_sequence, std::proofs::Common::append_assoc), unfolding(crate::specs::Trees::Valid))]
+#[tactic(auto, using(crate::proofs::Views::view_sequence_is, crate::proofs::Texts::text_nothing, crate::proofs::Texts::text_sequence, std::proofs::Common::append_assoc))]
 fn push_sequence(out: &mut String, sequence: &Sequence<'_>) -> Result<(), AllocError>
-    ensures text { OnOk result (string_bytes out.new ≡ string_bytes out.old ++ text (sequence_tree sequence.now)) }
-    ensures valid { OnOk result (Valid (sequence_tree sequence.now)) }
+    ensures { OnOk result (string_bytes out.new ≡ string_bytes out.old ++ text (sequence_tree sequence.now)) }
 {
     out.push_str(sequence.before.as_str())?;
     match &sequence.items {
@@ -64,10 +62,9 @@ fn push_sequence(out: &mut String, sequence: &Sequence<'_>) -> Result<(), AllocE
 }
 
 #[cycle(push)]
-#[tactic(auto, using(crate::proofs::Texts::text_standalone, std::proofs::Common::append_assoc), unfolding(crate::specs::Trees::Valid))]
+#[tactic(auto, using(crate::proofs::Texts::text_standalone, std::proofs::Common::append_assoc))]
 fn push_standalone(out: &mut String, item: &StandaloneItem<'_>) -> Result<(), AllocError>
-    ensures text { OnOk result (string_bytes out.new ≡ string_bytes out.old ++ text (standalone_tree item.now)) }
-    ensures valid { OnOk result (Valid (standalone_tree item.now)) }
+    ensures { OnOk result (string_bytes out.new ≡ string_bytes out.old ++ text (standalone_tree item.now)) }
 {
     out.push_str(item.before.as_str())?;
     push_item(out, &item.item)?;
@@ -84,8 +81,7 @@ fn push_indicator(out: &mut String, indicator: Option<Indicator>) -> Result<(), 
 }
 
 fn push_label(out: &mut String, label: Label) -> Result<(), AllocError>
-    ensures text { OnOk result (string_bytes out.new ≡ string_bytes out.old ++ label_text label) }
-    ensures fits { IsLabel label }
+    ensures { OnOk result (string_bytes out.new ≡ string_bytes out.old ++ label_text label) }
 {
     match label {
         Label::Tag(number, indicator) => {
@@ -109,10 +105,9 @@ fn push_head(out: &mut String, head: &Option<(Indicator, Ms<'_>)>) -> Result<(),
 }
 
 #[cycle(push)]
-#[tactic(auto, using(crate::proofs::Views::view_string_is, crate::proofs::Texts::text_number, crate::proofs::Texts::text_float, crate::proofs::Texts::text_named, crate::proofs::Texts::text_enclosed, crate::proofs::Texts::text_list, crate::proofs::Texts::text_string, std::proofs::Common::append_assoc), unfolding(crate::specs::Trees::Valid))]
+#[tactic(auto, using(crate::proofs::Views::view_string_is, crate::proofs::Texts::text_number, crate::proofs::Texts::text_float, crate::proofs::Texts::text_named, crate::proofs::Texts::text_enclosed, crate::proofs::Texts::text_list, crate::proofs::Texts::text_string, std::proofs::Common::append_assoc))]
 fn push_item(out: &mut String, item: &Item<'_>) -> Result<(), AllocError>
-    ensures text { OnOk result (string_bytes out.new ≡ string_bytes out.old ++ text (item_tree item.now)) }
-    ensures valid { OnOk result (Valid (item_tree item.now)) }
+    ensures { OnOk result (string_bytes out.new ≡ string_bytes out.old ++ text (item_tree item.now)) }
 {
     match &item.inner {
         InnerItem::Number(number, indicator) => {
@@ -124,8 +119,8 @@ fn push_item(out: &mut String, item: &Item<'_>) -> Result<(), AllocError>
             push_indicator(out, *indicator)
         }
         InnerItem::Named(name) => out.push_str(name.as_str()),
-        InnerItem::Enclosed(label, content) => {
-            push_label(out, *label)?;
+        InnerItem::Enclosed(front, content) => {
+            push_label(out, front.label)?;
             out.push_str("(")?;
             push_standalone(out, content)?;
             out.push_str(")")
@@ -146,23 +141,20 @@ fn push_item(out: &mut String, item: &Item<'_>) -> Result<(), AllocError>
 }
 
 #[cycle(push)]
-#[tactic(auto, using(crate::proofs::Texts::text_pieces, crate::proofs::Texts::text_last_piece, std::proofs::Common::append_assoc), unfolding(crate::specs::Trees::Valid))]
+#[tactic(auto, using(crate::proofs::Texts::text_pieces, crate::proofs::Texts::text_last_piece, std::proofs::Common::append_assoc))]
 fn push_string(out: &mut String, string: &CborString<Texts<'_>>) -> Result<(), AllocError>
-    ensures text { OnOk result (string_bytes out.new ≡ string_bytes out.old ++ text (view_string texts string.now)) }
-    ensures valid { OnOk result (Valid (view_string texts string.now)) }
+    ensures { OnOk result (string_bytes out.new ≡ string_bytes out.old ++ text (view_string texts string.now)) }
 {
     push_piece_row(out, &string.row)?;
     push_piece(out, &string.last)
 }
 
 #[cycle(push)]
-#[tactic(auto, unfolding(crate::specs::Trees::Valid))]
 fn push_piece_row(
     out: &mut String,
     row: &[(Piece<Texts<'_>>, S<'_>, S<'_>)],
 ) -> Result<(), AllocError>
-    ensures text { OnOk result (string_bytes out.new ≡ string_bytes out.old ++ piece_row_text texts row.now) }
-    ensures valid { OnOk result ((w : Tree OneString) → Valid w → Valid (piece_row_onto texts row.now w)) }
+    ensures { OnOk result (string_bytes out.new ≡ string_bytes out.old ++ piece_row_text texts row.now) }
 {
     for (piece, before, after) in row {
         push_piece(out, piece)?;
@@ -174,10 +166,9 @@ fn push_piece_row(
 }
 
 #[cycle(push)]
-#[tactic(auto, using(crate::proofs::Texts::text_literal, crate::proofs::Texts::text_dots, crate::proofs::Texts::text_embedded, std::proofs::Common::append_assoc), unfolding(crate::specs::Trees::Valid))]
+#[tactic(auto, using(crate::proofs::Texts::text_literal, crate::proofs::Texts::text_dots, crate::proofs::Texts::text_embedded, std::proofs::Common::append_assoc))]
 fn push_piece(out: &mut String, piece: &Piece<Texts<'_>>) -> Result<(), AllocError>
-    ensures text { OnOk result (string_bytes out.new ≡ string_bytes out.old ++ text (view_piece texts piece.now)) }
-    ensures valid { OnOk result (Valid (view_piece texts piece.now)) }
+    ensures { OnOk result (string_bytes out.new ≡ string_bytes out.old ++ text (view_piece texts piece.now)) }
 {
     match piece {
         Piece::Literal(literal, indicator) => {
@@ -195,10 +186,9 @@ fn push_piece(out: &mut String, piece: &Piece<Texts<'_>>) -> Result<(), AllocErr
 }
 
 #[cycle(push)]
-#[tactic(auto, using(crate::proofs::Views::view_stream_is, crate::proofs::Texts::text_stream, std::proofs::Common::append_assoc), unfolding(crate::specs::Trees::Valid))]
+#[tactic(auto, using(crate::proofs::Views::view_stream_is, crate::proofs::Texts::text_stream, std::proofs::Common::append_assoc))]
 fn push_stream(out: &mut String, stream: &Stream<Texts<'_>>) -> Result<(), AllocError>
-    ensures text { OnOk result (string_bytes out.new ≡ string_bytes out.old ++ text (view_stream texts stream.now)) }
-    ensures valid { OnOk result (Valid (view_stream texts stream.now)) }
+    ensures { OnOk result (string_bytes out.new ≡ string_bytes out.old ++ text (view_stream texts stream.now)) }
 {
     out.push_str("(_")?;
     out.push_str(stream.ms.as_str())?;
@@ -207,10 +197,9 @@ fn push_stream(out: &mut String, stream: &Stream<Texts<'_>>) -> Result<(), Alloc
 }
 
 #[cycle(push)]
-#[tactic(auto, using(crate::proofs::Views::view_strings_is, crate::proofs::Texts::text_entries, crate::proofs::Texts::text_last, crate::proofs::Texts::text_chunk, std::proofs::Common::append_assoc), unfolding(crate::specs::Trees::Valid))]
+#[tactic(auto, using(crate::proofs::Views::view_strings_is, crate::proofs::Texts::text_entries, crate::proofs::Texts::text_last, crate::proofs::Texts::text_chunk, std::proofs::Common::append_assoc))]
 fn push_strings(out: &mut String, strings: &Strings<Texts<'_>>) -> Result<(), AllocError>
-    ensures text { OnOk result (string_bytes out.new ≡ string_bytes out.old ++ text (view_strings texts strings.now)) }
-    ensures valid { OnOk result (Valid (view_strings texts strings.now)) }
+    ensures { OnOk result (string_bytes out.new ≡ string_bytes out.old ++ text (view_strings texts strings.now)) }
 {
     push_string_row(out, &strings.row)?;
     push_string(out, &strings.last)?;
@@ -218,13 +207,12 @@ fn push_strings(out: &mut String, strings: &Strings<Texts<'_>>) -> Result<(), Al
 }
 
 #[cycle(push)]
-#[tactic(auto, unfolding(crate::specs::Trees::onto, crate::specs::Trees::Valid))]
+#[tactic(auto, unfolding(crate::specs::Trees::onto))]
 fn push_string_row(
     out: &mut String,
     row: &[(CborString<Texts<'_>>, Msc<'_>)],
 ) -> Result<(), AllocError>
-    ensures text { OnOk result (string_bytes out.new ≡ string_bytes out.old ++ string_row_text texts row.now) }
-    ensures valid { OnOk result ((w : Tree (Rest kind.Strings)) → Valid w → Valid (string_row_onto texts row.now w)) }
+    ensures { OnOk result (string_bytes out.new ≡ string_bytes out.old ++ string_row_text texts row.now) }
 {
     for (string, separator) in row {
         push_string(out, string)?;
@@ -234,10 +222,9 @@ fn push_string_row(
 }
 
 #[cycle(push)]
-#[tactic(auto, using(crate::proofs::Texts::text_empty, crate::proofs::Texts::text_full, std::proofs::Common::append_assoc), unfolding(crate::specs::Trees::Valid))]
+#[tactic(auto, using(crate::proofs::Texts::text_empty, crate::proofs::Texts::text_full, std::proofs::Common::append_assoc))]
 fn push_list(out: &mut String, list: &ItemList<Texts<'_>>) -> Result<(), AllocError>
-    ensures text { OnOk result (string_bytes out.new ≡ string_bytes out.old ++ text (view_list texts list.now)) }
-    ensures valid { OnOk result (Valid (view_list texts list.now)) }
+    ensures { OnOk result (string_bytes out.new ≡ string_bytes out.old ++ text (view_list texts list.now)) }
 {
     match list {
         ItemList::Present { head, s, items } => {
@@ -253,10 +240,9 @@ fn push_list(out: &mut String, list: &ItemList<Texts<'_>>) -> Result<(), AllocEr
 }
 
 #[cycle(push)]
-#[tactic(auto, using(crate::proofs::Views::view_items_is, crate::proofs::Texts::text_entries, crate::proofs::Texts::text_last, crate::proofs::Texts::text_element, std::proofs::Common::append_assoc), unfolding(crate::specs::Trees::Valid))]
+#[tactic(auto, using(crate::proofs::Views::view_items_is, crate::proofs::Texts::text_entries, crate::proofs::Texts::text_last, crate::proofs::Texts::text_element, std::proofs::Common::append_assoc))]
 fn push_items(out: &mut String, items: &Items<Texts<'_>>) -> Result<(), AllocError>
-    ensures text { OnOk result (string_bytes out.new ≡ string_bytes out.old ++ text (view_items texts items.now)) }
-    ensures valid { OnOk result (Valid (view_items texts items.now)) }
+    ensures { OnOk result (string_bytes out.new ≡ string_bytes out.old ++ text (view_items texts items.now)) }
 {
     push_row(out, &items.row)?;
     push_item(out, &items.last)?;
@@ -264,10 +250,9 @@ fn push_items(out: &mut String, items: &Items<Texts<'_>>) -> Result<(), AllocErr
 }
 
 #[cycle(push)]
-#[tactic(auto, unfolding(crate::specs::Trees::onto, crate::specs::Trees::Valid))]
+#[tactic(auto, unfolding(crate::specs::Trees::onto))]
 fn push_row(out: &mut String, row: &[(Item<'_>, Msc<'_>)]) -> Result<(), AllocError>
-    ensures text { OnOk result (string_bytes out.new ≡ string_bytes out.old ++ row_text texts row.now) }
-    ensures valid { OnOk result ((w : Tree (Rest kind.Elements)) → Valid w → Valid (row_onto texts row.now w)) }
+    ensures { OnOk result (string_bytes out.new ≡ string_bytes out.old ++ row_text texts row.now) }
 {
     for (item, separator) in row {
         push_item(out, item)?;
@@ -277,10 +262,9 @@ fn push_row(out: &mut String, row: &[(Item<'_>, Msc<'_>)]) -> Result<(), AllocEr
 }
 
 #[cycle(push)]
-#[tactic(auto, using(crate::proofs::Texts::text_empty, crate::proofs::Texts::text_full, std::proofs::Common::append_assoc), unfolding(crate::specs::Trees::Valid))]
+#[tactic(auto, using(crate::proofs::Texts::text_empty, crate::proofs::Texts::text_full, std::proofs::Common::append_assoc))]
 fn push_pair_list(out: &mut String, list: &PairList<Texts<'_>>) -> Result<(), AllocError>
-    ensures text { OnOk result (string_bytes out.new ≡ string_bytes out.old ++ text (view_pair_list texts list.now)) }
-    ensures valid { OnOk result (Valid (view_pair_list texts list.now)) }
+    ensures { OnOk result (string_bytes out.new ≡ string_bytes out.old ++ text (view_pair_list texts list.now)) }
 {
     match list {
         PairList::Present { head, s, pairs } => {
@@ -296,10 +280,9 @@ fn push_pair_list(out: &mut String, list: &PairList<Texts<'_>>) -> Result<(), Al
 }
 
 #[cycle(push)]
-#[tactic(auto, using(crate::proofs::Views::view_pairs_is, crate::proofs::Texts::text_entries, crate::proofs::Texts::text_last, std::proofs::Common::append_assoc), unfolding(crate::specs::Trees::Valid))]
+#[tactic(auto, using(crate::proofs::Views::view_pairs_is, crate::proofs::Texts::text_entries, crate::proofs::Texts::text_last, std::proofs::Common::append_assoc))]
 fn push_pairs(out: &mut String, pairs: &Pairs<Texts<'_>>) -> Result<(), AllocError>
-    ensures text { OnOk result (string_bytes out.new ≡ string_bytes out.old ++ text (view_pairs texts pairs.now)) }
-    ensures valid { OnOk result (Valid (view_pairs texts pairs.now)) }
+    ensures { OnOk result (string_bytes out.new ≡ string_bytes out.old ++ text (view_pairs texts pairs.now)) }
 {
     push_pair_row(out, &pairs.row)?;
     push_pair(out, &pairs.last)?;
@@ -307,10 +290,8 @@ fn push_pairs(out: &mut String, pairs: &Pairs<Texts<'_>>) -> Result<(), AllocErr
 }
 
 #[cycle(push)]
-#[tactic(auto, unfolding(crate::specs::Trees::Valid))]
 fn push_pair_row(out: &mut String, row: &[(Kp<Texts<'_>>, Msc<'_>)]) -> Result<(), AllocError>
-    ensures text { OnOk result (string_bytes out.new ≡ string_bytes out.old ++ pair_row_text texts row.now) }
-    ensures valid { OnOk result ((w : Tree (Rest kind.Pairs)) → Valid w → Valid (pair_row_onto texts row.now w)) }
+    ensures { OnOk result (string_bytes out.new ≡ string_bytes out.old ++ pair_row_text texts row.now) }
 {
     for (pair, separator) in row {
         push_pair(out, pair)?;
@@ -320,10 +301,9 @@ fn push_pair_row(out: &mut String, row: &[(Kp<Texts<'_>>, Msc<'_>)]) -> Result<(
 }
 
 #[cycle(push)]
-#[tactic(auto, using(crate::proofs::Texts::text_pair, std::proofs::Common::append_assoc), unfolding(crate::specs::Trees::Valid))]
+#[tactic(auto, using(crate::proofs::Texts::text_pair, std::proofs::Common::append_assoc))]
 fn push_pair(out: &mut String, pair: &Kp<Texts<'_>>) -> Result<(), AllocError>
-    ensures text { OnOk result (string_bytes out.new ≡ string_bytes out.old ++ text (view_pair texts pair.now)) }
-    ensures valid { OnOk result (Valid (view_pair texts pair.now)) }
+    ensures { OnOk result (string_bytes out.new ≡ string_bytes out.old ++ text (view_pair texts pair.now)) }
 {
     push_item(out, &pair.key)?;
     out.push_str(pair.before_colon.as_str())?;

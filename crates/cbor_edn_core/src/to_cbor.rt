@@ -72,7 +72,7 @@ fn push_item(out: &mut Vec<u8>, item: &Item<'_>) -> Result<(), Fault<Inconsisten
         InnerItem::Number(number, indicator) => push_number(out, number, *indicator),
         InnerItem::NonFinite(float, indicator) => push_float(out, *float, *indicator),
         InnerItem::Named(name) => Ok(push_simple(out, simple_number(*name))?),
-        InnerItem::Enclosed(label, content) => push_enclosed(out, *label, content),
+        InnerItem::Enclosed(front, content) => push_enclosed(out, front.label, content),
         InnerItem::Array(list) => push_array(out, list),
         InnerItem::Map(list) => push_map(out, list),
         InnerItem::String(string) => push_pieces(out, string),

@@ -1,8 +1,9 @@
 //! Items of a text with the spaces between their tokens.
 //!
 //! The types are generic in their leaves; the rest of the crate speaks of `Item`, `StandaloneItem` and `Sequence`.
-ghost use Rattle.std.specs.Prelude.{List, ℕ};
+ghost use Rattle.std.specs.Prelude.{List, ℕ, ◌≡◌};
 ghost use Rattle.cbor_edn_parts.specs.Leaves.{s_bytes, ms_bytes, msc_bytes, soc_bytes, number_bytes, literal_bytes, dots_bytes};
+ghost use Rattle.cbor_edn_core.specs.Labels.{IsLabel, IsLabel-prop};
 
 use crate::word::{NamedSimple, NonFinite};
 pub use cbor_edn_parts::indicator::Indicator;
@@ -110,7 +111,7 @@ pub enum InnerItem<L: Leaves> {
     /// A simple value by its name.
     Named(NamedSimple),
     /// An item between parentheses, and what stands in front of them.
-    Enclosed(Label, Box<StandaloneItemOf<L>>),
+    Enclosed(Front, Box<StandaloneItemOf<L>>),
     Array(ItemList<L>),
     Map(PairList<L>),
     String(CborString<L>),
@@ -125,6 +126,33 @@ pub enum Label {
     Tag(u64, Option<Indicator>),
     /// The word `simple`.
     Simple,
+}
+
+/// A label whose number is below 2^64, which proofs of the text know.
+#[derive(Clone, Copy, Debug)]
+pub struct Front {
+    pub(crate) label: Label,
+    ghost fits: { IsLabel label } by { IsLabel-prop label },
+}
+
+impl Front {
+    ghost use Rattle.cbor_edn_core.specs.declared.tree.Label.TheVariants.{Tag, Simple};
+
+    pub(crate) fn tag(number: u64, indicator: Option<Indicator>) -> Front
+        ensures { result.label ≡ Tag number indicator }
+    {
+        Front {
+            label: Label::Tag(number, indicator),
+        }
+    }
+
+    pub(crate) fn simple() -> Front
+        ensures { result.label ≡ Simple }
+    {
+        Front {
+            label: Label::Simple,
+        }
+    }
 }
 
 /// A string: one piece or more, all but the last with the space before and the space behind the plus sign that follows.

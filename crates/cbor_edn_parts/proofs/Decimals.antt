@@ -25,7 +25,7 @@ some (d ∷ ds) lt = λ e. cc
 pub digits_are : (n : ℕ) → n < 10 ^ 64 → AreDigits Decimal (decimal n)
 digits_are n lt = let h = (decimal_is_IsNumeral_wide n lt).0 in (each_digit (decimal n) h.1, some (decimal n) h.0)
 
-value_is : (n : ℕ) → n < 10 ^ 64 → number_of 10 (decimal n) ≡ n
+pub value_is : (n : ℕ) → n < 10 ^ 64 → number_of 10 (decimal n) ≡ n
 value_is n lt = sym (number_is 10 (decimal n)) ∙ (decimal_is_IsNumeral_wide n lt).1
 
 abbrev pub literal : (s : Sign) (n : ℕ) (t : List ℕ) → n < 10 ^ 64 → t ≡ sign_text s ++ decimal n → IsInteger t

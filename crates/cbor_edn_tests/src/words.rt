@@ -5,7 +5,7 @@ use std::alloc::Global;
 use std::test::Fail;
 
 /// Texts and what they are encoded as.
-const ENCODED: [(&str, &str); 20] = [
+const ENCODED: [(&str, &str); 21] = [
     ("1(2)", "c102"),
     ("1_0(2)", "d80102"),
     ("1_3( 2 )", "db000000000000000102"),
@@ -13,6 +13,7 @@ const ENCODED: [(&str, &str); 20] = [
     ("simple(0x10)", "f0"),
     ("simple(32)", "f820"),
     ("simple(255_0)", "f8ff"),
+    ("simple(4)", "e4"),
     ("simple( /c/ 4_i )", "e4"),
     ("simple(20)", "f4"),
     ("simple(23)", "f7"),
@@ -201,12 +202,16 @@ const SCALARS: [(&str, &str); 38] = [
 ];
 
 /// Strings, arrays and maps.
-const COMPOUNDS: [(&str, &str); 25] = [
+const COMPOUNDS: [(&str, &str); 29] = [
     ("h''", "40"),
     ("h'01020304'", "4401020304"),
     ("\"\"", "60"),
     ("\"a\"", "6161"),
     ("\"IETF\"", "6449455446"),
+    ("\"\\\"\\\\\"", "62225c"),
+    ("\"\u{fc}\"", "62c3bc"),
+    ("\"\u{6c34}\"", "63e6b0b4"),
+    ("\"\u{10151}\"", "64f0908591"),
     ("[]", "80"),
     ("[1, 2, 3]", "83010203"),
     ("[1, [2, 3], [4, 5]]", "8301820203820405"),
@@ -386,6 +391,12 @@ fn tells_why_items_are_refused(rt: HostRuntime) -> Result<(), Fail> {
     ] {
         assert_eq!(rt; word_of(alloc, text)?.as_str(), word, "{text:?}");
     }
+    assert_eq!(rt;
+        InconsistentEdn::InvalidIdentifier
+            .to_string(alloc)?
+            .as_str(),
+        "Identifier is not a valid application string identifier"
+    );
     assert_eq!(rt;
         InconsistentEdn::NumericRangeExceeded
             .to_string(alloc)?

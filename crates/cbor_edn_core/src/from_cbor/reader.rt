@@ -19,7 +19,7 @@ use super::growing::Growing;
 use super::special::{enclosed, special_of};
 use super::strings::string_of;
 use crate::cbor::Width;
-use crate::tree::{InnerItem, Item, ItemList, Items, Kp, Label, PairList, Pairs, Texts};
+use crate::tree::{Front, InnerItem, Item, ItemList, Items, Kp, PairList, Pairs, Texts};
 use cbor_edn_parts::error::Fault;
 use cbor_edn_parts::indicator::Indicator;
 use cbor_edn_parts::number::{Integer, Number};
@@ -379,7 +379,7 @@ fn tag_of<'a, 'b>(
     let (content, rest) = item_of(alloc, bytes, limit - 1)?;
     let content = enclosed(alloc, content)?;
     let item = Item {
-        inner: InnerItem::Enclosed(Label::Tag(number, indicator_of(argument)), content),
+        inner: InnerItem::Enclosed(Front::tag(number, indicator_of(argument)), content),
     };
     Ok((item, rest))
 }

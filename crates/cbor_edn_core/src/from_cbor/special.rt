@@ -11,7 +11,7 @@ ghost use Rattle.cbor_edn_core.specs.View.{item_tree, standalone_tree};
 use super::CborError;
 use super::reader::Argument;
 use crate::cbor::{Width, float_bits};
-use crate::tree::{Indicator, InnerItem, Item, Label, StandaloneItem};
+use crate::tree::{Front, Indicator, InnerItem, Item, StandaloneItem};
 use crate::word::{NamedSimple, NonFinite};
 use cbor_edn_parts::error::Fault;
 use cbor_edn_parts::number::{Integer, Number};
@@ -46,7 +46,7 @@ fn simple_of<'a>(alloc: Global, number: u64, limit: usize) -> Result<Item<'a>, F
         22 => InnerItem::Named(NamedSimple::Null),
         23 => InnerItem::Named(NamedSimple::Undefined),
         _ if limit == 0 => return Err(Fault::Told(CborError::TooDeep)),
-        _ => InnerItem::Enclosed(Label::Simple, enclosed(alloc, numeral(alloc, number)?)?),
+        _ => InnerItem::Enclosed(Front::simple(), enclosed(alloc, numeral(alloc, number)?)?),
     };
     Ok(Item { inner })
 }

@@ -1,4 +1,4 @@
-use Rattle.std.proofs.Common.{◌≡◌, ◌+◌, ◌<◌, ℕ, List, length, arith, ap, sym, ◌∙◌, refl}
+use Rattle.std.proofs.Common.{◌≡◌, ◌+◌, ◌<◌, ℕ, List, length, arith, ap, subst, sym, ◌∙◌, refl}
 use Rattle.std.proofs.lemmas.Bool.{false≢true}
 use Rattle.std.proofs.lemmas.Result.{err_from_is_err_and}
 use Rattle.cbor_edn_parts.specs.declared.error.Fault.TheVariants.{Told}
@@ -8,10 +8,11 @@ use Rattle.cbor_edn_parts.specs.NumberTokens.{number}
 use Rattle.cbor_edn_parts.specs.Leaves.{soc_bytes}
 use Rattle.cbor_edn_parts.specs.Text.{text_bytes}
 use Rattle.cbor_edn_parts.proofs.SeparatorTokens.{spaced_of}
+use Rattle.cbor_edn_core.specs.Borrowed.{BorrowsItem, BorrowsPair, BorrowsString}
 use Rattle.cbor_edn_core.specs.Items.{Elements, Pairs, Strings, Array, Map}
 use Rattle.cbor_edn_core.specs.ParserResults.{element_tree, chunk_tree}
 use Rattle.cbor_edn_core.specs.View.{texts, seen, seen_pair, seen_string, seen_piece, view_pair}
-use Rattle.cbor_edn_core.proofs.Turns.{ends_same, fails_at, scan_fails, scan_read, number_at, number_fails, string_item_fails, string_item_read, stream_at, list_too_deep, list_fails, list_open, list_read, standalone_fails, standalone_fails_item, standalone_fails_after, standalone_read, inside_fails, inside_empty, inside_unparted, inside_rest_fails, inside_read, element_read, element_fails, parted_fails, parted_fails_behind, parted_read, pair_fails, pair_fails_before, pair_no_colon, pair_behind_colon, value_fails_before, value_fails, value_read, turn_fails, turn_last, turn_refused, turn_more, with_more, some_length, token_end, token_behind, sequence_fails, sequence_empty, sequence_rest_fails, sequence_full}
+use Rattle.cbor_edn_core.proofs.Turns.{ends_same, fails_at, scan_fails, scan_read, number_at, number_fails, string_item_fails, string_item_read, stream_at, list_too_deep, list_fails, list_open, list_read, standalone_fails, standalone_fails_item, standalone_fails_after, standalone_read, inside_fails, inside_empty, inside_unparted, inside_rest_fails, inside_read, element_read, element_fails, parted_fails, parted_fails_behind, parted_entry, pair_fails, pair_fails_before, pair_no_colon, pair_behind_colon, value_fails_before, value_fails, value_read, turn_fails, turn_last, turn_refused, turn_more, with_more, some_length, token_end, token_behind, sequence_fails, sequence_empty, sequence_rest_fails, sequence_full}
 use Rattle.cbor_edn_core.proofs.EnclosedTurns.{enclosed_shut, enclosed_too_deep, enclosed_fails, enclosed_open, enclosed_read, number_read, no_tag, tag_at, word_here, named_read, float_read, simple_at}
 use Rattle.cbor_edn_core.proofs.Looks.{ahead_small, token_two, literal_open, dots_open, spared_push, pushed_some, spared_first, costs_ahead}
 use Rattle.cbor_edn_core.proofs.StringTurns.{stream_unmarked, stream_fails, stream_unspaced, stream_rest_fails, stream_open, stream_read, chunk_fails, chunk_read, dots_fail, dots_read, literal_fails, literal_read, embedded_single, embedded_too_deep, embedded_fails, embedded_unclosed, embedded_read, with_more_pieces, pieces_turn_fails, pieces_turn_fails_before, pieces_turn_last, pieces_turn_fails_after, pieces_turn_more}
@@ -107,149 +108,125 @@ map-returns-in_err-pairs-clause-value t c =
 pub map-returns-clause-value : goal.map-returns-clause-value
 map-returns-clause-value t c = inside_read c.args.limit Map _ _ _ _ _ _ _ _ _ c.indicator_at-indicator.ensures.value (scan_read space _ _ _ c.in_ok-s.ensures.value) (sym c.if-closes.ensures.closed) c.in-Some.ensures.some c.in_ok-pairs.ensures.value
 
+pub items-returns-in_err-read-clause-value : goal.items-returns-in_err-read-clause-value
+items-returns-in_err-read-clause-value t c =
+    let p = err_from_is_err_and c.from_residual.result c.from_residual.ensures.1 in
+    rw (p.1, p.2) (turn_fails c.args.limit Elements _ _ _ c.items.invariant.reads c.in_err-read.field-0.0 (parted_fails c.in_err-read.field-0.0 c.args.limit Elements _ (element_fails c.in_err-read.field-0.0 c.args.limit _ c.in_err-read.ensures.value)))
+
 pub items-returns-in_err-item-clause-value : goal.items-returns-in_err-item-clause-value
 items-returns-in_err-item-clause-value t c =
-    let p = err_from_is_err_and c.from_residual.result c.from_residual.ensures.1 in
-    rw (p.1, p.2) (turn_fails c.args.limit Elements _ _ _ c.items.invariant.reads c.in_err-item.field-0.0 c.in_err-item.ensures.value)
+    let p = err_from_is_err_and c.from_residual-in_err-item.result c.from_residual-in_err-item.ensures.1 in
+    rw (p.1, p.2) (turn_fails c.args.limit Elements _ _ _ c.items.invariant.reads c.in_err-item.field-0.0 (parted_fails_behind c.in_err-item.field-0.0 c.args.limit Elements _ _ _ (element_read c.args.limit _ _ _ c.in_ok-read.ensures.value) c.in_err-item.ensures.value))
 
 pub items-returns-then-closes-clause-value : goal.items-returns-then-closes-clause-value
-items-returns-then-closes-clause-value t c = rw c.in_ok-last_item.ensures.view (turn_last c.args.limit Elements _ _ _ c.items.invariant.reads _ _ _ c.in_ok-item.ensures.value (sym c.if-closes.ensures.closed))
+items-returns-then-closes-clause-value t c = rw c.in_ok-last_item.ensures.view (turn_last c.args.limit Elements _ _ _ c.items.invariant.reads _ _ _ (parted_entry element_tree c.args.limit _ _ _ _ _ _ c.in_ok-item.ensures.entry (element_read c.args.limit _ _ _ c.in_ok-read.ensures.value) c.in_ok-item.ensures.value) (sym c.if-closes.ensures.closed))
 
 pub items-returns-then-closes-clause-borrowed : goal.items-returns-then-closes-clause-borrowed
-items-returns-then-closes-clause-borrowed t c = c.in_ok-last_item.ensures.borrowed c.items.invariant.borrowed c.in_ok-item.ensures.borrowed.0 c.in_ok-item.ensures.borrowed.1
+items-returns-then-closes-clause-borrowed t c = c.in_ok-last_item.ensures.borrowed c.items.invariant.borrowed (subst BorrowsItem (sym c.in_ok-item.ensures.entry) c.in_ok-read.ensures.borrowed) c.in_ok-item.ensures.borrowed
 
 pub items-returns-in_err-push_entry-clause-value : goal.items-returns-in_err-push_entry-clause-value
 items-returns-in_err-push_entry-clause-value t c =
     let p = err_from_is_err_and c.from_residual-in_err-push_entry.result c.from_residual-in_err-push_entry.ensures.1 in
-    rw (p.1, p.2) (turn_refused c.args.limit Elements _ _ _ c.items.invariant.reads _ _ _ c.in_ok-item.ensures.value c.in_err-push_entry.field-0.0 _ c.in_err-push_entry.ensures.unparted (sym c.if-closes.ensures.closed))
+    rw (p.1, p.2) (turn_refused c.args.limit Elements _ _ _ c.items.invariant.reads _ _ _ (parted_entry element_tree c.args.limit _ _ _ _ _ _ c.in_ok-item.ensures.entry (element_read c.args.limit _ _ _ c.in_ok-read.ensures.value) c.in_ok-item.ensures.value) c.in_err-push_entry.field-0.0 _ c.in_err-push_entry.ensures.unparted (sym c.if-closes.ensures.closed))
 
 pub items-items-smaller : goal.items-items-smaller
 items-items-smaller t c =
     let some : 0 < length (soc_bytes c.in_ok-item.soc) = some_length _ c.in_ok-push_entry.ensures.pushed.not_empty in
-    omega (arith, c.in_ok-item.ensures.place.0, c.in_ok-item.ensures.place.1.0)
+    omega (arith, c.in_ok-read.ensures.place.0, c.in_ok-item.ensures.place.0, c.in_ok-item.ensures.place.1.0)
 
 pub items-items-preserved : goal.items-items-preserved
 items-items-preserved t c =
     let pushed = c.in_ok-push_entry.ensures.pushed in
     let some : 0 < length (soc_bytes c.in_ok-item.soc) = some_length _ pushed.not_empty in
     record {
-      order = omega (arith, c.in_ok-item.ensures.place.0);
+      order = omega (arith, c.in_ok-read.ensures.place.0, c.in_ok-item.ensures.place.0);
       place = c.in_ok-item.ensures.place.1;
-      cost = omega (arith, c.in_ok-item.ensures.cost);
-      least = omega (arith, c.in_ok-item.ensures.cost);
-      borrowed = rw pushed.items (borrows_push c.items.row.items _ c.items.invariant.borrowed c.in_ok-item.ensures.borrowed.0 (pushed.borrowed c.in_ok-item.ensures.borrowed.1));
-      reads = rw pushed.items (turn_more c.args.limit Elements _ _ _ c.items.invariant.reads _ _ _ c.in_ok-item.ensures.value pushed.not_empty (sym c.if-closes.ensures.closed)
+      cost = omega (arith, some, c.in_ok-item.ensures.place.0, c.in_ok-read.ensures.cost, c.in_ok-item.ensures.cost);
+      least = omega (arith, some, c.in_ok-item.ensures.place.0, c.in_ok-read.ensures.cost, c.in_ok-item.ensures.cost);
+      borrowed = rw pushed.items (borrows_push c.items.row.items _ c.items.invariant.borrowed (subst BorrowsItem (sym c.in_ok-item.ensures.entry) c.in_ok-read.ensures.borrowed) (pushed.borrowed c.in_ok-item.ensures.borrowed));
+      reads = rw pushed.items (turn_more c.args.limit Elements _ _ _ c.items.invariant.reads _ _ _ (parted_entry element_tree c.args.limit _ _ _ _ _ _ c.in_ok-item.ensures.entry (element_read c.args.limit _ _ _ c.in_ok-read.ensures.value) c.in_ok-item.ensures.value) pushed.not_empty (sym c.if-closes.ensures.closed)
           ∙ with_more (seen texts) _ (c.in_ok-item.item, pushed.separator) _ _ _ (ap (λ (s : List ℕ). (element_tree c.in_ok-item.item, s)) pushed.same));
     }
 
+pub pairs-returns-in_err-read-clause-value : goal.pairs-returns-in_err-read-clause-value
+pairs-returns-in_err-read-clause-value t c =
+    let p = err_from_is_err_and c.from_residual.result c.from_residual.ensures.1 in
+    rw (p.1, p.2) (turn_fails c.args.limit Pairs _ _ _ c.pairs.invariant.reads c.in_err-read.field-0.0 (parted_fails c.in_err-read.field-0.0 c.args.limit Pairs _ c.in_err-read.ensures.value))
+
 pub pairs-returns-in_err-pair-clause-value : goal.pairs-returns-in_err-pair-clause-value
 pairs-returns-in_err-pair-clause-value t c =
-    let p = err_from_is_err_and c.from_residual.result c.from_residual.ensures.1 in
-    rw (p.1, p.2) (turn_fails c.args.limit Pairs _ _ _ c.pairs.invariant.reads c.in_err-pair.field-0.0 c.in_err-pair.ensures.value)
+    let p = err_from_is_err_and c.from_residual-in_err-pair.result c.from_residual-in_err-pair.ensures.1 in
+    rw (p.1, p.2) (turn_fails c.args.limit Pairs _ _ _ c.pairs.invariant.reads c.in_err-pair.field-0.0 (parted_fails_behind c.in_err-pair.field-0.0 c.args.limit Pairs _ _ _ c.in_ok-read.ensures.value c.in_err-pair.ensures.value))
 
 pub pairs-returns-then-closes-clause-value : goal.pairs-returns-then-closes-clause-value
-pairs-returns-then-closes-clause-value t c = rw c.in_ok-last_pair.ensures.view (turn_last c.args.limit Pairs _ _ _ c.pairs.invariant.reads _ _ _ c.in_ok-pair.ensures.value (sym c.if-closes.ensures.closed))
+pairs-returns-then-closes-clause-value t c = rw c.in_ok-last_pair.ensures.view (turn_last c.args.limit Pairs _ _ _ c.pairs.invariant.reads _ _ _ (parted_entry (view_pair texts) c.args.limit _ _ _ _ _ _ c.in_ok-pair.ensures.entry c.in_ok-read.ensures.value c.in_ok-pair.ensures.value) (sym c.if-closes.ensures.closed))
 
 pub pairs-returns-then-closes-clause-borrowed : goal.pairs-returns-then-closes-clause-borrowed
-pairs-returns-then-closes-clause-borrowed t c = c.in_ok-last_pair.ensures.borrowed c.pairs.invariant.borrowed c.in_ok-pair.ensures.borrowed.0 c.in_ok-pair.ensures.borrowed.1
+pairs-returns-then-closes-clause-borrowed t c = c.in_ok-last_pair.ensures.borrowed c.pairs.invariant.borrowed (subst BorrowsPair (sym c.in_ok-pair.ensures.entry) c.in_ok-read.ensures.borrowed) c.in_ok-pair.ensures.borrowed
 
 pub pairs-returns-in_err-push_entry-clause-value : goal.pairs-returns-in_err-push_entry-clause-value
 pairs-returns-in_err-push_entry-clause-value t c =
     let p = err_from_is_err_and c.from_residual-in_err-push_entry.result c.from_residual-in_err-push_entry.ensures.1 in
-    rw (p.1, p.2) (turn_refused c.args.limit Pairs _ _ _ c.pairs.invariant.reads _ _ _ c.in_ok-pair.ensures.value c.in_err-push_entry.field-0.0 _ c.in_err-push_entry.ensures.unparted (sym c.if-closes.ensures.closed))
+    rw (p.1, p.2) (turn_refused c.args.limit Pairs _ _ _ c.pairs.invariant.reads _ _ _ (parted_entry (view_pair texts) c.args.limit _ _ _ _ _ _ c.in_ok-pair.ensures.entry c.in_ok-read.ensures.value c.in_ok-pair.ensures.value) c.in_err-push_entry.field-0.0 _ c.in_err-push_entry.ensures.unparted (sym c.if-closes.ensures.closed))
 
 pub pairs-pairs-smaller : goal.pairs-pairs-smaller
 pairs-pairs-smaller t c =
     let some : 0 < length (soc_bytes c.in_ok-pair.soc) = some_length _ c.in_ok-push_entry.ensures.pushed.not_empty in
-    omega (arith, c.in_ok-pair.ensures.place.0, c.in_ok-pair.ensures.place.1.0)
+    omega (arith, c.in_ok-read.ensures.place.0, c.in_ok-pair.ensures.place.0, c.in_ok-pair.ensures.place.1.0)
 
 pub pairs-pairs-preserved : goal.pairs-pairs-preserved
 pairs-pairs-preserved t c =
     let pushed = c.in_ok-push_entry.ensures.pushed in
     let some : 0 < length (soc_bytes c.in_ok-pair.soc) = some_length _ pushed.not_empty in
     record {
-      order = omega (arith, c.in_ok-pair.ensures.place.0);
+      order = omega (arith, c.in_ok-read.ensures.place.0, c.in_ok-pair.ensures.place.0);
       place = c.in_ok-pair.ensures.place.1;
-      cost = omega (arith, c.in_ok-pair.ensures.cost);
-      least = omega (arith, c.in_ok-pair.ensures.cost);
-      borrowed = rw pushed.items (borrows_pair_push c.pairs.row.items _ c.pairs.invariant.borrowed c.in_ok-pair.ensures.borrowed.0 (pushed.borrowed c.in_ok-pair.ensures.borrowed.1));
-      reads = rw pushed.items (turn_more c.args.limit Pairs _ _ _ c.pairs.invariant.reads _ _ _ c.in_ok-pair.ensures.value pushed.not_empty (sym c.if-closes.ensures.closed)
+      cost = omega (arith, some, c.in_ok-pair.ensures.place.0, c.in_ok-read.ensures.cost, c.in_ok-pair.ensures.cost);
+      least = omega (arith, some, c.in_ok-pair.ensures.place.0, c.in_ok-read.ensures.cost, c.in_ok-pair.ensures.cost);
+      borrowed = rw pushed.items (borrows_pair_push c.pairs.row.items _ c.pairs.invariant.borrowed (subst BorrowsPair (sym c.in_ok-pair.ensures.entry) c.in_ok-read.ensures.borrowed) (pushed.borrowed c.in_ok-pair.ensures.borrowed));
+      reads = rw pushed.items (turn_more c.args.limit Pairs _ _ _ c.pairs.invariant.reads _ _ _ (parted_entry (view_pair texts) c.args.limit _ _ _ _ _ _ c.in_ok-pair.ensures.entry c.in_ok-read.ensures.value c.in_ok-pair.ensures.value) pushed.not_empty (sym c.if-closes.ensures.closed)
           ∙ with_more (seen_pair texts) _ (c.in_ok-pair.pair, pushed.separator) _ _ _ (ap (λ (s : List ℕ). (view_pair texts c.in_ok-pair.pair, s)) pushed.same));
     }
 
+pub strings-returns-in_err-read-clause-value : goal.strings-returns-in_err-read-clause-value
+strings-returns-in_err-read-clause-value t c =
+    let p = err_from_is_err_and c.from_residual.result c.from_residual.ensures.1 in
+    rw (p.1, p.2) (turn_fails c.args.limit Strings _ _ _ c.strings.invariant.reads c.in_err-read.field-0.0 (parted_fails c.in_err-read.field-0.0 c.args.limit Strings _ (chunk_fails c.in_err-read.field-0.0 c.args.limit _ c.in_err-read.ensures.value)))
+
 pub strings-returns-in_err-string-clause-value : goal.strings-returns-in_err-string-clause-value
 strings-returns-in_err-string-clause-value t c =
-    let p = err_from_is_err_and c.from_residual.result c.from_residual.ensures.1 in
-    rw (p.1, p.2) (turn_fails c.args.limit Strings _ _ _ c.strings.invariant.reads c.in_err-string.field-0.0 c.in_err-string.ensures.value)
+    let p = err_from_is_err_and c.from_residual-in_err-string.result c.from_residual-in_err-string.ensures.1 in
+    rw (p.1, p.2) (turn_fails c.args.limit Strings _ _ _ c.strings.invariant.reads c.in_err-string.field-0.0 (parted_fails_behind c.in_err-string.field-0.0 c.args.limit Strings _ _ _ (chunk_read c.args.limit _ _ _ c.in_ok-read.ensures.value) c.in_err-string.ensures.value))
 
 pub strings-returns-then-closes-clause-value : goal.strings-returns-then-closes-clause-value
-strings-returns-then-closes-clause-value t c = rw c.in_ok-last_string.ensures.view (turn_last c.args.limit Strings _ _ _ c.strings.invariant.reads _ _ _ c.in_ok-string.ensures.value (sym c.if-closes.ensures.closed))
+strings-returns-then-closes-clause-value t c = rw c.in_ok-last_string.ensures.view (turn_last c.args.limit Strings _ _ _ c.strings.invariant.reads _ _ _ (parted_entry chunk_tree c.args.limit _ _ _ _ _ _ c.in_ok-string.ensures.entry (chunk_read c.args.limit _ _ _ c.in_ok-read.ensures.value) c.in_ok-string.ensures.value) (sym c.if-closes.ensures.closed))
 
 pub strings-returns-then-closes-clause-borrowed : goal.strings-returns-then-closes-clause-borrowed
-strings-returns-then-closes-clause-borrowed t c = c.in_ok-last_string.ensures.borrowed c.strings.invariant.borrowed c.in_ok-string.ensures.borrowed.0 c.in_ok-string.ensures.borrowed.1
+strings-returns-then-closes-clause-borrowed t c = c.in_ok-last_string.ensures.borrowed c.strings.invariant.borrowed (subst BorrowsString (sym c.in_ok-string.ensures.entry) c.in_ok-read.ensures.borrowed) c.in_ok-string.ensures.borrowed
 
 pub strings-returns-in_err-push_entry-clause-value : goal.strings-returns-in_err-push_entry-clause-value
 strings-returns-in_err-push_entry-clause-value t c =
     let p = err_from_is_err_and c.from_residual-in_err-push_entry.result c.from_residual-in_err-push_entry.ensures.1 in
-    rw (p.1, p.2) (turn_refused c.args.limit Strings _ _ _ c.strings.invariant.reads _ _ _ c.in_ok-string.ensures.value c.in_err-push_entry.field-0.0 _ c.in_err-push_entry.ensures.unparted (sym c.if-closes.ensures.closed))
+    rw (p.1, p.2) (turn_refused c.args.limit Strings _ _ _ c.strings.invariant.reads _ _ _ (parted_entry chunk_tree c.args.limit _ _ _ _ _ _ c.in_ok-string.ensures.entry (chunk_read c.args.limit _ _ _ c.in_ok-read.ensures.value) c.in_ok-string.ensures.value) c.in_err-push_entry.field-0.0 _ c.in_err-push_entry.ensures.unparted (sym c.if-closes.ensures.closed))
 
 pub strings-strings-smaller : goal.strings-strings-smaller
 strings-strings-smaller t c =
     let some : 0 < length (soc_bytes c.in_ok-string.soc) = some_length _ c.in_ok-push_entry.ensures.pushed.not_empty in
-    omega (arith, c.in_ok-string.ensures.place.0, c.in_ok-string.ensures.place.1.0)
+    omega (arith, c.in_ok-read.ensures.place.0, c.in_ok-string.ensures.place.0, c.in_ok-string.ensures.place.1.0)
 
 pub strings-strings-preserved : goal.strings-strings-preserved
 strings-strings-preserved t c =
     let pushed = c.in_ok-push_entry.ensures.pushed in
     let some : 0 < length (soc_bytes c.in_ok-string.soc) = some_length _ pushed.not_empty in
     record {
-      order = omega (arith, c.in_ok-string.ensures.place.0);
+      order = omega (arith, c.in_ok-read.ensures.place.0, c.in_ok-string.ensures.place.0);
       place = c.in_ok-string.ensures.place.1;
-      cost = omega (arith, c.in_ok-string.ensures.cost);
-      least = omega (arith, c.in_ok-string.ensures.cost);
-      borrowed = rw pushed.items (borrows_string_push c.strings.row.items _ c.strings.invariant.borrowed c.in_ok-string.ensures.borrowed.0 (pushed.borrowed c.in_ok-string.ensures.borrowed.1));
-      reads = rw pushed.items (turn_more c.args.limit Strings _ _ _ c.strings.invariant.reads _ _ _ c.in_ok-string.ensures.value pushed.not_empty (sym c.if-closes.ensures.closed)
+      cost = omega (arith, some, c.in_ok-string.ensures.place.0, c.in_ok-read.ensures.cost, c.in_ok-string.ensures.cost);
+      least = omega (arith, some, c.in_ok-string.ensures.place.0, c.in_ok-read.ensures.cost, c.in_ok-string.ensures.cost);
+      borrowed = rw pushed.items (borrows_string_push c.strings.row.items _ c.strings.invariant.borrowed (subst BorrowsString (sym c.in_ok-string.ensures.entry) c.in_ok-read.ensures.borrowed) (pushed.borrowed c.in_ok-string.ensures.borrowed));
+      reads = rw pushed.items (turn_more c.args.limit Strings _ _ _ c.strings.invariant.reads _ _ _ (parted_entry chunk_tree c.args.limit _ _ _ _ _ _ c.in_ok-string.ensures.entry (chunk_read c.args.limit _ _ _ c.in_ok-read.ensures.value) c.in_ok-string.ensures.value) pushed.not_empty (sym c.if-closes.ensures.closed)
           ∙ with_more (seen_string texts) _ (c.in_ok-string.string, pushed.separator) _ _ _ (ap (λ (s : List ℕ). (chunk_tree c.in_ok-string.string, s)) pushed.same));
     }
-
-pub parted_item-returns-in_err-item-clause-value : goal.parted_item-returns-in_err-item-clause-value
-parted_item-returns-in_err-item-clause-value t c =
-    let p = err_from_is_err_and c.from_residual.result c.from_residual.ensures.1 in
-    rw (p.1, p.2) (parted_fails c.in_err-item.field-0.0 c.args.limit Elements _ (element_fails c.in_err-item.field-0.0 c.args.limit _ c.in_err-item.ensures.value))
-
-pub parted_item-returns-in_err-soc-clause-value : goal.parted_item-returns-in_err-soc-clause-value
-parted_item-returns-in_err-soc-clause-value t c =
-    let p = err_from_is_err_and c.from_residual-in_err-soc.result c.from_residual-in_err-soc.ensures.1 in
-    rw (p.1, p.2) (parted_fails_behind (Told c.in_err-soc.field-0.0) c.args.limit Elements _ _ _ (element_read c.args.limit _ _ _ c.in_ok-item.ensures.value) (scan_fails separator _ c.in_err-soc.field-0.0 c.in_err-soc.ensures.value))
-
-pub parted_item-returns-clause-value : goal.parted_item-returns-clause-value
-parted_item-returns-clause-value t c = parted_read c.args.limit Elements _ _ _ _ _ (element_read c.args.limit _ _ _ c.in_ok-item.ensures.value) (scan_read separator _ _ _ c.in_ok-soc.ensures.value)
-
-pub parted_pair-returns-in_err-pair-clause-value : goal.parted_pair-returns-in_err-pair-clause-value
-parted_pair-returns-in_err-pair-clause-value t c =
-    let p = err_from_is_err_and c.from_residual.result c.from_residual.ensures.1 in
-    rw (p.1, p.2) (parted_fails c.in_err-pair.field-0.0 c.args.limit Pairs _ c.in_err-pair.ensures.value)
-
-pub parted_pair-returns-in_err-soc-clause-value : goal.parted_pair-returns-in_err-soc-clause-value
-parted_pair-returns-in_err-soc-clause-value t c =
-    let p = err_from_is_err_and c.from_residual-in_err-soc.result c.from_residual-in_err-soc.ensures.1 in
-    rw (p.1, p.2) (parted_fails_behind (Told c.in_err-soc.field-0.0) c.args.limit Pairs _ _ _ c.in_ok-pair.ensures.value (scan_fails separator _ c.in_err-soc.field-0.0 c.in_err-soc.ensures.value))
-
-pub parted_pair-returns-clause-value : goal.parted_pair-returns-clause-value
-parted_pair-returns-clause-value t c = parted_read c.args.limit Pairs _ _ _ _ _ c.in_ok-pair.ensures.value (scan_read separator _ _ _ c.in_ok-soc.ensures.value)
-
-pub parted_string-returns-in_err-string-clause-value : goal.parted_string-returns-in_err-string-clause-value
-parted_string-returns-in_err-string-clause-value t c =
-    let p = err_from_is_err_and c.from_residual.result c.from_residual.ensures.1 in
-    rw (p.1, p.2) (parted_fails c.in_err-string.field-0.0 c.args.limit Strings _ (chunk_fails c.in_err-string.field-0.0 c.args.limit _ c.in_err-string.ensures.value))
-
-pub parted_string-returns-in_err-soc-clause-value : goal.parted_string-returns-in_err-soc-clause-value
-parted_string-returns-in_err-soc-clause-value t c =
-    let p = err_from_is_err_and c.from_residual-in_err-soc.result c.from_residual-in_err-soc.ensures.1 in
-    rw (p.1, p.2) (parted_fails_behind (Told c.in_err-soc.field-0.0) c.args.limit Strings _ _ _ (chunk_read c.args.limit _ _ _ c.in_ok-string.ensures.value) (scan_fails separator _ c.in_err-soc.field-0.0 c.in_err-soc.ensures.value))
-
-pub parted_string-returns-clause-value : goal.parted_string-returns-clause-value
-parted_string-returns-clause-value t c = parted_read c.args.limit Strings _ _ _ _ _ (chunk_read c.args.limit _ _ _ c.in_ok-string.ensures.value) (scan_read separator _ _ _ c.in_ok-soc.ensures.value)
 
 pub pair-returns-in_err-key-clause-value : goal.pair-returns-in_err-key-clause-value
 pair-returns-in_err-key-clause-value t c =
@@ -390,36 +367,6 @@ sequence-returns-in_err-items-clause-value t c =
 pub sequence-returns-clause-value : goal.sequence-returns-clause-value
 sequence-returns-clause-value t c = rw (view_sequence_made texts) (sequence_full c.args.limit _ _ _ _ _ (scan_read space _ _ _ c.in_ok-before.ensures.value) (sym c.if-closes.ensures.closed) c.in_ok-items.ensures.value)
 
-pub parted_item-returns-clause-place : goal.parted_item-returns-clause-place
-parted_item-returns-clause-place t c =
-    let end = token_end separator _ _ c.in_ok-item.end.item c.in_ok-soc.next c.in_ok-soc.ensures.value c.in_ok-item.ensures.place.2.0.0 c.in_ok-soc.ensures.place.1.0 in
-    (omega (arith, end, c.in_ok-item.ensures.place.0), c.in_ok-soc.ensures.place.1)
-
-pub parted_item-returns-clause-cost : goal.parted_item-returns-clause-cost
-parted_item-returns-clause-cost t c =
-    let end = token_end separator _ _ c.in_ok-item.end.item c.in_ok-soc.next c.in_ok-soc.ensures.value c.in_ok-item.ensures.place.2.0.0 c.in_ok-soc.ensures.place.1.0 in
-    (omega (arith, end, c.in_ok-item.ensures.cost.0, c.in_ok-soc.ensures.cost.0), omega (arith, c.in_ok-item.ensures.cost.1, c.in_ok-soc.ensures.cost.1))
-
-pub parted_pair-returns-clause-place : goal.parted_pair-returns-clause-place
-parted_pair-returns-clause-place t c =
-    let end = token_end separator _ _ c.in_ok-pair.end.item c.in_ok-soc.next c.in_ok-soc.ensures.value c.in_ok-pair.ensures.place.2.0.0 c.in_ok-soc.ensures.place.1.0 in
-    (omega (arith, end, c.in_ok-pair.ensures.place.0), c.in_ok-soc.ensures.place.1)
-
-pub parted_pair-returns-clause-cost : goal.parted_pair-returns-clause-cost
-parted_pair-returns-clause-cost t c =
-    let end = token_end separator _ _ c.in_ok-pair.end.item c.in_ok-soc.next c.in_ok-soc.ensures.value c.in_ok-pair.ensures.place.2.0.0 c.in_ok-soc.ensures.place.1.0 in
-    (omega (arith, end, c.in_ok-pair.ensures.cost.0, c.in_ok-soc.ensures.cost.0), omega (arith, c.in_ok-pair.ensures.cost.1, c.in_ok-soc.ensures.cost.1))
-
-pub parted_string-returns-clause-place : goal.parted_string-returns-clause-place
-parted_string-returns-clause-place t c =
-    let end = token_end separator _ _ c.in_ok-string.end.item c.in_ok-soc.next c.in_ok-soc.ensures.value c.in_ok-string.ensures.place.2.0.0 c.in_ok-soc.ensures.place.1.0 in
-    (omega (arith, end, c.in_ok-string.ensures.place.0), c.in_ok-soc.ensures.place.1)
-
-pub parted_string-returns-clause-cost : goal.parted_string-returns-clause-cost
-parted_string-returns-clause-cost t c =
-    let end = token_end separator _ _ c.in_ok-string.end.item c.in_ok-soc.next c.in_ok-soc.ensures.value c.in_ok-string.ensures.place.2.0.0 c.in_ok-soc.ensures.place.1.0 in
-    (omega (arith, end, c.in_ok-string.ensures.cost.0, c.in_ok-soc.ensures.cost.0), omega (arith, c.in_ok-string.ensures.cost.1, c.in_ok-soc.ensures.cost.1))
-
 pub string-returns-then-not-joins-clause-place : goal.string-returns-then-not-joins-clause-place
 string-returns-then-not-joins-clause-place t c = (omega (arith, c.in_ok-piece.ensures.place.0), c.in_ok-before.ensures.place.0, (c.in_ok-piece.ensures.place.1, spaced_of _ _ _ _ c.in_ok-before.ensures.value c.in_ok-before.ensures.place.0 c.in_ok-before.ensures.place.1))
 
@@ -453,21 +400,21 @@ standalone-returns-clause-value t c =
     standalone_read c.args.limit _ _ _ _ _ _ _ (scan_read space _ _ _ c.in_ok-before.ensures.value) c.in_ok-item.ensures.value (scan_read space _ _ _ c.in_ok-after.ensures.value)
 
 pub enclosed-returns-then-not-is_at-clause-value : goal.enclosed-returns-then-not-is_at-clause-value
-enclosed-returns-then-not-is_at-clause-value t c = rw c.invalid.ensures (enclosed_shut c.args.limit c.args.label _ (c.if-not-is_at.ensures.no refl))
+enclosed-returns-then-not-is_at-clause-value t c = rw c.invalid.ensures (enclosed_shut c.args.limit c.args.front.label _ (c.if-not-is_at.ensures.no refl))
 
 pub enclosed-returns-then-limit-eq0-clause-value : goal.enclosed-returns-then-limit-eq0-clause-value
-enclosed-returns-then-limit-eq0-clause-value t c = rw c.too_deep.ensures (enclosed_too_deep c.args.limit c.args.label _ _ c.if-limit-eq0.true (c.if-not-is_at.ensures.yes refl).0)
+enclosed-returns-then-limit-eq0-clause-value t c = rw c.too_deep.ensures (enclosed_too_deep c.args.limit c.args.front.label _ _ c.if-limit-eq0.true (c.if-not-is_at.ensures.yes refl).0)
 
 pub enclosed-returns-in_err-item-clause-value : goal.enclosed-returns-in_err-item-clause-value
 enclosed-returns-in_err-item-clause-value t c =
     let p = err_from_is_err_and c.from_residual.result c.from_residual.ensures.1 in
-    rw (p.1, p.2) (enclosed_fails c.in_err-item.field-0.0 c.args.limit c.args.label _ _ (omega arith) (c.if-not-is_at.ensures.yes refl).0 c.in_err-item.ensures.value)
+    rw (p.1, p.2) (enclosed_fails c.in_err-item.field-0.0 c.args.limit c.args.front.label _ _ (omega arith) (c.if-not-is_at.ensures.yes refl).0 c.in_err-item.ensures.value)
 
 pub enclosed-returns-then-not-is_at-2-clause-value : goal.enclosed-returns-then-not-is_at-2-clause-value
-enclosed-returns-then-not-is_at-2-clause-value t c = rw c.invalid-then-not-is_at-2.ensures (enclosed_open c.args.limit c.args.label _ _ _ _ (omega arith) (c.if-not-is_at.ensures.yes refl).0 c.in_ok-item.ensures.value (c.if-not-is_at-2.ensures.no refl))
+enclosed-returns-then-not-is_at-2-clause-value t c = rw c.invalid-then-not-is_at-2.ensures (enclosed_open c.args.limit c.args.front.label _ _ _ _ (omega arith) (c.if-not-is_at.ensures.yes refl).0 c.in_ok-item.ensures.value (c.if-not-is_at-2.ensures.no refl))
 
 pub enclosed-returns-clause-value : goal.enclosed-returns-clause-value
-enclosed-returns-clause-value t c = rw (c.unspaced.ensures, c.in_ok-item-2.ensures.ok) (enclosed_read c.args.limit c.args.label _ _ _ _ _ (omega arith) (c.if-not-is_at.ensures.yes refl).0 c.in_ok-item.ensures.value (c.if-not-is_at-2.ensures.yes refl).0)
+enclosed-returns-clause-value t c = rw (c.unspaced.ensures, c.in_ok-item-2.ensures.ok) (enclosed_read c.args.limit c.args.front.label _ _ _ _ _ (omega arith) (c.if-not-is_at.ensures.yes refl).0 c.in_ok-item.ensures.value (c.if-not-is_at-2.ensures.yes refl).0)
 
 pub item-returns-in-Word-clause-value : goal.item-returns-in-Word-clause-value
 item-returns-in-Word-clause-value t c = ends_same _ _ _ _ _ (word_here c.args.limit _ _ _ c.in-Word.ensures.opens.0) c.worded.ensures.value
@@ -484,7 +431,7 @@ pub numbered-returns-in_default-clause-value : goal.numbered-returns-in_default-
 numbered-returns-in_default-clause-value t c = rw c.invalid.ensures (no_tag c.args.limit _ _ _ _ _ _ _ c.in_ok-number.ensures.value c.requires.0 c.in_ok-number.ensures.place.1.0 c.indicator_at-indicator.ensures.value (c.if-is_at.ensures.yes refl).0 c.in_default.ensures.value)
 
 pub numbered-returns-then-is_at-clause-value : goal.numbered-returns-then-is_at-clause-value
-numbered-returns-then-is_at-clause-value t c = ends_same _ _ _ _ _ (tag_at c.args.limit _ _ _ _ _ _ _ _ c.in_ok-number.ensures.value c.requires.0 c.in_ok-number.ensures.place.1.0 c.indicator_at-indicator.ensures.value (c.if-is_at.ensures.yes refl).0 c.in-Some.ensures.value) c.enclosed.ensures.value
+numbered-returns-then-is_at-clause-value t c = ends_same _ _ _ _ _ (tag_at c.args.limit _ _ _ _ _ _ _ _ c.in_ok-number.ensures.value c.requires.0 c.in_ok-number.ensures.place.1.0 c.indicator_at-indicator.ensures.value (c.if-is_at.ensures.yes refl).0 c.in-Some.ensures.value) (rw c.tag.ensures at c.enclosed.ensures.value)
 
 pub numbered-returns-then-is_at-clause-cost : goal.numbered-returns-then-is_at-clause-cost
 numbered-returns-then-is_at-clause-cost t c =
@@ -509,4 +456,4 @@ pub worded-returns-in-NonFinite-clause-value : goal.worded-returns-in-NonFinite-
 worded-returns-in-NonFinite-clause-value t c = rw (c.unspaced-in-NonFinite.ensures, c.in-NonFinite.is) (float_read c.args.limit _ _ _ _ c.indicator_at-indicator.ensures.value)
 
 pub worded-returns-in-Simple-clause-value : goal.worded-returns-in-Simple-clause-value
-worded-returns-in-Simple-clause-value t c = rw c.in-Simple.is (ends_same _ _ _ _ _ (simple_at c.args.limit _) c.enclosed.ensures.value)
+worded-returns-in-Simple-clause-value t c = rw c.in-Simple.is (ends_same _ _ _ _ _ (simple_at c.args.limit _) (rw c.simple.ensures at c.enclosed.ensures.value))

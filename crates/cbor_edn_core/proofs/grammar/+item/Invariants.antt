@@ -41,9 +41,6 @@ decreases-string l = 13 * l.limit + 2
 abbrev pub decreases-joined : goal.decreases-joined
 decreases-joined l = 13 * l.limit + 3
 
-abbrev pub decreases-parted_string : goal.decreases-parted_string
-decreases-parted_string l = 13 * l.limit + 3
-
 abbrev pub decreases-strings : goal.decreases-strings
 decreases-strings l = 13 * l.limit + 4
 
@@ -59,17 +56,11 @@ decreases-item l = 13 * l.limit + 7
 abbrev pub decreases-valued : goal.decreases-valued
 decreases-valued l = 13 * l.limit + 8
 
-abbrev pub decreases-parted_item : goal.decreases-parted_item
-decreases-parted_item l = 13 * l.limit + 8
-
 abbrev pub decreases-pair : goal.decreases-pair
 decreases-pair l = 13 * l.limit + 9
 
 abbrev pub decreases-items : goal.decreases-items
 decreases-items l = 13 * l.limit + 9
-
-abbrev pub decreases-parted_pair : goal.decreases-parted_pair
-decreases-parted_pair l = 13 * l.limit + 10
 
 abbrev pub decreases-sequence : goal.decreases-sequence
 decreases-sequence l = 13 * l.limit + 10

@@ -1,0 +1,72 @@
+//! Bytes that are decoded and encoded again, which gives the same bytes.
+ghost use Rattle.std.specs.Prelude.{◌≡◌, ◌≢◌, ℕ, List, Some, IfOk};
+ghost use Rattle.std.specs.String.{string_bytes};
+ghost use Rattle.cbor_edn_parts.specs.Refusals.{IfTold};
+ghost use Rattle.cbor_edn_core.specs.Trees.{items};
+ghost use Rattle.cbor_edn_core.specs.View.{sequence_tree};
+ghost use Rattle.cbor_edn_core.specs.Value.{Values, EncAll};
+ghost use Rattle.cbor_edn_core.specs.Meaning.{means};
+ghost use Rattle.cbor_edn_core.specs.Decoded.{NoSequence, IsTooDeepSequence};
+ghost use Rattle.cbor_edn_core.specs.Recoding.{IsTextOf};
+
+use crate::from_cbor::CborError;
+use crate::tree::{NESTING_LIMIT, Sequence};
+use cbor_edn_parts::error::Fault;
+use std::alloc::{AllocError, Global};
+
+#[cfg(test)]
+mod tests;
+
+/// The bytes that the items of an encoding are encoded as. Fails as `Sequence::from_cbor` does, and where memory runs out.
+pub fn recoded(alloc: Global, bytes: &[u8]) -> Result<Vec<u8>, Fault<CborError>>
+    ensures same { IfOk result (λ b. b.items ≡ bytes.now) }
+    ensures refused { IfTold result (λ e. e ≢ CborError.TooDeep → NoSequence bytes.now) }
+    ensures too_deep { IfTold result (λ e. e ≡ CborError.TooDeep → IsTooDeepSequence NESTING_LIMIT bytes.now) }
+{
+    let sequence: Sequence<'_> = Sequence::from_cbor(alloc, bytes)?;
+    Ok(encoded(alloc, &sequence)?)
+}
+
+/// The same by way of the items' text, which is parsed again.
+pub fn recoded_by_text(alloc: Global, bytes: &[u8]) -> Result<Vec<u8>, Fault<CborError>>
+    ensures same { IfOk result (λ b. b.items ≡ bytes.now) }
+    ensures refused { IfTold result (λ e. e ≢ CborError.TooDeep → NoSequence bytes.now) }
+    ensures too_deep { IfTold result (λ e. e ≡ CborError.TooDeep → IsTooDeepSequence NESTING_LIMIT bytes.now) }
+{
+    let text = decoded_text(alloc, bytes)?;
+    Ok(read_and_encoded(alloc, text.as_str())?)
+}
+
+/// The encodings of items that mean something.
+fn encoded(alloc: Global, sequence: &Sequence<'_>) -> Result<Vec<u8>, AllocError>
+    requires { (vs : Values) × (means (items (sequence_tree sequence.now)) ≡ Some vs) }
+    ensures { IfOk result (λ b. (vs : Values) × (means (items (sequence_tree sequence.now)) ≡ Some vs) × EncAll b.items vs) }
+{
+    match sequence.to_cbor(alloc) {
+        Ok(bytes) => Ok(bytes),
+        Err(Fault::Memory(refused)) => Err(refused),
+        Err(Fault::Told(_)) => unreachable!(),
+    }
+}
+
+/// The text of the items that the bytes encode.
+fn decoded_text(alloc: Global, bytes: &[u8]) -> Result<String, Fault<CborError>>
+    ensures text { IfOk result (λ t. IsTextOf NESTING_LIMIT bytes.now (string_bytes t)) }
+    ensures refused { IfTold result (λ e. e ≢ CborError.TooDeep → NoSequence bytes.now) }
+    ensures too_deep { IfTold result (λ e. e ≡ CborError.TooDeep → IsTooDeepSequence NESTING_LIMIT bytes.now) }
+{
+    let sequence: Sequence<'_> = Sequence::from_cbor(alloc, bytes)?;
+    Ok(sequence.serialize(alloc)?)
+}
+
+/// The bytes that a text is of.
+fn read_and_encoded(alloc: Global, text: &str) -> Result<Vec<u8>, AllocError>
+    requires { (bytes : List ℕ) × IsTextOf NESTING_LIMIT bytes text.now }
+    ensures { IfOk result (λ b. IsTextOf NESTING_LIMIT b.items text.now) }
+{
+    match Sequence::parse(alloc, text) {
+        Ok(sequence) => encoded(alloc, &sequence),
+        Err(Fault::Memory(refused)) => Err(refused),
+        Err(Fault::Told(_)) => unreachable!(),
+    }
+}
