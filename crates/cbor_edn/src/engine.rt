@@ -8,8 +8,6 @@ ghost use Rattle.cbor_edn.specs.declared.engine.RunError.TheVariants.{Memory, Pa
 
 mod count;
 mod devices;
-#[cfg(test)]
-mod tests;
 
 use cbor_edn_core::tree::Sequence;
 use cbor_edn_parts::error::{Fault, InconsistentEdn, ParseError};

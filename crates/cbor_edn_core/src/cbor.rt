@@ -14,9 +14,6 @@ use cbor_edn_parts::number::Integer;
 use cbor_edn_parts::string::StringKind;
 use std::alloc::AllocError;
 
-#[cfg(test)]
-mod tests;
-
 /// Where the argument of a head stands.
 #[derive(Clone, Copy, Debug, PartialEq, Eq)]
 pub enum Width {

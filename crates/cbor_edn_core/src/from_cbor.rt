@@ -20,8 +20,6 @@ mod growing;
 mod reader;
 mod special;
 mod strings;
-#[cfg(test)]
-mod tests;
 
 /// Why bytes are refused: told of the first head in byte order, and there the first of these that holds.
 #[derive(Clone, Copy, Debug, PartialEq, Eq, Error)]

@@ -16,6 +16,4 @@ pub mod recode;
 mod serialize;
 mod to_cbor;
 pub mod tree;
-#[cfg(test)]
-mod tree_tests;
 pub mod word;

@@ -14,9 +14,6 @@ use crate::tree::{NESTING_LIMIT, Sequence};
 use cbor_edn_parts::error::Fault;
 use std::alloc::{AllocError, Global};
 
-#[cfg(test)]
-mod tests;
-
 /// The bytes that the items of an encoding are encoded as. Fails as `Sequence::from_cbor` does, and where memory runs out.
 pub fn recoded(alloc: Global, bytes: &[u8]) -> Result<Vec<u8>, Fault<CborError>>
     ensures same { IfOk result (λ b. b.items ≡ bytes.now) }

@@ -10,6 +10,4 @@ pub mod number;
 mod scan;
 pub mod space;
 pub mod string;
-#[cfg(test)]
-mod tests;
 pub mod text;

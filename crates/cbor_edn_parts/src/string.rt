@@ -17,8 +17,6 @@ mod content;
 mod digits;
 mod hexadecimal;
 mod read;
-#[cfg(test)]
-mod tests;
 mod write;
 
 /// A quoted text as it is written, with or without a prefix, as `"\n"`, `'a'` or `h'00'`.

@@ -1,14 +1,24 @@
-//! Tests of the library through its public calls: rows of texts and bytes, limits, copies and refusals.
+//! Tests of the libraries through their public calls: rows of texts and bytes, limits, copies, refusals and runs.
 #![tactic(auto)]
 
 #[cfg(test)]
+mod common;
+#[cfg(test)]
 mod decoding;
 #[cfg(test)]
+mod leaves;
+#[cfg(test)]
 mod limits;
+#[cfg(test)]
+mod recoding;
 #[cfg(test)]
 mod refusals;
 #[cfg(test)]
 mod rows;
+#[cfg(test)]
+mod runs;
+#[cfg(test)]
+mod standard;
 #[cfg(test)]
 mod strings;
 #[cfg(test)]

@@ -1,5 +1,7 @@
 //! How deep texts may nest, and how often a text is looked at.
-use cbor_edn::{Fault, Looks, NESTING_LIMIT, Sequence, StandaloneItem};
+use crate::common::{encoded, printed, refusal, repeated};
+use crate::trees::is_own_copy;
+use cbor_edn::{Looks, NESTING_LIMIT, Sequence, StandaloneItem};
 use std::alloc::Global;
 use std::mem::size_of;
 use std::test::Fail;
@@ -12,16 +14,10 @@ enum Answer {
 }
 
 fn answer_of(alloc: Global, text: &str, limit: usize) -> Result<Answer, Fail> {
-    match Sequence::parse_within(alloc, text, limit) {
-        Ok(_) => Ok(Answer::Accepted),
-        Err(Fault::Told(refused)) => {
-            if refused.too_deep() {
-                Ok(Answer::TooDeep)
-            } else {
-                Ok(Answer::Invalid)
-            }
-        }
-        Err(Fault::Memory(refused)) => Err(Fail::from(refused)),
+    match refusal(alloc, text, limit)? {
+        None => Ok(Answer::Accepted),
+        Some(refused) if refused.too_deep() => Ok(Answer::TooDeep),
+        Some(_) => Ok(Answer::Invalid),
     }
 }
 
@@ -29,33 +25,42 @@ fn accepts_standalone(alloc: Global, text: &str, limit: usize) -> bool {
     StandaloneItem::parse_within(alloc, text, limit).is_ok()
 }
 
-fn nested(alloc: Global, depth: usize) -> Result<String, Fail> {
-    let mut text = String::new(alloc);
-    for _ in 0..depth {
-        text.push_str("[")?;
-    }
-    for _ in 0..depth {
-        text.push_str("]")?;
-    }
-    Ok(text)
-}
+/// Texts, and how deep their items nest: each item of a sequence by itself, and words not at all.
+const NESTED: [(&str, usize); 15] = [
+    ("1", 0),
+    ("[]", 1),
+    ("[1], [2], [3]", 1),
+    ("(_ 'a' + <<1>>)", 1),
+    ("[true, NaN]", 1),
+    ("[[]]", 2),
+    ("{1: {}}", 2),
+    ("{{}: 1}", 2),
+    ("{[]: {}, 3: []}", 2),
+    ("<<[1]>>", 2),
+    ("[1(2)]", 2),
+    ("1(2(3))", 2),
+    ("simple([])", 2),
+    ("[simple(20)]", 2),
+    ("[{1: [_ 2]}]", 3),
+];
 
 #[test]
-fn counts_nested_arrays(rt: HostRuntime) -> Result<(), Fail> {
-    let alloc = rt.alloc();
-    assert_eq!(rt; answer_of(alloc, "[[]]", 1)?, Answer::TooDeep);
-    assert_eq!(rt; answer_of(alloc, "[[]]", 2)?, Answer::Accepted);
-    assert_eq!(rt; answer_of(alloc, "1", 0)?, Answer::Accepted);
-    assert_eq!(rt; answer_of(alloc, "[]", 0)?, Answer::TooDeep);
-    assert_eq!(rt; answer_of(alloc, "{1: {}}", 1)?, Answer::TooDeep);
-    assert_eq!(rt; answer_of(alloc, "{{}: 1}", 1)?, Answer::TooDeep);
-    assert_eq!(rt; answer_of(alloc, "{[]: {}, 3: []}", 2)?, Answer::Accepted);
-    assert_eq!(rt; answer_of(alloc, "[{1: [_ 2]}]", 2)?, Answer::TooDeep);
-    assert_eq!(rt; answer_of(alloc, "<<[1]>>", 1)?, Answer::TooDeep);
-    assert_eq!(rt; answer_of(alloc, "(_ 'a' + <<1>>)", 1)?, Answer::Accepted);
-    // each item of a sequence by itself
-    assert_eq!(rt; answer_of(alloc, "[1], [2], [3]", 1)?, Answer::Accepted);
-    assert_eq!(rt; answer_of(alloc, ",1", 0)?, Answer::Invalid);
+fn counts_what_nests(rt: HostRuntime) -> Result<(), Fail> {
+    for (text, depth) in NESTED {
+        for limit in 0..4 {
+            let wanted = if limit < depth {
+                Answer::TooDeep
+            } else {
+                Answer::Accepted
+            };
+            assert_eq!(rt;
+                answer_of(rt.alloc(), text, limit)?,
+                wanted,
+                "{text:?} at {limit}"
+            );
+        }
+    }
+    assert_eq!(rt; answer_of(rt.alloc(), ",1", 0)?, Answer::Invalid);
     Ok(())
 }
 
@@ -63,26 +68,20 @@ fn counts_nested_arrays(rt: HostRuntime) -> Result<(), Fail> {
 fn accepts_the_deepest(rt: HostRuntime) -> Result<(), Fail> {
     let alloc = rt.alloc();
     assert_eq!(rt; NESTING_LIMIT, 512);
-    let deepest = nested(alloc, 512)?;
-    let sequence = Sequence::parse(alloc, deepest.as_str())?;
-    assert_eq!(rt; sequence.serialize(alloc)?.as_str(), deepest.as_str());
-    assert_eq!(rt; sequence.to_cbor(alloc)?.len(), 512);
-    Ok(())
-}
-
-#[test]
-fn copies_the_deepest(rt: HostRuntime) -> Result<(), Fail> {
-    let deepest = nested(rt.alloc(), 512)?;
-    let sequence = Sequence::parse(rt.alloc(), deepest.as_str())?;
-    let copy = sequence.clone()?;
-    assert!(rt; copy == sequence);
+    let deepest = repeated(alloc, 512, "[", "]")?;
+    assert_eq!(rt;
+        printed(alloc, deepest.as_str())?.as_str(),
+        deepest.as_str()
+    );
+    assert_eq!(rt; encoded(alloc, deepest.as_str())?.len(), 1024);
+    assert!(rt; is_own_copy(alloc, deepest.as_str())?);
     Ok(())
 }
 
 #[test]
 fn refuses_what_is_deeper(rt: HostRuntime) -> Result<(), Fail> {
     let alloc = rt.alloc();
-    let deeper = nested(alloc, 513)?;
+    let deeper = repeated(alloc, 513, "[", "]")?;
     assert_eq!(rt;
         answer_of(alloc, deeper.as_str(), NESTING_LIMIT)?,
         Answer::TooDeep
@@ -94,10 +93,7 @@ fn refuses_what_is_deeper(rt: HostRuntime) -> Result<(), Fail> {
 
 #[test]
 fn refuses_many_open_arrays(rt: HostRuntime) -> Result<(), Fail> {
-    let mut open = String::new(rt.alloc());
-    for _ in 0..100000 {
-        open.push_str("[")?;
-    }
+    let open = repeated(rt.alloc(), 100_000, "[", "")?;
     assert_eq!(rt;
         answer_of(rt.alloc(), open.as_str(), NESTING_LIMIT)?,
         Answer::TooDeep
@@ -105,12 +101,18 @@ fn refuses_many_open_arrays(rt: HostRuntime) -> Result<(), Fail> {
     Ok(())
 }
 
+fn counts_sequence(alloc: Global, text: &str) -> bool {
+    Sequence::parse_counted(alloc, text, &mut Looks::new()).is_ok()
+}
+
+fn counts_standalone(alloc: Global, text: &str) -> bool {
+    StandaloneItem::parse_counted(alloc, text, &mut Looks::new()).is_ok()
+}
+
 #[test]
-fn looks_take_no_bytes(rt: HostRuntime) -> Result<(), Fail> {
+fn looks_take_no_bytes(rt: HostRuntime) {
     assert_eq!(rt; size_of::<Looks>(), 0);
-    let mut looks = Looks::new();
-    assert!(rt; Sequence::parse_counted(rt.alloc(), "[1, 2]", &mut looks).is_ok());
-    assert!(rt; StandaloneItem::parse_counted(rt.alloc(), "[1, 2]", &mut looks).is_ok());
-    assert!(rt; Sequence::parse_counted(rt.alloc(), "[1, 2", &mut looks).is_err());
-    Ok(())
+    assert!(rt; counts_sequence(rt.alloc(), "[1, 2]"));
+    assert!(rt; counts_standalone(rt.alloc(), "[1, 2]"));
+    assert!(rt; !counts_sequence(rt.alloc(), "[1, 2"));
 }

@@ -1,48 +1,119 @@
-//! Copies and comparisons.
-use cbor_edn::{Sequence, StandaloneItem};
+//! Copies and comparisons of trees, and trees that are made of others.
+use cbor_edn::{Item, Sequence, StandaloneItem};
 use std::alloc::Global;
 use std::test::Fail;
 
+fn is_copy<'a>(
+    alloc: Global,
+    tree: &Sequence<'a>,
+    copy: &Sequence<'a>,
+    text: &str,
+) -> Result<bool, Fail> {
+    let printed = copy.serialize(alloc)?;
+    Ok(*copy == *tree && printed.as_str() == text)
+}
+
+/// Whether a text's sequence equals its copy, which prints the text.
+pub(crate) fn is_own_copy(alloc: Global, text: &str) -> Result<bool, Fail> {
+    let tree = Sequence::parse(alloc, text)?;
+    let copy = tree.clone()?;
+    is_copy(alloc, &tree, &copy, text)
+}
+
+fn is_standalone_copy<'a>(
+    alloc: Global,
+    tree: &StandaloneItem<'a>,
+    copy: &StandaloneItem<'a>,
+    text: &str,
+) -> Result<bool, Fail> {
+    let printed = copy.serialize(alloc)?;
+    Ok(*copy == *tree && printed.as_str() == text)
+}
+
+fn is_own_standalone_copy(alloc: Global, text: &str) -> Result<bool, Fail> {
+    let tree = StandaloneItem::parse(alloc, text)?;
+    let copy = tree.clone()?;
+    is_standalone_copy(alloc, &tree, &copy, text)
+}
+
 #[test]
-fn copies_sequences(rt: HostRuntime) -> Result<(), Fail> {
-    let sequence = Sequence::parse(rt.alloc(), " [_ 1, /c/ 2_1 ,] {3 /e/ :4} # d\n")?;
-    let copy = sequence.clone()?;
-    assert!(rt; copy == sequence);
+fn copies_texts(rt: HostRuntime) -> Result<(), Fail> {
+    assert!(rt; is_own_copy(rt.alloc(), " [_ 1, /c/ 2_1 ,] {3 /e/ :4} # d\n")?);
+    assert!(rt; is_own_standalone_copy(rt.alloc(), " {_0 1 : /c/ [(_ 'a', <<2>>)] ,} ")?);
+    Ok(())
+}
+
+// An item of every form that is decoded.
+const MIXED: &[u8] =
+    b"\xbf\x01\x82\x5f\x41a\xff\x61b\x58\x00\x20\xc1\xf8\x63\x82\xf4\xf9\x7c\x00\xff";
+
+const MIXED_TEXT: &str = "{_ 1: [(_ h'61'), \"b\"], h''_0: -1, 1(simple(99)): [false, Infinity_1]}";
+
+fn is_item_copy<'a>(
+    alloc: Global,
+    tree: &Item<'a>,
+    copy: &Item<'a>,
+    text: &str,
+) -> Result<bool, Fail> {
+    let printed = copy.serialize(alloc)?;
+    Ok(copy.is_same(tree) && printed.as_str() == text)
+}
+
+fn is_own_item_copy(alloc: Global, bytes: &[u8], text: &str) -> Result<bool, Fail> {
+    let tree: Item<'_> = Item::from_cbor(alloc, bytes)?;
+    let copy = tree.clone()?;
+    is_item_copy(alloc, &tree, &copy, text)
+}
+
+#[test]
+fn copies_items(rt: HostRuntime) -> Result<(), Fail> {
+    assert!(rt; is_own_item_copy(rt.alloc(), MIXED, MIXED_TEXT)?);
+    Ok(())
+}
+
+fn is_decoded(item: &Item<'_>, alloc: Global, bytes: &[u8]) -> Result<bool, Fail> {
+    let other: Item<'_> = Item::from_cbor(alloc, bytes)?;
+    Ok(*item == other)
+}
+
+fn are_equal_items(alloc: Global, one: &[u8], other: &[u8]) -> Result<bool, Fail> {
+    let one: Item<'_> = Item::from_cbor(alloc, one)?;
+    is_decoded(&one, alloc, other)
+}
+
+#[test]
+fn compares_items(rt: HostRuntime) -> Result<(), Fail> {
+    for (one, other, are_equal) in [
+        (MIXED, MIXED, true),
+        (MIXED, b"\xa0".as_slice(), false),
+        (b"\x41a".as_slice(), b"\x61a".as_slice(), false),
+        (b"\x01".as_slice(), b"\x18\x01".as_slice(), false),
+    ] {
+        let told = are_equal_items(rt.alloc(), one, other)?;
+        assert_eq!(rt; told, are_equal, "{one:?} and {other:?}");
+    }
+    Ok(())
+}
+
+fn printed_alone(alloc: Global, bytes: &[u8]) -> Result<String, Fail> {
+    let item: Item<'_> = Item::from_cbor(alloc, bytes)?;
+    let alone = StandaloneItem::from(item);
+    Ok(alone.serialize(alloc)?)
+}
+
+#[test]
+fn a_standalone_item_has_no_space_at_first(rt: HostRuntime) -> Result<(), Fail> {
     assert_eq!(rt;
-        copy.serialize(rt.alloc())?.as_str(),
-        " [_ 1, /c/ 2_1 ,] {3 /e/ :4} # d\n"
+        printed_alone(rt.alloc(), b"\x82\x02\x03")?.as_str(),
+        "[2, 3]"
     );
     Ok(())
 }
 
-fn equals_its_copy(item: &StandaloneItem<'_>) -> Result<bool, Fail> {
-    let copy = item.clone()?;
-    Ok(copy == *item)
-}
-
-fn text_of_copy(item: &StandaloneItem<'_>, alloc: Global) -> Result<String, Fail> {
-    let copy = item.clone()?;
-    Ok(copy.serialize(alloc)?)
-}
-
-#[test]
-fn copies_standalone_items(rt: HostRuntime) -> Result<(), Fail> {
-    let item = StandaloneItem::parse(rt.alloc(), " {_0 1 : /c/ [(_ 'a', <<2>>)] ,} ")?;
-    assert!(rt; equals_its_copy(&item)?);
-    Ok(())
-}
-
-fn prints_its_text(item: &StandaloneItem<'_>, alloc: Global, text: &str) -> Result<bool, Fail> {
-    let copied = text_of_copy(item, alloc)?;
-    Ok(copied.as_str() == text)
-}
-
-#[test]
-fn prints_copies(rt: HostRuntime) -> Result<(), Fail> {
-    let text = " {_0 1 : /c/ [(_ 'a', <<2>>)] ,} ";
-    let item = StandaloneItem::parse(rt.alloc(), text)?;
-    assert!(rt; prints_its_text(&item, rt.alloc(), text)?);
-    Ok(())
+fn are_equal(alloc: Global, one: &str, other: &str) -> Result<bool, Fail> {
+    let one = Sequence::parse(alloc, one)?;
+    let other = Sequence::parse(alloc, other)?;
+    Ok(one == other)
 }
 
 #[test]
@@ -94,9 +165,11 @@ fn spaces_tell_trees_apart(rt: HostRuntime) -> Result<(), Fail> {
     ];
     for (i, one) in texts.iter().enumerate() {
         for (j, other) in texts.iter().enumerate() {
-            let a = Sequence::parse(alloc, one)?;
-            let b = Sequence::parse(alloc, other)?;
-            assert_eq!(rt; a == b, i == j, "{one:?} and {other:?}");
+            assert_eq!(rt;
+                are_equal(alloc, one, other)?,
+                i == j,
+                "{one:?} and {other:?}"
+            );
         }
     }
     Ok(())

@@ -1,8 +1,12 @@
 //! Runs over devices that fail, or that move few bytes at a time.
 ghost use Rattle.std.specs.Prelude.{◌≡◌, None};
 
-use super::*;
+use cbor_edn::engine::{
+    Command, Count, DeviceFault, Options, RunError, Sink, Source, StdSink, StdSource, run, serve,
+};
+use cbor_edn::{InconsistentEdn, ParseError};
 use cbor_edn_parts::error::ParseErrorKind;
+use std::alloc::{AllocError, Global};
 use std::test::Fail;
 
 const DIAG_TO_CBOR: Options = Options {
