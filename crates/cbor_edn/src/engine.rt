@@ -1,7 +1,7 @@
 //! A whole run: from a reader, through a text in EDN, to a writer.
 ghost use Rattle.std.specs.Prelude.{◌≡◌, ◌+◌, Result, IfOk, OnOk, IfErr, string_bytes};
 ghost use Rattle.std.specs.Io.KnownBytes.{IsAtEnd, Appends, Consumes, Keeps};
-ghost use Rattle.cbor_edn.specs.Devices.{AppendsBeginning};
+ghost use Rattle.cbor_edn.specs.Devices.{AppendsBeginning, FailsAtMostOnce};
 ghost use Rattle.cbor_edn.specs.Runs.{IsOutput, IsRefused, IsReadFault, Wrote, HasReadAll, IsFaultLine, IsTold, read_faults, write_faults, status, told_as};
 ghost use Rattle.cbor_edn.specs.declared.engine.RunError.{RunError};
 ghost use Rattle.cbor_edn.specs.declared.engine.RunError.TheVariants.{Memory, Parse, Inconsistent};
@@ -160,7 +160,8 @@ fn fault_line(alloc: Global, fault: &RunError) -> Result<String, AllocError>
 
 // Tells of a fault, as far as there is memory and the sink takes it.
 fn tell<E: Sink>(alloc: Global, fault: &RunError, errors: &mut E)
-    ensures { IsTold (E.contents errors.old) (E.contents errors.new) }
+    ensures told { IsTold (E.contents errors.old) (E.contents errors.new) }
+    ensures counted { FailsAtMostOnce (E.failures errors.old) (E.failures errors.new) }
 {
     if let Ok(line) = fault_line(alloc, fault) {
         let _ = write_all(errors, line.as_bytes());
@@ -184,7 +185,7 @@ pub fn serve<R: Source, W: Sink, E: Sink>(
         × (R.failures source.new ≡ R.failures source.old + read_faults r)
         × (W.failures sink.new ≡ W.failures sink.old + write_faults r) }
     ensures quiet { result ≡ 0 → Keeps (E.contents errors.old) (E.contents errors.new) × (E.failures errors.new ≡ E.failures errors.old) }
-    ensures told { result ≡ 1 → IsTold (E.contents errors.old) (E.contents errors.new) }
+    ensures told { result ≡ 1 → IsTold (E.contents errors.old) (E.contents errors.new) × FailsAtMostOnce (E.failures errors.old) (E.failures errors.new) }
 {
     match run(alloc, options, source, sink) {
         Ok(()) => 0,

@@ -23,9 +23,9 @@ row_made f (p ∷ row) last commas =
     ap (λ s. Some (MoreTree (f p.0) s (entries_onto (map (λ p. (f p.0, msc_bytes p.1)) row) (LastTree (f last) [])))) first ∙ ap (λ m. Some (in_front (f p.0) m)) (row_made f row last others)
 
 -- the last entry, with no comma behind it
-pub row_finished : {X : Type 0} {k : Row} (f : X → Tree (OneEntry k)) (row : List (X × Msc)) (last : Option X) (x y : X) (s : List ℕ) → AllCommas row → last ≡ Some x → y ≡ x → s ≡ []
-    → Some (entries_onto (map (λ p. (f p.0, msc_bytes p.1)) row) (LastTree (f y) s)) ≡ row_of (map f (entries row last))
-row_finished f row last x y s commas last_is same empty = rw (last_is, same, empty) (row_made f row x commas)
+pub row_finished : {X : Type 0} {k : Row} (f : X → Tree (OneEntry k)) (row : List (X × Msc)) (last : Option X) (x : X) (s : List ℕ) → AllCommas row → last ≡ Some x → s ≡ []
+    → Some (entries_onto (map (λ p. (f p.0, msc_bytes p.1)) row) (LastTree (f x) s)) ≡ row_of (map f (entries row last))
+row_finished f row last x s commas last_is empty = rw (last_is, empty) (row_made f row x commas)
 
 pub map-map : {X Y Z : Type 0} (f : Y → Z) (g : X → Y) (xs : List X) → map f (map g xs) ≡ map (λ x. f (g x)) xs
 map-map f g [] = refl

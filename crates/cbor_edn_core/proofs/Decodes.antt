@@ -13,8 +13,7 @@ use Rattle.cbor_edn_parts.specs.declared.space.S.{S}
 use Rattle.cbor_edn_parts.specs.declared.space.Ms.{Ms}
 use Rattle.cbor_edn_parts.specs.declared.space.Msc.{Msc}
 use Rattle.cbor_edn_parts.specs.declared.space.Soc.{Soc}
-use Rattle.cbor_edn_core.specs.declared.tree.Items.{Items as ItemsOf}
-use Rattle.cbor_edn_core.specs.declared.tree.Texts.{Texts}
+use Rattle.cbor_edn_core.specs.declared.tree.ItemsOf.{ItemsOf}
 use Rattle.cbor_edn_core.specs.View.{texts, view_items, view_some}
 use Rattle.cbor_edn_core.specs.declared.from_cbor.CborError.{CborError}
 use Rattle.cbor_edn_core.specs.declared.from_cbor.CborError.TheVariants.{TooDeep}
@@ -228,6 +227,6 @@ module _ (limit : ℕ) (bytes : List ℕ) where
       let is : w ≡ regular_sequence (items_of f.0) = tree ∙ ap sequence_tree_of (row ∙ f.3) in
       (f.0, f.1, f.2, is, ap (λ t. means (items t)) is ∙ ap means (sequence_items (items_of f.0) (regular (items_of f.0)) (row_again f.0)) ∙ f.4)
 
-pub sequence_view : (s : List ℕ) (o : Option (ItemsOf Texts S Ms Msc Soc Number Literal Dots)) → s ≡ [] → view_some texts s o ≡ sequence_tree_of (option_map (view_items texts) o)
+pub sequence_view : (s : List ℕ) (o : Option (ItemsOf S Ms Msc Soc Number Literal Dots)) → s ≡ [] → view_some texts s o ≡ sequence_tree_of (option_map (view_items texts) o)
 sequence_view s None e = ap NothingTree e
 sequence_view s (Some m) e = ap (λ s. SequenceTree s (view_items texts m)) e

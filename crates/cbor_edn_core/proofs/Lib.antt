@@ -15,6 +15,7 @@ pub mod CborTakes
 pub mod CborTrees
 pub mod CborTurns
 pub mod CborValues
+pub mod Compounds
 pub mod DecodedLiterals
 pub mod Decodes
 pub mod Decoding

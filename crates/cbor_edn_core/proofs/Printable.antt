@@ -9,27 +9,28 @@ use Rattle.cbor_edn_parts.specs.declared.space.Soc.{Soc}
 use Rattle.cbor_edn_parts.specs.declared.number.Number.{Number}
 use Rattle.cbor_edn_parts.specs.declared.string.Literal.{Literal}
 use Rattle.cbor_edn_parts.specs.declared.string.Dots.{Dots}
-use Rattle.cbor_edn_core.specs.declared.tree.Texts.{Texts}
-use Rattle.cbor_edn_core.specs.declared.tree.InnerItem.{InnerItem}
-use Rattle.cbor_edn_core.specs.declared.tree.InnerItem.TheVariants as inner
-use Rattle.cbor_edn_core.specs.declared.tree.ItemList.{ItemList}
-use Rattle.cbor_edn_core.specs.declared.tree.ItemList.TheVariants as item_list
-use Rattle.cbor_edn_core.specs.declared.tree.Items.{Items, Items', Row_of-Items-row-2, end_of-Items-row-2, more_of-Items-row-2}
-use Rattle.cbor_edn_core.specs.declared.tree.PairList.{PairList}
-use Rattle.cbor_edn_core.specs.declared.tree.PairList.TheVariants as pair_list
-use Rattle.cbor_edn_core.specs.declared.tree.Pairs.{Pairs, Pairs', Row_of-Pairs-row-2, end_of-Pairs-row-2, more_of-Pairs-row-2}
-use Rattle.cbor_edn_core.specs.declared.tree.CborString.{Row_of-CborString-row-3, end_of-CborString-row-3, more_of-CborString-row-3}
-use Rattle.cbor_edn_core.specs.declared.tree.Piece.{Piece}
-use Rattle.cbor_edn_core.specs.declared.tree.Piece.TheVariants as piece
-use Rattle.cbor_edn_core.specs.declared.tree.Stream.{Stream, Stream'}
-use Rattle.cbor_edn_core.specs.declared.tree.Strings.{Strings, Strings', Row_of-Strings-row-2, end_of-Strings-row-2, more_of-Strings-row-2}
+use Rattle.cbor_edn_core.specs.declared.tree.CompoundOf.{CompoundOf}
+use Rattle.cbor_edn_core.specs.declared.tree.CompoundOf.TheVariants as compound
+use Rattle.cbor_edn_core.specs.declared.tree.InnerItemOf.{InnerItemOf}
+use Rattle.cbor_edn_core.specs.declared.tree.InnerItemOf.TheVariants as inner
+use Rattle.cbor_edn_core.specs.declared.tree.ItemListOf.{ItemListOf}
+use Rattle.cbor_edn_core.specs.declared.tree.ItemListOf.TheVariants as item_list
+use Rattle.cbor_edn_core.specs.declared.tree.ItemsOf.{ItemsOf, ItemsOf', Row_of-ItemsOf-row-2, end_of-ItemsOf-row-2, more_of-ItemsOf-row-2}
+use Rattle.cbor_edn_core.specs.declared.tree.PairListOf.{PairListOf}
+use Rattle.cbor_edn_core.specs.declared.tree.PairListOf.TheVariants as pair_list
+use Rattle.cbor_edn_core.specs.declared.tree.PairsOf.{PairsOf, PairsOf', Row_of-PairsOf-row-2, end_of-PairsOf-row-2, more_of-PairsOf-row-2}
+use Rattle.cbor_edn_core.specs.declared.tree.CborStringOf.{Row_of-CborStringOf-row-3, end_of-CborStringOf-row-3, more_of-CborStringOf-row-3}
+use Rattle.cbor_edn_core.specs.declared.tree.PieceOf.{PieceOf}
+use Rattle.cbor_edn_core.specs.declared.tree.PieceOf.TheVariants as piece
+use Rattle.cbor_edn_core.specs.declared.tree.StreamOf.{StreamOf, StreamOf'}
+use Rattle.cbor_edn_core.specs.declared.tree.StringsOf.{StringsOf, StringsOf', Row_of-StringsOf-row-2, end_of-StringsOf-row-2, more_of-StringsOf-row-2}
 use Rattle.cbor_edn_core.specs.declared.tree.SequenceOf.{SequenceOf', Held-SequenceOf-items}
 use Rattle.cbor_edn_core.specs.declared.tree.SequenceOf as sequence
 use Rattle.cbor_edn_core.specs.Items as kind
 use Rattle.cbor_edn_core.specs.Trees.{Tree, OneString, Rest, IsHead, Valid, items, text}
 use Rattle.cbor_edn_core.specs.Spelling.{Spells, SpellsSequence, SpellsOne}
 use Rattle.cbor_edn_core.proofs.Spelled.{tells}
-use Rattle.cbor_edn_core.specs.View.{texts, view_head, view_inner, view_list, view_items, view_row, view_pair_list, view_pairs, view_pair_row, view_pieces, view_piece, view_held, view_stream, view_strings, view_string_row, Item, StandaloneItem, Sequence, item_tree, standalone_tree, sequence_tree}
+use Rattle.cbor_edn_core.specs.View.{texts, view_head, view_inner, view_compound, view_list, view_items, view_row, view_pair_list, view_pairs, view_pair_row, view_pieces, view_piece, view_held, view_stream, view_strings, view_string_row, Item, StandaloneItem, Sequence, item_tree, standalone_tree, sequence_tree}
 
 head_valid : (h : Option (Indicator × Ms)) → IsHead (view_head texts h)
 head_valid None = tt
@@ -38,21 +39,24 @@ head_valid (Some h) = h.1.spelled
 mutual
   unfolding Valid
 
-  inner_valid : (x : InnerItem Texts S Ms Msc Soc Number Literal Dots) → Valid (view_inner texts x)
+  inner_valid : (x : InnerItemOf S Ms Msc Soc Number Literal Dots) → Valid (view_inner texts x)
   inner_valid (inner.Number n i) = n.spelled
   inner_valid (inner.NonFinite f i) = tt
   inner_valid (inner.Named b) = tt
-  inner_valid (inner.Enclosed' front p before item after) = (front.fits, (before.spelled, inner_valid item, after.spelled))
-  inner_valid (inner.Array list) = list_valid list
-  inner_valid (inner.Map list) = pair_list_valid list
-  inner_valid (inner.String' n row last) = pieces_valid row _ (piece_valid last)
-  inner_valid (inner.Stream stream) = stream_valid stream
+  inner_valid (inner.Compound' p c) = compound_valid c
 
-  pieces_valid : {n : _} (row : Row_of-CborString-row-3 Texts S Ms Msc Soc Number Literal Dots n) (w : Tree OneString) → Valid w → Valid (view_pieces texts row w)
-  pieces_valid end_of-CborString-row-3 w v = v
-  pieces_valid (more_of-CborString-row-3 p before after row) w v = (piece_valid p, before.spelled, after.spelled, pieces_valid row w v)
+  compound_valid : (x : CompoundOf S Ms Msc Soc Number Literal Dots) → Valid (view_compound texts x)
+  compound_valid (compound.Enclosed' front before item after) = (front.fits, (before.spelled, inner_valid item, after.spelled))
+  compound_valid (compound.Array list) = list_valid list
+  compound_valid (compound.Map list) = pair_list_valid list
+  compound_valid (compound.String' n row last) = pieces_valid row _ (piece_valid last)
+  compound_valid (compound.Stream stream) = stream_valid stream
 
-  piece_valid : (x : Piece Texts S Ms Msc Soc Number Literal Dots) → Valid (view_piece texts x)
+  pieces_valid : {n : _} (row : Row_of-CborStringOf-row-3 S Ms Msc Soc Number Literal Dots n) (w : Tree OneString) → Valid w → Valid (view_pieces texts row w)
+  pieces_valid end_of-CborStringOf-row-3 w v = v
+  pieces_valid (more_of-CborStringOf-row-3 p before after row) w v = (piece_valid p, before.spelled, after.spelled, pieces_valid row w v)
+
+  piece_valid : (x : PieceOf S Ms Msc Soc Number Literal Dots) → Valid (view_piece texts x)
   piece_valid (piece.Literal literal i) = literal.spelled
   piece_valid (piece.Dots dots) = dots.spelled
   piece_valid (piece.Embedded' p sequence i) = sequence_valid sequence
@@ -60,41 +64,41 @@ mutual
   pub sequence_valid : (x : Sequence) → Valid (sequence_tree x)
   sequence_valid (SequenceOf' before items) = held_valid before items
 
-  held_valid : (s : S) (x : Held-SequenceOf-items Texts S Ms Msc Soc Number Literal Dots) → Valid (view_held texts (s_bytes s) x)
+  held_valid : (s : S) (x : Held-SequenceOf-items S Ms Msc Soc Number Literal Dots) → Valid (view_held texts (s_bytes s) x)
   held_valid s sequence.None' = s.spelled
   held_valid s (sequence.Some' items) = (s.spelled, items_valid items)
 
-  stream_valid : (x : Stream Texts S Ms Msc Soc Number Literal Dots) → Valid (view_stream texts x)
-  stream_valid (Stream' ms strings) = (ms.spelled, strings_valid strings)
+  stream_valid : (x : StreamOf S Ms Msc Soc Number Literal Dots) → Valid (view_stream texts x)
+  stream_valid (StreamOf' ms strings) = (ms.spelled, strings_valid strings)
 
-  strings_valid : (x : Strings Texts S Ms Msc Soc Number Literal Dots) → Valid (view_strings texts x)
-  strings_valid (Strings' n row p m pieces last soc) = string_row_valid row _ (pieces_valid pieces _ (piece_valid last), soc.spelled)
+  strings_valid : (x : StringsOf S Ms Msc Soc Number Literal Dots) → Valid (view_strings texts x)
+  strings_valid (StringsOf' n row m pieces last soc) = string_row_valid row _ (pieces_valid pieces _ (piece_valid last), soc.spelled)
 
-  string_row_valid : {n : _} (row : Row_of-Strings-row-2 Texts S Ms Msc Soc Number Literal Dots n) (m : Tree (Rest kind.Strings)) → Valid m → Valid (view_string_row texts row m)
-  string_row_valid end_of-Strings-row-2 m v = v
-  string_row_valid (more_of-Strings-row-2 n pieces last separator row) m v = (pieces_valid pieces _ (piece_valid last), separator.spelled, string_row_valid row m v)
+  string_row_valid : {n : _} (row : Row_of-StringsOf-row-2 S Ms Msc Soc Number Literal Dots n) (m : Tree (Rest kind.Strings)) → Valid m → Valid (view_string_row texts row m)
+  string_row_valid end_of-StringsOf-row-2 m v = v
+  string_row_valid (more_of-StringsOf-row-2 n pieces last separator row) m v = (pieces_valid pieces _ (piece_valid last), separator.spelled, string_row_valid row m v)
 
-  list_valid : (x : ItemList Texts S Ms Msc Soc Number Literal Dots) → Valid (view_list texts x)
+  list_valid : (x : ItemListOf S Ms Msc Soc Number Literal Dots) → Valid (view_list texts x)
   list_valid (item_list.Present head s items) = (head_valid head, s.spelled, items_valid items)
   list_valid (item_list.Absent i s) = s.spelled
 
-  items_valid : (x : Items Texts S Ms Msc Soc Number Literal Dots) → Valid (view_items texts x)
-  items_valid (Items' n row p last soc) = row_valid row _ (inner_valid last, soc.spelled)
+  items_valid : (x : ItemsOf S Ms Msc Soc Number Literal Dots) → Valid (view_items texts x)
+  items_valid (ItemsOf' n row last soc) = row_valid row _ (inner_valid last, soc.spelled)
 
-  row_valid : {n : _} (row : Row_of-Items-row-2 Texts S Ms Msc Soc Number Literal Dots n) (m : Tree (Rest kind.Elements)) → Valid m → Valid (view_row texts row m)
-  row_valid end_of-Items-row-2 m v = v
-  row_valid (more_of-Items-row-2 item separator row) m v = (inner_valid item, separator.spelled, row_valid row m v)
+  row_valid : {n : _} (row : Row_of-ItemsOf-row-2 S Ms Msc Soc Number Literal Dots n) (m : Tree (Rest kind.Elements)) → Valid m → Valid (view_row texts row m)
+  row_valid end_of-ItemsOf-row-2 m v = v
+  row_valid (more_of-ItemsOf-row-2 item separator row) m v = (inner_valid item, separator.spelled, row_valid row m v)
 
-  pair_list_valid : (x : PairList Texts S Ms Msc Soc Number Literal Dots) → Valid (view_pair_list texts x)
+  pair_list_valid : (x : PairListOf S Ms Msc Soc Number Literal Dots) → Valid (view_pair_list texts x)
   pair_list_valid (pair_list.Present head s pairs) = (head_valid head, s.spelled, pairs_valid pairs)
   pair_list_valid (pair_list.Absent i s) = s.spelled
 
-  pairs_valid : (x : Pairs Texts S Ms Msc Soc Number Literal Dots) → Valid (view_pairs texts x)
-  pairs_valid (Pairs' n row p key before after value soc) = pair_row_valid row _ ((inner_valid key, before.spelled, after.spelled, inner_valid value), soc.spelled)
+  pairs_valid : (x : PairsOf S Ms Msc Soc Number Literal Dots) → Valid (view_pairs texts x)
+  pairs_valid (PairsOf' n row key before after value soc) = pair_row_valid row _ ((inner_valid key, before.spelled, after.spelled, inner_valid value), soc.spelled)
 
-  pair_row_valid : {n : _} (row : Row_of-Pairs-row-2 Texts S Ms Msc Soc Number Literal Dots n) (m : Tree (Rest kind.Pairs)) → Valid m → Valid (view_pair_row texts row m)
-  pair_row_valid end_of-Pairs-row-2 m v = v
-  pair_row_valid (more_of-Pairs-row-2 key before after value separator row) m v = ((inner_valid key, before.spelled, after.spelled, inner_valid value), separator.spelled, pair_row_valid row m v)
+  pair_row_valid : {n : _} (row : Row_of-PairsOf-row-2 S Ms Msc Soc Number Literal Dots n) (m : Tree (Rest kind.Pairs)) → Valid m → Valid (view_pair_row texts row m)
+  pair_row_valid end_of-PairsOf-row-2 m v = v
+  pair_row_valid (more_of-PairsOf-row-2 key before after value separator row) m v = ((inner_valid key, before.spelled, after.spelled, inner_valid value), separator.spelled, pair_row_valid row m v)
 
 pub item_valid : (x : Item) → Valid (item_tree x)
 item_valid x = inner_valid x.inner

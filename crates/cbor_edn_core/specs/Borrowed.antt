@@ -9,21 +9,22 @@ use Rattle.cbor_edn_parts.specs.declared.space.Soc.{Soc}
 use Rattle.cbor_edn_parts.specs.declared.number.Number.{Number}
 use Rattle.cbor_edn_parts.specs.declared.string.Literal.{Literal}
 use Rattle.cbor_edn_parts.specs.declared.string.Dots.{Dots}
-use Rattle.cbor_edn_core.specs.declared.tree.Texts.{Texts}
-use Rattle.cbor_edn_core.specs.declared.tree.InnerItem.{InnerItem}
-use Rattle.cbor_edn_core.specs.declared.tree.InnerItem.TheVariants as inner
-use Rattle.cbor_edn_core.specs.declared.tree.ItemList.{ItemList}
-use Rattle.cbor_edn_core.specs.declared.tree.ItemList.TheVariants as item_list
-use Rattle.cbor_edn_core.specs.declared.tree.Items.{Items, Items', Row_of-Items-row-2, end_of-Items-row-2, more_of-Items-row-2}
-use Rattle.cbor_edn_core.specs.declared.tree.Kp.{Kp}
-use Rattle.cbor_edn_core.specs.declared.tree.PairList.{PairList}
-use Rattle.cbor_edn_core.specs.declared.tree.PairList.TheVariants as pair_list
-use Rattle.cbor_edn_core.specs.declared.tree.Pairs.{Pairs, Pairs', Row_of-Pairs-row-2, end_of-Pairs-row-2, more_of-Pairs-row-2}
-use Rattle.cbor_edn_core.specs.declared.tree.CborString.{CborString, Row_of-CborString-row-3, end_of-CborString-row-3, more_of-CborString-row-3}
-use Rattle.cbor_edn_core.specs.declared.tree.Piece.{Piece}
-use Rattle.cbor_edn_core.specs.declared.tree.Piece.TheVariants as piece
-use Rattle.cbor_edn_core.specs.declared.tree.Stream.{Stream, Stream'}
-use Rattle.cbor_edn_core.specs.declared.tree.Strings.{Strings, Strings', Row_of-Strings-row-2, end_of-Strings-row-2, more_of-Strings-row-2}
+use Rattle.cbor_edn_core.specs.declared.tree.CompoundOf.{CompoundOf}
+use Rattle.cbor_edn_core.specs.declared.tree.CompoundOf.TheVariants as compound
+use Rattle.cbor_edn_core.specs.declared.tree.InnerItemOf.{InnerItemOf}
+use Rattle.cbor_edn_core.specs.declared.tree.InnerItemOf.TheVariants as inner
+use Rattle.cbor_edn_core.specs.declared.tree.ItemListOf.{ItemListOf}
+use Rattle.cbor_edn_core.specs.declared.tree.ItemListOf.TheVariants as item_list
+use Rattle.cbor_edn_core.specs.declared.tree.ItemsOf.{ItemsOf, ItemsOf', Row_of-ItemsOf-row-2, end_of-ItemsOf-row-2, more_of-ItemsOf-row-2}
+use Rattle.cbor_edn_core.specs.declared.tree.KpOf.{KpOf}
+use Rattle.cbor_edn_core.specs.declared.tree.PairListOf.{PairListOf}
+use Rattle.cbor_edn_core.specs.declared.tree.PairListOf.TheVariants as pair_list
+use Rattle.cbor_edn_core.specs.declared.tree.PairsOf.{PairsOf, PairsOf', Row_of-PairsOf-row-2, end_of-PairsOf-row-2, more_of-PairsOf-row-2}
+use Rattle.cbor_edn_core.specs.declared.tree.CborStringOf.{CborStringOf, Row_of-CborStringOf-row-3, end_of-CborStringOf-row-3, more_of-CborStringOf-row-3}
+use Rattle.cbor_edn_core.specs.declared.tree.PieceOf.{PieceOf}
+use Rattle.cbor_edn_core.specs.declared.tree.PieceOf.TheVariants as piece
+use Rattle.cbor_edn_core.specs.declared.tree.StreamOf.{StreamOf, StreamOf'}
+use Rattle.cbor_edn_core.specs.declared.tree.StringsOf.{StringsOf, StringsOf', Row_of-StringsOf-row-2, end_of-StringsOf-row-2, more_of-StringsOf-row-2}
 use Rattle.cbor_edn_core.specs.declared.tree.SequenceOf.{SequenceOf, SequenceOf', Held-SequenceOf-items}
 use Rattle.cbor_edn_core.specs.declared.tree.SequenceOf as sequence
 use Rattle.cbor_edn_core.specs.View.{Item, StandaloneItem}
@@ -34,68 +35,71 @@ BorrowsHead None = Unit {0}
 BorrowsHead (Some h) = BorrowsMs h.1
 
 abbrev mutual
-  pub BorrowsInner : InnerItem Texts S Ms Msc Soc Number Literal Dots → Type 0
+  pub BorrowsInner : InnerItemOf S Ms Msc Soc Number Literal Dots → Type 0
   BorrowsInner (inner.Number n i) = BorrowsNumber n
   BorrowsInner (inner.NonFinite f i) = Unit {0}
   BorrowsInner (inner.Named b) = Unit {0}
-  BorrowsInner (inner.Enclosed' front p before item after) = BorrowsS before × BorrowsInner item × BorrowsS after
-  BorrowsInner (inner.Array list) = BorrowsList list
-  BorrowsInner (inner.Map list) = BorrowsPairList list
-  BorrowsInner (inner.String' n row last) = BorrowsPieces row × BorrowsPiece last
-  BorrowsInner (inner.Stream stream) = BorrowsStream stream
+  BorrowsInner (inner.Compound' p c) = BorrowsCompound c
 
-  pub BorrowsPieces : {n : _} → Row_of-CborString-row-3 Texts S Ms Msc Soc Number Literal Dots n → Type 0
-  BorrowsPieces end_of-CborString-row-3 = Unit {0}
-  BorrowsPieces (more_of-CborString-row-3 p before after row) = (BorrowsPiece p × BorrowsS before × BorrowsS after) × BorrowsPieces row
+  pub BorrowsCompound : CompoundOf S Ms Msc Soc Number Literal Dots → Type 0
+  BorrowsCompound (compound.Enclosed' front before item after) = BorrowsS before × BorrowsInner item × BorrowsS after
+  BorrowsCompound (compound.Array list) = BorrowsList list
+  BorrowsCompound (compound.Map list) = BorrowsPairList list
+  BorrowsCompound (compound.String' n row last) = BorrowsPieces row × BorrowsPiece last
+  BorrowsCompound (compound.Stream stream) = BorrowsStream stream
 
-  pub BorrowsPiece : Piece Texts S Ms Msc Soc Number Literal Dots → Type 0
+  pub BorrowsPieces : {n : _} → Row_of-CborStringOf-row-3 S Ms Msc Soc Number Literal Dots n → Type 0
+  BorrowsPieces end_of-CborStringOf-row-3 = Unit {0}
+  BorrowsPieces (more_of-CborStringOf-row-3 p before after row) = (BorrowsPiece p × BorrowsS before × BorrowsS after) × BorrowsPieces row
+
+  pub BorrowsPiece : PieceOf S Ms Msc Soc Number Literal Dots → Type 0
   BorrowsPiece (piece.Literal literal i) = BorrowsLiteral literal
   BorrowsPiece (piece.Dots dots) = BorrowsDots dots
   BorrowsPiece (piece.Embedded' p sequence i) = BorrowsSequence sequence
 
-  pub BorrowsSequence : SequenceOf Texts S Ms Msc Soc Number Literal Dots → Type 0
+  pub BorrowsSequence : SequenceOf S Ms Msc Soc Number Literal Dots → Type 0
   BorrowsSequence (SequenceOf' before items) = BorrowsS before × BorrowsHeld items
 
-  pub BorrowsHeld : Held-SequenceOf-items Texts S Ms Msc Soc Number Literal Dots → Type 0
+  pub BorrowsHeld : Held-SequenceOf-items S Ms Msc Soc Number Literal Dots → Type 0
   BorrowsHeld sequence.None' = Unit {0}
   BorrowsHeld (sequence.Some' items) = BorrowsItems items
 
-  pub BorrowsStream : Stream Texts S Ms Msc Soc Number Literal Dots → Type 0
-  BorrowsStream (Stream' ms strings) = BorrowsMs ms × BorrowsStrings strings
+  pub BorrowsStream : StreamOf S Ms Msc Soc Number Literal Dots → Type 0
+  BorrowsStream (StreamOf' ms strings) = BorrowsMs ms × BorrowsStrings strings
 
-  pub BorrowsStrings : Strings Texts S Ms Msc Soc Number Literal Dots → Type 0
-  BorrowsStrings (Strings' n row p m pieces last soc) = BorrowsStringRow row × (BorrowsPieces pieces × BorrowsPiece last) × BorrowsSoc soc
+  pub BorrowsStrings : StringsOf S Ms Msc Soc Number Literal Dots → Type 0
+  BorrowsStrings (StringsOf' n row m pieces last soc) = BorrowsStringRow row × (BorrowsPieces pieces × BorrowsPiece last) × BorrowsSoc soc
 
-  pub BorrowsStringRow : {n : _} → Row_of-Strings-row-2 Texts S Ms Msc Soc Number Literal Dots n → Type 0
-  BorrowsStringRow end_of-Strings-row-2 = Unit {0}
-  BorrowsStringRow (more_of-Strings-row-2 m pieces last separator row) = (BorrowsPieces pieces × BorrowsPiece last) × BorrowsMsc separator × BorrowsStringRow row
+  pub BorrowsStringRow : {n : _} → Row_of-StringsOf-row-2 S Ms Msc Soc Number Literal Dots n → Type 0
+  BorrowsStringRow end_of-StringsOf-row-2 = Unit {0}
+  BorrowsStringRow (more_of-StringsOf-row-2 m pieces last separator row) = (BorrowsPieces pieces × BorrowsPiece last) × BorrowsMsc separator × BorrowsStringRow row
 
-  pub BorrowsList : ItemList Texts S Ms Msc Soc Number Literal Dots → Type 0
+  pub BorrowsList : ItemListOf S Ms Msc Soc Number Literal Dots → Type 0
   BorrowsList (item_list.Present head s items) = BorrowsHead head × BorrowsS s × BorrowsItems items
   BorrowsList (item_list.Absent i s) = BorrowsS s
 
-  pub BorrowsItems : Items Texts S Ms Msc Soc Number Literal Dots → Type 0
-  BorrowsItems (Items' n row p last soc) = BorrowsRow row × BorrowsInner last × BorrowsSoc soc
+  pub BorrowsItems : ItemsOf S Ms Msc Soc Number Literal Dots → Type 0
+  BorrowsItems (ItemsOf' n row last soc) = BorrowsRow row × BorrowsInner last × BorrowsSoc soc
 
-  pub BorrowsRow : {n : _} → Row_of-Items-row-2 Texts S Ms Msc Soc Number Literal Dots n → Type 0
-  BorrowsRow end_of-Items-row-2 = Unit {0}
-  BorrowsRow (more_of-Items-row-2 item separator row) = BorrowsInner item × BorrowsMsc separator × BorrowsRow row
+  pub BorrowsRow : {n : _} → Row_of-ItemsOf-row-2 S Ms Msc Soc Number Literal Dots n → Type 0
+  BorrowsRow end_of-ItemsOf-row-2 = Unit {0}
+  BorrowsRow (more_of-ItemsOf-row-2 item separator row) = BorrowsInner item × BorrowsMsc separator × BorrowsRow row
 
-  pub BorrowsPairList : PairList Texts S Ms Msc Soc Number Literal Dots → Type 0
+  pub BorrowsPairList : PairListOf S Ms Msc Soc Number Literal Dots → Type 0
   BorrowsPairList (pair_list.Present head s pairs) = BorrowsHead head × BorrowsS s × BorrowsPairs pairs
   BorrowsPairList (pair_list.Absent i s) = BorrowsS s
 
-  pub BorrowsPairs : Pairs Texts S Ms Msc Soc Number Literal Dots → Type 0
-  BorrowsPairs (Pairs' n row p key before after value soc) = BorrowsPairRow row × (BorrowsInner key × BorrowsS before × BorrowsS after × BorrowsInner value) × BorrowsSoc soc
+  pub BorrowsPairs : PairsOf S Ms Msc Soc Number Literal Dots → Type 0
+  BorrowsPairs (PairsOf' n row key before after value soc) = BorrowsPairRow row × (BorrowsInner key × BorrowsS before × BorrowsS after × BorrowsInner value) × BorrowsSoc soc
 
-  pub BorrowsPairRow : {n : _} → Row_of-Pairs-row-2 Texts S Ms Msc Soc Number Literal Dots n → Type 0
-  BorrowsPairRow end_of-Pairs-row-2 = Unit {0}
-  BorrowsPairRow (more_of-Pairs-row-2 key before after value separator row) = (BorrowsInner key × BorrowsS before × BorrowsS after × BorrowsInner value) × BorrowsMsc separator × BorrowsPairRow row
+  pub BorrowsPairRow : {n : _} → Row_of-PairsOf-row-2 S Ms Msc Soc Number Literal Dots n → Type 0
+  BorrowsPairRow end_of-PairsOf-row-2 = Unit {0}
+  BorrowsPairRow (more_of-PairsOf-row-2 key before after value separator row) = (BorrowsInner key × BorrowsS before × BorrowsS after × BorrowsInner value) × BorrowsMsc separator × BorrowsPairRow row
 
 abbrev pub BorrowsItem : Item → Type 0
 BorrowsItem i = BorrowsInner i.inner
 
-abbrev pub BorrowsPair : Kp Texts S Ms Msc Soc Number Literal Dots → Type 0
+abbrev pub BorrowsPair : KpOf S Ms Msc Soc Number Literal Dots → Type 0
 BorrowsPair p = BorrowsItem p.key × BorrowsS p.before_colon × BorrowsS p.after_colon × BorrowsItem p.value
 
 -- items, each with the separator behind it
@@ -104,7 +108,7 @@ BorrowsEach [] = Unit {0}
 BorrowsEach (p ∷ ps) = BorrowsItem p.0 × BorrowsMsc p.1 × BorrowsEach ps
 
 -- the same of pairs
-abbrev pub BorrowsEachPair : List (Kp Texts S Ms Msc Soc Number Literal Dots × Msc) → Type 0
+abbrev pub BorrowsEachPair : List (KpOf S Ms Msc Soc Number Literal Dots × Msc) → Type 0
 BorrowsEachPair [] = Unit {0}
 BorrowsEachPair (p ∷ ps) = BorrowsPair p.0 × BorrowsMsc p.1 × BorrowsEachPair ps
 
@@ -112,19 +116,19 @@ abbrev pub BorrowsStandalone : StandaloneItem → Type 0
 BorrowsStandalone s = BorrowsS s.before × BorrowsItem s.item × BorrowsS s.after
 
 -- pieces, each with the spaces round the plus sign behind it
-abbrev pub BorrowsEachPiece : List (Piece Texts S Ms Msc Soc Number Literal Dots × S × S) → Type 0
+abbrev pub BorrowsEachPiece : List (PieceOf S Ms Msc Soc Number Literal Dots × S × S) → Type 0
 BorrowsEachPiece [] = Unit {0}
 BorrowsEachPiece (p ∷ ps) = (BorrowsPiece p.0 × BorrowsS p.1 × BorrowsS p.2) × BorrowsEachPiece ps
 
-abbrev pub BorrowsString : CborString Texts S Ms Msc Soc Number Literal Dots → Type 0
+abbrev pub BorrowsString : CborStringOf S Ms Msc Soc Number Literal Dots → Type 0
 BorrowsString x = BorrowsEachPiece x.row.items × BorrowsPiece x.last
 
 -- strings of a stream, each with the separator behind it
-abbrev pub BorrowsEachString : List (CborString Texts S Ms Msc Soc Number Literal Dots × Msc) → Type 0
+abbrev pub BorrowsEachString : List (CborStringOf S Ms Msc Soc Number Literal Dots × Msc) → Type 0
 BorrowsEachString [] = Unit {0}
 BorrowsEachString (p ∷ ps) = BorrowsString p.0 × BorrowsMsc p.1 × BorrowsEachString ps
 
 -- the items of a sequence
-abbrev pub BorrowsSome : Option (Items Texts S Ms Msc Soc Number Literal Dots) → Type 0
+abbrev pub BorrowsSome : Option (ItemsOf S Ms Msc Soc Number Literal Dots) → Type 0
 BorrowsSome None = Unit {0}
 BorrowsSome (Some items) = BorrowsItems items

@@ -6,6 +6,7 @@ pub mod Encoding
 pub mod Growing
 pub mod Items
 pub mod Labels
+pub mod Leaves
 pub mod Laws
 pub mod Lookahead
 pub mod Marks

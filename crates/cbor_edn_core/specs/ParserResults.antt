@@ -14,8 +14,7 @@ use Rattle.cbor_edn_parts.specs.SpaceTokens.{space, separator}
 use Rattle.cbor_edn_core.specs.Items.{Row, Elements, Pairs, Strings}
 use Rattle.cbor_edn_core.specs.Trees.{Tree, OneItem, OneEntry, PairTree, ElementTree, ChunkTree}
 use Rattle.cbor_edn_core.specs.View.{Item, item_tree, texts, view_string}
-use Rattle.cbor_edn_core.specs.declared.tree.Texts.{Texts}
-use Rattle.cbor_edn_core.specs.declared.tree.CborString.{CborString}
+use Rattle.cbor_edn_core.specs.declared.tree.CborStringOf.{CborStringOf}
 use Rattle.cbor_edn_parts.specs.declared.space.S.{S}
 use Rattle.cbor_edn_parts.specs.declared.space.Ms.{Ms}
 use Rattle.cbor_edn_parts.specs.declared.number.Number.{Number}
@@ -108,7 +107,7 @@ parted limit k xs = reads limit (OneEntry k) xs >>= λ e. token separator e.1 >>
 abbrev pub element_tree : Item → Tree (OneEntry Elements)
 element_tree x = ElementTree (item_tree x)
 
-abbrev pub chunk_tree : CborString Texts S Ms Msc Soc Number Literal Dots → Tree (OneEntry Strings)
+abbrev pub chunk_tree : CborStringOf S Ms Msc Soc Number Literal Dots → Tree (OneEntry Strings)
 chunk_tree x = ChunkTree (view_string texts x)
 
 -- The same three of what stands behind an entry: its separator, and how little that costs.

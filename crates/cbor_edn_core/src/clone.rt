@@ -1,12 +1,11 @@
 //! Copies of trees. Memory comes from the allocator of what is copied.
 ghost use Rattle.std.specs.Prelude.{◌≡◌, map, IfOk};
 ghost use Rattle.cbor_edn_parts.specs.Leaves.{s_bytes};
-ghost use Rattle.cbor_edn_core.specs.Trees.{PairTree};
-ghost use Rattle.cbor_edn_core.specs.View.{texts, view_head, view_list, view_items, seen, view_pair_list, view_pairs, view_pair, seen_pair, view_string, view_piece, seen_piece, view_stream, view_strings, seen_string, item_tree, standalone_tree, sequence_tree};
+ghost use Rattle.cbor_edn_core.specs.View.{texts, view_head, view_list, view_items, seen, view_pair_list, view_pairs, view_pair, seen_pair, view_compound, view_string, view_piece, seen_piece, view_stream, view_strings, seen_string, item_tree, standalone_tree, sequence_tree};
 
 use crate::tree::{
-    CborString, Indicator, InnerItem, Item, ItemList, ItemOf, Items, Kp, PairList, Pairs, Piece,
-    Sequence, SequenceOf, StandaloneItem, StandaloneItemOf, Stream, Strings, Texts,
+    CborString, Compound, Indicator, InnerItem, Item, ItemList, ItemOf, Items, Kp, PairList, Pairs,
+    Piece, Sequence, SequenceOf, StandaloneItem, StandaloneItemOf, Stream, Strings,
 };
 use cbor_edn_parts::space::{Ms, Msc, S};
 use std::alloc::AllocError;
@@ -61,7 +60,6 @@ fn clone_spaces<'a>(before: &S<'a>, after: &S<'a>) -> Result<(S<'a>, S<'a>), All
 }
 
 #[cycle(copy)]
-#[tactic(auto, using(crate::proofs::Views::view_string_is))]
 fn clone_item<'a>(item: &Item<'a>) -> Result<Item<'a>, AllocError>
     ensures { IfOk result (λ t. item_tree t ≡ item_tree item.now) }
 {
@@ -78,36 +76,48 @@ fn clone_item<'a>(item: &Item<'a>) -> Result<Item<'a>, AllocError>
         InnerItem::Named(name) => Ok(ItemOf {
             inner: InnerItem::Named(*name),
         }),
-        InnerItem::Enclosed(front, content) => {
-            let copy = clone_standalone(content)?;
-            let copy = Box::new(*Box::allocator(content), copy)?;
+        InnerItem::Compound(compound) => {
+            let copy = clone_boxed(compound)?;
             Ok(ItemOf {
-                inner: InnerItem::Enclosed(*front, copy),
+                inner: InnerItem::Compound(copy),
             })
         }
-        InnerItem::Array(list) => {
+    }
+}
+
+#[cycle(copy)]
+fn clone_boxed<'a>(compound: &Box<Compound<'a>>) -> Result<Box<Compound<'a>>, AllocError>
+    ensures { IfOk result (λ t. view_compound texts t.value ≡ view_compound texts compound.now.value) }
+{
+    let copy = clone_compound(compound)?;
+    Ok(Box::new(*Box::allocator(compound), copy)?)
+}
+
+#[cycle(copy)]
+#[tactic(auto, using(crate::proofs::Views::view_string_is))]
+fn clone_compound<'a>(compound: &Compound<'a>) -> Result<Compound<'a>, AllocError>
+    ensures { IfOk result (λ t. view_compound texts t ≡ view_compound texts compound.now) }
+{
+    match compound {
+        Compound::Enclosed(front, content) => {
+            let content = clone_standalone(content)?;
+            Ok(Compound::Enclosed(*front, content))
+        }
+        Compound::Array(list) => {
             let list = clone_list(list)?;
-            Ok(ItemOf {
-                inner: InnerItem::Array(list),
-            })
+            Ok(Compound::Array(list))
         }
-        InnerItem::Map(list) => {
+        Compound::Map(list) => {
             let list = clone_pair_list(list)?;
-            Ok(ItemOf {
-                inner: InnerItem::Map(list),
-            })
+            Ok(Compound::Map(list))
         }
-        InnerItem::String(string) => {
+        Compound::String(string) => {
             let string = clone_string(string)?;
-            Ok(ItemOf {
-                inner: InnerItem::String(string),
-            })
+            Ok(Compound::String(string))
         }
-        InnerItem::Stream(stream) => {
+        Compound::Stream(stream) => {
             let stream = clone_stream(stream)?;
-            Ok(ItemOf {
-                inner: InnerItem::Stream(stream),
-            })
+            Ok(Compound::Stream(stream))
         }
     }
 }
@@ -116,9 +126,8 @@ fn clone_item<'a>(item: &Item<'a>) -> Result<Item<'a>, AllocError>
 fn clone_standalone<'a>(content: &StandaloneItem<'a>) -> Result<StandaloneItem<'a>, AllocError>
     ensures { IfOk result (λ t. standalone_tree t ≡ standalone_tree content.now) }
 {
-    let before = content.before.clone()?;
+    let (before, after) = clone_spaces(&content.before, &content.after)?;
     let item = clone_item(&content.item)?;
-    let after = content.after.clone()?;
     Ok(StandaloneItemOf {
         before,
         item,
@@ -127,7 +136,7 @@ fn clone_standalone<'a>(content: &StandaloneItem<'a>) -> Result<StandaloneItem<'
 }
 
 #[cycle(copy)]
-fn clone_string<'a>(string: &CborString<Texts<'a>>) -> Result<CborString<Texts<'a>>, AllocError>
+fn clone_string<'a>(string: &CborString<'a>) -> Result<CborString<'a>, AllocError>
     ensures { IfOk result (λ t. view_string texts t ≡ view_string texts string.now) }
 {
     let row = clone_piece_row(&string.row)?;
@@ -137,21 +146,21 @@ fn clone_string<'a>(string: &CborString<Texts<'a>>) -> Result<CborString<Texts<'
 
 #[cycle(copy)]
 fn clone_piece_row<'a>(
-    row: &Vec<(Piece<Texts<'a>>, S<'a>, S<'a>)>,
-) -> Result<Vec<(Piece<Texts<'a>>, S<'a>, S<'a>)>, AllocError>
+    row: &Vec<(Piece<'a>, S<'a>, S<'a>)>,
+) -> Result<Vec<(Piece<'a>, S<'a>, S<'a>)>, AllocError>
     ensures { IfOk result (λ t. map (seen_piece texts) t.items ≡ map (seen_piece texts) row.now.items) }
 {
     let mut copy = Vec::new(*row.allocator());
     for (piece, before, after) in row {
-        let piece = clone_piece(piece)?;
         let (before, after) = clone_spaces(before, after)?;
+        let piece = clone_piece(piece)?;
         copy.push((piece, before, after))?;
     }
     Ok(copy)
 }
 
 #[cycle(copy)]
-fn clone_piece<'a>(piece: &Piece<Texts<'a>>) -> Result<Piece<Texts<'a>>, AllocError>
+fn clone_piece<'a>(piece: &Piece<'a>) -> Result<Piece<'a>, AllocError>
     ensures { IfOk result (λ t. view_piece texts t ≡ view_piece texts piece.now) }
 {
     match piece {
@@ -194,7 +203,7 @@ fn clone_sequence<'a>(sequence: &Sequence<'a>) -> Result<Sequence<'a>, AllocErro
 
 #[cycle(copy)]
 #[tactic(auto, using(crate::proofs::Views::view_stream_is, crate::proofs::Views::view_stream_made))]
-fn clone_stream<'a>(stream: &Stream<Texts<'a>>) -> Result<Stream<Texts<'a>>, AllocError>
+fn clone_stream<'a>(stream: &Stream<'a>) -> Result<Stream<'a>, AllocError>
     ensures { IfOk result (λ t. view_stream texts t ≡ view_stream texts stream.now) }
 {
     let ms = stream.ms.clone()?;
@@ -204,33 +213,32 @@ fn clone_stream<'a>(stream: &Stream<Texts<'a>>) -> Result<Stream<Texts<'a>>, All
 
 #[cycle(copy)]
 #[tactic(auto, using(crate::proofs::Views::view_strings_is, crate::proofs::Views::view_strings_made))]
-fn clone_strings<'a>(strings: &Strings<Texts<'a>>) -> Result<Strings<Texts<'a>>, AllocError>
+fn clone_strings<'a>(strings: &Strings<'a>) -> Result<Strings<'a>, AllocError>
     ensures { IfOk result (λ t. view_strings texts t ≡ view_strings texts strings.now) }
 {
+    let soc = strings.soc.clone()?;
     let row = clone_string_row(&strings.row)?;
     let last = clone_string(&strings.last)?;
-    let last = Box::new(*Box::allocator(&strings.last), last)?;
-    let soc = strings.soc.clone()?;
     Ok(Strings { row, last, soc })
 }
 
 #[cycle(copy)]
 fn clone_string_row<'a>(
-    row: &Vec<(CborString<Texts<'a>>, Msc<'a>)>,
-) -> Result<Vec<(CborString<Texts<'a>>, Msc<'a>)>, AllocError>
+    row: &Vec<(CborString<'a>, Msc<'a>)>,
+) -> Result<Vec<(CborString<'a>, Msc<'a>)>, AllocError>
     ensures { IfOk result (λ t. map (seen_string texts) t.items ≡ map (seen_string texts) row.now.items) }
 {
     let mut copy = Vec::new(*row.allocator());
     for (string, separator) in row {
-        let string = clone_string(string)?;
         let separator = separator.clone()?;
+        let string = clone_string(string)?;
         copy.push((string, separator))?;
     }
     Ok(copy)
 }
 
 #[cycle(copy)]
-fn clone_list<'a>(list: &ItemList<Texts<'a>>) -> Result<ItemList<Texts<'a>>, AllocError>
+fn clone_list<'a>(list: &ItemList<'a>) -> Result<ItemList<'a>, AllocError>
     ensures { IfOk result (λ t. view_list texts t ≡ view_list texts list.now) }
 {
     match list {
@@ -252,13 +260,12 @@ fn clone_list<'a>(list: &ItemList<Texts<'a>>) -> Result<ItemList<Texts<'a>>, All
 
 #[cycle(copy)]
 #[tactic(auto, using(crate::proofs::Views::view_items_is, crate::proofs::Views::view_items_made))]
-fn clone_items<'a>(items: &Items<Texts<'a>>) -> Result<Items<Texts<'a>>, AllocError>
+fn clone_items<'a>(items: &Items<'a>) -> Result<Items<'a>, AllocError>
     ensures { IfOk result (λ t. view_items texts t ≡ view_items texts items.now) }
 {
+    let soc = items.soc.clone()?;
     let row = clone_row(&items.row)?;
     let last = clone_item(&items.last)?;
-    let last = Box::new(*Box::allocator(&items.last), last)?;
-    let soc = items.soc.clone()?;
     Ok(Items { row, last, soc })
 }
 
@@ -268,15 +275,15 @@ fn clone_row<'a>(row: &Vec<(Item<'a>, Msc<'a>)>) -> Result<Vec<(Item<'a>, Msc<'a
 {
     let mut copy = Vec::new(*row.allocator());
     for (item, separator) in row {
-        let item = clone_item(item)?;
         let separator = separator.clone()?;
+        let item = clone_item(item)?;
         copy.push((item, separator))?;
     }
     Ok(copy)
 }
 
 #[cycle(copy)]
-fn clone_pair_list<'a>(list: &PairList<Texts<'a>>) -> Result<PairList<Texts<'a>>, AllocError>
+fn clone_pair_list<'a>(list: &PairList<'a>) -> Result<PairList<'a>, AllocError>
     ensures { IfOk result (λ t. view_pair_list texts t ≡ view_pair_list texts list.now) }
 {
     match list {
@@ -298,61 +305,35 @@ fn clone_pair_list<'a>(list: &PairList<Texts<'a>>) -> Result<PairList<Texts<'a>>
 
 #[cycle(copy)]
 #[tactic(auto, using(crate::proofs::Views::view_pairs_is, crate::proofs::Views::view_pairs_made))]
-fn clone_pairs<'a>(pairs: &Pairs<Texts<'a>>) -> Result<Pairs<Texts<'a>>, AllocError>
+fn clone_pairs<'a>(pairs: &Pairs<'a>) -> Result<Pairs<'a>, AllocError>
     ensures { IfOk result (λ t. view_pairs texts t ≡ view_pairs texts pairs.now) }
 {
+    let soc = pairs.soc.clone()?;
     let row = clone_pair_row(&pairs.row)?;
     let last = clone_pair(&pairs.last)?;
-    let last = Box::new(*Box::allocator(&pairs.last), last)?;
-    let soc = pairs.soc.clone()?;
     Ok(Pairs { row, last, soc })
 }
 
 #[cycle(copy)]
-fn clone_pair_row<'a>(
-    row: &Vec<(Kp<Texts<'a>>, Msc<'a>)>,
-) -> Result<Vec<(Kp<Texts<'a>>, Msc<'a>)>, AllocError>
+fn clone_pair_row<'a>(row: &Vec<(Kp<'a>, Msc<'a>)>) -> Result<Vec<(Kp<'a>, Msc<'a>)>, AllocError>
     ensures { IfOk result (λ t. map (seen_pair texts) t.items ≡ map (seen_pair texts) row.now.items) }
 {
     let mut copy = Vec::new(*row.allocator());
     for (pair, separator) in row {
-        let entry = clone_pair_entry(pair, separator)?;
-        copy.push(entry)?;
+        let separator = separator.clone()?;
+        let pair = clone_pair(pair)?;
+        copy.push((pair, separator))?;
     }
     Ok(copy)
 }
 
 #[cycle(copy)]
-fn clone_pair_entry<'a>(
-    pair: &Kp<Texts<'a>>,
-    separator: &Msc<'a>,
-) -> Result<(Kp<Texts<'a>>, Msc<'a>), AllocError>
-    ensures { IfOk result (λ t. seen_pair texts t ≡ seen_pair texts (pair.now, separator.now)) }
-{
-    let pair = clone_pair(pair)?;
-    let separator = separator.clone()?;
-    Ok((pair, separator))
-}
-
-#[cycle(copy)]
-fn clone_pair<'a>(pair: &Kp<Texts<'a>>) -> Result<Kp<Texts<'a>>, AllocError>
+fn clone_pair<'a>(pair: &Kp<'a>) -> Result<Kp<'a>, AllocError>
     ensures { IfOk result (λ t. view_pair texts t ≡ view_pair texts pair.now) }
 {
+    let (before_colon, after_colon) = clone_spaces(&pair.before_colon, &pair.after_colon)?;
     let key = clone_item(&pair.key)?;
     let value = clone_item(&pair.value)?;
-    with_colon(key, &pair.before_colon, &pair.after_colon, value)
-}
-
-/// The key and the value with copies of the spaces round the colon between them.
-fn with_colon<'a>(
-    key: Item<'a>,
-    before: &S<'a>,
-    after: &S<'a>,
-    value: Item<'a>,
-) -> Result<Kp<Texts<'a>>, AllocError>
-    ensures { IfOk result (λ t. view_pair texts t ≡ PairTree (item_tree key.entry) (s_bytes before.now) (s_bytes after.now) (item_tree value.entry)) }
-{
-    let (before_colon, after_colon) = clone_spaces(before, after)?;
     Ok(Kp {
         key,
         before_colon,

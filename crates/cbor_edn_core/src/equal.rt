@@ -1,11 +1,11 @@
 //! Whether two trees are written the same, spaces included.
 ghost use Rattle.std.specs.Prelude.{◌≡◌, ◌↔◌, IsTrue, map};
 ghost use Rattle.cbor_edn_core.specs.Same.{same, same_indicator, same_word, same_named, same_float, same_label, same_head, same_entries, same_pieces, same_laws};
-ghost use Rattle.cbor_edn_core.specs.View.{texts, view_head, view_list, view_items, seen, view_pair_list, view_pairs, view_pair, seen_pair, view_string, view_piece, seen_piece, view_stream, view_strings, seen_string, item_tree, standalone_tree, sequence_tree};
+ghost use Rattle.cbor_edn_core.specs.View.{texts, view_head, view_list, view_items, seen, view_pair_list, view_pairs, view_pair, seen_pair, view_compound, view_string, view_piece, seen_piece, view_stream, view_strings, seen_string, item_tree, standalone_tree, sequence_tree};
 
 use crate::tree::{
-    CborString, Indicator, InnerItem, Item, ItemList, Items, Kp, Label, PairList, Pairs, Piece,
-    Sequence, StandaloneItem, Stream, Strings, Texts,
+    CborString, Compound, Indicator, InnerItem, Item, ItemList, Items, Kp, Label, PairList, Pairs,
+    Piece, Sequence, StandaloneItem, Stream, Strings,
 };
 use crate::word::{NamedSimple, NonFinite};
 use cbor_edn_parts::space::{Ms, Msc, S};
@@ -108,7 +108,7 @@ fn have_same_head(a: &Option<(Indicator, Ms<'_>)>, b: &Option<(Indicator, Ms<'_>
 }
 
 #[cycle(same)]
-#[tactic(auto, using(crate::proofs::Views::view_string_is))]
+#[tactic(auto, using(crate::proofs::Compounds::number_compound, crate::proofs::Compounds::float_compound, crate::proofs::Compounds::named_compound, crate::proofs::Compounds::compound_number, crate::proofs::Compounds::compound_float, crate::proofs::Compounds::compound_named))]
 fn same_item(a: &Item<'_>, b: &Item<'_>) -> bool
     ensures { result ≡ same (item_tree a.now) (item_tree b.now) }
 {
@@ -120,13 +120,24 @@ fn same_item(a: &Item<'_>, b: &Item<'_>) -> bool
             have_same_float(*x, *y) && have_same_indicator(*i, *j)
         }
         (InnerItem::Named(x), InnerItem::Named(y)) => have_same_name(*x, *y),
-        (InnerItem::Enclosed(m, x), InnerItem::Enclosed(n, y)) => {
+        (InnerItem::Compound(x), InnerItem::Compound(y)) => same_compound(x, y),
+        _ => false,
+    }
+}
+
+#[cycle(same)]
+#[tactic(auto, using(crate::proofs::Views::view_string_is))]
+fn same_compound(a: &Compound<'_>, b: &Compound<'_>) -> bool
+    ensures { result ≡ same (view_compound texts a.now) (view_compound texts b.now) }
+{
+    match (a, b) {
+        (Compound::Enclosed(m, x), Compound::Enclosed(n, y)) => {
             have_same_label(m.label, n.label) && same_standalone(x, y)
         }
-        (InnerItem::Array(x), InnerItem::Array(y)) => same_list(x, y),
-        (InnerItem::Map(x), InnerItem::Map(y)) => same_pair_list(x, y),
-        (InnerItem::String(x), InnerItem::String(y)) => same_string(x, y),
-        (InnerItem::Stream(x), InnerItem::Stream(y)) => same_stream(x, y),
+        (Compound::Array(x), Compound::Array(y)) => same_list(x, y),
+        (Compound::Map(x), Compound::Map(y)) => same_pair_list(x, y),
+        (Compound::String(x), Compound::String(y)) => same_string(x, y),
+        (Compound::Stream(x), Compound::Stream(y)) => same_stream(x, y),
         _ => false,
     }
 }
@@ -140,7 +151,7 @@ fn same_standalone(a: &StandaloneItem<'_>, b: &StandaloneItem<'_>) -> bool
 
 #[cycle(same)]
 #[tactic(auto, using(crate::proofs::Rows::same_strings))]
-fn same_string(a: &CborString<Texts<'_>>, b: &CborString<Texts<'_>>) -> bool
+fn same_string(a: &CborString<'_>, b: &CborString<'_>) -> bool
     ensures { result ≡ same (view_string texts a.now) (view_string texts b.now) }
 {
     same_piece_row(&a.row, &b.row) && same_piece(&a.last, &b.last)
@@ -148,10 +159,7 @@ fn same_string(a: &CborString<Texts<'_>>, b: &CborString<Texts<'_>>) -> bool
 
 #[cycle(same)]
 #[tactic(auto, using(crate::proofs::Rows::pieces_as_long))]
-fn same_piece_row(
-    a: &[(Piece<Texts<'_>>, S<'_>, S<'_>)],
-    b: &[(Piece<Texts<'_>>, S<'_>, S<'_>)],
-) -> bool
+fn same_piece_row(a: &[(Piece<'_>, S<'_>, S<'_>)], b: &[(Piece<'_>, S<'_>, S<'_>)]) -> bool
     ensures { result ≡ same_pieces (map (seen_piece texts) a.now) (map (seen_piece texts) b.now) }
 {
     if a.len() != b.len() {
@@ -168,7 +176,7 @@ fn same_piece_row(
 }
 
 #[cycle(same)]
-fn same_piece(a: &Piece<Texts<'_>>, b: &Piece<Texts<'_>>) -> bool
+fn same_piece(a: &Piece<'_>, b: &Piece<'_>) -> bool
     ensures { result ≡ same (view_piece texts a.now) (view_piece texts b.now) }
 {
     match (a, b) {
@@ -195,7 +203,7 @@ fn same_sequence(a: &Sequence<'_>, b: &Sequence<'_>) -> bool
 
 #[cycle(same)]
 #[tactic(auto, using(crate::proofs::Views::view_stream_is))]
-fn same_stream(a: &Stream<Texts<'_>>, b: &Stream<Texts<'_>>) -> bool
+fn same_stream(a: &Stream<'_>, b: &Stream<'_>) -> bool
     ensures { result ≡ same (view_stream texts a.now) (view_stream texts b.now) }
 {
     a.ms == b.ms && same_strings(&a.strings, &b.strings)
@@ -203,7 +211,7 @@ fn same_stream(a: &Stream<Texts<'_>>, b: &Stream<Texts<'_>>) -> bool
 
 #[cycle(same)]
 #[tactic(auto, using(crate::proofs::Views::view_strings_is, crate::proofs::Rows::same_lists))]
-fn same_strings(a: &Strings<Texts<'_>>, b: &Strings<Texts<'_>>) -> bool
+fn same_strings(a: &Strings<'_>, b: &Strings<'_>) -> bool
     ensures { result ≡ same (view_strings texts a.now) (view_strings texts b.now) }
 {
     same_string_row(&a.row, &b.row) && same_string(&a.last, &b.last) && a.soc == b.soc
@@ -211,10 +219,7 @@ fn same_strings(a: &Strings<Texts<'_>>, b: &Strings<Texts<'_>>) -> bool
 
 #[cycle(same)]
 #[tactic(auto, using(crate::proofs::Rows::rows_as_long))]
-fn same_string_row(
-    a: &[(CborString<Texts<'_>>, Msc<'_>)],
-    b: &[(CborString<Texts<'_>>, Msc<'_>)],
-) -> bool
+fn same_string_row(a: &[(CborString<'_>, Msc<'_>)], b: &[(CborString<'_>, Msc<'_>)]) -> bool
     ensures { result ≡ same_entries (map (seen_string texts) a.now) (map (seen_string texts) b.now) }
 {
     if a.len() != b.len() {
@@ -231,7 +236,7 @@ fn same_string_row(
 }
 
 #[cycle(same)]
-fn same_list(a: &ItemList<Texts<'_>>, b: &ItemList<Texts<'_>>) -> bool
+fn same_list(a: &ItemList<'_>, b: &ItemList<'_>) -> bool
     ensures { result ≡ same (view_list texts a.now) (view_list texts b.now) }
 {
     match (a, b) {
@@ -256,7 +261,7 @@ fn same_list(a: &ItemList<Texts<'_>>, b: &ItemList<Texts<'_>>) -> bool
 
 #[cycle(same)]
 #[tactic(auto, using(crate::proofs::Views::view_items_is, crate::proofs::Rows::same_lists))]
-fn same_items(a: &Items<Texts<'_>>, b: &Items<Texts<'_>>) -> bool
+fn same_items(a: &Items<'_>, b: &Items<'_>) -> bool
     ensures { result ≡ same (view_items texts a.now) (view_items texts b.now) }
 {
     same_row(&a.row, &b.row) && same_item(&a.last, &b.last) && a.soc == b.soc
@@ -281,7 +286,7 @@ fn same_row(a: &[(Item<'_>, Msc<'_>)], b: &[(Item<'_>, Msc<'_>)]) -> bool
 }
 
 #[cycle(same)]
-fn same_pair_list(a: &PairList<Texts<'_>>, b: &PairList<Texts<'_>>) -> bool
+fn same_pair_list(a: &PairList<'_>, b: &PairList<'_>) -> bool
     ensures { result ≡ same (view_pair_list texts a.now) (view_pair_list texts b.now) }
 {
     match (a, b) {
@@ -306,7 +311,7 @@ fn same_pair_list(a: &PairList<Texts<'_>>, b: &PairList<Texts<'_>>) -> bool
 
 #[cycle(same)]
 #[tactic(auto, using(crate::proofs::Views::view_pairs_is, crate::proofs::Rows::same_lists))]
-fn same_pairs(a: &Pairs<Texts<'_>>, b: &Pairs<Texts<'_>>) -> bool
+fn same_pairs(a: &Pairs<'_>, b: &Pairs<'_>) -> bool
     ensures { result ≡ same (view_pairs texts a.now) (view_pairs texts b.now) }
 {
     same_pair_row(&a.row, &b.row) && same_pair(&a.last, &b.last) && a.soc == b.soc
@@ -314,7 +319,7 @@ fn same_pairs(a: &Pairs<Texts<'_>>, b: &Pairs<Texts<'_>>) -> bool
 
 #[cycle(same)]
 #[tactic(auto, using(crate::proofs::Rows::rows_as_long))]
-fn same_pair_row(a: &[(Kp<Texts<'_>>, Msc<'_>)], b: &[(Kp<Texts<'_>>, Msc<'_>)]) -> bool
+fn same_pair_row(a: &[(Kp<'_>, Msc<'_>)], b: &[(Kp<'_>, Msc<'_>)]) -> bool
     ensures { result ≡ same_entries (map (seen_pair texts) a.now) (map (seen_pair texts) b.now) }
 {
     if a.len() != b.len() {
@@ -331,7 +336,7 @@ fn same_pair_row(a: &[(Kp<Texts<'_>>, Msc<'_>)], b: &[(Kp<Texts<'_>>, Msc<'_>)])
 }
 
 #[cycle(same)]
-fn same_pair(a: &Kp<Texts<'_>>, b: &Kp<Texts<'_>>) -> bool
+fn same_pair(a: &Kp<'_>, b: &Kp<'_>) -> bool
     ensures { result ≡ same (view_pair texts a.now) (view_pair texts b.now) }
 {
     same_item(&a.key, &b.key)

@@ -200,10 +200,9 @@ impl<'a> Sequence<'a> {
         ensures word { IfTold result (λ e. sequence_at trees limit bytes.now ≡ Err e) }
     {
         let (found, _) = items_until(alloc, bytes, limit, Stop::EndOfData)?;
-        let items = finish_items(alloc, found)?;
         Ok(Sequence {
             before: S::empty(),
-            items,
+            items: finish_items(found),
         })
     }
 }

@@ -20,8 +20,8 @@ ghost use Rattle.cbor_edn_core.specs.View.{texts, item_tree, view_list, view_ite
 
 use crate::lookahead::{Opening, closes, is_at, joins, marked, opening_at, tag_number};
 use crate::tree::{
-    CborString, Front, InnerItem, Item, ItemList, Items, Kp, PairList, Pairs, Piece, Sequence,
-    StandaloneItem, Stream, Strings, Texts,
+    CborString, Compound, Front, InnerItem, Item, ItemList, Items, Kp, PairList, Pairs, Piece,
+    Sequence, StandaloneItem, Stream, Strings,
 };
 use crate::word::Word;
 use cbor_edn_parts::error::{Fault, ParseErrorKind, Refusal};
@@ -147,17 +147,12 @@ fn enclosed<'a>(
     if limit == 0 {
         return Err(Fault::Told(Refusal::too_deep(from)));
     }
-    let (item, to) = standalone(alloc, text, from + 1, limit - 1, looks)?;
+    let (content, to) = standalone(alloc, text, from + 1, limit - 1, looks)?;
     if !is_at(text, to, b')', looks) {
         return Err(Fault::Told(Refusal::invalid(to)));
     }
-    let item = Box::new(alloc, item)?;
-    Ok((
-        Item {
-            inner: InnerItem::Enclosed(front, item),
-        },
-        unspaced(to + 1),
-    ))
+    let item = Item::compound(alloc, Compound::Enclosed(front, content))?;
+    Ok((item, unspaced(to + 1)))
 }
 
 /// An end behind which no space is read.
@@ -190,12 +185,8 @@ fn bracketed<'a>(
     if !is_at(text, to, b']', looks) {
         return Err(Fault::Told(Refusal::invalid(to)));
     }
-    Ok((
-        Item {
-            inner: InnerItem::Array(list),
-        },
-        unspaced(to + 1),
-    ))
+    let item = Item::compound(alloc, Compound::Array(list))?;
+    Ok((item, unspaced(to + 1)))
 }
 
 /// A map with its braces.
@@ -221,12 +212,8 @@ fn braced<'a>(
     if !is_at(text, to, b'}', looks) {
         return Err(Fault::Told(Refusal::invalid(to)));
     }
-    Ok((
-        Item {
-            inner: InnerItem::Map(list),
-        },
-        unspaced(to + 1),
-    ))
+    let item = Item::compound(alloc, Compound::Map(list))?;
+    Ok((item, unspaced(to + 1)))
 }
 
 /// A string of indefinite length with its parentheses.
@@ -246,12 +233,8 @@ fn chunked<'a>(
     ensures cost { CostsEnd 12 4 12 (text_bytes text.now) (from + 1) looks.old.count looks.new.count result }
 {
     let (stream, to) = stream(alloc, text, from + 1, limit, looks)?;
-    Ok((
-        Item {
-            inner: InnerItem::Stream(stream),
-        },
-        unspaced(to),
-    ))
+    let item = Item::compound(alloc, Compound::Stream(stream))?;
+    Ok((item, unspaced(to)))
 }
 
 /// A string.
@@ -271,12 +254,8 @@ fn joined<'a>(
     ensures cost { CostsEndAhead 12 4 8 (text_bytes text.now) from looks.old.count looks.new.count result }
 {
     let (string, end) = string(alloc, text, from, limit, looks)?;
-    Ok((
-        Item {
-            inner: InnerItem::String(string),
-        },
-        end,
-    ))
+    let item = Item::compound(alloc, Compound::String(string))?;
+    Ok((item, end))
 }
 
 /// What stands between the brackets of an array.
@@ -287,7 +266,7 @@ fn array<'a>(
     from: usize,
     limit: usize,
     looks: &mut Looks,
-) -> Result<(ItemList<Texts<'a>>, usize), Fault<Refusal>>
+) -> Result<(ItemList<'a>, usize), Fault<Refusal>>
     requires { IsCharBoundary (text_bytes text.now) from }
     ensures value { Reads (view_list texts) (text_bytes text.now) result (reads limit (Inside Bracket) (drop from (text_bytes text.now))) }
     ensures borrowed { IfOk result (λ p. BorrowsList p.0) }
@@ -314,7 +293,7 @@ fn map<'a>(
     from: usize,
     limit: usize,
     looks: &mut Looks,
-) -> Result<(PairList<Texts<'a>>, usize), Fault<Refusal>>
+) -> Result<(PairList<'a>, usize), Fault<Refusal>>
     requires { IsCharBoundary (text_bytes text.now) from }
     ensures value { Reads (view_pair_list texts) (text_bytes text.now) result (reads limit (Inside Brace) (drop from (text_bytes text.now))) }
     ensures borrowed { IfOk result (λ p. BorrowsPairList p.0) }
@@ -341,7 +320,7 @@ fn items<'a>(
     from: usize,
     limit: usize,
     looks: &mut Looks,
-) -> Result<(Items<Texts<'a>>, usize), Fault<Refusal>>
+) -> Result<(Items<'a>, usize), Fault<Refusal>>
     requires { IsCharBoundary (text_bytes text.now) from }
     ensures value { Reads (view_items texts) (text_bytes text.now) result (reads limit (Rest Elements) (drop from (text_bytes text.now))) }
     ensures borrowed { IfOk result (λ p. BorrowsItems p.0) }
@@ -354,25 +333,12 @@ fn items<'a>(
         let read = item(alloc, text, at, limit, looks)?;
         let (item, soc, next) = parted(text, read, looks)?;
         if closes(text, next, looks) {
-            return Ok((last_item(alloc, row, item, soc)?, next));
+            let last = item;
+            return Ok((Items { row, last, soc }, next));
         }
         push_entry(&mut row, item, soc, next)?;
         at = next;
     }
-}
-
-/// The row with its last entry.
-fn last_item<'a>(
-    alloc: Global,
-    row: Vec<(Item<'a>, Msc<'a>)>,
-    last: Item<'a>,
-    soc: Soc<'a>,
-) -> Result<Items<Texts<'a>>, AllocError>
-    ensures view { IfOk result (λ t. view_items texts t ≡ row_onto texts row.entry.items (LastTree (element_tree last.entry) (soc_bytes soc.entry))) }
-    ensures borrowed { BorrowsEach row.entry.items → BorrowsItem last.entry → BorrowsSoc soc.entry → IfOk result BorrowsItems }
-{
-    let last = Box::new(alloc, last)?;
-    Ok(Items { row, last, soc })
 }
 
 /// Pairs, one or more, each with the space behind it.
@@ -383,7 +349,7 @@ fn pairs<'a>(
     from: usize,
     limit: usize,
     looks: &mut Looks,
-) -> Result<(Pairs<Texts<'a>>, usize), Fault<Refusal>>
+) -> Result<(Pairs<'a>, usize), Fault<Refusal>>
     requires { IsCharBoundary (text_bytes text.now) from }
     ensures value { Reads (view_pairs texts) (text_bytes text.now) result (reads limit (Rest Keyed) (drop from (text_bytes text.now))) }
     ensures borrowed { IfOk result (λ p. BorrowsPairs p.0) }
@@ -396,25 +362,12 @@ fn pairs<'a>(
         let read = pair(alloc, text, at, limit, looks)?;
         let (pair, soc, next) = parted(text, read, looks)?;
         if closes(text, next, looks) {
-            return Ok((last_pair(alloc, row, pair, soc)?, next));
+            let last = pair;
+            return Ok((Pairs { row, last, soc }, next));
         }
         push_entry(&mut row, pair, soc, next)?;
         at = next;
     }
-}
-
-/// The row with its last entry.
-fn last_pair<'a>(
-    alloc: Global,
-    row: Vec<(Kp<Texts<'a>>, Msc<'a>)>,
-    last: Kp<Texts<'a>>,
-    soc: Soc<'a>,
-) -> Result<Pairs<Texts<'a>>, AllocError>
-    ensures view { IfOk result (λ t. view_pairs texts t ≡ pair_row_onto texts row.entry.items (LastTree (view_pair texts last.entry) (soc_bytes soc.entry))) }
-    ensures borrowed { BorrowsEachPair row.entry.items → BorrowsPair last.entry → BorrowsSoc soc.entry → IfOk result BorrowsPairs }
-{
-    let last = Box::new(alloc, last)?;
-    Ok(Pairs { row, last, soc })
 }
 
 /// Strings, one or more, each with the space behind it.
@@ -425,7 +378,7 @@ fn strings<'a>(
     from: usize,
     limit: usize,
     looks: &mut Looks,
-) -> Result<(Strings<Texts<'a>>, usize), Fault<Refusal>>
+) -> Result<(Strings<'a>, usize), Fault<Refusal>>
     requires { IsCharBoundary (text_bytes text.now) from }
     ensures value { Reads (view_strings texts) (text_bytes text.now) result (reads limit (Rest Chunks) (drop from (text_bytes text.now))) }
     ensures borrowed { IfOk result (λ p. BorrowsStrings p.0) }
@@ -438,25 +391,12 @@ fn strings<'a>(
         let read = string(alloc, text, at, limit, looks)?;
         let (string, soc, next) = parted(text, read, looks)?;
         if closes(text, next, looks) {
-            return Ok((last_string(alloc, row, string, soc)?, next));
+            let last = string;
+            return Ok((Strings { row, last, soc }, next));
         }
         push_entry(&mut row, string, soc, next)?;
         at = next;
     }
-}
-
-/// The row with its last entry.
-fn last_string<'a>(
-    alloc: Global,
-    row: Vec<(CborString<Texts<'a>>, Msc<'a>)>,
-    last: CborString<Texts<'a>>,
-    soc: Soc<'a>,
-) -> Result<Strings<Texts<'a>>, AllocError>
-    ensures view { IfOk result (λ t. view_strings texts t ≡ string_row_onto texts row.entry.items (LastTree (chunk_tree last.entry) (soc_bytes soc.entry))) }
-    ensures borrowed { BorrowsEachString row.entry.items → BorrowsString last.entry → BorrowsSoc soc.entry → IfOk result BorrowsStrings }
-{
-    let last = Box::new(alloc, last)?;
-    Ok(Strings { row, last, soc })
 }
 
 /// An entry that was read, with the space and the comma behind it.
@@ -503,7 +443,7 @@ fn pair<'a>(
     from: usize,
     limit: usize,
     looks: &mut Looks,
-) -> Result<(Kp<Texts<'a>>, End), Fault<Refusal>>
+) -> Result<(Kp<'a>, End), Fault<Refusal>>
     requires { IsCharBoundary (text_bytes text.now) from }
     ensures value { ReadsEnd (view_pair texts) (text_bytes text.now) result (reads limit (OneEntry Keyed) (drop from (text_bytes text.now))) }
     ensures borrowed { IfOk result (λ p. BorrowsPair p.0) }
@@ -528,7 +468,7 @@ fn valued<'a>(
     key: Item<'a>,
     before_colon: S<'a>,
     looks: &mut Looks,
-) -> Result<(Kp<Texts<'a>>, End), Fault<Refusal>>
+) -> Result<(Kp<'a>, End), Fault<Refusal>>
     requires { IsCharBoundary (text_bytes text.now) from }
     ensures value { ReadsEnd (view_pair texts) (text_bytes text.now) result (behind_colon limit (item_tree key.entry) (s_bytes before_colon.entry) (drop from (text_bytes text.now))) }
     ensures borrowed { BorrowsItem key.entry → BorrowsS before_colon.entry → IfOk result (λ p. BorrowsPair p.0) }
@@ -556,7 +496,7 @@ fn stream<'a>(
     from: usize,
     limit: usize,
     looks: &mut Looks,
-) -> Result<(Stream<Texts<'a>>, usize), Fault<Refusal>>
+) -> Result<(Stream<'a>, usize), Fault<Refusal>>
     requires { IsCharBoundary (text_bytes text.now) from }
     ensures value { Reads (view_stream texts) (text_bytes text.now) result (stream_item reads limit (drop from (text_bytes text.now))) }
     ensures borrowed { IfOk result (λ p. BorrowsStream p.0) }
@@ -585,7 +525,7 @@ fn string<'a>(
     from: usize,
     limit: usize,
     looks: &mut Looks,
-) -> Result<(CborString<Texts<'a>>, End), Fault<Refusal>>
+) -> Result<(CborString<'a>, End), Fault<Refusal>>
     requires { IsCharBoundary (text_bytes text.now) from }
     ensures value { ReadsEnd (view_string texts) (text_bytes text.now) result (reads limit OneString (drop from (text_bytes text.now))) }
     ensures borrowed { IfOk result (λ p. BorrowsString p.0) }
@@ -618,7 +558,7 @@ fn piece<'a>(
     from: usize,
     limit: usize,
     looks: &mut Looks,
-) -> Result<(Piece<Texts<'a>>, usize), Fault<Refusal>>
+) -> Result<(Piece<'a>, usize), Fault<Refusal>>
     requires { IsCharBoundary (text_bytes text.now) from }
     ensures value { Reads (view_piece texts) (text_bytes text.now) result (reads limit OnePiece (drop from (text_bytes text.now))) }
     ensures borrowed { IfOk result (λ p. BorrowsPiece p.0) }
@@ -645,7 +585,7 @@ fn embedded<'a>(
     from: usize,
     limit: usize,
     looks: &mut Looks,
-) -> Result<(Piece<Texts<'a>>, usize), Fault<Refusal>>
+) -> Result<(Piece<'a>, usize), Fault<Refusal>>
     requires begins { IsCharBoundary (text_bytes text.now) from }
     requires opens { IsByteAt (text_bytes text.now) from 60 }
     ensures value { Reads (view_piece texts) (text_bytes text.now) result (reads limit OnePiece (drop from (text_bytes text.now))) }

@@ -5,6 +5,7 @@
 pub mod cbor;
 mod clone;
 mod convert;
+mod debug;
 mod equal;
 pub mod from_cbor;
 mod grammar;

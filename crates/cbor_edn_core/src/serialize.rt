@@ -4,11 +4,11 @@ ghost use Rattle.std.specs.String.{string_bytes};
 ghost use Rattle.cbor_edn_parts.specs.Indicator.{indicator_text};
 ghost use Rattle.cbor_edn_core.specs.Trees.{text, label_text, head_text, items};
 ghost use Rattle.cbor_edn_core.specs.Spelling.{Spells, SpellsSequence, SpellsOne};
-ghost use Rattle.cbor_edn_core.specs.View.{texts, view_head, view_list, view_items, row_text, view_pair_list, view_pairs, view_pair, pair_row_text, view_string, view_piece, piece_row_text, view_stream, view_strings, string_row_text, item_tree, standalone_tree, sequence_tree};
+ghost use Rattle.cbor_edn_core.specs.View.{texts, view_head, view_list, view_items, row_text, view_pair_list, view_pairs, view_pair, pair_row_text, view_compound, view_string, view_piece, piece_row_text, view_stream, view_strings, string_row_text, item_tree, standalone_tree, sequence_tree};
 
 use crate::tree::{
-    CborString, Indicator, InnerItem, Item, ItemList, Items, Kp, Label, PairList, Pairs, Piece,
-    Sequence, StandaloneItem, Stream, Strings, Texts,
+    CborString, Compound, Indicator, InnerItem, Item, ItemList, Items, Kp, Label, PairList, Pairs,
+    Piece, Sequence, StandaloneItem, Stream, Strings,
 };
 use cbor_edn_parts::space::{Ms, Msc, S};
 use std::alloc::{AllocError, Global};
@@ -105,7 +105,7 @@ fn push_head(out: &mut String, head: &Option<(Indicator, Ms<'_>)>) -> Result<(),
 }
 
 #[cycle(push)]
-#[tactic(auto, using(crate::proofs::Views::view_string_is, crate::proofs::Texts::text_number, crate::proofs::Texts::text_float, crate::proofs::Texts::text_named, crate::proofs::Texts::text_enclosed, crate::proofs::Texts::text_list, crate::proofs::Texts::text_string, std::proofs::Common::append_assoc))]
+#[tactic(auto, using(crate::proofs::Texts::text_number, crate::proofs::Texts::text_float, crate::proofs::Texts::text_named, std::proofs::Common::append_assoc))]
 fn push_item(out: &mut String, item: &Item<'_>) -> Result<(), AllocError>
     ensures { OnOk result (string_bytes out.new ≡ string_bytes out.old ++ text (item_tree item.now)) }
 {
@@ -119,30 +119,40 @@ fn push_item(out: &mut String, item: &Item<'_>) -> Result<(), AllocError>
             push_indicator(out, *indicator)
         }
         InnerItem::Named(name) => out.push_str(name.as_str()),
-        InnerItem::Enclosed(front, content) => {
+        InnerItem::Compound(compound) => push_compound(out, compound),
+    }
+}
+
+#[cycle(push)]
+#[tactic(auto, using(crate::proofs::Views::view_string_is, crate::proofs::Texts::text_enclosed, crate::proofs::Texts::text_list, crate::proofs::Texts::text_string, std::proofs::Common::append_assoc))]
+fn push_compound(out: &mut String, compound: &Compound<'_>) -> Result<(), AllocError>
+    ensures { OnOk result (string_bytes out.new ≡ string_bytes out.old ++ text (view_compound texts compound.now)) }
+{
+    match compound {
+        Compound::Enclosed(front, content) => {
             push_label(out, front.label)?;
             out.push_str("(")?;
             push_standalone(out, content)?;
             out.push_str(")")
         }
-        InnerItem::Array(list) => {
+        Compound::Array(list) => {
             out.push_str("[")?;
             push_list(out, list)?;
             out.push_str("]")
         }
-        InnerItem::Map(list) => {
+        Compound::Map(list) => {
             out.push_str("{")?;
             push_pair_list(out, list)?;
             out.push_str("}")
         }
-        InnerItem::String(string) => push_string(out, string),
-        InnerItem::Stream(stream) => push_stream(out, stream),
+        Compound::String(string) => push_string(out, string),
+        Compound::Stream(stream) => push_stream(out, stream),
     }
 }
 
 #[cycle(push)]
 #[tactic(auto, using(crate::proofs::Texts::text_pieces, crate::proofs::Texts::text_last_piece, std::proofs::Common::append_assoc))]
-fn push_string(out: &mut String, string: &CborString<Texts<'_>>) -> Result<(), AllocError>
+fn push_string(out: &mut String, string: &CborString<'_>) -> Result<(), AllocError>
     ensures { OnOk result (string_bytes out.new ≡ string_bytes out.old ++ text (view_string texts string.now)) }
 {
     push_piece_row(out, &string.row)?;
@@ -150,10 +160,7 @@ fn push_string(out: &mut String, string: &CborString<Texts<'_>>) -> Result<(), A
 }
 
 #[cycle(push)]
-fn push_piece_row(
-    out: &mut String,
-    row: &[(Piece<Texts<'_>>, S<'_>, S<'_>)],
-) -> Result<(), AllocError>
+fn push_piece_row(out: &mut String, row: &[(Piece<'_>, S<'_>, S<'_>)]) -> Result<(), AllocError>
     ensures { OnOk result (string_bytes out.new ≡ string_bytes out.old ++ piece_row_text texts row.now) }
 {
     for (piece, before, after) in row {
@@ -167,7 +174,7 @@ fn push_piece_row(
 
 #[cycle(push)]
 #[tactic(auto, using(crate::proofs::Texts::text_literal, crate::proofs::Texts::text_dots, crate::proofs::Texts::text_embedded, std::proofs::Common::append_assoc))]
-fn push_piece(out: &mut String, piece: &Piece<Texts<'_>>) -> Result<(), AllocError>
+fn push_piece(out: &mut String, piece: &Piece<'_>) -> Result<(), AllocError>
     ensures { OnOk result (string_bytes out.new ≡ string_bytes out.old ++ text (view_piece texts piece.now)) }
 {
     match piece {
@@ -187,7 +194,7 @@ fn push_piece(out: &mut String, piece: &Piece<Texts<'_>>) -> Result<(), AllocErr
 
 #[cycle(push)]
 #[tactic(auto, using(crate::proofs::Views::view_stream_is, crate::proofs::Texts::text_stream, std::proofs::Common::append_assoc))]
-fn push_stream(out: &mut String, stream: &Stream<Texts<'_>>) -> Result<(), AllocError>
+fn push_stream(out: &mut String, stream: &Stream<'_>) -> Result<(), AllocError>
     ensures { OnOk result (string_bytes out.new ≡ string_bytes out.old ++ text (view_stream texts stream.now)) }
 {
     out.push_str("(_")?;
@@ -198,7 +205,7 @@ fn push_stream(out: &mut String, stream: &Stream<Texts<'_>>) -> Result<(), Alloc
 
 #[cycle(push)]
 #[tactic(auto, using(crate::proofs::Views::view_strings_is, crate::proofs::Texts::text_entries, crate::proofs::Texts::text_last, crate::proofs::Texts::text_chunk, std::proofs::Common::append_assoc))]
-fn push_strings(out: &mut String, strings: &Strings<Texts<'_>>) -> Result<(), AllocError>
+fn push_strings(out: &mut String, strings: &Strings<'_>) -> Result<(), AllocError>
     ensures { OnOk result (string_bytes out.new ≡ string_bytes out.old ++ text (view_strings texts strings.now)) }
 {
     push_string_row(out, &strings.row)?;
@@ -208,10 +215,7 @@ fn push_strings(out: &mut String, strings: &Strings<Texts<'_>>) -> Result<(), Al
 
 #[cycle(push)]
 #[tactic(auto, unfolding(crate::specs::Trees::onto))]
-fn push_string_row(
-    out: &mut String,
-    row: &[(CborString<Texts<'_>>, Msc<'_>)],
-) -> Result<(), AllocError>
+fn push_string_row(out: &mut String, row: &[(CborString<'_>, Msc<'_>)]) -> Result<(), AllocError>
     ensures { OnOk result (string_bytes out.new ≡ string_bytes out.old ++ string_row_text texts row.now) }
 {
     for (string, separator) in row {
@@ -223,7 +227,7 @@ fn push_string_row(
 
 #[cycle(push)]
 #[tactic(auto, using(crate::proofs::Texts::text_empty, crate::proofs::Texts::text_full, std::proofs::Common::append_assoc))]
-fn push_list(out: &mut String, list: &ItemList<Texts<'_>>) -> Result<(), AllocError>
+fn push_list(out: &mut String, list: &ItemList<'_>) -> Result<(), AllocError>
     ensures { OnOk result (string_bytes out.new ≡ string_bytes out.old ++ text (view_list texts list.now)) }
 {
     match list {
@@ -241,7 +245,7 @@ fn push_list(out: &mut String, list: &ItemList<Texts<'_>>) -> Result<(), AllocEr
 
 #[cycle(push)]
 #[tactic(auto, using(crate::proofs::Views::view_items_is, crate::proofs::Texts::text_entries, crate::proofs::Texts::text_last, crate::proofs::Texts::text_element, std::proofs::Common::append_assoc))]
-fn push_items(out: &mut String, items: &Items<Texts<'_>>) -> Result<(), AllocError>
+fn push_items(out: &mut String, items: &Items<'_>) -> Result<(), AllocError>
     ensures { OnOk result (string_bytes out.new ≡ string_bytes out.old ++ text (view_items texts items.now)) }
 {
     push_row(out, &items.row)?;
@@ -263,7 +267,7 @@ fn push_row(out: &mut String, row: &[(Item<'_>, Msc<'_>)]) -> Result<(), AllocEr
 
 #[cycle(push)]
 #[tactic(auto, using(crate::proofs::Texts::text_empty, crate::proofs::Texts::text_full, std::proofs::Common::append_assoc))]
-fn push_pair_list(out: &mut String, list: &PairList<Texts<'_>>) -> Result<(), AllocError>
+fn push_pair_list(out: &mut String, list: &PairList<'_>) -> Result<(), AllocError>
     ensures { OnOk result (string_bytes out.new ≡ string_bytes out.old ++ text (view_pair_list texts list.now)) }
 {
     match list {
@@ -281,7 +285,7 @@ fn push_pair_list(out: &mut String, list: &PairList<Texts<'_>>) -> Result<(), Al
 
 #[cycle(push)]
 #[tactic(auto, using(crate::proofs::Views::view_pairs_is, crate::proofs::Texts::text_entries, crate::proofs::Texts::text_last, std::proofs::Common::append_assoc))]
-fn push_pairs(out: &mut String, pairs: &Pairs<Texts<'_>>) -> Result<(), AllocError>
+fn push_pairs(out: &mut String, pairs: &Pairs<'_>) -> Result<(), AllocError>
     ensures { OnOk result (string_bytes out.new ≡ string_bytes out.old ++ text (view_pairs texts pairs.now)) }
 {
     push_pair_row(out, &pairs.row)?;
@@ -290,7 +294,7 @@ fn push_pairs(out: &mut String, pairs: &Pairs<Texts<'_>>) -> Result<(), AllocErr
 }
 
 #[cycle(push)]
-fn push_pair_row(out: &mut String, row: &[(Kp<Texts<'_>>, Msc<'_>)]) -> Result<(), AllocError>
+fn push_pair_row(out: &mut String, row: &[(Kp<'_>, Msc<'_>)]) -> Result<(), AllocError>
     ensures { OnOk result (string_bytes out.new ≡ string_bytes out.old ++ pair_row_text texts row.now) }
 {
     for (pair, separator) in row {
@@ -302,7 +306,7 @@ fn push_pair_row(out: &mut String, row: &[(Kp<Texts<'_>>, Msc<'_>)]) -> Result<(
 
 #[cycle(push)]
 #[tactic(auto, using(crate::proofs::Texts::text_pair, std::proofs::Common::append_assoc))]
-fn push_pair(out: &mut String, pair: &Kp<Texts<'_>>) -> Result<(), AllocError>
+fn push_pair(out: &mut String, pair: &Kp<'_>) -> Result<(), AllocError>
     ensures { OnOk result (string_bytes out.new ≡ string_bytes out.old ++ text (view_pair texts pair.now)) }
 {
     push_item(out, &pair.key)?;

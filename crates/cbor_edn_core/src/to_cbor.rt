@@ -4,7 +4,7 @@ ghost use Rattle.cbor_edn_parts.specs.Contents.{literal_content};
 ghost use Rattle.cbor_edn_parts.specs.Leaves.{literal_bytes, number_bytes};
 ghost use Rattle.cbor_edn_core.specs.Items as nodes;
 ghost use Rattle.cbor_edn_core.specs.Trees as trees;
-ghost use Rattle.cbor_edn_core.specs.View.{texts, view_list, view_items, view_pair_list, view_pairs, view_pair, view_head, view_piece, view_string, view_strings, seen, seen_pair, seen_piece, seen_string, item_tree, standalone_tree, sequence_tree};
+ghost use Rattle.cbor_edn_core.specs.View.{texts, view_list, view_items, view_pair_list, view_pairs, view_pair, view_head, view_compound, view_piece, view_string, view_strings, seen, seen_pair, seen_piece, seen_string, item_tree, standalone_tree, sequence_tree};
 ghost use Rattle.cbor_edn_core.specs.Value.{AreBytes, Value, Values, encoding, encodings, pair_encodings, Enc, EncAll};
 ghost use Rattle.cbor_edn_core.specs.Meaning as meaning;
 ghost use Rattle.cbor_edn_core.specs.Meaning.{means, length_of};
@@ -17,8 +17,8 @@ use crate::cbor::{
     push_marked_head, push_simple, push_string, same_kind, simple_number, string_major,
 };
 use crate::tree::{
-    CborString, InnerItem, Item, ItemList, Items, Kp, Label, PairList, Pairs, Piece, Sequence,
-    StandaloneItem, Strings, Texts,
+    CborString, Compound, InnerItem, Item, ItemList, Items, Kp, Label, PairList, Pairs, Piece,
+    Sequence, StandaloneItem, Strings,
 };
 use cbor_edn_parts::error::{Fault, InconsistentEdn};
 use cbor_edn_parts::indicator::Indicator;
@@ -72,11 +72,21 @@ fn push_item(out: &mut Vec<u8>, item: &Item<'_>) -> Result<(), Fault<Inconsisten
         InnerItem::Number(number, indicator) => push_number(out, number, *indicator),
         InnerItem::NonFinite(float, indicator) => push_float(out, *float, *indicator),
         InnerItem::Named(name) => Ok(push_simple(out, simple_number(*name))?),
-        InnerItem::Enclosed(front, content) => push_enclosed(out, front.label, content),
-        InnerItem::Array(list) => push_array(out, list),
-        InnerItem::Map(list) => push_map(out, list),
-        InnerItem::String(string) => push_pieces(out, string),
-        InnerItem::Stream(stream) => push_stream(out, &stream.strings),
+        InnerItem::Compound(compound) => push_compound(out, compound),
+    }
+}
+
+#[cycle(encode)]
+#[tactic(auto, unfolding(crate::specs::Trees::items))]
+fn push_compound(out: &mut Vec<u8>, compound: &Compound<'_>) -> Result<(), Fault<InconsistentEdn>>
+    ensures { Encodes encoding (means (trees.items (view_compound texts compound.now))) out.old.items out.new.items result }
+{
+    match compound {
+        Compound::Enclosed(front, content) => push_enclosed(out, front.label, content),
+        Compound::Array(list) => push_array(out, list),
+        Compound::Map(list) => push_map(out, list),
+        Compound::String(string) => push_pieces(out, string),
+        Compound::Stream(stream) => push_stream(out, &stream.strings),
     }
 }
 
@@ -99,7 +109,7 @@ fn push_enclosed(
 }
 
 /// Writes the simple value whose number an item is. Fails where the item is no such number.
-#[tactic(auto, unfolding(crate::specs::Trees::items))]
+#[tactic(auto, using(crate::proofs::Compounds::compound_no_number), unfolding(crate::specs::Trees::items))]
 fn push_numeric(out: &mut Vec<u8>, item: &Item<'_>) -> Result<(), Fault<InconsistentEdn>>
     ensures { Encodes encoding (meaning.means_simple (trees.items (item_tree item.now))) out.old.items out.new.items result }
 {
@@ -176,7 +186,7 @@ fn push_empty(
 }
 
 #[cycle(encode)]
-fn push_array(out: &mut Vec<u8>, list: &ItemList<Texts<'_>>) -> Result<(), Fault<InconsistentEdn>>
+fn push_array(out: &mut Vec<u8>, list: &ItemList<'_>) -> Result<(), Fault<InconsistentEdn>>
     ensures { let l = trees.items (view_list texts list.now) in Encodes encoding (means (nodes.Listed nodes.Array l.0 l.1)) out.old.items out.new.items result }
 {
     match list {
@@ -193,7 +203,7 @@ fn push_array(out: &mut Vec<u8>, list: &ItemList<Texts<'_>>) -> Result<(), Fault
 }
 
 #[cycle(encode)]
-fn push_items(out: &mut Vec<u8>, items: &Items<Texts<'_>>) -> Result<(), Fault<InconsistentEdn>>
+fn push_items(out: &mut Vec<u8>, items: &Items<'_>) -> Result<(), Fault<InconsistentEdn>>
     ensures { Encodes encodings (means (trees.items (view_items texts items.now))) out.old.items out.new.items result }
 {
     push_row(out, &items.row)?;
@@ -211,7 +221,7 @@ fn push_row(out: &mut Vec<u8>, row: &[(Item<'_>, Msc<'_>)]) -> Result<(), Fault<
 }
 
 #[cycle(encode)]
-fn push_map(out: &mut Vec<u8>, list: &PairList<Texts<'_>>) -> Result<(), Fault<InconsistentEdn>>
+fn push_map(out: &mut Vec<u8>, list: &PairList<'_>) -> Result<(), Fault<InconsistentEdn>>
     ensures { let l = trees.items (view_pair_list texts list.now) in Encodes encoding (means (nodes.Listed nodes.Map l.0 l.1)) out.old.items out.new.items result }
 {
     match list {
@@ -228,7 +238,7 @@ fn push_map(out: &mut Vec<u8>, list: &PairList<Texts<'_>>) -> Result<(), Fault<I
 }
 
 #[cycle(encode)]
-fn push_pairs(out: &mut Vec<u8>, pairs: &Pairs<Texts<'_>>) -> Result<(), Fault<InconsistentEdn>>
+fn push_pairs(out: &mut Vec<u8>, pairs: &Pairs<'_>) -> Result<(), Fault<InconsistentEdn>>
     ensures { Encodes pair_encodings (means (trees.items (view_pairs texts pairs.now))) out.old.items out.new.items result }
 {
     push_pair_row(out, &pairs.row)?;
@@ -236,10 +246,7 @@ fn push_pairs(out: &mut Vec<u8>, pairs: &Pairs<Texts<'_>>) -> Result<(), Fault<I
 }
 
 #[cycle(encode)]
-fn push_pair_row(
-    out: &mut Vec<u8>,
-    row: &[(Kp<Texts<'_>>, Msc<'_>)],
-) -> Result<(), Fault<InconsistentEdn>>
+fn push_pair_row(out: &mut Vec<u8>, row: &[(Kp<'_>, Msc<'_>)]) -> Result<(), Fault<InconsistentEdn>>
     ensures { Encodes pair_encodings (means (row_items (map (seen_pair texts) row.now))) out.old.items out.new.items result }
 {
     for (pair, _) in row {
@@ -249,7 +256,7 @@ fn push_pair_row(
 }
 
 #[cycle(encode)]
-fn push_pair(out: &mut Vec<u8>, pair: &Kp<Texts<'_>>) -> Result<(), Fault<InconsistentEdn>>
+fn push_pair(out: &mut Vec<u8>, pair: &Kp<'_>) -> Result<(), Fault<InconsistentEdn>>
     ensures { Encodes (entry_encoding nodes.Pairs) (means (trees.items (view_pair texts pair.now))) out.old.items out.new.items result }
 {
     push_item(out, &pair.key)?;
@@ -269,10 +276,7 @@ fn push_sequence(out: &mut Vec<u8>, sequence: &Sequence<'_>) -> Result<(), Fault
 
 /// Writes a string by itself.
 #[cycle(encode)]
-fn push_pieces(
-    out: &mut Vec<u8>,
-    string: &CborString<Texts<'_>>,
-) -> Result<(), Fault<InconsistentEdn>>
+fn push_pieces(out: &mut Vec<u8>, string: &CborString<'_>) -> Result<(), Fault<InconsistentEdn>>
     ensures { Encodes encoding (means (nodes.String (trees.items (view_string texts string.now)))) out.old.items out.new.items result }
 {
     let indicator = string_mark(string)?;
@@ -282,10 +286,7 @@ fn push_pieces(
 
 /// Writes one of the strings of a stream.
 #[cycle(encode)]
-fn push_part(
-    out: &mut Vec<u8>,
-    string: &CborString<Texts<'_>>,
-) -> Result<(), Fault<InconsistentEdn>>
+fn push_part(out: &mut Vec<u8>, string: &CborString<'_>) -> Result<(), Fault<InconsistentEdn>>
     ensures { Encodes (entry_encoding nodes.Strings) (means (nodes.Chunk (trees.items (view_string texts string.now)))) out.old.items out.new.items result }
 {
     let indicator = string_mark(string)?;
@@ -294,7 +295,7 @@ fn push_part(
 }
 
 /// The indicators of the pieces as one. Fails where one of several pieces has one.
-fn string_mark(string: &CborString<Texts<'_>>) -> Result<Option<Indicator>, Fault<InconsistentEdn>>
+fn string_mark(string: &CborString<'_>) -> Result<Option<Indicator>, Fault<InconsistentEdn>>
     ensures { Finds (meaning.pieces_mark (trees.items (view_string texts string.now))) result }
 {
     let indicator = piece_mark(&string.last);
@@ -308,7 +309,7 @@ fn string_mark(string: &CborString<Texts<'_>>) -> Result<Option<Indicator>, Faul
 }
 
 #[tactic(auto, unfolding(crate::specs::Trees::items))]
-fn piece_mark(piece: &Piece<Texts<'_>>) -> Option<Indicator>
+fn piece_mark(piece: &Piece<'_>) -> Option<Indicator>
     ensures { result ≡ meaning.piece_mark (trees.items (view_piece texts piece.now)) }
 {
     match piece {
@@ -317,7 +318,7 @@ fn piece_mark(piece: &Piece<Texts<'_>>) -> Option<Indicator>
     }
 }
 
-fn are_unmarked(row: &[(Piece<Texts<'_>>, S<'_>, S<'_>)]) -> bool
+fn are_unmarked(row: &[(Piece<'_>, S<'_>, S<'_>)]) -> bool
     ensures { result ≡ calls.no_marks (map (seen_piece texts) row.now) }
 {
     for (piece, _, _) in row {
@@ -332,7 +333,7 @@ fn are_unmarked(row: &[(Piece<Texts<'_>>, S<'_>, S<'_>)]) -> bool
 #[cycle(encode)]
 fn content_of(
     alloc: Global,
-    string: &CborString<Texts<'_>>,
+    string: &CborString<'_>,
 ) -> Result<(StringKind, Vec<u8>), Fault<InconsistentEdn>>
     ensures content { IfOk result (λ p. means (trees.items (view_string texts string.now)) ≡ Some (p.0, p.1.items)) }
     ensures none { IfTold result (NoEncoding (means (trees.items (view_string texts string.now)))) }
@@ -347,10 +348,7 @@ fn content_of(
 
 /// Writes the bytes of the pieces, and answers the kind of the first.
 #[cycle(encode)]
-fn gather(
-    out: &mut Vec<u8>,
-    string: &CborString<Texts<'_>>,
-) -> Result<StringKind, Fault<InconsistentEdn>>
+fn gather(out: &mut Vec<u8>, string: &CborString<'_>) -> Result<StringKind, Fault<InconsistentEdn>>
     ensures { Gathers (means (trees.items (view_string texts string.now))) out.old.items out.new.items result }
 {
     let mut kind: Option<StringKind> = None;
@@ -363,10 +361,7 @@ fn gather(
 }
 
 #[cycle(encode)]
-fn push_piece(
-    out: &mut Vec<u8>,
-    piece: &Piece<Texts<'_>>,
-) -> Result<StringKind, Fault<InconsistentEdn>>
+fn push_piece(out: &mut Vec<u8>, piece: &Piece<'_>) -> Result<StringKind, Fault<InconsistentEdn>>
     ensures { Gathers (means (trees.items (view_piece texts piece.now))) out.old.items out.new.items result }
 {
     match piece {
@@ -394,7 +389,7 @@ fn push_literal(
 /// what stopped its gathering.
 fn first_fault(
     alloc: Global,
-    string: &CborString<Texts<'_>>,
+    string: &CborString<'_>,
     refused: InconsistentEdn,
 ) -> Fault<InconsistentEdn> {
     if has_unsupported(string) {
@@ -406,7 +401,7 @@ fn first_fault(
     }
 }
 
-fn has_unsupported(string: &CborString<Texts<'_>>) -> bool {
+fn has_unsupported(string: &CborString<'_>) -> bool {
     for (piece, _, _) in &string.row {
         if is_unsupported(piece) {
             return true;
@@ -415,7 +410,7 @@ fn has_unsupported(string: &CborString<Texts<'_>>) -> bool {
     is_unsupported(&string.last)
 }
 
-fn is_unsupported(piece: &Piece<Texts<'_>>) -> bool {
+fn is_unsupported(piece: &Piece<'_>) -> bool {
     match piece {
         Piece::Literal(literal, _) => !literal.is_supported(),
         Piece::Dots(_) => true,
@@ -424,17 +419,14 @@ fn is_unsupported(piece: &Piece<Texts<'_>>) -> bool {
 }
 
 /// Fails where a literal has no content.
-fn check_literals(
-    alloc: Global,
-    string: &CborString<Texts<'_>>,
-) -> Result<(), Fault<InconsistentEdn>> {
+fn check_literals(alloc: Global, string: &CborString<'_>) -> Result<(), Fault<InconsistentEdn>> {
     for (piece, _, _) in &string.row {
         check_literal(alloc, piece)?;
     }
     check_literal(alloc, &string.last)
 }
 
-fn check_literal(alloc: Global, piece: &Piece<Texts<'_>>) -> Result<(), Fault<InconsistentEdn>> {
+fn check_literal(alloc: Global, piece: &Piece<'_>) -> Result<(), Fault<InconsistentEdn>> {
     if let Piece::Literal(literal, _) = piece {
         let _ = literal.content(alloc)?;
     }
@@ -442,10 +434,7 @@ fn check_literal(alloc: Global, piece: &Piece<Texts<'_>>) -> Result<(), Fault<In
 }
 
 #[cycle(encode)]
-fn push_stream(
-    out: &mut Vec<u8>,
-    strings: &Strings<Texts<'_>>,
-) -> Result<(), Fault<InconsistentEdn>>
+fn push_stream(out: &mut Vec<u8>, strings: &Strings<'_>) -> Result<(), Fault<InconsistentEdn>>
     ensures { Encodes encoding (means (nodes.Stream (trees.items (view_strings texts strings.now)))) out.old.items out.new.items result }
 {
     let major = string_major(stream_kind(strings)?);
@@ -456,7 +445,7 @@ fn push_stream(
 }
 
 #[cycle(encode)]
-fn push_parts(out: &mut Vec<u8>, strings: &Strings<Texts<'_>>) -> Result<(), Fault<InconsistentEdn>>
+fn push_parts(out: &mut Vec<u8>, strings: &Strings<'_>) -> Result<(), Fault<InconsistentEdn>>
     ensures { Encodes string_encodings (means (trees.items (view_strings texts strings.now))) out.old.items out.new.items result }
 {
     push_part_row(out, &strings.row)?;
@@ -466,7 +455,7 @@ fn push_parts(out: &mut Vec<u8>, strings: &Strings<Texts<'_>>) -> Result<(), Fau
 #[cycle(encode)]
 fn push_part_row(
     out: &mut Vec<u8>,
-    row: &[(CborString<Texts<'_>>, Msc<'_>)],
+    row: &[(CborString<'_>, Msc<'_>)],
 ) -> Result<(), Fault<InconsistentEdn>>
     ensures { Encodes string_encodings (means (row_items (map (seen_string texts) row.now))) out.old.items out.new.items result }
 {
@@ -477,7 +466,7 @@ fn push_part_row(
 }
 
 /// The kind of the strings of a stream, by their forms. Fails where they are of both kinds.
-fn stream_kind(strings: &Strings<Texts<'_>>) -> Result<StringKind, Fault<InconsistentEdn>>
+fn stream_kind(strings: &Strings<'_>) -> Result<StringKind, Fault<InconsistentEdn>>
     ensures { Finds (calls.stream_kind (trees.items (view_strings texts strings.now))) result }
 {
     let kind = first_kind(strings);
@@ -488,7 +477,7 @@ fn stream_kind(strings: &Strings<Texts<'_>>) -> Result<StringKind, Fault<Inconsi
     }
 }
 
-fn first_kind(strings: &Strings<Texts<'_>>) -> StringKind
+fn first_kind(strings: &Strings<'_>) -> StringKind
     ensures { result ≡ calls.first_kind (trees.items (view_strings texts strings.now)) }
 {
     match strings.row.as_slice() {
@@ -497,7 +486,7 @@ fn first_kind(strings: &Strings<Texts<'_>>) -> StringKind
     }
 }
 
-fn are_of_kind(kind: StringKind, row: &[(CborString<Texts<'_>>, Msc<'_>)]) -> bool
+fn are_of_kind(kind: StringKind, row: &[(CborString<'_>, Msc<'_>)]) -> bool
     ensures { result ≡ calls.kinds_are kind (row_items (map (seen_string texts) row.now)) }
 {
     for (string, _) in row {
@@ -509,7 +498,7 @@ fn are_of_kind(kind: StringKind, row: &[(CborString<Texts<'_>>, Msc<'_>)]) -> bo
 }
 
 /// The kind of a string by the form of its first piece.
-fn form_kind(string: &CborString<Texts<'_>>) -> StringKind
+fn form_kind(string: &CborString<'_>) -> StringKind
     ensures { result ≡ calls.form_kind (trees.items (view_string texts string.now)) }
 {
     match string.row.as_slice() {
@@ -519,7 +508,7 @@ fn form_kind(string: &CborString<Texts<'_>>) -> StringKind
 }
 
 #[tactic(auto, unfolding(crate::specs::Trees::items))]
-fn piece_kind(piece: &Piece<Texts<'_>>) -> StringKind
+fn piece_kind(piece: &Piece<'_>) -> StringKind
     ensures { result ≡ calls.piece_kind (trees.items (view_piece texts piece.now)) }
 {
     match piece {

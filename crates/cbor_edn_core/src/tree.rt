@@ -1,8 +1,9 @@
 //! Items of a text with the spaces between their tokens.
 //!
-//! The types are generic in their leaves; the rest of the crate speaks of `Item`, `StandaloneItem` and `Sequence`.
-ghost use Rattle.std.specs.Prelude.{List, ℕ, ◌≡◌};
-ghost use Rattle.cbor_edn_parts.specs.Leaves.{s_bytes, ms_bytes, msc_bytes, soc_bytes, number_bytes, literal_bytes, dots_bytes};
+//! The types are generic in their leaves: optional space `O`, mandatory space `M`, what stands between two entries (a comma,
+//! space or both) `C`, the end of a list `E`, numbers `N`, literals `L` and dots `D`. Nearly all of the crate speaks of
+//! them at the leaves of a text, as `Item`, `Items` and so on.
+ghost use Rattle.std.specs.Prelude.{◌≡◌};
 ghost use Rattle.cbor_edn_core.specs.Labels.{IsLabel, IsLabel-prop};
 
 use crate::word::{NamedSimple, NonFinite};
@@ -10,113 +11,137 @@ pub use cbor_edn_parts::indicator::Indicator;
 use cbor_edn_parts::number::Number;
 use cbor_edn_parts::space::{Ms, Msc, S, Soc};
 use cbor_edn_parts::string::{Dots, Literal};
-use std::fmt::Debug;
-use std::marker::PhantomData;
 
 /// How deep arrays, maps, tags, `simple(..)` and embedded sequences may nest where no limit is given.
 pub const NESTING_LIMIT: usize = 512;
 
-/// The types of the leaves of a tree, and the bytes that each stands for.
-pub trait Leaves {
-    /// Optional space.
-    type Space: Debug + Drop;
-    /// Space that is not empty, behind an indicator.
-    type Mandatory: Debug + Drop;
-    /// What stands between two items.
-    type Separator: Debug + Drop;
-    /// The end of a list.
-    type End: Debug + Drop;
-    /// A number.
-    type Number: Debug + Drop;
-    /// A quoted text, with or without a prefix.
-    type Literal: Debug + Drop;
-    /// Three dots or more.
-    type Dots: Debug + Drop;
-
-    ghost space: { Self.Space → List ℕ };
-
-    ghost mandatory: { Self.Mandatory → List ℕ };
-
-    ghost separator: { Self.Separator → List ℕ };
-
-    ghost end: { Self.End → List ℕ };
-
-    ghost number: { Self.Number → List ℕ };
-
-    ghost literal: { Self.Literal → List ℕ };
-
-    ghost dots: { Self.Dots → List ℕ };
-}
-
-/// The leaves of a text.
-#[derive(Debug)]
-pub struct Texts<'a> {
-    text: PhantomData<&'a str>,
-}
-
-impl<'a> Leaves for Texts<'a> {
-    type Space = S<'a>;
-
-    type Mandatory = Ms<'a>;
-
-    type Separator = Msc<'a>;
-
-    type End = Soc<'a>;
-
-    type Number = Number<'a>;
-
-    type Literal = Literal<'a>;
-
-    type Dots = Dots<'a>;
-
-    ghost space = { s_bytes };
-
-    ghost mandatory = { ms_bytes };
-
-    ghost separator = { msc_bytes };
-
-    ghost end = { soc_bytes };
-
-    ghost number = { number_bytes };
-
-    ghost literal = { literal_bytes };
-
-    ghost dots = { dots_bytes };
-}
-
 /// An item.
-pub type Item<'a> = ItemOf<Texts<'a>>;
+pub type Item<'a> = ItemOf<S<'a>, Ms<'a>, Msc<'a>, Soc<'a>, Number<'a>, Literal<'a>, Dots<'a>>;
 
 /// An item with the spaces round it.
-pub type StandaloneItem<'a> = StandaloneItemOf<Texts<'a>>;
+pub type StandaloneItem<'a> = StandaloneItemOf<
+    S<'a>,
+    Ms<'a>,
+    Msc<'a>,
+    Soc<'a>,
+    Number<'a>,
+    Literal<'a>,
+    Dots<'a>,
+>;
 
 /// A CBOR sequence: any number of items, with the spaces round them.
-pub type Sequence<'a> = SequenceOf<Texts<'a>>;
+pub type Sequence<'a> = SequenceOf<
+    S<'a>,
+    Ms<'a>,
+    Msc<'a>,
+    Soc<'a>,
+    Number<'a>,
+    Literal<'a>,
+    Dots<'a>,
+>;
+
+pub type InnerItem<'a> = InnerItemOf<
+    S<'a>,
+    Ms<'a>,
+    Msc<'a>,
+    Soc<'a>,
+    Number<'a>,
+    Literal<'a>,
+    Dots<'a>,
+>;
+
+pub type Compound<'a> = CompoundOf<
+    S<'a>,
+    Ms<'a>,
+    Msc<'a>,
+    Soc<'a>,
+    Number<'a>,
+    Literal<'a>,
+    Dots<'a>,
+>;
+
+pub type CborString<'a> = CborStringOf<
+    S<'a>,
+    Ms<'a>,
+    Msc<'a>,
+    Soc<'a>,
+    Number<'a>,
+    Literal<'a>,
+    Dots<'a>,
+>;
+
+pub type Piece<'a> = PieceOf<S<'a>, Ms<'a>, Msc<'a>, Soc<'a>, Number<'a>, Literal<'a>, Dots<'a>>;
+
+pub type Stream<'a> = StreamOf<S<'a>, Ms<'a>, Msc<'a>, Soc<'a>, Number<'a>, Literal<'a>, Dots<'a>>;
+
+pub type Strings<'a> = StringsOf<
+    S<'a>,
+    Ms<'a>,
+    Msc<'a>,
+    Soc<'a>,
+    Number<'a>,
+    Literal<'a>,
+    Dots<'a>,
+>;
+
+pub type ItemList<'a> = ItemListOf<
+    S<'a>,
+    Ms<'a>,
+    Msc<'a>,
+    Soc<'a>,
+    Number<'a>,
+    Literal<'a>,
+    Dots<'a>,
+>;
+
+pub type Items<'a> = ItemsOf<S<'a>, Ms<'a>, Msc<'a>, Soc<'a>, Number<'a>, Literal<'a>, Dots<'a>>;
+
+pub type Kp<'a> = KpOf<S<'a>, Ms<'a>, Msc<'a>, Soc<'a>, Number<'a>, Literal<'a>, Dots<'a>>;
+
+pub type PairList<'a> = PairListOf<
+    S<'a>,
+    Ms<'a>,
+    Msc<'a>,
+    Soc<'a>,
+    Number<'a>,
+    Literal<'a>,
+    Dots<'a>,
+>;
+
+pub type Pairs<'a> = PairsOf<S<'a>, Ms<'a>, Msc<'a>, Soc<'a>, Number<'a>, Literal<'a>, Dots<'a>>;
 
 /// An item over any leaves.
 #[cycle(tree)]
-#[derive(Debug, Drop)]
-pub struct ItemOf<L: Leaves> {
-    pub(crate) inner: InnerItem<L>,
+#[derive(Drop)]
+pub struct ItemOf<O: Drop, M: Drop, C: Drop, E: Drop, N: Drop, L: Drop, D: Drop> {
+    pub(crate) inner: InnerItemOf<O, M, C, E, N, L, D>,
 }
 
-/// The forms of items.
+/// The forms of items. Numbers and words stand in the item itself, everything else behind one pointer.
 #[cycle(tree)]
-#[derive(Debug, Drop)]
-pub enum InnerItem<L: Leaves> {
+#[derive(Drop)]
+pub enum InnerItemOf<O: Drop, M: Drop, C: Drop, E: Drop, N: Drop, L: Drop, D: Drop> {
     /// A number and its encoding indicator.
-    Number(L::Number, Option<Indicator>),
+    Number(N, Option<Indicator>),
     /// A floating-point number that is not finite, and its encoding indicator.
     NonFinite(NonFinite, Option<Indicator>),
     /// A simple value by its name.
     Named(NamedSimple),
+    /// An item with parts of its own.
+    Compound(Box<CompoundOf<O, M, C, E, N, L, D>>),
+}
+
+/// The forms of items with parts of their own.
+#[cycle(tree)]
+#[derive(Drop)]
+pub enum CompoundOf<O: Drop, M: Drop, C: Drop, E: Drop, N: Drop, L: Drop, D: Drop> {
     /// An item between parentheses, and what stands in front of them.
-    Enclosed(Front, Box<StandaloneItemOf<L>>),
-    Array(ItemList<L>),
-    Map(PairList<L>),
-    String(CborString<L>),
+    Enclosed(Front, StandaloneItemOf<O, M, C, E, N, L, D>),
+    Array(ItemListOf<O, M, C, E, N, L, D>),
+    Map(PairListOf<O, M, C, E, N, L, D>),
+    String(CborStringOf<O, M, C, E, N, L, D>),
     /// A string of indefinite length.
-    Stream(Stream<L>),
+    Stream(StreamOf<O, M, C, E, N, L, D>),
 }
 
 /// What stands in front of an item between parentheses.
@@ -157,114 +182,114 @@ impl Front {
 
 /// A string: one piece or more, all but the last with the space before and the space behind the plus sign that follows.
 #[cycle(tree)]
-#[derive(Debug, Drop)]
-pub struct CborString<L: Leaves> {
-    pub(crate) row: Vec<(Piece<L>, L::Space, L::Space)>,
-    pub(crate) last: Piece<L>,
+#[derive(Drop)]
+pub struct CborStringOf<O: Drop, M: Drop, C: Drop, E: Drop, N: Drop, L: Drop, D: Drop> {
+    pub(crate) row: Vec<(PieceOf<O, M, C, E, N, L, D>, O, O)>,
+    pub(crate) last: PieceOf<O, M, C, E, N, L, D>,
 }
 
 /// A piece of a string.
 #[cycle(tree)]
-#[derive(Debug, Drop)]
-pub enum Piece<L: Leaves> {
+#[derive(Drop)]
+pub enum PieceOf<O: Drop, M: Drop, C: Drop, E: Drop, N: Drop, L: Drop, D: Drop> {
     /// A literal and its encoding indicator.
-    Literal(L::Literal, Option<Indicator>),
+    Literal(L, Option<Indicator>),
     /// What stands in place of a piece that is left out.
-    Dots(L::Dots),
+    Dots(D),
     /// A sequence, whose encoding is the piece, and the piece's encoding indicator.
-    Embedded(Box<SequenceOf<L>>, Option<Indicator>),
+    Embedded(Box<SequenceOf<O, M, C, E, N, L, D>>, Option<Indicator>),
 }
 
 /// What stands between the parentheses of a string of indefinite length, behind the underscore.
 #[cycle(tree)]
-#[derive(Debug, Drop)]
-pub struct Stream<L: Leaves> {
-    pub(crate) ms: L::Mandatory,
-    pub(crate) strings: Strings<L>,
+#[derive(Drop)]
+pub struct StreamOf<O: Drop, M: Drop, C: Drop, E: Drop, N: Drop, L: Drop, D: Drop> {
+    pub(crate) ms: M,
+    pub(crate) strings: StringsOf<O, M, C, E, N, L, D>,
 }
 
 /// One string or more: each but the last with the separator behind it, the last with the end of the list.
 #[cycle(tree)]
-#[derive(Debug, Drop)]
-pub struct Strings<L: Leaves> {
-    pub(crate) row: Vec<(CborString<L>, L::Separator)>,
-    pub(crate) last: Box<CborString<L>>,
-    pub(crate) soc: L::End,
+#[derive(Drop)]
+pub struct StringsOf<O: Drop, M: Drop, C: Drop, E: Drop, N: Drop, L: Drop, D: Drop> {
+    pub(crate) row: Vec<(CborStringOf<O, M, C, E, N, L, D>, C)>,
+    pub(crate) last: CborStringOf<O, M, C, E, N, L, D>,
+    pub(crate) soc: E,
 }
 
 /// What stands between the brackets of an array.
 #[cycle(tree)]
-#[derive(Debug, Drop)]
-pub enum ItemList<L: Leaves> {
+#[derive(Drop)]
+pub enum ItemListOf<O: Drop, M: Drop, C: Drop, E: Drop, N: Drop, L: Drop, D: Drop> {
     Present {
         /// The array's encoding indicator and the space behind it.
-        head: Option<(Indicator, L::Mandatory)>,
-        s: L::Space,
-        items: Items<L>,
+        head: Option<(Indicator, M)>,
+        s: O,
+        items: ItemsOf<O, M, C, E, N, L, D>,
     },
     Absent {
         indicator: Option<Indicator>,
-        s: L::Space,
+        s: O,
     },
 }
 
 /// One item or more: each but the last with the separator behind it, the last with the end of the list.
 #[cycle(tree)]
-#[derive(Debug, Drop)]
-pub struct Items<L: Leaves> {
-    pub(crate) row: Vec<(ItemOf<L>, L::Separator)>,
-    pub(crate) last: Box<ItemOf<L>>,
-    pub(crate) soc: L::End,
+#[derive(Drop)]
+pub struct ItemsOf<O: Drop, M: Drop, C: Drop, E: Drop, N: Drop, L: Drop, D: Drop> {
+    pub(crate) row: Vec<(ItemOf<O, M, C, E, N, L, D>, C)>,
+    pub(crate) last: ItemOf<O, M, C, E, N, L, D>,
+    pub(crate) soc: E,
 }
 
 /// A key of a map with its value, and the spaces round the colon between them.
 #[cycle(tree)]
-#[derive(Debug, Drop)]
-pub struct Kp<L: Leaves> {
-    pub(crate) key: ItemOf<L>,
-    pub(crate) before_colon: L::Space,
-    pub(crate) after_colon: L::Space,
-    pub(crate) value: ItemOf<L>,
+#[derive(Drop)]
+pub struct KpOf<O: Drop, M: Drop, C: Drop, E: Drop, N: Drop, L: Drop, D: Drop> {
+    pub(crate) key: ItemOf<O, M, C, E, N, L, D>,
+    pub(crate) before_colon: O,
+    pub(crate) after_colon: O,
+    pub(crate) value: ItemOf<O, M, C, E, N, L, D>,
 }
 
 /// What stands between the braces of a map.
 #[cycle(tree)]
-#[derive(Debug, Drop)]
-pub enum PairList<L: Leaves> {
+#[derive(Drop)]
+pub enum PairListOf<O: Drop, M: Drop, C: Drop, E: Drop, N: Drop, L: Drop, D: Drop> {
     Present {
         /// The map's encoding indicator and the space behind it.
-        head: Option<(Indicator, L::Mandatory)>,
-        s: L::Space,
-        pairs: Pairs<L>,
+        head: Option<(Indicator, M)>,
+        s: O,
+        pairs: PairsOf<O, M, C, E, N, L, D>,
     },
     Absent {
         indicator: Option<Indicator>,
-        s: L::Space,
+        s: O,
     },
 }
 
 /// One pair or more: each but the last with the separator behind it, the last with the end of the map.
 #[cycle(tree)]
-#[derive(Debug, Drop)]
-pub struct Pairs<L: Leaves> {
-    pub(crate) row: Vec<(Kp<L>, L::Separator)>,
-    pub(crate) last: Box<Kp<L>>,
-    pub(crate) soc: L::End,
+#[derive(Drop)]
+pub struct PairsOf<O: Drop, M: Drop, C: Drop, E: Drop, N: Drop, L: Drop, D: Drop> {
+    pub(crate) row: Vec<(KpOf<O, M, C, E, N, L, D>, C)>,
+    pub(crate) last: KpOf<O, M, C, E, N, L, D>,
+    pub(crate) soc: E,
 }
 
 /// An item with the spaces round it, over any leaves.
 #[cycle(tree)]
-#[derive(Debug, Drop)]
-pub struct StandaloneItemOf<L: Leaves> {
-    pub(crate) before: L::Space,
-    pub(crate) item: ItemOf<L>,
-    pub(crate) after: L::Space,
+#[derive(Drop)]
+pub struct StandaloneItemOf<O: Drop, M: Drop, C: Drop, E: Drop, N: Drop, L: Drop, D: Drop> {
+    pub(crate) before: O,
+    pub(crate) item: ItemOf<O, M, C, E, N, L, D>,
+    pub(crate) after: O,
 }
 
 /// A sequence over any leaves.
 #[cycle(tree)]
-#[derive(Debug, Drop)]
-pub struct SequenceOf<L: Leaves> {
-    pub(crate) before: L::Space,
-    pub(crate) items: Option<Items<L>>,
+#[derive(Drop)]
+pub struct SequenceOf<O: Drop, M: Drop, C: Drop, E: Drop, N: Drop, L: Drop, D: Drop> {
+    pub(crate) before: O,
+    pub(crate) items: Option<ItemsOf<O, M, C, E, N, L, D>>,
 }

@@ -34,8 +34,9 @@ pub trait Sink {
     /// How many calls failed so far.
     ghost failures: { Self → ℕ };
 
-    /// Takes some bytes from the front, at least one.
+    /// Takes some bytes from the front, at least one. There are some to take: a sink that takes none has failed.
     fn write(&mut self, bytes: &[u8]) -> Result<usize, DeviceFault>
+        requires { 0 < length bytes.now }
         ensures bound { WritesAtMost result bytes.now }
         ensures some { IfOk result (λ n. 0 < n) }
         // A call that fails took no byte.

@@ -6,7 +6,7 @@ ghost use Rattle.cbor_edn_parts.specs.Leaves.{HasMagnitude};
 ghost use Rattle.cbor_edn_core.specs.Items as kind;
 ghost use Rattle.cbor_edn_core.specs.Items.{Array, Map};
 ghost use Rattle.cbor_edn_core.specs.Trees.{NumberTree, ListTree};
-ghost use Rattle.cbor_edn_core.specs.View.{texts, view_head, view_items, view_pairs, view_pair, item_tree};
+ghost use Rattle.cbor_edn_core.specs.View.{texts, view_compound, view_head, view_items, view_pairs, view_pair, item_tree};
 ghost use Rattle.cbor_edn_core.specs.Decoded as decoded;
 ghost use Rattle.cbor_edn_core.specs.Decoded.{inside};
 ghost use Rattle.cbor_edn_core.specs.CborReading as reading;
@@ -19,7 +19,7 @@ use super::growing::Growing;
 use super::special::{enclosed, special_of};
 use super::strings::string_of;
 use crate::cbor::Width;
-use crate::tree::{Front, InnerItem, Item, ItemList, Items, Kp, PairList, Pairs, Texts};
+use crate::tree::{Compound, Front, InnerItem, Item, ItemList, Items, Kp, PairList, Pairs};
 use cbor_edn_parts::error::Fault;
 use cbor_edn_parts::indicator::Indicator;
 use cbor_edn_parts::number::{Integer, Number};
@@ -126,8 +126,8 @@ fn if_below(limit: u64, n: u64, indicator: Indicator) -> Option<Indicator>
     if n < limit { Some(indicator) } else { None }
 }
 
-fn array<'a>(argument: Argument, items: Option<Items<Texts<'a>>>) -> Item<'a>
-    ensures { item_tree result ≡ ListTree Array (inside (argument_indicator argument) (option_map (view_items texts) items.entry)) }
+fn array<'a>(argument: Argument, items: Option<Items<'a>>) -> Compound<'a>
+    ensures { view_compound texts result ≡ ListTree Array (inside (argument_indicator argument) (option_map (view_items texts) items.entry)) }
 {
     let indicator = indicator_of(argument);
     let s = S::empty();
@@ -139,13 +139,11 @@ fn array<'a>(argument: Argument, items: Option<Items<Texts<'a>>>) -> Item<'a>
             items,
         },
     };
-    Item {
-        inner: InnerItem::Array(list),
-    }
+    Compound::Array(list)
 }
 
-fn object<'a>(argument: Argument, pairs: Option<Pairs<Texts<'a>>>) -> Item<'a>
-    ensures { item_tree result ≡ ListTree Map (inside (argument_indicator argument) (option_map (view_pairs texts) pairs.entry)) }
+fn object<'a>(argument: Argument, pairs: Option<Pairs<'a>>) -> Compound<'a>
+    ensures { view_compound texts result ≡ ListTree Map (inside (argument_indicator argument) (option_map (view_pairs texts) pairs.entry)) }
 {
     let indicator = indicator_of(argument);
     let s = S::empty();
@@ -157,9 +155,7 @@ fn object<'a>(argument: Argument, pairs: Option<Pairs<Texts<'a>>>) -> Item<'a>
             pairs,
         },
     };
-    Item {
-        inner: InnerItem::Map(list),
-    }
+    Compound::Map(list)
 }
 
 /// One space behind an indicator.
@@ -243,7 +239,7 @@ fn pair_of<'a, 'b>(
     alloc: Global,
     bytes: &'b [u8],
     limit: usize,
-) -> Result<(Kp<Texts<'a>>, &'b [u8]), Fault<CborError>>
+) -> Result<(Kp<'a>, &'b [u8]), Fault<CborError>>
     ensures exact { Gives (λ x. (view_pair texts x.0, x.1.now)) result (pair_at trees (item_at trees limit) bytes.now) }
     ensures shorter { IfOk result (λ x. length x.1.now < length bytes.now) }
 {
@@ -262,10 +258,10 @@ fn pair_of<'a, 'b>(
 #[cycle(item)]
 fn with_pair<'a, 'b>(
     alloc: Global,
-    found: Growing<'a, Kp<Texts<'a>>>,
+    found: Growing<'a, Kp<'a>>,
     bytes: &'b [u8],
     limit: usize,
-) -> Result<(Growing<'a, Kp<Texts<'a>>>, &'b [u8]), Fault<CborError>>
+) -> Result<(Growing<'a, Kp<'a>>, &'b [u8]), Fault<CborError>>
     ensures exact { Gives (λ x. (map (view_pair texts) (grown x.0), x.1.now)) result (shown (λ p. map (view_pair texts) (grown found.entry) ++ p ∷ []) (pair_at trees (item_at trees limit) bytes.now)) }
     ensures shorter { IfOk result (λ x. length x.1.now < length bytes.now) }
 {
@@ -278,11 +274,11 @@ fn pairs_of<'a, 'b>(
     count: u64,
     bytes: &'b [u8],
     limit: usize,
-) -> Result<(Growing<'a, Kp<Texts<'a>>>, &'b [u8]), Fault<CborError>>
+) -> Result<(Growing<'a, Kp<'a>>, &'b [u8]), Fault<CborError>>
     ensures exact { Gives (λ x. (map (view_pair texts) (grown x.0), x.1.now)) result (many (pair_at trees (item_at trees limit)) count bytes.now) }
     ensures shorter { IfOk result (λ x. length x.1.now ≤ length bytes.now) }
 {
-    let mut found: Growing<'a, Kp<Texts<'a>>> = Growing::new(alloc);
+    let mut found: Growing<'a, Kp<'a>> = Growing::new(alloc);
     let mut rest = bytes;
     for _ in 0..count {
         let (more, after) = with_pair(alloc, found, rest, limit)?;
@@ -297,11 +293,11 @@ fn pairs_until<'a, 'b>(
     alloc: Global,
     bytes: &'b [u8],
     limit: usize,
-) -> Result<(Growing<'a, Kp<Texts<'a>>>, &'b [u8]), Fault<CborError>>
+) -> Result<(Growing<'a, Kp<'a>>, &'b [u8]), Fault<CborError>>
     ensures exact { Gives (λ x. (map (view_pair texts) (grown x.0), x.1.now)) result (until Stop.Break (pair_at trees (item_at trees limit)) (suc (length bytes.now)) bytes.now) }
     ensures shorter { IfOk result (λ x. length x.1.now ≤ length bytes.now) }
 {
-    let mut found: Growing<'a, Kp<Texts<'a>>> = Growing::new(alloc);
+    let mut found: Growing<'a, Kp<'a>> = Growing::new(alloc);
     let mut rest = bytes;
     'turns: loop {
         match past_stop(Stop::Break, rest) {
@@ -333,8 +329,8 @@ fn array_of<'a, 'b>(
         Some((_, n)) => items_of(alloc, n, bytes, limit - 1)?,
         None => items_until(alloc, bytes, limit - 1, Stop::Break)?,
     };
-    let items = finish_items(alloc, found)?;
-    Ok((array(argument, items), rest))
+    let item = Item::compound(alloc, array(argument, finish_items(found)))?;
+    Ok((item, rest))
 }
 
 #[cycle(item)]
@@ -355,8 +351,8 @@ fn map_of<'a, 'b>(
         Some((_, n)) => pairs_of(alloc, n, bytes, limit - 1)?,
         None => pairs_until(alloc, bytes, limit - 1)?,
     };
-    let pairs = finish_pairs(alloc, found)?;
-    Ok((object(argument, pairs), rest))
+    let item = Item::compound(alloc, object(argument, finish_pairs(found)))?;
+    Ok((item, rest))
 }
 
 /// A tag and the item that it holds.
@@ -377,11 +373,8 @@ fn tag_of<'a, 'b>(
         return Err(Fault::Told(CborError::TooDeep));
     }
     let (content, rest) = item_of(alloc, bytes, limit - 1)?;
-    let content = enclosed(alloc, content)?;
-    let item = Item {
-        inner: InnerItem::Enclosed(Front::tag(number, indicator_of(argument)), content),
-    };
-    Ok((item, rest))
+    let front = Front::tag(number, indicator_of(argument));
+    Ok((enclosed(alloc, front, content)?, rest))
 }
 
 /// The item behind a head.

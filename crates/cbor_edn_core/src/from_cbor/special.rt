@@ -4,14 +4,14 @@ ghost use Rattle.cbor_edn_core.specs.CborReading as reading;
 ghost use Rattle.cbor_edn_core.specs.CborReading.{Gives, trees, inner};
 ghost use Rattle.cbor_edn_core.specs.Decoded as decoded;
 ghost use Rattle.cbor_edn_core.specs.Decoded.{alone};
-ghost use Rattle.cbor_edn_core.specs.Trees.{NumberTree};
+ghost use Rattle.cbor_edn_core.specs.Trees.{EnclosedTree, NumberTree};
 ghost use Rattle.std.specs.Fmt.{decimal};
-ghost use Rattle.cbor_edn_core.specs.View.{item_tree, standalone_tree};
+ghost use Rattle.cbor_edn_core.specs.View.{item_tree};
 
 use super::CborError;
 use super::reader::Argument;
 use crate::cbor::{Width, float_bits};
-use crate::tree::{Front, Indicator, InnerItem, Item, StandaloneItem};
+use crate::tree::{Compound, Front, Indicator, InnerItem, Item, StandaloneItem};
 use crate::word::{NamedSimple, NonFinite};
 use cbor_edn_parts::error::Fault;
 use cbor_edn_parts::number::{Integer, Number};
@@ -46,7 +46,7 @@ fn simple_of<'a>(alloc: Global, number: u64, limit: usize) -> Result<Item<'a>, F
         22 => InnerItem::Named(NamedSimple::Null),
         23 => InnerItem::Named(NamedSimple::Undefined),
         _ if limit == 0 => return Err(Fault::Told(CborError::TooDeep)),
-        _ => InnerItem::Enclosed(Front::simple(), enclosed(alloc, numeral(alloc, number)?)?),
+        _ => return Ok(enclosed(alloc, Front::simple(), numeral(alloc, number)?)?),
     };
     Ok(Item { inner })
 }
@@ -60,19 +60,20 @@ fn numeral<'a>(alloc: Global, number: u64) -> Result<Item<'a>, AllocError>
     })
 }
 
-/// The item with no space round it, behind a pointer.
+/// The item between parentheses, with no space round it, behind a label.
 pub(super) fn enclosed<'a>(
     alloc: Global,
+    front: Front,
     item: Item<'a>,
-) -> Result<Box<StandaloneItem<'a>>, AllocError>
-    ensures { IfOk result (λ t. standalone_tree t.value ≡ alone (item_tree item.entry)) }
+) -> Result<Item<'a>, AllocError>
+    ensures { IfOk result (λ t. item_tree t ≡ EnclosedTree front.label (alone (item_tree item.entry))) }
 {
-    let item = StandaloneItem {
+    let content = StandaloneItem {
         before: S::empty(),
         item,
         after: S::empty(),
     };
-    Ok(Box::new(alloc, item)?)
+    Item::compound(alloc, Compound::Enclosed(front, content))
 }
 
 /// The floating-point number of so many bytes with these bits: finite ones are refused.

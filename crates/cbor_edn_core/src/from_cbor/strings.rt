@@ -2,7 +2,7 @@
 ghost use Rattle.std.specs.Prelude.{◌≡◌, ◌<◌, ◌≤◌, suc, length, map, option_map, IfOk};
 ghost use Rattle.cbor_edn_parts.specs.Contents.{kind_literal};
 ghost use Rattle.cbor_edn_parts.specs.Leaves.{literal_bytes};
-ghost use Rattle.cbor_edn_core.specs.View.{texts, view_string, view_strings, item_tree};
+ghost use Rattle.cbor_edn_core.specs.View.{texts, view_compound, view_string, view_strings, item_tree};
 ghost use Rattle.cbor_edn_core.specs.CborReading.{Gives, trees, until, string_at, chunk_at, string_by, string_tree, chunked_tree, shown};
 ghost use Rattle.cbor_edn_core.specs.Growing.{grown};
 
@@ -11,7 +11,7 @@ use super::finish::finish_strings;
 use super::growing::Growing;
 use super::reader::{Argument, Stop, head_of, indicator_of, past_stop};
 use crate::cbor::{Width, string_major};
-use crate::tree::{CborString, InnerItem, Item, Piece, Stream, Strings, Texts};
+use crate::tree::{CborString, Compound, Item, Piece, Stream, Strings};
 use cbor_edn_parts::error::Fault;
 use cbor_edn_parts::indicator::Indicator;
 use cbor_edn_parts::space::Ms;
@@ -50,7 +50,7 @@ fn definite<'a, 'b>(
     width: Width,
     count: u64,
     bytes: &'b [u8],
-) -> Result<(CborString<Texts<'a>>, &'b [u8]), Fault<CborError>>
+) -> Result<(CborString<'a>, &'b [u8]), Fault<CborError>>
     ensures exact { Gives (λ x. (view_string texts x.0, x.1.now)) result (shown (λ bs. string_tree kind (width, bs)) (string_at kind count bytes.now)) }
     ensures shorter { IfOk result (λ x. length x.1.now ≤ length bytes.now) }
 {
@@ -65,7 +65,7 @@ fn chunk_of<'a, 'b>(
     alloc: Global,
     kind: StringKind,
     bytes: &'b [u8],
-) -> Result<(CborString<Texts<'a>>, &'b [u8]), Fault<CborError>>
+) -> Result<(CborString<'a>, &'b [u8]), Fault<CborError>>
     ensures exact { Gives (λ x. (view_string texts x.0, x.1.now)) result (shown (string_tree kind) (chunk_at kind bytes.now)) }
     ensures shorter { IfOk result (λ x. length x.1.now < length bytes.now) }
 {
@@ -83,11 +83,11 @@ fn chunks_until<'a, 'b>(
     alloc: Global,
     kind: StringKind,
     bytes: &'b [u8],
-) -> Result<(Growing<'a, CborString<Texts<'a>>>, &'b [u8]), Fault<CborError>>
+) -> Result<(Growing<'a, CborString<'a>>, &'b [u8]), Fault<CborError>>
     ensures exact { Gives (λ x. (map (view_string texts) (grown x.0), x.1.now)) result (until Stop.Break (λ bs. shown (string_tree kind) (chunk_at kind bs)) (suc (length bytes.now)) bytes.now) }
     ensures shorter { IfOk result (λ x. length x.1.now ≤ length bytes.now) }
 {
-    let mut found: Growing<'a, CborString<Texts<'a>>> = Growing::new(alloc);
+    let mut found: Growing<'a, CborString<'a>> = Growing::new(alloc);
     let mut rest = bytes;
     'turns: loop {
         match past_stop(Stop::Break, rest) {
@@ -102,20 +102,19 @@ fn chunks_until<'a, 'b>(
 }
 
 /// A string of indefinite length: `(_ h'61')`, and `''_` without strings.
-fn chunked<'a>(alloc: Global, kind: StringKind, strings: Option<Strings<Texts<'a>>>) -> Item<'a>
-    ensures { item_tree result ≡ chunked_tree kind (option_map (view_strings texts) strings.entry) }
+fn chunked<'a>(alloc: Global, kind: StringKind, strings: Option<Strings<'a>>) -> Compound<'a>
+    ensures { view_compound texts result ≡ chunked_tree kind (option_map (view_strings texts) strings.entry) }
 {
-    let inner = match strings {
-        Some(strings) => InnerItem::Stream(Stream {
+    match strings {
+        Some(strings) => Compound::Stream(Stream {
             ms: Ms::space(),
             strings,
         }),
-        None => InnerItem::String(CborString {
+        None => Compound::String(CborString {
             row: Vec::new(alloc),
             last: Piece::Literal(Literal::empty(kind), Some(Indicator::Indefinite)),
         }),
-    };
-    Item { inner }
+    }
 }
 
 /// The string behind a head.
@@ -131,13 +130,14 @@ pub(super) fn string_of<'a, 'b>(
     match argument {
         Some((width, count)) => {
             let (string, rest) = definite(alloc, kind, width, count, bytes)?;
-            let inner = InnerItem::String(string);
-            Ok((Item { inner }, rest))
+            let item = Item::compound(alloc, Compound::String(string))?;
+            Ok((item, rest))
         }
         None => {
             let (found, rest) = chunks_until(alloc, kind, bytes)?;
-            let strings = finish_strings(alloc, found)?;
-            Ok((chunked(alloc, kind, strings), rest))
+            let strings = finish_strings(found);
+            let item = Item::compound(alloc, chunked(alloc, kind, strings))?;
+            Ok((item, rest))
         }
     }
 }

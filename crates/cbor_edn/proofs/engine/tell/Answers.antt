@@ -3,5 +3,5 @@ use Rattle.std.proofs.Common.{[], refl}
 use Rattle.std.proofs.KnownBytes.{Appends-nil}
 use Rattle.cbor_edn.proofs.engine.tell.Goals as goal
 
-pub returns-in_default : goal.returns-in_default
-returns-in_default g c = (_, ([], refl), ([], _, refl, Appends-nil _))
+pub returns-in_default-clause-told : goal.returns-in_default-clause-told
+returns-in_default-clause-told g c = (_, ([], refl), ([], _, refl, Appends-nil _))

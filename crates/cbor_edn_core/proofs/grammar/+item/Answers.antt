@@ -16,8 +16,8 @@ use Rattle.cbor_edn_core.proofs.Turns.{ends_same, fails_at, scan_fails, scan_rea
 use Rattle.cbor_edn_core.proofs.EnclosedTurns.{enclosed_shut, enclosed_too_deep, enclosed_fails, enclosed_open, enclosed_read, number_read, no_tag, tag_at, word_here, named_read, float_read, simple_at}
 use Rattle.cbor_edn_core.proofs.Looks.{ahead_small, token_two, literal_open, dots_open, spared_push, pushed_some, spared_first, costs_ahead}
 use Rattle.cbor_edn_core.proofs.StringTurns.{stream_unmarked, stream_fails, stream_unspaced, stream_rest_fails, stream_open, stream_read, chunk_fails, chunk_read, dots_fail, dots_read, literal_fails, literal_read, embedded_single, embedded_too_deep, embedded_fails, embedded_unclosed, embedded_read, with_more_pieces, pieces_turn_fails, pieces_turn_fails_before, pieces_turn_last, pieces_turn_fails_after, pieces_turn_more}
-use Rattle.cbor_edn_core.proofs.Views.{view_string_is, view_stream_made, view_sequence_made}
-use Rattle.cbor_edn_core.proofs.Borrows.{borrows_push, borrows_pair_push, borrows_string_made, borrows_string_push, borrows_piece_push}
+use Rattle.cbor_edn_core.proofs.Views.{view_items_made, view_pairs_made, view_string_is, view_strings_made, view_stream_made, view_sequence_made}
+use Rattle.cbor_edn_core.proofs.Borrows.{borrows_made, borrows_pairs_made, borrows_strings_made, borrows_push, borrows_pair_push, borrows_string_made, borrows_string_push, borrows_piece_push}
 use Rattle.cbor_edn_core.proofs.grammar.+item.Goals as goal
 
 pub item-returns-in-Number-clause-value : goal.item-returns-in-Number-clause-value
@@ -35,7 +35,7 @@ pub bracketed-returns-then-not-is_at-clause-value : goal.bracketed-returns-then-
 bracketed-returns-then-not-is_at-clause-value t c = rw c.invalid.ensures (list_open c.args.limit Array _ _ _ _ (omega arith) c.requires.opens.0 c.in_ok-list.ensures.value (c.if-not-is_at.ensures.no refl))
 
 pub bracketed-returns-clause-value : goal.bracketed-returns-clause-value
-bracketed-returns-clause-value t c = rw c.unspaced.ensures (list_read c.args.limit Array _ _ _ _ _ (omega arith) c.requires.opens.0 c.in_ok-list.ensures.value (c.if-not-is_at.ensures.yes refl).0)
+bracketed-returns-clause-value t c = rw (c.unspaced.ensures, c.in_ok-item.ensures.view) (list_read c.args.limit Array _ _ _ _ _ (omega arith) c.requires.opens.0 c.in_ok-list.ensures.value (c.if-not-is_at.ensures.yes refl).0)
 
 pub braced-returns-then-limit-eq0-clause-value : goal.braced-returns-then-limit-eq0-clause-value
 braced-returns-then-limit-eq0-clause-value t c = rw c.too_deep.ensures (list_too_deep c.args.limit Map _ _ c.if-limit-eq0.true c.requires.opens.0)
@@ -49,7 +49,7 @@ pub braced-returns-then-not-is_at-clause-value : goal.braced-returns-then-not-is
 braced-returns-then-not-is_at-clause-value t c = rw c.invalid.ensures (list_open c.args.limit Map _ _ _ _ (omega arith) c.requires.opens.0 c.in_ok-list.ensures.value (c.if-not-is_at.ensures.no refl))
 
 pub braced-returns-clause-value : goal.braced-returns-clause-value
-braced-returns-clause-value t c = rw c.unspaced.ensures (list_read c.args.limit Map _ _ _ _ _ (omega arith) c.requires.opens.0 c.in_ok-list.ensures.value (c.if-not-is_at.ensures.yes refl).0)
+braced-returns-clause-value t c = rw (c.unspaced.ensures, c.in_ok-item.ensures.view) (list_read c.args.limit Map _ _ _ _ _ (omega arith) c.requires.opens.0 c.in_ok-list.ensures.value (c.if-not-is_at.ensures.yes refl).0)
 
 pub chunked-returns-in_err-stream-clause-value : goal.chunked-returns-in_err-stream-clause-value
 chunked-returns-in_err-stream-clause-value t c =
@@ -57,7 +57,7 @@ chunked-returns-in_err-stream-clause-value t c =
     rw (p.1, p.2) (fails_at c.in_err-stream.field-0.0 _ _ (stream_at c.args.limit _ _ c.requires.opens.0) c.in_err-stream.ensures.value)
 
 pub chunked-returns-clause-value : goal.chunked-returns-clause-value
-chunked-returns-clause-value t c = rw c.unspaced.ensures (stream_at c.args.limit _ _ c.requires.opens.0 ∙ c.in_ok-stream.ensures.value)
+chunked-returns-clause-value t c = rw (c.unspaced.ensures, c.in_ok-item.ensures.view) (stream_at c.args.limit _ _ c.requires.opens.0 ∙ c.in_ok-stream.ensures.value)
 
 pub joined-returns-in_err-string-clause-value : goal.joined-returns-in_err-string-clause-value
 joined-returns-in_err-string-clause-value t c =
@@ -65,10 +65,10 @@ joined-returns-in_err-string-clause-value t c =
     rw (p.1, p.2) (string_item_fails c.in_err-string.field-0.0 c.args.limit _ c.requires.opens c.in_err-string.ensures.value)
 
 pub joined-returns-clause-value : goal.joined-returns-clause-value
-joined-returns-clause-value t c = rw (view_string_is texts) (string_item_read c.args.limit _ _ _ c.requires.opens c.in_ok-string.ensures.value)
+joined-returns-clause-value t c = rw (c.in_ok-item.ensures.view, view_string_is texts) (string_item_read c.args.limit _ _ _ c.requires.opens c.in_ok-string.ensures.value)
 
 pub joined-returns-clause-borrowed : goal.joined-returns-clause-borrowed
-joined-returns-clause-borrowed t c = borrows_string_made _ c.in_ok-string.string refl c.in_ok-string.ensures.borrowed
+joined-returns-clause-borrowed t c = c.in_ok-item.ensures.borrowed (borrows_string_made _ c.in_ok-string.string refl c.in_ok-string.ensures.borrowed)
 
 pub array-returns-in_err-s-clause-value : goal.array-returns-in_err-s-clause-value
 array-returns-in_err-s-clause-value t c =
@@ -119,10 +119,10 @@ items-returns-in_err-item-clause-value t c =
     rw (p.1, p.2) (turn_fails c.args.limit Elements _ _ _ c.items.invariant.reads c.in_err-item.field-0.0 (parted_fails_behind c.in_err-item.field-0.0 c.args.limit Elements _ _ _ (element_read c.args.limit _ _ _ c.in_ok-read.ensures.value) c.in_err-item.ensures.value))
 
 pub items-returns-then-closes-clause-value : goal.items-returns-then-closes-clause-value
-items-returns-then-closes-clause-value t c = rw c.in_ok-last_item.ensures.view (turn_last c.args.limit Elements _ _ _ c.items.invariant.reads _ _ _ (parted_entry element_tree c.args.limit _ _ _ _ _ _ c.in_ok-item.ensures.entry (element_read c.args.limit _ _ _ c.in_ok-read.ensures.value) c.in_ok-item.ensures.value) (sym c.if-closes.ensures.closed))
+items-returns-then-closes-clause-value t c = rw (view_items_made texts) (turn_last c.args.limit Elements _ _ _ c.items.invariant.reads _ _ _ (parted_entry element_tree c.args.limit _ _ _ _ _ _ c.in_ok-item.ensures.entry (element_read c.args.limit _ _ _ c.in_ok-read.ensures.value) c.in_ok-item.ensures.value) (sym c.if-closes.ensures.closed))
 
 pub items-returns-then-closes-clause-borrowed : goal.items-returns-then-closes-clause-borrowed
-items-returns-then-closes-clause-borrowed t c = c.in_ok-last_item.ensures.borrowed c.items.invariant.borrowed (subst BorrowsItem (sym c.in_ok-item.ensures.entry) c.in_ok-read.ensures.borrowed) c.in_ok-item.ensures.borrowed
+items-returns-then-closes-clause-borrowed t c = borrows_made _ _ refl c.items.invariant.borrowed (subst BorrowsItem (sym c.in_ok-item.ensures.entry) c.in_ok-read.ensures.borrowed) c.in_ok-item.ensures.borrowed
 
 pub items-returns-in_err-push_entry-clause-value : goal.items-returns-in_err-push_entry-clause-value
 items-returns-in_err-push_entry-clause-value t c =
@@ -159,10 +159,10 @@ pairs-returns-in_err-pair-clause-value t c =
     rw (p.1, p.2) (turn_fails c.args.limit Pairs _ _ _ c.pairs.invariant.reads c.in_err-pair.field-0.0 (parted_fails_behind c.in_err-pair.field-0.0 c.args.limit Pairs _ _ _ c.in_ok-read.ensures.value c.in_err-pair.ensures.value))
 
 pub pairs-returns-then-closes-clause-value : goal.pairs-returns-then-closes-clause-value
-pairs-returns-then-closes-clause-value t c = rw c.in_ok-last_pair.ensures.view (turn_last c.args.limit Pairs _ _ _ c.pairs.invariant.reads _ _ _ (parted_entry (view_pair texts) c.args.limit _ _ _ _ _ _ c.in_ok-pair.ensures.entry c.in_ok-read.ensures.value c.in_ok-pair.ensures.value) (sym c.if-closes.ensures.closed))
+pairs-returns-then-closes-clause-value t c = rw (view_pairs_made texts) (turn_last c.args.limit Pairs _ _ _ c.pairs.invariant.reads _ _ _ (parted_entry (view_pair texts) c.args.limit _ _ _ _ _ _ c.in_ok-pair.ensures.entry c.in_ok-read.ensures.value c.in_ok-pair.ensures.value) (sym c.if-closes.ensures.closed))
 
 pub pairs-returns-then-closes-clause-borrowed : goal.pairs-returns-then-closes-clause-borrowed
-pairs-returns-then-closes-clause-borrowed t c = c.in_ok-last_pair.ensures.borrowed c.pairs.invariant.borrowed (subst BorrowsPair (sym c.in_ok-pair.ensures.entry) c.in_ok-read.ensures.borrowed) c.in_ok-pair.ensures.borrowed
+pairs-returns-then-closes-clause-borrowed t c = borrows_pairs_made _ _ refl c.pairs.invariant.borrowed (subst BorrowsPair (sym c.in_ok-pair.ensures.entry) c.in_ok-read.ensures.borrowed) c.in_ok-pair.ensures.borrowed
 
 pub pairs-returns-in_err-push_entry-clause-value : goal.pairs-returns-in_err-push_entry-clause-value
 pairs-returns-in_err-push_entry-clause-value t c =
@@ -199,10 +199,10 @@ strings-returns-in_err-string-clause-value t c =
     rw (p.1, p.2) (turn_fails c.args.limit Strings _ _ _ c.strings.invariant.reads c.in_err-string.field-0.0 (parted_fails_behind c.in_err-string.field-0.0 c.args.limit Strings _ _ _ (chunk_read c.args.limit _ _ _ c.in_ok-read.ensures.value) c.in_err-string.ensures.value))
 
 pub strings-returns-then-closes-clause-value : goal.strings-returns-then-closes-clause-value
-strings-returns-then-closes-clause-value t c = rw c.in_ok-last_string.ensures.view (turn_last c.args.limit Strings _ _ _ c.strings.invariant.reads _ _ _ (parted_entry chunk_tree c.args.limit _ _ _ _ _ _ c.in_ok-string.ensures.entry (chunk_read c.args.limit _ _ _ c.in_ok-read.ensures.value) c.in_ok-string.ensures.value) (sym c.if-closes.ensures.closed))
+strings-returns-then-closes-clause-value t c = rw (view_strings_made texts) (turn_last c.args.limit Strings _ _ _ c.strings.invariant.reads _ _ _ (parted_entry chunk_tree c.args.limit _ _ _ _ _ _ c.in_ok-string.ensures.entry (chunk_read c.args.limit _ _ _ c.in_ok-read.ensures.value) c.in_ok-string.ensures.value) (sym c.if-closes.ensures.closed))
 
 pub strings-returns-then-closes-clause-borrowed : goal.strings-returns-then-closes-clause-borrowed
-strings-returns-then-closes-clause-borrowed t c = c.in_ok-last_string.ensures.borrowed c.strings.invariant.borrowed (subst BorrowsString (sym c.in_ok-string.ensures.entry) c.in_ok-read.ensures.borrowed) c.in_ok-string.ensures.borrowed
+strings-returns-then-closes-clause-borrowed t c = borrows_strings_made _ _ refl c.strings.invariant.borrowed (subst BorrowsString (sym c.in_ok-string.ensures.entry) c.in_ok-read.ensures.borrowed) c.in_ok-string.ensures.borrowed
 
 pub strings-returns-in_err-push_entry-clause-value : goal.strings-returns-in_err-push_entry-clause-value
 strings-returns-in_err-push_entry-clause-value t c =
@@ -405,16 +405,16 @@ enclosed-returns-then-not-is_at-clause-value t c = rw c.invalid.ensures (enclose
 pub enclosed-returns-then-limit-eq0-clause-value : goal.enclosed-returns-then-limit-eq0-clause-value
 enclosed-returns-then-limit-eq0-clause-value t c = rw c.too_deep.ensures (enclosed_too_deep c.args.limit c.args.front.label _ _ c.if-limit-eq0.true (c.if-not-is_at.ensures.yes refl).0)
 
-pub enclosed-returns-in_err-item-clause-value : goal.enclosed-returns-in_err-item-clause-value
-enclosed-returns-in_err-item-clause-value t c =
+pub enclosed-returns-in_err-content-clause-value : goal.enclosed-returns-in_err-content-clause-value
+enclosed-returns-in_err-content-clause-value t c =
     let p = err_from_is_err_and c.from_residual.result c.from_residual.ensures.1 in
-    rw (p.1, p.2) (enclosed_fails c.in_err-item.field-0.0 c.args.limit c.args.front.label _ _ (omega arith) (c.if-not-is_at.ensures.yes refl).0 c.in_err-item.ensures.value)
+    rw (p.1, p.2) (enclosed_fails c.in_err-content.field-0.0 c.args.limit c.args.front.label _ _ (omega arith) (c.if-not-is_at.ensures.yes refl).0 c.in_err-content.ensures.value)
 
 pub enclosed-returns-then-not-is_at-2-clause-value : goal.enclosed-returns-then-not-is_at-2-clause-value
-enclosed-returns-then-not-is_at-2-clause-value t c = rw c.invalid-then-not-is_at-2.ensures (enclosed_open c.args.limit c.args.front.label _ _ _ _ (omega arith) (c.if-not-is_at.ensures.yes refl).0 c.in_ok-item.ensures.value (c.if-not-is_at-2.ensures.no refl))
+enclosed-returns-then-not-is_at-2-clause-value t c = rw c.invalid-then-not-is_at-2.ensures (enclosed_open c.args.limit c.args.front.label _ _ _ _ (omega arith) (c.if-not-is_at.ensures.yes refl).0 c.in_ok-content.ensures.value (c.if-not-is_at-2.ensures.no refl))
 
 pub enclosed-returns-clause-value : goal.enclosed-returns-clause-value
-enclosed-returns-clause-value t c = rw (c.unspaced.ensures, c.in_ok-item-2.ensures.ok) (enclosed_read c.args.limit c.args.front.label _ _ _ _ _ (omega arith) (c.if-not-is_at.ensures.yes refl).0 c.in_ok-item.ensures.value (c.if-not-is_at-2.ensures.yes refl).0)
+enclosed-returns-clause-value t c = rw (c.unspaced.ensures, c.in_ok-item.ensures.view) (enclosed_read c.args.limit c.args.front.label _ _ _ _ _ (omega arith) (c.if-not-is_at.ensures.yes refl).0 c.in_ok-content.ensures.value (c.if-not-is_at-2.ensures.yes refl).0)
 
 pub item-returns-in-Word-clause-value : goal.item-returns-in-Word-clause-value
 item-returns-in-Word-clause-value t c = ends_same _ _ _ _ _ (word_here c.args.limit _ _ _ c.in-Word.ensures.opens.0) c.worded.ensures.value

@@ -8,10 +8,10 @@ use Rattle.cbor_edn_core.proofs.CborEncodes.{empty_encoded, full_encoded, full_s
 use Rattle.std.proofs.lemmas.Result.{err_from_is_err_and}
 use Rattle.std.proofs.lemmas.List.{drop_all, length-map}
 use Rattle.cbor_edn_parts.specs.Leaves.{s_bytes, soc_bytes}
-use Rattle.cbor_edn_core.specs.declared.tree.Items.{out-Items}
-use Rattle.cbor_edn_core.specs.declared.tree.Pairs.{out-Pairs}
+use Rattle.cbor_edn_core.specs.declared.tree.ItemsOf.{out-ItemsOf}
+use Rattle.cbor_edn_core.specs.declared.tree.PairsOf.{out-PairsOf}
 use Rattle.cbor_edn_core.specs.declared.tree.SequenceOf.{out-SequenceOf}
-use Rattle.cbor_edn_core.specs.declared.tree.Strings.{out-Strings}
+use Rattle.cbor_edn_core.specs.declared.tree.StringsOf.{out-StringsOf}
 use Rattle.cbor_edn_core.specs.Value.{encoding, simple}
 use Rattle.cbor_edn_core.proofs.Views.{view_items_is, view_pairs_is, view_sequence_is, view_stream_is, view_string_is, view_strings_is}
 use Rattle.cbor_edn_core.proofs.StringEncodes.{GathersRest, none_gathered, next_gathered, next_ungathered, all_gathered, embedded_gathered, embedded_stops, stream_pushed, stream_stops, stream_mixed, has_first, string_pushed, string_marked, string_lacks, part_pushed, part_marked, part_lacks, part_is, refused_so, content_is, sequence_pushed, nothing_pushed}
@@ -20,28 +20,28 @@ use Rattle.cbor_edn_core.proofs.to_cbor.+encode.Goals as goal
 pub push_items-returns-in_err-push_row : goal.push_items-returns-in_err-push_row
 push_items-returns-in_err-push_row t c =
     let p = err_from_is_err_and c.from_residual.result c.from_residual.ensures.1 in
-    let row = map (seen texts) (out-Items _ _ _ _ _ _ _ _ c.args.items.now).row.items in
+    let row = map (seen texts) (out-ItemsOf _ _ _ _ _ _ _ c.args.items.now).row.items in
     rw (p.1, p.2, view_items_is texts c.args.items.now) (row_stops Elements row _ c.args.out.now.items c.push_row.new.out.items c.push_row.new.out.items _ (rw (← c.deref.ensures.value) c.in_err-push_row.ensures))
 
 pub push_items-returns : goal.push_items-returns
 push_items-returns t c =
-    let items = out-Items _ _ _ _ _ _ _ _ c.args.items.now in
+    let items = out-ItemsOf _ _ _ _ _ _ _ c.args.items.now in
     rw (view_items_is texts c.args.items.now)
-    (row_then_last Elements (map (seen texts) items.row.items) (ElementTree (item_tree items.last.value)) (soc_bytes items.soc) c.args.out.now.items c.push_row.new.out.items c.push_item.new.out.items c.push_item.result
-    (rw (← c.deref.ensures.value) c.in_ok-push_row.ensures) (element_encoded (item_tree items.last.value) _ _ _ (rw (← c.deref-2.ensures) c.push_item.ensures)))
+    (row_then_last Elements (map (seen texts) items.row.items) (ElementTree (item_tree items.last)) (soc_bytes items.soc) c.args.out.now.items c.push_row.new.out.items c.push_item.new.out.items c.push_item.result
+    (rw (← c.deref.ensures.value) c.in_ok-push_row.ensures) (element_encoded (item_tree items.last) _ _ _ c.push_item.ensures))
 
 pub push_pairs-returns-in_err-push_pair_row : goal.push_pairs-returns-in_err-push_pair_row
 push_pairs-returns-in_err-push_pair_row t c =
     let p = err_from_is_err_and c.from_residual.result c.from_residual.ensures.1 in
-    let row = map (seen_pair texts) (out-Pairs _ _ _ _ _ _ _ _ c.args.pairs.now).row.items in
+    let row = map (seen_pair texts) (out-PairsOf _ _ _ _ _ _ _ c.args.pairs.now).row.items in
     rw (p.1, p.2, view_pairs_is texts c.args.pairs.now) (row_stops Pairs row _ c.args.out.now.items c.push_pair_row.new.out.items c.push_pair_row.new.out.items _ (rw (← c.deref.ensures.value) c.in_err-push_pair_row.ensures))
 
 pub push_pairs-returns : goal.push_pairs-returns
 push_pairs-returns t c =
-    let pairs = out-Pairs _ _ _ _ _ _ _ _ c.args.pairs.now in
+    let pairs = out-PairsOf _ _ _ _ _ _ _ c.args.pairs.now in
     rw (view_pairs_is texts c.args.pairs.now)
-    (row_then_last Pairs (map (seen_pair texts) pairs.row.items) (view_pair texts pairs.last.value) (soc_bytes pairs.soc) c.args.out.now.items c.push_pair_row.new.out.items c.push_pair.new.out.items c.push_pair.result
-    (rw (← c.deref.ensures.value) c.in_ok-push_pair_row.ensures) (rw (← c.deref-2.ensures) c.push_pair.ensures))
+    (row_then_last Pairs (map (seen_pair texts) pairs.row.items) (view_pair texts pairs.last) (soc_bytes pairs.soc) c.args.out.now.items c.push_pair_row.new.out.items c.push_pair.new.out.items c.push_pair.result
+    (rw (← c.deref.ensures.value) c.in_ok-push_pair_row.ensures) c.push_pair.ensures)
 
 pub push_row-returns-in_err-push_item : goal.push_row-returns-in_err-push_item
 push_row-returns-in_err-push_item t c =
@@ -94,9 +94,9 @@ push_array-returns-in-Absent t c = rw c.in-Absent.is (empty_encoded Array c.in-A
 
 pub push_array-returns-in_err-width-in-Present : goal.push_array-returns-in_err-width-in-Present
 push_array-returns-in_err-width-in-Present t c =
-    let row = (out-Items _ _ _ _ _ _ _ _ c.in-Present.items).row in
-    let last = (out-Items _ _ _ _ _ _ _ _ c.in-Present.items).last.value in
-    let soc = (out-Items _ _ _ _ _ _ _ _ c.in-Present.items).soc in
+    let row = (out-ItemsOf _ _ _ _ _ _ _ c.in-Present.items).row in
+    let last = (out-ItemsOf _ _ _ _ _ _ _ c.in-Present.items).last in
+    let soc = (out-ItemsOf _ _ _ _ _ _ _ c.in-Present.items).soc in
     let n = c.len.result + 1 in
     let count : n ≡ length (map (seen texts) row.items) + 1 = simp length-map (ap (λ k. k + 1) (c.len.ensures ∙ row.ok.0)) in
     let f = c.in_err-width-in-Present.field-0.0 in
@@ -106,9 +106,9 @@ push_array-returns-in_err-width-in-Present t c =
 
 pub push_array-returns-in_err-push_items-in-Present : goal.push_array-returns-in_err-push_items-in-Present
 push_array-returns-in_err-push_items-in-Present t c =
-    let row = (out-Items _ _ _ _ _ _ _ _ c.in-Present.items).row in
-    let last = (out-Items _ _ _ _ _ _ _ _ c.in-Present.items).last.value in
-    let soc = (out-Items _ _ _ _ _ _ _ _ c.in-Present.items).soc in
+    let row = (out-ItemsOf _ _ _ _ _ _ _ c.in-Present.items).row in
+    let last = (out-ItemsOf _ _ _ _ _ _ _ c.in-Present.items).last in
+    let soc = (out-ItemsOf _ _ _ _ _ _ _ c.in-Present.items).soc in
     let n = c.len.result + 1 in
     let count : n ≡ length (map (seen texts) row.items) + 1 = simp length-map (ap (λ k. k + 1) (c.len.ensures ∙ row.ok.0)) in
     let p = err_from_is_err_and c.from_residual-in_err-push_items-in-Present.result c.from_residual-in_err-push_items-in-Present.ensures.1 in
@@ -117,9 +117,9 @@ push_array-returns-in_err-push_items-in-Present t c =
 
 pub push_array-returns-in_ok-push_list_end-in-Present : goal.push_array-returns-in_ok-push_list_end-in-Present
 push_array-returns-in_ok-push_list_end-in-Present t c =
-    let row = (out-Items _ _ _ _ _ _ _ _ c.in-Present.items).row in
-    let last = (out-Items _ _ _ _ _ _ _ _ c.in-Present.items).last.value in
-    let soc = (out-Items _ _ _ _ _ _ _ _ c.in-Present.items).soc in
+    let row = (out-ItemsOf _ _ _ _ _ _ _ c.in-Present.items).row in
+    let last = (out-ItemsOf _ _ _ _ _ _ _ c.in-Present.items).last in
+    let soc = (out-ItemsOf _ _ _ _ _ _ _ c.in-Present.items).soc in
     let n = c.len.result + 1 in
     let count : n ≡ length (map (seen texts) row.items) + 1 = simp length-map (ap (λ k. k + 1) (c.len.ensures ∙ row.ok.0)) in
     let v = c.in_ok-width-in-Present.width in
@@ -132,9 +132,9 @@ push_map-returns-in-Absent t c = rw c.in-Absent.is (empty_encoded Map c.in-Absen
 
 pub push_map-returns-in_err-width-in-Present : goal.push_map-returns-in_err-width-in-Present
 push_map-returns-in_err-width-in-Present t c =
-    let row = (out-Pairs _ _ _ _ _ _ _ _ c.in-Present.pairs).row in
-    let last = (out-Pairs _ _ _ _ _ _ _ _ c.in-Present.pairs).last.value in
-    let soc = (out-Pairs _ _ _ _ _ _ _ _ c.in-Present.pairs).soc in
+    let row = (out-PairsOf _ _ _ _ _ _ _ c.in-Present.pairs).row in
+    let last = (out-PairsOf _ _ _ _ _ _ _ c.in-Present.pairs).last in
+    let soc = (out-PairsOf _ _ _ _ _ _ _ c.in-Present.pairs).soc in
     let n = c.len.result + 1 in
     let count : n ≡ length (map (seen_pair texts) row.items) + 1 = simp length-map (ap (λ k. k + 1) (c.len.ensures ∙ row.ok.0)) in
     let f = c.in_err-width-in-Present.field-0.0 in
@@ -144,9 +144,9 @@ push_map-returns-in_err-width-in-Present t c =
 
 pub push_map-returns-in_err-push_pairs-in-Present : goal.push_map-returns-in_err-push_pairs-in-Present
 push_map-returns-in_err-push_pairs-in-Present t c =
-    let row = (out-Pairs _ _ _ _ _ _ _ _ c.in-Present.pairs).row in
-    let last = (out-Pairs _ _ _ _ _ _ _ _ c.in-Present.pairs).last.value in
-    let soc = (out-Pairs _ _ _ _ _ _ _ _ c.in-Present.pairs).soc in
+    let row = (out-PairsOf _ _ _ _ _ _ _ c.in-Present.pairs).row in
+    let last = (out-PairsOf _ _ _ _ _ _ _ c.in-Present.pairs).last in
+    let soc = (out-PairsOf _ _ _ _ _ _ _ c.in-Present.pairs).soc in
     let n = c.len.result + 1 in
     let count : n ≡ length (map (seen_pair texts) row.items) + 1 = simp length-map (ap (λ k. k + 1) (c.len.ensures ∙ row.ok.0)) in
     let p = err_from_is_err_and c.from_residual-in_err-push_pairs-in-Present.result c.from_residual-in_err-push_pairs-in-Present.ensures.1 in
@@ -155,9 +155,9 @@ push_map-returns-in_err-push_pairs-in-Present t c =
 
 pub push_map-returns-in_ok-push_list_end-in-Present : goal.push_map-returns-in_ok-push_list_end-in-Present
 push_map-returns-in_ok-push_list_end-in-Present t c =
-    let row = (out-Pairs _ _ _ _ _ _ _ _ c.in-Present.pairs).row in
-    let last = (out-Pairs _ _ _ _ _ _ _ _ c.in-Present.pairs).last.value in
-    let soc = (out-Pairs _ _ _ _ _ _ _ _ c.in-Present.pairs).soc in
+    let row = (out-PairsOf _ _ _ _ _ _ _ c.in-Present.pairs).row in
+    let last = (out-PairsOf _ _ _ _ _ _ _ c.in-Present.pairs).last in
+    let soc = (out-PairsOf _ _ _ _ _ _ _ c.in-Present.pairs).soc in
     let n = c.len.result + 1 in
     let count : n ≡ length (map (seen_pair texts) row.items) + 1 = simp length-map (ap (λ k. k + 1) (c.len.ensures ∙ row.ok.0)) in
     let v = c.in_ok-width-in-Present.width in
@@ -178,22 +178,22 @@ push_pair-returns t c =
 
 -- ---- strings
 
-pub push_item-returns-in-String : goal.push_item-returns-in-String
+pub push_compound-returns-in-String : goal.push_compound-returns-in-String
 unfolding items
-push_item-returns-in-String t c = rw c.in-String.is (subst (λ w. Encodes encoding (means (items w)) c.args.out.now.items c.push_pieces.new.out.items c.push_pieces.result) (sym (view_string_is texts c.in-String.string)) c.push_pieces.ensures)
+push_compound-returns-in-String t c = rw c.in-String.is (subst (λ w. Encodes encoding (means (items w)) c.args.out.now.items c.push_pieces.new.out.items c.push_pieces.result) (sym (view_string_is texts c.in-String.string)) c.push_pieces.ensures)
 
-pub push_item-returns-in-Stream : goal.push_item-returns-in-Stream
+pub push_compound-returns-in-Stream : goal.push_compound-returns-in-Stream
 unfolding items
-push_item-returns-in-Stream t c = rw (c.in-Stream.is, view_stream_is texts c.in-Stream.stream) c.push_stream.ensures
+push_compound-returns-in-Stream t c = rw (c.in-Stream.is, view_stream_is texts c.in-Stream.stream) c.push_stream.ensures
 
 pub push_sequence-returns-in-Some : goal.push_sequence-returns-in-Some
 push_sequence-returns-in-Some t c =
-    let f = out-SequenceOf _ _ _ _ _ _ _ _ c.args.sequence.now in
+    let f = out-SequenceOf _ _ _ _ _ _ _ c.args.sequence.now in
     rw (view_sequence_is texts c.args.sequence.now, c.in-Some.is) (sequence_pushed (s_bytes f.before) (view_items texts c.in-Some.items) c.args.out.now.items c.push_items.new.out.items c.push_items.result c.push_items.ensures)
 
 pub push_sequence-returns-in-None : goal.push_sequence-returns-in-None
 push_sequence-returns-in-None t c =
-    let f = out-SequenceOf _ _ _ _ _ _ _ _ c.args.sequence.now in
+    let f = out-SequenceOf _ _ _ _ _ _ _ c.args.sequence.now in
     rw (view_sequence_is texts c.args.sequence.now, c.in-None.is) (nothing_pushed (s_bytes f.before) c.args.out.now.items)
 
 pub push_pieces-returns-in_err-indicator : goal.push_pieces-returns-in_err-indicator
@@ -284,9 +284,9 @@ push_piece-returns-in_ok-push_sequence-in-Embedded t c =
 
 pub push_stream-returns-in_err-stream_kind : goal.push_stream-returns-in_err-stream_kind
 push_stream-returns-in_err-stream_kind t c =
-    let f = out-Strings _ _ _ _ _ _ _ _ c.args.strings.now in
+    let f = out-StringsOf _ _ _ _ _ _ _ c.args.strings.now in
     let p = err_from_is_err_and c.from_residual.result c.from_residual.ensures.1 in
-    let first = has_first (map (seen_string texts) f.row.items) (view_string texts f.last.value) (soc_bytes f.soc) in
+    let first = has_first (map (seen_string texts) f.row.items) (view_string texts f.last) (soc_bytes f.soc) in
     rw (p.1, p.2) (stream_mixed (items (view_strings texts c.args.strings.now)) c.args.out.now.items c.args.out.now.items c.in_err-stream_kind.field-0.0 (rw (view_strings_is texts c.args.strings.now) first) c.in_err-stream_kind.ensures)
 
 pub push_stream-returns-in_err-push_parts : goal.push_stream-returns-in_err-push_parts
@@ -296,23 +296,23 @@ push_stream-returns-in_err-push_parts t c =
 
 pub push_stream-returns : goal.push_stream-returns
 push_stream-returns t c =
-    let f = out-Strings _ _ _ _ _ _ _ _ c.args.strings.now in
-    let first = has_first (map (seen_string texts) f.row.items) (view_string texts f.last.value) (soc_bytes f.soc) in
+    let f = out-StringsOf _ _ _ _ _ _ _ c.args.strings.now in
+    let first = has_first (map (seen_string texts) f.row.items) (view_string texts f.last) (soc_bytes f.soc) in
     stream_pushed (items (view_strings texts c.args.strings.now)) _ c.args.out.now.items c.push_list_head.new.out.items c.push_parts.new.out.items c.push_list_end.new.out.items (rw (view_strings_is texts c.args.strings.now) first) c.in_ok-stream_kind.ensures
     (c.in_ok-push_list_head.ensures ∙ ap (λ m. c.args.out.now.items ++ list_head m None 0) c.string_major-major.ensures.major) c.in_ok-push_parts.ensures c.in_ok-push_list_end.ensures
 
 pub push_parts-returns-in_err-push_part_row : goal.push_parts-returns-in_err-push_part_row
 push_parts-returns-in_err-push_part_row t c =
     let p = err_from_is_err_and c.from_residual.result c.from_residual.ensures.1 in
-    let row = map (seen_string texts) (out-Strings _ _ _ _ _ _ _ _ c.args.strings.now).row.items in
+    let row = map (seen_string texts) (out-StringsOf _ _ _ _ _ _ _ c.args.strings.now).row.items in
     rw (p.1, p.2, view_strings_is texts c.args.strings.now) (row_stops Strings row _ c.args.out.now.items c.push_part_row.new.out.items c.push_part_row.new.out.items _ (rw (← c.deref.ensures.value) c.in_err-push_part_row.ensures))
 
 pub push_parts-returns : goal.push_parts-returns
 push_parts-returns t c =
-    let strings = out-Strings _ _ _ _ _ _ _ _ c.args.strings.now in
+    let strings = out-StringsOf _ _ _ _ _ _ _ c.args.strings.now in
     rw (view_strings_is texts c.args.strings.now)
-    (row_then_last Strings (map (seen_string texts) strings.row.items) (ChunkTree (view_string texts strings.last.value)) (soc_bytes strings.soc) c.args.out.now.items c.push_part_row.new.out.items c.push_part.new.out.items c.push_part.result
-    (rw (← c.deref.ensures.value) c.in_ok-push_part_row.ensures) (part_is (view_string texts strings.last.value) _ _ _ (rw (← c.deref-2.ensures) c.push_part.ensures)))
+    (row_then_last Strings (map (seen_string texts) strings.row.items) (ChunkTree (view_string texts strings.last)) (soc_bytes strings.soc) c.args.out.now.items c.push_part_row.new.out.items c.push_part.new.out.items c.push_part.result
+    (rw (← c.deref.ensures.value) c.in_ok-push_part_row.ensures) (part_is (view_string texts strings.last) _ _ _ c.push_part.ensures))
 
 pub push_part_row-returns-in_err-push_part : goal.push_part_row-returns-in_err-push_part
 push_part_row-returns-in_err-push_part t c =
@@ -347,9 +347,9 @@ pub push_item-returns-in_ok-push_simple-in-Named : goal.push_item-returns-in_ok-
 unfolding items means
 push_item-returns-in_ok-push_simple-in-Named t c = rw c.in-Named.is (simple (named_number c.in-Named.name), refl, c.in_ok-push_simple-in-Named.ensures ∙ ap (λ (n : ℕ). c.args.out.now.items ++ encoding (simple n)) c.simple_number.ensures)
 
-pub push_item-returns-in-Enclosed : goal.push_item-returns-in-Enclosed
+pub push_compound-returns-in-Enclosed : goal.push_compound-returns-in-Enclosed
 unfolding items
-push_item-returns-in-Enclosed t c = rw (c.in-Enclosed.is, ← c.deref.ensures) c.push_enclosed.ensures
+push_compound-returns-in-Enclosed t c = rw c.in-Enclosed.is c.push_enclosed.ensures
 
 pub push_enclosed-returns-in_err-push_marked_head-in-Tag : goal.push_enclosed-returns-in_err-push_marked_head-in-Tag
 unfolding items

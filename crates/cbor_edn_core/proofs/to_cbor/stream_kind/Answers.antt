@@ -1,6 +1,6 @@
 use Rattle.std.proofs.Common.{◌≡◌, ◌&&◌, true, false, map, sym, ap, ◌∙◌}
 use Rattle.cbor_edn_parts.specs.Leaves.{soc_bytes}
-use Rattle.cbor_edn_core.specs.declared.tree.Strings.{out-Strings}
+use Rattle.cbor_edn_core.specs.declared.tree.StringsOf.{out-StringsOf}
 use Rattle.cbor_edn_core.specs.Trees.{items}
 use Rattle.cbor_edn_core.specs.View.{texts, view_string, seen_string}
 use Rattle.cbor_edn_core.specs.Meaning.{same_kind}
@@ -12,27 +12,27 @@ use Rattle.cbor_edn_core.proofs.to_cbor.stream_kind.Goals.{else-are_of_kind-via-
 
 pub returns-then-same_kind : goal.returns-then-same_kind
 returns-then-same_kind c =
-    let f = out-Strings _ _ _ _ _ _ _ _ c.args.strings.now in
+    let f = out-StringsOf _ _ _ _ _ _ _ c.args.strings.now in
     let is = view_strings_is texts c.args.strings.now in
     let k = c.first_kind-kind.result in
     let row = kinds_are k (row_items (map (seen_string texts) f.row.items)) in
-    let last = same_kind k (form_kind (items (view_string texts f.last.value))) in
+    let last = same_kind k (form_kind (items (view_string texts f.last))) in
     let a : row ≡ true = ap (λ xs. kinds_are k (row_items (map (seen_string texts) xs))) (sym c.deref.ensures.value) ∙ sym c.are_of_kind.ensures ∙ c.if-are_of_kind.true in
-    let b : last ≡ true = ap (λ x. same_kind k (form_kind (items (view_string texts x)))) (sym c.deref-then-are_of_kind.ensures) ∙ ap (same_kind k) (sym c.form_kind.ensures) ∙ sym c.same_kind.ensures ∙ c.if-same_kind.true in
-    rw is (kind_told (map (seen_string texts) f.row.items) (view_string texts f.last.value) (soc_bytes f.soc) k true (c.first_kind-kind.ensures ∙ ap (λ w. first_kind (items w)) is) (both_are row last true true a b))
+    let b : last ≡ true = ap (same_kind k) (sym c.form_kind.ensures) ∙ sym c.same_kind.ensures ∙ c.if-same_kind.true in
+    rw is (kind_told (map (seen_string texts) f.row.items) (view_string texts f.last) (soc_bytes f.soc) k true (c.first_kind-kind.ensures ∙ ap (λ w. first_kind (items w)) is) (both_are row last true true a b))
 
 pub returns-else-are_of_kind : goal.returns-else-are_of_kind
 returns-else-are_of_kind c =
-    let f = out-Strings _ _ _ _ _ _ _ _ c.args.strings.now in
+    let f = out-StringsOf _ _ _ _ _ _ _ c.args.strings.now in
     let is = view_strings_is texts c.args.strings.now in
     let k = c.first_kind-kind.result in
     let row = kinds_are k (row_items (map (seen_string texts) f.row.items)) in
-    let last = same_kind k (form_kind (items (view_string texts f.last.value))) in
+    let last = same_kind k (form_kind (items (view_string texts f.last))) in
     let a : row ≡ c.are_of_kind.result = ap (λ xs. kinds_are k (row_items (map (seen_string texts) xs))) (sym c.deref.ensures.value) ∙ sym c.are_of_kind.ensures in
     let mixed : (row && last) ≡ false = elim c.else-are_of_kind.branch [
       | else-are_of_kind-via-then-are_of_kind+else-same_kind w ↦
-          (let b : last ≡ false = ap (λ x. same_kind k (form_kind (items (view_string texts x)))) (sym w.deref-then-are_of_kind.ensures) ∙ ap (same_kind k) (sym w.form_kind.ensures) ∙ sym w.same_kind.ensures ∙ w.if-same_kind.false in
+          (let b : last ≡ false = ap (same_kind k) (sym w.form_kind.ensures) ∙ sym w.same_kind.ensures ∙ w.if-same_kind.false in
           both_are row last true false (a ∙ w.if-are_of_kind.true) b)
       | else-are_of_kind-via-else-are_of_kind w ↦ ap (λ b. b && last) (a ∙ w.if-are_of_kind.false)
     ] in
-    rw is (kind_told (map (seen_string texts) f.row.items) (view_string texts f.last.value) (soc_bytes f.soc) k false (c.first_kind-kind.ensures ∙ ap (λ w. first_kind (items w)) is) mixed)
+    rw is (kind_told (map (seen_string texts) f.row.items) (view_string texts f.last) (soc_bytes f.soc) k false (c.first_kind-kind.ensures ∙ ap (λ w. first_kind (items w)) is) mixed)

@@ -20,5 +20,5 @@ returns-in_err-found-clause-too_deep c =
 
 pub returns-clause-accepted : goal.returns-clause-accepted
 returns-clause-accepted c =
-    sequence_decoded c.args.limit c.args.bytes.now _ (option_map (view_items texts) c.in_ok-items.items) (map item_tree (grown c.in_ok-found.found)) c.in_ok-found.field-0-1.now (λ i. omega (arith, c.type_inv.bytes i)) c.in_ok-found.ensures.exact
-    (view_sequence_made texts _ ∙ sequence_view (s_bytes c.empty.result) c.in_ok-items.items c.empty.ensures.bytes) c.in_ok-items.ensures
+    sequence_decoded c.args.limit c.args.bytes.now _ (option_map (view_items texts) c.finish_items.result) (map item_tree (grown c.in_ok-found.found)) c.in_ok-found.field-0-1.now (λ i. omega (arith, c.type_inv.bytes i)) c.in_ok-found.ensures.exact
+    (view_sequence_made texts _ ∙ sequence_view (s_bytes c.empty.result) c.finish_items.result c.empty.ensures.bytes) c.finish_items.ensures

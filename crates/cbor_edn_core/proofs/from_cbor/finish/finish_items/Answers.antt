@@ -11,5 +11,5 @@ pub returns : goal.returns
 returns c =
     let found = c.args.found in
     ap (λ m. Some m) (view_items_made texts _)
-    ∙ row_finished (λ x. ElementTree (item_tree x)) found.row.items found.last c.in-Some.last _ _ found.commas c.in-Some.is c.in_ok-new.ensures.ok c.empty.ensures
+    ∙ row_finished (λ x. ElementTree (item_tree x)) found.row.items found.last c.in-Some.last _ found.commas c.in-Some.is c.empty.ensures
     ∙ ap row_of (sym (map-map ElementTree item_tree (grown found)))

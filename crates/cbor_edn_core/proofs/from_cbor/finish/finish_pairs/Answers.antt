@@ -8,4 +8,4 @@ pub returns : goal.returns
 returns c =
     let found = c.args.found in
     ap (λ m. Some m) (view_pairs_made texts _)
-    ∙ row_finished (view_pair texts) found.row.items found.last c.in-Some.last _ _ found.commas c.in-Some.is c.in_ok-new.ensures.ok c.empty.ensures
+    ∙ row_finished (view_pair texts) found.row.items found.last c.in-Some.last _ found.commas c.in-Some.is c.empty.ensures

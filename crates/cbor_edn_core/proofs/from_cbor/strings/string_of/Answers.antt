@@ -12,14 +12,14 @@ returns-in_err-found-in-None-clause-exact c =
     let p = err_from_is_err_and c.from_residual-in_err-found-in-None.result c.from_residual-in_err-found-in-None.ensures.1 in
     rw (p.1, p.2, c.in-None.is) (chunks_fail c.args.kind c.in_err-found-in-None.field-0.0 (suc (length c.args.bytes.now)) c.args.bytes.now c.in_err-found-in-None.ensures.exact)
 
-pub returns-in_ok-string-in-Some-clause-exact : goal.returns-in_ok-string-in-Some-clause-exact
-returns-in_ok-string-in-Some-clause-exact c =
+pub returns-in_ok-item-in-Some-clause-exact : goal.returns-in_ok-item-in-Some-clause-exact
+returns-in_ok-item-in-Some-clause-exact c =
     let string = c.in_ok-string-in-Some.string in
     let rest = c.in_ok-string-in-Some.rest.now in
-    rw c.in-Some.is (alone_read c.args.kind c.in-Some.width c.in-Some.count c.args.bytes.now rest (view_string texts string) c.in_ok-string-in-Some.ensures.exact ∙ ap (λ (t : Tree OneItem). Ok (t, rest)) (sym (view_string_is texts string)))
+    rw (c.in-Some.is, c.in_ok-item-in-Some.ensures.view) (alone_read c.args.kind c.in-Some.width c.in-Some.count c.args.bytes.now rest (view_string texts string) c.in_ok-string-in-Some.ensures.exact ∙ ap (λ (t : Tree OneItem). Ok (t, rest)) (sym (view_string_is texts string)))
 
-pub returns-in_ok-strings-in-None-clause-exact : goal.returns-in_ok-strings-in-None-clause-exact
-returns-in_ok-strings-in-None-clause-exact c =
+pub returns-in_ok-item-in-None-clause-exact : goal.returns-in_ok-item-in-None-clause-exact
+returns-in_ok-item-in-None-clause-exact c =
     let found = map (view_string texts) (grown c.in_ok-found-in-None.found) in
     let rest = c.in_ok-found-in-None.rest.now in
-    rw (c.in-None.is, c.chunked.ensures, c.in_ok-strings-in-None.ensures) (chunks_read c.args.kind (suc (length c.args.bytes.now)) c.args.bytes.now rest found c.in_ok-found-in-None.ensures.exact)
+    rw (c.in-None.is, c.in_ok-item-in-None.ensures.view, c.chunked.ensures, c.finish_strings-strings.ensures) (chunks_read c.args.kind (suc (length c.args.bytes.now)) c.args.bytes.now rest found c.in_ok-found-in-None.ensures.exact)
