@@ -3,43 +3,34 @@ use cbor_edn::{Item, Sequence, StandaloneItem};
 use std::alloc::Global;
 use std::test::Fail;
 
-fn is_copy<'a>(
-    alloc: Global,
-    tree: &Sequence<'a>,
-    copy: &Sequence<'a>,
-    text: &str,
-) -> Result<bool, Fail> {
+fn is_copied(sequence: &Sequence<'_>, alloc: Global, text: &str) -> Result<bool, Fail> {
+    let copy = sequence.clone()?;
     let printed = copy.serialize(alloc)?;
-    Ok(*copy == *tree && printed.as_str() == text)
+    Ok(copy == *sequence && printed.as_str() == text)
 }
 
 /// Whether a text's sequence equals its copy, which prints the text.
 pub(crate) fn is_own_copy(alloc: Global, text: &str) -> Result<bool, Fail> {
-    let tree = Sequence::parse(alloc, text)?;
-    let copy = tree.clone()?;
-    is_copy(alloc, &tree, &copy, text)
+    let sequence = Sequence::parse(alloc, text)?;
+    is_copied(&sequence, alloc, text)
 }
 
-fn is_standalone_copy<'a>(
-    alloc: Global,
-    tree: &StandaloneItem<'a>,
-    copy: &StandaloneItem<'a>,
-    text: &str,
-) -> Result<bool, Fail> {
+fn is_copied_alone(item: &StandaloneItem<'_>, alloc: Global, text: &str) -> Result<bool, Fail> {
+    let copy = item.clone()?;
     let printed = copy.serialize(alloc)?;
-    Ok(*copy == *tree && printed.as_str() == text)
+    Ok(copy == *item && printed.as_str() == text)
 }
 
-fn is_own_standalone_copy(alloc: Global, text: &str) -> Result<bool, Fail> {
-    let tree = StandaloneItem::parse(alloc, text)?;
-    let copy = tree.clone()?;
-    is_standalone_copy(alloc, &tree, &copy, text)
+/// The same of a standalone item's text.
+fn is_own_copy_alone(alloc: Global, text: &str) -> Result<bool, Fail> {
+    let item = StandaloneItem::parse(alloc, text)?;
+    is_copied_alone(&item, alloc, text)
 }
 
 #[test]
 fn copies_texts(rt: HostRuntime) -> Result<(), Fail> {
     assert!(rt; is_own_copy(rt.alloc(), " [_ 1, /c/ 2_1 ,] {3 /e/ :4} # d\n")?);
-    assert!(rt; is_own_standalone_copy(rt.alloc(), " {_0 1 : /c/ [(_ 'a', <<2>>)] ,} ")?);
+    assert!(rt; is_own_copy_alone(rt.alloc(), " {_0 1 : /c/ [(_ 'a', <<2>>)] ,} ")?);
     Ok(())
 }
 
@@ -49,25 +40,21 @@ const MIXED: &[u8] =
 
 const MIXED_TEXT: &str = "{_ 1: [(_ h'61'), \"b\"], h''_0: -1, 1(simple(99)): [false, Infinity_1]}";
 
-fn is_item_copy<'a>(
-    alloc: Global,
-    tree: &Item<'a>,
-    copy: &Item<'a>,
-    text: &str,
-) -> Result<bool, Fail> {
+fn is_copied_item(item: &Item<'_>, alloc: Global, text: &str) -> Result<bool, Fail> {
+    let copy = item.clone()?;
     let printed = copy.serialize(alloc)?;
-    Ok(copy.is_same(tree) && printed.as_str() == text)
+    Ok(copy.is_same(item) && printed.as_str() == text)
 }
 
-fn is_own_item_copy(alloc: Global, bytes: &[u8], text: &str) -> Result<bool, Fail> {
-    let tree: Item<'_> = Item::from_cbor(alloc, bytes)?;
-    let copy = tree.clone()?;
-    is_item_copy(alloc, &tree, &copy, text)
+/// Whether the item that bytes encode equals its copy, which prints the text.
+fn is_own_copy_of_item(alloc: Global, bytes: &[u8], text: &str) -> Result<bool, Fail> {
+    let item: Item<'_> = Item::from_cbor(alloc, bytes)?;
+    is_copied_item(&item, alloc, text)
 }
 
 #[test]
 fn copies_items(rt: HostRuntime) -> Result<(), Fail> {
-    assert!(rt; is_own_item_copy(rt.alloc(), MIXED, MIXED_TEXT)?);
+    assert!(rt; is_own_copy_of_item(rt.alloc(), MIXED, MIXED_TEXT)?);
     Ok(())
 }
 
@@ -95,10 +82,14 @@ fn compares_items(rt: HostRuntime) -> Result<(), Fail> {
     Ok(())
 }
 
+fn alone<'a>(alloc: Global, bytes: &[u8]) -> Result<StandaloneItem<'a>, Fail> {
+    let item: Item<'a> = Item::from_cbor(alloc, bytes)?;
+    Ok(StandaloneItem::from(item))
+}
+
 fn printed_alone(alloc: Global, bytes: &[u8]) -> Result<String, Fail> {
-    let item: Item<'_> = Item::from_cbor(alloc, bytes)?;
-    let alone = StandaloneItem::from(item);
-    Ok(alone.serialize(alloc)?)
+    let item: StandaloneItem<'_> = alone(alloc, bytes)?;
+    Ok(item.serialize(alloc)?)
 }
 
 #[test]
