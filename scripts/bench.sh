@@ -1,0 +1,278 @@
+#!/usr/bin/env bash
+# Measures the time and the peak memory of `cbor-edn diag2cbor` against an earlier program, both in one run.
+#
+# usage: scripts/bench.sh [--runs N] [--scale N] OLD [NEW]
+#
+# OLD and NEW are paths of the program's binary, or commits. Without NEW it is the working tree's program. A commit's
+# program is built by the commit's own ./cbor-edn, in a folder outside the repository (`rt ci` refuses a second tree in
+# it), and is kept as out/bench/COMMIT/cbor-edn.
+#
+# Both programs run on one processor, in turn, 11 times each (--runs) on each input of 1 MB and of 4 MB (--scale; with
+# 1 there is no second size). Seconds are of user and system time, in the quickest run. Memory is the peak resident
+# set, the largest of the runs. A program whose time is linear takes the same seconds per MB at both sizes.
+#
+# Status 0: measured, whatever came out. Status 1: the programs wrote different bytes, or one failed; such inputs have
+# no row. Status 2: other words on the command line.
+set -euo pipefail
+
+root=$(dirname "$(dirname "$(readlink -f "$0")")")
+
+refuse() {
+  echo "bench: $1" >&2
+  echo "usage: scripts/bench.sh [--runs N] [--scale N] OLD [NEW]" >&2
+  exit 2
+}
+
+runs=11
+scale=4
+words=()
+while [ $# != 0 ]; do
+  case $1 in
+    --runs | --scale)
+      [[ ${2-} =~ ^[1-9][0-9]{0,3}$ ]] || refuse "$1 takes a number from 1 to 9999"
+      if [ "$1" = --runs ]; then runs=$2; else scale=$2; fi
+      shift 2
+      ;;
+    -*) refuse "no option $1" ;;
+    *)
+      words+=("$1")
+      shift
+      ;;
+  esac
+done
+[ ${#words[@]} = 1 ] || [ ${#words[@]} = 2 ] || refuse "one program or two"
+
+names=()
+binaries=()
+commits=()
+for word in "${words[@]}"; do
+  names+=("$word")
+  if [ -f "$word" ] && [ -x "$word" ]; then
+    binaries+=("$word")
+  elif commit=$(git -C "$root" rev-parse --verify --quiet "$word^{commit}"); then
+    binaries+=("$root/out/bench/$commit/cbor-edn")
+    commits+=("$commit")
+  else
+    refuse "$word is neither a binary nor a commit"
+  fi
+done
+
+work=$(mktemp -d)
+tree=$work/tree
+clean() {
+  [ ! -e "$tree" ] || git -C "$root" worktree remove --force "$tree" || true
+  rm -rf "$work"
+}
+trap clean EXIT
+trap 'exit 130' INT TERM
+
+build() {
+  local folder=$root/out/bench/$1 status=0
+  echo "bench: the program of $1 is missing" >&2
+  mkdir -p "$folder"
+  git -C "$root" worktree add --quiet --detach "$tree" "$1"
+  "$tree/cbor-edn" diag2cbor < /dev/null || status=$?
+  if [ "$status" != 0 ]; then
+    cp "$tree/out/cbor-edn.log" "$folder/" && echo "bench: a copy of that file is $folder/cbor-edn.log" >&2
+    exit "$status"
+  fi
+  cp "$tree/out/cbor-edn" "$folder/cbor-edn.new"
+  mv "$folder/cbor-edn.new" "$folder/cbor-edn"
+  git -C "$root" worktree remove --force "$tree"
+}
+
+for commit in ${commits[@]+"${commits[@]}"}; do
+  [ -x "$root/out/bench/$commit/cbor-edn" ] || build "$commit"
+done
+if [ ${#words[@]} = 1 ]; then
+  "$root/cbor-edn" diag2cbor < /dev/null
+  names+=("the working tree")
+  binaries+=("$root/out/cbor-edn")
+fi
+# copies, so that a build in the meantime changes nothing
+cp "${binaries[0]}" "$work/old"
+cp "${binaries[1]}" "$work/new"
+echo "old: ${names[0]}"
+echo "new: ${names[1]}"
+
+python3 - "$work" "$runs" "$scale" << 'EOF_PYTHON'
+import ctypes
+import os
+import signal
+import sys
+
+MB = 1_000_000
+SIDES = ("old", "new")
+SUBREAPER = 36  # prctl's word: orphans below this process become its children
+
+work, runs, scale = sys.argv[1], int(sys.argv[2]), int(sys.argv[3])
+
+
+def fill(begin, units, between, end):
+    """Answers what makes a text of about some size: the units, again and again, joined and enclosed."""
+
+    def text(size):
+        row = between.join(units)
+        count = round(size / len((row + between).encode()))
+        return (begin + between.join([row] * count) + end).encode()
+
+    return text
+
+
+def array(*units):
+    return fill("[", units, ", ", "]")
+
+
+def sequence(*units):
+    return fill("", units, " ", "")
+
+
+# as many arrays in one another as are read
+DEEP = 512
+WORDS = "true false null undefined simple(0) simple(255) Infinity -Infinity NaN NaN_3".split()
+KINDS = {
+    "integers": array(*(str(digit) * digit for digit in range(1, 10))),
+    "ones": sequence("1"),
+    "maps": array("{1: 2, 3: 4}", "{1234: 56789, 6: -7}"),
+    "texts": array('"a"', '"words of a text"', '"é and \\u00e9, \\"quoted\\"\\n"'),
+    "one text": fill('"', ["words of a text, é and \\u00e9, "], "", '"'),
+    "byte strings": array("h'00'", "h'0123456789abcdef'", "h'FEDC BA98'"),
+    "one byte string": fill("h'", ["0123456789abcdef"], "", "'"),
+    "concatenations": array("'a' + 'b'"),
+    "one concatenation": fill("", ["'a'", "h'62'"], " + ", ""),
+    "streams": array("(_ 'a', 'b')"),
+    "one stream": fill("(_ ", ["'a'", "'b'"], ", ", ")"),
+    "tags": array("1(2)"),
+    "embedded": array("<<1, 2>>"),
+    "comments": sequence("/ words of a comment /   1 # to the end of the line\n", "2 /c/\t"),
+    "arrays, 512 deep": sequence("[" * DEEP + "]" * DEEP),
+    "embedded, 512 deep": sequence("<<" * DEEP + ">>" * DEEP),
+    "words": array(*WORDS),
+}
+
+
+def run(side, source, sink):
+    """Runs a program once. Answers whether it succeeded, its seconds of processor time and its peak of memory in bytes."""
+    # A peak begins with what the process had before its exec. Started from here it would have had Python's memory:
+    # so setsid starts it, which is small, ends at once and leaves it to this process.
+    files = [
+        (os.POSIX_SPAWN_OPEN, 0, source, os.O_RDONLY, 0),
+        (os.POSIX_SPAWN_OPEN, 1, sink, os.O_WRONLY | os.O_CREAT | os.O_TRUNC, 0o600),
+        (os.POSIX_SPAWN_OPEN, 2, f"{work}/said", os.O_WRONLY | os.O_CREAT | os.O_TRUNC, 0o600),
+    ]
+    command = ["setsid", "--fork", f"{work}/{side}", "diag2cbor"]
+    starter = os.posix_spawnp("setsid", command, os.environ, file_actions=files)
+    ended = {}
+    try:
+        while len(ended) < 2:
+            process, status, usage = os.wait4(-1, 0)
+            ended[process] = status, usage.ru_utime + usage.ru_stime, usage.ru_maxrss * 1024
+    except KeyboardInterrupt:
+        with open(f"/proc/self/task/{os.getpid()}/children") as children:
+            for process in children.read().split():
+                os.kill(int(process), signal.SIGKILL)
+        raise
+    del ended[starter]
+    ((status, seconds, peak),) = ended.values()
+    return status == 0, seconds, peak
+
+
+def said():
+    with open(f"{work}/said", errors="replace") as lines:
+        return lines.readline().strip() or "no word"
+
+
+def content(path):
+    with open(path, "rb") as file:
+        return file.read()
+
+
+def written(side, source):
+    """What a program writes, and if it fails its word."""
+    sink = f"{work}/output"
+    if not run(side, source, sink)[0]:
+        return None, f"{side} fails: {said()}"
+    return content(sink), f"{side} writes {os.path.getsize(sink)} bytes"
+
+
+def difference(source):
+    """The first difference of what the programs write, or none."""
+    (old, of_old), (new, of_new) = (written(side, source) for side in SIDES)
+    if old is None or new is None:
+        return "; ".join(word for output, word in ((old, of_old), (new, of_new)) if output is None)
+    if old == new:
+        return None
+    place = next((at for at, (one, other) in enumerate(zip(old, new)) if one != other), min(len(old), len(new)))
+    return f"different bytes, first at {place}; {of_old}, {of_new}"
+
+
+def measure(source):
+    """By side: the seconds of the quickest run and the largest peak."""
+    seconds, peaks = ({side: [] for side in SIDES} for _ in range(2))
+    for turn in range(runs):
+        for side in SIDES if turn % 2 == 0 else reversed(SIDES):
+            succeeded, took, peak = run(side, source, os.devnull)
+            if not succeeded:
+                sys.exit(f"bench: {side} failed in a later run: {said()}")
+            seconds[side].append(took)
+            peaks[side].append(peak)
+    return {side: (min(seconds[side]), max(peaks[side])) for side in SIDES}
+
+
+def ratio(old, new):
+    return f"{old / new:.2f}" if new else "-"
+
+
+def main():
+    if ctypes.CDLL(None).prctl(SUBREAPER, 1, 0, 0, 0) != 0:
+        sys.exit("bench: prctl refuses")
+    processor = max(os.sched_getaffinity(0))
+    os.sched_setaffinity(0, {processor})
+    sizes = [MB] if scale == 1 else [MB, scale * MB]
+    inputs = {"no input": [f"{work}/empty"]}
+    open(f"{work}/empty", "wb").close()
+    for at, (kind, text) in enumerate(KINDS.items()):
+        inputs[kind] = []
+        for size in sizes:
+            inputs[kind].append(f"{work}/input-{at}-{size}")
+            with open(inputs[kind][-1], "wb") as file:
+                file.write(text(size))
+
+    wrong = set()
+    for kind, sources in inputs.items():
+        for source in sources:
+            found = difference(source)
+            if found:
+                wrong.add(kind)
+                print(f"bench: {kind}, {os.path.getsize(source)} bytes: {found}", file=sys.stderr)
+
+    print(f"processor {processor}, {runs} runs each", flush=True)
+    empty = {} if "no input" in wrong else measure(f"{work}/empty")
+    for side, (seconds, peak) in empty.items():
+        print(f"no input, {side}: {seconds:.4f} seconds, peak memory {peak} bytes")
+    print()
+    titles = [f"{side} {size // MB} MB" for side in SIDES for size in sizes]
+    per_mb = 10 * len(titles)
+    print(f"{'':18}{'seconds, 1 MB':^26}{'peak memory, bytes':^24}{'seconds per MB':^{per_mb}}".rstrip())
+    print(f"{'':18}{'':26}{'per byte, 1 MB':^24}".rstrip())
+    heads = "".join(f"{word:>9}" for word in ("old", "new")) + f"{'old/new':>8}"
+    heads += "".join(f"{word:>8}" for word in ("old", "new", "old/new"))
+    print(f"{'input':18}{heads}" + "".join(f"{word:>10}" for word in titles))
+    for kind in KINDS:
+        if kind in wrong:
+            continue
+        found = [(os.path.getsize(source), measure(source)) for source in inputs[kind]]
+        size, ((old, old_peak), (new, new_peak)) = found[0][0], found[0][1].values()
+        row = f"{kind:18}{old:9.4f}{new:9.4f}{ratio(old, new):>8}"
+        row += f"{old_peak / size:8.2f}{new_peak / size:8.2f}{ratio(old_peak, new_peak):>8}"
+        row += "".join(f"{sides[side][0] / size * MB:10.4f}" for side in SIDES for size, sides in found)
+        print(row, flush=True)
+    if wrong:
+        sys.exit(f"bench: not measured, as the programs differ or fail: {', '.join(sorted(wrong))}")
+
+
+try:
+    main()
+except KeyboardInterrupt:
+    sys.exit(130)
+EOF_PYTHON
