@@ -1,24 +1,59 @@
-//! What is shown of trees while a program is written.
-use crate::tree::{ItemOf, SequenceOf, StandaloneItemOf};
+//! Trees as they are shown to those who look for an error: numbers, words and single literals as they are written, of
+//! anything else only its form.
+use crate::tree::{CborString, Compound, InnerItem, Item, Piece, Sequence, StandaloneItem};
 use std::fmt;
 
-impl<O: Drop, M: Drop, C: Drop, E: Drop, N: Drop, L: Drop, D: Drop> fmt::Debug
-    for ItemOf<O, M, C, E, N, L, D> {
+impl fmt::Debug for Item<'_> {
     fn fmt<W: fmt::Write>(&self, f: &mut fmt::Formatter<W>) -> fmt::Result {
-        f.write_str("Item { .. }")
+        f.write_str(outline(self))
     }
 }
 
-impl<O: Drop, M: Drop, C: Drop, E: Drop, N: Drop, L: Drop, D: Drop> fmt::Debug
-    for StandaloneItemOf<O, M, C, E, N, L, D> {
+impl fmt::Debug for StandaloneItem<'_> {
     fn fmt<W: fmt::Write>(&self, f: &mut fmt::Formatter<W>) -> fmt::Result {
-        f.write_str("StandaloneItem { .. }")
+        f.write_str(outline(&self.item))
     }
 }
 
-impl<O: Drop, M: Drop, C: Drop, E: Drop, N: Drop, L: Drop, D: Drop> fmt::Debug
-    for SequenceOf<O, M, C, E, N, L, D> {
+impl fmt::Debug for Sequence<'_> {
     fn fmt<W: fmt::Write>(&self, f: &mut fmt::Formatter<W>) -> fmt::Result {
-        f.write_str("Sequence { .. }")
+        let Some(items) = &self.items else {
+            return Ok(());
+        };
+        for (item, _) in &items.row {
+            f.write_str(outline(item))?;
+            f.write_str(", ")?;
+        }
+        f.write_str(outline(&items.last))
+    }
+}
+
+fn outline<'b>(item: &'b Item<'_>) -> &'b str {
+    match &item.inner {
+        InnerItem::Number(number, _) => number.as_str(),
+        InnerItem::NonFinite(float, _) => float.as_str(),
+        InnerItem::Named(name) => name.as_str(),
+        InnerItem::Compound(compound) => outline_of(compound),
+    }
+}
+
+fn outline_of<'b>(compound: &'b Compound<'_>) -> &'b str {
+    match compound {
+        Compound::Enclosed(_, _) => "(..)",
+        Compound::Array(_) => "[..]",
+        Compound::Map(_) => "{..}",
+        Compound::String(string) => outline_of_string(string),
+        Compound::Stream(_) => "(_ ..)",
+    }
+}
+
+fn outline_of_string<'b>(string: &'b CborString<'_>) -> &'b str {
+    if !string.row.is_empty() {
+        return ".. + ..";
+    }
+    match &string.last {
+        Piece::Literal(literal, _) => literal.as_str(),
+        Piece::Dots(dots) => dots.as_str(),
+        Piece::Embedded(_, _) => "<<..>>",
     }
 }

@@ -101,6 +101,32 @@ fn a_standalone_item_has_no_space_at_first(rt: HostRuntime) -> Result<(), Fail> 
     Ok(())
 }
 
+fn shown(alloc: Global, text: &str) -> Result<String, Fail> {
+    let tree = Sequence::parse(alloc, text)?;
+    Ok(format!(in alloc; "{tree:?}")?)
+}
+
+#[test]
+fn shows_numbers_words_literals_and_forms(rt: HostRuntime) -> Result<(), Fail> {
+    for (text, outline) in [
+        (" ", ""),
+        ("12_1", "12"),
+        ("NaN_1, true", "NaN, true"),
+        ("[1], {2: 3}, 1(2)", "[..], {..}, (..)"),
+        ("h'00'_0, 'a' + 'b'", "h'00', .. + .."),
+        ("<<1>>, ..., (_ 'a')", "<<..>>, ..., (_ ..)"),
+    ] {
+        assert_eq!(rt; shown(rt.alloc(), text)?.as_str(), outline, "{text:?}");
+    }
+    Ok(())
+}
+
+// A list keeps its items side by side, so that each byte of an item counts.
+#[test]
+fn items_are_small(rt: HostRuntime) {
+    assert!(rt; std::mem::size_of::<Item<'static>>() <= 48);
+}
+
 fn are_equal(alloc: Global, one: &str, other: &str) -> Result<bool, Fail> {
     let one = Sequence::parse(alloc, one)?;
     let other = Sequence::parse(alloc, other)?;
