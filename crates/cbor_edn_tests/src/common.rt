@@ -4,10 +4,11 @@ use std::alloc::Global;
 use std::fmt::Debug;
 use std::test::Fail;
 
-/// The text that the items of a text are printed as.
-pub(crate) fn printed(alloc: Global, text: &str) -> Result<String, Fail> {
+/// Whether a text is accepted, and printed as itself.
+pub(crate) fn prints_itself(alloc: Global, text: &str) -> Result<bool, Fail> {
     let sequence = Sequence::parse(alloc, text)?;
-    Ok(sequence.serialize(alloc)?)
+    let printed = sequence.serialize(alloc)?;
+    Ok(printed.as_str() == text)
 }
 
 /// The bytes of a text's items in lower case digits, or the name of the refusal: `parse` where the text is refused.
@@ -47,8 +48,8 @@ pub(crate) fn decoded_item(alloc: Global, bytes: &[u8], limit: usize) -> Result<
 pub(crate) fn stand_for_each_other(alloc: Global, text: &str, digits: &str) -> Result<bool, Fail> {
     let there = encoded(alloc, text)?;
     let back = decoded(alloc, digits)?;
-    let same = printed(alloc, text)?;
-    Ok(there.as_str() == digits && back.as_str() == text && same.as_str() == text)
+    let is_same = prints_itself(alloc, text)?;
+    Ok(is_same && there.as_str() == digits && back.as_str() == text)
 }
 
 /// Why a text is refused whose items may nest so deep, or nothing where it is accepted.

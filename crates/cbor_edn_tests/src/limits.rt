@@ -1,5 +1,5 @@
 //! How deep texts may nest, and how often a text is looked at.
-use crate::common::{encoded, printed, refusal, repeated};
+use crate::common::{encoded, prints_itself, refusal, repeated};
 use crate::trees::is_own_copy;
 use cbor_edn::{Looks, NESTING_LIMIT, Sequence, StandaloneItem};
 use std::alloc::Global;
@@ -69,10 +69,7 @@ fn accepts_the_deepest(rt: HostRuntime) -> Result<(), Fail> {
     let alloc = rt.alloc();
     assert_eq!(rt; NESTING_LIMIT, 512);
     let deepest = repeated(alloc, 512, "[", "]")?;
-    assert_eq!(rt;
-        printed(alloc, deepest.as_str())?.as_str(),
-        deepest.as_str()
-    );
+    assert!(rt; prints_itself(alloc, deepest.as_str())?);
     assert_eq!(rt; encoded(alloc, deepest.as_str())?.len(), 1024);
     assert!(rt; is_own_copy(alloc, deepest.as_str())?);
     Ok(())

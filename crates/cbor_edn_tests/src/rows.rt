@@ -1,5 +1,5 @@
 //! Texts of numbers, arrays and maps, and the bytes that they mean.
-use crate::common::{encoded, encoded_alone, printed};
+use crate::common::{encoded, encoded_alone, prints_itself};
 use std::test::Fail;
 
 const ENCODED: [(&str, &str); 44] = [
@@ -67,7 +67,7 @@ const ENCODED: [(&str, &str); 44] = [
 fn encodes_rows(rt: HostRuntime) -> Result<(), Fail> {
     for (text, digits) in ENCODED {
         assert_eq!(rt; encoded(rt.alloc(), text)?.as_str(), digits, "{text:?}");
-        assert_eq!(rt; printed(rt.alloc(), text)?.as_str(), text);
+        assert!(rt; prints_itself(rt.alloc(), text)?, "{text:?}");
     }
     Ok(())
 }
@@ -136,7 +136,7 @@ const REFUSED: [(&str, &str); 27] = [
 fn refuses_what_means_nothing(rt: HostRuntime) -> Result<(), Fail> {
     for (text, name) in REFUSED {
         assert_eq!(rt; encoded(rt.alloc(), text)?.as_str(), name, "{text:?}");
-        assert_eq!(rt; printed(rt.alloc(), text)?.as_str(), text);
+        assert!(rt; prints_itself(rt.alloc(), text)?, "{text:?}");
     }
     Ok(())
 }

@@ -15,10 +15,19 @@ pub(crate) fn is_own_copy(alloc: Global, text: &str) -> Result<bool, Fail> {
     is_copied(&sequence, alloc, text)
 }
 
+fn is_copy_alone<'a>(
+    item: &StandaloneItem<'a>,
+    copy: &StandaloneItem<'a>,
+    alloc: Global,
+    text: &str,
+) -> Result<bool, Fail> {
+    let printed = copy.serialize(alloc)?;
+    Ok(*copy == *item && printed.as_str() == text)
+}
+
 fn is_copied_alone(item: &StandaloneItem<'_>, alloc: Global, text: &str) -> Result<bool, Fail> {
     let copy = item.clone()?;
-    let printed = copy.serialize(alloc)?;
-    Ok(copy == *item && printed.as_str() == text)
+    is_copy_alone(item, &copy, alloc, text)
 }
 
 /// The same of a standalone item's text.
