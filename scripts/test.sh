@@ -1,6 +1,6 @@
 #!/usr/bin/env bash
-# All tests: each proof, edit that must fail, test and program (`rt ci`), and then the calls of each crate *_memory with
-# each of their allocations refused in turn. The last line is 'N passed, M failed'.
+# All tests: where a text is read (a look at the sources), each proof, edit that must fail, test and program (`rt ci`), and
+# then the calls of each crate *_memory with each of their allocations refused in turn. The last line is 'N passed, M failed'.
 set -euo pipefail
 
 cd "$(dirname "$(readlink -f "$0")")/.."
@@ -27,6 +27,7 @@ add() {
   fi
 }
 
+add scripts/check-reads.sh
 add rt ci
 for crate in crates/*_memory; do
   add scripts/refuse-memory.sh "$(basename "$crate")"

@@ -100,7 +100,15 @@ module _ (limit : ℕ) (bytes : List ℕ) where
       let good = item_takes limit bytes s.0 fits s.1 in
       let tree : y.0 ≡ regular (item_of v) = ap (λ (p : Tree OneItem × List ℕ). p.0) (sym s.2) ∙ tree_of_item v in
       let rest_is : s.0.1 ≡ y.1 = ap (λ (p : Tree OneItem × List ℕ). p.1) s.2 in
-      (v, (encoding v, (good.0.0, refl), good.1.parts ∙ ap (λ (l : List ℕ). encoding v ++ l) rest_is), good.0.1, tree, ap (λ w. means (items w)) tree ∙ ap means (items_again v) ∙ item_means v good.0.0)
+      let same : items y.0 ≡ item_of v = ap (λ (w : Tree OneItem). items w) tree ∙ items_again v in
+      record {
+        value = v;
+        encoded = (encoding v, (good.0.0, refl), good.1.parts ∙ ap (λ (l : List ℕ). encoding v ++ l) rest_is);
+        within = good.0.1;
+        same_items = same;
+        spaced = tree;
+        meant = ap means same ∙ item_means v good.0.0;
+      }
 
   pub refused : (e : CborError) → item_at trees limit bytes ≡ Err e → e ≢ TooDeep → NoneIs (Somewhere bytes)
   refused e is other v somewhere = other (outcome_err (nesting v) limit (tree_of v, somewhere.0) e (sym (tree_found v somewhere.0 somewhere.1) ∙ is)).1
@@ -118,8 +126,15 @@ module _ (limit : ℕ) (bytes : List ℕ) where
   pub found_whole : (y : Tree OneItem × List ℕ) → IsBytes bytes → item_at trees limit bytes ≡ Ok y → y.1 ≡ [] → IsDecoded limit (Enc bytes) y.0
   found_whole y fits e ends =
       let d = found y fits e in
-      let same : bytes ≡ d.1.0 = d.1.2 ∙ ap (λ (l : List ℕ). d.1.0 ++ l) ends ∙ append-nil d.1.0 in
-      (d.0, subst (λ (l : List ℕ). Enc l d.0) (sym same) d.1.1, d.2, d.3, d.4)
+      let same : bytes ≡ d.encoded.0 = d.encoded.2 ∙ ap (λ (l : List ℕ). d.encoded.0 ++ l) ends ∙ append-nil d.encoded.0 in
+      record {
+        value = d.value;
+        encoded = subst (λ (l : List ℕ). Enc l d.value) (sym same) d.encoded.1;
+        within = d.within;
+        same_items = d.same_items;
+        spaced = d.spaced;
+        meant = d.meant;
+      }
 
   pub refused_whole : (e : CborError) → item_at trees limit bytes ≡ Err e → e ≢ TooDeep → NoneIs (Enc bytes)
   refused_whole e is other v enc = refused e is other v (whole v enc)
@@ -225,7 +240,8 @@ module _ (limit : ℕ) (bytes : List ℕ) where
   sequence_decoded w o ws rest fits e tree row =
       let f = sequence_found (ws, rest) fits e in
       let is : w ≡ regular_sequence (items_of f.0) = tree ∙ ap sequence_tree_of (row ∙ f.3) in
-      (f.0, f.1, f.2, is, ap (λ t. means (items t)) is ∙ ap means (sequence_items (items_of f.0) (regular (items_of f.0)) (row_again f.0)) ∙ f.4)
+      let same : items w ≡ items_of f.0 = ap (λ (t : Tree Seq). items t) is ∙ sequence_items (items_of f.0) (regular (items_of f.0)) (row_again f.0) in
+      record { values = f.0; encoded = f.1; within = f.2; same_items = same; spaced = is; meant = ap means same ∙ f.4 }
 
 pub sequence_view : (s : List ℕ) (o : Option (ItemsOf S Ms Msc Soc Number Literal Dots)) → s ≡ [] → view_some texts s o ≡ sequence_tree_of (option_map (view_items texts) o)
 sequence_view s None e = ap NothingTree e

@@ -5,17 +5,13 @@ use Rattle.cbor_edn_core.specs.Trees.{Tree, Seq, items}
 use Rattle.cbor_edn_core.specs.Spelling.{SpellsSequence}
 use Rattle.cbor_edn_core.specs.Value.{Values, encodings}
 use Rattle.cbor_edn_core.specs.Meaning.{means}
-use Rattle.cbor_edn_core.specs.Decoded.{items_of, regular, IsDecodedSequence}
+use Rattle.cbor_edn_core.specs.Decoded.{IsDecodedSequence}
 use Rattle.cbor_edn_core.specs.Recoding.{IsTextOf}
-use Rattle.cbor_edn_core.proofs.Decoding.{row_again}
-use Rattle.cbor_edn_core.proofs.Decodes.{sequence_items}
 use Rattle.cbor_edn_core.proofs.GrammarLaws.{unique_items}
 use Rattle.cbor_edn_core.proofs.Nestings.{items_nest}
 
 pub text_of_decoded : (limit : ℕ) (bytes t : List ℕ) (w : Tree Seq) → IsDecodedSequence limit bytes w → SpellsSequence (items w) t → IsTextOf limit bytes t
-text_of_decoded limit bytes t w (vs, enc, nested, tree, meant) spelled =
-    let is : items w ≡ items_of vs = ap items tree ∙ sequence_items limit bytes (items_of vs) (regular (items_of vs)) (row_again vs) in
-    (items w, vs, spelled, omega (arith, ap nesting is, items_nest vs, nested), meant, enc)
+text_of_decoded limit bytes t w d spelled = (items w, d.values, spelled, omega (arith, ap nesting d.same_items, items_nest d.values, d.within), d.meant, d.encoded)
 
 -- what a text spells means what the text is of
 pub meant_by_text : (limit : ℕ) (bytes t : List ℕ) (x : Items) → IsTextOf limit bytes t → SpellsSequence x t → (vs : Values) × (means x ≡ Some vs)

@@ -13,7 +13,7 @@ use Rattle.cbor_edn_parts.specs.declared.string.StringKind.TheVariants.{Bytes, T
 use Rattle.cbor_edn_core.specs.declared.cbor.Width.{Width}
 use Rattle.cbor_edn_core.specs.declared.cbor.Width.TheVariants.{Immediate, One, Two, Four, Eight}
 use Rattle.cbor_edn_core.specs.declared.from_cbor.CborError.{CborError}
-use Rattle.cbor_edn_core.specs.declared.from_cbor.CborError.TheVariants.{OutOfData, Reserved, MissingArgument, OtherChunk, OpenChunk, OpenNumber, MisplacedBreak, MissingBytes, InvalidUtf8, DataAfter, TooDeep, InvalidSimple, FloatOutOfScope}
+use Rattle.cbor_edn_core.specs.declared.from_cbor.CborError.TheVariants.{OutOfData, Reserved, MissingArgument, OtherChunk, OpenChunk, OpenNumber, MisplacedBreak, MissingBytes, InvalidUtf8, TooDeep, InvalidSimple, FloatOutOfScope}
 use Rattle.cbor_edn_core.specs.declared.from_cbor.reader.Stop.{Stop}
 use Rattle.cbor_edn_core.specs.declared.from_cbor.reader.Stop.TheVariants.{Break, EndOfData}
 use Rattle.cbor_edn_core.specs.Items as kind
@@ -269,9 +269,3 @@ trees = record {
   simple = simple_tree;
   float = λ w f. FloatTree f (float_indicator w);
 }
-
--- An item with nothing behind it.
-abbrev pub whole : {A : Type 0} → Reads A → Result A CborError
-whole (Ok (x, [])) = Ok x
-whole (Ok (x, b ∷ rest)) = Err DataAfter
-whole (Err e) = Err e

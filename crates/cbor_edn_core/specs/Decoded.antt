@@ -159,12 +159,24 @@ regular_sequence m = sequence_tree_of (regular m)
 abbrev pub Begins : List ℕ → List ℕ → Value → Type 0
 Begins bytes rest v = (front : List ℕ) × Enc front v × (bytes ≡ front ++ rest)
 
--- The tree is that of a value that is encoded so and nests no deeper than the limit, and it means this value.
-abbrev pub IsDecoded : ℕ → (Value → Type 0) → Tree OneItem → Type 0
-IsDecoded limit Encoded w = (v : Value) × Encoded v × (nesting v ≤ limit) × (w ≡ regular (item_of v)) × (means (items w) ≡ Some v)
+-- The tree is that of a value that is encoded so and nests no deeper than the limit: its items are those of the value, with the
+-- spaces of a single line, and mean this value.
+pub record IsDecoded (limit : ℕ) (Encoded : Value → Type 0) (w : Tree OneItem) : Type 0 where
+  pub value : Value
+  pub encoded : Encoded value
+  pub within : nesting value ≤ limit
+  pub same_items : items w ≡ item_of value
+  pub spaced : w ≡ regular (item_of value)
+  pub meant : means (items w) ≡ Some value
 
-abbrev pub IsDecodedSequence : ℕ → List ℕ → Tree Seq → Type 0
-IsDecodedSequence limit bytes w = (vs : Values) × EncAll bytes vs × (values_nesting vs ≤ limit) × (w ≡ regular_sequence (items_of vs)) × (means (items w) ≡ Some vs)
+-- The same of the values of a sequence, whose encodings are all of the bytes.
+pub record IsDecodedSequence (limit : ℕ) (bytes : List ℕ) (w : Tree Seq) : Type 0 where
+  pub values : Values
+  pub encoded : EncAll bytes values
+  pub within : values_nesting values ≤ limit
+  pub same_items : items w ≡ items_of values
+  pub spaced : w ≡ regular_sequence (items_of values)
+  pub meant : means (items w) ≡ Some values
 
 -- ---- refusals
 

@@ -1,7 +1,15 @@
 -- What an answer to a whole text says of it: of sequences with `SpellsSequence`, of standalone items with `SpellsOne`.
-use Rattle.std.specs.Prelude.{ℕ, List, ◌≤◌, ◌<◌}
+use Rattle.std.specs.Prelude.{ℕ, List, ◌≡◌, ◌≤◌, ◌<◌}
+use Rattle.cbor_edn_parts.specs.declared.error.ParseError.{ParseError}
+use Rattle.cbor_edn_parts.specs.declared.error.ParseErrorKind.TheVariants as kind
+use Rattle.cbor_edn_parts.specs.Errors.{error_kind, error_offset, error_line, error_column}
+use Rattle.cbor_edn_parts.specs.Place.{IsPlace}
+use Rattle.cbor_edn_core.specs.Borrowed.{BorrowsSequence, BorrowsStandalone}
 use Rattle.cbor_edn_core.specs.Items.{Sort, Node, nesting}
 use Rattle.cbor_edn_core.specs.Marks.{marks}
+use Rattle.cbor_edn_core.specs.Spelling.{SpellsSequence, SpellsOne}
+use Rattle.cbor_edn_core.specs.Trees.{Rule, Tree, Joined, items, text}
+use Rattle.cbor_edn_core.specs.View.{Sequence, StandaloneItem, sequence_tree, standalone_tree}
 
 module _ {s : Sort} (Spelled : Node s → List ℕ → Type 0) where
   -- Accepted with these items: the text spells them, and they nest at most `limit` deep.
@@ -17,3 +25,23 @@ module _ {s : Sort} (Spelled : Node s → List ℕ → Type 0) where
   pub record IsTooDeep (limit : ℕ) (text : List ℕ) : Type 0 where
     pub deeper : (x : Node s) → Spelled x text → limit < nesting x
     pub marked : limit < marks text
+
+  -- What a refusal says of the text, and the place that it names.
+  pub record Unparsed (limit : ℕ) (text : List ℕ) (e : ParseError) : Type 0 where
+    pub invalid : error_kind e ≡ kind.Invalid → IsInvalid text
+    pub too_deep : error_kind e ≡ kind.TooDeep → IsTooDeep limit text
+    pub place : IsPlace text (error_offset e) (error_line e) (error_column e)
+
+-- What is read of a text: it prints the text, which spells its items within the limit; behind an indicator's mandatory space
+-- no other space stands; and each of its texts is borrowed from the text.
+pub record Parsed {s : Sort} {r : Rule} {X : Type 0} (Spelled : Node s → List ℕ → Type 0) (items_of : Tree r → Node s) (tree_of : X → Tree r) (Borrows : X → Type 0) (limit : ℕ) (input : List ℕ) (x : X) : Type 0 where
+  pub prints : text (tree_of x) ≡ input
+  pub accepted : IsAccepted Spelled limit input (items_of (tree_of x))
+  pub joined : Joined (tree_of x)
+  pub borrowed : Borrows x
+
+abbrev pub ParsedSequence : ℕ → List ℕ → Sequence → Type 0
+ParsedSequence = Parsed SpellsSequence items sequence_tree BorrowsSequence
+
+abbrev pub ParsedStandalone : ℕ → List ℕ → StandaloneItem → Type 0
+ParsedStandalone = Parsed SpellsOne items standalone_tree BorrowsStandalone

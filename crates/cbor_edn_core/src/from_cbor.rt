@@ -1,10 +1,9 @@
 //! Items from their CBOR encoding.
-ghost use Rattle.std.specs.Prelude.{◌≡◌, ◌≢◌, ◌↔◌, ℕ, List, Err, IfOk, IsTrue};
+ghost use Rattle.std.specs.Prelude.{◌≡◌, ◌≢◌, ◌↔◌, ℕ, List, IfOk, IsTrue};
 ghost use Rattle.cbor_edn_core.specs.Trees.{Tree, OneItem};
 ghost use Rattle.cbor_edn_core.specs.View.{item_tree, standalone_tree, sequence_tree};
 ghost use Rattle.cbor_edn_core.specs.Value.{Enc};
 ghost use Rattle.cbor_edn_parts.specs.Refusals.{IfTold};
-ghost use Rattle.cbor_edn_core.specs.CborReading.{trees, item_at, sequence_at, whole};
 ghost use Rattle.cbor_edn_core.specs.Decoded.{Begins, IsDecoded, IsDecodedSequence, NoneIs, IsTooDeep, NoSequence, IsTooDeepSequence, alone};
 
 use crate::tree::{Item, NESTING_LIMIT, Sequence, StandaloneItem};
@@ -68,7 +67,6 @@ impl<'a> Item<'a> {
         ensures accepted { IfOk result (λ t. IsDecoded NESTING_LIMIT (Enc bytes.now) (item_tree t)) }
         ensures refused { IfTold result (λ e. e ≢ CborError.TooDeep → NoneIs (Enc bytes.now)) }
         ensures too_deep { IfTold result (λ e. e ≡ CborError.TooDeep → IsTooDeep NESTING_LIMIT bytes.now (Enc bytes.now)) }
-        ensures word { IfTold result (λ e. whole (item_at trees NESTING_LIMIT bytes.now) ≡ Err e) }
     {
         Item::from_cbor_within(alloc, bytes, NESTING_LIMIT)
     }
@@ -82,7 +80,6 @@ impl<'a> Item<'a> {
         ensures accepted { IfOk result (λ t. IsDecoded limit (Enc bytes.now) (item_tree t)) }
         ensures refused { IfTold result (λ e. e ≢ CborError.TooDeep → NoneIs (Enc bytes.now)) }
         ensures too_deep { IfTold result (λ e. e ≡ CborError.TooDeep → IsTooDeep limit bytes.now (Enc bytes.now)) }
-        ensures word { IfTold result (λ e. whole (item_at trees limit bytes.now) ≡ Err e) }
     {
         let (item, rest) = item_of(alloc, bytes, limit)?;
         if rest.is_empty() {
@@ -100,7 +97,6 @@ impl<'a> Item<'a> {
         ensures accepted { IfOk result (λ x. IsDecoded NESTING_LIMIT (Begins bytes.now x.1.now) (item_tree x.0)) }
         ensures refused { IfTold result (λ e. e ≢ CborError.TooDeep → NoneIs (λ v. (rest : List ℕ) × Begins bytes.now rest v)) }
         ensures too_deep { IfTold result (λ e. e ≡ CborError.TooDeep → IsTooDeep NESTING_LIMIT bytes.now (λ v. (rest : List ℕ) × Begins bytes.now rest v)) }
-        ensures word { IfTold result (λ e. item_at trees NESTING_LIMIT bytes.now ≡ Err e) }
     {
         Item::from_cbor_with_rest_within(alloc, bytes, NESTING_LIMIT)
     }
@@ -114,7 +110,6 @@ impl<'a> Item<'a> {
         ensures accepted { IfOk result (λ x. IsDecoded limit (Begins bytes.now x.1.now) (item_tree x.0)) }
         ensures refused { IfTold result (λ e. e ≢ CborError.TooDeep → NoneIs (λ v. (rest : List ℕ) × Begins bytes.now rest v)) }
         ensures too_deep { IfTold result (λ e. e ≡ CborError.TooDeep → IsTooDeep limit bytes.now (λ v. (rest : List ℕ) × Begins bytes.now rest v)) }
-        ensures word { IfTold result (λ e. item_at trees limit bytes.now ≡ Err e) }
     {
         item_of(alloc, bytes, limit)
     }
@@ -127,7 +122,6 @@ impl<'a> StandaloneItem<'a> {
         ensures accepted { IfOk result (λ t. (w : Tree OneItem) × IsDecoded NESTING_LIMIT (Enc bytes.now) w × (standalone_tree t ≡ alone w)) }
         ensures refused { IfTold result (λ e. e ≢ CborError.TooDeep → NoneIs (Enc bytes.now)) }
         ensures too_deep { IfTold result (λ e. e ≡ CborError.TooDeep → IsTooDeep NESTING_LIMIT bytes.now (Enc bytes.now)) }
-        ensures word { IfTold result (λ e. whole (item_at trees NESTING_LIMIT bytes.now) ≡ Err e) }
     {
         StandaloneItem::from_cbor_within(alloc, bytes, NESTING_LIMIT)
     }
@@ -141,7 +135,6 @@ impl<'a> StandaloneItem<'a> {
         ensures accepted { IfOk result (λ t. (w : Tree OneItem) × IsDecoded limit (Enc bytes.now) w × (standalone_tree t ≡ alone w)) }
         ensures refused { IfTold result (λ e. e ≢ CborError.TooDeep → NoneIs (Enc bytes.now)) }
         ensures too_deep { IfTold result (λ e. e ≡ CborError.TooDeep → IsTooDeep limit bytes.now (Enc bytes.now)) }
-        ensures word { IfTold result (λ e. whole (item_at trees limit bytes.now) ≡ Err e) }
     {
         let item = Item::from_cbor_within(alloc, bytes, limit)?;
         Ok(unspaced(item))
@@ -155,7 +148,6 @@ impl<'a> StandaloneItem<'a> {
         ensures accepted { IfOk result (λ x. (w : Tree OneItem) × IsDecoded NESTING_LIMIT (Begins bytes.now x.1.now) w × (standalone_tree x.0 ≡ alone w)) }
         ensures refused { IfTold result (λ e. e ≢ CborError.TooDeep → NoneIs (λ v. (rest : List ℕ) × Begins bytes.now rest v)) }
         ensures too_deep { IfTold result (λ e. e ≡ CborError.TooDeep → IsTooDeep NESTING_LIMIT bytes.now (λ v. (rest : List ℕ) × Begins bytes.now rest v)) }
-        ensures word { IfTold result (λ e. item_at trees NESTING_LIMIT bytes.now ≡ Err e) }
     {
         StandaloneItem::from_cbor_with_rest_within(alloc, bytes, NESTING_LIMIT)
     }
@@ -169,7 +161,6 @@ impl<'a> StandaloneItem<'a> {
         ensures accepted { IfOk result (λ x. (w : Tree OneItem) × IsDecoded limit (Begins bytes.now x.1.now) w × (standalone_tree x.0 ≡ alone w)) }
         ensures refused { IfTold result (λ e. e ≢ CborError.TooDeep → NoneIs (λ v. (rest : List ℕ) × Begins bytes.now rest v)) }
         ensures too_deep { IfTold result (λ e. e ≡ CborError.TooDeep → IsTooDeep limit bytes.now (λ v. (rest : List ℕ) × Begins bytes.now rest v)) }
-        ensures word { IfTold result (λ e. item_at trees limit bytes.now ≡ Err e) }
     {
         let (item, rest) = Item::from_cbor_with_rest_within(alloc, bytes, limit)?;
         Ok((unspaced(item), rest))
@@ -183,7 +174,6 @@ impl<'a> Sequence<'a> {
         ensures accepted { IfOk result (λ t. IsDecodedSequence NESTING_LIMIT bytes.now (sequence_tree t)) }
         ensures refused { IfTold result (λ e. e ≢ CborError.TooDeep → NoSequence bytes.now) }
         ensures too_deep { IfTold result (λ e. e ≡ CborError.TooDeep → IsTooDeepSequence NESTING_LIMIT bytes.now) }
-        ensures word { IfTold result (λ e. sequence_at trees NESTING_LIMIT bytes.now ≡ Err e) }
     {
         Sequence::from_cbor_within(alloc, bytes, NESTING_LIMIT)
     }
@@ -197,7 +187,6 @@ impl<'a> Sequence<'a> {
         ensures accepted { IfOk result (λ t. IsDecodedSequence limit bytes.now (sequence_tree t)) }
         ensures refused { IfTold result (λ e. e ≢ CborError.TooDeep → NoSequence bytes.now) }
         ensures too_deep { IfTold result (λ e. e ≡ CborError.TooDeep → IsTooDeepSequence limit bytes.now) }
-        ensures word { IfTold result (λ e. sequence_at trees limit bytes.now ≡ Err e) }
     {
         let (found, _) = items_until(alloc, bytes, limit, Stop::EndOfData)?;
         Ok(Sequence {

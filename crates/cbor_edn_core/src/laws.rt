@@ -1,6 +1,11 @@
-//! Laws of the definitions: each function's contract is a law, and its body is empty.
+//! Laws: each function's contract is one, and its body does nothing.
 ghost use Rattle.cbor_edn_core.specs.CborLaws.{OneEncoding, ItemMeans, SpelledMeans};
 ghost use Rattle.cbor_edn_core.specs.Laws.{SpelledByTrees, UniqueItems, UniqueSpaces};
+ghost use Rattle.cbor_edn_core.specs.Spelling.{Spells, SpellsOne, SpellsSequence};
+ghost use Rattle.cbor_edn_core.specs.Trees.{items, text};
+ghost use Rattle.cbor_edn_core.specs.View.{item_tree, standalone_tree, sequence_tree};
+
+use crate::tree::{Item, Sequence, StandaloneItem};
 
 /// A text spells at most one list of items, and has one tree.
 #[tactic(auto, using(crate::proofs::GrammarLaws::unique_items, crate::proofs::GrammarLaws::unique_spaces))]
@@ -14,6 +19,30 @@ pub fn unique_reading()
 pub fn spelled_by_trees()
     ensures { SpelledByTrees }
 {}
+
+/// However an item was made, its text spells it: known without memory, which printing takes.
+#[tactic(auto, using(crate::proofs::Printable::item_spelled))]
+pub fn item_spells(item: &Item<'_>)
+    ensures { Spells (items (item_tree item.now)) (text (item_tree item.now)) }
+{
+    let _ = item;
+}
+
+/// The same of an item with the spaces round it.
+#[tactic(auto, using(crate::proofs::Printable::standalone_spelled))]
+pub fn standalone_spells(item: &StandaloneItem<'_>)
+    ensures { SpellsOne (items (standalone_tree item.now)) (text (standalone_tree item.now)) }
+{
+    let _ = item;
+}
+
+/// The same of a sequence.
+#[tactic(auto, using(crate::proofs::Printable::sequence_spelled))]
+pub fn sequence_spells(sequence: &Sequence<'_>)
+    ensures { SpellsSequence (items (sequence_tree sequence.now)) (text (sequence_tree sequence.now)) }
+{
+    let _ = sequence;
+}
 
 /// One byte string encodes at most one value, one value has at most one encoding, and no encoding begins another.
 pub fn one_encoding()

@@ -1,22 +1,20 @@
 //! The public calls that read a text.
-ghost use Rattle.std.specs.Prelude.{◌≡◌, ◌≤◌, ◌+◌, ◌*◌, length, IfOk, IfErr, OnOk};
-ghost use Rattle.cbor_edn_parts.specs.Errors.{error_kind, error_offset, error_line, error_column};
-ghost use Rattle.cbor_edn_parts.specs.Place.{IsPlace};
+ghost use Rattle.std.specs.Prelude.{◌≤◌, ◌+◌, ◌*◌, length, IfOk, IfErr, OnOk};
 ghost use Rattle.cbor_edn_core.specs.Borrowed.{BorrowsSequence, BorrowsStandalone};
 ghost use Rattle.cbor_edn_parts.specs.Text.{text_bytes};
 ghost use Rattle.cbor_edn_core.specs.ParserResults.{Gives, IsPlaced};
 ghost use Rattle.cbor_edn_core.specs.Reading.{reads_all};
-ghost use Rattle.cbor_edn_core.specs.Parsing.{IsAccepted, IsInvalid, IsTooDeep};
+ghost use Rattle.cbor_edn_core.specs.Parsing.{ParsedSequence, ParsedStandalone, Unparsed};
 ghost use Rattle.cbor_edn_parts.specs.Refusals.{IfTold};
 ghost use Rattle.cbor_edn_core.specs.Spelling.{SpellsOne, SpellsSequence};
-ghost use Rattle.cbor_edn_core.specs.Trees.{Seq, Standalone, items, text};
+ghost use Rattle.cbor_edn_core.specs.Trees.{Seq, Standalone};
 ghost use Rattle.cbor_edn_core.specs.View.{sequence_tree, standalone_tree};
 
 use crate::grammar::{sequence, standalone};
 use crate::location::located;
 use crate::lookahead::ends;
 use crate::tree::{NESTING_LIMIT, Sequence, StandaloneItem};
-use cbor_edn_parts::error::{Fault, ParseError, ParseErrorKind, Refusal};
+use cbor_edn_parts::error::{Fault, ParseError, Refusal};
 use cbor_edn_parts::looks::Looks;
 use cbor_edn_parts::text::Text;
 use std::alloc::Global;
@@ -24,12 +22,8 @@ use std::alloc::Global;
 impl<'a> Sequence<'a> {
     /// The items of a text, with their spaces: what nests may do so [`NESTING_LIMIT`] deep.
     pub fn parse(alloc: Global, input: &'a str) -> Result<Sequence<'a>, Fault<ParseError>>
-        ensures text { IfOk result (λ t. text (sequence_tree t) ≡ input.now) }
-        ensures accepted { IfOk result (λ t. IsAccepted SpellsSequence NESTING_LIMIT input.now (items (sequence_tree t))) }
-        ensures borrowed { IfOk result BorrowsSequence }
-        ensures invalid { IfTold result (λ e. error_kind e ≡ ParseErrorKind.Invalid → IsInvalid SpellsSequence input.now) }
-        ensures too_deep { IfTold result (λ e. error_kind e ≡ ParseErrorKind.TooDeep → IsTooDeep SpellsSequence NESTING_LIMIT input.now) }
-        ensures place { IfTold result (λ e. IsPlace input.now (error_offset e) (error_line e) (error_column e)) }
+        ensures parsed { IfOk result (ParsedSequence NESTING_LIMIT input.now) }
+        ensures refused { IfTold result (Unparsed SpellsSequence NESTING_LIMIT input.now) }
     {
         Sequence::parse_within(alloc, input, NESTING_LIMIT)
     }
@@ -40,12 +34,8 @@ impl<'a> Sequence<'a> {
         input: &'a str,
         limit: usize,
     ) -> Result<Sequence<'a>, Fault<ParseError>>
-        ensures text { IfOk result (λ t. text (sequence_tree t) ≡ input.now) }
-        ensures accepted { IfOk result (λ t. IsAccepted SpellsSequence limit input.now (items (sequence_tree t))) }
-        ensures borrowed { IfOk result BorrowsSequence }
-        ensures invalid { IfTold result (λ e. error_kind e ≡ ParseErrorKind.Invalid → IsInvalid SpellsSequence input.now) }
-        ensures too_deep { IfTold result (λ e. error_kind e ≡ ParseErrorKind.TooDeep → IsTooDeep SpellsSequence limit input.now) }
-        ensures place { IfTold result (λ e. IsPlace input.now (error_offset e) (error_line e) (error_column e)) }
+        ensures parsed { IfOk result (ParsedSequence limit input.now) }
+        ensures refused { IfTold result (Unparsed SpellsSequence limit input.now) }
     {
         Sequence::parse_looking(alloc, input, limit, &mut Looks::new())
     }
@@ -56,12 +46,8 @@ impl<'a> Sequence<'a> {
         input: &'a str,
         looks: &mut Looks,
     ) -> Result<Sequence<'a>, Fault<ParseError>>
-        ensures text { IfOk result (λ t. text (sequence_tree t) ≡ input.now) }
-        ensures accepted { IfOk result (λ t. IsAccepted SpellsSequence NESTING_LIMIT input.now (items (sequence_tree t))) }
-        ensures borrowed { IfOk result BorrowsSequence }
-        ensures invalid { IfTold result (λ e. error_kind e ≡ ParseErrorKind.Invalid → IsInvalid SpellsSequence input.now) }
-        ensures too_deep { IfTold result (λ e. error_kind e ≡ ParseErrorKind.TooDeep → IsTooDeep SpellsSequence NESTING_LIMIT input.now) }
-        ensures place { IfTold result (λ e. IsPlace input.now (error_offset e) (error_line e) (error_column e)) }
+        ensures parsed { IfOk result (ParsedSequence NESTING_LIMIT input.now) }
+        ensures refused { IfTold result (Unparsed SpellsSequence NESTING_LIMIT input.now) }
         ensures most { looks.new.count ≤ looks.old.count + 16 * length input.now + 16 }
         ensures least { OnOk result (looks.old.count + length input.now ≤ looks.new.count) }
     {
@@ -74,12 +60,8 @@ impl<'a> Sequence<'a> {
         limit: usize,
         looks: &mut Looks,
     ) -> Result<Sequence<'a>, Fault<ParseError>>
-        ensures text { IfOk result (λ t. text (sequence_tree t) ≡ input.now) }
-        ensures accepted { IfOk result (λ t. IsAccepted SpellsSequence limit input.now (items (sequence_tree t))) }
-        ensures borrowed { IfOk result BorrowsSequence }
-        ensures invalid { IfTold result (λ e. error_kind e ≡ ParseErrorKind.Invalid → IsInvalid SpellsSequence input.now) }
-        ensures too_deep { IfTold result (λ e. error_kind e ≡ ParseErrorKind.TooDeep → IsTooDeep SpellsSequence limit input.now) }
-        ensures place { IfTold result (λ e. IsPlace input.now (error_offset e) (error_line e) (error_column e)) }
+        ensures parsed { IfOk result (ParsedSequence limit input.now) }
+        ensures refused { IfTold result (Unparsed SpellsSequence limit input.now) }
         ensures most { looks.new.count ≤ looks.old.count + 16 * length input.now + 16 }
         ensures least { OnOk result (looks.old.count + length input.now ≤ looks.new.count) }
     {
@@ -95,12 +77,8 @@ impl<'a> Sequence<'a> {
 impl<'a> StandaloneItem<'a> {
     /// The one item of a text, with its spaces: what nests may do so [`NESTING_LIMIT`] deep.
     pub fn parse(alloc: Global, input: &'a str) -> Result<StandaloneItem<'a>, Fault<ParseError>>
-        ensures text { IfOk result (λ t. text (standalone_tree t) ≡ input.now) }
-        ensures accepted { IfOk result (λ t. IsAccepted SpellsOne NESTING_LIMIT input.now (items (standalone_tree t))) }
-        ensures borrowed { IfOk result BorrowsStandalone }
-        ensures invalid { IfTold result (λ e. error_kind e ≡ ParseErrorKind.Invalid → IsInvalid SpellsOne input.now) }
-        ensures too_deep { IfTold result (λ e. error_kind e ≡ ParseErrorKind.TooDeep → IsTooDeep SpellsOne NESTING_LIMIT input.now) }
-        ensures place { IfTold result (λ e. IsPlace input.now (error_offset e) (error_line e) (error_column e)) }
+        ensures parsed { IfOk result (ParsedStandalone NESTING_LIMIT input.now) }
+        ensures refused { IfTold result (Unparsed SpellsOne NESTING_LIMIT input.now) }
     {
         StandaloneItem::parse_within(alloc, input, NESTING_LIMIT)
     }
@@ -111,12 +89,8 @@ impl<'a> StandaloneItem<'a> {
         input: &'a str,
         limit: usize,
     ) -> Result<StandaloneItem<'a>, Fault<ParseError>>
-        ensures text { IfOk result (λ t. text (standalone_tree t) ≡ input.now) }
-        ensures accepted { IfOk result (λ t. IsAccepted SpellsOne limit input.now (items (standalone_tree t))) }
-        ensures borrowed { IfOk result BorrowsStandalone }
-        ensures invalid { IfTold result (λ e. error_kind e ≡ ParseErrorKind.Invalid → IsInvalid SpellsOne input.now) }
-        ensures too_deep { IfTold result (λ e. error_kind e ≡ ParseErrorKind.TooDeep → IsTooDeep SpellsOne limit input.now) }
-        ensures place { IfTold result (λ e. IsPlace input.now (error_offset e) (error_line e) (error_column e)) }
+        ensures parsed { IfOk result (ParsedStandalone limit input.now) }
+        ensures refused { IfTold result (Unparsed SpellsOne limit input.now) }
     {
         StandaloneItem::parse_looking(alloc, input, limit, &mut Looks::new())
     }
@@ -127,12 +101,8 @@ impl<'a> StandaloneItem<'a> {
         input: &'a str,
         looks: &mut Looks,
     ) -> Result<StandaloneItem<'a>, Fault<ParseError>>
-        ensures text { IfOk result (λ t. text (standalone_tree t) ≡ input.now) }
-        ensures accepted { IfOk result (λ t. IsAccepted SpellsOne NESTING_LIMIT input.now (items (standalone_tree t))) }
-        ensures borrowed { IfOk result BorrowsStandalone }
-        ensures invalid { IfTold result (λ e. error_kind e ≡ ParseErrorKind.Invalid → IsInvalid SpellsOne input.now) }
-        ensures too_deep { IfTold result (λ e. error_kind e ≡ ParseErrorKind.TooDeep → IsTooDeep SpellsOne NESTING_LIMIT input.now) }
-        ensures place { IfTold result (λ e. IsPlace input.now (error_offset e) (error_line e) (error_column e)) }
+        ensures parsed { IfOk result (ParsedStandalone NESTING_LIMIT input.now) }
+        ensures refused { IfTold result (Unparsed SpellsOne NESTING_LIMIT input.now) }
         ensures most { looks.new.count ≤ looks.old.count + 16 * length input.now + 16 }
         ensures least { OnOk result (looks.old.count + length input.now ≤ looks.new.count) }
     {
@@ -145,12 +115,8 @@ impl<'a> StandaloneItem<'a> {
         limit: usize,
         looks: &mut Looks,
     ) -> Result<StandaloneItem<'a>, Fault<ParseError>>
-        ensures text { IfOk result (λ t. text (standalone_tree t) ≡ input.now) }
-        ensures accepted { IfOk result (λ t. IsAccepted SpellsOne limit input.now (items (standalone_tree t))) }
-        ensures borrowed { IfOk result BorrowsStandalone }
-        ensures invalid { IfTold result (λ e. error_kind e ≡ ParseErrorKind.Invalid → IsInvalid SpellsOne input.now) }
-        ensures too_deep { IfTold result (λ e. error_kind e ≡ ParseErrorKind.TooDeep → IsTooDeep SpellsOne limit input.now) }
-        ensures place { IfTold result (λ e. IsPlace input.now (error_offset e) (error_line e) (error_column e)) }
+        ensures parsed { IfOk result (ParsedStandalone limit input.now) }
+        ensures refused { IfTold result (Unparsed SpellsOne limit input.now) }
         ensures most { looks.new.count ≤ looks.old.count + 16 * length input.now + 16 }
         ensures least { OnOk result (looks.old.count + length input.now ≤ looks.new.count) }
     {

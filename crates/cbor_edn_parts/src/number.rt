@@ -75,7 +75,8 @@ impl Integer {
     }
 
     fn signed(is_negative: bool, magnitude: u128) -> Integer
-        ensures { integer result ≡ (if is_negative then neg_ℤ (pos magnitude) else pos magnitude) }
+        ensures value { integer result ≡ (if is_negative then neg_ℤ (pos magnitude) else pos magnitude) }
+        ensures bound { HasMagnitude result }
     {
         if is_negative && magnitude > 0 {
             Integer::Negative(magnitude - 1)
@@ -291,6 +292,7 @@ impl<'a> Number<'a> {
     pub fn integer(&self) -> Option<Integer>
         ensures some { IfSome result (λ i. integer_of (number_bytes self.now) ≡ Some (integer i)) }
         ensures none { IsNone result → (z : ℤ) → integer_of (number_bytes self.now) ≡ Some z → 2 ^ 128 ≤ magnitude_of (number_bytes self.now) }
+        ensures bound { IfSome result HasMagnitude }
     {
         let (is_negative, unsigned) = split_sign(self.as_str());
         let (radix, digits) = split_base(unsigned);

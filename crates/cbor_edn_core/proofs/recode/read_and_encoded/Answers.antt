@@ -5,4 +5,4 @@ use Rattle.cbor_edn_core.proofs.Recoding.{meant_by_text}
 use Rattle.cbor_edn_core.proofs.recode.read_and_encoded.Goals as goal
 
 pub encoded-requires : goal.encoded-requires
-encoded-requires c = meant_by_text NESTING_LIMIT c.requires.0 c.args.text.now (items (sequence_tree c.in-Ok.sequence)) c.requires.1 c.in-Ok.ensures.accepted.spelled
+encoded-requires c = meant_by_text NESTING_LIMIT c.requires.0 c.args.text.now (items (sequence_tree c.in-Ok.sequence)) c.requires.1 c.in-Ok.ensures.parsed.accepted.spelled

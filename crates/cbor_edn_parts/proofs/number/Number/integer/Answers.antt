@@ -28,7 +28,7 @@ returns-in-Ok-clause-some c =
     let d = digits_are t s sign.result.1.now base.result.1.now c.as_str.ensures sign.ensures.rest base.ensures.digits in
     let b = base_is t s sign.result.1.now base.result.0 c.as_str.ensures sign.ensures.rest base.ensures.base in
     integer_by t base.result.1.now base.result.0 (is t c.args.self.now.spelled) d b sign.result.0 c.in-Ok.magnitude _
-    (sign_is t s sign.result.0 c.as_str.ensures sign.ensures.sign) c.in-Ok.ensures.value.0.0 c.in-Ok.ensures.value.1 c.signed.ensures
+    (sign_is t s sign.result.0 c.as_str.ensures sign.ensures.sign) c.in-Ok.ensures.value.0.0 c.in-Ok.ensures.value.1 c.signed.ensures.value
 
 pub returns-in-Err-clause-none : goal.returns-in-Err-clause-none
 returns-in-Err-clause-none c = λ _.

@@ -1,0 +1,46 @@
+#!/usr/bin/env bash
+# What no contract can say of the reads of a text, looked up in the sources: a count of reads begins, and a text is taken
+# apart, in few places only, and no proof by hand stands beside those of the two counts.
+#
+# usage: scripts/check-reads.sh
+#
+# It prints a line for each rule that fails, and 'N passed, M failed' last.
+set -euo pipefail
+
+cd "$(dirname "$(readlink -f "$0")")/.."
+passed=0
+failed=0
+
+# The files below crates/ in which a text stands, in each library and program, must be these.
+stands_in() {
+  local what=$1 found
+  shift
+  found=$(grep -rlF --include='*.rt' -- "$what" crates/*/src | grep -v '^crates/cbor_edn_tests/' | sort)
+  if [ "$found" = "$(printf '%s\n' "$@" | sort)" ]; then
+    passed=$((passed + 1))
+  else
+    failed=$((failed + 1))
+    echo "check-reads: '$what' stands in" $found
+  fi
+}
+
+# A parse begins its own count, and makes the text that is read.
+stands_in 'Looks::new(' crates/cbor_edn_core/src/parse.rt
+stands_in 'Text::new(' crates/cbor_edn_core/src/parse.rt
+# A piece of a text goes into a leaf, whose text a scan or a space has seen byte by byte.
+stands_in '.slice(' crates/cbor_edn_parts/src/scan.rt crates/cbor_edn_parts/src/space/read.rt
+
+by_hand=$(find crates -path '*/out' -prune -o -name Proof.antt -print | sort)
+wanted='crates/cbor_edn/proofs/engine/count/Count/after/Proof.antt
+crates/cbor_edn/proofs/engine/count/Count/new/Proof.antt
+crates/cbor_edn_parts/proofs/looks/Looks/new/Proof.antt
+crates/cbor_edn_parts/proofs/looks/Looks/next/Proof.antt'
+if [ "$by_hand" = "$wanted" ]; then
+  passed=$((passed + 1))
+else
+  failed=$((failed + 1))
+  echo "check-reads: proofs by hand:" $by_hand
+fi
+
+echo "$passed passed, $failed failed"
+[ "$failed" = 0 ]
