@@ -6,6 +6,6 @@ use Rattle.std.specs.Io.KnownBytes.{Appends}
 abbrev pub AppendsBeginning : Option (List ℕ) → Option (List ℕ) → List ℕ → Type 0
 AppendsBeginning old new bs = (front rest : List ℕ) × (bs ≡ front ++ rest) × Appends old new front
 
--- a device's count of failures before and after a call that tries no further once the device has failed
+-- a device's count of failures before and after a call in which it fails once at most
 abbrev pub FailsAtMostOnce : ℕ → ℕ → Type 0
 FailsAtMostOnce old new = (old ≤ new) × (new ≤ old + 1)

@@ -1,4 +1,4 @@
-//! The Extended Diagnostic Notation (EDN) of CBOR, read, edited and written without loss.
+//! The Extended Diagnostic Notation (EDN) of CBOR: read, printed, encoded and decoded without loss.
 #![tactic(auto)]
 
 pub mod engine;

@@ -1,4 +1,4 @@
--- Every text of a tree is borrowed from the text that was parsed.
+-- Every text of a tree is borrowed, so none was copied.
 use Rattle.std.specs.Prelude.{List, [], ◌∷◌, Option, Some, None}
 use Rattle.cbor_edn_parts.specs.Leaves.{BorrowsS, BorrowsMs, BorrowsMsc, BorrowsSoc, BorrowsNumber, BorrowsLiteral, BorrowsDots}
 use Rattle.cbor_edn_parts.specs.declared.indicator.Indicator.{Indicator}

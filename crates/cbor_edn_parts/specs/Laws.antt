@@ -1,4 +1,4 @@
--- The tests, tables and readers of space texts, numbers and encoding indicators against the grammar.
+-- The tests, tables and readers of space texts, numbers, encoding indicators and literals, against the grammar.
 use Rattle.std.specs.Prelude.{List, ℕ, ℤ, true, Option, Some, None, ◌≡◌, ◌++◌, ◌↔◌}
 use Rattle.cbor_edn_parts.specs.Bytes.{Follow}
 use Rattle.cbor_edn_parts.specs.Indicator.{indicator_text, indicator_at}
