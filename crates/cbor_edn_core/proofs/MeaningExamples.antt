@@ -1,5 +1,5 @@
 -- What some items mean and how some values are encoded and decoded, computed.
-use Rattle.std.proofs.Common.{List, [], ◌∷◌, ◌≡◌, refl}
+use Rattle.std.proofs.Common.{[], ◌∷◌, ◌≡◌, refl}
 use Rattle.std.specs.Prelude.{Some, None}
 use Rattle.std.specs.Fmt.{digits}
 use Rattle.cbor_edn_parts.specs.declared.indicator.Indicator.TheVariants as indicator

@@ -4,19 +4,19 @@
 //! by one byte or two. Spaces are scanned once: to see whether a plus sign joins another piece to a string, the space behind
 //! a piece is read, and `End` hands it on to where it is used. Each function equals a rule of the plain reader on lists
 //! (`specs/Reading.antt`), and all that is said of the grammar is said of that reader.
-ghost use Rattle.std.specs.Prelude.{◌≡◌, ◌≤◌, ◌+◌, ◌∷◌, ◌*◌, ◌<◌, None, true, [], length, drop, OnOk, IfOk, IfErr};
+ghost use Rattle.std.specs.Prelude.{◌≡◌, ◌≤◌, ◌+◌, ◌∷◌, ◌<◌, None, true, [], length, drop, OnOk, IfOk, IfErr};
 ghost use Rattle.std.specs.Str.{IsCharBoundary};
 ghost use Rattle.cbor_edn_parts.specs.Ends.{IsEnd, reached};
 ghost use Rattle.cbor_edn_parts.specs.Scans.{Costs};
 ghost use Rattle.cbor_edn_parts.specs.Leaves.{soc_bytes, s_bytes, BorrowsS, BorrowsSoc};
 ghost use Rattle.cbor_edn_parts.specs.Refusals.{IfTold};
 ghost use Rattle.cbor_edn_parts.specs.Text.{text_bytes};
-ghost use Rattle.cbor_edn_core.specs.Borrowed.{BorrowsItem, BorrowsList, BorrowsItems, BorrowsPair, BorrowsPairList, BorrowsPairs, BorrowsPiece, BorrowsString, BorrowsStream, BorrowsStrings, BorrowsSequence, BorrowsStandalone, BorrowsEach, BorrowsEachPair, BorrowsEachString};
+ghost use Rattle.cbor_edn_core.specs.Borrowed.{BorrowsItem, BorrowsList, BorrowsItems, BorrowsPair, BorrowsPairList, BorrowsPairs, BorrowsPiece, BorrowsString, BorrowsStream, BorrowsStrings, BorrowsSequence, BorrowsStandalone};
 ghost use Rattle.cbor_edn_core.specs.Items.{Elements, Pairs as Keyed, Strings as Chunks, Array as Bracket, Map as Brace};
-ghost use Rattle.cbor_edn_core.specs.ParserResults.{Reads, Lands, ReadsEnd, LandsEnd, CostsEnd, CostsEndAhead, CostsAhead, IsPlaced, IsPushed, IsByteAt, IsUnclosed, behind_colon, Parts, LandsParted, CostsParted, element_tree, chunk_tree};
+ghost use Rattle.cbor_edn_core.specs.ParserResults.{Reads, Lands, ReadsEnd, LandsEnd, CostsEnd, CostsEndAhead, CostsAhead, IsPushed, IsByteAt, IsUnclosed, behind_colon, Parts, LandsParted, CostsParted};
 ghost use Rattle.cbor_edn_core.specs.Reading.{reads, number_item, word_item, enclosed_item, stream_item, starts_string, word_at};
-ghost use Rattle.cbor_edn_core.specs.Trees.{LastTree, OneItem, OnePiece, OneString, OneEntry, Inside, Rest, Seq, Standalone};
-ghost use Rattle.cbor_edn_core.specs.View.{texts, item_tree, view_list, view_items, view_pair, view_pair_list, view_pairs, view_piece, view_string, view_stream, view_strings, row_onto, pair_row_onto, string_row_onto, sequence_tree, standalone_tree};
+ghost use Rattle.cbor_edn_core.specs.Trees.{OneItem, OnePiece, OneString, OneEntry, Inside, Rest, Seq, Standalone};
+ghost use Rattle.cbor_edn_core.specs.View.{texts, item_tree, view_list, view_items, view_pair, view_pair_list, view_pairs, view_piece, view_string, view_stream, view_strings, sequence_tree, standalone_tree};
 
 use crate::lookahead::{Opening, closes, is_at, joins, marked, opening_at, tag_number};
 use crate::tree::{
@@ -31,7 +31,7 @@ use cbor_edn_parts::number::number_at;
 use cbor_edn_parts::space::{End, Msc, S, Soc, separator_behind, space, space_behind};
 use cbor_edn_parts::string::{dots_at, literal_at};
 use cbor_edn_parts::text::Text;
-use std::alloc::{AllocError, Global};
+use std::alloc::Global;
 
 /// An item with what nests at most `limit` deep, and its end.
 #[cycle(item)]

@@ -1,9 +1,8 @@
 //! The reader of bytes: each function reads what stands at the front, and answers it with the bytes behind it.
-ghost use Rattle.std.specs.Prelude.{List, ℕ, ◌≡◌, ◌<◌, ◌≤◌, ◌++◌, ◌∷◌, [], suc, length, map, option_map, Ok, IfSome, IfOk};
+ghost use Rattle.std.specs.Prelude.{◌≡◌, ◌<◌, ◌≤◌, ◌++◌, ◌∷◌, [], suc, length, map, option_map, Ok, IfSome, IfOk};
 ghost use Rattle.std.specs.Fmt.{signed_decimal};
 ghost use Rattle.cbor_edn_parts.specs.Leaves as leaves;
 ghost use Rattle.cbor_edn_parts.specs.Leaves.{HasMagnitude};
-ghost use Rattle.cbor_edn_core.specs.Items as kind;
 ghost use Rattle.cbor_edn_core.specs.Items.{Array, Map};
 ghost use Rattle.cbor_edn_core.specs.Trees.{NumberTree, ListTree};
 ghost use Rattle.cbor_edn_core.specs.View.{texts, view_compound, view_head, view_items, view_pairs, view_pair, item_tree};

@@ -1,6 +1,5 @@
 use Rattle.std.proofs.Common.{arith}
 use Rattle.std.proofs.lemmas.Result.{err_from_is_err_and}
-use Rattle.cbor_edn_parts.specs.declared.error.Fault.TheVariants.{Told}
 use Rattle.cbor_edn_parts.specs.SpaceTokens.{separator}
 use Rattle.cbor_edn_core.proofs.Turns.{scan_fails, scan_read, token_end}
 use Rattle.cbor_edn_core.proofs.grammar.parted.Goals as goal
