@@ -27,7 +27,7 @@ stands_in() {
 # A parse begins its own count, and makes the text that is read.
 stands_in 'Looks::new(' crates/cbor_edn_core/src/parse.rt
 stands_in 'Text::new(' crates/cbor_edn_core/src/parse.rt
-# A piece of a text goes into a leaf, whose text a scan or a space has seen byte by byte.
+# Pieces of a text are cut where scans and spaces have seen them byte by byte, for leaves.
 stands_in '.slice(' crates/cbor_edn_parts/src/scan.rt crates/cbor_edn_parts/src/space/read.rt
 
 by_hand=$(find crates -path '*/out' -prune -o -name Proof.antt -print | sort)

@@ -33,7 +33,7 @@ module _ {s : Sort} (Spelled : Node s → List ℕ → Type 0) where
     pub place : IsPlace text (error_offset e) (error_line e) (error_column e)
 
 -- What is read of a text: it prints the text, which spells its items within the limit; behind an indicator's mandatory space
--- no other space stands; and each of its texts is borrowed from the text.
+-- no other space stands; and each of its texts is borrowed, so none was copied.
 pub record Parsed {s : Sort} {r : Rule} {X : Type 0} (Spelled : Node s → List ℕ → Type 0) (items_of : Tree r → Node s) (tree_of : X → Tree r) (Borrows : X → Type 0) (limit : ℕ) (input : List ℕ) (x : X) : Type 0 where
   pub prints : text (tree_of x) ≡ input
   pub accepted : IsAccepted Spelled limit input (items_of (tree_of x))

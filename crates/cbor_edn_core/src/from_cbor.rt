@@ -137,7 +137,7 @@ impl<'a> StandaloneItem<'a> {
         ensures too_deep { IfTold result (λ e. e ≡ CborError.TooDeep → IsTooDeep limit bytes.now (Enc bytes.now)) }
     {
         let item = Item::from_cbor_within(alloc, bytes, limit)?;
-        Ok(unspaced(item))
+        Ok(StandaloneItem::from(item))
     }
 
     /// The item that the bytes begin with, nested at most [`NESTING_LIMIT`] deep, and the bytes behind it.
@@ -163,7 +163,7 @@ impl<'a> StandaloneItem<'a> {
         ensures too_deep { IfTold result (λ e. e ≡ CborError.TooDeep → IsTooDeep limit bytes.now (λ v. (rest : List ℕ) × Begins bytes.now rest v)) }
     {
         let (item, rest) = Item::from_cbor_with_rest_within(alloc, bytes, limit)?;
-        Ok((unspaced(item), rest))
+        Ok((StandaloneItem::from(item), rest))
     }
 }
 
@@ -193,16 +193,5 @@ impl<'a> Sequence<'a> {
             before: S::empty(),
             items: finish_items(found),
         })
-    }
-}
-
-/// The item with no space round it.
-fn unspaced<'a>(item: Item<'a>) -> StandaloneItem<'a>
-    ensures { standalone_tree result ≡ alone (item_tree item.entry) }
-{
-    StandaloneItem {
-        before: S::empty(),
-        item,
-        after: S::empty(),
     }
 }

@@ -15,7 +15,6 @@ use crate::tree::{Compound, Front, Indicator, InnerItem, Item, StandaloneItem};
 use crate::word::{NamedSimple, NonFinite};
 use cbor_edn_parts::error::Fault;
 use cbor_edn_parts::number::{Integer, Number};
-use cbor_edn_parts::space::S;
 use std::alloc::{AllocError, Global};
 
 /// The simple value or the floating-point number of a head of major type 7.
@@ -68,12 +67,7 @@ pub(super) fn enclosed<'a>(
 ) -> Result<Item<'a>, AllocError>
     ensures { IfOk result (λ t. item_tree t ≡ EnclosedTree front.label (alone (item_tree item.entry))) }
 {
-    let content = StandaloneItem {
-        before: S::empty(),
-        item,
-        after: S::empty(),
-    };
-    Item::compound(alloc, Compound::Enclosed(front, content))
+    Item::compound(alloc, Compound::Enclosed(front, StandaloneItem::from(item)))
 }
 
 /// The floating-point number of so many bytes with these bits: finite ones are refused.
