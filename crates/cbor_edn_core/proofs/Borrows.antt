@@ -8,16 +8,17 @@ use Rattle.cbor_edn_parts.specs.declared.space.Soc.{Soc}
 use Rattle.cbor_edn_parts.specs.declared.number.Number.{Number}
 use Rattle.cbor_edn_parts.specs.declared.string.Literal.{Literal}
 use Rattle.cbor_edn_parts.specs.declared.string.Dots.{Dots}
-use Rattle.cbor_edn_core.specs.declared.tree.CompoundOf.{CompoundOf}
-use Rattle.cbor_edn_core.specs.declared.tree.CompoundOf.TheVariants as compound
-use Rattle.cbor_edn_core.specs.declared.tree.CompoundOf.TheBlock.{hidden-the_row-CborStringOf-row-3-0}
+use Rattle.std.specs.Global.{Box}
+use Rattle.cbor_edn_core.specs.declared.tree.InnerItemOf.{InnerItemOf}
+use Rattle.cbor_edn_core.specs.declared.tree.InnerItemOf.TheVariants as inner
+use Rattle.cbor_edn_core.specs.declared.tree.InnerItemOf.TheBlock.{hidden-the_row-CborStringOf-row-3-0}
 use Rattle.cbor_edn_core.specs.declared.tree.ItemsOf.{ItemsOf, ItemsOf', outs-ItemsOf', out-ItemsOf, roll-ItemsOf, out-roll-ItemsOf, Row_of-ItemsOf-row-2, end_of-ItemsOf-row-2, more_of-ItemsOf-row-2, items-the_row-ItemsOf-row-2, items_shown-the_row-ItemsOf-row-2-1}
 use Rattle.cbor_edn_core.specs.declared.tree.KpOf.{KpOf}
 use Rattle.cbor_edn_core.specs.declared.tree.PairsOf.{PairsOf, PairsOf', outs-PairsOf', out-PairsOf, roll-PairsOf, out-roll-PairsOf, Row_of-PairsOf-row-2, end_of-PairsOf-row-2, more_of-PairsOf-row-2, items-the_row-PairsOf-row-2, items_shown-the_row-PairsOf-row-2-2}
 use Rattle.cbor_edn_core.specs.declared.tree.CborStringOf.{CborStringOf, Row_of-CborStringOf-row-3, end_of-CborStringOf-row-3, more_of-CborStringOf-row-3, items-the_row-CborStringOf-row-3, items_shown-the_row-CborStringOf-row-3-0, items_hidden-the_row-CborStringOf-row-3-0}
 use Rattle.cbor_edn_core.specs.declared.tree.PieceOf.{PieceOf}
 use Rattle.cbor_edn_core.specs.declared.tree.StringsOf.{StringsOf, StringsOf', outs-StringsOf', out-StringsOf, roll-StringsOf, out-roll-StringsOf, Row_of-StringsOf-row-2, end_of-StringsOf-row-2, more_of-StringsOf-row-2, items-the_row-StringsOf-row-2, items_shown-the_row-StringsOf-row-2-3}
-use Rattle.cbor_edn_core.specs.Borrowed.{BorrowsCompound, BorrowsItem, BorrowsItems, BorrowsRow, BorrowsEach, BorrowsPair, BorrowsPairs, BorrowsPairRow, BorrowsEachPair, BorrowsPiece, BorrowsPieces, BorrowsEachPiece, BorrowsString, BorrowsStrings, BorrowsStringRow, BorrowsEachString}
+use Rattle.cbor_edn_core.specs.Borrowed.{BorrowsInner, BorrowsItem, BorrowsItems, BorrowsRow, BorrowsEach, BorrowsPair, BorrowsPairs, BorrowsPairRow, BorrowsEachPair, BorrowsPiece, BorrowsPieces, BorrowsEachPiece, BorrowsString, BorrowsStrings, BorrowsStringRow, BorrowsEachString}
 use Rattle.cbor_edn_core.specs.View.{Item}
 
 borrows_row : {n : _} (row : Row_of-ItemsOf-row-2 S Ms Msc Soc Number Literal Dots n) → BorrowsEach (items-the_row-ItemsOf-row-2 S Ms Msc Soc Number Literal Dots n row) → BorrowsRow row
@@ -69,8 +70,8 @@ borrows_pieces end_of-CborStringOf-row-3 h = tt
 borrows_pieces (more_of-CborStringOf-row-3 p before after row) h = (h.0, borrows_pieces row h.1)
 
 -- a string that is an item
-pub borrows_string_made : (x : CompoundOf S Ms Msc Soc Number Literal Dots) (s : CborStringOf S Ms Msc Soc Number Literal Dots) → x ≡ compound.String s → BorrowsString s → BorrowsCompound x
-borrows_string_made x s is h = subst BorrowsCompound (sym is) (borrows_pieces (hidden-the_row-CborStringOf-row-3-0 S Ms Msc Soc Number Literal Dots s.row) (subst BorrowsEachPiece (sym (items_hidden-the_row-CborStringOf-row-3-0 S Ms Msc Soc Number Literal Dots s.row)) h.0), h.1)
+pub borrows_string_made : (b : Box (CborStringOf S Ms Msc Soc Number Literal Dots)) → BorrowsString b.value → BorrowsInner (inner.String b)
+borrows_string_made b h = (borrows_pieces (hidden-the_row-CborStringOf-row-3-0 S Ms Msc Soc Number Literal Dots b.value.row) (subst BorrowsEachPiece (sym (items_hidden-the_row-CborStringOf-row-3-0 S Ms Msc Soc Number Literal Dots b.value.row)) h.0), h.1)
 
 pub borrows_piece_push : (ps : List (PieceOf S Ms Msc Soc Number Literal Dots × S × S)) (p : PieceOf S Ms Msc Soc Number Literal Dots × S × S) → BorrowsEachPiece ps → BorrowsPiece p.0 → BorrowsS p.1 → BorrowsS p.2 → BorrowsEachPiece (ps ++ p ∷ [])
 borrows_piece_push [] p all piece before after = ((piece, before, after), tt)

@@ -15,7 +15,6 @@ pub mod CborTakes
 pub mod CborTrees
 pub mod CborTurns
 pub mod CborValues
-pub mod Compounds
 pub mod DecodedLiterals
 pub mod Decodes
 pub mod Decoding
@@ -47,3 +46,4 @@ pub mod Turns
 pub mod Views
 pub mod Whole
 pub mod Words
+pub mod Forms

@@ -9,8 +9,6 @@ use Rattle.cbor_edn_parts.specs.declared.space.Soc.{Soc}
 use Rattle.cbor_edn_parts.specs.declared.number.Number.{Number}
 use Rattle.cbor_edn_parts.specs.declared.string.Literal.{Literal}
 use Rattle.cbor_edn_parts.specs.declared.string.Dots.{Dots}
-use Rattle.cbor_edn_core.specs.declared.tree.CompoundOf.{CompoundOf}
-use Rattle.cbor_edn_core.specs.declared.tree.CompoundOf.TheVariants as compound
 use Rattle.cbor_edn_core.specs.declared.tree.InnerItemOf.{InnerItemOf}
 use Rattle.cbor_edn_core.specs.declared.tree.InnerItemOf.TheVariants as inner
 use Rattle.cbor_edn_core.specs.declared.tree.ItemListOf.{ItemListOf}
@@ -30,7 +28,7 @@ use Rattle.cbor_edn_core.specs.Items as kind
 use Rattle.cbor_edn_core.specs.Trees.{Tree, OneString, Rest, IsHead, Valid, items, text}
 use Rattle.cbor_edn_core.specs.Spelling.{Spells, SpellsSequence, SpellsOne}
 use Rattle.cbor_edn_core.proofs.Spelled.{tells}
-use Rattle.cbor_edn_core.specs.View.{texts, view_head, view_inner, view_compound, view_list, view_items, view_row, view_pair_list, view_pairs, view_pair_row, view_pieces, view_piece, view_held, view_stream, view_strings, view_string_row, Item, StandaloneItem, Sequence, item_tree, standalone_tree, sequence_tree}
+use Rattle.cbor_edn_core.specs.View.{texts, view_head, view_inner, view_list, view_items, view_row, view_pair_list, view_pairs, view_pair_row, view_pieces, view_piece, view_held, view_stream, view_strings, view_string_row, Item, StandaloneItem, Sequence, item_tree, standalone_tree, sequence_tree}
 
 head_valid : (h : Option (Indicator × Ms)) → IsHead (view_head texts h)
 head_valid None = tt
@@ -43,14 +41,11 @@ mutual
   inner_valid (inner.Number n i) = n.spelled
   inner_valid (inner.NonFinite f i) = tt
   inner_valid (inner.Named b) = tt
-  inner_valid (inner.Compound' p c) = compound_valid c
-
-  compound_valid : (x : CompoundOf S Ms Msc Soc Number Literal Dots) → Valid (view_compound texts x)
-  compound_valid (compound.Enclosed' front before item after) = (front.fits, (before.spelled, inner_valid item, after.spelled))
-  compound_valid (compound.Array list) = list_valid list
-  compound_valid (compound.Map list) = pair_list_valid list
-  compound_valid (compound.String' n row last) = pieces_valid row _ (piece_valid last)
-  compound_valid (compound.Stream stream) = stream_valid stream
+  inner_valid (inner.Enclosed' front p before item after) = (front.fits, (before.spelled, inner_valid item, after.spelled))
+  inner_valid (inner.Array' p list) = list_valid list
+  inner_valid (inner.Map' p list) = pair_list_valid list
+  inner_valid (inner.String' p n row last) = pieces_valid row _ (piece_valid last)
+  inner_valid (inner.Stream' p stream) = stream_valid stream
 
   pieces_valid : {n : _} (row : Row_of-CborStringOf-row-3 S Ms Msc Soc Number Literal Dots n) (w : Tree OneString) → Valid w → Valid (view_pieces texts row w)
   pieces_valid end_of-CborStringOf-row-3 w v = v

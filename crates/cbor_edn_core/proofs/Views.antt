@@ -1,7 +1,9 @@
 -- What a view is, read through the fields of a declared value, and at a value that is made of fields.
 use Rattle.std.proofs.Common.{◌≡◌, ℕ, List, [], ◌∷◌, ◌++◌, map, refl, sym, ap, ◌∙◌}
-use Rattle.cbor_edn_core.specs.declared.tree.CompoundOf.TheVariants as compound
-use Rattle.cbor_edn_core.specs.declared.tree.CompoundOf.TheBlock.{hidden-the_row-CborStringOf-row-3-0}
+use Rattle.std.specs.Global.{Box}
+use Rattle.cbor_edn_core.specs.declared.tree.InnerItemOf.{InnerItemOf}
+use Rattle.cbor_edn_core.specs.declared.tree.InnerItemOf.TheVariants as inner
+use Rattle.cbor_edn_core.specs.declared.tree.InnerItemOf.TheBlock.{hidden-the_row-CborStringOf-row-3-0}
 use Rattle.cbor_edn_core.specs.declared.tree.ItemOf.{ItemOf}
 use Rattle.cbor_edn_core.specs.declared.tree.KpOf.{KpOf}
 use Rattle.cbor_edn_core.specs.Leaves.{Ghosts}
@@ -16,7 +18,7 @@ use Rattle.cbor_edn_core.specs.declared.tree.SequenceOf as sequence
 use Rattle.cbor_edn_core.specs.Items as kind
 use Rattle.cbor_edn_core.specs.Items.{Row}
 use Rattle.cbor_edn_core.specs.Trees.{Tree, OnePiece, OneString, OneEntry, Rest, StringTree, StreamTree, LastPieceTree, PlusTree, ElementTree, PairTree, ChunkTree, LastTree, MoreTree}
-use Rattle.cbor_edn_core.specs.View.{entries_onto, pieces_onto, seen, seen_pair, seen_piece, seen_string, view_item, view_inner, view_compound, view_items, view_row, row_onto, view_pair, view_pairs, view_pair_row, pair_row_onto, view_piece, view_pieces, piece_row_onto, view_string, view_strings, view_string_row, string_row_onto, view_stream, view_sequence, view_held, view_some}
+use Rattle.cbor_edn_core.specs.View.{entries_onto, pieces_onto, seen, seen_pair, seen_piece, seen_string, view_item, view_inner, view_items, view_row, row_onto, view_pair, view_pairs, view_pair_row, pair_row_onto, view_piece, view_pieces, piece_row_onto, view_string, view_strings, view_string_row, string_row_onto, view_stream, view_sequence, view_held, view_some}
 
 -- a row that grows at its end
 entries_onto-append : {A : Type 0} {k : Row} (f : A → Tree (OneEntry k) × List ℕ) (ps qs : List A) (m : Tree (Rest k)) → entries_onto (map f (ps ++ qs)) m ≡ entries_onto (map f ps) (entries_onto (map f qs) m)
@@ -68,8 +70,12 @@ module _ {S P M O N T D : Type 0} (leaves : Ghosts S P M O N T D) where
   pieces_are row ps w e = row_pieces row w ∙ ap (λ qs. piece_row_onto leaves qs w) e
 
   -- a string that is an item
-  pub view_string_is : (x : CborStringOf S P M O N T D) → view_compound leaves (compound.String x) ≡ StringTree (view_string leaves x)
-  view_string_is x = ap StringTree (pieces_are (hidden-the_row-CborStringOf-row-3-0 S P M O N T D x.row) x.row.items (LastPieceTree (view_piece leaves x.last)) (items_hidden-the_row-CborStringOf-row-3-0 S P M O N T D x.row))
+  pub view_string_is : (b : Box (CborStringOf S P M O N T D)) → view_inner leaves (inner.String b) ≡ StringTree (view_string leaves b.value)
+  view_string_is b = ap StringTree (pieces_are (hidden-the_row-CborStringOf-row-3-0 S P M O N T D b.value.row) b.value.row.items (LastPieceTree (view_piece leaves b.value.last)) (items_hidden-the_row-CborStringOf-row-3-0 S P M O N T D b.value.row))
+
+  -- the same, through the pointer that is read
+  pub view_string_at : (x : InnerItemOf S P M O N T D) (b : Box (CborStringOf S P M O N T D)) (s : CborStringOf S P M O N T D) → x ≡ inner.String b → s ≡ b.value → view_inner leaves x ≡ StringTree (view_string leaves s)
+  view_string_at x b s is read = ap (view_inner leaves) is ∙ view_string_is b ∙ ap (λ s. StringTree (view_string leaves s)) (sym read)
 
   pub piece_row_onto-append : (ps qs : List (PieceOf S P M O N T D × S × S)) (w : Tree OneString) → piece_row_onto leaves (ps ++ qs) w ≡ piece_row_onto leaves ps (piece_row_onto leaves qs w)
   piece_row_onto-append ps qs w = pieces_onto-append (seen_piece leaves) ps qs w

@@ -9,8 +9,6 @@ use Rattle.cbor_edn_parts.specs.declared.space.Soc.{Soc}
 use Rattle.cbor_edn_parts.specs.declared.number.Number.{Number}
 use Rattle.cbor_edn_parts.specs.declared.string.Literal.{Literal}
 use Rattle.cbor_edn_parts.specs.declared.string.Dots.{Dots}
-use Rattle.cbor_edn_core.specs.declared.tree.CompoundOf.{CompoundOf}
-use Rattle.cbor_edn_core.specs.declared.tree.CompoundOf.TheVariants as compound
 use Rattle.cbor_edn_core.specs.declared.tree.InnerItemOf.{InnerItemOf}
 use Rattle.cbor_edn_core.specs.declared.tree.InnerItemOf.TheVariants as inner
 use Rattle.cbor_edn_core.specs.declared.tree.ItemListOf.{ItemListOf}
@@ -39,14 +37,11 @@ abbrev mutual
   BorrowsInner (inner.Number n i) = BorrowsNumber n
   BorrowsInner (inner.NonFinite f i) = Unit {0}
   BorrowsInner (inner.Named b) = Unit {0}
-  BorrowsInner (inner.Compound' p c) = BorrowsCompound c
-
-  pub BorrowsCompound : CompoundOf S Ms Msc Soc Number Literal Dots → Type 0
-  BorrowsCompound (compound.Enclosed' front before item after) = BorrowsS before × BorrowsInner item × BorrowsS after
-  BorrowsCompound (compound.Array list) = BorrowsList list
-  BorrowsCompound (compound.Map list) = BorrowsPairList list
-  BorrowsCompound (compound.String' n row last) = BorrowsPieces row × BorrowsPiece last
-  BorrowsCompound (compound.Stream stream) = BorrowsStream stream
+  BorrowsInner (inner.Enclosed' front p before item after) = BorrowsS before × BorrowsInner item × BorrowsS after
+  BorrowsInner (inner.Array' p list) = BorrowsList list
+  BorrowsInner (inner.Map' p list) = BorrowsPairList list
+  BorrowsInner (inner.String' p n row last) = BorrowsPieces row × BorrowsPiece last
+  BorrowsInner (inner.Stream' p stream) = BorrowsStream stream
 
   pub BorrowsPieces : {n : _} → Row_of-CborStringOf-row-3 S Ms Msc Soc Number Literal Dots n → Type 0
   BorrowsPieces end_of-CborStringOf-row-3 = Unit {0}

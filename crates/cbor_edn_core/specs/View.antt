@@ -10,8 +10,6 @@ use Rattle.cbor_edn_parts.specs.declared.number.Number.{Number}
 use Rattle.cbor_edn_parts.specs.declared.string.Literal.{Literal}
 use Rattle.cbor_edn_parts.specs.declared.string.Dots.{Dots}
 use Rattle.cbor_edn_core.specs.Leaves.{Ghosts}
-use Rattle.cbor_edn_core.specs.declared.tree.CompoundOf.{CompoundOf}
-use Rattle.cbor_edn_core.specs.declared.tree.CompoundOf.TheVariants as compound
 use Rattle.cbor_edn_core.specs.declared.tree.InnerItemOf.{InnerItemOf}
 use Rattle.cbor_edn_core.specs.declared.tree.InnerItemOf.TheVariants as inner
 use Rattle.cbor_edn_core.specs.declared.tree.ItemOf.{ItemOf}
@@ -65,14 +63,11 @@ module _ {S P M O N T D : Type 0} (leaves : Ghosts S P M O N T D) where
     view_inner (inner.Number n i) = NumberTree (leaves.number n) i
     view_inner (inner.NonFinite f i) = FloatTree f i
     view_inner (inner.Named b) = NamedTree b
-    view_inner (inner.Compound' p c) = view_compound c
-
-    pub view_compound : CompoundOf S P M O N T D → Tree OneItem
-    view_compound (compound.Enclosed' front before item after) = EnclosedTree front.label (StandaloneTree (leaves.space before) (view_inner item) (leaves.space after))
-    view_compound (compound.Array list) = ListTree kind.Array (view_list list)
-    view_compound (compound.Map list) = ListTree kind.Map (view_pair_list list)
-    view_compound (compound.String' n row last) = StringTree (view_pieces row (LastPieceTree (view_piece last)))
-    view_compound (compound.Stream stream) = view_stream stream
+    view_inner (inner.Enclosed' front p before item after) = EnclosedTree front.label (StandaloneTree (leaves.space before) (view_inner item) (leaves.space after))
+    view_inner (inner.Array' p list) = ListTree kind.Array (view_list list)
+    view_inner (inner.Map' p list) = ListTree kind.Map (view_pair_list list)
+    view_inner (inner.String' p n row last) = StringTree (view_pieces row (LastPieceTree (view_piece last)))
+    view_inner (inner.Stream' p stream) = view_stream stream
 
     -- pieces, each with the spaces round the plus sign behind it, in front of others
     pub view_pieces : {n : _} → Row_of-CborStringOf-row-3 S P M O N T D n → Tree OneString → Tree OneString

@@ -1,11 +1,11 @@
 //! Copies of trees. Memory comes from the allocator of what is copied.
 ghost use Rattle.std.specs.Prelude.{◌≡◌, map, IfOk};
 ghost use Rattle.cbor_edn_parts.specs.Leaves.{s_bytes};
-ghost use Rattle.cbor_edn_core.specs.View.{texts, view_head, view_list, view_items, seen, view_pair_list, view_pairs, view_pair, seen_pair, view_compound, view_string, view_piece, seen_piece, view_stream, view_strings, seen_string, item_tree, standalone_tree, sequence_tree};
+ghost use Rattle.cbor_edn_core.specs.View.{texts, view_head, view_list, view_items, seen, view_pair_list, view_pairs, view_pair, seen_pair, view_string, view_piece, seen_piece, view_stream, view_strings, seen_string, item_tree, standalone_tree, sequence_tree};
 
 use crate::tree::{
-    CborString, Compound, Indicator, InnerItem, Item, ItemList, ItemOf, Items, Kp, PairList, Pairs,
-    Piece, Sequence, SequenceOf, StandaloneItem, StandaloneItemOf, Stream, Strings,
+    CborString, Indicator, InnerItem, Item, ItemList, ItemOf, Items, Kp, PairList, Pairs, Piece,
+    Sequence, SequenceOf, StandaloneItem, StandaloneItemOf, Stream, Strings,
 };
 use cbor_edn_parts::space::{Ms, Msc, S};
 use std::alloc::AllocError;
@@ -60,6 +60,7 @@ fn clone_spaces<'a>(before: &S<'a>, after: &S<'a>) -> Result<(S<'a>, S<'a>), All
 }
 
 #[cycle(copy)]
+#[tactic(auto, using(crate::proofs::Views::view_string_is))]
 fn clone_item<'a>(item: &Item<'a>) -> Result<Item<'a>, AllocError>
     ensures { IfOk result (λ t. item_tree t ≡ item_tree item.now) }
 {
@@ -76,48 +77,25 @@ fn clone_item<'a>(item: &Item<'a>) -> Result<Item<'a>, AllocError>
         InnerItem::Named(name) => Ok(ItemOf {
             inner: InnerItem::Named(*name),
         }),
-        InnerItem::Compound(compound) => {
-            let copy = clone_boxed(compound)?;
-            Ok(ItemOf {
-                inner: InnerItem::Compound(copy),
-            })
+        InnerItem::Enclosed(front, content) => {
+            let copy = clone_standalone(content)?;
+            Item::enclosed(*Box::allocator(content), *front, copy)
         }
-    }
-}
-
-#[cycle(copy)]
-fn clone_boxed<'a>(compound: &Box<Compound<'a>>) -> Result<Box<Compound<'a>>, AllocError>
-    ensures { IfOk result (λ t. view_compound texts t.value ≡ view_compound texts compound.now.value) }
-{
-    let copy = clone_compound(compound)?;
-    Ok(Box::new(*Box::allocator(compound), copy)?)
-}
-
-#[cycle(copy)]
-#[tactic(auto, using(crate::proofs::Views::view_string_is))]
-fn clone_compound<'a>(compound: &Compound<'a>) -> Result<Compound<'a>, AllocError>
-    ensures { IfOk result (λ t. view_compound texts t ≡ view_compound texts compound.now) }
-{
-    match compound {
-        Compound::Enclosed(front, content) => {
-            let content = clone_standalone(content)?;
-            Ok(Compound::Enclosed(*front, content))
+        InnerItem::Array(list) => {
+            let copy = clone_list(list)?;
+            Item::array(*Box::allocator(list), copy)
         }
-        Compound::Array(list) => {
-            let list = clone_list(list)?;
-            Ok(Compound::Array(list))
+        InnerItem::Map(list) => {
+            let copy = clone_pair_list(list)?;
+            Item::map(*Box::allocator(list), copy)
         }
-        Compound::Map(list) => {
-            let list = clone_pair_list(list)?;
-            Ok(Compound::Map(list))
+        InnerItem::String(string) => {
+            let copy = clone_string(string)?;
+            Item::string(*Box::allocator(string), copy)
         }
-        Compound::String(string) => {
-            let string = clone_string(string)?;
-            Ok(Compound::String(string))
-        }
-        Compound::Stream(stream) => {
-            let stream = clone_stream(stream)?;
-            Ok(Compound::Stream(stream))
+        InnerItem::Stream(stream) => {
+            let copy = clone_stream(stream)?;
+            Item::stream(*Box::allocator(stream), copy)
         }
     }
 }

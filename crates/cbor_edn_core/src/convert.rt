@@ -1,22 +1,71 @@
-//! Trees that are made of other trees.
+//! Items of other trees.
 ghost use Rattle.std.specs.Prelude.{◌≡◌, IfOk, []};
-ghost use Rattle.cbor_edn_core.specs.Borrowed.{BorrowsCompound, BorrowsItem};
-ghost use Rattle.cbor_edn_core.specs.Trees.{StandaloneTree};
-ghost use Rattle.cbor_edn_core.specs.View.{texts, view_compound, item_tree, standalone_tree};
+ghost use Rattle.cbor_edn_core.specs.Borrowed.{BorrowsItem, BorrowsList, BorrowsPairList, BorrowsStandalone, BorrowsStream, BorrowsString};
+ghost use Rattle.cbor_edn_core.specs.Items.{Array, Map};
+ghost use Rattle.cbor_edn_core.specs.Trees.{EnclosedTree, ListTree, StringTree, StandaloneTree};
+ghost use Rattle.cbor_edn_core.specs.View.{texts, view_list, view_pair_list, view_string, view_stream, item_tree, standalone_tree};
 
-use crate::tree::{Compound, InnerItem, Item, ItemOf, StandaloneItem, StandaloneItemOf};
+use crate::tree::{
+    CborString, Front, InnerItem, Item, ItemList, ItemOf, PairList, StandaloneItem,
+    StandaloneItemOf, Stream,
+};
 use cbor_edn_parts::space::S;
 use std::alloc::{AllocError, Global};
 
+// Items whose parts stand behind a pointer. These fail where memory runs out.
 impl<'a> Item<'a> {
-    /// An item with parts of its own, behind a pointer. Fails where memory runs out.
-    pub(crate) fn compound(alloc: Global, compound: Compound<'a>) -> Result<Item<'a>, AllocError>
-        ensures view { IfOk result (λ t. item_tree t ≡ view_compound texts compound.entry) }
-        ensures borrowed { BorrowsCompound compound.entry → IfOk result BorrowsItem }
+    pub(crate) fn enclosed(
+        alloc: Global,
+        front: Front,
+        content: StandaloneItem<'a>,
+    ) -> Result<Item<'a>, AllocError>
+        ensures view { IfOk result (λ t. item_tree t ≡ EnclosedTree front.label (standalone_tree content.entry)) }
+        ensures borrowed { BorrowsStandalone content.entry → IfOk result BorrowsItem }
     {
-        let compound = Box::new(alloc, compound)?;
+        let content = Box::new(alloc, content)?;
         Ok(ItemOf {
-            inner: InnerItem::Compound(compound),
+            inner: InnerItem::Enclosed(front, content),
+        })
+    }
+
+    pub(crate) fn array(alloc: Global, list: ItemList<'a>) -> Result<Item<'a>, AllocError>
+        ensures view { IfOk result (λ t. item_tree t ≡ ListTree Array (view_list texts list.entry)) }
+        ensures borrowed { BorrowsList list.entry → IfOk result BorrowsItem }
+    {
+        let list = Box::new(alloc, list)?;
+        Ok(ItemOf {
+            inner: InnerItem::Array(list),
+        })
+    }
+
+    pub(crate) fn map(alloc: Global, list: PairList<'a>) -> Result<Item<'a>, AllocError>
+        ensures view { IfOk result (λ t. item_tree t ≡ ListTree Map (view_pair_list texts list.entry)) }
+        ensures borrowed { BorrowsPairList list.entry → IfOk result BorrowsItem }
+    {
+        let list = Box::new(alloc, list)?;
+        Ok(ItemOf {
+            inner: InnerItem::Map(list),
+        })
+    }
+
+    #[tactic(auto, using(crate::proofs::Views::view_string_is, crate::proofs::Borrows::borrows_string_made))]
+    pub(crate) fn string(alloc: Global, string: CborString<'a>) -> Result<Item<'a>, AllocError>
+        ensures view { IfOk result (λ t. item_tree t ≡ StringTree (view_string texts string.entry)) }
+        ensures borrowed { BorrowsString string.entry → IfOk result BorrowsItem }
+    {
+        let string = Box::new(alloc, string)?;
+        Ok(ItemOf {
+            inner: InnerItem::String(string),
+        })
+    }
+
+    pub(crate) fn stream(alloc: Global, stream: Stream<'a>) -> Result<Item<'a>, AllocError>
+        ensures view { IfOk result (λ t. item_tree t ≡ view_stream texts stream.entry) }
+        ensures borrowed { BorrowsStream stream.entry → IfOk result BorrowsItem }
+    {
+        let stream = Box::new(alloc, stream)?;
+        Ok(ItemOf {
+            inner: InnerItem::Stream(stream),
         })
     }
 }

@@ -1,6 +1,6 @@
 //! Trees as they are shown to those who look for an error: numbers, words and single literals as they are written, of
 //! anything else only its form.
-use crate::tree::{CborString, Compound, InnerItem, Item, Piece, Sequence, StandaloneItem};
+use crate::tree::{CborString, InnerItem, Item, Piece, Sequence, StandaloneItem};
 use std::fmt;
 
 impl fmt::Debug for Item<'_> {
@@ -33,17 +33,11 @@ fn outline<'b>(item: &'b Item<'_>) -> &'b str {
         InnerItem::Number(number, _) => number.as_str(),
         InnerItem::NonFinite(float, _) => float.as_str(),
         InnerItem::Named(name) => name.as_str(),
-        InnerItem::Compound(compound) => outline_of(compound),
-    }
-}
-
-fn outline_of<'b>(compound: &'b Compound<'_>) -> &'b str {
-    match compound {
-        Compound::Enclosed(_, _) => "(..)",
-        Compound::Array(_) => "[..]",
-        Compound::Map(_) => "{..}",
-        Compound::String(string) => outline_of_string(string),
-        Compound::Stream(_) => "(_ ..)",
+        InnerItem::Enclosed(_, _) => "(..)",
+        InnerItem::Array(_) => "[..]",
+        InnerItem::Map(_) => "{..}",
+        InnerItem::String(string) => outline_of_string(string),
+        InnerItem::Stream(_) => "(_ ..)",
     }
 }
 

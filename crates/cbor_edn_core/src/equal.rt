@@ -1,10 +1,10 @@
 //! Whether two trees are written the same, spaces included.
 ghost use Rattle.std.specs.Prelude.{◌≡◌, ◌↔◌, IsTrue, map};
 ghost use Rattle.cbor_edn_core.specs.Same.{same, same_indicator, same_word, same_named, same_float, same_label, same_head, same_entries, same_pieces, same_laws};
-ghost use Rattle.cbor_edn_core.specs.View.{texts, view_head, view_list, view_items, seen, view_pair_list, view_pairs, view_pair, seen_pair, view_compound, view_string, view_piece, seen_piece, view_stream, view_strings, seen_string, item_tree, standalone_tree, sequence_tree};
+ghost use Rattle.cbor_edn_core.specs.View.{texts, view_head, view_list, view_items, seen, view_pair_list, view_pairs, view_pair, seen_pair, view_string, view_piece, seen_piece, view_stream, view_strings, seen_string, item_tree, standalone_tree, sequence_tree};
 
 use crate::tree::{
-    CborString, Compound, Indicator, InnerItem, Item, ItemList, Items, Kp, Label, PairList, Pairs,
+    CborString, Indicator, InnerItem, Item, ItemList, Items, Kp, Label, PairList, Pairs,
     Piece, Sequence, StandaloneItem, Stream, Strings,
 };
 use crate::word::{NamedSimple, NonFinite};
@@ -108,7 +108,6 @@ fn have_same_head(a: &Option<(Indicator, Ms<'_>)>, b: &Option<(Indicator, Ms<'_>
 }
 
 #[cycle(same)]
-#[tactic(auto, using(crate::proofs::Compounds::number_compound, crate::proofs::Compounds::float_compound, crate::proofs::Compounds::named_compound, crate::proofs::Compounds::compound_number, crate::proofs::Compounds::compound_float, crate::proofs::Compounds::compound_named))]
 fn same_item(a: &Item<'_>, b: &Item<'_>) -> bool
     ensures { result ≡ same (item_tree a.now) (item_tree b.now) }
 {
@@ -120,24 +119,13 @@ fn same_item(a: &Item<'_>, b: &Item<'_>) -> bool
             have_same_float(*x, *y) && have_same_indicator(*i, *j)
         }
         (InnerItem::Named(x), InnerItem::Named(y)) => have_same_name(*x, *y),
-        (InnerItem::Compound(x), InnerItem::Compound(y)) => same_compound(x, y),
-        _ => false,
-    }
-}
-
-#[cycle(same)]
-#[tactic(auto, using(crate::proofs::Views::view_string_is))]
-fn same_compound(a: &Compound<'_>, b: &Compound<'_>) -> bool
-    ensures { result ≡ same (view_compound texts a.now) (view_compound texts b.now) }
-{
-    match (a, b) {
-        (Compound::Enclosed(m, x), Compound::Enclosed(n, y)) => {
+        (InnerItem::Enclosed(m, x), InnerItem::Enclosed(n, y)) => {
             have_same_label(m.label, n.label) && same_standalone(x, y)
         }
-        (Compound::Array(x), Compound::Array(y)) => same_list(x, y),
-        (Compound::Map(x), Compound::Map(y)) => same_pair_list(x, y),
-        (Compound::String(x), Compound::String(y)) => same_string(x, y),
-        (Compound::Stream(x), Compound::Stream(y)) => same_stream(x, y),
+        (InnerItem::Array(x), InnerItem::Array(y)) => same_list(x, y),
+        (InnerItem::Map(x), InnerItem::Map(y)) => same_pair_list(x, y),
+        (InnerItem::String(x), InnerItem::String(y)) => same_string(x, y),
+        (InnerItem::Stream(x), InnerItem::Stream(y)) => same_stream(x, y),
         _ => false,
     }
 }

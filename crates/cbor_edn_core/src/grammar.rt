@@ -20,7 +20,7 @@ ghost use Rattle.cbor_edn_core.specs.View.{texts, item_tree, view_list, view_ite
 
 use crate::lookahead::{Opening, closes, is_at, joins, marked, opening_at, tag_number};
 use crate::tree::{
-    CborString, Compound, Front, InnerItem, Item, ItemList, Items, Kp, PairList, Pairs, Piece,
+    CborString, Front, InnerItem, Item, ItemList, Items, Kp, PairList, Pairs, Piece,
     Sequence, StandaloneItem, Stream, Strings,
 };
 use crate::word::Word;
@@ -151,7 +151,7 @@ fn enclosed<'a>(
     if !is_at(text, to, b')', looks) {
         return Err(Fault::Told(Refusal::invalid(to)));
     }
-    let item = Item::compound(alloc, Compound::Enclosed(front, content))?;
+    let item = Item::enclosed(alloc, front, content)?;
     Ok((item, unspaced(to + 1)))
 }
 
@@ -185,7 +185,7 @@ fn bracketed<'a>(
     if !is_at(text, to, b']', looks) {
         return Err(Fault::Told(Refusal::invalid(to)));
     }
-    let item = Item::compound(alloc, Compound::Array(list))?;
+    let item = Item::array(alloc, list)?;
     Ok((item, unspaced(to + 1)))
 }
 
@@ -212,7 +212,7 @@ fn braced<'a>(
     if !is_at(text, to, b'}', looks) {
         return Err(Fault::Told(Refusal::invalid(to)));
     }
-    let item = Item::compound(alloc, Compound::Map(list))?;
+    let item = Item::map(alloc, list)?;
     Ok((item, unspaced(to + 1)))
 }
 
@@ -233,7 +233,7 @@ fn chunked<'a>(
     ensures cost { CostsEnd 12 4 12 (text_bytes text.now) (from + 1) looks.old.count looks.new.count result }
 {
     let (stream, to) = stream(alloc, text, from + 1, limit, looks)?;
-    let item = Item::compound(alloc, Compound::Stream(stream))?;
+    let item = Item::stream(alloc, stream)?;
     Ok((item, unspaced(to)))
 }
 
@@ -254,7 +254,7 @@ fn joined<'a>(
     ensures cost { CostsEndAhead 12 4 8 (text_bytes text.now) from looks.old.count looks.new.count result }
 {
     let (string, end) = string(alloc, text, from, limit, looks)?;
-    let item = Item::compound(alloc, Compound::String(string))?;
+    let item = Item::string(alloc, string)?;
     Ok((item, end))
 }
 

@@ -4,10 +4,10 @@ ghost use Rattle.std.specs.String.{string_bytes};
 ghost use Rattle.cbor_edn_parts.specs.Indicator.{indicator_text};
 ghost use Rattle.cbor_edn_core.specs.Trees.{text, label_text, head_text, items};
 ghost use Rattle.cbor_edn_core.specs.Spelling.{Spells, SpellsSequence, SpellsOne};
-ghost use Rattle.cbor_edn_core.specs.View.{texts, view_head, view_list, view_items, row_text, view_pair_list, view_pairs, view_pair, pair_row_text, view_compound, view_string, view_piece, piece_row_text, view_stream, view_strings, string_row_text, item_tree, standalone_tree, sequence_tree};
+ghost use Rattle.cbor_edn_core.specs.View.{texts, view_head, view_list, view_items, row_text, view_pair_list, view_pairs, view_pair, pair_row_text, view_string, view_piece, piece_row_text, view_stream, view_strings, string_row_text, item_tree, standalone_tree, sequence_tree};
 
 use crate::tree::{
-    CborString, Compound, Indicator, InnerItem, Item, ItemList, Items, Kp, Label, PairList, Pairs,
+    CborString, Indicator, InnerItem, Item, ItemList, Items, Kp, Label, PairList, Pairs,
     Piece, Sequence, StandaloneItem, Stream, Strings,
 };
 use cbor_edn_parts::space::{Ms, Msc, S};
@@ -105,7 +105,7 @@ fn push_head(out: &mut String, head: &Option<(Indicator, Ms<'_>)>) -> Result<(),
 }
 
 #[cycle(push)]
-#[tactic(auto, using(crate::proofs::Texts::text_number, crate::proofs::Texts::text_float, crate::proofs::Texts::text_named, std::proofs::Common::append_assoc))]
+#[tactic(auto, using(crate::proofs::Views::view_string_is, crate::proofs::Texts::text_number, crate::proofs::Texts::text_float, crate::proofs::Texts::text_named, crate::proofs::Texts::text_enclosed, crate::proofs::Texts::text_list, crate::proofs::Texts::text_string, std::proofs::Common::append_assoc))]
 fn push_item(out: &mut String, item: &Item<'_>) -> Result<(), AllocError>
     ensures { OnOk result (string_bytes out.new ≡ string_bytes out.old ++ text (item_tree item.now)) }
 {
@@ -119,34 +119,24 @@ fn push_item(out: &mut String, item: &Item<'_>) -> Result<(), AllocError>
             push_indicator(out, *indicator)
         }
         InnerItem::Named(name) => out.push_str(name.as_str()),
-        InnerItem::Compound(compound) => push_compound(out, compound),
-    }
-}
-
-#[cycle(push)]
-#[tactic(auto, using(crate::proofs::Views::view_string_is, crate::proofs::Texts::text_enclosed, crate::proofs::Texts::text_list, crate::proofs::Texts::text_string, std::proofs::Common::append_assoc))]
-fn push_compound(out: &mut String, compound: &Compound<'_>) -> Result<(), AllocError>
-    ensures { OnOk result (string_bytes out.new ≡ string_bytes out.old ++ text (view_compound texts compound.now)) }
-{
-    match compound {
-        Compound::Enclosed(front, content) => {
+        InnerItem::Enclosed(front, content) => {
             push_label(out, front.label)?;
             out.push_str("(")?;
             push_standalone(out, content)?;
             out.push_str(")")
         }
-        Compound::Array(list) => {
+        InnerItem::Array(list) => {
             out.push_str("[")?;
             push_list(out, list)?;
             out.push_str("]")
         }
-        Compound::Map(list) => {
+        InnerItem::Map(list) => {
             out.push_str("{")?;
             push_pair_list(out, list)?;
             out.push_str("}")
         }
-        Compound::String(string) => push_string(out, string),
-        Compound::Stream(stream) => push_stream(out, stream),
+        InnerItem::String(string) => push_string(out, string),
+        InnerItem::Stream(stream) => push_stream(out, stream),
     }
 }
 

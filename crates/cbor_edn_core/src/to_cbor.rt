@@ -4,7 +4,7 @@ ghost use Rattle.cbor_edn_parts.specs.Contents.{literal_content};
 ghost use Rattle.cbor_edn_parts.specs.Leaves.{literal_bytes, number_bytes};
 ghost use Rattle.cbor_edn_core.specs.Items as nodes;
 ghost use Rattle.cbor_edn_core.specs.Trees as trees;
-ghost use Rattle.cbor_edn_core.specs.View.{texts, view_list, view_items, view_pair_list, view_pairs, view_pair, view_head, view_compound, view_piece, view_string, view_strings, seen, seen_pair, seen_piece, seen_string, item_tree, standalone_tree, sequence_tree};
+ghost use Rattle.cbor_edn_core.specs.View.{texts, view_list, view_items, view_pair_list, view_pairs, view_pair, view_head, view_piece, view_string, view_strings, seen, seen_pair, seen_piece, seen_string, item_tree, standalone_tree, sequence_tree};
 ghost use Rattle.cbor_edn_core.specs.Value.{AreBytes, Value, Values, encoding, encodings, pair_encodings, Enc, EncAll};
 ghost use Rattle.cbor_edn_core.specs.Meaning as meaning;
 ghost use Rattle.cbor_edn_core.specs.Meaning.{means, length_of};
@@ -17,7 +17,7 @@ use crate::cbor::{
     push_marked_head, push_simple, push_string, same_kind, simple_number, string_major,
 };
 use crate::tree::{
-    CborString, Compound, InnerItem, Item, ItemList, Items, Kp, Label, PairList, Pairs, Piece,
+    CborString, InnerItem, Item, ItemList, Items, Kp, Label, PairList, Pairs, Piece,
     Sequence, StandaloneItem, Strings,
 };
 use cbor_edn_parts::error::{Fault, InconsistentEdn};
@@ -72,21 +72,11 @@ fn push_item(out: &mut Vec<u8>, item: &Item<'_>) -> Result<(), Fault<Inconsisten
         InnerItem::Number(number, indicator) => push_number(out, number, *indicator),
         InnerItem::NonFinite(float, indicator) => push_float(out, *float, *indicator),
         InnerItem::Named(name) => Ok(push_simple(out, simple_number(*name))?),
-        InnerItem::Compound(compound) => push_compound(out, compound),
-    }
-}
-
-#[cycle(encode)]
-#[tactic(auto, unfolding(crate::specs::Trees::items))]
-fn push_compound(out: &mut Vec<u8>, compound: &Compound<'_>) -> Result<(), Fault<InconsistentEdn>>
-    ensures { Encodes encoding (means (trees.items (view_compound texts compound.now))) out.old.items out.new.items result }
-{
-    match compound {
-        Compound::Enclosed(front, content) => push_enclosed(out, front.label, content),
-        Compound::Array(list) => push_array(out, list),
-        Compound::Map(list) => push_map(out, list),
-        Compound::String(string) => push_pieces(out, string),
-        Compound::Stream(stream) => push_stream(out, &stream.strings),
+        InnerItem::Enclosed(front, content) => push_enclosed(out, front.label, content),
+        InnerItem::Array(list) => push_array(out, list),
+        InnerItem::Map(list) => push_map(out, list),
+        InnerItem::String(string) => push_pieces(out, string),
+        InnerItem::Stream(stream) => push_stream(out, &stream.strings),
     }
 }
 
@@ -109,7 +99,7 @@ fn push_enclosed(
 }
 
 /// Writes the simple value whose number an item is. Fails where the item is no such number.
-#[tactic(auto, using(crate::proofs::Compounds::compound_no_number), unfolding(crate::specs::Trees::items))]
+#[tactic(auto, unfolding(crate::specs::Trees::items))]
 fn push_numeric(out: &mut Vec<u8>, item: &Item<'_>) -> Result<(), Fault<InconsistentEdn>>
     ensures { Encodes encoding (meaning.means_simple (trees.items (item_tree item.now))) out.old.items out.new.items result }
 {

@@ -50,16 +50,6 @@ pub type InnerItem<'a> = InnerItemOf<
     Dots<'a>,
 >;
 
-pub type Compound<'a> = CompoundOf<
-    S<'a>,
-    Ms<'a>,
-    Msc<'a>,
-    Soc<'a>,
-    Number<'a>,
-    Literal<'a>,
-    Dots<'a>,
->;
-
 pub type CborString<'a> = CborStringOf<
     S<'a>,
     Ms<'a>,
@@ -117,7 +107,7 @@ pub struct ItemOf<O: Drop, M: Drop, C: Drop, E: Drop, N: Drop, L: Drop, D: Drop>
     pub(crate) inner: InnerItemOf<O, M, C, E, N, L, D>,
 }
 
-/// The forms of items. Numbers and words stand in the item itself, everything else behind one pointer.
+/// The forms of items. Numbers and words stand in the item itself, the parts of any other form behind a pointer.
 #[cycle(tree)]
 #[derive(Drop)]
 pub enum InnerItemOf<O: Drop, M: Drop, C: Drop, E: Drop, N: Drop, L: Drop, D: Drop> {
@@ -127,21 +117,13 @@ pub enum InnerItemOf<O: Drop, M: Drop, C: Drop, E: Drop, N: Drop, L: Drop, D: Dr
     NonFinite(NonFinite, Option<Indicator>),
     /// A simple value by its name.
     Named(NamedSimple),
-    /// An item with parts of its own.
-    Compound(Box<CompoundOf<O, M, C, E, N, L, D>>),
-}
-
-/// The forms of items with parts of their own.
-#[cycle(tree)]
-#[derive(Drop)]
-pub enum CompoundOf<O: Drop, M: Drop, C: Drop, E: Drop, N: Drop, L: Drop, D: Drop> {
     /// An item between parentheses, and what stands in front of them.
-    Enclosed(Front, StandaloneItemOf<O, M, C, E, N, L, D>),
-    Array(ItemListOf<O, M, C, E, N, L, D>),
-    Map(PairListOf<O, M, C, E, N, L, D>),
-    String(CborStringOf<O, M, C, E, N, L, D>),
+    Enclosed(Front, Box<StandaloneItemOf<O, M, C, E, N, L, D>>),
+    Array(Box<ItemListOf<O, M, C, E, N, L, D>>),
+    Map(Box<PairListOf<O, M, C, E, N, L, D>>),
+    String(Box<CborStringOf<O, M, C, E, N, L, D>>),
     /// A string of indefinite length.
-    Stream(StreamOf<O, M, C, E, N, L, D>),
+    Stream(Box<StreamOf<O, M, C, E, N, L, D>>),
 }
 
 /// What stands in front of an item between parentheses.

@@ -3,9 +3,8 @@ ghost use Rattle.std.specs.Prelude.{◌≡◌, ◌<◌, ◌≤◌, ◌++◌, ◌
 ghost use Rattle.std.specs.Fmt.{signed_decimal};
 ghost use Rattle.cbor_edn_parts.specs.Leaves as leaves;
 ghost use Rattle.cbor_edn_parts.specs.Leaves.{HasMagnitude};
-ghost use Rattle.cbor_edn_core.specs.Items.{Array, Map};
-ghost use Rattle.cbor_edn_core.specs.Trees.{NumberTree, ListTree};
-ghost use Rattle.cbor_edn_core.specs.View.{texts, view_compound, view_head, view_items, view_pairs, view_pair, item_tree};
+ghost use Rattle.cbor_edn_core.specs.Trees.{NumberTree};
+ghost use Rattle.cbor_edn_core.specs.View.{texts, view_list, view_pair_list, view_head, view_items, view_pairs, view_pair, item_tree};
 ghost use Rattle.cbor_edn_core.specs.Decoded as decoded;
 ghost use Rattle.cbor_edn_core.specs.Decoded.{inside};
 ghost use Rattle.cbor_edn_core.specs.CborReading as reading;
@@ -18,7 +17,7 @@ use super::growing::Growing;
 use super::special::{enclosed, special_of};
 use super::strings::string_of;
 use crate::cbor::Width;
-use crate::tree::{Compound, Front, InnerItem, Item, ItemList, Items, Kp, PairList, Pairs};
+use crate::tree::{Front, InnerItem, Item, ItemList, Items, Kp, PairList, Pairs};
 use cbor_edn_parts::error::Fault;
 use cbor_edn_parts::indicator::Indicator;
 use cbor_edn_parts::number::{Integer, Number};
@@ -125,36 +124,36 @@ fn if_below(limit: u64, n: u64, indicator: Indicator) -> Option<Indicator>
     if n < limit { Some(indicator) } else { None }
 }
 
-fn array<'a>(argument: Argument, items: Option<Items<'a>>) -> Compound<'a>
-    ensures { view_compound texts result ≡ ListTree Array (inside (argument_indicator argument) (option_map (view_items texts) items.entry)) }
+/// What stands between the brackets of a decoded array.
+fn elements<'a>(argument: Argument, items: Option<Items<'a>>) -> ItemList<'a>
+    ensures { view_list texts result ≡ inside (argument_indicator argument) (option_map (view_items texts) items.entry) }
 {
     let indicator = indicator_of(argument);
     let s = S::empty();
-    let list = match items {
+    match items {
         None => ItemList::Absent { indicator, s },
         Some(items) => ItemList::Present {
             head: head_space(indicator),
             s,
             items,
         },
-    };
-    Compound::Array(list)
+    }
 }
 
-fn object<'a>(argument: Argument, pairs: Option<Pairs<'a>>) -> Compound<'a>
-    ensures { view_compound texts result ≡ ListTree Map (inside (argument_indicator argument) (option_map (view_pairs texts) pairs.entry)) }
+/// What stands between the braces of a decoded map.
+fn entries<'a>(argument: Argument, pairs: Option<Pairs<'a>>) -> PairList<'a>
+    ensures { view_pair_list texts result ≡ inside (argument_indicator argument) (option_map (view_pairs texts) pairs.entry) }
 {
     let indicator = indicator_of(argument);
     let s = S::empty();
-    let list = match pairs {
+    match pairs {
         None => PairList::Absent { indicator, s },
         Some(pairs) => PairList::Present {
             head: head_space(indicator),
             s,
             pairs,
         },
-    };
-    Compound::Map(list)
+    }
 }
 
 /// One space behind an indicator.
@@ -328,7 +327,7 @@ fn array_of<'a, 'b>(
         Some((_, n)) => items_of(alloc, n, bytes, limit - 1)?,
         None => items_until(alloc, bytes, limit - 1, Stop::Break)?,
     };
-    let item = Item::compound(alloc, array(argument, finish_items(found)))?;
+    let item = Item::array(alloc, elements(argument, finish_items(found)))?;
     Ok((item, rest))
 }
 
@@ -350,7 +349,7 @@ fn map_of<'a, 'b>(
         Some((_, n)) => pairs_of(alloc, n, bytes, limit - 1)?,
         None => pairs_until(alloc, bytes, limit - 1)?,
     };
-    let item = Item::compound(alloc, object(argument, finish_pairs(found)))?;
+    let item = Item::map(alloc, entries(argument, finish_pairs(found)))?;
     Ok((item, rest))
 }
 

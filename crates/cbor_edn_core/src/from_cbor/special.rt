@@ -11,7 +11,7 @@ ghost use Rattle.cbor_edn_core.specs.View.{item_tree};
 use super::CborError;
 use super::reader::Argument;
 use crate::cbor::{Width, float_bits};
-use crate::tree::{Compound, Front, Indicator, InnerItem, Item, StandaloneItem};
+use crate::tree::{Front, Indicator, InnerItem, Item, StandaloneItem};
 use crate::word::{NamedSimple, NonFinite};
 use cbor_edn_parts::error::Fault;
 use cbor_edn_parts::number::{Integer, Number};
@@ -67,7 +67,7 @@ pub(super) fn enclosed<'a>(
 ) -> Result<Item<'a>, AllocError>
     ensures { IfOk result (λ t. item_tree t ≡ EnclosedTree front.label (alone (item_tree item.entry))) }
 {
-    Item::compound(alloc, Compound::Enclosed(front, StandaloneItem::from(item)))
+    Item::enclosed(alloc, front, StandaloneItem::from(item))
 }
 
 /// The floating-point number of so many bytes with these bits: finite ones are refused.

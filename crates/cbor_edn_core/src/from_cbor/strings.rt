@@ -2,7 +2,7 @@
 ghost use Rattle.std.specs.Prelude.{◌≡◌, ◌<◌, ◌≤◌, suc, length, map, option_map, IfOk};
 ghost use Rattle.cbor_edn_parts.specs.Contents.{kind_literal};
 ghost use Rattle.cbor_edn_parts.specs.Leaves.{literal_bytes};
-ghost use Rattle.cbor_edn_core.specs.View.{texts, view_compound, view_string, view_strings, item_tree};
+ghost use Rattle.cbor_edn_core.specs.View.{texts, view_string, view_strings, item_tree};
 ghost use Rattle.cbor_edn_core.specs.CborReading.{Gives, trees, until, string_at, chunk_at, string_by, string_tree, chunked_tree, shown};
 ghost use Rattle.cbor_edn_core.specs.Growing.{grown};
 
@@ -11,12 +11,12 @@ use super::finish::finish_strings;
 use super::growing::Growing;
 use super::reader::{Argument, Stop, head_of, indicator_of, past_stop};
 use crate::cbor::{Width, string_major};
-use crate::tree::{CborString, Compound, Item, Piece, Stream, Strings};
+use crate::tree::{CborString, Item, Piece, Stream, Strings};
 use cbor_edn_parts::error::Fault;
 use cbor_edn_parts::indicator::Indicator;
 use cbor_edn_parts::space::Ms;
 use cbor_edn_parts::string::{Literal, StringKind};
-use std::alloc::Global;
+use std::alloc::{AllocError, Global};
 
 /// The literal of so many bytes.
 fn literal_of<'a, 'b>(
@@ -102,15 +102,19 @@ fn chunks_until<'a, 'b>(
 }
 
 /// A string of indefinite length: `(_ h'61')`, and `''_` without strings.
-fn chunked<'a>(alloc: Global, kind: StringKind, strings: Option<Strings<'a>>) -> Compound<'a>
-    ensures { view_compound texts result ≡ chunked_tree kind (option_map (view_strings texts) strings.entry) }
+fn chunked<'a>(
+    alloc: Global,
+    kind: StringKind,
+    strings: Option<Strings<'a>>,
+) -> Result<Item<'a>, AllocError>
+    ensures { IfOk result (λ t. item_tree t ≡ chunked_tree kind (option_map (view_strings texts) strings.entry)) }
 {
     match strings {
-        Some(strings) => Compound::Stream(Stream {
+        Some(strings) => Item::stream(alloc, Stream {
             ms: Ms::space(),
             strings,
         }),
-        None => Compound::String(CborString {
+        None => Item::string(alloc, CborString {
             row: Vec::new(alloc),
             last: Piece::Literal(Literal::empty(kind), Some(Indicator::Indefinite)),
         }),
@@ -130,13 +134,13 @@ pub(super) fn string_of<'a, 'b>(
     match argument {
         Some((width, count)) => {
             let (string, rest) = definite(alloc, kind, width, count, bytes)?;
-            let item = Item::compound(alloc, Compound::String(string))?;
+            let item = Item::string(alloc, string)?;
             Ok((item, rest))
         }
         None => {
             let (found, rest) = chunks_until(alloc, kind, bytes)?;
             let strings = finish_strings(found);
-            let item = Item::compound(alloc, chunked(alloc, kind, strings))?;
+            let item = chunked(alloc, kind, strings)?;
             Ok((item, rest))
         }
     }

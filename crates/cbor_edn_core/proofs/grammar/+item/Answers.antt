@@ -65,10 +65,10 @@ joined-returns-in_err-string-clause-value t c =
     rw (p.1, p.2) (string_item_fails c.in_err-string.field-0.0 c.args.limit _ c.requires.opens c.in_err-string.ensures.value)
 
 pub joined-returns-clause-value : goal.joined-returns-clause-value
-joined-returns-clause-value t c = rw (c.in_ok-item.ensures.view, view_string_is texts) (string_item_read c.args.limit _ _ _ c.requires.opens c.in_ok-string.ensures.value)
+joined-returns-clause-value t c = rw c.in_ok-item.ensures.view (string_item_read c.args.limit _ _ _ c.requires.opens c.in_ok-string.ensures.value)
 
 pub joined-returns-clause-borrowed : goal.joined-returns-clause-borrowed
-joined-returns-clause-borrowed t c = c.in_ok-item.ensures.borrowed (borrows_string_made _ c.in_ok-string.string refl c.in_ok-string.ensures.borrowed)
+joined-returns-clause-borrowed t c = c.in_ok-item.ensures.borrowed c.in_ok-string.ensures.borrowed
 
 pub array-returns-in_err-s-clause-value : goal.array-returns-in_err-s-clause-value
 array-returns-in_err-s-clause-value t c =

@@ -13,7 +13,7 @@ use Rattle.cbor_edn_core.specs.declared.tree.PairsOf.{out-PairsOf}
 use Rattle.cbor_edn_core.specs.declared.tree.SequenceOf.{out-SequenceOf}
 use Rattle.cbor_edn_core.specs.declared.tree.StringsOf.{out-StringsOf}
 use Rattle.cbor_edn_core.specs.Value.{encoding, simple}
-use Rattle.cbor_edn_core.proofs.Views.{view_items_is, view_pairs_is, view_sequence_is, view_stream_is, view_string_is, view_strings_is}
+use Rattle.cbor_edn_core.proofs.Views.{view_items_is, view_pairs_is, view_sequence_is, view_stream_is, view_string_at, view_strings_is}
 use Rattle.cbor_edn_core.proofs.StringEncodes.{GathersRest, none_gathered, next_gathered, next_ungathered, all_gathered, embedded_gathered, embedded_stops, stream_pushed, stream_stops, stream_mixed, has_first, string_pushed, string_marked, string_lacks, part_pushed, part_marked, part_lacks, part_is, refused_so, content_is, sequence_pushed, nothing_pushed}
 use Rattle.cbor_edn_core.proofs.to_cbor.+encode.Goals as goal
 
@@ -178,13 +178,15 @@ push_pair-returns t c =
 
 -- ---- strings
 
-pub push_compound-returns-in-String : goal.push_compound-returns-in-String
+pub push_item-returns-in-String : goal.push_item-returns-in-String
 unfolding items
-push_compound-returns-in-String t c = rw c.in-String.is (subst (λ w. Encodes encoding (means (items w)) c.args.out.now.items c.push_pieces.new.out.items c.push_pieces.result) (sym (view_string_is texts c.in-String.string)) c.push_pieces.ensures)
+push_item-returns-in-String t c =
+    subst (λ w. Encodes encoding (means (items w)) c.args.out.now.items c.push_pieces.new.out.items c.push_pieces.result)
+    (sym (view_string_at texts c.args.item.now.inner c.in-String.string c.deref-in-String.result.now c.in-String.is c.deref-in-String.ensures)) c.push_pieces.ensures
 
-pub push_compound-returns-in-Stream : goal.push_compound-returns-in-Stream
+pub push_item-returns-in-Stream : goal.push_item-returns-in-Stream
 unfolding items
-push_compound-returns-in-Stream t c = rw (c.in-Stream.is, view_stream_is texts c.in-Stream.stream) c.push_stream.ensures
+push_item-returns-in-Stream t c = rw (c.in-Stream.is, ← c.deref-in-Stream.ensures, view_stream_is texts c.deref-in-Stream.result.now) c.push_stream.ensures
 
 pub push_sequence-returns-in-Some : goal.push_sequence-returns-in-Some
 push_sequence-returns-in-Some t c =
@@ -347,9 +349,9 @@ pub push_item-returns-in_ok-push_simple-in-Named : goal.push_item-returns-in_ok-
 unfolding items means
 push_item-returns-in_ok-push_simple-in-Named t c = rw c.in-Named.is (simple (named_number c.in-Named.name), refl, c.in_ok-push_simple-in-Named.ensures ∙ ap (λ (n : ℕ). c.args.out.now.items ++ encoding (simple n)) c.simple_number.ensures)
 
-pub push_compound-returns-in-Enclosed : goal.push_compound-returns-in-Enclosed
+pub push_item-returns-in-Enclosed : goal.push_item-returns-in-Enclosed
 unfolding items
-push_compound-returns-in-Enclosed t c = rw c.in-Enclosed.is c.push_enclosed.ensures
+push_item-returns-in-Enclosed t c = rw (c.in-Enclosed.is, ← c.deref.ensures) c.push_enclosed.ensures
 
 pub push_enclosed-returns-in_err-push_marked_head-in-Tag : goal.push_enclosed-returns-in_err-push_marked_head-in-Tag
 unfolding items

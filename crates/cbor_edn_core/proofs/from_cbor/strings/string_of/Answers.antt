@@ -16,10 +16,10 @@ pub returns-in_ok-item-in-Some-clause-exact : goal.returns-in_ok-item-in-Some-cl
 returns-in_ok-item-in-Some-clause-exact c =
     let string = c.in_ok-string-in-Some.string in
     let rest = c.in_ok-string-in-Some.rest.now in
-    rw (c.in-Some.is, c.in_ok-item-in-Some.ensures.view) (alone_read c.args.kind c.in-Some.width c.in-Some.count c.args.bytes.now rest (view_string texts string) c.in_ok-string-in-Some.ensures.exact ∙ ap (λ (t : Tree OneItem). Ok (t, rest)) (sym (view_string_is texts string)))
+    rw (c.in-Some.is, c.in_ok-item-in-Some.ensures.view) (alone_read c.args.kind c.in-Some.width c.in-Some.count c.args.bytes.now rest (view_string texts string) c.in_ok-string-in-Some.ensures.exact)
 
 pub returns-in_ok-item-in-None-clause-exact : goal.returns-in_ok-item-in-None-clause-exact
 returns-in_ok-item-in-None-clause-exact c =
     let found = map (view_string texts) (grown c.in_ok-found-in-None.found) in
     let rest = c.in_ok-found-in-None.rest.now in
-    rw (c.in-None.is, c.in_ok-item-in-None.ensures.view, c.chunked.ensures, c.finish_strings-strings.ensures) (chunks_read c.args.kind (suc (length c.args.bytes.now)) c.args.bytes.now rest found c.in_ok-found-in-None.ensures.exact)
+    rw (c.in-None.is, c.in_ok-item-in-None.ensures, c.finish_strings-strings.ensures) (chunks_read c.args.kind (suc (length c.args.bytes.now)) c.args.bytes.now rest found c.in_ok-found-in-None.ensures.exact)
