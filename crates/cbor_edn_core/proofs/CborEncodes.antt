@@ -1,5 +1,6 @@
 -- What is pushed by parts is the encoding of the whole.
-use Rattle.std.proofs.Common.{◌≡◌, ℕ, ℤ, pos, zero, suc, ◌+◌, ◌^◌, ◌<◌, ◌≤◌, Bool, true, false, cond, ltb, List, [], ◌∷◌, ◌++◌, length, map, drop, get_or, drop-cons, add-one, Option, Some, None, Result, Ok, Err, refl, sym, ap, subst, ◌∙◌, append_assoc, arith}
+use Rattle.std.proofs.Common.{◌≡◌, ℕ, ℤ, pos, negsuc, zero, suc, ◌+◌, ◌^◌, ◌<◌, ◌≤◌, Bool, true, false, cond, ltb, List, [], ◌∷◌, ◌++◌, length, map, drop, get_or, drop-cons, add-one, Option, Some, None, Result, Ok, Err, refl, sym, ap, subst, ◌∙◌, append_assoc, arith}
+use Rattle.std.specs.Prelude.{unsigned_abs}
 use Rattle.std.proofs.lemmas.Bool.{le-ltb}
 use Rattle.std.proofs.lemmas.Bool.Decides.{nat_tests}
 use Rattle.std.proofs.lemmas.List.{append-nil}
@@ -7,7 +8,9 @@ use Rattle.cbor_edn_parts.specs.declared.error.Fault.{Fault}
 use Rattle.cbor_edn_parts.specs.declared.error.Fault.TheVariants.{Memory, Told}
 use Rattle.cbor_edn_parts.specs.declared.error.InconsistentEdn.{InconsistentEdn}
 use Rattle.cbor_edn_parts.specs.declared.indicator.Indicator.{Indicator}
-use Rattle.cbor_edn_parts.specs.Number.{Sign, NoSign, PlusSign, MinusSign, signed, sign_of, is_numeral, radix, base_of, digits_of, magnitude_of, integer_of}
+use Rattle.cbor_edn_parts.specs.Number.{HasInteger}
+use Rattle.cbor_edn_parts.specs.NumberReading.{integer_of}
+use Rattle.cbor_edn_parts.proofs.NumberParts.{integer_reads, integer_read}
 use Rattle.cbor_edn_core.specs.declared.cbor.Width.{Width}
 use Rattle.cbor_edn_core.specs.Items.{Row, Elements, Pairs, Strings, Bracketed, Array, Map, entries_of, Node, Item, Number, Listed, Tagged, Items}
 use Rattle.cbor_edn_core.specs.Trees.{Tree, OneItem, OneEntry, Rest, LastTree, ElementTree, PairTree, EmptyTree, FullTree, Head, mark, items}
@@ -32,41 +35,36 @@ if_large n limit v le = let is : ltb n limit ≡ false = le-ltb n limit le in rw
 not_small : (n : ℕ) (v w : Option Value) → 2 ^ 64 ≤ n → cond (ltb n (2 ^ 64)) v w ≡ w
 not_small n v w le = let is : ltb n (2 ^ 64) ≡ false = le-ltb n (2 ^ 64) le in rw is refl
 
-pub too_large : (i : Option Indicator) (sign : Sign) (n : ℕ) → 2 ^ 128 ≤ n → means_integer i (signed sign n) ≡ None
-too_large i NoSign n le = not_small n _ _ (omega arith) ∙ if_large n (2 ^ 128) _ le
-too_large i PlusSign n le = not_small n _ _ (omega arith) ∙ if_large n (2 ^ 128) _ le
-too_large i MinusSign zero le = absurd (omega arith)
-too_large i MinusSign (suc n) le = not_small n _ _ (omega arith) ∙ if_large (n + 1) (2 ^ 128) _ (omega arith)
+pub too_large : (i : Option Indicator) (z : ℤ) → 2 ^ 128 ≤ unsigned_abs z → means_integer i z ≡ None
+too_large i (pos n) le = not_small n _ _ (omega arith) ∙ if_large n (2 ^ 128) _ le
+too_large i (negsuc n) le = not_small n _ _ (omega arith) ∙ if_large (n + 1) (2 ^ 128) _ (omega arith)
 
 -- The integer of a literal whose magnitude is below that, put to a use that larger ones do not have.
-no_integer : {A : Type 0} (use_of : ℤ → Option A) (x : List ℕ) → ((sign : Sign) (n : ℕ) → 2 ^ 128 ≤ n → use_of (signed sign n) ≡ None) → ((z : ℤ) → integer_of x ≡ Some z → 2 ^ 128 ≤ magnitude_of x) → (integer_of x >>= use_of) ≡ None
-unfolding integer_of
-no_integer {A} use_of x useless large = by_test (is_numeral (radix (base_of x)) (digits_of x)) (large (signed (sign_of x) (magnitude_of x)))
+no_integer : {A : Type 0} (use_of : ℤ → Option A) (x : List ℕ) → ((z : ℤ) → 2 ^ 128 ≤ unsigned_abs z → use_of z ≡ None) → ((z : ℤ) → HasInteger x z → 2 ^ 128 ≤ unsigned_abs z) → (integer_of x >>= use_of) ≡ None
+no_integer {A} use_of x useless large = by_answer (integer_of x) (λ z e. useless z (large z (integer_read x z e)))
   where
-    by_test : (numeral : Bool) → (cond numeral (Some (signed (sign_of x) (magnitude_of x))) None ≡ Some (signed (sign_of x) (magnitude_of x)) → 2 ^ 128 ≤ magnitude_of x) → (cond numeral (Some (signed (sign_of x) (magnitude_of x))) None >>= use_of) ≡ None
-    by_test true le = useless (sign_of x) (magnitude_of x) (le refl)
-    by_test false le = refl
+    by_answer : (o : Option ℤ) → ((z : ℤ) → o ≡ Some z → use_of z ≡ None) → (o >>= use_of) ≡ None
+    by_answer None none = refl
+    by_answer (Some z) none = none z refl
 
 -- a literal of that magnitude, or what is no literal
-pub no_number : (x : List ℕ) (i : Option Indicator) → ((z : ℤ) → integer_of x ≡ Some z → 2 ^ 128 ≤ magnitude_of x) → means (Number x i) ≡ None
+pub no_number : (x : List ℕ) (i : Option Indicator) → ((z : ℤ) → HasInteger x z → 2 ^ 128 ≤ unsigned_abs z) → means (Number x i) ≡ None
 unfolding means
 no_number x i large = no_integer (means_integer i) x (too_large i) large
 
 too_large_to_be_simple : (i : Option Indicator) (n : ℕ) → 2 ^ 128 ≤ n → simple_number i (pos n) ≡ None
 too_large_to_be_simple i n le = let is : is_simple n ≡ false = grind (arith, nat_tests) in rw is refl
 
-never_simple : (i : Option Indicator) (sign : Sign) (n : ℕ) → 2 ^ 128 ≤ n → simple_number i (signed sign n) ≡ None
-never_simple i NoSign n le = too_large_to_be_simple i n le
-never_simple i PlusSign n le = too_large_to_be_simple i n le
-never_simple i MinusSign zero le = absurd (omega arith)
-never_simple i MinusSign (suc n) le = refl
+never_simple : (i : Option Indicator) (z : ℤ) → 2 ^ 128 ≤ unsigned_abs z → simple_number i z ≡ None
+never_simple i (pos n) le = too_large_to_be_simple i n le
+never_simple i (negsuc n) le = refl
 
-pub no_simple : (x : List ℕ) (i : Option Indicator) → ((z : ℤ) → integer_of x ≡ Some z → 2 ^ 128 ≤ magnitude_of x) → simple_of x i ≡ None
+pub no_simple : (x : List ℕ) (i : Option Indicator) → ((z : ℤ) → HasInteger x z → 2 ^ 128 ≤ unsigned_abs z) → simple_of x i ≡ None
 no_simple x i large = no_integer (simple_number i) x (never_simple i) large
 
-pub number_means : (x : List ℕ) (i : Option Indicator) (z : ℤ) → integer_of x ≡ Some z → means (Number x i) ≡ means_integer i z
+pub number_means : (x : List ℕ) (i : Option Indicator) (z : ℤ) → HasInteger x z → means (Number x i) ≡ means_integer i z
 unfolding means
-number_means x i z e = rw e refl
+number_means x i z e = rw (integer_reads x z e) refl
 
 -- ---- tags
 

@@ -4,7 +4,7 @@ use Rattle.std.specs.Prelude.{pos, negsuc, ◌&&◌}
 use Rattle.std.specs.Fmt.{signed_decimal}
 use Rattle.std.proofs.lemmas.Bool.{cases_lt, cases_eq, lt-ltb, le-ltb, eq-eqb, ne_eqb}
 use Rattle.std.proofs.lemmas.Bool.Decides.{nat_tests}
-use Rattle.cbor_edn_parts.specs.Number.{integer_of}
+use Rattle.cbor_edn_parts.specs.NumberReading.{integer_of}
 use Rattle.cbor_edn_parts.proofs.Decimals.{integer_of_decimal}
 use Rattle.cbor_edn_parts.specs.declared.indicator.Indicator.{Indicator}
 use Rattle.cbor_edn_parts.specs.declared.indicator.Indicator.TheVariants as indicator

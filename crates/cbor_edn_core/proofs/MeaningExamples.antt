@@ -3,7 +3,7 @@ use Rattle.std.proofs.Common.{[], ◌∷◌, ◌≡◌, refl}
 use Rattle.std.specs.Prelude.{Some, None}
 use Rattle.std.specs.Fmt.{digits}
 use Rattle.cbor_edn_parts.specs.declared.indicator.Indicator.TheVariants as indicator
-use Rattle.cbor_edn_parts.specs.Number.{integer_of}
+use Rattle.cbor_edn_parts.specs.NumberReading.{integer_of}
 use Rattle.cbor_edn_core.specs.declared.cbor.Width.TheVariants.{Immediate, One, Two, Four, Eight}
 use Rattle.cbor_edn_core.specs.declared.word.NamedSimple.TheVariants.{True, Null}
 use Rattle.cbor_edn_core.specs.declared.word.NonFinite.TheVariants.{Infinity, NegativeInfinity, NaN}

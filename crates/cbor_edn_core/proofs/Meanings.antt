@@ -5,7 +5,7 @@ use Rattle.std.specs.Int.{byte_at, bytes_high_first}
 use Rattle.std.proofs.lemmas.Bool.{cases_lt, lt-ltb, le-ltb, ltb-true}
 use Rattle.std.proofs.lemmas.Bool.Decides.{nat_tests}
 use Rattle.std.proofs.lemmas.List.Elements.{All-nil, All-cons, All-head, All-tail}
-use Rattle.cbor_edn_parts.specs.Number.{integer_of}
+use Rattle.cbor_edn_parts.specs.NumberReading.{integer_of}
 use Rattle.cbor_edn_parts.specs.declared.indicator.Indicator.{Indicator}
 use Rattle.cbor_edn_parts.specs.declared.indicator.Indicator.TheVariants as indicator
 use Rattle.cbor_edn_parts.specs.declared.string.StringKind.{StringKind}

@@ -114,6 +114,7 @@ fn push_numeric(out: &mut Vec<u8>, item: &Item<'_>) -> Result<(), Fault<Inconsis
 }
 
 /// The number of a simple value, where it is one, and its indicator the shortest.
+#[tactic(auto, using(cbor_edn_parts::proofs::NumberParts::integer_reads))]
 fn simple_of(number: &Number<'_>, indicator: Option<Indicator>) -> Option<u8>
     ensures { result ≡ meaning.simple_of (number_bytes number.now) indicator }
 {

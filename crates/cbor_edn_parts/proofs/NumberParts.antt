@@ -1,6 +1,6 @@
 -- The parts of a number as they are read from its text, and its integer.
-use Rattle.std.proofs.Common.{ℕ, ◌+◌, ◌*◌, ◌<◌, ◌≤◌, ◌≡◌, ◌≢◌, ◌^◌, List, [], ◌∷◌, ◌++◌, length, drop, Bool, true, false, Some, None, inl, inr, refl, sym, ap, ◌∙◌, subst, arith}
-use Rattle.std.specs.Prelude.{eqb, ◌||◌, ◌⊎◌, ℤ, if◌then◌else◌, ◌↔◌, IsTrue, pos, neg_ℤ, nat_lt}
+use Rattle.std.proofs.Common.{ℕ, zero, suc, ◌+◌, ◌*◌, ◌<◌, ◌≤◌, ◌≡◌, ◌≢◌, ◌^◌, List, [], ◌∷◌, ◌++◌, length, drop, Bool, true, false, Some, None, inl, inr, refl, sym, ap, ◌∙◌, subst, arith}
+use Rattle.std.specs.Prelude.{eqb, ◌||◌, ◌⊎◌, ℤ, if◌then◌else◌, ◌↔◌, IsTrue, pos, neg_ℤ, nat_lt, unsigned_abs}
 use mathlib.Core.Logic.{⊎_elim}
 use Rattle.std.specs.Char.{digit_value}
 use Rattle.std.specs.List.{list_all}
@@ -10,7 +10,8 @@ use Rattle.std.proofs.lemmas.Bool.{cases_lt, eqb-true, ltb-true, and_parts, or_c
 use Rattle.cbor_edn_parts.specs.Bytes.{Kind, Plus, Minus, kind}
 use Rattle.cbor_edn_parts.specs.Lex.{Accepts}
 use Rattle.cbor_edn_parts.specs.Space.{Each, end, next}
-use Rattle.cbor_edn_parts.specs.Number.{Sign, NoSign, PlusSign, MinusSign, sign_text, Base, Binary, Octal, Decimal, Hexadecimal, radix, IsPrefixOf, IsDigitOf, AreDigits, IsInteger, IsNumber, integer, number_of, signed, sign_of, unsigned, names, named_base, prefix_length, base_of, digits_of, is_numeral, magnitude_of, integer_of}
+use Rattle.cbor_edn_parts.specs.Number.{Sign, NoSign, PlusSign, MinusSign, sign_text, Base, Binary, Octal, Decimal, Hexadecimal, radix, IsPrefixOf, IsDigitOf, AreDigits, IsInteger, IsNumber, integer, number_of, signed, HasInteger}
+use Rattle.cbor_edn_parts.specs.NumberReading.{sign_of, unsigned, names, named_base, prefix_length, base_of, digits_of, is_numeral, magnitude_of, integer_of}
 use Rattle.cbor_edn_parts.specs.NumberTokens as tokens
 use Rattle.cbor_edn_parts.specs.NumberTokens.{number_step}
 use Rattle.cbor_edn_parts.specs.declared.number.Reached.{Reached}
@@ -190,8 +191,18 @@ unfolding integer_of
 literal_if t z true e h = literal t e
 literal_if t z false e h = let none : None ≡ Some z = rw e at h in absurd (cc)
 
-pub has_integer : (t : List ℕ) (z : ℤ) → integer_of t ≡ Some z → IsInteger t
-has_integer t z = literal_if t z (is_numeral (radix (base_of t)) (digits_of t)) refl
+literal_of : (t : List ℕ) (z : ℤ) → integer_of t ≡ Some z → IsInteger t
+literal_of t z = literal_if t z (is_numeral (radix (base_of t)) (digits_of t)) refl
+
+-- The reader of integers answers exactly the integer of a text.
+pub integer_reads : (t : List ℕ) (z : ℤ) → HasInteger t z → integer_of t ≡ Some z
+integer_reads t z h = integer_is t h.literal ∙ ap (λ n. Some n) (sym h.integer_is)
+
+pub integer_read : (t : List ℕ) (z : ℤ) → integer_of t ≡ Some z → HasInteger t z
+integer_read t z e = let r = literal_of t z e in let same = sym e ∙ integer_is t r in record { literal = r; integer_is = cc same }
+
+pub integer_texts : (t : List ℕ) (z : ℤ) → HasInteger t z ↔ (integer_of t ≡ Some z)
+integer_texts t z = (integer_reads t z, integer_read t z)
 
 -- No plus sign stands behind a sign or a prefix, so that `from_str_radix` reads all of what is there.
 no_plus_step : (b : Base) (k : Kind) (n : Reached) → number_step k (behind_prefix b) ≡ Some n → no_sign k ≡ true
@@ -248,6 +259,12 @@ no_minus e = cc
 plus_minus : PlusSign ≡ MinusSign → ⊥
 plus_minus e = cc
 
+size_of : (s : Sign) (n : ℕ) → unsigned_abs (signed s n) ≡ n
+size_of NoSign n = refl
+size_of PlusSign n = refl
+size_of MinusSign zero = refl
+size_of MinusSign (suc n) = refl
+
 signed_is : (s : Sign) (negative : Bool) (n : ℕ) → ((s ≡ MinusSign) ↔ IsTrue negative) → signed s n ≡ (if negative then neg_ℤ (pos n) else pos n)
 signed_is MinusSign true n h = refl
 signed_is MinusSign false n h = absurd (false≢true (h.0 refl))
@@ -265,18 +282,17 @@ module _ (t digits : List ℕ) (base : ℕ) (n : IsNumber t) (digits_are : digit
 
   -- what is read is the integer
   pub integer_by : (negative : Bool) (magnitude : ℕ) (z : ℤ) → ((sign_of t ≡ MinusSign) ↔ IsTrue negative) → IsNumeral base (without_leading_plus digits)
-      → magnitude ≡ digits_value base (without_leading_plus digits) → z ≡ (if negative then neg_ℤ (pos magnitude) else pos magnitude) → integer_of t ≡ Some z
+      → magnitude ≡ digits_value base (without_leading_plus digits) → z ≡ (if negative then neg_ℤ (pos magnitude) else pos magnitude) → HasInteger t z
   integer_by negative magnitude z minus found value z_is =
       let literal_found : IsNumeral (radix (base_of t)) (digits_of t) = subst (λ b. IsNumeral b (digits_of t)) base_is (subst (IsNumeral base) same found) in
-      integer_found t (numeral_from t literal_found)
+      integer_read t z
+      (integer_found t (numeral_from t literal_found)
       ∙ (ap (λ z. Some z) (signed_is (sign_of t) negative (magnitude_of t) minus)
-      ∙ ap (λ z. Some z) (sym (z_is ∙ ap (λ k. if negative then neg_ℤ (pos k) else pos k) (value ∙ read_value))))
+      ∙ ap (λ z. Some z) (sym (z_is ∙ ap (λ k. if negative then neg_ℤ (pos k) else pos k) (value ∙ read_value)))))
 
   -- where nothing is read of a literal, it is too large
-  pub too_large : ¬ (IsNumeral base (without_leading_plus digits) × (digits_value base (without_leading_plus digits) < 2 ^ 128)) → (z : ℤ) → integer_of t ≡ Some z → 2 ^ 128 ≤ magnitude_of t
-  too_large none z e =
-      let found : IsNumeral base (without_leading_plus digits) = subst (IsNumeral base) (sym same) (subst (λ b. IsNumeral b (digits_of t)) (sym base_is) (numeral_of t (has_integer t z e))) in
-      ⊎_elim (λ small. absurd (none (found, small_value read_value small))) (λ large. large) (cases_lt (magnitude_of t) (2 ^ 128))
-    where
-      small_value : {v m n : ℕ} → v ≡ m → m < n → v < n
-      small_value e l = omega arith
+  pub too_large : ¬ (IsNumeral base (without_leading_plus digits) × (digits_value base (without_leading_plus digits) < 2 ^ 128)) → (z : ℤ) → HasInteger t z → 2 ^ 128 ≤ unsigned_abs z
+  too_large none z h =
+      let found : IsNumeral base (without_leading_plus digits) = subst (IsNumeral base) (sym same) (subst (λ b. IsNumeral b (digits_of t)) (sym base_is) (numeral_of t h.literal)) in
+      let size : unsigned_abs z ≡ magnitude_of t = ap unsigned_abs h.integer_is ∙ (size_of h.literal.sign _ ∙ sym (magnitude_of_is t h.literal)) in
+      ⊎_elim (λ small. absurd (none (found, omega (arith, read_value, small)))) (λ large. omega (arith, size, large)) (cases_lt (magnitude_of t) (2 ^ 128))

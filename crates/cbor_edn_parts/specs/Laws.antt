@@ -6,7 +6,8 @@ use Rattle.cbor_edn_parts.specs.declared.indicator.Indicator.{Indicator}
 use Rattle.cbor_edn_parts.specs.Lex.{Is}
 use Rattle.cbor_edn_parts.specs.Space.{IsS, IsMs, IsSoc, IsMsc}
 use Rattle.cbor_edn_parts.specs.SpaceTokens.{space, separator, is_s, is_ms, is_soc, is_msc}
-use Rattle.cbor_edn_parts.specs.Number.{IsInteger, IsNumber, number_of, radix, signed, integer_of}
+use Rattle.cbor_edn_parts.specs.Number.{IsNumber, HasInteger}
+use Rattle.cbor_edn_parts.specs.NumberReading.{integer_of}
 use Rattle.cbor_edn_parts.specs.NumberTokens.{number, is_number}
 use Rattle.cbor_edn_parts.specs.Literal.{Quoting, IsLiteral, IsQuoted, AreDots}
 use Rattle.cbor_edn_parts.specs.LiteralTokens.{literal, dots, is_literal, are_dots}
@@ -23,13 +24,11 @@ pub record SpaceTexts (text : List ℕ) : Type 0 where
   pub s_table : IsS text ↔ Is space text
   pub soc_table : IsSoc text ↔ Is separator text
 
--- The test and the table take exactly the numbers. The integer of a literal is that of its digits in its base, by its
--- sign, and no text with a point or an exponent has one: what has an integer is an integer literal.
+-- The test and the table take exactly the numbers, and the reader of integers answers exactly the integer of a text.
 pub record NumberTexts (text : List ℕ) : Type 0 where
   pub test : IsNumber text ↔ (is_number text ≡ true)
   pub table : IsNumber text ↔ Is number text
-  pub value : (r : IsInteger text) → integer_of text ≡ Some (signed r.sign (number_of (radix r.base) r.digits))
-  pub only : (z : ℤ) → integer_of text ≡ Some z → IsInteger text
+  pub integer : (z : ℤ) → HasInteger text z ↔ (integer_of text ≡ Some z)
 
 -- A text begins with the indicator that is read in front of it, and an indicator is read whatever may follow an item
 -- stands behind it.

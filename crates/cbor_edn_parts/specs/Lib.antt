@@ -3,6 +3,7 @@ pub mod Lex
 pub mod Space
 pub mod SpaceTokens
 pub mod Number
+pub mod NumberReading
 pub mod NumberTokens
 pub mod Literal
 pub mod LiteralTokens

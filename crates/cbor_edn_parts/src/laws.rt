@@ -7,8 +7,8 @@ pub fn space_texts()
     ensures { (text : List ℕ) → SpaceTexts text }
 {}
 
-/// The test and the table of numbers take exactly the numbers of the grammar, and exactly the integer literals among
-/// them have an integer, that of their digits.
+/// The test and the table of numbers take exactly the numbers of the grammar, and the reader of integers answers exactly
+/// the integer of a text.
 pub fn number_texts()
     ensures { (text : List ℕ) → NumberTexts text }
 {}

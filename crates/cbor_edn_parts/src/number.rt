@@ -1,8 +1,9 @@
 //! Numbers.
-ghost use Rattle.std.specs.Prelude.{◌≡◌, ◌≤◌, ◌^◌, ◌↔◌, ℤ, pos, neg_ℤ, if◌then◌else◌, IsTrue, IfOk, IfSome, IsNone, Some, drop, true, string_bytes};
+ghost use Rattle.std.specs.Prelude.{◌≡◌, ◌≤◌, ◌^◌, ◌↔◌, ℤ, pos, neg_ℤ, if◌then◌else◌, IsTrue, IfOk, IfSome, IsNone, drop, true, string_bytes, unsigned_abs};
 ghost use Rattle.std.specs.Cow.{cow_str_bytes};
 ghost use Rattle.std.specs.Fmt.{signed_decimal};
-ghost use Rattle.cbor_edn_parts.specs.Number.{MinusSign, radix, prefix_length, integer_of, magnitude_of, sign_of, unsigned, named_base};
+ghost use Rattle.cbor_edn_parts.specs.Number.{MinusSign, radix, HasInteger};
+ghost use Rattle.cbor_edn_parts.specs.NumberReading.{prefix_length, sign_of, unsigned, named_base};
 ghost use Rattle.cbor_edn_parts.specs.NumberTokens as tokens;
 ghost use Rattle.cbor_edn_parts.specs.NumberTokens.{is_number};
 ghost use Rattle.cbor_edn_parts.specs.Inside.{number_stays, number_inside};
@@ -290,8 +291,8 @@ impl<'a> Number<'a> {
     /// The integer of an integer literal, or none where the magnitude is 2^128 or more. A text with a point or an
     /// exponent is no integer literal, and has none.
     pub fn integer(&self) -> Option<Integer>
-        ensures some { IfSome result (λ i. integer_of (number_bytes self.now) ≡ Some (integer i)) }
-        ensures none { IsNone result → (z : ℤ) → integer_of (number_bytes self.now) ≡ Some z → 2 ^ 128 ≤ magnitude_of (number_bytes self.now) }
+        ensures some { IfSome result (λ i. HasInteger (number_bytes self.now) (integer i)) }
+        ensures none { IsNone result → (z : ℤ) → HasInteger (number_bytes self.now) z → 2 ^ 128 ≤ unsigned_abs z }
         ensures bound { IfSome result HasMagnitude }
     {
         let (is_negative, unsigned) = split_sign(self.as_str());
