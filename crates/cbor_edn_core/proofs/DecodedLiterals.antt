@@ -1,6 +1,7 @@
 -- What the literals of decoded strings stand for.
 use Rattle.std.proofs.Common.{◌≡◌, ℕ, List, [], Some, refl}
-use Rattle.cbor_edn_parts.specs.Contents.{literal_content, kind_literal, empty_literal}
+use Rattle.cbor_edn_parts.specs.Contents.{kind_literal, empty_literal}
+use Rattle.cbor_edn_parts.specs.ContentReading.{literal_content}
 use Rattle.cbor_edn_parts.specs.LiteralTokens.{quoted_of, prefix_of, decoded}
 use Rattle.cbor_edn_parts.specs.declared.string.StringKind.{StringKind}
 use Rattle.cbor_edn_parts.specs.declared.string.StringKind.TheVariants.{Bytes, Text}

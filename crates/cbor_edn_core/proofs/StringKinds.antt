@@ -6,7 +6,8 @@ use Rattle.cbor_edn_parts.specs.declared.string.Quote.TheVariants as quotes
 use Rattle.cbor_edn_parts.specs.declared.string.StringKind.{StringKind}
 use Rattle.cbor_edn_parts.specs.declared.string.StringKind.TheVariants.{Bytes, Text}
 use Rattle.cbor_edn_parts.specs.LiteralTokens.{decoded, prefix_of, quoted_of}
-use Rattle.cbor_edn_parts.specs.Contents.{Content, prefixed_bytes, literal_content, literal_kind}
+use Rattle.cbor_edn_parts.specs.Contents.{Content}
+use Rattle.cbor_edn_parts.specs.ContentReading.{prefixed_bytes, literal_content, literal_kind}
 use Rattle.cbor_edn_core.specs.Items.{Strings, Piece, Pieces, Entries, Node, Literal, Dots, Embedded, LastPiece, Plus, Chunk, End, Then}
 use Rattle.cbor_edn_core.specs.Value as values
 use Rattle.cbor_edn_core.specs.Value.{is_content, encodings}

@@ -1,20 +1,15 @@
 -- The number of a tag: what is read as one are its decimal digits, and they are read as it.
 use Rattle.std.proofs.Common.{ℕ, ◌<◌, ◌^◌, ◌≡◌, true, List, [], ◌∷◌, Some, None, refl, arith}
-use Rattle.std.specs.Prelude.{◌&&◌, eqb, nat_lt, pos}
+use Rattle.std.specs.Prelude.{◌&&◌, nat_lt, pos}
 use Rattle.std.specs.Fmt.{decimal}
-use Rattle.std.proofs.lemmas.Bool.{and_parts, cond_both, eqb-true, eq-eqb, ltb-true, lt-ltb}
-use Rattle.cbor_edn_parts.specs.Contents.{same}
+use Rattle.std.proofs.lemmas.Bool.{and_parts, cond_both, eq-eqb, ltb-true, lt-ltb}
+use Rattle.cbor_edn_parts.specs.ContentReading.{same}
 use Rattle.cbor_edn_parts.specs.Number.{number_of}
 use Rattle.cbor_edn_parts.specs.NumberTokens.{is_number}
 use Rattle.cbor_edn_parts.proofs.Decimals.{decimal_number, value_is}
+use Rattle.cbor_edn_parts.proofs.Prefixes.{same-found}
 use Rattle.cbor_edn_parts.proofs.Tokens.{Holds, nothing, just}
 use Rattle.cbor_edn_core.specs.Reading.{tag_number}
-
-same-found : (x y : List ℕ) → same x y ≡ true → x ≡ y
-same-found [] [] e = refl
-same-found [] (d ∷ y) e = cc
-same-found (c ∷ x) [] e = cc
-same-found (c ∷ x) (d ∷ y) e = let both = and_parts (eqb c d) (same x y) e in let head = eqb-true c d both.0 in let rest = same-found x y both.1 in cc
 
 same-again : (x : List ℕ) → same x x ≡ true
 same-again [] = refl

@@ -11,7 +11,7 @@ use Rattle.cbor_edn_parts.specs.SpaceTokens.{space, separator}
 use Rattle.cbor_edn_parts.specs.NumberTokens.{number}
 use Rattle.cbor_edn_parts.specs.LiteralTokens.{literal, dots, is_lower, is_upper, is_digit}
 use Rattle.cbor_edn_parts.specs.Number.{number_of}
-use Rattle.cbor_edn_parts.specs.Contents.{same}
+use Rattle.cbor_edn_parts.specs.ContentReading.{same}
 use Rattle.std.specs.Fmt.{decimal}
 use Rattle.cbor_edn_core.specs.declared.tree.Label.{Label}
 use Rattle.cbor_edn_core.specs.declared.tree.Label.TheVariants.{Tag}

@@ -1,6 +1,6 @@
 //! The CBOR that items mean.
 ghost use Rattle.std.specs.Prelude.{◌≡◌, ◌<◌, ◌++◌, map, IfOk, Some};
-ghost use Rattle.cbor_edn_parts.specs.Contents.{literal_content};
+ghost use Rattle.cbor_edn_parts.specs.ContentReading.{literal_content};
 ghost use Rattle.cbor_edn_parts.specs.Leaves.{literal_bytes, number_bytes};
 ghost use Rattle.cbor_edn_core.specs.Items as nodes;
 ghost use Rattle.cbor_edn_core.specs.Trees as trees;
@@ -365,6 +365,7 @@ fn push_piece(out: &mut Vec<u8>, piece: &Piece<'_>) -> Result<StringKind, Fault<
     }
 }
 
+#[tactic(auto, using(cbor_edn_parts::proofs::ContentTexts::content_reads))]
 fn push_literal(
     out: &mut Vec<u8>,
     literal: &Literal<'_>,

@@ -3,6 +3,7 @@ pub mod Decimals
 pub mod DotTexts
 pub mod Indicators
 pub mod LiteralContents
+pub mod ContentTexts
 pub mod LiteralRuns
 pub mod LiteralSteps
 pub mod LiteralTexts

@@ -1,10 +1,11 @@
--- What is quoted so and stands for a text has the content of that text.
-use Rattle.std.proofs.Common.{ℕ, ◌≡◌, ◌≢◌, List, [], ◌∷◌, ◌++◌, false, Some, refl, ap, ◌∙◌, arith}
+-- What is quoted so and stands for a text is read as the content of that text.
+use Rattle.std.proofs.Common.{ℕ, ◌≡◌, ◌≢◌, List, [], ◌∷◌, ◌++◌, false, Option, Some, refl, ap, ◌∙◌, arith}
 use Rattle.std.specs.Prelude.{◌==◌, ◌||◌}
 use Rattle.std.proofs.lemmas.Bool.{cond-true, eq-eqb, ne_eqb, or_from}
 use Rattle.std.proofs.lemmas.List.{append-nil}
 use mathlib.Core.Logic.{⊎_elim}
-use Rattle.cbor_edn_parts.specs.Contents.{literal_content, content_of}
+use Rattle.cbor_edn_parts.specs.Contents.{Content}
+use Rattle.cbor_edn_parts.specs.ContentReading.{of_bytes, prefixed_bytes, literal_content}
 use Rattle.cbor_edn_parts.specs.Space.{Each, end, next}
 use Rattle.cbor_edn_parts.specs.Literal as literals
 use Rattle.cbor_edn_parts.specs.Literal.{IsLower, IsUpper, IsDigit, IsPrefix, small, large, Decoded, Quoting, Prefixed, IsLiteral}
@@ -42,11 +43,11 @@ each_plain : {P : ℕ → Type 0} {x : List ℕ} → ((c : ℕ) → P c → IsPl
 each_plain to end = end
 each_plain to (next {c = c} h more) = next (to c h) (each_plain to more)
 
-prefix_plain : {p : List ℕ} → IsPrefix p → Each IsPlain p
+pub prefix_plain : {p : List ℕ} → IsPrefix p → Each IsPlain p
 prefix_plain (small {c = c} h each) = next (plain_lower c h) (each_plain (λ d. ⊎_elim (plain_lower d) (plain_digit d)) each)
 prefix_plain (large {c = c} h each) = next (plain_upper c h) (each_plain (λ d. ⊎_elim (plain_upper d) (plain_digit d)) each)
 
-prefix_named : {p : List ℕ} (u : List ℕ) → Each IsPlain p → prefix_of (p ++ (39 ∷ u)) ≡ p
+pub prefix_named : {p : List ℕ} (u : List ℕ) → Each IsPlain p → prefix_of (p ++ (39 ∷ u)) ≡ p
 unfolding prefix_of
 prefix_named u end = refl
 prefix_named u (next {c = c} h more) = rw h (ap (c ∷◌) (prefix_named u more))
@@ -55,6 +56,12 @@ quoted_named : {p : List ℕ} (u : List ℕ) → Each IsPlain p → quoted_of (p
 unfolding quoted_of
 quoted_named u end = refl
 quoted_named u (next {c = c} h more) = rw h (quoted_named u more)
+
+-- the content that is read of a literal that is quoted so and stands for the text v
+abbrev pub content_of : Quoting → List ℕ → Option Content
+content_of literals.Double v = Some (Text, v)
+content_of literals.Single v = Some (Bytes, v)
+content_of (Prefixed p) v = of_bytes (prefixed_bytes p v)
 
 behind_prefix : {p : List ℕ} (u : List ℕ) → IsPrefix p → literal_content (p ++ (39 ∷ u)) ≡ content_of (Prefixed p) (decoded Single Between u)
 behind_prefix u (small h each) = let plain = prefix_plain (small h each) in rw (prefix_named u plain, quoted_named u plain)

@@ -3,7 +3,7 @@ use Rattle.std.proofs.Common.{ℕ, ◌+◌, ◌≤◌, ◌≡◌, ◌≢◌, Boo
 use Rattle.std.specs.Prelude.{if◌then◌else◌, ◌||◌, ◌&&◌, position}
 use Rattle.std.specs.List.{position_or_len}
 use Rattle.std.specs.Str.{IsCharBoundary}
-use Rattle.std.proofs.lemmas.Bool.{false≢true}
+use Rattle.std.proofs.lemmas.Bool.{false≢true, and_parts}
 use Rattle.std.proofs.lemmas.Bool.Decides.{nat_tests}
 use Rattle.std.proofs.lemmas.List.{drop_at, take_all, length-append}
 use Rattle.std.proofs.lemmas.List.Quantifiers.{position-Some}
@@ -11,13 +11,20 @@ use Rattle.std.proofs.lemmas.Str.{IsCharBoundary-before_ascii}
 use Rattle.cbor_edn_parts.specs.Lex.{Accepts}
 use Rattle.cbor_edn_parts.specs.LiteralTokens as tokens
 use Rattle.cbor_edn_parts.specs.LiteralTokens.{is_quote, is_lower, is_upper, is_digit, literal_step, literal_final, is_literal, prefix_of, quoted_of, decoded}
-use Rattle.cbor_edn_parts.specs.Contents.{same, prefixed_bytes, of_bytes, literal_content, literal_kind, quote_of, behind_quote, content_behind}
+use Rattle.cbor_edn_parts.specs.ContentReading.{same, prefixed_bytes, of_bytes, literal_content, literal_kind, quote_of, behind_quote, content_behind}
 use Rattle.cbor_edn_parts.specs.declared.string.InLiteral.{InLiteral}
 use Rattle.cbor_edn_parts.specs.declared.string.InLiteral.TheVariants.{Start, Lower, Upper, Inside, Closed}
 use Rattle.cbor_edn_parts.specs.declared.string.Part.TheVariants.{Between}
 use Rattle.cbor_edn_parts.specs.declared.string.StringKind.{StringKind}
 use Rattle.cbor_edn_parts.specs.declared.string.StringKind.TheVariants.{Bytes, Text}
 use Rattle.cbor_edn_parts.proofs.Tokens.{token_texts}
+
+-- two texts that are the same
+pub same-found : (x y : List ℕ) → same x y ≡ true → x ≡ y
+same-found [] [] e = refl
+same-found [] (d ∷ y) e = cc
+same-found (c ∷ x) [] e = cc
+same-found (c ∷ x) (d ∷ y) e = let both = and_parts (eqb c d) (same x y) e in let head = eqb-true c d both.0 in let rest = same-found x y both.1 in cc
 
 -- two texts that differ
 pub differ : (x y : List ℕ) → x ≢ y → same x y ≡ false

@@ -1,20 +1,12 @@
--- What literals contribute to a string: a kind and bytes, or nothing.
-use Rattle.std.specs.Prelude.{ℕ, ◌≡◌, ◌+◌, ◌*◌, ◌/◌, ◌%◌, ◌-◌, ◌^◌, ◌<◌, ◌==◌, ◌||◌, ◌&&◌, nat_le, nat_lt, Bool, true, false, List, [], ◌∷◌, ◌++◌, length, drop, Option, Some, None, option_map, All, if◌then◌else◌, zero, suc}
+-- The content of a literal, a kind and bytes, and the literals of decoded strings.
+use Rattle.std.specs.Prelude.{ℕ, ◌≡◌, ◌⊎◌, ◌+◌, ◌*◌, ◌/◌, ◌%◌, ◌-◌, ◌^◌, ◌<◌, ◌==◌, ◌||◌, ◌&&◌, nat_le, nat_lt, Bool, false, List, [], ◌∷◌, ◌++◌, length, Option, Some, None, All, if◌then◌else◌, zero, suc}
 use Rattle.std.specs.Char.{digit_value, digit_char}
 use Rattle.hex.specs.Hex.{encode_lower}
-use Rattle.cbor_edn_parts.specs.Bytes.{kind}
 use Rattle.cbor_edn_parts.specs.Space.{Each, IsS, InHash}
-use Rattle.cbor_edn_parts.specs.SpaceTokens.{space_step}
 use Rattle.cbor_edn_parts.specs.Number.{Hexadecimal, IsDigitOf}
-use Rattle.cbor_edn_parts.specs.Literal.{single_quote, double_quote, backslash, Quoting, Double, Single, Prefixed}
-use Rattle.cbor_edn_parts.specs.LiteralTokens.{decoded, prefix_of, quoted_of}
+use Rattle.cbor_edn_parts.specs.Literal.{single_quote, double_quote, backslash, Quoting, Double, Single, Prefixed, IsLiteral}
 use Rattle.cbor_edn_parts.specs.declared.error.InconsistentEdn.{InconsistentEdn}
 use Rattle.cbor_edn_parts.specs.declared.error.InconsistentEdn.TheVariants.{UnsupportedLiteral, UndecodableContent}
-use Rattle.cbor_edn_parts.specs.declared.space.Within.{Within}
-use Rattle.cbor_edn_parts.specs.declared.space.Within.TheVariants.{Between, InSlashes}
-use Rattle.cbor_edn_parts.specs.declared.string.Quote.{Quote}
-use Rattle.cbor_edn_parts.specs.declared.string.Quote.TheVariants as quotes
-use Rattle.cbor_edn_parts.specs.declared.string.Part.TheVariants as part
 use Rattle.cbor_edn_parts.specs.declared.string.StringKind.{StringKind}
 use Rattle.cbor_edn_parts.specs.declared.string.StringKind.TheVariants.{Bytes, Text}
 
@@ -30,27 +22,6 @@ pub data IsHexPairs : List ℕ → List ℕ → Type 0 where
 -- The text v of a literal with the prefix `h` stands for these bytes: `01 /c/ 02 # rest` for 01 02.
 abbrev pub IsHex : List ℕ → List ℕ → Type 0
 IsHex v bs = (s x : List ℕ) × IsS s × IsHexPairs x bs × (v ≡ s ++ x)
-
-abbrev hex_end : Within → Option ℕ → Option (List ℕ)
-hex_end InSlashes h = None
-hex_end m (Some d) = None
-hex_end m None = Some []
-
-abbrev pub behind : Option Within → (Within → Option (List ℕ)) → Option (List ℕ)
-behind None rest = None
-behind (Some m) rest = rest m
-
--- the digit that stands at a byte, where a scan of space stands at m: none inside a comment
-abbrev pub digit_at : Within → ℕ → Option ℕ
-digit_at Between c = if nat_lt (digit_value c) 16 then Some (digit_value c) else None
-digit_at m c = None
-
--- The bytes of the rest of such a text, where a scan of space stands at m, and h is the digit that waits for its second.
-unfoldable pub hex_bytes : Within → Option ℕ → List ℕ → Option (List ℕ)
-hex_bytes m h [] = hex_end m h
-hex_bytes Between None (c ∷ t) = if nat_lt (digit_value c) 16 then hex_bytes Between (Some (digit_value c)) t else behind (space_step (kind c) Between) (λ n. hex_bytes n None t)
-hex_bytes Between (Some d) (c ∷ t) = if nat_lt (digit_value c) 16 then option_map (◌∷◌ (16 * d + digit_value c)) (hex_bytes Between None t) else behind (space_step (kind c) Between) (λ n. hex_bytes n (Some d) t)
-hex_bytes m h (c ∷ t) = behind (space_step (kind c) m) (λ n. hex_bytes n h t)
 
 -- ---- b64, b32, h32: symbols of 6 or 5 bits
 
@@ -109,31 +80,10 @@ joined k (n ∷ ns) = bits_of k n ++ joined k ns
 abbrev pub IsBase : Alphabet → List ℕ → List ℕ → Type 0
 IsBase a v bs = (ss : List ℕ) × (z : List Bool) × AreSymbols a v ss × All (λ b. b < 256) bs × (joined a.bits ss ≡ joined 8 bs ++ z) × (length z < a.bits) × All (λ b. b ≡ false) z
 
--- what waits and a symbol more: a byte where there are eight bits
-abbrev with_symbol : Alphabet → ℕ → ℕ → Option ℕ → (ℕ → ℕ → Option (List ℕ)) → Option (List ℕ)
-with_symbol a n r None rest = None
-with_symbol a n r (Some s) rest =
-    if nat_lt (n + a.bits) 8 then rest (n + a.bits) (r * 2 ^ a.bits + s)
-    else option_map (◌∷◌ ((r * 2 ^ a.bits + s) / 2 ^ (n + a.bits - 8))) (rest (n + a.bits - 8) ((r * 2 ^ a.bits + s) % 2 ^ (n + a.bits - 8)))
-
--- The bytes of the rest of such a text, where n bits, whose number is r, wait for more.
-unfoldable pub base_bytes : Alphabet → ℕ → ℕ → List ℕ → Option (List ℕ)
-base_bytes a n r [] = if nat_lt n a.bits && r == 0 then Some [] else None
-base_bytes a n r (c ∷ t) = if c == 61 then base_bytes a n r t else with_symbol a n r (a.symbol c) (λ m q. base_bytes a m q t)
-
 -- ---- the content of a literal
 
 abbrev pub Content : Type 0
 Content = StringKind × List ℕ
-
-abbrev pub of_bytes : Option (List ℕ) → Option Content
-of_bytes None = None
-of_bytes (Some bs) = Some (Bytes, bs)
-
-abbrev pub same : List ℕ → List ℕ → Bool
-same [] [] = true
-same (c ∷ x) (d ∷ y) = (c == d) && same x y
-same _ _ = false
 
 -- the prefixes whose literals have a content, as lists of bytes
 abbrev pub h : List ℕ
@@ -148,55 +98,40 @@ b32 = 98 ∷ 51 ∷ 50 ∷ []
 abbrev pub h32 : List ℕ
 h32 = 104 ∷ 51 ∷ 50 ∷ []
 
--- the bytes of the text v behind a prefix, or none
-abbrev pub prefixed_bytes : List ℕ → List ℕ → Option (List ℕ)
-prefixed_bytes p v =
-    if same p h then hex_bytes Between None v
-    else if same p b64 then base_bytes base64 0 0 v
-    else if same p b32 then base_bytes base32 0 0 v
-    else if same p h32 then base_bytes base32hex 0 0 v
-    else None
+-- The literal t is a string of this kind and of these bytes.
+pub data HasContent (t : List ℕ) : StringKind → List ℕ → Type 0 where
+  -- dquoted: `"b\n"` is the text of the bytes 62 0A
+  double_quoted : {v : List ℕ} → IsLiteral Double v t → HasContent t Text v
+  -- squoted: `'b\n'` is the bytes 62 0A
+  single_quoted : {v : List ℕ} → IsLiteral Single v t → HasContent t Bytes v
+  -- `h'62 0a'` is the bytes 62 0A
+  behind_h : {v bs : List ℕ} → IsLiteral (Prefixed h) v t → IsHex v bs → HasContent t Bytes bs
+  -- `b64'Yg=='` is the byte 62
+  behind_b64 : {v bs : List ℕ} → IsLiteral (Prefixed b64) v t → IsBase base64 v bs → HasContent t Bytes bs
+  -- `b32'MI'` is the byte 62
+  behind_b32 : {v bs : List ℕ} → IsLiteral (Prefixed b32) v t → IsBase base32 v bs → HasContent t Bytes bs
+  -- `h32'C8'` is the byte 62
+  behind_h32 : {v bs : List ℕ} → IsLiteral (Prefixed h32) v t → IsBase base32hex v bs → HasContent t Bytes bs
 
--- The content of a literal that is quoted so and stands for the text v.
-abbrev pub content_of : Quoting → List ℕ → Option Content
-content_of Double v = Some (Text, v)
-content_of Single v = Some (Bytes, v)
-content_of (Prefixed p) v = of_bytes (prefixed_bytes p v)
+abbrev pub NoContent : List ℕ → Type 0
+NoContent t = (kind : StringKind) (bytes : List ℕ) → HasContent t kind bytes → ⊥
 
-abbrev pub content_behind : List ℕ → List ℕ → Option Content
-content_behind p [] = None
-content_behind [] (q ∷ t) = if q == double_quote then Some (Text, decoded quotes.Double part.Between t) else Some (Bytes, decoded quotes.Single part.Between t)
-content_behind (c ∷ p) (q ∷ t) = of_bytes (prefixed_bytes (c ∷ p) (decoded quotes.Single part.Between t))
+-- no prefix, or one of the four: only literals that are quoted so have contents
+abbrev pub IsSupportedQuoting : Quoting → Type 0
+IsSupportedQuoting Double = Unit {0}
+IsSupportedQuoting Single = Unit {0}
+IsSupportedQuoting (Prefixed p) = (p ≡ h) ⊎ ((p ≡ b64) ⊎ ((p ≡ b32) ⊎ (p ≡ h32)))
 
--- The content of a literal as it is written: that of `"a"` is the text 61, and `e'x'` has none.
-abbrev pub literal_content : List ℕ → Option Content
-literal_content t = content_behind (prefix_of t) (quoted_of t)
+-- a literal that is quoted so
+abbrev pub IsSupported : List ℕ → Type 0
+IsSupported t = (q : Quoting) × (v : List ℕ) × IsLiteral q v t × IsSupportedQuoting q
 
--- whether a prefix is one of the four
-abbrev pub is_decoded : List ℕ → Bool
-is_decoded p = same p h || same p b64 || same p b32 || same p h32
-
--- whether a literal has no prefix or one of the four: only such a literal has a content
-abbrev pub is_supported : List ℕ → Bool
-is_supported t = same (prefix_of t) [] || is_decoded (prefix_of t)
-
--- What is told of a literal that has no content, by whether it is supported.
-abbrev pub refusal : Bool → InconsistentEdn
-refusal supported = if supported then UndecodableContent else UnsupportedLiteral
-
--- the kind by the quote
-abbrev pub literal_kind : List ℕ → StringKind
-literal_kind [] = Bytes
-literal_kind (c ∷ t) = if c == double_quote then Text else Bytes
-
--- what stands behind the first quote of a literal
-abbrev pub behind_quote : List ℕ → List ℕ
-behind_quote t = drop (length (prefix_of t) + 1) t
-
--- what a literal of this kind is quoted with
-abbrev pub quote_of : StringKind → Quote
-quote_of Bytes = quotes.Single
-quote_of Text = quotes.Double
+-- What is told of a literal t that has no content.
+pub data IsRefusal (t : List ℕ) : InconsistentEdn → Type 0 where
+  -- `h'6'`
+  undecodable : IsSupported t → IsRefusal t UndecodableContent
+  -- `e'x'`
+  unsupported : (IsSupported t → ⊥) → IsRefusal t UnsupportedLiteral
 
 -- ---- the literals of decoded strings
 

@@ -1,5 +1,5 @@
 -- The tests, tables and readers of space texts, numbers, encoding indicators and literals, against the grammar.
-use Rattle.std.specs.Prelude.{List, ℕ, ℤ, true, Option, Some, None, ◌≡◌, ◌++◌, ◌↔◌}
+use Rattle.std.specs.Prelude.{List, ℕ, ℤ, true, Option, Some, ◌≡◌, ◌++◌, ◌↔◌}
 use Rattle.cbor_edn_parts.specs.Bytes.{Follow}
 use Rattle.cbor_edn_parts.specs.Indicator.{indicator_text, indicator_at}
 use Rattle.cbor_edn_parts.specs.declared.indicator.Indicator.{Indicator}
@@ -9,10 +9,11 @@ use Rattle.cbor_edn_parts.specs.SpaceTokens.{space, separator, is_s, is_ms, is_s
 use Rattle.cbor_edn_parts.specs.Number.{IsNumber, HasInteger}
 use Rattle.cbor_edn_parts.specs.NumberReading.{integer_of}
 use Rattle.cbor_edn_parts.specs.NumberTokens.{number, is_number}
-use Rattle.cbor_edn_parts.specs.Literal.{Quoting, IsLiteral, IsQuoted, AreDots}
+use Rattle.cbor_edn_parts.specs.Literal.{IsQuoted, AreDots}
 use Rattle.cbor_edn_parts.specs.LiteralTokens.{literal, dots, is_literal, are_dots}
-use Rattle.cbor_edn_parts.specs.Contents.{IsHex, hex_bytes, IsBase, base_bytes, base64, base32, base32hex, literal_content, content_of, hex_literal, text_literal}
-use Rattle.cbor_edn_parts.specs.declared.space.Within.TheVariants.{Between}
+use Rattle.cbor_edn_parts.specs.Contents.{HasContent, IsSupported, hex_literal, text_literal}
+use Rattle.cbor_edn_parts.specs.ContentReading.{literal_content, literal_kind, is_supported}
+use Rattle.cbor_edn_parts.specs.declared.string.StringKind.{StringKind}
 use Rattle.cbor_edn_parts.specs.declared.string.StringKind.TheVariants.{Bytes, Text}
 
 -- Each test takes exactly the texts of the grammar's rule, and so does its table.
@@ -36,21 +37,16 @@ pub record IndicatorTexts (text : List ℕ) : Type 0 where
   pub found : text ≡ indicator_text (indicator_at text).0 ++ (indicator_at text).1
   pub again : (i : Option Indicator) → Follow text → indicator_at (indicator_text i ++ text) ≡ (i, text)
 
--- The tests and tables take exactly the quoted texts and the dots. What is quoted so and stands for v has the content of
--- v by its prefix.
+-- The tests and tables take exactly the quoted texts and the dots. The readers answer exactly the content of a literal,
+-- its kind, and whether it is one of those that have contents.
 pub record LiteralTexts (text : List ℕ) : Type 0 where
   pub test : IsQuoted text ↔ (is_literal text ≡ true)
   pub table : IsQuoted text ↔ Is literal text
   pub dots_test : AreDots text ↔ (are_dots text ≡ true)
   pub dots_table : AreDots text ↔ Is dots text
-  pub content : (q : Quoting) (v : List ℕ) → IsLiteral q v text → literal_content text ≡ content_of q v
-
--- The bytes of a text behind a prefix: those of pairs of digits, and of symbols joined as bits.
-pub record PrefixedTexts (text : List ℕ) : Type 0 where
-  pub hex : (bs : List ℕ) → IsHex text bs ↔ (hex_bytes Between None text ≡ Some bs)
-  pub b64 : (bs : List ℕ) → IsBase base64 text bs ↔ (base_bytes base64 0 0 text ≡ Some bs)
-  pub b32 : (bs : List ℕ) → IsBase base32 text bs ↔ (base_bytes base32 0 0 text ≡ Some bs)
-  pub h32 : (bs : List ℕ) → IsBase base32hex text bs ↔ (base_bytes base32hex 0 0 text ≡ Some bs)
+  pub content : (kind : StringKind) (bytes : List ℕ) → HasContent text kind bytes ↔ (IsQuoted text × (literal_content text ≡ Some (kind, bytes)))
+  pub kind : (kind : StringKind) (bytes : List ℕ) → HasContent text kind bytes → literal_kind text ≡ kind
+  pub supported : IsSupported text ↔ (IsQuoted text × (is_supported text ≡ true))
 
 -- The literals of decoded strings stand for these strings.
 pub record DecodedLiterals (bytes : List ℕ) : Type 0 where

@@ -8,6 +8,7 @@ pub mod NumberTokens
 pub mod Literal
 pub mod LiteralTokens
 pub mod Contents
+pub mod ContentReading
 pub mod Alphabets
 pub mod Ended
 pub mod Indicator

@@ -1,6 +1,6 @@
 //! What holds of the definitions that the contracts cite. These functions do nothing.
 ghost use Rattle.std.specs.Prelude.{List, ℕ, All, ◌<◌};
-ghost use Rattle.cbor_edn_parts.specs.Laws.{SpaceTexts, NumberTexts, IndicatorTexts, LiteralTexts, PrefixedTexts, DecodedLiterals};
+ghost use Rattle.cbor_edn_parts.specs.Laws.{SpaceTexts, NumberTexts, IndicatorTexts, LiteralTexts, DecodedLiterals};
 
 /// The tests and tables of space texts take exactly the texts of the grammar.
 pub fn space_texts()
@@ -19,15 +19,10 @@ pub fn indicator_texts()
     ensures { (text : List ℕ) → IndicatorTexts text }
 {}
 
-/// The tests and tables of quoted texts and dots take exactly those of the grammar, and the content of a literal is that of
-/// the text that it stands for.
+/// The tests and tables of quoted texts and dots take exactly those of the grammar, and the readers answer exactly the
+/// content of a literal, its kind, and whether it is one of those that have contents.
 pub fn literal_texts()
     ensures { (text : List ℕ) → LiteralTexts text }
-{}
-
-/// The texts behind the prefixes `h`, `b64`, `b32` and `h32` stand for exactly the bytes that their definitions give.
-pub fn prefixed_texts()
-    ensures { (text : List ℕ) → PrefixedTexts text }
 {}
 
 /// What decoded strings are printed as stands for them.

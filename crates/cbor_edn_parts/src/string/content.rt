@@ -1,7 +1,7 @@
 //! What literals contribute to a string.
-ghost use Rattle.std.specs.Prelude.{◌≡◌, ◌++◌, IfOk, OnOk, Some, None, position};
-ghost use Rattle.cbor_edn_parts.specs.Contents as contents;
-ghost use Rattle.cbor_edn_parts.specs.Contents.{literal_content};
+ghost use Rattle.std.specs.Prelude.{◌≡◌, ◌++◌, ◌↔◌, IsTrue, IfOk, OnOk, Some, None, position};
+ghost use Rattle.cbor_edn_parts.specs.Contents.{HasContent, NoContent, IsSupported, IsRefusal};
+ghost use Rattle.cbor_edn_parts.specs.ContentReading as reading;
 ghost use Rattle.cbor_edn_parts.specs.Ended.{ended_bytes};
 ghost use Rattle.cbor_edn_parts.specs.Leaves.{literal_bytes};
 ghost use Rattle.cbor_edn_parts.specs.LiteralTokens as tokens;
@@ -16,9 +16,9 @@ impl Literal<'_> {
     /// The kind and the bytes of the string that the literal stands for. Fails where its prefix is not one of `h`, `b64`,
     /// `b32` and `h32`, where its text is not one of its prefix, and where memory runs out.
     pub fn content(&self, alloc: Global) -> Result<(StringKind, Vec<u8>), Fault<InconsistentEdn>>
-        ensures content { IfOk result (λ p. literal_content (literal_bytes self.now) ≡ Some (p.0, p.1.items)) }
-        ensures none { IfTold result (λ e. literal_content (literal_bytes self.now) ≡ None) }
-        ensures told { IfTold result (λ e. e ≡ contents.refusal (contents.is_supported (literal_bytes self.now))) }
+        ensures content { IfOk result (λ p. HasContent (literal_bytes self.now) p.0 p.1.items) }
+        ensures none { IfTold result (λ e. NoContent (literal_bytes self.now)) }
+        ensures told { IfTold result (λ e. IsRefusal (literal_bytes self.now) e) }
     {
         let kind = self.kind();
         let prefix = self.prefix();
@@ -43,7 +43,7 @@ impl Literal<'_> {
 
     /// What stands behind the first quote.
     fn quoted(&self) -> &[u8]
-        ensures { result.now ≡ contents.behind_quote (literal_bytes self.now) }
+        ensures { result.now ≡ reading.behind_quote (literal_bytes self.now) }
     {
         let at = self.prefix().len() + 1;
         &self.as_str().as_bytes()[at..]
@@ -51,14 +51,14 @@ impl Literal<'_> {
 
     /// Whether the literal has no prefix, or one of `h`, `b64`, `b32` and `h32`: only such a literal has a content.
     pub fn is_supported(&self) -> bool
-        ensures { result ≡ contents.is_supported (literal_bytes self.now) }
+        ensures { IsTrue result ↔ IsSupported (literal_bytes self.now) }
     {
-        matches!(self.prefix(), "" | "h" | "b64" | "b32" | "h32")
+        is_supported_prefix(self.prefix())
     }
 
     /// The kind of the string that the literal stands for, where it stands for one.
     pub fn kind(&self) -> StringKind
-        ensures { result ≡ contents.literal_kind (literal_bytes self.now) }
+        ensures { result ≡ reading.literal_kind (literal_bytes self.now) }
     {
         match self.as_str().as_bytes() {
             [b'"', ..] => StringKind::Text,
@@ -67,11 +67,18 @@ impl Literal<'_> {
     }
 }
 
+/// Whether this is no prefix, or one of `h`, `b64`, `b32` and `h32`.
+fn is_supported_prefix(prefix: &str) -> bool
+    ensures { result ≡ reading.is_supported_prefix prefix.now }
+{
+    matches!(prefix, "" | "h" | "b64" | "b32" | "h32")
+}
+
 /// The bytes of a text behind a prefix.
 fn prefixed(alloc: Global, prefix: &str, text: &[u8]) -> Result<Vec<u8>, Fault<InconsistentEdn>>
-    ensures bytes { IfOk result (λ v. contents.prefixed_bytes prefix.now text.now ≡ Some v.items) }
-    ensures none { IfTold result (λ e. contents.prefixed_bytes prefix.now text.now ≡ None) }
-    ensures told { IfTold result (λ e. e ≡ contents.refusal (contents.is_decoded prefix.now)) }
+    ensures bytes { IfOk result (λ v. reading.prefixed_bytes prefix.now text.now ≡ Some v.items) }
+    ensures none { IfTold result (λ e. reading.prefixed_bytes prefix.now text.now ≡ None) }
+    ensures told { IfTold result (λ e. e ≡ reading.refusal (reading.is_decoded prefix.now)) }
 {
     match prefix {
         "h" => hexadecimal::decode(alloc, text),
@@ -91,7 +98,7 @@ fn first_quote(text: &[u8]) -> Option<usize>
 impl StringKind {
     /// What a literal of this kind is quoted with.
     fn quote(self) -> Quote
-        ensures { result ≡ contents.quote_of self }
+        ensures { result ≡ reading.quote_of self }
     {
         match self {
             StringKind::Bytes => Quote::Single,

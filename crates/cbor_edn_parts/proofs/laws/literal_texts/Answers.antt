@@ -1,5 +1,5 @@
+use Rattle.cbor_edn_parts.proofs.ContentTexts.{content_texts, kind_is, supported_texts}
 use Rattle.cbor_edn_parts.proofs.DotTexts.{dots_test, dots_table}
-use Rattle.cbor_edn_parts.proofs.LiteralContents.{content_is}
 use Rattle.cbor_edn_parts.proofs.LiteralTexts.{literal_test, literal_table}
 use Rattle.cbor_edn_parts.proofs.laws.literal_texts.Goals as goal
 
@@ -9,5 +9,7 @@ returns c = λ text. record {
   table = literal_table text;
   dots_test = dots_test text;
   dots_table = dots_table text;
-  content = λ q v h. content_is q v text h;
+  content = content_texts text;
+  kind = kind_is text;
+  supported = supported_texts text;
 }

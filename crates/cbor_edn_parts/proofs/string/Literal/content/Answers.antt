@@ -2,13 +2,16 @@ use Rattle.std.proofs.Common.{◌≡◌, ◌≢◌, ℕ, List, [], true, false, 
 use Rattle.std.proofs.lemmas.Bool.Decides.{nat_tests}
 use Rattle.std.proofs.lemmas.List.{nil_from_length}
 use Rattle.std.proofs.lemmas.Result.{err_from_is_err_and}
-use Rattle.cbor_edn_parts.specs.Contents.{of_bytes, prefixed_bytes, literal_content, literal_kind, quote_of, behind_quote}
+use Rattle.cbor_edn_parts.specs.Contents.{IsRefusal}
+use Rattle.cbor_edn_parts.specs.ContentReading.{of_bytes, prefixed_bytes, literal_content, is_decoded, refusal, literal_kind, quote_of, behind_quote}
+use Rattle.cbor_edn_parts.specs.declared.error.InconsistentEdn.{InconsistentEdn}
 use Rattle.cbor_edn_parts.specs.Leaves.{literal_bytes}
 use Rattle.cbor_edn_parts.specs.LiteralTokens.{is_literal, prefix_of, decoded}
 use Rattle.cbor_edn_parts.specs.declared.string.Part.TheVariants.{Between}
 use Rattle.cbor_edn_parts.specs.declared.string.Quote.{Quote}
 use Rattle.cbor_edn_parts.specs.declared.string.StringKind.{StringKind}
 use Rattle.cbor_edn_parts.specs.declared.string.StringKind.TheVariants.{Bytes}
+use Rattle.cbor_edn_parts.proofs.ContentTexts.{content_read, no_content, refusal_is}
 use Rattle.cbor_edn_parts.proofs.Prefixes.{differ, plain_content, prefixed_content, bytes_kind}
 use Rattle.cbor_edn_parts.proofs.Refusals.{told_weaker}
 use Rattle.cbor_edn_parts.proofs.string.Literal.content.Goals as goal
@@ -21,8 +24,9 @@ some p e empty = let zero : length p ≡ 0 = rw empty refl in absurd (grind (ari
 
 pub returns-then-is_empty-clause-content : goal.returns-then-is_empty-clause-content
 returns-then-is_empty-clause-content c =
-    rw (c.in_ok-value.ensures, c.quote.ensures, c.quoted.ensures, c.kind-kind.ensures)
-    (plain_content (literal_bytes c.args.self.now) c.args.self.now.spelled (sym c.prefix-prefix.ensures ∙ none c.prefix-prefix.result.now c.if-is_empty.ensures))
+    content_read (literal_bytes c.args.self.now) c.args.self.now.spelled _ _
+    (rw (c.in_ok-value.ensures, c.quote.ensures, c.quoted.ensures, c.kind-kind.ensures)
+    (plain_content (literal_bytes c.args.self.now) c.args.self.now.spelled (sym c.prefix-prefix.ensures ∙ none c.prefix-prefix.result.now c.if-is_empty.ensures)))
 
 -- What the prefix makes of the value that is decoded.
 module _ (t p v b : List ℕ) (k : StringKind) (q : Quote) (o : Option (List ℕ)) (is : is_literal t ≡ true) (p_is : p ≡ prefix_of t) (filled : p ≢ []) (k_is : k ≡ literal_kind t) (q_is : q ≡ quote_of k)
@@ -44,8 +48,9 @@ returns-in_ok-prefixed-clause-content c =
     let filled = some p c.if-is_empty.ensures in
     let spelled = c.args.self.now.spelled in
     let found = c.in_ok-prefixed.ensures.bytes in
-    rw (kind_is t p _ _ _ _ _ spelled c.prefix-prefix.ensures filled c.kind-kind.ensures c.quote.ensures c.quoted.ensures v_is found)
-    (content_is t p _ _ _ _ _ spelled c.prefix-prefix.ensures filled c.kind-kind.ensures c.quote.ensures c.quoted.ensures v_is found)
+    content_read t spelled _ _
+    (rw (kind_is t p _ _ _ _ _ spelled c.prefix-prefix.ensures filled c.kind-kind.ensures c.quote.ensures c.quoted.ensures v_is found)
+    (content_is t p _ _ _ _ _ spelled c.prefix-prefix.ensures filled c.kind-kind.ensures c.quote.ensures c.quoted.ensures v_is found))
 
 pub returns-in_err-prefixed-clause-none : goal.returns-in_err-prefixed-clause-none
 returns-in_err-prefixed-clause-none c =
@@ -54,10 +59,17 @@ returns-in_err-prefixed-clause-none c =
     let v_is = c.deref.ensures.value ∙ c.in_ok-value.ensures in
     let refused = err_from_is_err_and c.from_residual-in_err-prefixed.result c.from_residual-in_err-prefixed.ensures.1 in
     rw (refused.1, refused.2) (told_weaker c.in_err-prefixed.field-0.0 _ _
-    (content_is t p _ _ _ _ _ c.args.self.now.spelled c.prefix-prefix.ensures (some p c.if-is_empty.ensures) c.kind-kind.ensures c.quote.ensures c.quoted.ensures v_is)
+    (λ _ bytes. no_content t (content_is t p _ _ _ _ _ c.args.self.now.spelled c.prefix-prefix.ensures (some p c.if-is_empty.ensures) c.kind-kind.ensures c.quote.ensures c.quoted.ensures v_is bytes))
     c.in_err-prefixed.ensures.none)
+
+-- what is told of a prefix is told of the literal
+refusal_by : (t p : List ℕ) → is_literal t ≡ true → p ≡ prefix_of t → p ≢ [] → (e : InconsistentEdn) → e ≡ refusal (is_decoded p) → IsRefusal t e
+refusal_by t p is p_is filled e told = refusal_is t is e (rw (← p_is, differ p [] filled) told)
 
 pub returns-in_err-prefixed-clause-told : goal.returns-in_err-prefixed-clause-told
 returns-in_err-prefixed-clause-told c =
+    let p = c.prefix-prefix.result.now in
     let refused = err_from_is_err_and c.from_residual-in_err-prefixed.result c.from_residual-in_err-prefixed.ensures.1 in
-    rw (refused.1, refused.2, ← c.prefix-prefix.ensures, differ _ _ (some c.prefix-prefix.result.now c.if-is_empty.ensures)) c.in_err-prefixed.ensures.told
+    rw (refused.1, refused.2) (told_weaker c.in_err-prefixed.field-0.0 _ _
+    (refusal_by (literal_bytes c.args.self.now) p c.args.self.now.spelled c.prefix-prefix.ensures (some p c.if-is_empty.ensures))
+    c.in_err-prefixed.ensures.told)

@@ -1,6 +1,7 @@
-use Rattle.cbor_edn_parts.proofs.Prefixes.{differ}
+use Rattle.std.proofs.Common.{ap, ◌∙◌}
+use Rattle.cbor_edn_parts.specs.ContentReading.{is_supported_prefix}
+use Rattle.cbor_edn_parts.proofs.ContentTexts.{supported_by}
 use Rattle.cbor_edn_parts.proofs.string.Literal.is_supported.Goals as goal
 
-pub returns-in_default : goal.returns-in_default
-returns-in_default c =
-    rw (← c.prefix.ensures, differ _ _ c.in_default.not-empty, differ _ _ c.in_default.not-h, differ _ _ c.in_default.not-b64, differ _ _ c.in_default.not-b32, differ _ _ c.in_default.not-h32)
+pub returns : goal.returns
+returns c = supported_by _ c.args.self.now.spelled _ (c.is_supported_prefix.ensures ∙ ap is_supported_prefix c.prefix.ensures)
