@@ -11,6 +11,8 @@ use std::marker::Model;
 #[derive(Drop)]
 pub struct Looks {
     pub ghost count: { ℕ },
+    /// Without bytes, and private: no other module writes a `Looks`.
+    sealed: (),
 }
 
 impl Model for Looks {
@@ -22,7 +24,7 @@ impl Looks {
     pub fn new() -> Looks
         ensures { result.count ≡ 0 }
     {
-        Looks {}
+        Looks { sealed: () }
     }
 
     /// One look more.
@@ -36,6 +38,6 @@ impl Looks {
     fn next(&self) -> Looks
         ensures { result.count ≡ self.now.count + 1 }
     {
-        Looks {}
+        Looks { sealed: () }
     }
 }

@@ -2,7 +2,7 @@
 use Rattle.std.proofs.Common.{[], ◌∷◌, refl}
 use seplogic.Ra.Ura.{Ura}
 use mir.Syntax.{Fn}
-use mir.Val.{Val}
+use mir.Val.{Val, vunit}
 use base.Logic.{SProp, ent}
 use prog.Memory.{Memory}
 use prog.Routine.{Routine}
@@ -11,11 +11,12 @@ use contract.Monad.{Fun}
 use contract.Running.{tables, tables_of}
 use sound.WpLaws.{WpFn-mono}
 use types.Logic.{Logic}
-use types.Kit.{‵, raw, ◌⊛◌, ◌$◌, ◌∵◌, !, qed, move, keep, drop, split, fjoin, suffices, done}
+use types.Kit.{‵, raw, ◌⊛◌, ◌$◌, ◌∵◌, !, qed, move, keep, drop, split, suffices, done}
 use types.Part.{agg}
-use types.Run.{enter, returns, no_more}
+use types.Run.{enter, returns, and_then, unit_lit, no_more}
 use types.ByLocal.{alloc_all, pass_all, free_all, look_at, sets}
 use denote.RattleType.{owns}
+use denote.Shadow.{pure_i}
 use denote.Signature.{types_at}
 use denote.Steps.{nothing}
 use denote.Triple.Clauses.{Clauses, Ended, closing}
@@ -23,7 +24,7 @@ use denote.Triple.Entry.{alive}
 use denote.Triple.Spec.{Meets, triple_of}
 use denote.Triple.Table.{entered}
 use denote.Triple.Walked.{says, Stays, walk_of, ends_at, walk_Meets}
-use Rattle.cbor_edn_parts.proofs.Walks.{none, none_made}
+use Rattle.cbor_edn_parts.proofs.Walks.{sealed}
 use Rattle.cbor_edn_parts.specs.contracts.looks.Looks as Looks
 use Rattle.cbor_edn_parts.specs.contracts.looks.Looks.new as F
 use Rattle.cbor_edn_parts.specs.contracts.looks.Looks.new.Key.{name as #self}
@@ -56,14 +57,14 @@ module _ {M : Type 1} {𝓤 : Ura M} (𝓛 : Logic 𝓤) (at_mem : Memory → SP
     walks =
         let a = z.0.3 in
         let vss = z.0.4 in
-        let log : (Looks.the_row).Denot = record { count = 0 } in
+        let log : (Looks.the_row).Denot = record { sealed = tt; count = 0 } in
         qed 𝓛 ((raw toks ⊛ ‵ (owns (types_at ended.signature.params z.0.0) a vss)) ∷ raw ((held z.0.0 a).requires z.1) ∷ []) ∵
         keep ! (0 ∷ []) $ split ! $ move ! (1 ∷ []) $ drop ! $
         enter ! C Λ function [] Post $ alloc_all ! (λ l. pass_all ! refl tt $
-        sets ! (agg ! (no_more !)) refl (tt, tt) $
-        nothing ! $ none_made ! $ fjoin ! $
+        sets ! (agg ! (and_then ! (unit_lit !) (no_more !))) refl (tt, (tt, tt)) $
         returns ! (look_at ! 0 refl) $ free_all ! refl $
-        suffices ! _ (ends_at 𝓛 ended stayed held z none log tt tt) $ says ! refl $
+        suffices ! _ (ends_at 𝓛 ended stayed held z sealed log tt tt) $ says ! refl $
+        pure_i ! ((Looks.the_row).own_val log (sealed ∷ [])) ((λ vss. (tt, (tt, tt))), tt) (((vunit ∷ [], tt), (refl, (refl, tt))), tt) $
         nothing ! $ move ! (2 ∷ 0 ∷ 1 ∷ []) $ done !)
 
   meets : (𝓣 : Tables 𝓤 H) → Meets 𝓛 ended.signature (WpFn 𝓤 H 𝓣.C 𝓣.Λ function) (closing 𝓛 ended held)

@@ -2,7 +2,7 @@
 use Rattle.std.proofs.Common.{List, [], ◌∷◌, ◌++◌, ◌+◌, refl}
 use seplogic.Ra.Ura.{Ura}
 use mir.Syntax.{Fn}
-use mir.Val.{Val, vptr}
+use mir.Val.{Val, vptr, vunit}
 use base.Logic.{SProp, ent}
 use prog.Memory.{Memory}
 use prog.Routine.{Routine}
@@ -13,10 +13,11 @@ use sound.WpLaws.{WpFn-mono}
 use types.Logic.{Logic}
 use types.Kit.{‵, raw, ◌⊛◌, prop, ◌$◌, ◌∵◌, !, qed, move, keep, drop, split, fsplit, fjoin, feq_l, regoal, suffices, done}
 use types.Part.{agg}
-use types.Run.{enter, returns, no_more}
+use types.Run.{enter, returns, and_then, unit_lit, no_more}
 use types.ByLocal.{alloc_all, pass_all, free_all, look_at, sets}
 use denote.Exit.{yes}
 use denote.RattleType.{owns}
+use denote.Shadow.{pure_i}
 use denote.Builtin.{RefOf}
 use denote.Signature.{plain, types_at}
 use denote.Steps.{nothing}
@@ -25,7 +26,7 @@ use denote.Triple.Entry.{alive}
 use denote.Triple.Spec.{Meets, triple_of}
 use denote.Triple.Table.{entered}
 use denote.Triple.Walked.{says, Stays, stay_dropped, walk_of, ends_at, walk_Meets, Goes-dropped}
-use Rattle.cbor_edn_parts.proofs.Walks.{none, none_made}
+use Rattle.cbor_edn_parts.proofs.Walks.{sealed}
 use Rattle.cbor_edn_parts.specs.contracts.looks.Looks as Looks
 use Rattle.cbor_edn_parts.specs.contracts.looks.Looks.next as F
 use Rattle.cbor_edn_parts.specs.contracts.looks.Looks.next.Key.{name as #self}
@@ -59,15 +60,15 @@ module _ {M : Type 1} {𝓤 : Ura M} (𝓛 : Logic 𝓤) (at_mem : Memory → SP
         let a = z.0.3 in
         let vss = z.0.4 in
         let u : Val = vptr a.0.ref_ptr.0 a.0.ref_ptr.1 in
-        let more : (Looks.the_row).Denot = record { count = a.0.now.count + 1 } in
+        let more : (Looks.the_row).Denot = record { sealed = tt; count = a.0.now.count + 1 } in
         qed 𝓛 ((raw toks ⊛ ‵ (owns (types_at ended.signature.params z.0.0) a vss)) ∷ raw ((held z.0.0 a).requires z.1) ∷ []) ∵
         keep ! (0 ∷ []) $ split ! $ move ! (1 ∷ []) $ fsplit ! $ fsplit ! $ feq_l ! (λ is₀. drop ! $ drop ! $
         regoal ! (λ (us : List Val). prop (WpFn 𝓤 H C Λ function (us ++ []) Post)) is₀ refl $
         enter ! C Λ function (u ∷ []) Post $ alloc_all ! (λ l. pass_all ! refl ((tt, tt), tt) $
-        sets ! (agg ! (no_more !)) refl (tt, tt) $
-        nothing ! $ none_made ! $ fjoin ! $
+        sets ! (agg ! (and_then ! (unit_lit !) (no_more !))) refl (tt, (tt, tt)) $
         returns ! (look_at ! 0 refl) $ free_all ! refl $
-        suffices ! _ (ends_at 𝓛 ended stayed held z none more (tt, tt) (tt, tt)) $ says ! refl $
+        suffices ! _ (ends_at 𝓛 ended stayed held z sealed more (tt, tt) (tt, tt)) $ says ! refl $
+        pure_i ! ((Looks.the_row).own_val more (sealed ∷ [])) ((λ vss. (tt, (tt, tt))), tt) (((vunit ∷ [], tt), (refl, (refl, tt))), tt) $
         nothing ! $ nothing ! $ fjoin ! $ move ! (2 ∷ 0 ∷ 1 ∷ []) $ done !))
 
   meets : (𝓣 : Tables 𝓤 H) → Meets 𝓛 ended.signature (WpFn 𝓤 H 𝓣.C 𝓣.Λ function) (closing 𝓛 ended held)
