@@ -3,7 +3,7 @@ use mathlib.Core.List.{[], ◌∷◌}
 use Prim.Native.Nat.{◌+◌}
 use seplogic.Ra.Ura.{Ura}
 use mir.Syntax.{named}
-use mir.Val.{Val, vptr, vstruct, vnil}
+use mir.Val.{Val, vptr, vstruct, vunit, of_list}
 use base.Logic.{SProp, ent, emp, via, fst∗}
 use base.Fml.{Fml}
 use prog.Memory.{Memory}
@@ -15,7 +15,7 @@ use contract.Monad.{Fun}
 use contract.Running.{tables, tables_of}
 use sound.WpLaws.{WpFn-mono}
 use types.Kit.{‵, raw, ◌$◌, ◌∵◌, !, qed, move, suffices, done}
-use types.Run.{no_more, returns, enter}
+use types.Run.{and_then, unit_lit, no_more, returns, enter}
 use types.Part.{agg}
 use types.ByLocal.{alloc_all, pass_all, free_all, look_at, sets}
 use denote.Exit.{yes}
@@ -32,6 +32,10 @@ use Rattle.cbor_edn.specs.contracts.engine.count.Count.after as f
 use Rattle.cbor_edn.proofs.engine.count.Count.after.Statement as stated
 use Rattle.cbor_edn.proofs.engine.count.Count.after.Code as code
 use Rattle.cbor_edn.specs.contracts.engine.count.Count as count
+
+-- a count, of one field without bytes
+abbrev sealed : Val
+sealed = vstruct (of_list (vunit ∷ []))
 
 abbrev stayed : Stays (f.ended).signature.params (f.ended).kept
 stayed = (stay_none_ref (0 ∷ []) tt (plain (λ _. count.the_row)) yes, tt)
@@ -53,10 +57,10 @@ module _ {M : Type 1} {𝓤 : Ura M} (𝓛 : Logic 𝓤) (mem : Memory → SProp
         (WpFn 𝓤 H C Λ code.function (before ∷ []) ((walk_of 𝓛 f.ended stayed (f.clauses 𝓛 mem run)).post bound))
     walk =
         qed 𝓛 (raw (alive 𝓛 f.signature κs qs) ∷ ‵ passed ∷ []) ∵ enter ! C Λ code.function (before ∷ []) _ $
-        alloc_all ! (λ l. pass_all ! refl ((tt, tt), tt) $ sets ! (agg ! (no_more !)) refl (tt, tt) $
+        alloc_all ! (λ l. pass_all ! refl ((tt, tt), tt) $ sets ! (agg ! (and_then ! (unit_lit !) (no_more !))) refl (tt, (tt, tt)) $
         returns ! (look_at ! 0 refl) $ free_all ! refl $
-        suffices ! _ (ends_at 𝓛 f.ended stayed (f.clauses 𝓛 mem run) bound (vstruct vnil) (record { total = a.0.now.total + 1 }) (tt, tt) (tt, tt)) $
-        says ! refl $ pure_i ! (count.the_row.own_val (record { total = a.0.now.total + 1 }) (vstruct vnil ∷ [])) ((λ vss. (tt, tt)), tt) ((tt, (refl, tt)), tt) $
+        suffices ! _ (ends_at 𝓛 f.ended stayed (f.clauses 𝓛 mem run) bound sealed (record { sealed = tt; total = a.0.now.total + 1 }) (tt, tt) (tt, tt)) $
+        says ! refl $ pure_i ! (count.the_row.own_val (record { sealed = tt; total = a.0.now.total + 1 }) (sealed ∷ [])) ((λ vss. (tt, (tt, tt))), tt) (((vunit ∷ [], tt), (refl, (refl, tt))), tt) $
         move ! (1 ∷ 2 ∷ 0 ∷ []) $ done !)
 
   walks : Walks 𝓛 f.ended stayed (WpFn 𝓤 H C Λ code.function) (f.clauses 𝓛 mem run)

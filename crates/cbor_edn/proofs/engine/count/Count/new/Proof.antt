@@ -1,7 +1,7 @@
 use mathlib.Core.Path.{refl}
 use mathlib.Core.List.{[], ◌∷◌}
 use seplogic.Ra.Ura.{Ura}
-use mir.Val.{vstruct, vnil}
+use mir.Val.{Val, vstruct, vunit, of_list}
 use base.Logic.{SProp, ent, emp, via, fst∗}
 use prog.Memory.{Memory}
 use prog.Routine.{Routine}
@@ -11,7 +11,7 @@ use contract.Monad.{Fun}
 use contract.Running.{tables, tables_of}
 use sound.WpLaws.{WpFn-mono}
 use types.Kit.{‵, raw, ◌$◌, ◌∵◌, !, qed, move, suffices, done}
-use types.Run.{no_more, returns, enter}
+use types.Run.{and_then, unit_lit, no_more, returns, enter}
 use types.Part.{agg}
 use types.ByLocal.{alloc_all, pass_all, free_all, look_at, sets}
 use denote.RattleType.{owns}
@@ -26,6 +26,10 @@ use Rattle.cbor_edn.proofs.engine.count.Count.new.Statement as stated
 use Rattle.cbor_edn.proofs.engine.count.Count.new.Code as code
 use Rattle.cbor_edn.specs.contracts.engine.count.Count as made
 
+-- a count, of one field without bytes
+abbrev sealed : Val
+sealed = vstruct (of_list (vunit ∷ []))
+
 abbrev stayed : Stays (f.ended).signature.params (f.ended).kept
 stayed = tt
 
@@ -38,10 +42,10 @@ module _ {M : Type 1} {𝓤 : Ura M} (𝓛 : Logic 𝓤) (mem : Memory → SProp
   walk : ent 𝓤 (on_entry 𝓛 f.signature tt tt tt tt) (WpFn 𝓤 H C Λ code.function [] ((walk_of 𝓛 f.ended stayed (f.clauses 𝓛 mem run)).post bound))
   walk =
       qed 𝓛 (raw (alive 𝓛 f.signature tt tt) ∷ ‵ (owns [] tt tt) ∷ []) ∵ enter ! C Λ code.function [] _ $
-      alloc_all ! (λ l. pass_all ! refl tt $ sets ! (agg ! (no_more !)) refl (tt, tt) $
+      alloc_all ! (λ l. pass_all ! refl tt $ sets ! (agg ! (and_then ! (unit_lit !) (no_more !))) refl (tt, (tt, tt)) $
       returns ! (look_at ! 0 refl) $ free_all ! refl $
-      suffices ! _ (ends_at 𝓛 f.ended stayed (f.clauses 𝓛 mem run) bound (vstruct vnil) (record { total = 0 }) tt tt) $
-      says ! refl $ pure_i ! (made.the_row.own_val (record { total = 0 }) (vstruct vnil ∷ [])) ((λ vss. (tt, tt)), tt) ((tt, (refl, tt)), tt) $
+      suffices ! _ (ends_at 𝓛 f.ended stayed (f.clauses 𝓛 mem run) bound sealed (record { sealed = tt; total = 0 }) tt tt) $
+      says ! refl $ pure_i ! (made.the_row.own_val (record { sealed = tt; total = 0 }) (sealed ∷ [])) ((λ vss. (tt, (tt, tt))), tt) (((vunit ∷ [], tt), (refl, (refl, tt))), tt) $
       move ! (1 ∷ 2 ∷ 0 ∷ []) $ done !)
 
   walks : Walks 𝓛 f.ended stayed (WpFn 𝓤 H C Λ code.function) (f.clauses 𝓛 mem run)
