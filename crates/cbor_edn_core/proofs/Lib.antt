@@ -23,6 +23,7 @@ pub mod Examples
 pub mod Follows
 pub mod Found
 pub mod GrammarLaws
+pub mod ItemsAndSpaces
 pub mod Looks
 pub mod Marking
 pub mod MeaningExamples

@@ -1,8 +1,8 @@
 -- The laws of the grammar, as the contracts name them.
-use Rattle.std.specs.Prelude.{List, ℕ, ◌≡◌}
+use Rattle.std.specs.Prelude.{List, ℕ, ◌≡◌, ◌↔◌}
 use Rattle.cbor_edn_core.specs.Items.{Node, Item, Items}
 use Rattle.cbor_edn_core.specs.Spelling.{SpellsSequence, SpellsOne}
-use Rattle.cbor_edn_core.specs.Trees.{Seq, Standalone, Tree, Valid, Joined, text, items}
+use Rattle.cbor_edn_core.specs.Trees.{Rule, Seq, Standalone, Tree, Valid, Joined, text, spaces, items}
 
 -- A text spells at most one list of items, and at most one item.
 abbrev pub UniqueItems : Type 0
@@ -22,3 +22,7 @@ SpelledByTrees =
     × ((x : Node Item) (t : List ℕ) → SpellsOne x t → (w : Tree Standalone) × Valid w × Joined w × (items w ≡ x) × (text w ≡ t))
     × ((w : Tree Seq) → Valid w → SpellsSequence (items w) (text w))
     × ((w : Tree Standalone) → Valid w → SpellsOne (items w) (text w))
+
+-- A tree is its items and its spaces: two of one rule are the same exactly where both are.
+abbrev pub ItemsAndSpaces : Type 0
+ItemsAndSpaces = (s : Rule) (a b : Tree s) → (a ≡ b) ↔ ((items a ≡ items b) × (spaces a ≡ spaces b))

@@ -1,6 +1,6 @@
 //! Laws: each function's contract is one, and its body does nothing.
 ghost use Rattle.cbor_edn_core.specs.CborLaws.{OneEncoding, ItemMeans, SpelledMeans};
-ghost use Rattle.cbor_edn_core.specs.Laws.{SpelledByTrees, UniqueItems, UniqueSpaces};
+ghost use Rattle.cbor_edn_core.specs.Laws.{ItemsAndSpaces, SpelledByTrees, UniqueItems, UniqueSpaces};
 ghost use Rattle.cbor_edn_core.specs.Spelling.{Spells, SpellsOne, SpellsSequence};
 ghost use Rattle.cbor_edn_core.specs.Trees.{items, text};
 ghost use Rattle.cbor_edn_core.specs.View.{item_tree, standalone_tree, sequence_tree};
@@ -18,6 +18,13 @@ pub fn unique_reading()
 #[tactic(auto, using(crate::proofs::GrammarLaws::spelled_by_trees))]
 pub fn spelled_by_trees()
     ensures { SpelledByTrees }
+{}
+
+/// Trees are the same exactly where their items are the same and their spaces are: what `==` and `clone` promise of trees, they
+/// promise of these two.
+#[tactic(auto, using(crate::proofs::ItemsAndSpaces::items_and_spaces))]
+pub fn items_and_spaces()
+    ensures { ItemsAndSpaces }
 {}
 
 /// However an item was made, its text spells it: known without memory, which printing takes.
