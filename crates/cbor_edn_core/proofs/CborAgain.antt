@@ -11,8 +11,9 @@ use Rattle.cbor_edn_core.specs.declared.word.NonFinite.{NonFinite}
 use Rattle.cbor_edn_core.specs.declared.from_cbor.CborError.TheVariants.{TooDeep}
 use Rattle.cbor_edn_core.specs.declared.from_cbor.reader.Stop.{Stop}
 use Rattle.cbor_edn_core.specs.declared.from_cbor.reader.Stop.TheVariants.{Break}
-use Rattle.cbor_edn_core.specs.Value.{Value, unsigned, negative, string, chunks, array, object, tag, simple, float, Values, no_values, value, Pairs, no_pairs, pair, Chunk, head, ArgumentFits, LengthFits, open_head, break, list_encoding, string_major, chunk_encoding, chunk_encodings, ChunkFits, ChunksFit, encoding, encodings, pair_encodings, values_len, pairs_len, Fits, ValuesFit, PairsFit, nesting, values_nesting, pairs_nesting, float_bits, simple_width, simple_nesting, IsSimple, IsFloatWidth}
-use Rattle.cbor_edn_core.specs.CborReading.{◌>>=◌, Reads, Reader, Head, head_at, many, until, several, past, pair_at, string_by, simple_by, float_by, special_by, item_by, item_at, inner, Makes}
+use Rattle.cbor_edn_core.specs.Value.{Value, unsigned, negative, string, chunks, array, object, tag, simple, float, Values, no_values, value, Pairs, no_pairs, pair, Chunk, head, ArgumentFits, LengthFits, open_head, break, list_encoding, string_major, chunk_encoding, chunk_encodings, ChunkFits, ChunksFit, encoding, encodings, pair_encodings, values_len, pairs_len, Fits, ValuesFit, PairsFit, float_bits, simple_width, IsSimple, IsFloatWidth}
+use Rattle.cbor_edn_core.specs.CborReading.{◌>>=◌, Reads, Reader, Head, head_at, many, until, several, past, pair_at, string_by, simple_by, float_by, special_by, item_by, item_at, inner, Makes, simple_nesting}
+use Rattle.cbor_edn_core.proofs.Nestings.{value_nesting, values_nesting, pairs_nesting}
 use Rattle.cbor_edn_core.proofs.CborHeads.{head_again, open_again}
 use Rattle.cbor_edn_core.proofs.CborSpecials.{one_byte, two_bytes, simple_fits, simple_shallow, float_fits, float_again}
 use Rattle.cbor_edn_core.proofs.CborOutcomes.{outcome, within, beyond, none, outcome_then, outcome_map, many_none, more, until_more_at, until_end_at, string_again, chunks_again, chunks_many, values_many, pairs_many, going}
@@ -144,17 +145,17 @@ all_chunks_again limit k cs rest fits =
     ∙ ap (λ r. r >>= λ (s : List Chunk × List ℕ). Ok (chunks k s.0, s.1)) (chunks_again k cs rest (suc (length after)) (omega (arith, chunks_many k cs, length-append (chunk_encodings k cs) (255 ∷ rest))) fits)
 
 -- a tag and what it holds
-tag_again : (limit : ℕ) (w : Width) (n : ℕ) (v : Value) (rest : List ℕ) → ArgumentFits w n → ((d : ℕ) → value_at d (encoding v ++ rest) ≡ outcome (nesting v) d (v, rest))
-    → value_at limit ((head 6 w n ++ encoding v) ++ rest) ≡ outcome (nesting v + 1) limit (tag w n v, rest)
+tag_again : (limit : ℕ) (w : Width) (n : ℕ) (v : Value) (rest : List ℕ) → ArgumentFits w n → ((d : ℕ) → value_at d (encoding v ++ rest) ≡ outcome (value_nesting v) d (v, rest))
+    → value_at limit ((head 6 w n ++ encoding v) ++ rest) ≡ outcome (value_nesting v + 1) limit (tag w n v, rest)
 unfolding item_by
 tag_again zero w n v rest fits inside =
     let after = encoding v ++ rest in
-    ap (value_at 0) (append_assoc (head 6 w n) (encoding v) rest) ∙ item_at_ok makes 0 (head 6 w n ++ after) after (6, Some (w, n)) (head_again 6 w n after fits) ∙ sym (beyond (nesting v + 1) 0 (tag w n v, rest) (omega arith))
+    ap (value_at 0) (append_assoc (head 6 w n) (encoding v) rest) ∙ item_at_ok makes 0 (head 6 w n ++ after) after (6, Some (w, n)) (head_again 6 w n after fits) ∙ sym (beyond (value_nesting v + 1) 0 (tag w n v, rest) (omega arith))
 tag_again (suc d) w n v rest fits inside =
     let after = encoding v ++ rest in
     let opened : item_by makes (inner makes (suc d)) 6 (Some (w, n)) after ≡ (value_at d after >>= λ x. Ok (tag w n x.0, x.1)) = rw (inner_more makes d) refl in
     ap (value_at (suc d)) (append_assoc (head 6 w n) (encoding v) rest) ∙ item_at_ok makes (suc d) (head 6 w n ++ after) after (6, Some (w, n)) (head_again 6 w n after fits)
-    ∙ opened ∙ ap (λ r. r >>= λ (x : Value × List ℕ). Ok (tag w n x.0, x.1)) (inside d) ∙ outcome_map (nesting v) d (v, rest) (λ x. (tag w n x.0, x.1)) ∙ deeper (nesting v) d (tag w n v, rest)
+    ∙ opened ∙ ap (λ r. r >>= λ (x : Value × List ℕ). Ok (tag w n x.0, x.1)) (inside d) ∙ outcome_map (value_nesting v) d (v, rest) (λ x. (tag w n x.0, x.1)) ∙ deeper (value_nesting v) d (tag w n v, rest)
 
 -- a simple value by its head
 simple_opened : (i : Option (Reader Value)) (n : ℕ) → IsSimple n → special_by makes i (Some (simple_width n, n)) ≡ simple_by makes i n
@@ -190,16 +191,16 @@ float_item_again limit w f rest is =
     item_at_ok makes limit (head 7 w (float_bits w f) ++ rest) rest (7, Some (w, float_bits w f)) (head_again 7 w (float_bits w f) rest (float_fits w f is))
     ∙ ap (λ r. r >>= in_front_of rest) (float_opened (inner makes limit) w f is)
 
-pair_again : (limit : ℕ) (k v : Value) (rest : List ℕ) → value_at limit (encoding k ++ (encoding v ++ rest)) ≡ outcome (nesting k) limit (k, encoding v ++ rest) → value_at limit (encoding v ++ rest) ≡ outcome (nesting v) limit (v, rest)
-    → pair_at makes (value_at limit) (encoding k ++ (encoding v ++ rest)) ≡ outcome (max (nesting k) (nesting v)) limit ((k, v), rest)
+pair_again : (limit : ℕ) (k v : Value) (rest : List ℕ) → value_at limit (encoding k ++ (encoding v ++ rest)) ≡ outcome (value_nesting k) limit (k, encoding v ++ rest) → value_at limit (encoding v ++ rest) ≡ outcome (value_nesting v) limit (v, rest)
+    → pair_at makes (value_at limit) (encoding k ++ (encoding v ++ rest)) ≡ outcome (max (value_nesting k) (value_nesting v)) limit ((k, v), rest)
 unfolding pair_at
 pair_again limit k v rest first second =
     ap (λ r. r >>= λ (x : Value × List ℕ). value_at limit x.1 >>= λ y. Ok ((x.0, y.0), y.1)) first
-    ∙ outcome_then (nesting k) (nesting v) limit (k, encoding v ++ rest) _ ((k, v), rest) (ap (λ r. r >>= λ (y : Value × List ℕ). Ok ((k, y.0), y.1)) second ∙ outcome_map (nesting v) limit (v, rest) (λ y. ((k, y.0), y.1)))
+    ∙ outcome_then (value_nesting k) (value_nesting v) limit (k, encoding v ++ rest) _ ((k, v), rest) (ap (λ r. r >>= λ (y : Value × List ℕ). Ok ((k, y.0), y.1)) second ∙ outcome_map (value_nesting v) limit (v, rest) (λ y. ((k, y.0), y.1)))
 
 mutual
   -- the law of the reader: what is written is read again, whatever follows it
-  pub item_again : (v : Value) (limit : ℕ) (rest : List ℕ) → Fits v → value_at limit (encoding v ++ rest) ≡ outcome (nesting v) limit (v, rest)
+  pub item_again : (v : Value) (limit : ℕ) (rest : List ℕ) → Fits v → value_at limit (encoding v ++ rest) ≡ outcome (value_nesting v) limit (v, rest)
   item_again (unsigned w n) limit rest fits = leaf limit (unsigned w n) rest _ (number_again limit w n rest fits).0
   item_again (negative w n) limit rest fits = leaf limit (negative w n) rest _ (number_again limit w n rest fits).1
   item_again (string k w bs) limit rest fits = leaf limit (string k w bs) rest _ (text_again limit k w bs rest fits)
@@ -214,14 +215,14 @@ mutual
   values_again no_values fits limit rest = many_none (value_at limit) rest ∙ sym (none limit ([], rest))
   values_again (value v vs) fits limit rest =
       ap (many (value_at limit) (values_len vs + 1)) (append_assoc (encoding v) (encodings vs) rest)
-      ∙ more (value_at limit) limit (nesting v) (values_nesting vs) (values_len vs) (encoding v ++ (encodings vs ++ rest)) (encodings vs ++ rest) rest v (list_of vs) (item_again v limit (encodings vs ++ rest) fits.0) (values_again vs fits.1 limit rest)
+      ∙ more (value_at limit) limit (value_nesting v) (values_nesting vs) (values_len vs) (encoding v ++ (encodings vs ++ rest)) (encodings vs ++ rest) rest v (list_of vs) (item_again v limit (encodings vs ++ rest) fits.0) (values_again vs fits.1 limit rest)
 
   pub values_until : (vs : Values) → ValuesFit vs → UntilAgain vs
   values_until no_values fits stop limit turns tail rest ends lt = until_end_at stop (value_at limit) turns limit tail rest (omega arith) ends
   values_until (value v vs) fits stop limit turns tail rest ends lt =
       let behind = encodings vs ++ tail in
       ap (until stop (value_at limit) turns) (append_assoc (encoding v) (encodings vs) tail)
-      ∙ until_more_at stop (value_at limit) limit (nesting v) (values_nesting vs) turns (encoding v ++ behind) behind rest v (list_of vs) (omega arith) (going stop v behind fits.0) (item_again v limit behind fits.0)
+      ∙ until_more_at stop (value_at limit) limit (value_nesting v) (values_nesting vs) turns (encoding v ++ behind) behind rest v (list_of vs) (omega arith) (going stop v behind fits.0) (item_again v limit behind fits.0)
       (values_until vs fits.1 stop limit (turns - 1) tail rest ends (omega arith))
 
   pairs_again : (ps : Pairs) → PairsFit ps → ManyPairsAgain ps
@@ -229,7 +230,7 @@ mutual
   pairs_again (pair k v ps) fits limit rest =
       let tail = pair_encodings ps ++ rest in
       ap (many (pair_at makes (value_at limit)) (pairs_len ps + 1)) (append_assoc (encoding k ++ encoding v) (pair_encodings ps) rest ∙ append_assoc (encoding k) (encoding v) tail)
-      ∙ more (pair_at makes (value_at limit)) limit (max (nesting k) (nesting v)) (pairs_nesting ps) (pairs_len ps) (encoding k ++ (encoding v ++ tail)) tail rest (k, v) (pair_list_of ps)
+      ∙ more (pair_at makes (value_at limit)) limit (max (value_nesting k) (value_nesting v)) (pairs_nesting ps) (pairs_len ps) (encoding k ++ (encoding v ++ tail)) tail rest (k, v) (pair_list_of ps)
       (pair_again limit k v tail (item_again k limit (encoding v ++ tail) fits.0) (item_again v limit tail fits.1)) (pairs_again ps fits.2 limit rest)
 
   pairs_until : (ps : Pairs) → PairsFit ps → UntilPairsAgain ps
@@ -237,5 +238,5 @@ mutual
   pairs_until (pair k v ps) fits limit turns rest lt =
       let tail = pair_encodings ps ++ (255 ∷ rest) in
       ap (until Break (pair_at makes (value_at limit)) turns) (append_assoc (encoding k ++ encoding v) (pair_encodings ps) (255 ∷ rest) ∙ append_assoc (encoding k) (encoding v) tail)
-      ∙ until_more_at Break (pair_at makes (value_at limit)) limit (max (nesting k) (nesting v)) (pairs_nesting ps) turns (encoding k ++ (encoding v ++ tail)) tail rest (k, v) (pair_list_of ps) (omega arith) (going Break k (encoding v ++ tail) fits.0)
+      ∙ until_more_at Break (pair_at makes (value_at limit)) limit (max (value_nesting k) (value_nesting v)) (pairs_nesting ps) turns (encoding k ++ (encoding v ++ tail)) tail rest (k, v) (pair_list_of ps) (omega arith) (going Break k (encoding v ++ tail) fits.0)
       (pair_again limit k v tail (item_again k limit (encoding v ++ tail) fits.0) (item_again v limit tail fits.1)) (pairs_until ps fits.2 limit (turns - 1) rest (omega arith))

@@ -6,8 +6,8 @@ use Rattle.cbor_edn_core.specs.declared.cbor.Width.{Width}
 use Rattle.cbor_edn_core.specs.declared.cbor.Width.TheVariants.{Immediate, One, Two, Four, Eight}
 use Rattle.cbor_edn_core.specs.declared.word.NonFinite.{NonFinite}
 use Rattle.cbor_edn_core.specs.declared.word.NonFinite.TheVariants.{Infinity, NegativeInfinity, NaN}
-use Rattle.cbor_edn_core.specs.Value.{ArgumentFits, float_bits, simple_width, simple_nesting, IsSimple, IsFloatWidth}
-use Rattle.cbor_edn_core.specs.CborReading.{float_of}
+use Rattle.cbor_edn_core.specs.Value.{ArgumentFits, float_bits, simple_width, IsSimple, IsFloatWidth}
+use Rattle.cbor_edn_core.specs.CborReading.{float_of, simple_nesting}
 use Rattle.cbor_edn_core.proofs.CborHeads.{chosen}
 use Rattle.cbor_edn_core.proofs.MeaningSteps.{some_is}
 

@@ -11,8 +11,9 @@ use Rattle.cbor_edn_core.specs.declared.cbor.Width.TheVariants.{Immediate, One, 
 use Rattle.cbor_edn_core.specs.declared.word.NonFinite.{NonFinite}
 use Rattle.cbor_edn_core.specs.declared.from_cbor.reader.Stop.{Stop}
 use Rattle.cbor_edn_core.specs.declared.from_cbor.reader.Stop.TheVariants.{Break, EndOfData}
-use Rattle.cbor_edn_core.specs.Value.{Value, Chunk, unsigned, negative, string, chunks, array, object, tag, simple, float, head, ArgumentFits, LengthFits, open_head, list_encoding, string_major, chunk_encoding, chunk_encodings, is_content, AreBytes, ChunkFits, ChunksFit, encoding, encodings, pair_encodings, values_len, pairs_len, Fits, ValuesFit, PairsFit, nesting, values_nesting, pairs_nesting, simple_nesting, simple_width, IsSimple, IsFloatWidth}
-use Rattle.cbor_edn_core.specs.CborReading.{◌>>=◌, Reader, head_at, many, until, several, past, turn, string_at, chunk_at, chunk_by, string_by, pair_at, item_by, item_at, array_by, map_by, number_by, tag_by, simple_by, float_by, special_by, float_of}
+use Rattle.cbor_edn_core.specs.Value.{Value, Chunk, unsigned, negative, string, chunks, array, object, tag, simple, float, head, ArgumentFits, LengthFits, open_head, list_encoding, string_major, chunk_encoding, chunk_encodings, is_content, AreBytes, ChunkFits, ChunksFit, encoding, encodings, pair_encodings, values_len, pairs_len, Fits, ValuesFit, PairsFit, simple_width, IsSimple, IsFloatWidth}
+use Rattle.cbor_edn_core.specs.CborReading.{◌>>=◌, Reader, head_at, many, until, several, past, turn, string_at, chunk_at, chunk_by, string_by, pair_at, item_by, item_at, array_by, map_by, number_by, tag_by, simple_by, float_by, special_by, float_of, simple_nesting}
+use Rattle.cbor_edn_core.proofs.Nestings.{value_nesting, values_nesting, pairs_nesting}
 use Rattle.cbor_edn_core.proofs.CborHeads.{IsBytes, IsBytes-rest, IsBytes-take, IsBytes-drop, bind_ok, ok_is, chosen, Takes, Takes-then, HeadIs, head_takes}
 use Rattle.cbor_edn_core.proofs.CborValues.{values_of, pairs_of, argument_width, makes, value_at, in_front_of}
 use Rattle.cbor_edn_core.proofs.CborSpecials.{last_major, one_byte, two_bytes, simple_shallow, float_found}
@@ -124,7 +125,7 @@ chunks_are k (c ∷ cs) all = let r = chunks_are k cs all.1 in ((all.0, r.0), ap
 -- ---- lists of values
 
 abbrev pub Within : ℕ → Value → Type 0
-Within limit v = Fits v × (nesting v ≤ limit)
+Within limit v = Fits v × (value_nesting v ≤ limit)
 
 abbrev pub BothWithin : ℕ → Value × Value → Type 0
 BothWithin limit p = Within limit p.0 × Within limit p.1

@@ -18,13 +18,14 @@ use Rattle.cbor_edn_core.specs.View.{texts, view_items, view_some}
 use Rattle.cbor_edn_core.specs.declared.from_cbor.CborError.{CborError}
 use Rattle.cbor_edn_core.specs.declared.from_cbor.CborError.TheVariants.{TooDeep}
 use Rattle.cbor_edn_core.specs.declared.from_cbor.reader.Stop.TheVariants.{EndOfData}
-use Rattle.cbor_edn_core.specs.Items.{Elements, Items}
+use Rattle.cbor_edn_core.specs.Items.{Elements, Items, nesting}
 use Rattle.cbor_edn_core.specs.Trees.{Tree, OneItem, Rest, Seq, NothingTree, SequenceTree, items}
-use Rattle.cbor_edn_core.specs.Value.{Value, Values, encoding, encodings, nesting, values_nesting, Enc, EncAll}
+use Rattle.cbor_edn_core.specs.Value.{Value, Values, encoding, encodings, Enc, EncAll}
 use Rattle.cbor_edn_core.specs.Meaning.{means}
 use Rattle.cbor_edn_parts.specs.Refusals.{IfTold}
 use Rattle.cbor_edn_core.specs.Decoded.{item_of, items_of, regular, sequence_tree_of, regular_sequence, Begins, IsDecoded, IsDecodedSequence, NoneIs, IsTooDeep, NoSequence, IsTooDeepSequence}
 use Rattle.cbor_edn_core.specs.CborReading.{◌>>=◌, Reader, Gives, Fails, shown, item_at, until, past, turn, trees, element_row, sequence_at}
+use Rattle.cbor_edn_core.proofs.Nestings.{value_nesting, values_nesting, item_nests, items_nest}
 use Rattle.cbor_edn_core.proofs.CborHeads.{IsBytes, bind_ok}
 use Rattle.cbor_edn_core.proofs.CborTurns.{shown_ok, shown_err}
 use Rattle.cbor_edn_core.proofs.CborValues.{values_of, list_of, value_at}
@@ -89,9 +90,9 @@ abbrev Somewhere : List ℕ → Value → Type 0
 Somewhere bytes v = (rest : List ℕ) × Begins bytes rest v
 
 module _ (limit : ℕ) (bytes : List ℕ) where
-  tree_found : (v : Value) (rest : List ℕ) → Begins bytes rest v → item_at trees limit bytes ≡ outcome (nesting v) limit (tree_of v, rest)
+  tree_found : (v : Value) (rest : List ℕ) → Begins bytes rest v → item_at trees limit bytes ≡ outcome (value_nesting v) limit (tree_of v, rest)
   tree_found v rest begins =
-      tree_read limit bytes ∙ ap (shown tree_of) (ap (value_at limit) (begins.2 ∙ ap (λ (l : List ℕ). l ++ rest) begins.1.1) ∙ item_again v limit rest begins.1.0) ∙ shown_outcome tree_of (nesting v) limit v rest
+      tree_read limit bytes ∙ ap (shown tree_of) (ap (value_at limit) (begins.2 ∙ ap (λ (l : List ℕ). l ++ rest) begins.1.1) ∙ item_again v limit rest begins.1.0) ∙ shown_outcome tree_of (value_nesting v) limit v rest
 
   pub found : (y : Tree OneItem × List ℕ) → IsBytes bytes → item_at trees limit bytes ≡ Ok y → IsDecoded limit (Begins bytes y.1) y.0
   found y fits e =
@@ -104,19 +105,19 @@ module _ (limit : ℕ) (bytes : List ℕ) where
       record {
         value = v;
         encoded = (encoding v, (good.0.0, refl), good.1.parts ∙ ap (λ (l : List ℕ). encoding v ++ l) rest_is);
-        within = good.0.1;
+        within = omega (arith, item_nests v, good.0.1);
         same_items = same;
         spaced = tree;
         meant = ap means same ∙ item_means v good.0.0;
       }
 
   pub refused : (e : CborError) → item_at trees limit bytes ≡ Err e → e ≢ TooDeep → NoneIs (Somewhere bytes)
-  refused e is other v somewhere = other (outcome_err (nesting v) limit (tree_of v, somewhere.0) e (sym (tree_found v somewhere.0 somewhere.1) ∙ is)).1
+  refused e is other v somewhere = other (outcome_err (value_nesting v) limit (tree_of v, somewhere.0) e (sym (tree_found v somewhere.0 somewhere.1) ∙ is)).1
 
   pub too_deep : IsBytes bytes → item_at trees limit bytes ≡ Err TooDeep → IsTooDeep limit bytes (Somewhere bytes)
   too_deep fits is = (
     item_deep limit bytes fits (shown_err tree_of (value_at limit bytes) TooDeep (sym (tree_read limit bytes) ∙ is)),
-    λ v somewhere. (outcome_err (nesting v) limit (tree_of v, somewhere.0) TooDeep (sym (tree_found v somewhere.0 somewhere.1) ∙ is)).0,
+    λ v somewhere. omega (arith, item_nests v, (outcome_err (value_nesting v) limit (tree_of v, somewhere.0) TooDeep (sym (tree_found v somewhere.0 somewhere.1) ∙ is)).0),
   )
 
   -- all of the bytes
@@ -146,7 +147,7 @@ module _ (limit : ℕ) (bytes : List ℕ) where
   pub refused_behind : (y : Tree OneItem × List ℕ) → item_at trees limit bytes ≡ Ok y → y.1 ≢ [] → NoneIs (Enc bytes)
   refused_behind y e more v enc =
       let w = whole v enc in
-      let same = outcome_ok (nesting v) limit (tree_of v, []) y (sym (tree_found v [] w.1) ∙ e) in
+      let same = outcome_ok (value_nesting v) limit (tree_of v, []) y (sym (tree_found v [] w.1) ∙ e) in
       more (ap (λ (p : Tree OneItem × List ℕ). p.1) (sym same))
 
   -- of a call's result
@@ -203,14 +204,14 @@ module _ (limit : ℕ) (bytes : List ℕ) where
       ∙ values_until vs enc.0 EndOfData limit (suc (length bytes)) [] [] refl (omega (arith, values_many vs, ap length enc.1)) in
       sequence_read ∙ ap (shown (map tree_of)) read ∙ shown_outcome (map tree_of) (values_nesting vs) limit (list_of vs) []
 
-  pub sequence_found : (y : List (Tree OneItem) × List ℕ) → IsBytes bytes → sequence_at trees limit bytes ≡ Ok y → (vs : Values) × EncAll bytes vs × (values_nesting vs ≤ limit) × (element_row y.0 ≡ regular (items_of vs)) × (means (items_of vs) ≡ Some vs)
+  pub sequence_found : (y : List (Tree OneItem) × List ℕ) → IsBytes bytes → sequence_at trees limit bytes ≡ Ok y → (vs : Values) × EncAll bytes vs × (nesting (items_of vs) ≤ limit) × (element_row y.0 ≡ regular (items_of vs)) × (means (items_of vs) ≡ Some vs)
   sequence_found y fits e =
       let s = shown_ok (map tree_of) (until EndOfData (value_at limit) (suc (length bytes)) bytes) y (sym sequence_read ∙ e) in
       let t = until_takes EndOfData (Within limit) encoding (value_at limit) (item_takes limit) (suc (length bytes)) bytes s.0 fits s.1 in
       let are = values_are limit s.0.0 t.0 in
       let vs = values_of s.0.0 in
       let split : bytes ≡ encodings vs = t.1.parts ∙ ap (λ (l : List ℕ). (flat_map encoding s.0.0 ++ []) ++ l) (ends_at (value_at limit) (suc (length bytes)) bytes s.0 s.1) ∙ append-nil _ ∙ append-nil (flat_map encoding s.0.0) ∙ are.spelled in
-      (vs, (are.fit, split), are.nested, ap (λ (p : List (Tree OneItem) × List ℕ). element_row p.0) (sym s.2) ∙ (values_row s.0.0).0 ∙ row_tree_of_items vs, items_mean vs are.fit)
+      (vs, (are.fit, split), omega (arith, items_nest vs, are.nested), ap (λ (p : List (Tree OneItem) × List ℕ). element_row p.0) (sym s.2) ∙ (values_row s.0.0).0 ∙ row_tree_of_items vs, items_mean vs are.fit)
 
   pub sequence_refused : (e : CborError) → sequence_at trees limit bytes ≡ Err e → e ≢ TooDeep → NoSequence bytes
   sequence_refused e is other vs enc = other (outcome_err (values_nesting vs) limit (map tree_of (list_of vs), []) e (sym (sequence_again vs enc) ∙ is)).1
@@ -219,7 +220,7 @@ module _ (limit : ℕ) (bytes : List ℕ) where
   sequence_too_deep fits is = (
     until_deep EndOfData (Within limit) encoding (value_at limit) limit (item_takes limit) (item_deep limit) (suc (length bytes)) bytes fits
         (shown_err (map tree_of) (until EndOfData (value_at limit) (suc (length bytes)) bytes) TooDeep (sym sequence_read ∙ is)),
-    λ vs enc. (outcome_err (values_nesting vs) limit (map tree_of (list_of vs), []) TooDeep (sym (sequence_again vs enc) ∙ is)).0,
+    λ vs enc. omega (arith, items_nest vs, (outcome_err (values_nesting vs) limit (map tree_of (list_of vs), []) TooDeep (sym (sequence_again vs enc) ∙ is)).0),
   )
 
   pub sequence_fails_refused : (T : Type 0) (f : Fault CborError) → Fails f (sequence_at trees limit bytes) → IfTold {X = T} (Err f) (λ e. e ≢ TooDeep → NoSequence bytes)

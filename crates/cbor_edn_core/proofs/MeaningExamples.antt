@@ -7,8 +7,8 @@ use Rattle.cbor_edn_parts.specs.NumberReading.{integer_of}
 use Rattle.cbor_edn_core.specs.declared.cbor.Width.TheVariants.{Immediate, One, Two, Four, Eight}
 use Rattle.cbor_edn_core.specs.declared.word.NamedSimple.TheVariants.{True, Null}
 use Rattle.cbor_edn_core.specs.declared.word.NonFinite.TheVariants.{Infinity, NegativeInfinity, NaN}
-use Rattle.cbor_edn_core.specs.Items.{Number, Float, Tagged, Named, Simple}
-use Rattle.cbor_edn_core.specs.Value.{unsigned, tag, simple, float, encoding, nesting, head}
+use Rattle.cbor_edn_core.specs.Items.{Number, Float, Tagged, Named, Simple, nesting}
+use Rattle.cbor_edn_core.specs.Value.{unsigned, tag, simple, float, encoding, head}
 use Rattle.cbor_edn_core.specs.Meaning.{means}
 use Rattle.cbor_edn_core.specs.Decoded.{item_of}
 
@@ -52,8 +52,8 @@ simple_values :
     × means (Simple (Number (45 ∷ 49 ∷ []) None)) ≡ None
     × means (Simple (Named True)) ≡ None
     -- only those without a name nest
-    × nesting (simple 21) ≡ 0
-    × nesting (simple 32) ≡ 1
+    × nesting (item_of (simple 21)) ≡ 0
+    × nesting (item_of (simple 32)) ≡ 1
 unfolding means head integer_of digits
 simple_values = (refl, refl, refl, refl, refl, refl, refl, refl, refl, refl, refl, refl, refl, refl, refl, refl)
 

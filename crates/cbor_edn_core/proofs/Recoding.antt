@@ -8,10 +8,9 @@ use Rattle.cbor_edn_core.specs.Meaning.{means}
 use Rattle.cbor_edn_core.specs.Decoded.{IsDecodedSequence}
 use Rattle.cbor_edn_core.specs.Recoding.{IsTextOf}
 use Rattle.cbor_edn_core.proofs.GrammarLaws.{unique_items}
-use Rattle.cbor_edn_core.proofs.Nestings.{items_nest}
 
 pub text_of_decoded : (limit : ℕ) (bytes t : List ℕ) (w : Tree Seq) → IsDecodedSequence limit bytes w → SpellsSequence (items w) t → IsTextOf limit bytes t
-text_of_decoded limit bytes t w d spelled = (items w, d.values, spelled, omega (arith, ap nesting d.same_items, items_nest d.values, d.within), d.meant, d.encoded)
+text_of_decoded limit bytes t w d spelled = (items w, d.values, spelled, omega (arith, ap nesting d.same_items, d.within), d.meant, d.encoded)
 
 -- what a text spells means what the text is of
 pub meant_by_text : (limit : ℕ) (bytes t : List ℕ) (x : Items) → IsTextOf limit bytes t → SpellsSequence x t → (vs : Values) × (means x ≡ Some vs)

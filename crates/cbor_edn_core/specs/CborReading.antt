@@ -1,5 +1,5 @@
 -- A reader of CBOR on lists: items from left to right, with the first fault that is met.
-use Rattle.std.specs.Prelude.{ℕ, zero, suc, ◌≡◌, ◌-◌, ◌/◌, ◌%◌, ℤ, pos, negsuc, List, [], ◌∷◌, map, length, take, drop, Option, Some, None, Result, Ok, Err, nat_lt, ◌==◌, if◌then◌else◌}
+use Rattle.std.specs.Prelude.{ℕ, zero, suc, ◌≡◌, ◌-◌, ◌/◌, ◌%◌, ℤ, pos, negsuc, List, [], ◌∷◌, map, length, take, drop, Option, Some, None, Result, Ok, Err, nat_lt, nat_le, ◌&&◌, ◌==◌, if◌then◌else◌}
 use Rattle.std.specs.Int.{w8, w16, w32, w64, byte_len, from_be_bytes}
 use Rattle.std.specs.Int.{Width as Bits}
 use Rattle.std.specs.Fmt.{signed_decimal}
@@ -19,7 +19,7 @@ use Rattle.cbor_edn_core.specs.declared.from_cbor.reader.Stop.TheVariants.{Break
 use Rattle.cbor_edn_core.specs.Items as kind
 use Rattle.cbor_edn_core.specs.Items.{Row, Elements, Strings, Bracketed, Array, Map, entries_of}
 use Rattle.cbor_edn_core.specs.Trees.{Tree, OneItem, OneString, OneEntry, Rest, NumberTree, FloatTree, EnclosedTree, ListTree, StringTree, LiteralTree, LastPieceTree, ElementTree, ChunkTree}
-use Rattle.cbor_edn_core.specs.Value.{Chunk, is_content, string_major, break, float_bits, simple_nesting}
+use Rattle.cbor_edn_core.specs.Value.{Chunk, is_content, string_major, break, float_bits}
 use Rattle.cbor_edn_core.specs.declared.tree.Label.TheVariants.{Tag}
 use Rattle.cbor_edn_core.specs.declared.word.NonFinite.{NonFinite}
 use Rattle.cbor_edn_core.specs.declared.word.NonFinite.TheVariants.{Infinity, NegativeInfinity, NaN}
@@ -166,6 +166,10 @@ tag_by m (Some inner) (Some (w, n)) rest = inner rest >>= λ x. Ok (m.tag w n x.
 abbrev pub string_by : {A B : Type 0} → Makes A B → StringKind → Argument → Reader A
 string_by m k (Some (w, n)) rest = string_at k n rest >>= λ s. Ok (m.string k w s.0, s.1)
 string_by m k None rest = until Break (chunk_at k) (suc (length rest)) rest >>= λ cs. Ok (m.chunks k cs.0, cs.1)
+
+-- What nests of a simple value: nothing where it has a name, else `simple(..)`.
+abbrev pub simple_nesting : ℕ → ℕ
+simple_nesting n = if nat_le 20 n && nat_lt n 24 then 0 else 1
 
 -- A simple value: one without a name nests.
 abbrev pub simple_by : {A B : Type 0} → Makes A B → Option (Reader A) → ℕ → Result A CborError

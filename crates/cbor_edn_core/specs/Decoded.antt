@@ -10,10 +10,10 @@ use Rattle.cbor_edn_core.specs.declared.cbor.Width.TheVariants.{Immediate, One, 
 use Rattle.cbor_edn_core.specs.declared.tree.Label.TheVariants as label
 use Rattle.cbor_edn_core.specs.declared.word.NamedSimple.TheVariants.{False, True, Null, Undefined}
 use Rattle.cbor_edn_core.specs.Items as kind
-use Rattle.cbor_edn_core.specs.Items.{Row, Elements, Strings, Bracketed, Array, Map, entries_of, Sort, Item, Piece, Pieces, Entry, Entries, Node, Number, Float, Listed, Tagged, Named, Simple, String, Stream, Literal, Dots, Embedded, LastPiece, Plus, Element, Pair, Chunk, End, Then, Items}
+use Rattle.cbor_edn_core.specs.Items.{Row, Elements, Strings, Bracketed, Array, Map, entries_of, Sort, Item, Piece, Pieces, Entry, Entries, Node, Number, Float, Listed, Tagged, Named, Simple, String, Stream, Literal, Dots, Embedded, LastPiece, Plus, Element, Pair, Chunk, End, Then, Items, nesting}
 use Rattle.cbor_edn_core.specs.Trees.{Tree, OneItem, OnePiece, OneString, OneEntry, Inside, Rest, Seq, Standalone, Head, Unmarked, Marked, NumberTree, FloatTree, NamedTree, EnclosedTree, ListTree, StringTree, StreamTree, LiteralTree, DotsTree, EmbeddedTree, LastPieceTree, PlusTree, ElementTree, PairTree, ChunkTree, EmptyTree, FullTree, LastTree, MoreTree, NothingTree, SequenceTree, StandaloneTree, items}
 use Rattle.cbor_edn_core.specs.Value as values
-use Rattle.cbor_edn_core.specs.Value.{Value, unsigned, negative, string, chunks, array, object, tag, simple, float, Values, no_values, value, values_len, Pairs, no_pairs, pair, pairs_len, nesting, values_nesting, Enc, EncAll}
+use Rattle.cbor_edn_core.specs.Value.{Value, unsigned, negative, string, chunks, array, object, tag, simple, float, Values, no_values, value, values_len, Pairs, no_pairs, pair, pairs_len, Enc, EncAll}
 use Rattle.cbor_edn_core.specs.Meaning.{means}
 
 -- ---- items
@@ -159,12 +159,12 @@ regular_sequence m = sequence_tree_of (regular m)
 abbrev pub Begins : List ℕ → List ℕ → Value → Type 0
 Begins bytes rest v = (front : List ℕ) × Enc front v × (bytes ≡ front ++ rest)
 
--- The tree is that of a value that is encoded so and nests no deeper than the limit: its items are those of the value, with the
--- spaces of a single line, and mean this value.
+-- The tree is that of a value that is encoded so and whose item nests no deeper than the limit: its items are that item, with
+-- the spaces of a single line, and mean this value.
 pub record IsDecoded (limit : ℕ) (Encoded : Value → Type 0) (w : Tree OneItem) : Type 0 where
   pub value : Value
   pub encoded : Encoded value
-  pub within : nesting value ≤ limit
+  pub within : nesting (item_of value) ≤ limit
   pub same_items : items w ≡ item_of value
   pub spaced : w ≡ regular (item_of value)
   pub meant : means (items w) ≡ Some value
@@ -173,7 +173,7 @@ pub record IsDecoded (limit : ℕ) (Encoded : Value → Type 0) (w : Tree OneIte
 pub record IsDecodedSequence (limit : ℕ) (bytes : List ℕ) (w : Tree Seq) : Type 0 where
   pub values : Values
   pub encoded : EncAll bytes values
-  pub within : values_nesting values ≤ limit
+  pub within : nesting (items_of values) ≤ limit
   pub same_items : items w ≡ items_of values
   pub spaced : w ≡ regular_sequence (items_of values)
   pub meant : means (items w) ≡ Some values
@@ -188,12 +188,12 @@ NoneIs Encoded = (v : Value) → Encoded v → ⊥
 abbrev pub high_bytes : List ℕ → ℕ
 high_bytes bytes = count_by (λ b. nat_le 128 b) bytes
 
--- More than `limit` bytes can be heads of what nests, and each value that is encoded so nests deeper.
+-- More than `limit` bytes can be heads of what nests, and the item of each value that is encoded so nests deeper.
 abbrev pub IsTooDeep : ℕ → List ℕ → (Value → Type 0) → Type 0
-IsTooDeep limit bytes Encoded = (limit < high_bytes bytes) × ((v : Value) → Encoded v → limit < nesting v)
+IsTooDeep limit bytes Encoded = (limit < high_bytes bytes) × ((v : Value) → Encoded v → limit < nesting (item_of v))
 
 abbrev pub NoSequence : List ℕ → Type 0
 NoSequence bytes = (vs : Values) → EncAll bytes vs → ⊥
 
 abbrev pub IsTooDeepSequence : ℕ → List ℕ → Type 0
-IsTooDeepSequence limit bytes = (limit < high_bytes bytes) × ((vs : Values) → EncAll bytes vs → limit < values_nesting vs)
+IsTooDeepSequence limit bytes = (limit < high_bytes bytes) × ((vs : Values) → EncAll bytes vs → limit < nesting (items_of vs))

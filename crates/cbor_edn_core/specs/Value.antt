@@ -1,5 +1,5 @@
 -- CBOR data items with the form of each head, and their encodings (RFC 8949, section 3).
-use Rattle.std.specs.Prelude.{◌≡◌, ℕ, ◌+◌, ◌*◌, ◌^◌, ◌<◌, ◌≤◌, ◌⊎◌, ◌&&◌, nat_lt, nat_le, if◌then◌else◌, List, [], ◌∷◌, ◌++◌, length, max, Option, Some, None, All, Bool, true}
+use Rattle.std.specs.Prelude.{◌≡◌, ℕ, ◌+◌, ◌*◌, ◌^◌, ◌<◌, ◌≤◌, ◌⊎◌, nat_lt, if◌then◌else◌, List, [], ◌∷◌, ◌++◌, length, Option, Some, None, All, Bool, true}
 use Rattle.std.specs.Int.{w8, w16, w32, w64, to_be_bytes}
 use Rattle.std.specs.Str.{is_utf8}
 use Rattle.cbor_edn_parts.specs.declared.string.StringKind.{StringKind}
@@ -196,31 +196,6 @@ abbrev mutual
   pub PairsFit : Pairs → Type 0
   PairsFit no_pairs = Unit {0}
   PairsFit (pair k v ps) = Fits k × Fits v × PairsFit ps
-
--- what nests of a simple value: nothing where it has a name, else `simple(..)`
-abbrev pub simple_nesting : ℕ → ℕ
-simple_nesting n = if nat_le 20 n && nat_lt n 24 then 0 else 1
-
--- How deep arrays, maps, tags and the items of simple values without a name nest: 0 for 1, 1 for [1].
-abbrev mutual
-  pub nesting : Value → ℕ
-  nesting (unsigned w n) = 0
-  nesting (negative w n) = 0
-  nesting (string k w bs) = 0
-  nesting (chunks k cs) = 0
-  nesting (array w vs) = values_nesting vs + 1
-  nesting (object w ps) = pairs_nesting ps + 1
-  nesting (tag w n v) = nesting v + 1
-  nesting (simple n) = simple_nesting n
-  nesting (float w f) = 0
-
-  pub values_nesting : Values → ℕ
-  values_nesting no_values = 0
-  values_nesting (value v vs) = max (nesting v) (values_nesting vs)
-
-  pub pairs_nesting : Pairs → ℕ
-  pairs_nesting no_pairs = 0
-  pairs_nesting (pair k v ps) = max (max (nesting k) (nesting v)) (pairs_nesting ps)
 
 -- The bytes are an encoding of the value.
 abbrev pub Enc : List ℕ → Value → Type 0
