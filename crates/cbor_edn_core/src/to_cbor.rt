@@ -429,6 +429,36 @@ fn check_literal(alloc: Global, piece: &Piece<'_>) -> Result<(), Fault<Inconsist
 fn push_stream(out: &mut Vec<u8>, strings: &Strings<'_>) -> Result<(), Fault<InconsistentEdn>>
     ensures { Encodes encoding (means (nodes.Stream (trees.items (view_strings texts strings.now)))) out.old.items out.new.items result }
 {
+    match push_chunks(out, strings) {
+        Err(Fault::Told(refused)) => Err(Fault::Told(first_of_stream(strings, refused))),
+        answer => answer,
+    }
+}
+
+/// What is told of a stream without a meaning: first of pieces that no content is known of, since these have no kind either, and
+/// then what stopped its writing.
+fn first_of_stream(strings: &Strings<'_>, refused: InconsistentEdn) -> InconsistentEdn {
+    if have_unsupported(strings) {
+        InconsistentEdn::UnsupportedLiteral
+    } else {
+        refused
+    }
+}
+
+fn have_unsupported(strings: &Strings<'_>) -> bool {
+    for (string, _) in &strings.row {
+        if has_unsupported(string) {
+            return true;
+        }
+    }
+    has_unsupported(&strings.last)
+}
+
+/// Writes the strings of a stream between its head and its end.
+#[cycle(encode)]
+fn push_chunks(out: &mut Vec<u8>, strings: &Strings<'_>) -> Result<(), Fault<InconsistentEdn>>
+    ensures { Encodes encoding (means (nodes.Stream (trees.items (view_strings texts strings.now)))) out.old.items out.new.items result }
+{
     let major = string_major(stream_kind(strings)?);
     push_list_head(out, major, None, 0)?;
     push_parts(out, strings)?;

@@ -70,7 +70,7 @@ fn encodes_strings(rt: HostRuntime) -> Result<(), Fail> {
     Ok(())
 }
 
-const REFUSED: [(&str, &str); 30] = [
+const REFUSED: [(&str, &str); 36] = [
     ("'a'_0 + 'b'", "IndicatorOnPiece"),
     ("e'x'", "UnsupportedLiteral"),
     ("true'x'", "UnsupportedLiteral"),
@@ -103,6 +103,14 @@ const REFUSED: [(&str, &str); 30] = [
     ("(_ \"a\", 'b')", "OtherChunk"),
     // the stream before its strings
     ("(_ \"a\", h'0')", "OtherChunk"),
+    ("(_ \"a\", <<1.0>>)", "OtherChunk"),
+    // of a stream first what has no kind, wherever it stands
+    ("(_ e'', \"\")", "UnsupportedLiteral"),
+    ("(_ \"a\", ...)", "UnsupportedLiteral"),
+    ("(_ \"a\" + e'x', 'b')", "UnsupportedLiteral"),
+    ("(_ h'0', e'x')", "UnsupportedLiteral"),
+    // but what stands in an embedded sequence is not the stream's own
+    ("(_ \"a\", <<e'x'>>)", "OtherChunk"),
 ];
 
 #[test]

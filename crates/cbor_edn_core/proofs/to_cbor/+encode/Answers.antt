@@ -284,20 +284,20 @@ unfolding items
 push_piece-returns-in_ok-push_sequence-in-Embedded t c =
     rw (c.in-Embedded.is, ← c.deref.ensures) (embedded_gathered (items (view_sequence texts c.deref.result.now)) _ c.args.out.now.items c.push_sequence.new.out.items c.in_ok-push_sequence-in-Embedded.ensures)
 
-pub push_stream-returns-in_err-stream_kind : goal.push_stream-returns-in_err-stream_kind
-push_stream-returns-in_err-stream_kind t c =
+pub push_chunks-returns-in_err-stream_kind : goal.push_chunks-returns-in_err-stream_kind
+push_chunks-returns-in_err-stream_kind t c =
     let f = out-StringsOf _ _ _ _ _ _ _ c.args.strings.now in
     let p = err_from_is_err_and c.from_residual.result c.from_residual.ensures.1 in
     let first = has_first (map (seen_string texts) f.row.items) (view_string texts f.last) (soc_bytes f.soc) in
     rw (p.1, p.2) (stream_mixed (items (view_strings texts c.args.strings.now)) c.args.out.now.items c.args.out.now.items c.in_err-stream_kind.field-0.0 (rw (view_strings_is texts c.args.strings.now) first) c.in_err-stream_kind.ensures)
 
-pub push_stream-returns-in_err-push_parts : goal.push_stream-returns-in_err-push_parts
-push_stream-returns-in_err-push_parts t c =
+pub push_chunks-returns-in_err-push_parts : goal.push_chunks-returns-in_err-push_parts
+push_chunks-returns-in_err-push_parts t c =
     let p = err_from_is_err_and c.from_residual-in_err-push_parts.result c.from_residual-in_err-push_parts.ensures.1 in
     rw (p.1, p.2) (stream_stops (items (view_strings texts c.args.strings.now)) c.args.out.now.items c.push_list_head.new.out.items c.push_parts.new.out.items c.push_parts.new.out.items c.in_err-push_parts.field-0.0 c.in_err-push_parts.ensures)
 
-pub push_stream-returns : goal.push_stream-returns
-push_stream-returns t c =
+pub push_chunks-returns : goal.push_chunks-returns
+push_chunks-returns t c =
     let f = out-StringsOf _ _ _ _ _ _ _ c.args.strings.now in
     let first = has_first (map (seen_string texts) f.row.items) (view_string texts f.last) (soc_bytes f.soc) in
     stream_pushed (items (view_strings texts c.args.strings.now)) _ c.args.out.now.items c.push_list_head.new.out.items c.push_parts.new.out.items c.push_list_end.new.out.items (rw (view_strings_is texts c.args.strings.now) first) c.in_ok-stream_kind.ensures
