@@ -1,8 +1,11 @@
 -- What was written, by what was read.
-use Rattle.std.proofs.Common.{◌≡◌, List, ℕ, Option, Some, None, Result, Ok, Err, IfSome, OnOk, IfErr, sym, subst, ◌∙◌, ap, append-nil, ◌++◌}
+use Rattle.std.proofs.Common.{◌≡◌, List, ℕ, Option, Some, None, Result, Ok, Err, IfSome, OnOk, IfErr, sym, subst, ◌∙◌, ap, append-nil, ◌++◌, [], ◌∷◌, refl}
+use Rattle.std.specs.Prelude.{◌≢◌}
+use Rattle.std.proofs.lemmas.List.Elements.{All-nil, All-cons}
+use Rattle.std.proofs.KnownBytes.{Appends-nil}
 use Rattle.std.specs.Io.KnownBytes.{Consumes, IsAtEnd, Appends}
 use Rattle.cbor_edn.specs.Devices.{AppendsBeginning}
-use Rattle.cbor_edn.specs.Runs.{IsOutput, Wrote}
+use Rattle.cbor_edn.specs.Runs.{IsOutput, IsFaultLine, IsTold, Wrote}
 use Rattle.cbor_edn.specs.declared.engine.RunError.{RunError}
 use Rattle.cbor_edn.specs.declared.engine.RunError.TheVariants.{Write}
 
@@ -24,3 +27,14 @@ wrote (Ok _) known left old new bytes out input read all some is made from gone 
 wrote (Err e) known left old new bytes out input read all some is made from gone end =
     let P : RunError → Type 0 = λ e. Wrote (Err e) known old new in
     subst P (sym some.0) (out, of_all known left read input out gone end from made, subst (AppendsBeginning old new) is some.1)
+
+-- where nothing of a line was written
+pub nothing_told : (known : Option (List ℕ)) → IsTold known known
+nothing_told known = (_, (33 ∷ [], λ e. cc, All-cons (λ b. b ≢ 10) 33 [] (λ e. cc) (All-nil (λ b. b ≢ 10)), refl), ([], _, refl, Appends-nil known))
+
+-- a line of which all was written, or a beginning
+pub told : (r : Result (Unit {0}) RunError) (old new : Option (List ℕ)) (bytes line : List ℕ)
+    → OnOk r (Appends old new bytes) → IfErr r (λ e. (e ≡ Write) × AppendsBeginning old new bytes)
+    → bytes ≡ line → IsFaultLine line → IsTold old new
+told (Ok _) old new bytes line all some is fault = (line, fault, (bytes, [], sym is ∙ sym (append-nil bytes), all))
+told (Err e) old new bytes line all some is fault = (line, fault, subst (AppendsBeginning old new) is some.1)

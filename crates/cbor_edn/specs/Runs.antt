@@ -1,5 +1,5 @@
 -- What a run writes, what it answers, and what it leaves.
-use Rattle.std.specs.Prelude.{◌≡◌, ℕ, ◌<◌, ◌≤◌, ◌++◌, ◌∷◌, [], List, codes, Option, Some, None, Result, Ok, Err, IfSome}
+use Rattle.std.specs.Prelude.{◌≡◌, ◌≢◌, ℕ, ◌<◌, ◌≤◌, ◌++◌, ◌∷◌, [], List, All, codes, Option, Some, None, Result, Ok, Err, IfSome}
 use Rattle.std.specs.Str.{IsUtf8}
 use Rattle.std.specs.Io.KnownBytes.{Appends, Keeps}
 use Rattle.cbor_edn_parts.specs.declared.error.Fault.{Fault}
@@ -67,6 +67,26 @@ write_faults (Err (Inconsistent _)) = 0
 write_faults (Err Write) = 1
 write_faults (Err (Memory _)) = 0
 
+-- a run that answers so leaves its source alone once it failed: so many reads succeeded since
+abbrev pub EndsReading : {T : Type 0} → Result T RunError → ℕ → Type 0
+EndsReading (Ok _) since = Unit {0}
+EndsReading (Err Read) since = since ≡ 0
+EndsReading (Err NotUtf8) since = Unit {0}
+EndsReading (Err (Parse _)) since = Unit {0}
+EndsReading (Err (Inconsistent _)) since = Unit {0}
+EndsReading (Err Write) since = Unit {0}
+EndsReading (Err (Memory _)) since = Unit {0}
+
+-- the same of its sink, and writes
+abbrev pub EndsWriting : {T : Type 0} → Result T RunError → ℕ → Type 0
+EndsWriting (Ok _) since = Unit {0}
+EndsWriting (Err Read) since = Unit {0}
+EndsWriting (Err NotUtf8) since = Unit {0}
+EndsWriting (Err (Parse _)) since = Unit {0}
+EndsWriting (Err (Inconsistent _)) since = Unit {0}
+EndsWriting (Err Write) since = since ≡ 0
+EndsWriting (Err (Memory _)) since = Unit {0}
+
 -- a fault of reading
 abbrev pub IsReadFault : RunError → Type 0
 IsReadFault Read = Unit {0}
@@ -81,9 +101,9 @@ abbrev pub status : Result (Unit {0}) RunError → ℕ
 status (Ok _) = 0
 status (Err _) = 1
 
--- the line that tells of a fault in some words
+-- the one line that tells of a fault in some words
 abbrev pub IsFaultLine : List ℕ → Type 0
-IsFaultLine line = (words : List ℕ) × (line ≡ codes "cbor-edn: " ++ (words ++ (10 ∷ [])))
+IsFaultLine line = (words : List ℕ) × (words ≢ []) × All (λ b. b ≢ 10) words × (line ≡ codes "cbor-edn: " ++ (words ++ (10 ∷ [])))
 
 -- a sink took a beginning of such a line, which may be all of it or none of it
 abbrev pub IsTold : Option (List ℕ) → Option (List ℕ) → Type 0

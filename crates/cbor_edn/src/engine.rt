@@ -1,8 +1,8 @@
 //! A whole run: from a reader, through a text in EDN, to a writer.
-ghost use Rattle.std.specs.Prelude.{◌≡◌, ◌+◌, Result, IfOk, OnOk, IfErr, string_bytes};
+ghost use Rattle.std.specs.Prelude.{◌≡◌, ◌+◌, Result, IfOk, OnOk, IfErr, IfSome, string_bytes};
 ghost use Rattle.std.specs.Io.KnownBytes.{IsAtEnd, Appends, Consumes, Keeps};
 ghost use Rattle.cbor_edn.specs.Devices.{AppendsBeginning, FailsAtMostOnce};
-ghost use Rattle.cbor_edn.specs.Runs.{IsOutput, IsRefused, IsReadFault, Wrote, HasReadAll, IsFaultLine, IsTold, read_faults, write_faults, status, told_as};
+ghost use Rattle.cbor_edn.specs.Runs.{IsOutput, IsRefused, IsReadFault, Wrote, HasReadAll, EndsReading, EndsWriting, IsFaultLine, IsTold, read_faults, write_faults, status, told_as};
 ghost use Rattle.cbor_edn.specs.declared.engine.RunError.{RunError};
 ghost use Rattle.cbor_edn.specs.declared.engine.RunError.TheVariants.{Memory, Parse, Inconsistent};
 
@@ -88,6 +88,7 @@ fn read_all<R: Source>(alloc: Global, source: &mut R) -> Result<Vec<u8>, RunErro
     ensures end { OnOk result (IsAtEnd (R.remaining source.new)) }
     ensures kinds { IfErr result IsReadFault }
     ensures counted { R.failures source.new ≡ R.failures source.old + read_faults result }
+    ensures last { EndsReading result (R.since source.new) }
 {
     let mut all = Vec::new(alloc);
     let mut buffer = [0u8; 4096];
@@ -105,6 +106,7 @@ fn write_all<W: Sink>(sink: &mut W, bytes: &[u8]) -> Result<(), RunError>
     ensures ok { OnOk result (Appends (W.contents sink.old) (W.contents sink.new) bytes.now) }
     ensures err { IfErr result (λ e. (e ≡ RunError.Write) × AppendsBeginning (W.contents sink.old) (W.contents sink.new) bytes.now) }
     ensures counted { W.failures sink.new ≡ W.failures sink.old + write_faults result }
+    ensures last { EndsWriting result (W.since sink.new) }
 {
     let mut rest = bytes;
     'turns: while !rest.is_empty() {
@@ -144,26 +146,32 @@ pub fn run<R: Source, W: Sink>(
     ensures end { HasReadAll result → IsAtEnd (R.remaining source.new) }
     ensures read { R.failures source.new ≡ R.failures source.old + read_faults result }
     ensures write { W.failures sink.new ≡ W.failures sink.old + write_faults result }
+    ensures last_read { EndsReading result (R.since source.new) }
+    ensures last_write { EndsWriting result (W.since sink.new) }
 {
     let input = read_all(alloc, source)?;
     let out = output(alloc, options, &input)?;
     write_all(sink, &out)
 }
 
-// The line that tells of a fault.
-fn fault_line(alloc: Global, fault: &RunError) -> Result<String, AllocError>
-    ensures { IfOk result (λ line. IsFaultLine (string_bytes line)) }
+// The line that tells of a fault, as far as there is memory. What `thiserror` writes is not known to proofs, so the words are
+// looked at: they are one line.
+fn fault_line(alloc: Global, fault: &RunError) -> Option<String>
+    ensures { IfSome result (λ line. IsFaultLine (string_bytes line)) }
 {
-    let words = fault.to_string(alloc)?;
-    format!(in alloc; "cbor-edn: {words}\n")
+    let words = fault.to_string(alloc).ok()?;
+    if words.is_empty() || words.as_bytes().contains(&b'\n') {
+        return None;
+    }
+    format!(in alloc; "cbor-edn: {words}\n").ok()
 }
 
 // Tells of a fault, as far as there is memory and the sink takes it.
 fn tell<E: Sink>(alloc: Global, fault: &RunError, errors: &mut E)
     ensures told { IsTold (E.contents errors.old) (E.contents errors.new) }
-    ensures counted { FailsAtMostOnce (E.failures errors.old) (E.failures errors.new) }
+    ensures counted { FailsAtMostOnce (E.failures errors.old) (E.failures errors.new) (E.since errors.new) }
 {
-    if let Ok(line) = fault_line(alloc, fault) {
+    if let Some(line) = fault_line(alloc, fault) {
         let _ = write_all(errors, line.as_bytes());
     }
 }
@@ -183,9 +191,11 @@ pub fn serve<R: Source, W: Sink, E: Sink>(
         × Wrote r (R.remaining source.old) (W.contents sink.old) (W.contents sink.new)
         × (HasReadAll r → IsAtEnd (R.remaining source.new))
         × (R.failures source.new ≡ R.failures source.old + read_faults r)
-        × (W.failures sink.new ≡ W.failures sink.old + write_faults r) }
+        × (W.failures sink.new ≡ W.failures sink.old + write_faults r)
+        × EndsReading r (R.since source.new)
+        × EndsWriting r (W.since sink.new) }
     ensures quiet { result ≡ 0 → Keeps (E.contents errors.old) (E.contents errors.new) × (E.failures errors.new ≡ E.failures errors.old) }
-    ensures told { result ≡ 1 → IsTold (E.contents errors.old) (E.contents errors.new) × FailsAtMostOnce (E.failures errors.old) (E.failures errors.new) }
+    ensures told { result ≡ 1 → IsTold (E.contents errors.old) (E.contents errors.new) × FailsAtMostOnce (E.failures errors.old) (E.failures errors.new) (E.since errors.new) }
 {
     match run(alloc, options, source, sink) {
         Ok(()) => 0,

@@ -20,6 +20,7 @@ struct SlowSource<'a> {
     step: usize,
     calls_before_fault: Option<usize>,
     failed: Count,
+    since: Count,
 }
 
 impl<'a> SlowSource<'a> {
@@ -29,6 +30,7 @@ impl<'a> SlowSource<'a> {
             step,
             calls_before_fault,
             failed: Count::new(),
+            since: Count::new(),
         }
     }
 }
@@ -38,15 +40,19 @@ impl<'a> Source for SlowSource<'a> {
 
     ghost failures = { λ s. s.failed.total };
 
+    ghost since = { λ s. s.since.total };
+
     fn read(&mut self, buffer: &mut [u8]) -> Result<usize, DeviceFault> {
         if counts_down(&mut self.calls_before_fault) {
             self.failed.raise();
+            self.since = Count::new();
             return Err(DeviceFault);
         }
         let n = self.step.min(self.rest.len()).min(buffer.len());
         let (front, rest) = self.rest.split_at(n);
         buffer[..n].copy_from_slice(front);
         self.rest = rest;
+        self.since.raise();
         Ok(n)
     }
 }
@@ -59,6 +65,7 @@ struct SlowSink {
     calls_before_fault: Option<usize>,
     calls: usize,
     failed: Count,
+    since: Count,
 }
 
 impl SlowSink {
@@ -69,6 +76,7 @@ impl SlowSink {
             calls_before_fault,
             calls: 0,
             failed: Count::new(),
+            since: Count::new(),
         }
     }
 }
@@ -78,6 +86,8 @@ impl Sink for SlowSink {
 
     ghost failures = { λ s. s.failed.total };
 
+    ghost since = { λ s. s.since.total };
+
     fn write(&mut self, bytes: &[u8]) -> Result<usize, DeviceFault> {
         self.calls = self.calls.saturating_add(1);
         let n = self.step.min(bytes.len());
@@ -86,8 +96,10 @@ impl Sink for SlowSink {
             || self.taken.extend_from_slice(&bytes[..n]).is_err()
         {
             self.failed.raise();
+            self.since = Count::new();
             return Err(DeviceFault);
         }
+        self.since.raise();
         Ok(n)
     }
 }
