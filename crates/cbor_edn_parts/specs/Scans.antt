@@ -17,8 +17,9 @@ Scans view text (Err r) read = (read ≡ None) × (r.kind ≡ Invalid)
 abbrev pub Lands : {X : Type 0} → List ℕ → ℕ → Result (X × ℕ) Refusal → Type 0
 Lands text at r = MatchResult r (λ p. (at ≤ p.1) × IsCharBoundary text p.1) (λ e. IsCharBoundary text e.at)
 
--- At most `rate` looks a byte and k more, or `failed` more where it is refused, and at least one look a byte.
+-- At most `rate` looks a byte and k more, and at least one look a byte; where it is refused, at most `failed` more than for the
+-- rest of the text, and looks never fall.
 abbrev pub Costs : {X E : Type 0} → ℕ → ℕ → ℕ → List ℕ → ℕ → ℕ → ℕ → Result (X × ℕ) E → Type 0
 Costs rate k failed text at old new r = MatchResult r
     (λ p. (new + rate * at ≤ old + rate * p.1 + k) × (old + p.1 ≤ new + at))
-    (λ _. new + rate * at ≤ old + rate * length text + failed)
+    (λ _. (new + rate * at ≤ old + rate * length text + failed) × (old ≤ new))
