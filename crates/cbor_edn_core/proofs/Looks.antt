@@ -63,4 +63,4 @@ spared_first (x ∷ row) text at from count old first h = omega (arith, h)
 -- what follows a number
 pub costs_ahead : {X E : Type 0} (text : List ℕ) (from at old now new : ℕ) (r : Result (X × End) E) → now + ahead text from + 12 * from ≤ old + 12 * at + 3 → old + at ≤ now + from → CostsEnd 12 0 1 text at now new r → CostsEndAhead 12 4 4 text from old new r
 costs_ahead text from at old now new (Ok p) most least c = (omega (arith, most, c.0), omega (arith, least, c.1))
-costs_ahead text from at old now new (Err e) most least c = omega (arith, most, c)
+costs_ahead text from at old now new (Err e) most least c = (omega (arith, most, c.0), omega (arith, least, c.1))

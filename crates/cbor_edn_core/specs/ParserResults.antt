@@ -48,7 +48,7 @@ Lands text at (Ok p) = (at ≤ p.1) × IsCharBoundary text p.1
 Lands text at (Err e) = IsPlaced text e
 
 -- The same three of a value whose end is told with the space behind it, where that is read: what the reader gives, where the
--- place behind stands, and what the looks cost up to the place that is reached.
+-- place behind stands, and what the looks cost up to the place that is reached. Where it is refused, looks never fall.
 abbrev pub ReadsEnd : {X Y : Type 0} → (X → Y) → List ℕ → Result (X × End) (Fault Refusal) → Read Y → Type 0
 ReadsEnd view text (Ok p) read = read ≡ Ok (view p.0, drop p.1.item text)
 ReadsEnd view text (Err e) read = Fails e read
@@ -59,7 +59,7 @@ LandsEnd text at (Err e) = IsPlaced text e
 
 abbrev pub CostsEnd : {X E : Type 0} → ℕ → ℕ → ℕ → List ℕ → ℕ → ℕ → ℕ → Result (X × End) E → Type 0
 CostsEnd rate k failed text at old new (Ok p) = (new + rate * at + p.1.item ≤ old + rate * p.1.item + reached p.1 + k) × (old + reached p.1 ≤ new + at)
-CostsEnd rate k failed text at old new (Err e) = new + rate * at ≤ old + rate * length text + failed
+CostsEnd rate k failed text at old new (Err e) = (new + rate * at ≤ old + rate * length text + failed) × (old ≤ new)
 
 -- how many looks a word may take that does not stand there: none is longer
 abbrev pub ahead : List ℕ → ℕ → ℕ
@@ -68,11 +68,11 @@ ahead text at = min 9 (length text - at)
 -- The same of what may have been taken for a word: the looks for that come on top.
 abbrev pub CostsEndAhead : {X E : Type 0} → ℕ → ℕ → ℕ → List ℕ → ℕ → ℕ → ℕ → Result (X × End) E → Type 0
 CostsEndAhead rate k failed text at old new (Ok p) = (new + ahead text at + rate * at + p.1.item ≤ old + rate * p.1.item + reached p.1 + k) × (old + reached p.1 ≤ new + at)
-CostsEndAhead rate k failed text at old new (Err e) = new + ahead text at + rate * at ≤ old + rate * length text + failed
+CostsEndAhead rate k failed text at old new (Err e) = (new + ahead text at + rate * at ≤ old + rate * length text + failed) × (old ≤ new)
 
 abbrev pub CostsAhead : {X E : Type 0} → ℕ → ℕ → ℕ → List ℕ → ℕ → ℕ → ℕ → Result (X × ℕ) E → Type 0
 CostsAhead rate k failed text at old new (Ok p) = (new + ahead text at + rate * at ≤ old + rate * p.1 + k) × (old + p.1 ≤ new + at)
-CostsAhead rate k failed text at old new (Err e) = new + ahead text at + rate * at ≤ old + rate * length text + failed
+CostsAhead rate k failed text at old new (Err e) = (new + ahead text at + rate * at ≤ old + rate * length text + failed) × (old ≤ new)
 
 -- This byte stands there, and a character behind it begins.
 abbrev pub IsByteAt : List ℕ → ℕ → ℕ → Type 0
@@ -121,4 +121,4 @@ LandsParted text at (Err e) = IsPlaced text e
 
 abbrev pub CostsParted : {X E : Type 0} → List ℕ → ℕ → ℕ → ℕ → Result (X × Soc × ℕ) E → Type 0
 CostsParted text at old new (Ok p) = (new + at ≤ old + p.2 + 2) × (old + p.2 ≤ new + at)
-CostsParted text at old new (Err e) = new + at ≤ old + length text + 2
+CostsParted text at old new (Err e) = (new + at ≤ old + length text + 2) × (old ≤ new)

@@ -50,6 +50,7 @@ impl<'a> Sequence<'a> {
         ensures refused { IfTold result (Unparsed SpellsSequence NESTING_LIMIT input.now) }
         ensures most { looks.new.count ≤ looks.old.count + 16 * length input.now + 16 }
         ensures least { OnOk result (looks.old.count + length input.now ≤ looks.new.count) }
+        ensures no_fewer { looks.old.count ≤ looks.new.count }
     {
         Sequence::parse_looking(alloc, input, NESTING_LIMIT, looks)
     }
@@ -64,6 +65,7 @@ impl<'a> Sequence<'a> {
         ensures refused { IfTold result (Unparsed SpellsSequence limit input.now) }
         ensures most { looks.new.count ≤ looks.old.count + 16 * length input.now + 16 }
         ensures least { OnOk result (looks.old.count + length input.now ≤ looks.new.count) }
+        ensures no_fewer { looks.old.count ≤ looks.new.count }
     {
         let text = Text::new(input);
         match whole_sequence(alloc, &text, limit, looks) {
@@ -105,6 +107,7 @@ impl<'a> StandaloneItem<'a> {
         ensures refused { IfTold result (Unparsed SpellsOne NESTING_LIMIT input.now) }
         ensures most { looks.new.count ≤ looks.old.count + 16 * length input.now + 16 }
         ensures least { OnOk result (looks.old.count + length input.now ≤ looks.new.count) }
+        ensures no_fewer { looks.old.count ≤ looks.new.count }
     {
         StandaloneItem::parse_looking(alloc, input, NESTING_LIMIT, looks)
     }
@@ -119,6 +122,7 @@ impl<'a> StandaloneItem<'a> {
         ensures refused { IfTold result (Unparsed SpellsOne limit input.now) }
         ensures most { looks.new.count ≤ looks.old.count + 16 * length input.now + 16 }
         ensures least { OnOk result (looks.old.count + length input.now ≤ looks.new.count) }
+        ensures no_fewer { looks.old.count ≤ looks.new.count }
     {
         let text = Text::new(input);
         match whole_standalone(alloc, &text, limit, looks) {
@@ -141,6 +145,7 @@ fn whole_sequence<'a>(
     ensures place { IfErr result (IsPlaced (text_bytes text.now)) }
     ensures most { looks.new.count ≤ looks.old.count + 12 * length (text_bytes text.now) + 12 }
     ensures least { OnOk result (looks.old.count + length (text_bytes text.now) ≤ looks.new.count) }
+    ensures no_fewer { looks.old.count ≤ looks.new.count }
 {
     let (sequence, to) = sequence(alloc, text, text.start(), limit, looks)?;
     ends(text, to)?;
@@ -159,6 +164,7 @@ fn whole_standalone<'a>(
     ensures place { IfErr result (IsPlaced (text_bytes text.now)) }
     ensures most { looks.new.count ≤ looks.old.count + 12 * length (text_bytes text.now) + 12 }
     ensures least { OnOk result (looks.old.count + length (text_bytes text.now) ≤ looks.new.count) }
+    ensures no_fewer { looks.old.count ≤ looks.new.count }
 {
     let (item, to) = standalone(alloc, text, text.start(), limit, looks)?;
     ends(text, to)?;
