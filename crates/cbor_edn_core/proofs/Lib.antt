@@ -48,3 +48,4 @@ pub mod Views
 pub mod Whole
 pub mod Words
 pub mod Forms
+pub mod LayoutExamples

@@ -21,3 +21,4 @@ pub mod Trees
 pub mod Value
 pub mod View
 pub mod Words
+pub mod Layout

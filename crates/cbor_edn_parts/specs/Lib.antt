@@ -21,3 +21,6 @@ pub mod Inside
 pub mod Errors
 pub mod Refusals
 pub mod Laws
+pub mod Comments
+pub mod Spacing
+pub mod Notes

@@ -1,0 +1,84 @@
+-- Delimiter policies, and the table by which they change one space text.
+use Rattle.std.specs.Prelude.{ℕ, List, [], ◌∷◌, ◌++◌, replicate}
+use Rattle.cbor_edn_parts.specs.Comments.{comments_of, before_comma, after_comma}
+
+-- What is to become of the spaces between the tokens of items.
+pub data DelimiterPolicy : Type 0 where
+  -- no comments, and no space but where the grammar wants one
+  DiscardAll : DelimiterPolicy
+  -- the comments, and no space but where the grammar wants one
+  DiscardAllButComments : DelimiterPolicy
+  -- the spaces of a single line, as in `[1, {2: 3}]`
+  SingleLineRegularSpacing : DelimiterPolicy
+  -- What is less than `max_width` bytes wide stands on a single line, all else on lines of its own: the first number is `base_indent`, how
+  -- many spaces such a line begins with, the second `indent_level`, how many more of them each level has, the third `max_width`.
+  IndentedRegularSpacing : ℕ → ℕ → ℕ → DelimiterPolicy
+  -- one space, and the comments, wherever space may be
+  SingleSpace : DelimiterPolicy
+
+-- no indentation at first, then by four spaces, on lines of less than 80 bytes
+abbrev pub indented : DelimiterPolicy
+indented = IndentedRegularSpacing 0 4 80
+
+-- The four kinds of space text between tokens.
+pub data SpaceKind : Type 0 where
+  -- optional space
+  S : SpaceKind
+  -- mandatory space
+  MS : SpaceKind
+  -- a separator: a comma, space, or both
+  MSC : SpaceKind
+  -- space with one comma or none
+  SOC : SpaceKind
+
+-- What is done with a space text: each column of the table below is one.
+pub data Spacing : Type 0 where
+  -- as little as the grammar lets stand
+  Least : Spacing
+  -- the comments alone
+  Comments : Spacing
+  -- the comments, and a space behind each comma
+  OneLine : Spacing
+  -- the comments, on a line of their own that begins with so many spaces
+  NewLine : ℕ → Spacing
+  -- one space, and the comments
+  OneSpace : Spacing
+
+-- a line feed and so many spaces
+unfoldable pub line : ℕ → List ℕ
+line n = 10 ∷ replicate n 32
+
+-- one space in place of nothing
+abbrev pub or_space : List ℕ → List ℕ
+or_space [] = 32 ∷ []
+or_space (c ∷ x) = c ∷ x
+
+-- the comments in front of the comma, and those behind it
+abbrev pub comments_before : List ℕ → List ℕ
+comments_before x = comments_of (before_comma x)
+
+abbrev pub comments_after : List ℕ → List ℕ
+comments_after x = comments_of (after_comma x)
+
+-- The table: comments always stay, but in the first column. A separator has its comma in every column, and the end of a list in none.
+abbrev pub spaced : SpaceKind → Spacing → List ℕ → List ℕ
+spaced S Least x = []
+spaced S Comments x = comments_of x
+spaced S OneLine x = comments_of x
+spaced S (NewLine n) x = line n ++ comments_of x
+spaced S OneSpace x = 32 ∷ comments_of x
+spaced MS Least x = 32 ∷ []
+spaced MS Comments x = or_space (comments_of x)
+spaced MS OneLine x = or_space (comments_of x)
+spaced MS (NewLine n) x = line n ++ comments_of x
+spaced MS OneSpace x = 32 ∷ comments_of x
+spaced MSC Least x = 44 ∷ []
+spaced MSC Comments x = comments_before x ++ (44 ∷ comments_after x)
+spaced MSC OneLine x = comments_before x ++ (44 ∷ 32 ∷ comments_after x)
+spaced MSC (NewLine n) x = comments_before x ++ (44 ∷ (line n ++ comments_after x))
+spaced MSC OneSpace x = 32 ∷ (comments_before x ++ (44 ∷ comments_after x))
+spaced SOC Least x = []
+spaced SOC Comments x = comments_before x ++ comments_after x
+spaced SOC OneLine x = comments_before x ++ comments_after x
+spaced SOC (NewLine n) x = line n ++ (comments_before x ++ comments_after x)
+spaced SOC OneSpace x = 32 ∷ (comments_before x ++ comments_after x)
