@@ -25,3 +25,5 @@ pub mod Literals
 pub mod Escapes
 pub mod Refusals
 pub mod Prefixes
+pub mod Comments
+pub mod Spacings

@@ -24,3 +24,4 @@ pub mod Laws
 pub mod Comments
 pub mod Spacing
 pub mod Notes
+pub mod SpacingLaws

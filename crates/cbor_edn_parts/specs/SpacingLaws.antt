@@ -1,0 +1,24 @@
+-- The laws of the table of spaces, as contracts name them.
+use Rattle.std.specs.Prelude.{ℕ, Bool, true, List, ◌≡◌}
+use Rattle.cbor_edn_parts.specs.SpaceTokens.{is_s, is_ms, is_msc, is_soc}
+use Rattle.cbor_edn_parts.specs.Spacing.{SpaceKind, S, MS, MSC, SOC, Spacing, Least, spaced}
+
+-- whether a text is of a kind
+abbrev pub is_of : SpaceKind → List ℕ → Bool
+is_of S x = is_s x
+is_of MS x = is_ms x
+is_of MSC x = is_msc x
+is_of SOC x = is_soc x
+
+-- every column but the first
+abbrev pub KeepsComments : Spacing → Type 0
+KeepsComments Least = ⊥
+KeepsComments _ = Unit {0}
+
+-- A space text of a kind stays one of its kind.
+abbrev pub StaysOfKind : Type 0
+StaysOfKind = (k : SpaceKind) (c : Spacing) (x : List ℕ) → is_of k x ≡ true → is_of k (spaced k c x) ≡ true
+
+-- What a column that keeps comments makes of a space text, each column changes as it changes the text itself.
+abbrev pub ForgetsColumn : Type 0
+ForgetsColumn = (k : SpaceKind) (c d : Spacing) (x : List ℕ) → KeepsComments d → is_of k x ≡ true → spaced k c (spaced k d x) ≡ spaced k c x
