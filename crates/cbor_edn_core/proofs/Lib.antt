@@ -49,3 +49,4 @@ pub mod Whole
 pub mod Words
 pub mod Forms
 pub mod LayoutExamples
+pub mod Layouts

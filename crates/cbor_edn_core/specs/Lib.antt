@@ -22,3 +22,4 @@ pub mod Value
 pub mod View
 pub mod Words
 pub mod Layout
+pub mod LayoutLaws

@@ -1,0 +1,41 @@
+-- The laws of layouts, as contracts name them.
+use Rattle.std.specs.Prelude.{◌≡◌, ◌⊎◌}
+use Rattle.cbor_edn_parts.specs.Spacing.{DelimiterPolicy, DiscardAll, SingleLineRegularSpacing}
+use Rattle.cbor_edn_core.specs.Items.{Node, Item, Items}
+use Rattle.cbor_edn_core.specs.Spelling.{SpellsOne, SpellsSequence}
+use Rattle.cbor_edn_core.specs.Trees.{Rule, OneItem, Standalone, Seq, Tree, Valid, items, text}
+use Rattle.cbor_edn_core.specs.Value.{Value, Values}
+use Rattle.cbor_edn_core.specs.Decoded.{item_of, items_of, regular, regular_sequence}
+use Rattle.cbor_edn_core.specs.Layout.{laid_out}
+
+-- A policy changes spaces alone, and each of them stays in its set.
+abbrev pub KeepsItems : Type 0
+KeepsItems = (s : Rule) (policy : DelimiterPolicy) (w : Tree s) → items (laid_out policy w) ≡ items w
+
+abbrev pub StaysValid : Type 0
+StaysValid = (s : Rule) (policy : DelimiterPolicy) (w : Tree s) → Valid w → Valid (laid_out policy w)
+
+-- So the text after a policy spells the same items.
+abbrev pub SpellsTheSame : Type 0
+SpellsTheSame =
+    ((policy : DelimiterPolicy) (w : Tree Standalone) → Valid w → SpellsOne (items w) (text (laid_out policy w)))
+    × ((policy : DelimiterPolicy) (w : Tree Seq) → Valid w → SpellsSequence (items w) (text (laid_out policy w)))
+
+-- every policy but the first
+abbrev pub KeepsAllComments : DelimiterPolicy → Type 0
+KeepsAllComments DiscardAll = ⊥
+KeepsAllComments _ = Unit {0}
+
+-- A policy forgets what an earlier one did that kept the comments; the one that discards all forgets every other.
+abbrev pub ForgetsLayout : Type 0
+ForgetsLayout = (s : Rule) (policy earlier : DelimiterPolicy) (w : Tree s) → KeepsAllComments earlier ⊎ (policy ≡ DiscardAll) → Valid w → laid_out policy (laid_out earlier w) ≡ laid_out policy w
+
+-- A policy twice is that policy once.
+abbrev pub SameTwice : Type 0
+SameTwice = (s : Rule) (policy : DelimiterPolicy) (w : Tree s) → Valid w → laid_out policy (laid_out policy w) ≡ laid_out policy w
+
+-- The spaces of decoded items are those of a single line.
+abbrev pub DecodedIsRegular : Type 0
+DecodedIsRegular =
+    ((v : Value) → laid_out SingleLineRegularSpacing (regular (item_of v)) ≡ regular (item_of v))
+    × ((vs : Values) → laid_out SingleLineRegularSpacing (regular_sequence (items_of vs)) ≡ regular_sequence (items_of vs))
