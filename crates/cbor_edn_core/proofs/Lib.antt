@@ -50,3 +50,4 @@ pub mod Words
 pub mod Forms
 pub mod LayoutExamples
 pub mod Layouts
+pub mod RegularLayout
