@@ -196,9 +196,9 @@ comments_only x t h =
     let e : from_first x ≡ from_first (t ++ h.back) = ap from_first h.whole ∙ from_first-blanks (t ++ h.back) h.front_blank in
     ap (to_last within.Between) e
     ∙ ⊎_elim
-      (λ q. ap (λ t. to_last within.Between (from_first (t ++ h.back))) q ∙ (ap (λ x. to_last within.Between (from_first x)) (sym (append-nil h.back)) ∙ (ap (to_last within.Between) (from_first-blanks [] h.back_blank) ∙ sym q)))
-      (λ (b, k). ap (to_last within.Between) (from_begins t h.back b) ∙ to_ends t h.back k h.back_blank)
-      h.trimmed
+    (λ q. ap (λ t. to_last within.Between (from_first (t ++ h.back))) q ∙ (ap (λ x. to_last within.Between (from_first x)) (sym (append-nil h.back)) ∙ (ap (to_last within.Between) (from_first-blanks [] h.back_blank) ∙ sym q)))
+    (λ (b, k). ap (to_last within.Between) (from_begins t h.back b) ∙ to_ends t h.back k h.back_blank)
+    h.trimmed
 
 pub one_comments_of : (x : List ℕ) → OneCommentsOf x
 one_comments_of x s t = (λ h. sym (comments_only x t h), λ e. subst (IsCommentsOf x) (sym e) (comments_is s))

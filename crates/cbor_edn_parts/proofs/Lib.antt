@@ -27,3 +27,4 @@ pub mod Refusals
 pub mod Prefixes
 pub mod Comments
 pub mod Spacings
+pub mod Notes

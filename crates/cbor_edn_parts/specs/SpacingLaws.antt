@@ -1,5 +1,7 @@
 -- The laws of the table of spaces, as contracts name them.
-use Rattle.std.specs.Prelude.{ℕ, Bool, true, List, ◌≡◌}
+use Rattle.std.specs.Prelude.{ℕ, ◌<◌, Bool, true, List, ◌++◌, ◌≡◌, All}
+use Rattle.cbor_edn_parts.specs.Notes.{noted}
+use Rattle.cbor_edn_parts.specs.Space.{IsMs}
 use Rattle.cbor_edn_parts.specs.SpaceTokens.{is_s, is_ms, is_msc, is_soc}
 use Rattle.cbor_edn_parts.specs.Spacing.{SpaceKind, S, MS, MSC, SOC, Spacing, Least, spaced}
 
@@ -22,3 +24,10 @@ StaysOfKind = (k : SpaceKind) (c : Spacing) (x : List ℕ) → is_of k x ≡ tru
 -- What a column that keeps comments makes of a space text, each column changes as it changes the text itself.
 abbrev pub ForgetsColumn : Type 0
 ForgetsColumn = (k : SpaceKind) (c d : Spacing) (x : List ℕ) → KeepsComments d → is_of k x ≡ true → spaced k c (spaced k d x) ≡ spaced k c x
+
+-- The note of a comment is a space text that is not empty, and in front of a space text of a kind it leaves one of this kind.
+abbrev pub NotesAreSpace : Type 0
+NotesAreSpace = (c : List ℕ) → All (λ b. b < 256) c → IsMs (noted c)
+
+abbrev pub NotesInFront : Type 0
+NotesInFront = (k : SpaceKind) (c x : List ℕ) → All (λ b. b < 256) c → is_of k x ≡ true → is_of k (noted c ++ x) ≡ true
