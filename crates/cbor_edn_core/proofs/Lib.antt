@@ -51,3 +51,4 @@ pub mod Forms
 pub mod LayoutExamples
 pub mod Layouts
 pub mod RegularLayout
+pub mod Unmarked

@@ -23,3 +23,6 @@ pub mod View
 pub mod Words
 pub mod Layout
 pub mod LayoutLaws
+pub mod Bare
+pub mod Plain
+pub mod BareLaws
