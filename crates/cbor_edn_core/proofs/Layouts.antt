@@ -133,6 +133,7 @@ chunk_forgets l m h = ⊎_elim (λ keeps. inl (keeps_in m keeps)) (λ least. inr
   keeps_in : (m : Layout) → Keeps m → Keeps (in_chunk m)
   keeps_in (Inline OneLine) k = tt
   keeps_in m k = k
+
   least_in : (l : Layout) → IsLeast l → IsLeast (in_chunk l)
   least_in (Inline Least) h = tt
   least_in _ h = absurd h
@@ -172,8 +173,8 @@ forgotten l m (StringTree w) f v =
     fitted_earlier (λ x. laid l x ≡ fitted l (λ l. StringTree (laid l w))) l m (λ l. StringTree (laid l w)) f (λ n k. fitted_now l n (λ l. StringTree (laid l (laid n w))) (λ l. StringTree (laid l w)) k (λ o g. ap StringTree (forgotten o n w g v)))
 forgotten l m (StreamTree ms w) f v =
     fitted_earlier (λ x. laid l x ≡ fitted l (λ l. StreamTree (respaced MS First l ms) (laid l w))) l m (λ l. StreamTree (respaced MS First l ms) (laid l w)) f
-      (λ n k. fitted_now l n (λ l. StreamTree (respaced MS First l (respaced MS First n ms)) (laid l (laid n w))) (λ l. StreamTree (respaced MS First l ms) (laid l w)) k
-        (λ o g. ap (λ t. StreamTree t (laid o (laid n w))) (space_forgotten MS First o n ms g v.0) ∙ ap (StreamTree (respaced MS First o ms)) (forgotten o n w g v.1)))
+    (λ n k. fitted_now l n (λ l. StreamTree (respaced MS First l (respaced MS First n ms)) (laid l (laid n w))) (λ l. StreamTree (respaced MS First l ms) (laid l w)) k
+    (λ o g. ap (λ t. StreamTree t (laid o (laid n w))) (space_forgotten MS First o n ms g v.0) ∙ ap (StreamTree (respaced MS First o ms)) (forgotten o n w g v.1)))
 forgotten l m (LiteralTree x i) f v = refl
 forgotten l m (DotsTree x) f v = refl
 forgotten l m (EmbeddedTree w i) f v = refl
@@ -185,7 +186,7 @@ forgotten l m (ElementTree w) f v = ap ElementTree (forgotten l m w f v)
 forgotten l m (PairTree k s t w) f v =
     ap (λ a. PairTree a (respaced S Elsewhere l (respaced S Elsewhere m s)) (respaced S AfterColon l (respaced S AfterColon m t)) (laid l (laid m w))) (forgotten l m k f v.0)
     ∙ (ap (λ a. PairTree (laid l k) a (respaced S AfterColon l (respaced S AfterColon m t)) (laid l (laid m w))) (space_forgotten S Elsewhere l m s f v.1)
-      ∙ (ap (λ a. PairTree (laid l k) (respaced S Elsewhere l s) a (laid l (laid m w))) (space_forgotten S AfterColon l m t f v.2) ∙ ap (PairTree (laid l k) (respaced S Elsewhere l s) (respaced S AfterColon l t)) (forgotten l m w f v.3)))
+    ∙ (ap (λ a. PairTree (laid l k) (respaced S Elsewhere l s) a (laid l (laid m w))) (space_forgotten S AfterColon l m t f v.2) ∙ ap (PairTree (laid l k) (respaced S Elsewhere l s) (respaced S AfterColon l t)) (forgotten l m w f v.3)))
 forgotten l m (ChunkTree w) f v = ap ChunkTree (forgotten (in_chunk l) (in_chunk m) w (chunk_forgets l m f) v)
 forgotten l m (EmptyTree i s) f v = ap (EmptyTree i) (space_forgotten S Elsewhere l m s f v)
 forgotten l m (FullTree h s w) f v =

@@ -52,3 +52,4 @@ pub mod LayoutExamples
 pub mod Layouts
 pub mod RegularLayout
 pub mod Unmarked
+pub mod BareItems

@@ -50,9 +50,9 @@ simple_fixed : (n : ℕ) → IsRegular (simple_item n)
 unfolding laid regular from_first to_last in_front behind
 simple_fixed n =
     cond_both (eqb n 20) (Named False) _ IsRegular (λ e. refl)
-      (λ e. cond_both (eqb n 21) (Named True) _ IsRegular (λ e. refl)
-        (λ e. cond_both (eqb n 22) (Named Null) _ IsRegular (λ e. refl)
-          (λ e. cond_both (eqb n 23) (Named Undefined) (Simple (Number (signed_decimal (pos n)) None)) IsRegular (λ e. refl) (λ e. refl))))
+    (λ e. cond_both (eqb n 21) (Named True) _ IsRegular (λ e. refl)
+    (λ e. cond_both (eqb n 22) (Named Null) _ IsRegular (λ e. refl)
+    (λ e. cond_both (eqb n 23) (Named Undefined) (Simple (Number (signed_decimal (pos n)) None)) IsRegular (λ e. refl) (λ e. refl))))
 
 chunks_fixed : (k : StringKind) (cs : List values.Chunk) → Fixed (regular (chunk_items k cs))
 unfolding laid regular
