@@ -53,3 +53,4 @@ pub mod Layouts
 pub mod RegularLayout
 pub mod Unmarked
 pub mod BareItems
+pub mod RegularTrees

@@ -34,8 +34,14 @@ ForgetsLayout = (s : Rule) (policy earlier : DelimiterPolicy) (w : Tree s) → K
 abbrev pub SameTwice : Type 0
 SameTwice = (s : Rule) (policy : DelimiterPolicy) (w : Tree s) → Valid w → laid_out policy (laid_out policy w) ≡ laid_out policy w
 
--- The spaces of decoded items are those of a single line.
+-- The spaces of decoded items are those of a single line: the tree of a value's item stays as it is, and so does every other tree of this
+-- item become it, once its comments are gone.
 abbrev pub DecodedIsRegular : Type 0
 DecodedIsRegular =
     ((v : Value) → laid_out SingleLineRegularSpacing (regular (item_of v)) ≡ regular (item_of v))
     × ((vs : Values) → laid_out SingleLineRegularSpacing (regular_sequence (items_of vs)) ≡ regular_sequence (items_of vs))
+
+abbrev pub OneRegularTree : Type 0
+OneRegularTree =
+    ((v : Value) (w : Tree OneItem) → items w ≡ item_of v → laid_out SingleLineRegularSpacing (laid_out DiscardAll w) ≡ regular (item_of v))
+    × ((vs : Values) (w : Tree Seq) → items w ≡ items_of vs → laid_out SingleLineRegularSpacing (laid_out DiscardAll w) ≡ regular_sequence (items_of vs))
