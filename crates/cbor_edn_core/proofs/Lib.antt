@@ -54,3 +54,5 @@ pub mod RegularLayout
 pub mod Unmarked
 pub mod BareItems
 pub mod RegularTrees
+pub mod CommentedItems
+pub mod BareExamples

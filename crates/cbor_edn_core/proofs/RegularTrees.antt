@@ -50,9 +50,9 @@ chunked_single k (c ∷ cs) = chunks_single k (c ∷ cs)
 simple_single : (n : ℕ) → Single (simple_item n)
 simple_single n =
     cond_both (eqb n 20) (Named False) _ (λ (x : Node Item). Single x) (λ e. tt)
-      (λ e. cond_both (eqb n 21) (Named True) _ (λ (x : Node Item). Single x) (λ e. tt)
-        (λ e. cond_both (eqb n 22) (Named Null) _ (λ (x : Node Item). Single x) (λ e. tt)
-          (λ e. cond_both (eqb n 23) (Named Undefined) (Simple (Number (signed_decimal (pos n)) None)) (λ (x : Node Item). Single x) (λ e. tt) (λ e. tt))))
+    (λ e. cond_both (eqb n 21) (Named True) _ (λ (x : Node Item). Single x) (λ e. tt)
+    (λ e. cond_both (eqb n 22) (Named Null) _ (λ (x : Node Item). Single x) (λ e. tt)
+    (λ e. cond_both (eqb n 23) (Named Undefined) (Simple (Number (signed_decimal (pos n)) None)) (λ (x : Node Item). Single x) (λ e. tt) (λ e. tt))))
 
 mutual
   item_single : (v : Value) → Single (item_of v)

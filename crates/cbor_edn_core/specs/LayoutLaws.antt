@@ -1,5 +1,5 @@
 -- The laws of layouts, as contracts name them.
-use Rattle.std.specs.Prelude.{◌≡◌, ◌⊎◌}
+use Rattle.std.specs.Prelude.{ℕ, List, ◌<◌, ◌≡◌, ◌⊎◌, All}
 use Rattle.cbor_edn_parts.specs.Spacing.{DelimiterPolicy, DiscardAll, SingleLineRegularSpacing}
 use Rattle.cbor_edn_core.specs.Items.{Node, Item, Items}
 use Rattle.cbor_edn_core.specs.Spelling.{SpellsOne, SpellsSequence}
@@ -7,6 +7,7 @@ use Rattle.cbor_edn_core.specs.Trees.{Rule, OneItem, Standalone, Seq, Tree, Vali
 use Rattle.cbor_edn_core.specs.Value.{Value, Values}
 use Rattle.cbor_edn_core.specs.Decoded.{item_of, items_of, regular, regular_sequence}
 use Rattle.cbor_edn_core.specs.Layout.{laid_out}
+use Rattle.cbor_edn_core.specs.Commented.{commented}
 
 -- A policy changes spaces alone, and each of them stays in its set.
 abbrev pub KeepsItems : Type 0
@@ -45,3 +46,10 @@ abbrev pub OneRegularTree : Type 0
 OneRegularTree =
     ((v : Value) (w : Tree OneItem) → items w ≡ item_of v → laid_out SingleLineRegularSpacing (laid_out DiscardAll w) ≡ regular (item_of v))
     × ((vs : Values) (w : Tree Seq) → items w ≡ items_of vs → laid_out SingleLineRegularSpacing (laid_out DiscardAll w) ≡ regular_sequence (items_of vs))
+
+-- A comment in front of an item leaves its items, and is space itself. (The bytes of a text are below 256.)
+abbrev pub CommentKeepsItems : Type 0
+CommentKeepsItems = (c : List ℕ) (w : Tree Standalone) → items (commented c w) ≡ items w
+
+abbrev pub CommentStaysValid : Type 0
+CommentStaysValid = (c : List ℕ) (w : Tree Standalone) → All (λ b. b < 256) c → Valid w → Valid (commented c w)

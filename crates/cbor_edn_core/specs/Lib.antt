@@ -21,6 +21,7 @@ pub mod Trees
 pub mod Value
 pub mod View
 pub mod Words
+pub mod Commented
 pub mod Layout
 pub mod LayoutLaws
 pub mod Bare

@@ -1,5 +1,10 @@
 //! Laws: each function's contract is one, and its body does nothing.
+ghost use Rattle.std.specs.Prelude.{List, ℕ};
+ghost use Rattle.cbor_edn_parts.specs.Comments.{OneCommentsOf, CutAtComma};
+ghost use Rattle.cbor_edn_parts.specs.SpacingLaws.{StaysOfKind, ForgetsColumn, NotesAreSpace, NotesInFront};
+ghost use Rattle.cbor_edn_core.specs.BareLaws.{UnmarkedIsBare, UnmarkedStaysValid, BareMeans};
 ghost use Rattle.cbor_edn_core.specs.CborLaws.{OneEncoding, ItemMeans, SpelledMeans};
+ghost use Rattle.cbor_edn_core.specs.LayoutLaws.{KeepsItems, StaysValid, SpellsTheSame, CommentKeepsItems, CommentStaysValid, ForgetsLayout, SameTwice, DecodedIsRegular, OneRegularTree};
 ghost use Rattle.cbor_edn_core.specs.Laws.{ItemsAndSpaces, SpelledByTrees, UniqueItems, UniqueSpaces};
 ghost use Rattle.cbor_edn_core.specs.Spelling.{Spells, SpellsOne, SpellsSequence};
 ghost use Rattle.cbor_edn_core.specs.Trees.{items, text};
@@ -64,4 +69,43 @@ pub fn item_means()
 /// Whatever is spelled like the item of a value means this value; the same for lists.
 pub fn spelled_means()
     ensures { SpelledMeans }
+{}
+
+/// What the definitions say of one space text: its comments, its comma, and what each column of the table makes of it; and the note of a
+/// comment is space.
+pub fn space_layouts()
+    ensures comments { (text : List ℕ) → OneCommentsOf text }
+    ensures comma { (x y : List ℕ) → CutAtComma x y }
+    ensures kinds { StaysOfKind }
+    ensures columns { ForgetsColumn }
+    ensures notes { NotesAreSpace }
+    ensures in_front { NotesInFront }
+{}
+
+/// A delimiter policy and a comment change spaces alone, and leave each of them in its set, so that the text spells the same items.
+pub fn layouts_keep_items()
+    ensures items { KeepsItems }
+    ensures valid { StaysValid }
+    ensures spelled { SpellsTheSame }
+    ensures comment { CommentKeepsItems }
+    ensures comment_valid { CommentStaysValid }
+{}
+
+/// A policy forgets an earlier one that kept the comments: twice is once.
+pub fn layouts_forget()
+    ensures earlier { ForgetsLayout }
+    ensures twice { SameTwice }
+{}
+
+/// Decoded items have the spaces of a single line.
+pub fn decoded_layout()
+    ensures itself { DecodedIsRegular }
+    ensures every_tree { OneRegularTree }
+{}
+
+/// Removal of indicators leaves the bare items, and where items meant a value these mean one that is the same but for its heads.
+pub fn bare_items()
+    ensures items { UnmarkedIsBare }
+    ensures valid { UnmarkedStaysValid }
+    ensures meaning { BareMeans }
 {}

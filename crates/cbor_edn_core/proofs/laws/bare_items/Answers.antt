@@ -1,0 +1,10 @@
+use Rattle.cbor_edn_core.proofs.Unmarked.{unmarked_is_bare, unmarked_stays_valid}
+use Rattle.cbor_edn_core.proofs.BareItems.{bare_items_mean}
+use Rattle.cbor_edn_core.proofs.laws.bare_items.Goals as goal
+
+pub returns : goal.returns
+returns c = record {
+  items = unmarked_is_bare;
+  valid = unmarked_stays_valid;
+  meaning = bare_items_mean;
+}

@@ -1,0 +1,14 @@
+use Rattle.cbor_edn_parts.proofs.Comments.{one_comments_of, cut_at_comma}
+use Rattle.cbor_edn_parts.proofs.Spacings.{spaced_stays, spaced_forgets}
+use Rattle.cbor_edn_parts.proofs.Notes as parts
+use Rattle.cbor_edn_core.proofs.laws.space_layouts.Goals as goal
+
+pub returns : goal.returns
+returns c = record {
+  comments = one_comments_of;
+  comma = cut_at_comma;
+  kinds = spaced_stays;
+  columns = spaced_forgets;
+  notes = parts.notes_are_space;
+  in_front = parts.notes_in_front;
+}
