@@ -18,8 +18,8 @@ use Rattle.cbor_edn_core.specs.Trees.{Tree, OnePiece, OneString, OneEntry, Rest,
 use Rattle.cbor_edn_core.specs.View.{pieces_onto, entries_onto}
 use Rattle.cbor_edn_core.specs.Value as values
 use Rattle.cbor_edn_core.specs.Value.{chunks, head, string_major, is_content, chunk_encoding, encoding, encodings}
-use Rattle.cbor_edn_core.specs.Meaning.{◌>>=◌, width_of, joined, piece_mark, are_unmarked, pieces_mark, chunk_of, string_of, same_kind, chunks_of, stream_of, means}
-use Rattle.cbor_edn_core.specs.Encoding.{Encodes, Finds, Gathers, NoEncoding, entry_encoding, string_encodings, piece_kind, form_kind, first_kind, kinds_are, stream_kind, no_marks, row_items, list_head, list_end}
+use Rattle.cbor_edn_core.specs.Meaning.{NoEncoding, ◌>>=◌, width_of, joined, piece_mark, are_unmarked, pieces_mark, chunk_of, string_of, same_kind, chunks_of, stream_of, means}
+use Rattle.cbor_edn_core.specs.Encoding.{Encodes, Finds, Gathers, entry_encoding, string_encodings, piece_kind, form_kind, first_kind, kinds_are, stream_kind, no_marks, row_items, list_head, list_end}
 use Rattle.cbor_edn_core.proofs.MeaningSteps.{bind, both_steps, some_if, some_is}
 use Rattle.cbor_edn_core.proofs.Meanings.{given_chunk, string_value, stream_value, chunks_are}
 use Rattle.cbor_edn_core.proofs.StringKinds.{Strings_of, is_or_not, chunk_of_kind, all_of_kind, one_of_other_kind}

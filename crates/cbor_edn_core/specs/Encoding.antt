@@ -12,11 +12,7 @@ use Rattle.cbor_edn_core.specs.Items.{Row, Elements, Pairs, Strings, Bracketed, 
 use Rattle.cbor_edn_core.specs.Trees.{Tree, OnePiece, OneEntry, items}
 use Rattle.cbor_edn_core.specs.Value as values
 use Rattle.cbor_edn_core.specs.Value.{chunk_encoding, head, open_head, break, encoding, encodings, pair_encodings}
-use Rattle.cbor_edn_core.specs.Meaning.{EntryOf, RowOf, piece_mark, same_kind}
-
--- items are refused that mean nothing
-abbrev pub NoEncoding : {X : Type 0} → Option X → InconsistentEdn → Type 0
-NoEncoding meaning e = meaning ≡ None
+use Rattle.cbor_edn_core.specs.Meaning.{NoEncoding, EntryOf, RowOf, piece_mark, same_kind}
 
 -- A call puts the encoding of the meaning behind the bytes that were there, and refuses items that mean nothing, and no others
 -- unless memory runs out. What stands there after a refusal is not said.

@@ -1,6 +1,7 @@
 -- What items mean: a CBOR value, its heads as the encoding indicators say, or nothing.
-use Rattle.std.specs.Prelude.{ℕ, ℤ, pos, negsuc, zero, suc, ◌+◌, ◌^◌, Bool, true, false, List, [], ◌∷◌, ◌++◌, ◌&&◌, is_none, length, Option, Some, None, ◌||◌, nat_le, nat_lt, if◌then◌else◌}
+use Rattle.std.specs.Prelude.{◌≡◌, ℕ, ℤ, pos, negsuc, zero, suc, ◌+◌, ◌^◌, Bool, true, false, List, [], ◌∷◌, ◌++◌, ◌&&◌, is_none, length, Option, Some, None, ◌||◌, nat_le, nat_lt, if◌then◌else◌}
 use Rattle.std.specs.Int.{w128, to_be_bytes}
+use Rattle.cbor_edn_parts.specs.declared.error.InconsistentEdn.{InconsistentEdn}
 use Rattle.cbor_edn_parts.specs.declared.indicator.Indicator.{Indicator}
 use Rattle.cbor_edn_parts.specs.declared.indicator.Indicator.TheVariants as indicator
 use Rattle.cbor_edn_parts.specs.NumberReading.{integer_of}
@@ -230,3 +231,7 @@ means (Pair v w) = means v >>= λ x. means w >>= λ y. Some (x, y)
 means (Chunk w) = means w >>= λ c. pieces_mark w >>= chunk_of c
 means (End {k}) = Some (no_entries k)
 means (Then {k} e m) = means e >>= λ x. means m >>= λ r. Some (one_more k x r)
+
+-- A refusal to encode says that there is no meaning.
+abbrev pub NoEncoding : {X : Type 0} → Option X → InconsistentEdn → Type 0
+NoEncoding meaning e = meaning ≡ None

@@ -7,10 +7,10 @@ ghost use Rattle.cbor_edn_core.specs.Trees as trees;
 ghost use Rattle.cbor_edn_core.specs.View.{texts, view_list, view_items, view_pair_list, view_pairs, view_pair, view_head, view_piece, view_string, view_strings, seen, seen_pair, seen_piece, seen_string, item_tree, standalone_tree, sequence_tree};
 ghost use Rattle.cbor_edn_core.specs.Value.{AreBytes, Value, Values, encoding, encodings, pair_encodings, Enc, EncAll};
 ghost use Rattle.cbor_edn_core.specs.Meaning as meaning;
-ghost use Rattle.cbor_edn_core.specs.Meaning.{means, length_of};
+ghost use Rattle.cbor_edn_core.specs.Meaning.{NoEncoding, means, length_of};
 ghost use Rattle.cbor_edn_parts.specs.Refusals.{IfTold};
 ghost use Rattle.cbor_edn_core.specs.Encoding as calls;
-ghost use Rattle.cbor_edn_core.specs.Encoding.{Encodes, Finds, Gathers, NoEncoding, entry_encoding, string_encodings, row_items, list_head, list_end};
+ghost use Rattle.cbor_edn_core.specs.Encoding.{Encodes, Finds, Gathers, entry_encoding, string_encodings, row_items, list_head, list_end};
 
 use crate::cbor::{
     length_of, push_chunk, push_float, push_integer, push_list_end, push_list_head,
