@@ -1,21 +1,13 @@
 pub mod Borrowed
 pub mod CborLaws
-pub mod CborReading
 pub mod Decoded
-pub mod Encoding
-pub mod Growing
 pub mod Items
 pub mod Labels
 pub mod Leaves
 pub mod Laws
-pub mod Lookahead
 pub mod Marks
 pub mod Meaning
-pub mod ParserResults
 pub mod Parsing
-pub mod Reading
-pub mod Recoding
-pub mod Same
 pub mod Spelling
 pub mod Trees
 pub mod Value
@@ -27,3 +19,4 @@ pub mod LayoutLaws
 pub mod Bare
 pub mod Plain
 pub mod BareLaws
+pub mod code

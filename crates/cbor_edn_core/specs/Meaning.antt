@@ -4,9 +4,9 @@ use Rattle.std.specs.Int.{w128, to_be_bytes}
 use Rattle.cbor_edn_parts.specs.declared.error.InconsistentEdn.{InconsistentEdn}
 use Rattle.cbor_edn_parts.specs.declared.indicator.Indicator.{Indicator}
 use Rattle.cbor_edn_parts.specs.declared.indicator.Indicator.TheVariants as indicator
-use Rattle.cbor_edn_parts.specs.NumberReading.{integer_of}
+use Rattle.cbor_edn_parts.specs.code.NumberReading.{integer_of}
 use Rattle.cbor_edn_parts.specs.Contents.{Content}
-use Rattle.cbor_edn_parts.specs.ContentReading.{literal_content}
+use Rattle.cbor_edn_parts.specs.code.ContentReading.{literal_content}
 use Rattle.cbor_edn_parts.specs.declared.string.StringKind.{StringKind}
 use Rattle.cbor_edn_parts.specs.declared.string.StringKind.TheVariants.{Bytes, Text}
 use Rattle.cbor_edn_core.specs.declared.word.NamedSimple.{NamedSimple}

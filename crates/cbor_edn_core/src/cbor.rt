@@ -5,7 +5,7 @@ ghost use Rattle.cbor_edn_core.specs.Value as values;
 ghost use Rattle.cbor_edn_core.specs.Value.{head, ArgumentFits, LengthFits, chunk_encoding, encoding, limit_of};
 ghost use Rattle.cbor_edn_core.specs.Meaning as meaning;
 ghost use Rattle.cbor_edn_core.specs.Meaning.{shortest, means_integer, tagged, magnitude_bytes};
-ghost use Rattle.cbor_edn_core.specs.Encoding.{Encodes, Finds, list_head, list_end};
+ghost use Rattle.cbor_edn_core.specs.code.Encoding.{Encodes, Finds, list_head, list_end};
 
 use crate::word::{NamedSimple, NonFinite};
 use cbor_edn_parts::error::{Fault, InconsistentEdn};
@@ -354,7 +354,7 @@ fn push_bignum(
     }
 }
 
-#[tactic(auto, using(crate::proofs::Meanings::shortest_fits))]
+#[tactic(auto, using(crate::proofs::meaning::Meanings::shortest_fits))]
 fn push_tagged(out: &mut Vec<u8>, tag: u8, bytes: &[u8]) -> Result<(), AllocError>
     requires { tag < 24 }
     ensures { OnOk result (out.new.items ≡ out.old.items ++ encoding (tagged tag bytes.now)) }

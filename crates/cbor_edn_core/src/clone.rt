@@ -60,7 +60,7 @@ fn clone_spaces<'a>(before: &S<'a>, after: &S<'a>) -> Result<(S<'a>, S<'a>), All
 }
 
 #[cycle(copy)]
-#[tactic(auto, using(crate::proofs::Views::view_string_is))]
+#[tactic(auto, using(crate::proofs::code::Views::view_string_is))]
 fn clone_item<'a>(item: &Item<'a>) -> Result<Item<'a>, AllocError>
     ensures { IfOk result (λ t. item_tree t ≡ item_tree item.now) }
 {
@@ -159,7 +159,7 @@ fn clone_piece<'a>(piece: &Piece<'a>) -> Result<Piece<'a>, AllocError>
 }
 
 #[cycle(copy)]
-#[tactic(auto, using(crate::proofs::Views::view_sequence_is, crate::proofs::Views::view_sequence_made))]
+#[tactic(auto, using(crate::proofs::code::Views::view_sequence_is, crate::proofs::code::Views::view_sequence_made))]
 fn clone_sequence<'a>(sequence: &Sequence<'a>) -> Result<Sequence<'a>, AllocError>
     ensures { IfOk result (λ t. sequence_tree t ≡ sequence_tree sequence.now) }
 {
@@ -180,7 +180,7 @@ fn clone_sequence<'a>(sequence: &Sequence<'a>) -> Result<Sequence<'a>, AllocErro
 }
 
 #[cycle(copy)]
-#[tactic(auto, using(crate::proofs::Views::view_stream_is, crate::proofs::Views::view_stream_made))]
+#[tactic(auto, using(crate::proofs::code::Views::view_stream_is, crate::proofs::code::Views::view_stream_made))]
 fn clone_stream<'a>(stream: &Stream<'a>) -> Result<Stream<'a>, AllocError>
     ensures { IfOk result (λ t. view_stream texts t ≡ view_stream texts stream.now) }
 {
@@ -190,7 +190,7 @@ fn clone_stream<'a>(stream: &Stream<'a>) -> Result<Stream<'a>, AllocError>
 }
 
 #[cycle(copy)]
-#[tactic(auto, using(crate::proofs::Views::view_strings_is, crate::proofs::Views::view_strings_made))]
+#[tactic(auto, using(crate::proofs::code::Views::view_strings_is, crate::proofs::code::Views::view_strings_made))]
 fn clone_strings<'a>(strings: &Strings<'a>) -> Result<Strings<'a>, AllocError>
     ensures { IfOk result (λ t. view_strings texts t ≡ view_strings texts strings.now) }
 {
@@ -237,7 +237,7 @@ fn clone_list<'a>(list: &ItemList<'a>) -> Result<ItemList<'a>, AllocError>
 }
 
 #[cycle(copy)]
-#[tactic(auto, using(crate::proofs::Views::view_items_is, crate::proofs::Views::view_items_made))]
+#[tactic(auto, using(crate::proofs::code::Views::view_items_is, crate::proofs::code::Views::view_items_made))]
 fn clone_items<'a>(items: &Items<'a>) -> Result<Items<'a>, AllocError>
     ensures { IfOk result (λ t. view_items texts t ≡ view_items texts items.now) }
 {
@@ -282,7 +282,7 @@ fn clone_pair_list<'a>(list: &PairList<'a>) -> Result<PairList<'a>, AllocError>
 }
 
 #[cycle(copy)]
-#[tactic(auto, using(crate::proofs::Views::view_pairs_is, crate::proofs::Views::view_pairs_made))]
+#[tactic(auto, using(crate::proofs::code::Views::view_pairs_is, crate::proofs::code::Views::view_pairs_made))]
 fn clone_pairs<'a>(pairs: &Pairs<'a>) -> Result<Pairs<'a>, AllocError>
     ensures { IfOk result (λ t. view_pairs texts t ≡ view_pairs texts pairs.now) }
 {

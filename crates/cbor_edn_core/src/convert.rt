@@ -48,7 +48,7 @@ impl<'a> Item<'a> {
         })
     }
 
-    #[tactic(auto, using(crate::proofs::Views::view_string_is, crate::proofs::Borrows::borrows_string_made))]
+    #[tactic(auto, using(crate::proofs::code::Views::view_string_is, crate::proofs::code::Borrows::borrows_string_made))]
     pub(crate) fn string(alloc: Global, string: CborString<'a>) -> Result<Item<'a>, AllocError>
         ensures view { IfOk result (λ t. item_tree t ≡ StringTree (view_string texts string.entry)) }
         ensures borrowed { BorrowsString string.entry → IfOk result BorrowsItem }

@@ -1,6 +1,6 @@
 //! Whether two trees are written the same, spaces included.
 ghost use Rattle.std.specs.Prelude.{◌≡◌, ◌↔◌, IsTrue, map};
-ghost use Rattle.cbor_edn_core.specs.Same.{same, same_indicator, same_word, same_named, same_float, same_label, same_head, same_entries, same_pieces, same_laws};
+ghost use Rattle.cbor_edn_core.specs.code.Same.{same, same_indicator, same_word, same_named, same_float, same_label, same_head, same_entries, same_pieces, same_laws};
 ghost use Rattle.cbor_edn_core.specs.View.{texts, view_head, view_list, view_items, seen, view_pair_list, view_pairs, view_pair, seen_pair, view_string, view_piece, seen_piece, view_stream, view_strings, seen_string, item_tree, standalone_tree, sequence_tree};
 
 use crate::tree::{
@@ -138,7 +138,7 @@ fn same_standalone(a: &StandaloneItem<'_>, b: &StandaloneItem<'_>) -> bool
 }
 
 #[cycle(same)]
-#[tactic(auto, using(crate::proofs::Rows::same_strings))]
+#[tactic(auto, using(crate::proofs::code::Rows::same_strings))]
 fn same_string(a: &CborString<'_>, b: &CborString<'_>) -> bool
     ensures { result ≡ same (view_string texts a.now) (view_string texts b.now) }
 {
@@ -146,7 +146,7 @@ fn same_string(a: &CborString<'_>, b: &CborString<'_>) -> bool
 }
 
 #[cycle(same)]
-#[tactic(auto, using(crate::proofs::Rows::pieces_as_long))]
+#[tactic(auto, using(crate::proofs::code::Rows::pieces_as_long))]
 fn same_piece_row(a: &[(Piece<'_>, S<'_>, S<'_>)], b: &[(Piece<'_>, S<'_>, S<'_>)]) -> bool
     ensures { result ≡ same_pieces (map (seen_piece texts) a.now) (map (seen_piece texts) b.now) }
 {
@@ -178,7 +178,7 @@ fn same_piece(a: &Piece<'_>, b: &Piece<'_>) -> bool
 }
 
 #[cycle(same)]
-#[tactic(auto, using(crate::proofs::Views::view_sequence_is))]
+#[tactic(auto, using(crate::proofs::code::Views::view_sequence_is))]
 fn same_sequence(a: &Sequence<'_>, b: &Sequence<'_>) -> bool
     ensures { result ≡ same (sequence_tree a.now) (sequence_tree b.now) }
 {
@@ -190,7 +190,7 @@ fn same_sequence(a: &Sequence<'_>, b: &Sequence<'_>) -> bool
 }
 
 #[cycle(same)]
-#[tactic(auto, using(crate::proofs::Views::view_stream_is))]
+#[tactic(auto, using(crate::proofs::code::Views::view_stream_is))]
 fn same_stream(a: &Stream<'_>, b: &Stream<'_>) -> bool
     ensures { result ≡ same (view_stream texts a.now) (view_stream texts b.now) }
 {
@@ -198,7 +198,7 @@ fn same_stream(a: &Stream<'_>, b: &Stream<'_>) -> bool
 }
 
 #[cycle(same)]
-#[tactic(auto, using(crate::proofs::Views::view_strings_is, crate::proofs::Rows::same_lists))]
+#[tactic(auto, using(crate::proofs::code::Views::view_strings_is, crate::proofs::code::Rows::same_lists))]
 fn same_strings(a: &Strings<'_>, b: &Strings<'_>) -> bool
     ensures { result ≡ same (view_strings texts a.now) (view_strings texts b.now) }
 {
@@ -206,7 +206,7 @@ fn same_strings(a: &Strings<'_>, b: &Strings<'_>) -> bool
 }
 
 #[cycle(same)]
-#[tactic(auto, using(crate::proofs::Rows::rows_as_long))]
+#[tactic(auto, using(crate::proofs::code::Rows::rows_as_long))]
 fn same_string_row(a: &[(CborString<'_>, Msc<'_>)], b: &[(CborString<'_>, Msc<'_>)]) -> bool
     ensures { result ≡ same_entries (map (seen_string texts) a.now) (map (seen_string texts) b.now) }
 {
@@ -248,7 +248,7 @@ fn same_list(a: &ItemList<'_>, b: &ItemList<'_>) -> bool
 }
 
 #[cycle(same)]
-#[tactic(auto, using(crate::proofs::Views::view_items_is, crate::proofs::Rows::same_lists))]
+#[tactic(auto, using(crate::proofs::code::Views::view_items_is, crate::proofs::code::Rows::same_lists))]
 fn same_items(a: &Items<'_>, b: &Items<'_>) -> bool
     ensures { result ≡ same (view_items texts a.now) (view_items texts b.now) }
 {
@@ -256,7 +256,7 @@ fn same_items(a: &Items<'_>, b: &Items<'_>) -> bool
 }
 
 #[cycle(same)]
-#[tactic(auto, using(crate::proofs::Rows::rows_as_long))]
+#[tactic(auto, using(crate::proofs::code::Rows::rows_as_long))]
 fn same_row(a: &[(Item<'_>, Msc<'_>)], b: &[(Item<'_>, Msc<'_>)]) -> bool
     ensures { result ≡ same_entries (map (seen texts) a.now) (map (seen texts) b.now) }
 {
@@ -298,7 +298,7 @@ fn same_pair_list(a: &PairList<'_>, b: &PairList<'_>) -> bool
 }
 
 #[cycle(same)]
-#[tactic(auto, using(crate::proofs::Views::view_pairs_is, crate::proofs::Rows::same_lists))]
+#[tactic(auto, using(crate::proofs::code::Views::view_pairs_is, crate::proofs::code::Rows::same_lists))]
 fn same_pairs(a: &Pairs<'_>, b: &Pairs<'_>) -> bool
     ensures { result ≡ same (view_pairs texts a.now) (view_pairs texts b.now) }
 {
@@ -306,7 +306,7 @@ fn same_pairs(a: &Pairs<'_>, b: &Pairs<'_>) -> bool
 }
 
 #[cycle(same)]
-#[tactic(auto, using(crate::proofs::Rows::rows_as_long))]
+#[tactic(auto, using(crate::proofs::code::Rows::rows_as_long))]
 fn same_pair_row(a: &[(Kp<'_>, Msc<'_>)], b: &[(Kp<'_>, Msc<'_>)]) -> bool
     ensures { result ≡ same_entries (map (seen_pair texts) a.now) (map (seen_pair texts) b.now) }
 {
@@ -335,7 +335,7 @@ fn same_pair(a: &Kp<'_>, b: &Kp<'_>) -> bool
 
 impl<'a> Item<'a> {
     /// Whether the items are the same and are written the same, as `==` tests.
-    #[tactic(auto, using(crate::specs::Same::same_are, crate::specs::Same::same_if))]
+    #[tactic(auto, using(crate::specs::code::Same::same_are, crate::specs::code::Same::same_if))]
     pub fn is_same(&self, other: &Item<'a>) -> bool
         ensures { IsTrue result ↔ (item_tree self.now ≡ item_tree other.now) }
     {
@@ -354,7 +354,7 @@ impl<'a> StandaloneItem<'a> {
 
 impl<'a> Sequence<'a> {
     /// Whether the items and the spaces round them are written the same, as `==` tests.
-    #[tactic(auto, using(crate::specs::Same::same_are, crate::specs::Same::same_if))]
+    #[tactic(auto, using(crate::specs::code::Same::same_are, crate::specs::code::Same::same_if))]
     pub fn is_same(&self, other: &Sequence<'a>) -> bool
         ensures { IsTrue result ↔ (sequence_tree self.now ≡ sequence_tree other.now) }
     {

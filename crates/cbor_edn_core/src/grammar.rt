@@ -6,15 +6,15 @@
 //! (`specs/Reading.antt`), and all that is said of the grammar is said of that reader.
 ghost use Rattle.std.specs.Prelude.{◌≡◌, ◌≤◌, ◌+◌, ◌∷◌, ◌<◌, None, true, [], length, drop, OnOk, IfOk, IfErr};
 ghost use Rattle.std.specs.Str.{IsCharBoundary};
-ghost use Rattle.cbor_edn_parts.specs.Ends.{IsEnd, reached};
-ghost use Rattle.cbor_edn_parts.specs.Scans.{Costs};
+ghost use Rattle.cbor_edn_parts.specs.code.Ends.{IsEnd, reached};
+ghost use Rattle.cbor_edn_parts.specs.code.Scans.{Costs};
 ghost use Rattle.cbor_edn_parts.specs.Leaves.{soc_bytes, s_bytes, BorrowsS, BorrowsSoc};
 ghost use Rattle.cbor_edn_parts.specs.Refusals.{IfTold};
-ghost use Rattle.cbor_edn_parts.specs.Text.{text_bytes};
+ghost use Rattle.cbor_edn_parts.specs.code.Text.{text_bytes};
 ghost use Rattle.cbor_edn_core.specs.Borrowed.{BorrowsItem, BorrowsList, BorrowsItems, BorrowsPair, BorrowsPairList, BorrowsPairs, BorrowsPiece, BorrowsString, BorrowsStream, BorrowsStrings, BorrowsSequence, BorrowsStandalone};
 ghost use Rattle.cbor_edn_core.specs.Items.{Elements, Pairs as Keyed, Strings as Chunks, Array as Bracket, Map as Brace};
-ghost use Rattle.cbor_edn_core.specs.ParserResults.{Reads, Lands, ReadsEnd, LandsEnd, CostsEnd, CostsEndAhead, CostsAhead, IsPushed, IsByteAt, IsUnclosed, behind_colon, Parts, LandsParted, CostsParted};
-ghost use Rattle.cbor_edn_core.specs.Reading.{reads, number_item, word_item, enclosed_item, stream_item, starts_string, word_at};
+ghost use Rattle.cbor_edn_core.specs.code.ParserResults.{Reads, Lands, ReadsEnd, LandsEnd, CostsEnd, CostsEndAhead, CostsAhead, IsPushed, IsByteAt, IsUnclosed, behind_colon, Parts, LandsParted, CostsParted};
+ghost use Rattle.cbor_edn_core.specs.code.Reading.{reads, number_item, word_item, enclosed_item, stream_item, starts_string, word_at};
 ghost use Rattle.cbor_edn_core.specs.Trees.{OneItem, OnePiece, OneString, OneEntry, Inside, Rest, Seq, Standalone};
 ghost use Rattle.cbor_edn_core.specs.View.{texts, item_tree, view_list, view_items, view_pair, view_pair_list, view_pairs, view_piece, view_string, view_stream, view_strings, sequence_tree, standalone_tree};
 

@@ -13,27 +13,27 @@ ghost use Rattle.cbor_edn_core.specs.View.{item_tree, standalone_tree, sequence_
 use crate::tree::{Item, Sequence, StandaloneItem};
 
 /// A text spells at most one list of items, and has one tree.
-#[tactic(auto, using(crate::proofs::GrammarLaws::unique_items, crate::proofs::GrammarLaws::unique_spaces))]
+#[tactic(auto, using(crate::proofs::text::GrammarLaws::unique_items, crate::proofs::text::GrammarLaws::unique_spaces))]
 pub fn unique_reading()
     ensures items { UniqueItems }
     ensures spaces { UniqueSpaces }
 {}
 
 /// What a text spells are the items of a tree with that text, and what a tree's text spells are its items.
-#[tactic(auto, using(crate::proofs::GrammarLaws::spelled_by_trees))]
+#[tactic(auto, using(crate::proofs::text::GrammarLaws::spelled_by_trees))]
 pub fn spelled_by_trees()
     ensures { SpelledByTrees }
 {}
 
 /// Trees are the same exactly where their items are the same and their spaces are: what `==` and `clone` promise of trees, they
 /// promise of these two.
-#[tactic(auto, using(crate::proofs::ItemsAndSpaces::items_and_spaces))]
+#[tactic(auto, using(crate::proofs::text::ItemsAndSpaces::items_and_spaces))]
 pub fn items_and_spaces()
     ensures { ItemsAndSpaces }
 {}
 
 /// However an item was made, its text spells it: known without memory, which printing takes.
-#[tactic(auto, using(crate::proofs::Printable::item_spelled))]
+#[tactic(auto, using(crate::proofs::code::Printable::item_spelled))]
 pub fn item_spells(item: &Item<'_>)
     ensures { Spells (items (item_tree item.now)) (text (item_tree item.now)) }
 {
@@ -41,7 +41,7 @@ pub fn item_spells(item: &Item<'_>)
 }
 
 /// The same of an item with the spaces round it.
-#[tactic(auto, using(crate::proofs::Printable::standalone_spelled))]
+#[tactic(auto, using(crate::proofs::code::Printable::standalone_spelled))]
 pub fn standalone_spells(item: &StandaloneItem<'_>)
     ensures { SpellsOne (items (standalone_tree item.now)) (text (standalone_tree item.now)) }
 {
@@ -49,7 +49,7 @@ pub fn standalone_spells(item: &StandaloneItem<'_>)
 }
 
 /// The same of a sequence.
-#[tactic(auto, using(crate::proofs::Printable::sequence_spelled))]
+#[tactic(auto, using(crate::proofs::code::Printable::sequence_spelled))]
 pub fn sequence_spells(sequence: &Sequence<'_>)
     ensures { SpellsSequence (items (sequence_tree sequence.now)) (text (sequence_tree sequence.now)) }
 {

@@ -3,7 +3,7 @@ ghost use Rattle.std.specs.Prelude.{◌≡◌, ◌+◌, ◌-◌, ◌^◌, ◌<�
 ghost use Rattle.std.specs.Str.{IsCharBoundary};
 ghost use Rattle.cbor_edn_parts.specs.Errors.{error_kind, error_offset, error_line, error_column};
 ghost use Rattle.cbor_edn_parts.specs.Place.{IsPlace, place_behind};
-ghost use Rattle.cbor_edn_parts.specs.Text.{text_bytes};
+ghost use Rattle.cbor_edn_parts.specs.code.Text.{text_bytes};
 
 use cbor_edn_parts::error::{ParseError, Refusal};
 use cbor_edn_parts::looks::Looks;

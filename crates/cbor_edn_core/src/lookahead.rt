@@ -2,13 +2,13 @@
 ghost use Rattle.std.specs.Prelude.{◌≡◌, ◌≢◌, ◌+◌, ◌-◌, ◌<◌, ◌≤◌, ◌∷◌, [], true, false, length, take, drop, All, OnOk, IfErr, IfSome, IfNone, Ok, Err, Some, None};
 ghost use Rattle.std.specs.Str.{IsCharBoundary};
 ghost use Rattle.cbor_edn_parts.specs.Bytes.{is_closed, closing, kind};
-ghost use Rattle.cbor_edn_parts.specs.Text.{text_bytes};
+ghost use Rattle.cbor_edn_parts.specs.code.Text.{text_bytes};
 ghost use Rattle.cbor_edn_parts.specs.Leaves.{s_bytes, BorrowsS};
 ghost use Rattle.cbor_edn_core.specs.Borrowed.{BorrowsHead};
-ghost use Rattle.cbor_edn_core.specs.ParserResults.{IsNotAt, IsByteAt, ahead};
-ghost use Rattle.cbor_edn_core.specs.Lookahead.{Opens, OpensWith, Looked, digit_in_front};
-ghost use Rattle.cbor_edn_core.specs.Reading as reading;
-ghost use Rattle.cbor_edn_core.specs.Reading.{head_of};
+ghost use Rattle.cbor_edn_core.specs.code.ParserResults.{IsNotAt, IsByteAt, ahead};
+ghost use Rattle.cbor_edn_core.specs.code.Lookahead.{Opens, OpensWith, Looked, digit_in_front};
+ghost use Rattle.cbor_edn_core.specs.code.Reading as reading;
+ghost use Rattle.cbor_edn_core.specs.code.Reading.{head_of};
 ghost use Rattle.cbor_edn_core.specs.Trees as trees;
 ghost use Rattle.cbor_edn_core.specs.View.{texts, view_head};
 ghost use Rattle.cbor_edn_parts.specs.declared.error.ParseErrorKind.TheVariants.{Invalid};

@@ -1,9 +1,9 @@
 //! The public calls that read a text.
 ghost use Rattle.std.specs.Prelude.{◌≤◌, ◌+◌, ◌*◌, length, IfOk, IfErr, OnOk};
 ghost use Rattle.cbor_edn_core.specs.Borrowed.{BorrowsSequence, BorrowsStandalone};
-ghost use Rattle.cbor_edn_parts.specs.Text.{text_bytes};
-ghost use Rattle.cbor_edn_core.specs.ParserResults.{Gives, IsPlaced};
-ghost use Rattle.cbor_edn_core.specs.Reading.{reads_all};
+ghost use Rattle.cbor_edn_parts.specs.code.Text.{text_bytes};
+ghost use Rattle.cbor_edn_core.specs.code.ParserResults.{Gives, IsPlaced};
+ghost use Rattle.cbor_edn_core.specs.code.Reading.{reads_all};
 ghost use Rattle.cbor_edn_core.specs.Parsing.{ParsedSequence, ParsedStandalone, Unparsed};
 ghost use Rattle.cbor_edn_parts.specs.Refusals.{IfTold};
 ghost use Rattle.cbor_edn_core.specs.Spelling.{SpellsOne, SpellsSequence};

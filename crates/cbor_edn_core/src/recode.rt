@@ -7,7 +7,7 @@ ghost use Rattle.cbor_edn_core.specs.View.{sequence_tree};
 ghost use Rattle.cbor_edn_core.specs.Value.{Values, EncAll};
 ghost use Rattle.cbor_edn_core.specs.Meaning.{means};
 ghost use Rattle.cbor_edn_core.specs.Decoded.{NoSequence, IsTooDeepSequence};
-ghost use Rattle.cbor_edn_core.specs.Recoding.{IsTextOf};
+ghost use Rattle.cbor_edn_core.specs.code.Recoding.{IsTextOf};
 
 use crate::from_cbor::CborError;
 use crate::tree::{NESTING_LIMIT, Sequence};

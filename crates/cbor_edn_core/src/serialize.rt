@@ -50,7 +50,7 @@ impl Sequence<'_> {
 }
 
 #[cycle(push)]
-#[tactic(auto, using(crate::proofs::Views::view_sequence_is, crate::proofs::Texts::text_nothing, crate::proofs::Texts::text_sequence, std::proofs::Common::append_assoc))]
+#[tactic(auto, using(crate::proofs::code::Views::view_sequence_is, crate::proofs::code::Texts::text_nothing, crate::proofs::code::Texts::text_sequence, std::proofs::Common::append_assoc))]
 fn push_sequence(out: &mut String, sequence: &Sequence<'_>) -> Result<(), AllocError>
     ensures { OnOk result (string_bytes out.new ≡ string_bytes out.old ++ text (sequence_tree sequence.now)) }
 {
@@ -62,7 +62,7 @@ fn push_sequence(out: &mut String, sequence: &Sequence<'_>) -> Result<(), AllocE
 }
 
 #[cycle(push)]
-#[tactic(auto, using(crate::proofs::Texts::text_standalone, std::proofs::Common::append_assoc))]
+#[tactic(auto, using(crate::proofs::code::Texts::text_standalone, std::proofs::Common::append_assoc))]
 fn push_standalone(out: &mut String, item: &StandaloneItem<'_>) -> Result<(), AllocError>
     ensures { OnOk result (string_bytes out.new ≡ string_bytes out.old ++ text (standalone_tree item.now)) }
 {
@@ -105,7 +105,7 @@ fn push_head(out: &mut String, head: &Option<(Indicator, Ms<'_>)>) -> Result<(),
 }
 
 #[cycle(push)]
-#[tactic(auto, using(crate::proofs::Views::view_string_is, crate::proofs::Texts::text_number, crate::proofs::Texts::text_float, crate::proofs::Texts::text_named, crate::proofs::Texts::text_enclosed, crate::proofs::Texts::text_list, crate::proofs::Texts::text_string, std::proofs::Common::append_assoc))]
+#[tactic(auto, using(crate::proofs::code::Views::view_string_is, crate::proofs::code::Texts::text_number, crate::proofs::code::Texts::text_float, crate::proofs::code::Texts::text_named, crate::proofs::code::Texts::text_enclosed, crate::proofs::code::Texts::text_list, crate::proofs::code::Texts::text_string, std::proofs::Common::append_assoc))]
 fn push_item(out: &mut String, item: &Item<'_>) -> Result<(), AllocError>
     ensures { OnOk result (string_bytes out.new ≡ string_bytes out.old ++ text (item_tree item.now)) }
 {
@@ -141,7 +141,7 @@ fn push_item(out: &mut String, item: &Item<'_>) -> Result<(), AllocError>
 }
 
 #[cycle(push)]
-#[tactic(auto, using(crate::proofs::Texts::text_pieces, crate::proofs::Texts::text_last_piece, std::proofs::Common::append_assoc))]
+#[tactic(auto, using(crate::proofs::code::Texts::text_pieces, crate::proofs::code::Texts::text_last_piece, std::proofs::Common::append_assoc))]
 fn push_string(out: &mut String, string: &CborString<'_>) -> Result<(), AllocError>
     ensures { OnOk result (string_bytes out.new ≡ string_bytes out.old ++ text (view_string texts string.now)) }
 {
@@ -163,7 +163,7 @@ fn push_piece_row(out: &mut String, row: &[(Piece<'_>, S<'_>, S<'_>)]) -> Result
 }
 
 #[cycle(push)]
-#[tactic(auto, using(crate::proofs::Texts::text_literal, crate::proofs::Texts::text_dots, crate::proofs::Texts::text_embedded, std::proofs::Common::append_assoc))]
+#[tactic(auto, using(crate::proofs::code::Texts::text_literal, crate::proofs::code::Texts::text_dots, crate::proofs::code::Texts::text_embedded, std::proofs::Common::append_assoc))]
 fn push_piece(out: &mut String, piece: &Piece<'_>) -> Result<(), AllocError>
     ensures { OnOk result (string_bytes out.new ≡ string_bytes out.old ++ text (view_piece texts piece.now)) }
 {
@@ -183,7 +183,7 @@ fn push_piece(out: &mut String, piece: &Piece<'_>) -> Result<(), AllocError>
 }
 
 #[cycle(push)]
-#[tactic(auto, using(crate::proofs::Views::view_stream_is, crate::proofs::Texts::text_stream, std::proofs::Common::append_assoc))]
+#[tactic(auto, using(crate::proofs::code::Views::view_stream_is, crate::proofs::code::Texts::text_stream, std::proofs::Common::append_assoc))]
 fn push_stream(out: &mut String, stream: &Stream<'_>) -> Result<(), AllocError>
     ensures { OnOk result (string_bytes out.new ≡ string_bytes out.old ++ text (view_stream texts stream.now)) }
 {
@@ -194,7 +194,7 @@ fn push_stream(out: &mut String, stream: &Stream<'_>) -> Result<(), AllocError>
 }
 
 #[cycle(push)]
-#[tactic(auto, using(crate::proofs::Views::view_strings_is, crate::proofs::Texts::text_entries, crate::proofs::Texts::text_last, crate::proofs::Texts::text_chunk, std::proofs::Common::append_assoc))]
+#[tactic(auto, using(crate::proofs::code::Views::view_strings_is, crate::proofs::code::Texts::text_entries, crate::proofs::code::Texts::text_last, crate::proofs::code::Texts::text_chunk, std::proofs::Common::append_assoc))]
 fn push_strings(out: &mut String, strings: &Strings<'_>) -> Result<(), AllocError>
     ensures { OnOk result (string_bytes out.new ≡ string_bytes out.old ++ text (view_strings texts strings.now)) }
 {
@@ -216,7 +216,7 @@ fn push_string_row(out: &mut String, row: &[(CborString<'_>, Msc<'_>)]) -> Resul
 }
 
 #[cycle(push)]
-#[tactic(auto, using(crate::proofs::Texts::text_empty, crate::proofs::Texts::text_full, std::proofs::Common::append_assoc))]
+#[tactic(auto, using(crate::proofs::code::Texts::text_empty, crate::proofs::code::Texts::text_full, std::proofs::Common::append_assoc))]
 fn push_list(out: &mut String, list: &ItemList<'_>) -> Result<(), AllocError>
     ensures { OnOk result (string_bytes out.new ≡ string_bytes out.old ++ text (view_list texts list.now)) }
 {
@@ -234,7 +234,7 @@ fn push_list(out: &mut String, list: &ItemList<'_>) -> Result<(), AllocError>
 }
 
 #[cycle(push)]
-#[tactic(auto, using(crate::proofs::Views::view_items_is, crate::proofs::Texts::text_entries, crate::proofs::Texts::text_last, crate::proofs::Texts::text_element, std::proofs::Common::append_assoc))]
+#[tactic(auto, using(crate::proofs::code::Views::view_items_is, crate::proofs::code::Texts::text_entries, crate::proofs::code::Texts::text_last, crate::proofs::code::Texts::text_element, std::proofs::Common::append_assoc))]
 fn push_items(out: &mut String, items: &Items<'_>) -> Result<(), AllocError>
     ensures { OnOk result (string_bytes out.new ≡ string_bytes out.old ++ text (view_items texts items.now)) }
 {
@@ -256,7 +256,7 @@ fn push_row(out: &mut String, row: &[(Item<'_>, Msc<'_>)]) -> Result<(), AllocEr
 }
 
 #[cycle(push)]
-#[tactic(auto, using(crate::proofs::Texts::text_empty, crate::proofs::Texts::text_full, std::proofs::Common::append_assoc))]
+#[tactic(auto, using(crate::proofs::code::Texts::text_empty, crate::proofs::code::Texts::text_full, std::proofs::Common::append_assoc))]
 fn push_pair_list(out: &mut String, list: &PairList<'_>) -> Result<(), AllocError>
     ensures { OnOk result (string_bytes out.new ≡ string_bytes out.old ++ text (view_pair_list texts list.now)) }
 {
@@ -274,7 +274,7 @@ fn push_pair_list(out: &mut String, list: &PairList<'_>) -> Result<(), AllocErro
 }
 
 #[cycle(push)]
-#[tactic(auto, using(crate::proofs::Views::view_pairs_is, crate::proofs::Texts::text_entries, crate::proofs::Texts::text_last, std::proofs::Common::append_assoc))]
+#[tactic(auto, using(crate::proofs::code::Views::view_pairs_is, crate::proofs::code::Texts::text_entries, crate::proofs::code::Texts::text_last, std::proofs::Common::append_assoc))]
 fn push_pairs(out: &mut String, pairs: &Pairs<'_>) -> Result<(), AllocError>
     ensures { OnOk result (string_bytes out.new ≡ string_bytes out.old ++ text (view_pairs texts pairs.now)) }
 {
@@ -295,7 +295,7 @@ fn push_pair_row(out: &mut String, row: &[(Kp<'_>, Msc<'_>)]) -> Result<(), Allo
 }
 
 #[cycle(push)]
-#[tactic(auto, using(crate::proofs::Texts::text_pair, std::proofs::Common::append_assoc))]
+#[tactic(auto, using(crate::proofs::code::Texts::text_pair, std::proofs::Common::append_assoc))]
 fn push_pair(out: &mut String, pair: &Kp<'_>) -> Result<(), AllocError>
     ensures { OnOk result (string_bytes out.new ≡ string_bytes out.old ++ text (view_pair texts pair.now)) }
 {

@@ -1,6 +1,6 @@
 //! The CBOR that items mean.
 ghost use Rattle.std.specs.Prelude.{◌≡◌, ◌<◌, ◌++◌, map, IfOk, Some};
-ghost use Rattle.cbor_edn_parts.specs.ContentReading.{literal_content};
+ghost use Rattle.cbor_edn_parts.specs.code.ContentReading.{literal_content};
 ghost use Rattle.cbor_edn_parts.specs.Leaves.{literal_bytes, number_bytes};
 ghost use Rattle.cbor_edn_core.specs.Items as nodes;
 ghost use Rattle.cbor_edn_core.specs.Trees as trees;
@@ -9,8 +9,8 @@ ghost use Rattle.cbor_edn_core.specs.Value.{AreBytes, Value, Values, encoding, e
 ghost use Rattle.cbor_edn_core.specs.Meaning as meaning;
 ghost use Rattle.cbor_edn_core.specs.Meaning.{NoEncoding, means, length_of};
 ghost use Rattle.cbor_edn_parts.specs.Refusals.{IfTold};
-ghost use Rattle.cbor_edn_core.specs.Encoding as calls;
-ghost use Rattle.cbor_edn_core.specs.Encoding.{Encodes, Finds, Gathers, entry_encoding, string_encodings, row_items, list_head, list_end};
+ghost use Rattle.cbor_edn_core.specs.code.Encoding as calls;
+ghost use Rattle.cbor_edn_core.specs.code.Encoding.{Encodes, Finds, Gathers, entry_encoding, string_encodings, row_items, list_head, list_end};
 
 use crate::cbor::{
     length_of, push_chunk, push_float, push_integer, push_list_end, push_list_head,

@@ -5,9 +5,9 @@ use Rattle.std.proofs.lemmas.Bool.{cond-false, cond_both, or_cases, false≢true
 use mathlib.Core.Logic.{⊎_elim}
 use Rattle.cbor_edn_parts.specs.Literal as literals
 use Rattle.cbor_edn_parts.specs.Literal.{IsPrefix, small, large, Quoting, Prefixed, IsLiteral, IsQuoted}
-use Rattle.cbor_edn_parts.specs.LiteralTokens.{is_literal, prefix_of}
+use Rattle.cbor_edn_parts.specs.code.LiteralTokens.{is_literal, prefix_of}
 use Rattle.cbor_edn_parts.specs.Contents.{IsBase, base64, base32, base32hex, Content, h, b64, b32, h32, HasContent, double_quoted, single_quoted, behind_h, behind_b64, behind_b32, behind_h32, NoContent, IsSupportedQuoting, IsSupported, IsRefusal, undecodable, unsupported}
-use Rattle.cbor_edn_parts.specs.ContentReading.{of_bytes, base_bytes, same, prefixed_bytes, literal_content, literal_kind, is_supported_prefix, is_supported, refusal}
+use Rattle.cbor_edn_parts.specs.code.ContentReading.{of_bytes, base_bytes, same, prefixed_bytes, literal_content, literal_kind, is_supported_prefix, is_supported, refusal}
 use Rattle.cbor_edn_parts.specs.declared.error.InconsistentEdn.{InconsistentEdn}
 use Rattle.cbor_edn_parts.specs.declared.string.StringKind.{StringKind}
 use Rattle.cbor_edn_parts.specs.declared.string.StringKind.TheVariants.{Bytes, Text}

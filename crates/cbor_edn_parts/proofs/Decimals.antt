@@ -10,8 +10,8 @@ use Rattle.cbor_edn_parts.specs.declared.number.Integer.{Integer}
 use Rattle.cbor_edn_parts.specs.declared.number.Integer.TheVariants.{Positive, Negative}
 use Rattle.cbor_edn_parts.specs.Space.{Each, end, next}
 use Rattle.cbor_edn_parts.specs.Number.{Sign, NoSign, MinusSign, sign_text, Decimal, IsDigitOf, AreDigits, IsInteger, integer, signed, number_of}
-use Rattle.cbor_edn_parts.specs.NumberReading.{integer_of}
-use Rattle.cbor_edn_parts.specs.NumberTokens.{is_number}
+use Rattle.cbor_edn_parts.specs.code.NumberReading.{integer_of}
+use Rattle.cbor_edn_parts.specs.code.NumberTokens.{is_number}
 use Rattle.cbor_edn_parts.proofs.NumberTexts.{number_texts}
 use Rattle.cbor_edn_parts.proofs.NumberParts.{integer_is, number_is}
 

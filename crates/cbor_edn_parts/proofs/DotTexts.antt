@@ -2,11 +2,11 @@
 use Rattle.std.proofs.Common.{ℕ, suc, ◌≡◌, ◌≤◌, List, [], ◌∷◌, length, true, refl, sym, subst, arith}
 use Rattle.std.specs.Prelude.{◌==◌, ◌↔◌}
 use Rattle.std.proofs.lemmas.Bool.{cond-true, eq-eqb, eqb-true, false≢true}
-use Rattle.cbor_edn_parts.specs.Lex.{Accepts, Is}
+use Rattle.cbor_edn_parts.specs.code.Lex.{Accepts, Is}
 use Rattle.cbor_edn_parts.specs.Space.{Each, end, next}
 use Rattle.cbor_edn_parts.specs.Literal.{AreDots}
-use Rattle.cbor_edn_parts.specs.LiteralTokens as tokens
-use Rattle.cbor_edn_parts.specs.LiteralTokens.{next_dot, dots_step, are_dots}
+use Rattle.cbor_edn_parts.specs.code.LiteralTokens as tokens
+use Rattle.cbor_edn_parts.specs.code.LiteralTokens.{next_dot, dots_step, are_dots}
 use Rattle.cbor_edn_parts.specs.declared.string.InDots.{InDots}
 use Rattle.cbor_edn_parts.specs.declared.string.InDots.TheVariants.{None as NoDot, One, Two, Enough}
 use Rattle.cbor_edn_parts.proofs.Steps.{some_if}

@@ -7,9 +7,9 @@ use Rattle.cbor_edn_parts.specs.Bytes.{kind}
 use Rattle.cbor_edn_parts.specs.Number.{Hexadecimal, IsDigitOf}
 use Rattle.cbor_edn_parts.specs.Space as set
 use Rattle.cbor_edn_parts.specs.Space.{IsBlank, Each, end, next, slashes, hash, IsS, empty, blank, comment}
-use Rattle.cbor_edn_parts.specs.SpaceTokens.{space_step}
+use Rattle.cbor_edn_parts.specs.code.SpaceTokens.{space_step}
 use Rattle.cbor_edn_parts.specs.Contents.{IsHexPairs, unended, pair, IsHex}
-use Rattle.cbor_edn_parts.specs.ContentReading.{hex_bytes, digit_at, behind}
+use Rattle.cbor_edn_parts.specs.code.ContentReading.{hex_bytes, digit_at, behind}
 use Rattle.cbor_edn_parts.specs.Contents as contents
 use Rattle.cbor_edn_parts.specs.declared.space.Within.{Within}
 use Rattle.cbor_edn_parts.specs.declared.space.Within.TheVariants.{Between, InSlashes, InHash}

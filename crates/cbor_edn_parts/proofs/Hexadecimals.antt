@@ -4,8 +4,8 @@ use Rattle.std.specs.Prelude.{◌⊎◌, is_some, if◌then◌else◌}
 use Rattle.std.specs.Char.{digit_value}
 use Rattle.std.proofs.lemmas.Bool.Decides.{nat_tests}
 use Rattle.cbor_edn_parts.specs.Bytes.{kind}
-use Rattle.cbor_edn_parts.specs.SpaceTokens.{space_step}
-use Rattle.cbor_edn_parts.specs.ContentReading.{hex_bytes, digit_at, behind}
+use Rattle.cbor_edn_parts.specs.code.SpaceTokens.{space_step}
+use Rattle.cbor_edn_parts.specs.code.ContentReading.{hex_bytes, digit_at, behind}
 use Rattle.cbor_edn_parts.specs.declared.space.Within.{Within}
 use Rattle.cbor_edn_parts.specs.declared.space.Within.TheVariants.{Between, InSlashes, InHash}
 

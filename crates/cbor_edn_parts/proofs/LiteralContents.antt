@@ -5,11 +5,11 @@ use Rattle.std.proofs.lemmas.Bool.{cond-true, eq-eqb, ne_eqb, or_from}
 use Rattle.std.proofs.lemmas.List.{append-nil}
 use mathlib.Core.Logic.{⊎_elim}
 use Rattle.cbor_edn_parts.specs.Contents.{Content}
-use Rattle.cbor_edn_parts.specs.ContentReading.{of_bytes, prefixed_bytes, literal_content}
+use Rattle.cbor_edn_parts.specs.code.ContentReading.{of_bytes, prefixed_bytes, literal_content}
 use Rattle.cbor_edn_parts.specs.Space.{Each, end, next}
 use Rattle.cbor_edn_parts.specs.Literal as literals
 use Rattle.cbor_edn_parts.specs.Literal.{IsLower, IsUpper, IsDigit, IsPrefix, small, large, Decoded, Quoting, Prefixed, IsLiteral}
-use Rattle.cbor_edn_parts.specs.LiteralTokens.{quote_byte, decoded, prefix_of, quoted_of}
+use Rattle.cbor_edn_parts.specs.code.LiteralTokens.{quote_byte, decoded, prefix_of, quoted_of}
 use Rattle.cbor_edn_parts.specs.declared.string.Quote.{Quote}
 use Rattle.cbor_edn_parts.specs.declared.string.Quote.TheVariants.{Single, Double}
 use Rattle.cbor_edn_parts.specs.declared.string.Part.TheVariants.{Between}

@@ -8,12 +8,12 @@ use Rattle.std.proofs.Math.Utf8.{scalar_cases}
 use Rattle.std.proofs.lemmas.Bool.{cond-true, cond-false, ne_eqb, lt-ltb, le-ltb, le-leb, lt-leb, leb-true, ltb-true, and_from, and_parts, and_left, and_right, or_right}
 use Rattle.std.proofs.lemmas.List.{append-nil}
 use mathlib.Core.Logic.{⊎_elim}
-use Rattle.cbor_edn_parts.specs.Lex.{Accepts}
+use Rattle.cbor_edn_parts.specs.code.Lex.{Accepts}
 use Rattle.cbor_edn_parts.specs.Space.{Each, end, next, IsPrintable}
 use Rattle.cbor_edn_parts.specs.Number.{Hexadecimal, IsDigitOf}
 use Rattle.cbor_edn_parts.specs.Literal.{letter_escape, hex_number, IsUnit, IsPart, raw, line_feed, carriage_return, quote, letter, unit, pair, braced, Decoded, nothing, part}
-use Rattle.cbor_edn_parts.specs.LiteralTokens as tokens
-use Rattle.cbor_edn_parts.specs.LiteralTokens.{quote_byte, Step, is_scalar, whole, with_digit, unit_end, pair_end, raw_step, escape_step, unit_digit, low_digit, braced_digit, part_step, ends, inside, decoded}
+use Rattle.cbor_edn_parts.specs.code.LiteralTokens as tokens
+use Rattle.cbor_edn_parts.specs.code.LiteralTokens.{quote_byte, Step, is_scalar, whole, with_digit, unit_end, pair_end, raw_step, escape_step, unit_digit, low_digit, braced_digit, part_step, ends, inside, decoded}
 use Rattle.cbor_edn_parts.specs.declared.string.Quote.{Quote}
 use Rattle.cbor_edn_parts.specs.declared.string.Quote.TheVariants.{Single, Double}
 use Rattle.cbor_edn_parts.specs.declared.string.Part.{Part}

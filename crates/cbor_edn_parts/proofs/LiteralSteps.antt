@@ -11,7 +11,7 @@ use mathlib.Core.Logic.{⊎_elim}
 use Rattle.cbor_edn_parts.specs.Space.{Each, end, next}
 use Rattle.cbor_edn_parts.specs.Number.{Hexadecimal, IsDigitOf, AreDigits}
 use Rattle.cbor_edn_parts.specs.Literal.{letter_escape, hex_number, IsUnit, IsPart, raw, line_feed, carriage_return, quote, letter, unit, pair, braced}
-use Rattle.cbor_edn_parts.specs.LiteralTokens.{quote_byte, Step, is_scalar, whole, with_digit, unit_end, pair_end, raw_step, escape_step, unit_digit, low_digit, braced_digit, part_step, ends}
+use Rattle.cbor_edn_parts.specs.code.LiteralTokens.{quote_byte, Step, is_scalar, whole, with_digit, unit_end, pair_end, raw_step, escape_step, unit_digit, low_digit, braced_digit, part_step, ends}
 use Rattle.cbor_edn_parts.specs.declared.string.Quote.{Quote}
 use Rattle.cbor_edn_parts.specs.declared.string.Part.{Part}
 use Rattle.cbor_edn_parts.specs.declared.string.Part.TheVariants.{Between, Backslash, Unit as Digits, High, HighBackslash, LowUnit, Brace, Braced}

@@ -4,12 +4,12 @@ use Rattle.std.specs.Prelude.{◌==◌, ◌||◌, ◌&&◌, ◌⊎◌, ◌↔◌
 use Rattle.std.proofs.lemmas.Bool.{cond-true, cond-false, cond_both, eq-eqb, ne_eqb, eqb-true, le-leb, leb-true, lt-leb, and_from, and_parts, and_left, both_ways, false≢true}
 use Rattle.std.proofs.lemmas.Bool.Decides.{Decides-or}
 use Rattle.std.specs.Bool.{Decides}
-use Rattle.cbor_edn_parts.specs.Lex.{Accepts, Is}
+use Rattle.cbor_edn_parts.specs.code.Lex.{Accepts, Is}
 use Rattle.cbor_edn_parts.specs.Space.{Each, end, next}
 use Rattle.cbor_edn_parts.specs.Literal as literals
 use Rattle.cbor_edn_parts.specs.Literal.{IsLower, IsUpper, IsDigit, IsPrefix, small, large, Decoded, nothing, part, Quoting, Prefixed, IsLiteral, IsQuoted}
-use Rattle.cbor_edn_parts.specs.LiteralTokens as tokens
-use Rattle.cbor_edn_parts.specs.LiteralTokens.{quote_byte, Step, is_lower, is_upper, is_digit, part_step, ends, inside, literal_step, is_literal}
+use Rattle.cbor_edn_parts.specs.code.LiteralTokens as tokens
+use Rattle.cbor_edn_parts.specs.code.LiteralTokens.{quote_byte, Step, is_lower, is_upper, is_digit, part_step, ends, inside, literal_step, is_literal}
 use Rattle.cbor_edn_parts.specs.declared.string.Quote.{Quote}
 use Rattle.cbor_edn_parts.specs.declared.string.Quote.TheVariants.{Single, Double}
 use Rattle.cbor_edn_parts.specs.declared.string.Part.{Part}

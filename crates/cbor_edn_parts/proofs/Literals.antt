@@ -10,9 +10,9 @@ use Rattle.std.proofs.lemmas.List.Elements.{All-head, All-tail, All-cons}
 use Rattle.std.proofs.lemmas.Bool.Decides.{nat_tests}
 use Rattle.std.proofs.lemmas.Str.{encode_ascii, digit_value-digit_char}
 use Rattle.hex.specs.Hex.{encode_lower, encode_with, lower_digits}
-use Rattle.cbor_edn_parts.specs.LiteralTokens.{literal, is_literal, with_digit, whole, braced_digit, part_step, raw_step, prefix_of, quoted_of}
+use Rattle.cbor_edn_parts.specs.code.LiteralTokens.{literal, is_literal, with_digit, whole, braced_digit, part_step, raw_step, prefix_of, quoted_of}
 use Rattle.cbor_edn_parts.specs.Contents.{escaped, all_escaped, braced, text_literal, hex_literal, empty_literal}
-use Rattle.cbor_edn_parts.specs.ContentReading.{literal_content, hex_bytes, digit_at, of_bytes}
+use Rattle.cbor_edn_parts.specs.code.ContentReading.{literal_content, hex_bytes, digit_at, of_bytes}
 use Rattle.cbor_edn_parts.specs.declared.space.Within.TheVariants as within
 use Rattle.cbor_edn_parts.specs.declared.string.Quote.TheVariants.{Single, Double}
 use Rattle.cbor_edn_parts.specs.declared.string.Part.TheVariants.{Between, Backslash, Unit, Brace, Braced}

@@ -8,12 +8,12 @@ use Rattle.std.specs.Str.Parse.{digits_value, digits_value_after, AllDigits, IsN
 use Rattle.std.proofs.Math.Nat.{pow-zero, pow-suc}
 use Rattle.std.proofs.lemmas.Bool.{cases_lt, eqb-true, ltb-true, and_parts, or_cases, false≢true, ne_eqb, lt-ltb, and_right, or_from, and_from}
 use Rattle.cbor_edn_parts.specs.Bytes.{Kind, Plus, Minus, kind}
-use Rattle.cbor_edn_parts.specs.Lex.{Accepts}
+use Rattle.cbor_edn_parts.specs.code.Lex.{Accepts}
 use Rattle.cbor_edn_parts.specs.Space.{Each, end, next}
 use Rattle.cbor_edn_parts.specs.Number.{Sign, NoSign, PlusSign, MinusSign, sign_text, Base, Binary, Octal, Decimal, Hexadecimal, radix, IsPrefixOf, IsDigitOf, AreDigits, IsInteger, IsNumber, integer, number_of, signed, HasInteger}
-use Rattle.cbor_edn_parts.specs.NumberReading.{sign_of, unsigned, names, named_base, prefix_length, base_of, digits_of, is_numeral, magnitude_of, integer_of}
-use Rattle.cbor_edn_parts.specs.NumberTokens as tokens
-use Rattle.cbor_edn_parts.specs.NumberTokens.{number_step}
+use Rattle.cbor_edn_parts.specs.code.NumberReading.{sign_of, unsigned, names, named_base, prefix_length, base_of, digits_of, is_numeral, magnitude_of, integer_of}
+use Rattle.cbor_edn_parts.specs.code.NumberTokens as tokens
+use Rattle.cbor_edn_parts.specs.code.NumberTokens.{number_step}
 use Rattle.cbor_edn_parts.specs.declared.number.Reached.{Reached}
 use Rattle.cbor_edn_parts.specs.declared.number.Reached.TheVariants.{Signed}
 use Rattle.cbor_edn_parts.proofs.ByteKinds.{differs}

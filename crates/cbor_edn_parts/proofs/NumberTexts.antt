@@ -5,11 +5,11 @@ use Rattle.std.proofs.lemmas.Bool.{false≢true}
 use Rattle.std.proofs.lemmas.List.{append-nil}
 use Rattle.std.proofs.lemmas.Option.{same_Some}
 use Rattle.cbor_edn_parts.specs.Bytes.{Kind, Plus, Minus, Zero, One, TwoToSeven, EightOrNine, Dot, B, E, HexLetter, O, P, X, kind}
-use Rattle.cbor_edn_parts.specs.Lex.{Accepts, Is}
+use Rattle.cbor_edn_parts.specs.code.Lex.{Accepts, Is}
 use Rattle.cbor_edn_parts.specs.Space.{Each, end, next}
 use Rattle.cbor_edn_parts.specs.Number.{Sign, NoSign, PlusSign, MinusSign, sign_text, Base, Binary, Octal, Decimal, Hexadecimal, IsPrefixOf, IsDigitOf, AreDigits, IsMantissa, whole, pointed, fraction, IsExponent, IsDecimalExponent, none, small_e, large_e, IsBinaryExponent, small_p, large_p, IsNumber, integer, decimal, hex_float}
-use Rattle.cbor_edn_parts.specs.NumberTokens as tokens
-use Rattle.cbor_edn_parts.specs.NumberTokens.{number_step, number_final, is_number}
+use Rattle.cbor_edn_parts.specs.code.NumberTokens as tokens
+use Rattle.cbor_edn_parts.specs.code.NumberTokens.{number_step, number_final, is_number}
 use Rattle.cbor_edn_parts.specs.declared.number.Reached.{Reached}
 use Rattle.cbor_edn_parts.specs.declared.number.Reached.TheVariants.{Start, Signed, AfterZero, DecimalDigits, Point, Fraction, Exponent, ExponentSigned, ExponentDigits, AfterX, HexadecimalDigits, HexadecimalPoint, HexadecimalFraction, BinaryExponent, BinaryExponentSigned, BinaryExponentDigits, AfterO, OctalDigits, AfterB, BinaryDigits}
 use Rattle.cbor_edn_parts.proofs.ByteKinds.{is_digit, digit_kind, kind_digit, kind-plus, kind-minus, kind-zero, kind-dot, kind-b, kind-e, kind-o, kind-p, kind-x}

@@ -8,10 +8,10 @@ use Rattle.std.proofs.lemmas.Bool.Decides.{nat_tests}
 use Rattle.std.proofs.lemmas.List.{drop_at, take_all, length-append}
 use Rattle.std.proofs.lemmas.List.Quantifiers.{position-Some}
 use Rattle.std.proofs.lemmas.Str.{IsCharBoundary-before_ascii}
-use Rattle.cbor_edn_parts.specs.Lex.{Accepts}
-use Rattle.cbor_edn_parts.specs.LiteralTokens as tokens
-use Rattle.cbor_edn_parts.specs.LiteralTokens.{is_quote, is_lower, is_upper, is_digit, literal_step, literal_final, is_literal, prefix_of, quoted_of, decoded}
-use Rattle.cbor_edn_parts.specs.ContentReading.{same, prefixed_bytes, of_bytes, literal_content, literal_kind, quote_of, behind_quote, content_behind}
+use Rattle.cbor_edn_parts.specs.code.Lex.{Accepts}
+use Rattle.cbor_edn_parts.specs.code.LiteralTokens as tokens
+use Rattle.cbor_edn_parts.specs.code.LiteralTokens.{is_quote, is_lower, is_upper, is_digit, literal_step, literal_final, is_literal, prefix_of, quoted_of, decoded}
+use Rattle.cbor_edn_parts.specs.code.ContentReading.{same, prefixed_bytes, of_bytes, literal_content, literal_kind, quote_of, behind_quote, content_behind}
 use Rattle.cbor_edn_parts.specs.declared.string.InLiteral.{InLiteral}
 use Rattle.cbor_edn_parts.specs.declared.string.InLiteral.TheVariants.{Start, Lower, Upper, Inside, Closed}
 use Rattle.cbor_edn_parts.specs.declared.string.Part.TheVariants.{Between}

@@ -1,8 +1,8 @@
 -- The text that stands between quotes.
 use Rattle.std.proofs.Common.{ℕ, ◌+◌, ◌<◌, ◌≤◌, ◌≡◌, true, false, List, [], ◌∷◌, ◌++◌, length, drop, get_or, Some, None, refl, sym, ap, ◌∙◌, append_assoc}
 use Rattle.std.proofs.lemmas.List.{append-nil, at_drop_more, at_drop_all}
-use Rattle.cbor_edn_parts.specs.Lex.{Accepts}
-use Rattle.cbor_edn_parts.specs.LiteralTokens.{ends, part_step, quote_byte, literal, decoded}
+use Rattle.cbor_edn_parts.specs.code.Lex.{Accepts}
+use Rattle.cbor_edn_parts.specs.code.LiteralTokens.{ends, part_step, quote_byte, literal, decoded}
 use Rattle.cbor_edn_parts.specs.declared.string.Quote.{Quote}
 use Rattle.cbor_edn_parts.specs.declared.string.Quote.TheVariants.{Single, Double}
 use Rattle.cbor_edn_parts.specs.declared.string.Part.{Part}

@@ -2,7 +2,7 @@
 use Rattle.std.proofs.Common.{ℕ, zero, suc, ◌+◌, ◌-◌, ◌≤◌, ◌≡◌, Bool, true, false, List, [], ◌∷◌, ◌++◌, take, drop, cond, Option, Some, None, refl, sym, ap, ◌∙◌, append_assoc, arith}
 use Rattle.std.specs.Prelude.{slice_range}
 use Rattle.std.proofs.lemmas.List.{drop-drop, append-nil}
-use Rattle.cbor_edn_parts.specs.Lex.{Table, push, munch}
+use Rattle.cbor_edn_parts.specs.code.Lex.{Table, push, munch}
 
 -- a token with a beginning in front
 unfoldable pub front : List ℕ → Option (List ℕ × List ℕ) → Option (List ℕ × List ℕ)

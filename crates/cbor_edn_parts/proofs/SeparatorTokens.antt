@@ -5,11 +5,11 @@ use Rattle.std.proofs.lemmas.Bool.{cond-true, cond-false, eq-eqb, ne_eqb, cases_
 use mathlib.Core.Logic.{⊎_elim, ◌≢◌}
 use Rattle.std.proofs.Math.Seq.{take-append_seam}
 use Rattle.std.specs.Str.{IsCharBoundary}
-use Rattle.cbor_edn_parts.specs.Ends.{IsSpaced}
+use Rattle.cbor_edn_parts.specs.code.Ends.{IsSpaced}
 use Rattle.cbor_edn_parts.specs.Bytes.{Kind, Comma, kind}
-use Rattle.cbor_edn_parts.specs.Lex.{push, munch, token}
-use Rattle.cbor_edn_parts.specs.SpaceTokens as tokens
-use Rattle.cbor_edn_parts.specs.SpaceTokens.{space_step, separator_step, before, after}
+use Rattle.cbor_edn_parts.specs.code.Lex.{push, munch, token}
+use Rattle.cbor_edn_parts.specs.code.SpaceTokens as tokens
+use Rattle.cbor_edn_parts.specs.code.SpaceTokens.{space_step, separator_step, before, after}
 use Rattle.cbor_edn_parts.specs.declared.space.Within.{Within}
 use Rattle.cbor_edn_parts.specs.declared.space.Within.TheVariants.{Between, InSlashes, InHash}
 use Rattle.cbor_edn_parts.specs.declared.space.Around.TheVariants.{Before, After}

@@ -6,11 +6,11 @@ use Rattle.std.proofs.lemmas.Bool.{agree_below_at, false≢true, and_parts, and_
 use Rattle.std.proofs.lemmas.Bool.Decides.{nat_tests, Decides-or, Decides-and, Decides-not, Decides-eqb, Decides-ltb, Decides-like}
 use Rattle.std.specs.Bool.{Decides}
 use Rattle.cbor_edn_parts.specs.Bytes.{Kind, Control, Comma, kind}
-use Rattle.cbor_edn_parts.specs.Lex.{Accepts, Is}
+use Rattle.cbor_edn_parts.specs.code.Lex.{Accepts, Is}
 use Rattle.cbor_edn_parts.specs.Space as set
 use Rattle.cbor_edn_parts.specs.Space.{IsBlank, IsPrintable, Each, end, next, IsComment, slashes, hash, IsS, empty, blank, comment, IsMs, IsSoc, IsMsc, space, comma, comma_first, space_alone, space_comma}
-use Rattle.cbor_edn_parts.specs.SpaceTokens as tokens
-use Rattle.cbor_edn_parts.specs.SpaceTokens.{space_step, separator_step, before, after, is_empty, is_s, is_ms, is_soc, is_msc}
+use Rattle.cbor_edn_parts.specs.code.SpaceTokens as tokens
+use Rattle.cbor_edn_parts.specs.code.SpaceTokens.{space_step, separator_step, before, after, is_empty, is_s, is_ms, is_soc, is_msc}
 use Rattle.cbor_edn_parts.specs.declared.space.Within.{Within}
 use Rattle.cbor_edn_parts.specs.declared.space.Within.TheVariants.{Between, InSlashes, InHash}
 use Rattle.cbor_edn_parts.specs.declared.space.Around.{Around}

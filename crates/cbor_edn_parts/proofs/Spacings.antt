@@ -4,7 +4,7 @@ use mathlib.Core.Logic.{⊎_elim}
 use Rattle.std.proofs.Math.ListN.{replicate}
 use Rattle.std.proofs.lemmas.List.{append-nil}
 use Rattle.cbor_edn_parts.specs.Space.{IsBlank, Each, end, next, IsComment, IsS, empty, blank, comment, IsMs, IsSoc, IsMsc, space, comma, comma_first, space_alone, space_comma}
-use Rattle.cbor_edn_parts.specs.SpaceTokens.{is_s, is_ms, is_msc, is_soc}
+use Rattle.cbor_edn_parts.specs.code.SpaceTokens.{is_s, is_ms, is_msc, is_soc}
 use Rattle.cbor_edn_parts.specs.Comments.{BeginsWithComment, EndsWithComment, IsTrimmed, IsCommentsOf, from_first, to_last, comments_of, before_comma, after_comma, CutAtComma}
 use Rattle.cbor_edn_parts.specs.Spacing.{SpaceKind, S, MS, MSC, SOC, Spacing, Least, Comments, OneLine, NewLine, OneSpace, line, or_space, comments_before, comments_after, spaced}
 use Rattle.cbor_edn_parts.specs.SpacingLaws.{is_of, KeepsComments, StaysOfKind, ForgetsColumn}

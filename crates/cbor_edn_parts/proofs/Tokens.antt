@@ -2,7 +2,7 @@
 use Rattle.std.proofs.Common.{ℕ, List, [], ◌∷◌, ◌++◌, ◌≡◌, true, cond, Option, Some, None, refl, sym, ap, ◌∙◌, subst}
 use Rattle.std.proofs.lemmas.Bool.{cond_both, false≢true}
 use Rattle.std.proofs.lemmas.List.{append-nil}
-use Rattle.cbor_edn_parts.specs.Lex.{Table, Accepts, Is, push, munch, is_all, is_token}
+use Rattle.cbor_edn_parts.specs.code.Lex.{Table, Accepts, Is, push, munch, is_all, is_token}
 
 pub data Holds {A : Type 0} (P : A → Type 0) : Option A → Type 0 where
   nothing : Holds P None

@@ -3,16 +3,16 @@ use Rattle.std.specs.Prelude.{List, ℕ, ℤ, true, Option, Some, ◌≡◌, ◌
 use Rattle.cbor_edn_parts.specs.Bytes.{Follow}
 use Rattle.cbor_edn_parts.specs.Indicator.{indicator_text, indicator_at}
 use Rattle.cbor_edn_parts.specs.declared.indicator.Indicator.{Indicator}
-use Rattle.cbor_edn_parts.specs.Lex.{Is}
+use Rattle.cbor_edn_parts.specs.code.Lex.{Is}
 use Rattle.cbor_edn_parts.specs.Space.{IsS, IsMs, IsSoc, IsMsc}
-use Rattle.cbor_edn_parts.specs.SpaceTokens.{space, separator, is_s, is_ms, is_soc, is_msc}
+use Rattle.cbor_edn_parts.specs.code.SpaceTokens.{space, separator, is_s, is_ms, is_soc, is_msc}
 use Rattle.cbor_edn_parts.specs.Number.{IsNumber, HasInteger}
-use Rattle.cbor_edn_parts.specs.NumberReading.{integer_of}
-use Rattle.cbor_edn_parts.specs.NumberTokens.{number, is_number}
+use Rattle.cbor_edn_parts.specs.code.NumberReading.{integer_of}
+use Rattle.cbor_edn_parts.specs.code.NumberTokens.{number, is_number}
 use Rattle.cbor_edn_parts.specs.Literal.{IsQuoted, AreDots}
-use Rattle.cbor_edn_parts.specs.LiteralTokens.{literal, dots, is_literal, are_dots}
+use Rattle.cbor_edn_parts.specs.code.LiteralTokens.{literal, dots, is_literal, are_dots}
 use Rattle.cbor_edn_parts.specs.Contents.{HasContent, IsSupported, hex_literal, text_literal}
-use Rattle.cbor_edn_parts.specs.ContentReading.{literal_content, literal_kind, is_supported}
+use Rattle.cbor_edn_parts.specs.code.ContentReading.{literal_content, literal_kind, is_supported}
 use Rattle.cbor_edn_parts.specs.declared.string.StringKind.{StringKind}
 use Rattle.cbor_edn_parts.specs.declared.string.StringKind.TheVariants.{Bytes, Text}
 

@@ -3,10 +3,10 @@ ghost use Rattle.std.specs.Prelude.{◌≡◌, ◌≤◌, ◌^◌, ◌↔◌, �
 ghost use Rattle.std.specs.Cow.{cow_str_bytes};
 ghost use Rattle.std.specs.Fmt.{signed_decimal};
 ghost use Rattle.cbor_edn_parts.specs.Number.{MinusSign, radix, HasInteger};
-ghost use Rattle.cbor_edn_parts.specs.NumberReading.{prefix_length, sign_of, unsigned, named_base};
-ghost use Rattle.cbor_edn_parts.specs.NumberTokens as tokens;
-ghost use Rattle.cbor_edn_parts.specs.NumberTokens.{is_number};
-ghost use Rattle.cbor_edn_parts.specs.Inside.{number_stays, number_inside};
+ghost use Rattle.cbor_edn_parts.specs.code.NumberReading.{prefix_length, sign_of, unsigned, named_base};
+ghost use Rattle.cbor_edn_parts.specs.code.NumberTokens as tokens;
+ghost use Rattle.cbor_edn_parts.specs.code.NumberTokens.{is_number};
+ghost use Rattle.cbor_edn_parts.specs.code.Inside.{number_stays, number_inside};
 
 use crate::bytes::Kind;
 use crate::scan::State;

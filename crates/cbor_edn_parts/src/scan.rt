@@ -2,9 +2,9 @@
 ghost use Rattle.std.specs.Prelude.{◌≡◌, ◌≤◌, ◌+◌, ℕ, Bool, cond, Option, Some, None, true, false, drop, length, slice_range, IsTrue};
 ghost use Rattle.std.specs.Str.{IsCharBoundary};
 ghost use Rattle.cbor_edn_parts.specs.Bytes.{IsLong};
-ghost use Rattle.cbor_edn_parts.specs.Lex.{Table, munch};
-ghost use Rattle.cbor_edn_parts.specs.Scans.{Scans, Lands, Costs};
-ghost use Rattle.cbor_edn_parts.specs.Text.{text_bytes};
+ghost use Rattle.cbor_edn_parts.specs.code.Lex.{Table, munch};
+ghost use Rattle.cbor_edn_parts.specs.code.Scans.{Scans, Lands, Costs};
+ghost use Rattle.cbor_edn_parts.specs.code.Text.{text_bytes};
 
 use crate::error::Refusal;
 use crate::looks::Looks;

@@ -1,9 +1,9 @@
 //! Space texts: optional space (S), mandatory space (MS), separators (MSC) and the ends of lists (SOC).
 ghost use Rattle.std.specs.Prelude.{◌≡◌, ◌↔◌, IsTrue, [], ◌∷◌, IfOk, IfSome, IsNone, drop, true};
 ghost use Rattle.std.specs.Cow.{cow_str_bytes};
-ghost use Rattle.cbor_edn_parts.specs.SpaceTokens as tokens;
-ghost use Rattle.cbor_edn_parts.specs.SpaceTokens.{is_s, is_ms, is_msc, is_soc};
-ghost use Rattle.cbor_edn_parts.specs.Inside.{space_stays, space_inside, separator_stays, separator_inside};
+ghost use Rattle.cbor_edn_parts.specs.code.SpaceTokens as tokens;
+ghost use Rattle.cbor_edn_parts.specs.code.SpaceTokens.{is_s, is_ms, is_msc, is_soc};
+ghost use Rattle.cbor_edn_parts.specs.code.Inside.{space_stays, space_inside, separator_stays, separator_inside};
 
 use crate::bytes::Kind;
 use crate::scan::State;

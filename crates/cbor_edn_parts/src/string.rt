@@ -1,11 +1,11 @@
 //! Literals: quoted texts, with or without a prefix, and dots.
 ghost use Rattle.std.specs.Prelude.{◌≡◌, ◌==◌, IsTrue, IfOk, Some, None, [], if◌then◌else◌};
 ghost use Rattle.std.specs.Cow.{cow_str_bytes};
-ghost use Rattle.cbor_edn_parts.specs.Ended.{Steps};
+ghost use Rattle.cbor_edn_parts.specs.code.Ended.{Steps};
 ghost use Rattle.cbor_edn_parts.specs.Literal.{letter_escape};
-ghost use Rattle.cbor_edn_parts.specs.LiteralTokens as tokens;
-ghost use Rattle.cbor_edn_parts.specs.LiteralTokens.{is_literal, are_dots, quote_byte};
-ghost use Rattle.cbor_edn_parts.specs.Inside.{literal_stays, literal_inside, dots_stays, dots_inside};
+ghost use Rattle.cbor_edn_parts.specs.code.LiteralTokens as tokens;
+ghost use Rattle.cbor_edn_parts.specs.code.LiteralTokens.{is_literal, are_dots, quote_byte};
+ghost use Rattle.cbor_edn_parts.specs.code.Inside.{literal_stays, literal_inside, dots_stays, dots_inside};
 
 use crate::scan::State;
 pub use read::{dots_at, literal_at};

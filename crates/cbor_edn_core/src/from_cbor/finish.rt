@@ -1,8 +1,8 @@
 //! Rows that were read, with their ends.
 ghost use Rattle.std.specs.Prelude.{◌≡◌, map, option_map};
 ghost use Rattle.cbor_edn_core.specs.View.{texts, item_tree, view_items, view_pair, view_pairs, view_string, view_strings};
-ghost use Rattle.cbor_edn_core.specs.CborReading.{row_of, element_row, string_row};
-ghost use Rattle.cbor_edn_core.specs.Growing.{grown};
+ghost use Rattle.cbor_edn_core.specs.code.CborReading.{row_of, element_row, string_row};
+ghost use Rattle.cbor_edn_core.specs.code.Growing.{grown};
 
 use super::growing::Growing;
 use crate::tree::{CborString, Item, Items, Kp, Pairs, Strings};

@@ -15,7 +15,7 @@ pub(crate) struct Growing<'a, T: Drop> {
 }
 
 impl<'a, T: Drop> Growing<'a, T> {
-    ghost use Rattle.cbor_edn_core.specs.Growing.{grown};
+    ghost use Rattle.cbor_edn_core.specs.code.Growing.{grown};
 
     /// No entries.
     pub(super) fn new(alloc: Global) -> Growing<'a, T>

@@ -7,9 +7,9 @@ ghost use Rattle.cbor_edn_core.specs.Trees.{NumberTree};
 ghost use Rattle.cbor_edn_core.specs.View.{texts, view_list, view_pair_list, view_head, view_items, view_pairs, view_pair, item_tree};
 ghost use Rattle.cbor_edn_core.specs.Decoded as decoded;
 ghost use Rattle.cbor_edn_core.specs.Decoded.{inside};
-ghost use Rattle.cbor_edn_core.specs.CborReading as reading;
-ghost use Rattle.cbor_edn_core.specs.CborReading.{Gives, trees, head_at, many, until, several, pair_at, array_by, map_by, tag_by, item_by, item_at, inner, shown, argument_indicator};
-ghost use Rattle.cbor_edn_core.specs.Growing.{grown, Pushes};
+ghost use Rattle.cbor_edn_core.specs.code.CborReading as reading;
+ghost use Rattle.cbor_edn_core.specs.code.CborReading.{Gives, trees, head_at, many, until, several, pair_at, array_by, map_by, tag_by, item_by, item_at, inner, shown, argument_indicator};
+ghost use Rattle.cbor_edn_core.specs.code.Growing.{grown, Pushes};
 
 use super::CborError;
 use super::finish::{finish_items, finish_pairs};
@@ -30,7 +30,7 @@ pub(super) type Argument = Option<(Width, u64)>;
 pub(super) type Head = (u8, Argument);
 
 /// The head at the front.
-#[tactic(auto, unfolding(crate::specs::CborReading::head_at))]
+#[tactic(auto, unfolding(crate::specs::code::CborReading::head_at))]
 pub(super) fn head_of(bytes: &[u8]) -> Result<(Head, &[u8]), Fault<CborError>>
     ensures exact { Gives (λ x. (x.0, x.1.now)) result (head_at bytes.now) }
     ensures shorter { IfOk result (λ x. length x.1.now < length bytes.now) }
@@ -232,7 +232,7 @@ pub(super) fn items_until<'a, 'b>(
 }
 
 #[cycle(item)]
-#[tactic(auto, unfolding(crate::specs::CborReading::pair_at))]
+#[tactic(auto, unfolding(crate::specs::code::CborReading::pair_at))]
 fn pair_of<'a, 'b>(
     alloc: Global,
     bytes: &'b [u8],
@@ -310,7 +310,7 @@ fn pairs_until<'a, 'b>(
 }
 
 #[cycle(item)]
-#[tactic(auto, unfolding(crate::specs::CborReading::several))]
+#[tactic(auto, unfolding(crate::specs::code::CborReading::several))]
 fn array_of<'a, 'b>(
     alloc: Global,
     argument: Argument,
@@ -332,7 +332,7 @@ fn array_of<'a, 'b>(
 }
 
 #[cycle(item)]
-#[tactic(auto, unfolding(crate::specs::CborReading::several))]
+#[tactic(auto, unfolding(crate::specs::code::CborReading::several))]
 fn map_of<'a, 'b>(
     alloc: Global,
     argument: Argument,
@@ -377,7 +377,7 @@ fn tag_of<'a, 'b>(
 
 /// The item behind a head.
 #[cycle(item)]
-#[tactic(auto, unfolding(crate::specs::CborReading::item_by))]
+#[tactic(auto, unfolding(crate::specs::code::CborReading::item_by))]
 fn content_of<'a, 'b>(
     alloc: Global,
     head: Head,

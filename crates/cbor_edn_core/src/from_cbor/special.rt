@@ -1,7 +1,7 @@
 //! Simple values and floating-point numbers from their encoding.
 ghost use Rattle.std.specs.Prelude.{◌≡◌, IfOk, None};
-ghost use Rattle.cbor_edn_core.specs.CborReading as reading;
-ghost use Rattle.cbor_edn_core.specs.CborReading.{Gives, trees, inner};
+ghost use Rattle.cbor_edn_core.specs.code.CborReading as reading;
+ghost use Rattle.cbor_edn_core.specs.code.CborReading.{Gives, trees, inner};
 ghost use Rattle.cbor_edn_core.specs.Decoded as decoded;
 ghost use Rattle.cbor_edn_core.specs.Decoded.{alone};
 ghost use Rattle.cbor_edn_core.specs.Trees.{EnclosedTree, NumberTree};

@@ -3,8 +3,8 @@ ghost use Rattle.std.specs.Prelude.{◌≡◌, ◌<◌, ◌≤◌, suc, length, 
 ghost use Rattle.cbor_edn_parts.specs.Contents.{kind_literal};
 ghost use Rattle.cbor_edn_parts.specs.Leaves.{literal_bytes};
 ghost use Rattle.cbor_edn_core.specs.View.{texts, view_string, view_strings, item_tree};
-ghost use Rattle.cbor_edn_core.specs.CborReading.{Gives, trees, until, string_at, chunk_at, string_by, string_tree, chunked_tree, shown};
-ghost use Rattle.cbor_edn_core.specs.Growing.{grown};
+ghost use Rattle.cbor_edn_core.specs.code.CborReading.{Gives, trees, until, string_at, chunk_at, string_by, string_tree, chunked_tree, shown};
+ghost use Rattle.cbor_edn_core.specs.code.Growing.{grown};
 
 use super::CborError;
 use super::finish::finish_strings;

@@ -2,7 +2,7 @@
 ghost use Rattle.std.specs.Prelude.{◌≡◌, ◌≤◌, ◌+◌, drop};
 ghost use Rattle.std.specs.Str.{IsCharBoundary};
 ghost use Rattle.cbor_edn_parts.specs.Indicator as words;
-ghost use Rattle.cbor_edn_parts.specs.Text.{text_bytes};
+ghost use Rattle.cbor_edn_parts.specs.code.Text.{text_bytes};
 
 use super::Indicator;
 use crate::looks::Looks;

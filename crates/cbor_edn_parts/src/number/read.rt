@@ -1,11 +1,11 @@
 //! The number at a place of a text.
 ghost use Rattle.std.specs.Prelude.{IfOk, drop};
 ghost use Rattle.std.specs.Str.{IsCharBoundary};
-ghost use Rattle.cbor_edn_parts.specs.Lex.{token};
+ghost use Rattle.cbor_edn_parts.specs.code.Lex.{token};
 ghost use Rattle.cbor_edn_parts.specs.Leaves.{number_bytes, BorrowsNumber};
-ghost use Rattle.cbor_edn_parts.specs.NumberTokens as tokens;
-ghost use Rattle.cbor_edn_parts.specs.Scans.{Scans, Lands, Costs};
-ghost use Rattle.cbor_edn_parts.specs.Text.{text_bytes};
+ghost use Rattle.cbor_edn_parts.specs.code.NumberTokens as tokens;
+ghost use Rattle.cbor_edn_parts.specs.code.Scans.{Scans, Lands, Costs};
+ghost use Rattle.cbor_edn_parts.specs.code.Text.{text_bytes};
 
 use super::{Number, Reached};
 use crate::error::Refusal;

@@ -1,12 +1,12 @@
 //! Space texts at a place of a text.
 ghost use Rattle.std.specs.Prelude.{IfOk, drop};
 ghost use Rattle.std.specs.Str.{IsCharBoundary};
-ghost use Rattle.cbor_edn_parts.specs.Lex.{token};
+ghost use Rattle.cbor_edn_parts.specs.code.Lex.{token};
 ghost use Rattle.cbor_edn_parts.specs.Leaves.{s_bytes, soc_bytes, BorrowsS, BorrowsSoc};
-ghost use Rattle.cbor_edn_parts.specs.Ends.{IsEnd, reached};
-ghost use Rattle.cbor_edn_parts.specs.Scans.{Scans, Lands, Costs};
-ghost use Rattle.cbor_edn_parts.specs.SpaceTokens as tokens;
-ghost use Rattle.cbor_edn_parts.specs.Text.{text_bytes};
+ghost use Rattle.cbor_edn_parts.specs.code.Ends.{IsEnd, reached};
+ghost use Rattle.cbor_edn_parts.specs.code.Scans.{Scans, Lands, Costs};
+ghost use Rattle.cbor_edn_parts.specs.code.SpaceTokens as tokens;
+ghost use Rattle.cbor_edn_parts.specs.code.Text.{text_bytes};
 
 use super::{Around, S, Soc, Within};
 use crate::error::Refusal;

@@ -1,10 +1,10 @@
 //! What literals contribute to a string.
 ghost use Rattle.std.specs.Prelude.{◌≡◌, ◌++◌, ◌↔◌, IsTrue, IfOk, OnOk, Some, None, position};
 ghost use Rattle.cbor_edn_parts.specs.Contents.{HasContent, NoContent, IsSupported, IsRefusal};
-ghost use Rattle.cbor_edn_parts.specs.ContentReading as reading;
-ghost use Rattle.cbor_edn_parts.specs.Ended.{ended_bytes};
+ghost use Rattle.cbor_edn_parts.specs.code.ContentReading as reading;
+ghost use Rattle.cbor_edn_parts.specs.code.Ended.{ended_bytes};
 ghost use Rattle.cbor_edn_parts.specs.Leaves.{literal_bytes};
-ghost use Rattle.cbor_edn_parts.specs.LiteralTokens as tokens;
+ghost use Rattle.cbor_edn_parts.specs.code.LiteralTokens as tokens;
 ghost use Rattle.cbor_edn_parts.specs.Refusals.{IfTold};
 
 use super::base::Alphabet;

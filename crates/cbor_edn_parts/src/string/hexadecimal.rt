@@ -1,6 +1,6 @@
 //! Bytes by pairs of hexadecimal digits.
 ghost use Rattle.std.specs.Prelude.{◌≡◌, IfOk, Some, None};
-ghost use Rattle.cbor_edn_parts.specs.ContentReading.{hex_bytes, digit_at};
+ghost use Rattle.cbor_edn_parts.specs.code.ContentReading.{hex_bytes, digit_at};
 ghost use Rattle.cbor_edn_parts.specs.Refusals.{IfTold};
 
 use crate::bytes::Kind;

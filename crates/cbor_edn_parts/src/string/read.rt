@@ -1,11 +1,11 @@
 //! The literal and the dots at a place of a text.
 ghost use Rattle.std.specs.Prelude.{IfOk, drop};
 ghost use Rattle.std.specs.Str.{IsCharBoundary};
-ghost use Rattle.cbor_edn_parts.specs.Lex.{token};
+ghost use Rattle.cbor_edn_parts.specs.code.Lex.{token};
 ghost use Rattle.cbor_edn_parts.specs.Leaves.{literal_bytes, dots_bytes, BorrowsLiteral, BorrowsDots};
-ghost use Rattle.cbor_edn_parts.specs.LiteralTokens as tokens;
-ghost use Rattle.cbor_edn_parts.specs.Scans.{Scans, Lands, Costs};
-ghost use Rattle.cbor_edn_parts.specs.Text.{text_bytes};
+ghost use Rattle.cbor_edn_parts.specs.code.LiteralTokens as tokens;
+ghost use Rattle.cbor_edn_parts.specs.code.Scans.{Scans, Lands, Costs};
+ghost use Rattle.cbor_edn_parts.specs.code.Text.{text_bytes};
 
 use super::{Dots, InDots, InLiteral, Literal};
 use crate::error::Refusal;

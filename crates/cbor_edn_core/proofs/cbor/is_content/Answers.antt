@@ -2,7 +2,7 @@ use Rattle.std.proofs.Common.{◌≡◌, ℕ, List, Result, Ok, Err, inl, inr, s
 use Rattle.std.specs.Result.{MatchResult, is_ok}
 use Rattle.std.specs.Str.{is_utf8, IsUtf8, IsValidUpTo, valid_up_to}
 use Rattle.std.proofs.lemmas.Str.{is_utf8-from_IsUtf8, IsUtf8-from_is_utf8}
-use Rattle.cbor_edn_core.proofs.StringKinds.{is_or_not}
+use Rattle.cbor_edn_core.proofs.code.StringKinds.{is_or_not}
 use Rattle.cbor_edn_core.proofs.cbor.is_content.Goals as goal
 
 is_valid : {T E : Type 0} (bs : List ℕ) (r : Result T E) (P : T → Type 0) (Q : E → Type 0) → MatchResult r (λ x. P x × IsUtf8 bs) (λ e. (IsUtf8 bs → ⊥) × Q e) → is_ok r ≡ is_utf8 bs

@@ -1,8 +1,8 @@
 use Rattle.std.proofs.Common.{length, Ok, sym, subst, ◌∙◌}
 use Rattle.cbor_edn_core.specs.Value.{head}
 use Rattle.cbor_edn_core.specs.Meaning.{width_of}
-use Rattle.cbor_edn_core.specs.Encoding.{Encodes}
-use Rattle.cbor_edn_core.proofs.StringEncodes.{chunk_pushed}
+use Rattle.cbor_edn_core.specs.code.Encoding.{Encodes}
+use Rattle.cbor_edn_core.proofs.code.StringEncodes.{chunk_pushed}
 use Rattle.cbor_edn_core.proofs.cbor.push_chunk.Goals as goal
 
 pub returns : goal.returns

@@ -1,5 +1,5 @@
 use Rattle.std.proofs.Common.{arith}
-use Rattle.cbor_edn_core.proofs.CborIntegers.{positive_small, negative_small}
+use Rattle.cbor_edn_core.proofs.code.CborIntegers.{positive_small, negative_small}
 use Rattle.cbor_edn_core.proofs.cbor.push_integer.Goals as goal
 
 pub returns-in-Ok : goal.returns-in-Ok

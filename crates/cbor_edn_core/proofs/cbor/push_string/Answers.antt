@@ -1,8 +1,8 @@
 use Rattle.std.proofs.Common.{rules, ◌≡◌, ◌++◌, length, None, Some, sym, ap, ◌∙◌}
 use Rattle.std.proofs.lemmas.Bool.{eqb-true, eq-eqb}
 use Rattle.cbor_edn_parts.specs.declared.indicator.Indicator.TheVariants as indicator
-use Rattle.cbor_edn_core.specs.Encoding.{list_head}
-use Rattle.cbor_edn_core.proofs.StringEncodes.{indefinite_pushed, definite_pushed}
+use Rattle.cbor_edn_core.specs.code.Encoding.{list_head}
+use Rattle.cbor_edn_core.proofs.code.StringEncodes.{indefinite_pushed, definite_pushed}
 use Rattle.cbor_edn_core.proofs.cbor.push_string.Goals as goal
 use Rattle.cbor_edn_core.proofs.cbor.push_string.Goals.{else-is_empty-via-then-is_empty+else-eq, else-is_empty-via-else-is_empty}
 

@@ -1,5 +1,5 @@
 use Rattle.std.proofs.Common.{◌≡◌, length, drop, map}
-use Rattle.cbor_edn_core.specs.Same.{same_entries, same_pieces}
+use Rattle.cbor_edn_core.specs.code.Same.{same_entries, same_pieces}
 use Rattle.cbor_edn_core.specs.View.{texts, seen, seen_pair, seen_piece, seen_string}
 use Rattle.cbor_edn_core.proofs.equal.+same.Given as goal
 

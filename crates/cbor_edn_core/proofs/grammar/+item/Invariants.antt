@@ -2,13 +2,13 @@ use Rattle.std.proofs.Common.{◌≡◌, ◌+◌, ◌-◌, ◌*◌, ◌≤◌, [
 use Rattle.std.specs.Str.{IsCharBoundary}
 use Rattle.cbor_edn_core.specs.Borrowed.{BorrowsEach, BorrowsEachPair, BorrowsEachString, BorrowsEachPiece}
 use Rattle.cbor_edn_core.specs.Items.{Elements, Pairs, Strings}
-use Rattle.cbor_edn_core.specs.ParserResults.{ahead}
-use Rattle.cbor_edn_core.specs.Reading.{reads}
+use Rattle.cbor_edn_core.specs.code.ParserResults.{ahead}
+use Rattle.cbor_edn_core.specs.code.Reading.{reads}
 use Rattle.cbor_edn_core.specs.Trees.{Rest, OneString}
 use Rattle.cbor_edn_core.specs.View.{texts, seen, seen_pair, seen_string, seen_piece}
-use Rattle.cbor_edn_core.proofs.Turns.{with_row}
-use Rattle.cbor_edn_core.proofs.StringTurns.{with_pieces}
-use Rattle.cbor_edn_core.proofs.Looks.{spared}
+use Rattle.cbor_edn_core.proofs.code.Turns.{with_row}
+use Rattle.cbor_edn_core.proofs.code.StringTurns.{with_pieces}
+use Rattle.cbor_edn_core.proofs.code.Looks.{spared}
 use Rattle.cbor_edn_core.proofs.grammar.+item.Given as goal
 
 abbrev pub decreases-embedded : goal.decreases-embedded

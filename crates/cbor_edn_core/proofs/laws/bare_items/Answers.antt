@@ -1,5 +1,5 @@
-use Rattle.cbor_edn_core.proofs.Unmarked.{unmarked_is_bare, unmarked_stays_valid}
-use Rattle.cbor_edn_core.proofs.BareItems.{bare_items_mean}
+use Rattle.cbor_edn_core.proofs.layout.Unmarked.{unmarked_is_bare, unmarked_stays_valid}
+use Rattle.cbor_edn_core.proofs.layout.BareItems.{bare_items_mean}
 use Rattle.cbor_edn_core.proofs.laws.bare_items.Goals as goal
 
 pub returns : goal.returns

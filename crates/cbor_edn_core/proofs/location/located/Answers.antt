@@ -1,5 +1,5 @@
 use Rattle.std.proofs.Common.{arith, refl}
-use Rattle.cbor_edn_core.proofs.Places.{turn, nothing_before}
+use Rattle.cbor_edn_core.proofs.code.Places.{turn, nothing_before}
 use Rattle.cbor_edn_core.proofs.location.located.Goals as goal
 
 pub bytes-init : goal.bytes-init

@@ -1,8 +1,8 @@
 use Rattle.std.proofs.Common.{ℕ, List, [], ◌∷◌, ◌≡◌, drop, false, Bool, refl, ◌∙◌}
 use Rattle.std.specs.Prelude.{not}
 use Rattle.std.proofs.lemmas.Bool.{ne_eqb}
-use Rattle.cbor_edn_parts.specs.Text.{text_bytes}
-use Rattle.cbor_edn_core.specs.ParserResults.{IsNotAt}
+use Rattle.cbor_edn_parts.specs.code.Text.{text_bytes}
+use Rattle.cbor_edn_core.specs.code.ParserResults.{IsNotAt}
 use Rattle.cbor_edn_core.specs.Trees.{joins, starts_number}
 use Rattle.cbor_edn_core.proofs.lookahead.joins.Goals as goal
 

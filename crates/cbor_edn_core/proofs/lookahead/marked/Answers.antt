@@ -2,7 +2,7 @@ use Rattle.std.proofs.Common.{◌≡◌, ◌≢◌, [], ◌∷◌, List, ℕ, Ok
 use Rattle.std.proofs.lemmas.Bool.{false≢true}
 use Rattle.cbor_edn_parts.specs.declared.indicator.Indicator.{Indicator}
 use Rattle.cbor_edn_parts.specs.declared.error.ParseErrorKind.TheVariants.{Invalid}
-use Rattle.cbor_edn_core.specs.Reading.{head_of}
+use Rattle.cbor_edn_core.specs.code.Reading.{head_of}
 use Rattle.cbor_edn_core.specs.Trees.{Marked}
 use Rattle.cbor_edn_core.proofs.lookahead.marked.Goals as goal
 

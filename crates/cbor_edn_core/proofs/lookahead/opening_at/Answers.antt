@@ -2,10 +2,10 @@ use Rattle.std.proofs.Common.{ℕ, List, [], ◌∷◌, ◌≡◌, ◌≢◌, �
 use Rattle.std.specs.Prelude.{eqb, ◌&&◌}
 use Rattle.std.specs.Str.{IsCharBoundary}
 use Rattle.std.proofs.lemmas.Bool.{ne_eqb, or_left, or_from, and_left}
-use Rattle.cbor_edn_parts.specs.Text.{text_bytes}
-use Rattle.cbor_edn_core.specs.Lookahead.{Opens, OpensWith}
-use Rattle.cbor_edn_core.specs.ParserResults.{IsNotAt}
-use Rattle.cbor_edn_core.specs.Reading.{begins_string, starts_with, starts_string, word_of, if_word, word_at}
+use Rattle.cbor_edn_parts.specs.code.Text.{text_bytes}
+use Rattle.cbor_edn_core.specs.code.Lookahead.{Opens, OpensWith}
+use Rattle.cbor_edn_core.specs.code.ParserResults.{IsNotAt}
+use Rattle.cbor_edn_core.specs.code.Reading.{begins_string, starts_with, starts_string, word_of, if_word, word_at}
 use Rattle.cbor_edn_core.specs.declared.lookahead.Opening.{Opening}
 use Rattle.cbor_edn_core.specs.declared.lookahead.Opening.TheVariants.{Array, Map, Stream, Word, String, Number}
 use Rattle.cbor_edn_core.specs.declared.word.Word.{Word as TheWord}

@@ -1,9 +1,9 @@
 use Rattle.std.proofs.Common.{ℕ, suc, ◌≡◌, ◌+◌, ◌-◌, ◌*◌, ◌^◌, ◌<◌, ◌≤◌, List, [], ◌∷◌, length, get_or, take, drop, drop-cons, add-one, Some, None, sym, ap, ◌∙◌, arith}
 use Rattle.std.proofs.lemmas.List.{length-take, length-drop}
-use Rattle.cbor_edn_parts.specs.Text.{text_bytes}
-use Rattle.cbor_edn_core.specs.Lookahead.{digit_in_front}
-use Rattle.cbor_edn_core.specs.Reading.{tag_number}
-use Rattle.cbor_edn_core.proofs.TagDigits.{tag_after, first_none, first_zero, first_next, after_none, after_wide, after_next}
+use Rattle.cbor_edn_parts.specs.code.Text.{text_bytes}
+use Rattle.cbor_edn_core.specs.code.Lookahead.{digit_in_front}
+use Rattle.cbor_edn_core.specs.code.Reading.{tag_number}
+use Rattle.cbor_edn_core.proofs.code.TagDigits.{tag_after, first_none, first_zero, first_next, after_none, after_wide, after_next}
 use Rattle.cbor_edn_core.proofs.lookahead.tag_number.Goals as goal
 use Rattle.cbor_edn_core.proofs.lookahead.tag_number.Goals.{else-number-eq0-via-then-number-eq0+else-from-to, else-number-eq0-via-else-number-eq0}
 

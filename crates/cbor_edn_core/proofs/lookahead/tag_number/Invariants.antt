@@ -1,8 +1,8 @@
 -- What is read so far goes on as the whole.
 use Rattle.std.proofs.Common.{◌≡◌, ◌+◌, ◌-◌, take, drop}
-use Rattle.cbor_edn_parts.specs.Text.{text_bytes}
-use Rattle.cbor_edn_core.specs.Reading.{tag_number}
-use Rattle.cbor_edn_core.proofs.TagDigits.{tag_after}
+use Rattle.cbor_edn_parts.specs.code.Text.{text_bytes}
+use Rattle.cbor_edn_core.specs.code.Reading.{tag_number}
+use Rattle.cbor_edn_core.proofs.code.TagDigits.{tag_after}
 use Rattle.cbor_edn_core.proofs.lookahead.tag_number.Given as goal
 
 abbrev pub invariant-loop-at : goal.invariant-loop-at

@@ -1,7 +1,7 @@
 use Rattle.std.proofs.Common.{arith, ap, length, length-drop}
 use Rattle.std.proofs.lemmas.Result.{err_from_is_err_and}
 use Rattle.cbor_edn_core.specs.Trees.{Seq}
-use Rattle.cbor_edn_core.proofs.Turns.{whole_fails, whole_trails, whole_read}
+use Rattle.cbor_edn_core.proofs.code.Turns.{whole_fails, whole_trails, whole_read}
 use Rattle.cbor_edn_core.proofs.parse.whole_sequence.Goals as goal
 
 pub returns-in_err-sequence-clause-value : goal.returns-in_err-sequence-clause-value

@@ -1,6 +1,6 @@
 use Rattle.cbor_edn_core.specs.View.{sequence_tree}
 use Rattle.cbor_edn_core.specs.declared.tree.TheConstants.{NESTING_LIMIT}
-use Rattle.cbor_edn_core.proofs.Recoding.{text_of_decoded}
+use Rattle.cbor_edn_core.proofs.meaning.Recoding.{text_of_decoded}
 use Rattle.cbor_edn_core.proofs.recode.decoded_text.Goals as goal
 
 pub returns-clause-text : goal.returns-clause-text

@@ -1,7 +1,7 @@
 use Rattle.cbor_edn_core.specs.Trees.{items}
 use Rattle.cbor_edn_core.specs.View.{sequence_tree}
 use Rattle.cbor_edn_core.specs.declared.tree.TheConstants.{NESTING_LIMIT}
-use Rattle.cbor_edn_core.proofs.Recoding.{meant_by_text}
+use Rattle.cbor_edn_core.proofs.meaning.Recoding.{meant_by_text}
 use Rattle.cbor_edn_core.proofs.recode.read_and_encoded.Goals as goal
 
 pub encoded-requires : goal.encoded-requires

@@ -1,8 +1,8 @@
 use Rattle.std.proofs.Common.{sym, subst}
 use Rattle.std.specs.String.{string_bytes}
-use Rattle.cbor_edn_core.specs.Recoding.{IsTextOf}
+use Rattle.cbor_edn_core.specs.code.Recoding.{IsTextOf}
 use Rattle.cbor_edn_core.specs.declared.tree.TheConstants.{NESTING_LIMIT}
-use Rattle.cbor_edn_core.proofs.Recoding.{one_encoding_of_text}
+use Rattle.cbor_edn_core.proofs.meaning.Recoding.{one_encoding_of_text}
 use Rattle.cbor_edn_core.proofs.recode.recoded_by_text.Goals as goal
 
 pub read_and_encoded-requires : goal.read_and_encoded-requires

@@ -4,9 +4,9 @@ use Rattle.cbor_edn_parts.specs.Leaves.{msc_bytes, soc_bytes}
 use Rattle.cbor_edn_core.specs.declared.tree.StringsOf.{out-StringsOf}
 use Rattle.cbor_edn_core.specs.Trees.{items, ChunkTree, LastTree}
 use Rattle.cbor_edn_core.specs.View.{texts, view_string, seen_string}
-use Rattle.cbor_edn_core.specs.Encoding.{form_kind}
-use Rattle.cbor_edn_core.proofs.StringEncodes.{first_of_none, first_of_some}
-use Rattle.cbor_edn_core.proofs.Views.{view_strings_is}
+use Rattle.cbor_edn_core.specs.code.Encoding.{form_kind}
+use Rattle.cbor_edn_core.proofs.code.StringEncodes.{first_of_none, first_of_some}
+use Rattle.cbor_edn_core.proofs.code.Views.{view_strings_is}
 use Rattle.cbor_edn_core.proofs.to_cbor.first_kind.Goals as goal
 
 pub returns-in-empty : goal.returns-in-empty

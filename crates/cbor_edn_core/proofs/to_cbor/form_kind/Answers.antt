@@ -3,8 +3,8 @@ use Rattle.std.proofs.lemmas.List.{length-map}
 use Rattle.cbor_edn_parts.specs.Leaves.{s_bytes}
 use Rattle.cbor_edn_core.specs.View.{texts, view_piece, seen_piece}
 use Rattle.cbor_edn_core.specs.Trees.{items, LastPieceTree}
-use Rattle.cbor_edn_core.specs.Encoding.{piece_kind}
-use Rattle.cbor_edn_core.proofs.StringEncodes.{form_of_none, form_of_some}
+use Rattle.cbor_edn_core.specs.code.Encoding.{piece_kind}
+use Rattle.cbor_edn_core.proofs.code.StringEncodes.{form_of_none, form_of_some}
 use Rattle.cbor_edn_core.proofs.to_cbor.form_kind.Goals as goal
 
 pub returns-in-empty : goal.returns-in-empty

@@ -1,5 +1,5 @@
 use Rattle.std.proofs.Common.{refl}
-use Rattle.cbor_edn_core.proofs.CborEncodes.{number_means, no_number}
+use Rattle.cbor_edn_core.proofs.code.CborEncodes.{number_means, no_number}
 use Rattle.cbor_edn_core.proofs.to_cbor.push_number.Goals as goal
 
 pub returns-in-Some : goal.returns-in-Some

@@ -4,7 +4,7 @@ use Rattle.cbor_edn_core.specs.Trees.{items}
 use Rattle.cbor_edn_core.specs.Value.{simple}
 use Rattle.cbor_edn_core.specs.Meaning.{◌>>=◌, simple_of}
 use Rattle.cbor_edn_core.specs.View.{texts}
-use Rattle.cbor_edn_core.proofs.Forms.{no_number}
+use Rattle.cbor_edn_core.proofs.code.Forms.{no_number}
 use Rattle.cbor_edn_core.proofs.to_cbor.push_numeric.Goals as goal
 use Rattle.cbor_edn_core.proofs.to_cbor.push_numeric.Goals.{in-Number, in_default}
 

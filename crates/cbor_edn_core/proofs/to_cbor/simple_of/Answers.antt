@@ -1,5 +1,5 @@
 use Rattle.std.proofs.Common.{refl, sym}
-use Rattle.cbor_edn_core.proofs.CborEncodes.{no_simple}
+use Rattle.cbor_edn_core.proofs.code.CborEncodes.{no_simple}
 use Rattle.cbor_edn_core.proofs.to_cbor.simple_of.Goals as goal
 
 pub returns-in_err-integer : goal.returns-in_err-integer

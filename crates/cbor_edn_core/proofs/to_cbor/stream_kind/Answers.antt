@@ -4,9 +4,9 @@ use Rattle.cbor_edn_core.specs.declared.tree.StringsOf.{out-StringsOf}
 use Rattle.cbor_edn_core.specs.Trees.{items}
 use Rattle.cbor_edn_core.specs.View.{texts, view_string, seen_string}
 use Rattle.cbor_edn_core.specs.Meaning.{same_kind}
-use Rattle.cbor_edn_core.specs.Encoding.{first_kind, form_kind, kinds_are, row_items}
-use Rattle.cbor_edn_core.proofs.StringEncodes.{kind_told, both_are}
-use Rattle.cbor_edn_core.proofs.Views.{view_strings_is}
+use Rattle.cbor_edn_core.specs.code.Encoding.{first_kind, form_kind, kinds_are, row_items}
+use Rattle.cbor_edn_core.proofs.code.StringEncodes.{kind_told, both_are}
+use Rattle.cbor_edn_core.proofs.code.Views.{view_strings_is}
 use Rattle.cbor_edn_core.proofs.to_cbor.stream_kind.Goals as goal
 use Rattle.cbor_edn_core.proofs.to_cbor.stream_kind.Goals.{else-are_of_kind-via-then-are_of_kind+else-same_kind, else-are_of_kind-via-else-are_of_kind}
 

@@ -4,9 +4,9 @@ use Rattle.std.proofs.lemmas.List.{length-map}
 use Rattle.cbor_edn_core.specs.Trees.{items}
 use Rattle.cbor_edn_core.specs.View.{texts, view_piece, seen_piece}
 use Rattle.cbor_edn_core.specs.Meaning.{piece_mark}
-use Rattle.cbor_edn_core.specs.Encoding.{no_marks}
-use Rattle.cbor_edn_core.proofs.MeaningSteps.{given}
-use Rattle.cbor_edn_core.proofs.StringEncodes.{one_mark, marks_told, none_is, both_are, second_is_not}
+use Rattle.cbor_edn_core.specs.code.Encoding.{no_marks}
+use Rattle.cbor_edn_core.proofs.meaning.MeaningSteps.{given}
+use Rattle.cbor_edn_core.proofs.code.StringEncodes.{one_mark, marks_told, none_is, both_are, second_is_not}
 use Rattle.cbor_edn_core.proofs.to_cbor.string_mark.Goals as goal
 use Rattle.cbor_edn_core.proofs.to_cbor.string_mark.Goals.{else-is_none-via-then-is_none+else-are_unmarked, else-is_none-via-else-is_none}
 

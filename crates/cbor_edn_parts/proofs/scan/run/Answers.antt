@@ -2,7 +2,7 @@ use Rattle.std.proofs.Common.{ℕ, ◌≡◌, ◌<◌, ◌∷◌, List, length, 
 use Rattle.std.specs.Str.{IsCharBoundary}
 use Rattle.std.proofs.lemmas.List.{get_or-drop}
 use Rattle.std.proofs.lemmas.Str.{IsCharBoundary-before_ascii}
-use Rattle.cbor_edn_parts.specs.Text.{text_bytes}
+use Rattle.cbor_edn_parts.specs.code.Text.{text_bytes}
 use Rattle.cbor_edn_parts.proofs.ByteKinds.{ascii_or_long}
 use Rattle.cbor_edn_parts.proofs.Scans.{begun, going, stopped, ended}
 use Rattle.cbor_edn_parts.proofs.scan.run.Goals as goal

@@ -2,8 +2,8 @@ use Rattle.std.proofs.Common.{ℕ, ◌≡◌, ◌+◌, ◌-◌, ◌≤◌, None,
 use Rattle.std.specs.Prelude.{slice_range}
 use Rattle.std.specs.Str.{IsCharBoundary}
 use Rattle.cbor_edn_parts.specs.Bytes.{IsLong}
-use Rattle.cbor_edn_parts.specs.Lex.{munch}
-use Rattle.cbor_edn_parts.specs.Text.{text_bytes}
+use Rattle.cbor_edn_parts.specs.code.Lex.{munch}
+use Rattle.cbor_edn_parts.specs.code.Text.{text_bytes}
 use Rattle.cbor_edn_parts.proofs.Scans.{front}
 use Rattle.cbor_edn_parts.proofs.scan.run.Given as goal
 

@@ -1,6 +1,6 @@
 use Rattle.std.proofs.Common.{arith}
 use Rattle.cbor_edn_core.specs.View.{item_tree}
-use Rattle.cbor_edn_core.proofs.Decodes.{gives_accepted, gives_refused, gives_deep}
+use Rattle.cbor_edn_core.proofs.meaning.Decodes.{gives_accepted, gives_refused, gives_deep}
 use Rattle.cbor_edn_core.proofs.from_cbor.Item.from_cbor_with_rest_within.Goals as goal
 
 pub returns-clause-accepted : goal.returns-clause-accepted

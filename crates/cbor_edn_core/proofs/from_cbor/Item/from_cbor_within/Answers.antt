@@ -1,7 +1,7 @@
 use Rattle.std.proofs.Common.{arith, [], ◌≡◌, sym, ◌∙◌}
 use Rattle.std.proofs.lemmas.Result.{err_from_is_err_and}
 use Rattle.cbor_edn_core.specs.View.{Item, item_tree}
-use Rattle.cbor_edn_core.proofs.Decodes.{is_empty, not_empty, found_whole, refused_behind, fails_refused, fails_deep}
+use Rattle.cbor_edn_core.proofs.meaning.Decodes.{is_empty, not_empty, found_whole, refused_behind, fails_refused, fails_deep}
 use Rattle.cbor_edn_core.proofs.from_cbor.Item.from_cbor_within.Goals as goal
 
 pub returns-in_err-item-clause-refused : goal.returns-in_err-item-clause-refused

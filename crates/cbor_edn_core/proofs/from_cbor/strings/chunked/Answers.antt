@@ -3,7 +3,7 @@ use Rattle.cbor_edn_parts.specs.Leaves.{literal_bytes}
 use Rattle.cbor_edn_parts.specs.declared.indicator.Indicator.TheVariants.{Indefinite}
 use Rattle.cbor_edn_core.specs.Trees.{Tree, OneItem, StringTree, LastPieceTree, LiteralTree}
 use Rattle.cbor_edn_core.specs.View.{texts, piece_row_onto, item_tree}
-use Rattle.cbor_edn_core.proofs.Views.{view_stream_made}
+use Rattle.cbor_edn_core.proofs.code.Views.{view_stream_made}
 use Rattle.cbor_edn_core.proofs.from_cbor.strings.chunked.Goals as goal
 
 pub returns-in-Some : goal.returns-in-Some

@@ -3,10 +3,10 @@ use Rattle.std.proofs.lemmas.Result.{err_from_is_err_and}
 use Rattle.std.proofs.lemmas.List.{map_push}
 use Rattle.cbor_edn_core.specs.declared.from_cbor.reader.Stop.TheVariants.{Break}
 use Rattle.cbor_edn_core.specs.View.{texts, view_string}
-use Rattle.cbor_edn_core.specs.Growing.{grown}
-use Rattle.cbor_edn_core.specs.CborReading.{past}
-use Rattle.cbor_edn_core.proofs.CborStrings.{one}
-use Rattle.cbor_edn_core.proofs.CborTurns.{until_more, until_fails, until_done}
+use Rattle.cbor_edn_core.specs.code.Growing.{grown}
+use Rattle.cbor_edn_core.specs.code.CborReading.{past}
+use Rattle.cbor_edn_core.proofs.code.CborStrings.{one}
+use Rattle.cbor_edn_core.proofs.code.CborTurns.{until_more, until_fails, until_done}
 use Rattle.cbor_edn_core.proofs.from_cbor.strings.chunks_until.Goals as goal
 
 pub returns-in-Some-clause-exact : goal.returns-in-Some-clause-exact

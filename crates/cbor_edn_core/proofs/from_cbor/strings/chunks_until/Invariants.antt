@@ -1,10 +1,10 @@
 use Rattle.std.proofs.Common.{◌≡◌, ℕ, suc, ◌≤◌, ◌<◌, length, map}
 use Rattle.cbor_edn_core.specs.declared.from_cbor.reader.Stop.TheVariants.{Break}
 use Rattle.cbor_edn_core.specs.View.{texts, view_string}
-use Rattle.cbor_edn_core.specs.Growing.{grown}
-use Rattle.cbor_edn_core.specs.CborReading.{until}
-use Rattle.cbor_edn_core.proofs.CborStrings.{one}
-use Rattle.cbor_edn_core.proofs.CborTurns.{with_front}
+use Rattle.cbor_edn_core.specs.code.Growing.{grown}
+use Rattle.cbor_edn_core.specs.code.CborReading.{until}
+use Rattle.cbor_edn_core.proofs.code.CborStrings.{one}
+use Rattle.cbor_edn_core.proofs.code.CborTurns.{with_front}
 use Rattle.cbor_edn_core.proofs.from_cbor.strings.chunks_until.Given as goal
 
 abbrev pub invariant-turns : goal.invariant-turns

@@ -1,5 +1,5 @@
 use Rattle.cbor_edn_parts.specs.Leaves.{literal_bytes}
-use Rattle.cbor_edn_core.proofs.CborStrings.{definite_read}
+use Rattle.cbor_edn_core.proofs.code.CborStrings.{definite_read}
 use Rattle.cbor_edn_core.proofs.from_cbor.strings.definite.Goals as goal
 
 pub returns-clause-exact : goal.returns-clause-exact

@@ -3,7 +3,7 @@ use Rattle.std.proofs.lemmas.Grind.{common_steps}
 use Rattle.std.specs.String.{string_bytes}
 use Rattle.cbor_edn_core.specs.Trees.{text}
 use Rattle.cbor_edn_core.specs.View.{standalone_tree}
-use Rattle.cbor_edn_core.proofs.Printable.{standalone_spelled}
+use Rattle.cbor_edn_core.proofs.code.Printable.{standalone_spelled}
 use Rattle.cbor_edn_core.proofs.serialize.StandaloneItem.serialize.Goals as goal
 
 pub returns-clause-spells : goal.returns-clause-spells

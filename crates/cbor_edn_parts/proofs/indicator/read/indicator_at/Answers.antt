@@ -3,8 +3,8 @@ use Rattle.std.proofs.lemmas.Bool.{ne_eqb}
 use Rattle.cbor_edn_parts.specs.Indicator.{word_at, indicator_at}
 use Rattle.cbor_edn_parts.specs.declared.indicator.Indicator.{Indicator}
 use Rattle.cbor_edn_parts.specs.declared.indicator.Indicator.TheVariants.{Indefinite, Immediate, One, Two, Four, Eight}
-use Rattle.cbor_edn_parts.specs.Scans.{IsAt}
-use Rattle.cbor_edn_parts.specs.Text.{text_bytes}
+use Rattle.cbor_edn_parts.specs.code.Scans.{IsAt}
+use Rattle.cbor_edn_parts.specs.code.Text.{text_bytes}
 use Rattle.cbor_edn_parts.proofs.indicator.read.indicator_at.Goals as goal
 
 none_here : (text : List ℕ) (at : ℕ) (r : Option ℕ) → IsAt text at r → r ≡ None → drop at text ≡ []

@@ -1,6 +1,6 @@
 use Rattle.std.proofs.Common.{ap, ◌∙◌}
 use Rattle.cbor_edn_parts.specs.Leaves.{integer}
-use Rattle.cbor_edn_parts.specs.NumberTokens.{is_number}
+use Rattle.cbor_edn_parts.specs.code.NumberTokens.{is_number}
 use Rattle.cbor_edn_parts.proofs.Decimals.{decimal_number, is_decimal}
 use Rattle.cbor_edn_parts.proofs.number.Number.decimal.Goals as goal
 

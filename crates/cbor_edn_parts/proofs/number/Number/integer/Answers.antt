@@ -2,8 +2,8 @@ use Rattle.std.proofs.Common.{ℕ, ◌≡◌, ◌∙◌, List, drop, IsTrue, ap}
 use Rattle.std.specs.Prelude.{Bool, ◌↔◌}
 use Rattle.cbor_edn_parts.specs.Leaves.{number_bytes}
 use Rattle.cbor_edn_parts.specs.Number.{IsNumber, MinusSign, radix}
-use Rattle.cbor_edn_parts.specs.NumberReading.{prefix_length, sign_of, unsigned, named_base, base_of, digits_of}
-use Rattle.cbor_edn_parts.specs.NumberTokens.{is_number}
+use Rattle.cbor_edn_parts.specs.code.NumberReading.{prefix_length, sign_of, unsigned, named_base, base_of, digits_of}
+use Rattle.cbor_edn_parts.specs.code.NumberTokens.{is_number}
 use Rattle.cbor_edn_parts.proofs.NumberTexts.{number_texts}
 use Rattle.cbor_edn_parts.proofs.NumberParts.{too_large, integer_by}
 use Rattle.cbor_edn_parts.proofs.number.Number.integer.Goals as goal

@@ -1,4 +1,4 @@
-use Rattle.cbor_edn_parts.specs.NumberTokens as tokens
+use Rattle.cbor_edn_parts.specs.code.NumberTokens as tokens
 use Rattle.cbor_edn_parts.proofs.Tokens.{taken}
 use Rattle.cbor_edn_parts.proofs.number.read.number_at.Goals as goal
 

@@ -1,9 +1,9 @@
 use Rattle.std.proofs.Common.{ℕ, ◌≡◌, List, [], Option, Some, None, drop, ◌∙◌, sym, ap, subst, arith, rules}
-use Rattle.cbor_edn_parts.specs.Ends.{IsSpaced}
-use Rattle.cbor_edn_parts.specs.Lex.{token}
-use Rattle.cbor_edn_parts.specs.Scans.{IsAt}
-use Rattle.cbor_edn_parts.specs.SpaceTokens as tokens
-use Rattle.cbor_edn_parts.specs.Text.{text_bytes}
+use Rattle.cbor_edn_parts.specs.code.Ends.{IsSpaced}
+use Rattle.cbor_edn_parts.specs.code.Lex.{token}
+use Rattle.cbor_edn_parts.specs.code.Scans.{IsAt}
+use Rattle.cbor_edn_parts.specs.code.SpaceTokens as tokens
+use Rattle.cbor_edn_parts.specs.code.Text.{text_bytes}
 use Rattle.cbor_edn_parts.proofs.SeparatorTokens.{Read, end, other, comma, separator_read, separator_refused}
 use Rattle.cbor_edn_parts.proofs.Tokens.{taken}
 use Rattle.cbor_edn_parts.proofs.space.read.separator_behind.Goals as goal

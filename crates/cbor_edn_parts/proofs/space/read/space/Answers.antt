@@ -1,4 +1,4 @@
-use Rattle.cbor_edn_parts.specs.SpaceTokens as tokens
+use Rattle.cbor_edn_parts.specs.code.SpaceTokens as tokens
 use Rattle.cbor_edn_parts.proofs.Tokens.{taken}
 use Rattle.cbor_edn_parts.proofs.space.read.space.Goals as goal
 

@@ -1,7 +1,7 @@
 use Rattle.std.proofs.Common.{Some, drop, ◌∙◌, ap, subst}
-use Rattle.cbor_edn_parts.specs.Ends.{IsSpaced}
-use Rattle.cbor_edn_parts.specs.SpaceTokens as tokens
-use Rattle.cbor_edn_parts.specs.Text.{text_bytes}
+use Rattle.cbor_edn_parts.specs.code.Ends.{IsSpaced}
+use Rattle.cbor_edn_parts.specs.code.SpaceTokens as tokens
+use Rattle.cbor_edn_parts.specs.code.Text.{text_bytes}
 use Rattle.cbor_edn_parts.proofs.Tokens.{taken}
 use Rattle.cbor_edn_parts.proofs.space.read.space_behind.Goals as goal
 

@@ -3,10 +3,10 @@ use Rattle.std.proofs.lemmas.Bool.Decides.{nat_tests}
 use Rattle.std.proofs.lemmas.List.{nil_from_length}
 use Rattle.std.proofs.lemmas.Result.{err_from_is_err_and}
 use Rattle.cbor_edn_parts.specs.Contents.{IsRefusal}
-use Rattle.cbor_edn_parts.specs.ContentReading.{of_bytes, prefixed_bytes, literal_content, is_decoded, refusal, literal_kind, quote_of, behind_quote}
+use Rattle.cbor_edn_parts.specs.code.ContentReading.{of_bytes, prefixed_bytes, literal_content, is_decoded, refusal, literal_kind, quote_of, behind_quote}
 use Rattle.cbor_edn_parts.specs.declared.error.InconsistentEdn.{InconsistentEdn}
 use Rattle.cbor_edn_parts.specs.Leaves.{literal_bytes}
-use Rattle.cbor_edn_parts.specs.LiteralTokens.{is_literal, prefix_of, decoded}
+use Rattle.cbor_edn_parts.specs.code.LiteralTokens.{is_literal, prefix_of, decoded}
 use Rattle.cbor_edn_parts.specs.declared.string.Part.TheVariants.{Between}
 use Rattle.cbor_edn_parts.specs.declared.string.Quote.{Quote}
 use Rattle.cbor_edn_parts.specs.declared.string.StringKind.{StringKind}

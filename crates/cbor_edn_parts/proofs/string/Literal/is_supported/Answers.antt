@@ -1,5 +1,5 @@
 use Rattle.std.proofs.Common.{ap, ◌∙◌}
-use Rattle.cbor_edn_parts.specs.ContentReading.{is_supported_prefix}
+use Rattle.cbor_edn_parts.specs.code.ContentReading.{is_supported_prefix}
 use Rattle.cbor_edn_parts.proofs.ContentTexts.{supported_by}
 use Rattle.cbor_edn_parts.proofs.string.Literal.is_supported.Goals as goal
 

@@ -1,5 +1,5 @@
 use Rattle.std.proofs.Common.{◌≡◌, ◌++◌, drop}
-use Rattle.cbor_edn_parts.specs.LiteralTokens.{decoded}
+use Rattle.cbor_edn_parts.specs.code.LiteralTokens.{decoded}
 use Rattle.cbor_edn_parts.specs.declared.string.Part.TheVariants.{Between}
 use Rattle.cbor_edn_parts.proofs.string.Quote.decode.Given as goal
 

@@ -1,6 +1,6 @@
 use Rattle.std.proofs.Common.{sym, ap, ◌∙◌}
-use Rattle.cbor_edn_parts.specs.ContentReading.{hex_bytes}
-use Rattle.cbor_edn_parts.specs.SpaceTokens.{space_step}
+use Rattle.cbor_edn_parts.specs.code.ContentReading.{hex_bytes}
+use Rattle.cbor_edn_parts.specs.code.SpaceTokens.{space_step}
 use Rattle.cbor_edn_parts.proofs.Decoding.{after_none, going, pushed, refused, ended, unended}
 use Rattle.cbor_edn_parts.proofs.Hexadecimals.{digit_small, hex_first, hex_second, hex_on, hex_refused, hex_all, hex_in_comment, hex_waiting}
 use Rattle.cbor_edn_parts.proofs.string.hexadecimal.decode.Goals as goal

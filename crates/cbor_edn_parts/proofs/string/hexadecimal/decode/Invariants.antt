@@ -1,6 +1,6 @@
 use Rattle.std.proofs.Common.{◌≡◌, ◌<◌, drop, None}
 use Rattle.std.specs.Prelude.{IfSome}
-use Rattle.cbor_edn_parts.specs.ContentReading.{hex_bytes}
+use Rattle.cbor_edn_parts.specs.code.ContentReading.{hex_bytes}
 use Rattle.cbor_edn_parts.specs.declared.space.Within.TheVariants.{Between}
 use Rattle.cbor_edn_parts.proofs.Decoding.{after}
 use Rattle.cbor_edn_parts.proofs.string.hexadecimal.decode.Given as goal

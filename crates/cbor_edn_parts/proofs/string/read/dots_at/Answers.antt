@@ -1,4 +1,4 @@
-use Rattle.cbor_edn_parts.specs.LiteralTokens as tokens
+use Rattle.cbor_edn_parts.specs.code.LiteralTokens as tokens
 use Rattle.cbor_edn_parts.proofs.Tokens.{taken}
 use Rattle.cbor_edn_parts.proofs.string.read.dots_at.Goals as goal
 

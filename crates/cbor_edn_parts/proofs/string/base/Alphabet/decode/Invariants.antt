@@ -1,6 +1,6 @@
 use Rattle.std.proofs.Common.{◌≡◌, ◌^◌, ◌<◌, drop}
-use Rattle.cbor_edn_parts.specs.Alphabets.{alphabet}
-use Rattle.cbor_edn_parts.specs.ContentReading.{base_bytes}
+use Rattle.cbor_edn_parts.specs.code.Alphabets.{alphabet}
+use Rattle.cbor_edn_parts.specs.code.ContentReading.{base_bytes}
 use Rattle.cbor_edn_parts.proofs.Decoding.{after}
 use Rattle.cbor_edn_parts.proofs.string.base.Alphabet.decode.Given as goal
 

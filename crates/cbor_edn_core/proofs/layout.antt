@@ -1,0 +1,9 @@
+-- Spaces by a policy, comments, and items without indicators.
+pub mod BareExamples
+pub mod BareItems
+pub mod CommentedItems
+pub mod LayoutExamples
+pub mod Layouts
+pub mod RegularLayout
+pub mod RegularTrees
+pub mod Unmarked

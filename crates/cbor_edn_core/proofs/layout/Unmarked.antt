@@ -1,0 +1,121 @@
+-- The tree that removal of indicators leaves.
+use Rattle.std.proofs.Common.{ℕ, ◌≡◌, List, [], ◌∷◌, ◌++◌, true, cond, eqb, Option, None, refl, ap, ◌∙◌}
+use Rattle.std.specs.Prelude.{codes, Result, Ok}
+use Rattle.std.proofs.lemmas.Bool.{cond_both}
+use Rattle.cbor_edn_parts.specs.declared.error.ParseErrorKind.{ParseErrorKind}
+use Rattle.cbor_edn_parts.specs.code.SpaceTokens.{is_s, is_ms}
+use Rattle.cbor_edn_parts.proofs.SpaceTexts.{s_texts, ms_texts}
+use Rattle.cbor_edn_parts.proofs.Comments.{spaces_append}
+use Rattle.cbor_edn_core.specs.declared.tree.Label.{Label}
+use Rattle.cbor_edn_core.specs.declared.tree.Label.TheVariants as label
+use Rattle.cbor_edn_core.specs.Items.{Listed, String, Stream, LastPiece, Plus, Element, Pair, Chunk, End, Then, Node, Item}
+use Rattle.cbor_edn_core.specs.Labels.{IsLabel}
+use Rattle.cbor_edn_core.specs.Trees.{Rule, OneItem, OnePiece, OneString, OneEntry, Inside, Rest, Seq, Standalone, Tree, Head, Unmarked, Marked, IsHead, NumberTree, FloatTree, NamedTree, EnclosedTree, ListTree, StringTree, StreamTree, LiteralTree, DotsTree, EmbeddedTree, LastPieceTree, PlusTree, ElementTree, PairTree, ChunkTree, EmptyTree, FullTree, LastTree, MoreTree, NothingTree, SequenceTree, StandaloneTree, Valid, IsJoined, Joined, labelled, Of, items}
+use Rattle.cbor_edn_core.specs.Bare.{bare, is_one_space, first_space, bare_label, unmarked}
+use Rattle.cbor_edn_core.specs.BareLaws.{UnmarkedIsBare, UnmarkedStaysValid}
+
+-- the bare items of a use of a rule
+abbrev bare_of : (s : Rule) → Of s → Of s
+bare_of OneItem x = bare x
+bare_of OnePiece x = bare x
+bare_of OneString x = bare x
+bare_of (OneEntry k) x = bare x
+bare_of (Inside k) x = (None, bare x.1)
+bare_of (Rest k) x = bare x
+bare_of Seq x = bare x
+bare_of Standalone x = bare x
+
+label_bare : (l : Label) (x : Node Item) → labelled (bare_label l) (bare x) ≡ bare (labelled l x)
+unfolding bare
+label_bare (label.Tag n i) x = refl
+label_bare label.Simple x = refl
+
+is_bare : {s : Rule} (w : Tree s) → items (unmarked w) ≡ bare_of s (items w)
+unfolding items bare unmarked
+is_bare (NumberTree x i) = refl
+is_bare (FloatTree f i) = refl
+is_bare (NamedTree b) = refl
+is_bare (EnclosedTree l w) = ap (labelled (bare_label l)) (is_bare w) ∙ label_bare l (items w)
+is_bare (ListTree k w) = ap (λ p. Listed k p.0 p.1) (is_bare w)
+is_bare (StringTree w) = ap String (is_bare w)
+is_bare (StreamTree ms m) = ap Stream (is_bare m)
+is_bare (LiteralTree x i) = refl
+is_bare (DotsTree x) = refl
+is_bare (EmbeddedTree w i) = refl
+is_bare (LastPieceTree p) = ap LastPiece (is_bare p)
+is_bare (PlusTree p s t w) = ap (λ p. Plus p (items (unmarked w))) (is_bare p) ∙ ap (Plus (bare (items p))) (is_bare w)
+is_bare (ElementTree w) = ap Element (is_bare w)
+is_bare (PairTree v s t w) = ap (λ v. Pair v (items (unmarked w))) (is_bare v) ∙ ap (Pair (bare (items v))) (is_bare w)
+is_bare (ChunkTree w) = ap Chunk (is_bare w)
+is_bare (EmptyTree i s) = refl
+is_bare (FullTree h s m) = ap (λ m. (None, m)) (is_bare m)
+is_bare (LastTree e s) = ap (λ e. Then e End) (is_bare e)
+is_bare (MoreTree e s m) = ap (λ e. Then e (items (unmarked m))) (is_bare e) ∙ ap (Then (bare (items e))) (is_bare m)
+is_bare (NothingTree s) = refl
+is_bare (SequenceTree s m) = is_bare m
+is_bare (StandaloneTree s w t) = is_bare w
+
+pub unmarked_is_bare : UnmarkedIsBare
+unmarked_is_bare = (λ w. is_bare w, λ w. is_bare w, λ w. is_bare w)
+
+label_fits : (l : Label) → IsLabel l → IsLabel (bare_label l)
+label_fits (label.Tag n i) v = v
+label_fits label.Simple v = tt
+
+first_is_space : (h : Head) (s : List ℕ) → IsHead h → is_s s ≡ true → is_s (first_space h s) ≡ true
+first_is_space Unmarked s v e = e
+first_is_space (Marked i ms) s v e =
+    cond_both (is_one_space ms) s (ms ++ s) (λ x. is_s x ≡ true) (λ one. e) (λ other. (s_texts (ms ++ s)).0 (spaces_append ((ms_texts ms).1 v).0 ((s_texts s).1 e)))
+
+valid : {s : Rule} (w : Tree s) → Valid w → Valid (unmarked w)
+unfolding Valid unmarked
+valid (NumberTree x i) v = v
+valid (FloatTree f i) v = v
+valid (NamedTree b) v = v
+valid (EnclosedTree l w) v = (label_fits l v.0, valid w v.1)
+valid (ListTree k w) v = valid w v
+valid (StringTree w) v = valid w v
+valid (StreamTree ms m) v = (v.0, valid m v.1)
+valid (LiteralTree x i) v = v
+valid (DotsTree x) v = v
+valid (EmbeddedTree w i) v = v
+valid (LastPieceTree p) v = valid p v
+valid (PlusTree p s t w) v = (valid p v.0, v.1, v.2, valid w v.3)
+valid (ElementTree w) v = valid w v
+valid (PairTree k s t w) v = (valid k v.0, v.1, v.2, valid w v.3)
+valid (ChunkTree w) v = valid w v
+valid (EmptyTree i s) v = v
+valid (FullTree h s m) v = (tt, first_is_space h s v.0 v.1, valid m v.2)
+valid (LastTree e s) v = (valid e v.0, v.1)
+valid (MoreTree e s m) v = (valid e v.0, v.1, valid m v.2)
+valid (NothingTree s) v = v
+valid (SequenceTree s m) v = (v.0, valid m v.1)
+valid (StandaloneTree s w t) v = (v.0, valid w v.1, v.2)
+
+joined : {s : Rule} (w : Tree s) → Joined w → Joined (unmarked w)
+unfolding Joined unmarked
+joined (NumberTree x i) j = tt
+joined (FloatTree f i) j = tt
+joined (NamedTree b) j = tt
+joined (EnclosedTree l w) j = joined w j
+joined (ListTree k w) j = joined w j
+joined (StringTree w) j = joined w j
+joined (StreamTree ms m) j = joined m j
+joined (LiteralTree x i) j = tt
+joined (DotsTree x) j = tt
+joined (EmbeddedTree w i) j = j
+joined (LastPieceTree p) j = joined p j
+joined (PlusTree p s t w) j = (joined p j.0, joined w j.1)
+joined (ElementTree w) j = joined w j
+joined (PairTree k s t w) j = (joined k j.0, joined w j.1)
+joined (ChunkTree w) j = joined w j
+joined (EmptyTree i s) j = tt
+joined (FullTree h s m) j = (tt, joined m j.1)
+joined (LastTree e s) j = joined e j
+joined (MoreTree e s m) j = (joined e j.0, joined m j.1)
+joined (NothingTree s) j = tt
+joined (SequenceTree s m) j = joined m j
+joined (StandaloneTree s w t) j = joined w j
+
+pub unmarked_stays_valid : UnmarkedStaysValid
+unmarked_stays_valid s w v = (valid w v, joined w)

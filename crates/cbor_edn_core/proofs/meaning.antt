@@ -1,0 +1,9 @@
+-- What items mean, and the items of values.
+pub mod DecodedLiterals
+pub mod Decodes
+pub mod Decoding
+pub mod MeaningExamples
+pub mod MeaningSteps
+pub mod Meanings
+pub mod Nestings
+pub mod Recoding

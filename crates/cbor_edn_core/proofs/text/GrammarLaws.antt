@@ -1,0 +1,42 @@
+-- A text spells one list of items and is the text of one tree, and what is spelled are the items of trees.
+use Rattle.std.proofs.Common.{ℕ, List, [], ◌≡◌, ◌≤◌, ap, sym, arith, ◌∙◌}
+use Rattle.std.specs.Prelude.{Result, Ok, max}
+use Rattle.std.proofs.lemmas.Bool.{le-leb}
+use Rattle.cbor_edn_parts.specs.declared.error.ParseErrorKind.{ParseErrorKind}
+use Rattle.cbor_edn_core.specs.Trees.{Rule, Seq, Standalone, Tree, Valid, Joined, FollowOf, Of, onto, text, items, depth}
+use Rattle.cbor_edn_core.specs.code.Reading.{reads}
+use Rattle.cbor_edn_core.specs.Laws.{UniqueItems, UniqueSpaces, SpelledByTrees}
+use Rattle.cbor_edn_core.proofs.text.Outcomes.{within}
+use Rattle.cbor_edn_core.proofs.text.Steps.{reads-again}
+use Rattle.cbor_edn_core.proofs.text.Spelled.{HasTree, tells, spelled_sequence, spelled_one}
+use Rattle.cbor_edn_core.proofs.text.Whole.{sequence_made, standalone_made}
+
+-- Read with a limit that is deep enough.
+read_back : {s : Rule} (limit : ℕ) (w : Tree s) (r : List ℕ) → Valid w → Joined w → FollowOf s r → depth w ≤ limit → reads limit s (onto w r) ≡ Ok (w, r)
+read_back limit w r v j h n = reads-again limit w r v j h ∙ within (depth w) limit (w, r) (le-leb (depth w) limit n)
+
+-- No tree's text begins another's, where both are followed by what may follow.
+pub one_front : {s : Rule} (w v : Tree s) (q r : List ℕ) → Valid w → Joined w → Valid v → Joined v → FollowOf s q → FollowOf s r → onto w q ≡ onto v r → ◌≡◌ {A = Tree s × List ℕ} (w, q) (v, r)
+one_front {s} w v q r vw jw vv jv fq fr e = same_Ok (sym (read_back limit w q vw jw fq (omega arith)) ∙ ap (reads limit s) e ∙ read_back limit v r vv jv fr (omega arith))
+  where
+    limit : ℕ
+    limit = max (depth w) (depth v)
+
+    same_Ok : {x y : Tree s × List ℕ} → ◌≡◌ {A = Result (Tree s × List ℕ) ParseErrorKind} (Ok x) (Ok y) → x ≡ y
+    same_Ok e = cc
+
+-- One text, one tree.
+pub one_tree : {s : Rule} (w v : Tree s) → Valid w → Joined w → Valid v → Joined v → FollowOf s [] → text w ≡ text v → w ≡ v
+one_tree {s} w v vw jw vv jv f e = ap (λ (p : Tree s × List ℕ). p.0) (one_front w v [] [] vw jw vv jv f f e)
+
+same_items : {s : Rule} (x y : Of s) (t : List ℕ) → FollowOf s [] → HasTree s x t → HasTree s y t → x ≡ y
+same_items x y t f a b = sym a.same ∙ ap items (one_tree a.tree b.tree a.valid a.joined b.valid b.joined f (a.text_is [] ∙ sym (b.text_is []))) ∙ b.same
+
+pub unique_items : UniqueItems
+unique_items = (λ x y t hx hy. same_items {s = Seq} x y t tt (spelled_sequence x t hx) (spelled_sequence y t hy), λ x y t hx hy. same_items {s = Standalone} x y t tt (spelled_one x t hx) (spelled_one y t hy))
+
+pub unique_spaces : UniqueSpaces
+unique_spaces = (λ w v vw vv jw jv e. one_tree w v vw jw vv jv tt e, λ w v vw vv jw jv e. one_tree w v vw jw vv jv tt e)
+
+pub spelled_by_trees : SpelledByTrees
+spelled_by_trees = (sequence_made, standalone_made, λ w v. tells w v, λ w v. tells w v)

@@ -1,0 +1,9 @@
+-- What only clauses of private functions cite, and what laws tie to the definitions: nothing of it needs to be believed.
+pub mod CborReading
+pub mod Encoding
+pub mod Growing
+pub mod Lookahead
+pub mod ParserResults
+pub mod Reading
+pub mod Recoding
+pub mod Same
