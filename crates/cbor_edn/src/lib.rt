@@ -4,7 +4,7 @@
 pub mod engine;
 
 pub use cbor_edn_core::from_cbor::CborError;
+pub use cbor_edn_core::laws;
 pub use cbor_edn_core::tree::{Item, NESTING_LIMIT, Sequence, StandaloneItem};
-pub use cbor_edn_core::{laws, recode};
 pub use cbor_edn_parts::error::{Fault, InconsistentEdn, ParseError};
 pub use cbor_edn_parts::looks::Looks;

@@ -8,3 +8,4 @@ pub mod CborSpecials
 pub mod CborTakes
 pub mod CborTrees
 pub mod CborValues
+pub mod Nestings

@@ -5,5 +5,4 @@ pub mod Decoding
 pub mod MeaningExamples
 pub mod MeaningSteps
 pub mod Meanings
-pub mod Nestings
 pub mod Recoding

@@ -1,7 +1,7 @@
 -- Items and trees without their encoding indicators.
 use Rattle.std.specs.Prelude.{ℕ, Bool, false, cond, eqb, List, [], ◌∷◌, ◌++◌, Option, None}
-use Rattle.cbor_edn_core.specs.declared.tree.Label.{Label}
-use Rattle.cbor_edn_core.specs.declared.tree.Label.TheVariants as label
+use Rattle.cbor_edn_core.specs.declared.tree.LabelKind.{LabelKind}
+use Rattle.cbor_edn_core.specs.declared.tree.LabelKind.TheVariants as label
 use Rattle.cbor_edn_core.specs.Items.{Sort, Node, Number, Float, Listed, Tagged, Named, Simple, String, Stream, Literal, Dots, Embedded, LastPiece, Plus, Element, Pair, Chunk, End, Then}
 use Rattle.cbor_edn_core.specs.Trees.{Rule, Tree, Head, Unmarked, Marked, NumberTree, FloatTree, NamedTree, EnclosedTree, ListTree, StringTree, StreamTree, LiteralTree, DotsTree, EmbeddedTree, LastPieceTree, PlusTree, ElementTree, PairTree, ChunkTree, EmptyTree, FullTree, LastTree, MoreTree, NothingTree, SequenceTree, StandaloneTree}
 
@@ -36,7 +36,7 @@ abbrev pub first_space : Head → List ℕ → List ℕ
 first_space Unmarked s = s
 first_space (Marked i ms) s = cond (is_one_space ms) s (ms ++ s)
 
-abbrev pub bare_label : Label → Label
+abbrev pub bare_label : LabelKind → LabelKind
 bare_label (label.Tag n i) = label.Tag n None
 bare_label label.Simple = label.Simple
 

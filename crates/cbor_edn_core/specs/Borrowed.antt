@@ -37,7 +37,7 @@ abbrev mutual
   BorrowsInner (inner.Number n i) = BorrowsNumber n
   BorrowsInner (inner.NonFinite f i) = Unit {0}
   BorrowsInner (inner.Named b) = Unit {0}
-  BorrowsInner (inner.Enclosed' front p before item after) = BorrowsS before × BorrowsInner item × BorrowsS after
+  BorrowsInner (inner.Enclosed' label p before item after) = BorrowsS before × BorrowsInner item × BorrowsS after
   BorrowsInner (inner.Array' p list) = BorrowsList list
   BorrowsInner (inner.Map' p list) = BorrowsPairList list
   BorrowsInner (inner.String' p n row last) = BorrowsPieces row × BorrowsPiece last

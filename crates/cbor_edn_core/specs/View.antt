@@ -63,7 +63,7 @@ module _ {S P M O N T D : Type 0} (leaves : Ghosts S P M O N T D) where
     view_inner (inner.Number n i) = NumberTree (leaves.number n) i
     view_inner (inner.NonFinite f i) = FloatTree f i
     view_inner (inner.Named b) = NamedTree b
-    view_inner (inner.Enclosed' front p before item after) = EnclosedTree front.label (StandaloneTree (leaves.space before) (view_inner item) (leaves.space after))
+    view_inner (inner.Enclosed' label p before item after) = EnclosedTree label.kind (StandaloneTree (leaves.space before) (view_inner item) (leaves.space after))
     view_inner (inner.Array' p list) = ListTree kind.Array (view_list list)
     view_inner (inner.Map' p list) = ListTree kind.Map (view_pair_list list)
     view_inner (inner.String' p n row last) = StringTree (view_pieces row (LastPieceTree (view_piece last)))

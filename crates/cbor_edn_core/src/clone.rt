@@ -77,9 +77,9 @@ fn clone_item<'a>(item: &Item<'a>) -> Result<Item<'a>, AllocError>
         InnerItem::Named(name) => Ok(ItemOf {
             inner: InnerItem::Named(*name),
         }),
-        InnerItem::Enclosed(front, content) => {
+        InnerItem::Enclosed(label, content) => {
             let copy = clone_standalone(content)?;
-            Item::enclosed(*Box::allocator(content), *front, copy)
+            Item::enclosed(*Box::allocator(content), *label, copy)
         }
         InnerItem::Array(list) => {
             let copy = clone_list(list)?;

@@ -6,7 +6,7 @@ ghost use Rattle.cbor_edn_core.specs.Trees.{EnclosedTree, ListTree, StringTree, 
 ghost use Rattle.cbor_edn_core.specs.View.{texts, view_list, view_pair_list, view_string, view_stream, item_tree, standalone_tree};
 
 use crate::tree::{
-    CborString, Front, InnerItem, Item, ItemList, ItemOf, PairList, StandaloneItem,
+    CborString, InnerItem, Item, ItemList, ItemOf, Label, PairList, StandaloneItem,
     StandaloneItemOf, Stream,
 };
 use cbor_edn_parts::space::S;
@@ -16,15 +16,15 @@ use std::alloc::{AllocError, Global};
 impl<'a> Item<'a> {
     pub(crate) fn enclosed(
         alloc: Global,
-        front: Front,
+        label: Label,
         content: StandaloneItem<'a>,
     ) -> Result<Item<'a>, AllocError>
-        ensures view { IfOk result (λ t. item_tree t ≡ EnclosedTree front.label (standalone_tree content.entry)) }
+        ensures view { IfOk result (λ t. item_tree t ≡ EnclosedTree label.kind (standalone_tree content.entry)) }
         ensures borrowed { BorrowsStandalone content.entry → IfOk result BorrowsItem }
     {
         let content = Box::new(alloc, content)?;
         Ok(ItemOf {
-            inner: InnerItem::Enclosed(front, content),
+            inner: InnerItem::Enclosed(label, content),
         })
     }
 

@@ -4,8 +4,8 @@ ghost use Rattle.cbor_edn_core.specs.code.Same.{same, same_indicator, same_word,
 ghost use Rattle.cbor_edn_core.specs.View.{texts, view_head, view_list, view_items, seen, view_pair_list, view_pairs, view_pair, seen_pair, view_string, view_piece, seen_piece, view_stream, view_strings, seen_string, item_tree, standalone_tree, sequence_tree};
 
 use crate::tree::{
-    CborString, Indicator, InnerItem, Item, ItemList, Items, Kp, Label, PairList, Pairs,
-    Piece, Sequence, StandaloneItem, Stream, Strings,
+    CborString, Indicator, InnerItem, Item, ItemList, Items, Kp, LabelKind, PairList, Pairs, Piece,
+    Sequence, StandaloneItem, Stream, Strings,
 };
 use crate::word::{NamedSimple, NonFinite};
 use cbor_edn_parts::space::{Ms, Msc, S};
@@ -87,12 +87,12 @@ fn have_same_indicator(a: Option<Indicator>, b: Option<Indicator>) -> bool
     }
 }
 
-fn have_same_label(a: Label, b: Label) -> bool
+fn have_same_label(a: LabelKind, b: LabelKind) -> bool
     ensures { result ≡ same_label a b }
 {
     match (a, b) {
-        (Label::Tag(n, i), Label::Tag(m, j)) => n == m && have_same_indicator(i, j),
-        (Label::Simple, Label::Simple) => true,
+        (LabelKind::Tag(n, i), LabelKind::Tag(m, j)) => n == m && have_same_indicator(i, j),
+        (LabelKind::Simple, LabelKind::Simple) => true,
         _ => false,
     }
 }
@@ -120,7 +120,7 @@ fn same_item(a: &Item<'_>, b: &Item<'_>) -> bool
         }
         (InnerItem::Named(x), InnerItem::Named(y)) => have_same_name(*x, *y),
         (InnerItem::Enclosed(m, x), InnerItem::Enclosed(n, y)) => {
-            have_same_label(m.label, n.label) && same_standalone(x, y)
+            have_same_label(m.kind, n.kind) && same_standalone(x, y)
         }
         (InnerItem::Array(x), InnerItem::Array(y)) => same_list(x, y),
         (InnerItem::Map(x), InnerItem::Map(y)) => same_pair_list(x, y),

@@ -10,12 +10,14 @@ use crate::tree::{Item, NESTING_LIMIT, Sequence, StandaloneItem};
 use cbor_edn_parts::error::Fault;
 use cbor_edn_parts::space::S;
 use finish::finish_items;
-use reader::{Stop, item_of, items_until};
+use head::Stop;
+use reader::{item_of, items_until};
 use std::alloc::Global;
 use thiserror::Error;
 
 mod finish;
 mod growing;
+mod head;
 mod reader;
 mod special;
 mod strings;

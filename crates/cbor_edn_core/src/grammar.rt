@@ -20,8 +20,8 @@ ghost use Rattle.cbor_edn_core.specs.View.{texts, item_tree, view_list, view_ite
 
 use crate::lookahead::{Opening, closes, is_at, joins, marked, opening_at, tag_number};
 use crate::tree::{
-    CborString, Front, InnerItem, Item, ItemList, Items, Kp, PairList, Pairs, Piece,
-    Sequence, StandaloneItem, Stream, Strings,
+    CborString, InnerItem, Item, ItemList, Items, Kp, Label, PairList, Pairs, Piece, Sequence,
+    StandaloneItem, Stream, Strings,
 };
 use crate::word::Word;
 use cbor_edn_parts::error::{Fault, ParseErrorKind, Refusal};
@@ -79,7 +79,7 @@ fn numbered<'a>(
         let Some(number) = tag_number(text, from, at, looks) else {
             return Err(Fault::Told(Refusal::invalid(from)));
         };
-        return enclosed(alloc, text, Front::tag(number, indicator), to, limit, looks);
+        return enclosed(alloc, text, Label::tag(number, indicator), to, limit, looks);
     }
     Ok((
         Item {
@@ -121,7 +121,7 @@ fn worded<'a>(
                 unspaced(to),
             ))
         }
-        Word::Simple => enclosed(alloc, text, Front::simple(), from, limit, looks),
+        Word::Simple => enclosed(alloc, text, Label::simple(), from, limit, looks),
     }
 }
 
@@ -130,13 +130,13 @@ fn worded<'a>(
 fn enclosed<'a>(
     alloc: Global,
     text: &Text<'a>,
-    front: Front,
+    label: Label,
     from: usize,
     limit: usize,
     looks: &mut Looks,
 ) -> Result<(Item<'a>, End), Fault<Refusal>>
     requires { IsCharBoundary (text_bytes text.now) from }
-    ensures value { ReadsEnd item_tree (text_bytes text.now) result (enclosed_item reads limit front.label (drop from (text_bytes text.now))) }
+    ensures value { ReadsEnd item_tree (text_bytes text.now) result (enclosed_item reads limit label.kind (drop from (text_bytes text.now))) }
     ensures borrowed { IfOk result (λ p. BorrowsItem p.0) }
     ensures place { LandsEnd (text_bytes text.now) from result }
     ensures cost { CostsEnd 12 0 1 (text_bytes text.now) from looks.old.count looks.new.count result }
@@ -151,7 +151,7 @@ fn enclosed<'a>(
     if !is_at(text, to, b')', looks) {
         return Err(Fault::Told(Refusal::invalid(to)));
     }
-    let item = Item::enclosed(alloc, front, content)?;
+    let item = Item::enclosed(alloc, label, content)?;
     Ok((item, unspaced(to + 1)))
 }
 

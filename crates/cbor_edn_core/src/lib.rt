@@ -13,7 +13,6 @@ pub mod laws;
 mod location;
 mod lookahead;
 mod parse;
-pub mod recode;
 mod serialize;
 mod to_cbor;
 pub mod tree;

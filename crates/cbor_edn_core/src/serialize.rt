@@ -7,8 +7,8 @@ ghost use Rattle.cbor_edn_core.specs.Spelling.{Spells, SpellsSequence, SpellsOne
 ghost use Rattle.cbor_edn_core.specs.View.{texts, view_head, view_list, view_items, row_text, view_pair_list, view_pairs, view_pair, pair_row_text, view_string, view_piece, piece_row_text, view_stream, view_strings, string_row_text, item_tree, standalone_tree, sequence_tree};
 
 use crate::tree::{
-    CborString, Indicator, InnerItem, Item, ItemList, Items, Kp, Label, PairList, Pairs,
-    Piece, Sequence, StandaloneItem, Stream, Strings,
+    CborString, Indicator, InnerItem, Item, ItemList, Items, Kp, LabelKind, PairList, Pairs, Piece,
+    Sequence, StandaloneItem, Stream, Strings,
 };
 use cbor_edn_parts::space::{Ms, Msc, S};
 use std::alloc::{AllocError, Global};
@@ -80,15 +80,15 @@ fn push_indicator(out: &mut String, indicator: Option<Indicator>) -> Result<(), 
     }
 }
 
-fn push_label(out: &mut String, label: Label) -> Result<(), AllocError>
+fn push_label(out: &mut String, label: LabelKind) -> Result<(), AllocError>
     ensures { OnOk result (string_bytes out.new ≡ string_bytes out.old ++ label_text label) }
 {
     match label {
-        Label::Tag(number, indicator) => {
+        LabelKind::Tag(number, indicator) => {
             write!(out, "{number}")?;
             push_indicator(out, indicator)
         }
-        Label::Simple => out.push_str("simple"),
+        LabelKind::Simple => out.push_str("simple"),
     }
 }
 
@@ -119,8 +119,8 @@ fn push_item(out: &mut String, item: &Item<'_>) -> Result<(), AllocError>
             push_indicator(out, *indicator)
         }
         InnerItem::Named(name) => out.push_str(name.as_str()),
-        InnerItem::Enclosed(front, content) => {
-            push_label(out, front.label)?;
+        InnerItem::Enclosed(label, content) => {
+            push_label(out, label.kind)?;
             out.push_str("(")?;
             push_standalone(out, content)?;
             out.push_str(")")

@@ -17,8 +17,8 @@ use crate::cbor::{
     push_marked_head, push_simple, push_string, same_kind, simple_number, string_major,
 };
 use crate::tree::{
-    CborString, InnerItem, Item, ItemList, Items, Kp, Label, PairList, Pairs, Piece,
-    Sequence, StandaloneItem, Strings,
+    CborString, InnerItem, Item, ItemList, Items, Kp, LabelKind, PairList, Pairs, Piece, Sequence,
+    StandaloneItem, Strings,
 };
 use cbor_edn_parts::error::{Fault, InconsistentEdn};
 use cbor_edn_parts::indicator::Indicator;
@@ -72,7 +72,7 @@ fn push_item(out: &mut Vec<u8>, item: &Item<'_>) -> Result<(), Fault<Inconsisten
         InnerItem::Number(number, indicator) => push_number(out, number, *indicator),
         InnerItem::NonFinite(float, indicator) => push_float(out, *float, *indicator),
         InnerItem::Named(name) => Ok(push_simple(out, simple_number(*name))?),
-        InnerItem::Enclosed(front, content) => push_enclosed(out, front.label, content),
+        InnerItem::Enclosed(label, content) => push_enclosed(out, label.kind, content),
         InnerItem::Array(list) => push_array(out, list),
         InnerItem::Map(list) => push_map(out, list),
         InnerItem::String(string) => push_pieces(out, string),
@@ -84,17 +84,17 @@ fn push_item(out: &mut Vec<u8>, item: &Item<'_>) -> Result<(), Fault<Inconsisten
 #[tactic(auto, unfolding(crate::specs::Trees::items))]
 fn push_enclosed(
     out: &mut Vec<u8>,
-    label: Label,
+    label: LabelKind,
     content: &StandaloneItem<'_>,
 ) -> Result<(), Fault<InconsistentEdn>>
     ensures { Encodes encoding (means (trees.labelled label (trees.items (standalone_tree content.now)))) out.old.items out.new.items result }
 {
     match label {
-        Label::Tag(number, indicator) => {
+        LabelKind::Tag(number, indicator) => {
             push_marked_head(out, 6, indicator, number)?;
             push_item(out, &content.item)
         }
-        Label::Simple => push_numeric(out, &content.item),
+        LabelKind::Simple => push_numeric(out, &content.item),
     }
 }
 

@@ -118,7 +118,7 @@ pub enum InnerItemOf<O: Drop, M: Drop, C: Drop, E: Drop, N: Drop, L: Drop, D: Dr
     /// A simple value by its name.
     Named(NamedSimple),
     /// An item between parentheses, and what stands in front of them.
-    Enclosed(Front, Box<StandaloneItemOf<O, M, C, E, N, L, D>>),
+    Enclosed(Label, Box<StandaloneItemOf<O, M, C, E, N, L, D>>),
     Array(Box<ItemListOf<O, M, C, E, N, L, D>>),
     Map(Box<PairListOf<O, M, C, E, N, L, D>>),
     String(Box<CborStringOf<O, M, C, E, N, L, D>>),
@@ -128,7 +128,7 @@ pub enum InnerItemOf<O: Drop, M: Drop, C: Drop, E: Drop, N: Drop, L: Drop, D: Dr
 
 /// What stands in front of an item between parentheses.
 #[derive(Clone, Copy, Debug, PartialEq, Eq)]
-pub enum Label {
+pub enum LabelKind {
     /// The number of a tag and its encoding indicator.
     Tag(u64, Option<Indicator>),
     /// The word `simple`.
@@ -137,27 +137,27 @@ pub enum Label {
 
 /// A label whose number is below 2^64, which proofs of the text know.
 #[derive(Clone, Copy, Debug)]
-pub struct Front {
-    pub(crate) label: Label,
-    ghost fits: { IsLabel label } by { IsLabel-prop label },
+pub struct Label {
+    pub(crate) kind: LabelKind,
+    ghost fits: { IsLabel kind } by { IsLabel-prop kind },
 }
 
-impl Front {
-    ghost use Rattle.cbor_edn_core.specs.declared.tree.Label.TheVariants.{Tag, Simple};
+impl Label {
+    ghost use Rattle.cbor_edn_core.specs.declared.tree.LabelKind.TheVariants.{Tag, Simple};
 
-    pub(crate) fn tag(number: u64, indicator: Option<Indicator>) -> Front
-        ensures { result.label ≡ Tag number indicator }
+    pub(crate) fn tag(number: u64, indicator: Option<Indicator>) -> Label
+        ensures { result.kind ≡ Tag number indicator }
     {
-        Front {
-            label: Label::Tag(number, indicator),
+        Label {
+            kind: LabelKind::Tag(number, indicator),
         }
     }
 
-    pub(crate) fn simple() -> Front
-        ensures { result.label ≡ Simple }
+    pub(crate) fn simple() -> Label
+        ensures { result.kind ≡ Simple }
     {
-        Front {
-            label: Label::Simple,
+        Label {
+            kind: LabelKind::Simple,
         }
     }
 }

@@ -1,6 +1,6 @@
 //! Bytes that are decoded and encoded again.
 use crate::common::digits_of;
-use cbor_edn::recode::{recoded, recoded_by_text};
+use cbor_edn::laws::recode::{recoded, recoded_by_text};
 use std::test::Fail;
 
 #[test]

@@ -9,11 +9,11 @@ use Rattle.cbor_edn_core.specs.declared.cbor.Width.{Width}
 use Rattle.cbor_edn_core.specs.declared.cbor.Width.TheVariants.{Immediate, One, Two, Four, Eight}
 use Rattle.cbor_edn_core.specs.declared.word.NonFinite.{NonFinite}
 use Rattle.cbor_edn_core.specs.declared.from_cbor.CborError.TheVariants.{TooDeep}
-use Rattle.cbor_edn_core.specs.declared.from_cbor.reader.Stop.{Stop}
-use Rattle.cbor_edn_core.specs.declared.from_cbor.reader.Stop.TheVariants.{Break}
+use Rattle.cbor_edn_core.specs.declared.from_cbor.head.Stop.{Stop}
+use Rattle.cbor_edn_core.specs.declared.from_cbor.head.Stop.TheVariants.{Break}
 use Rattle.cbor_edn_core.specs.Value.{Value, unsigned, negative, string, chunks, array, object, tag, simple, float, Values, no_values, value, Pairs, no_pairs, pair, Chunk, head, ArgumentFits, LengthFits, open_head, break, list_encoding, string_major, chunk_encoding, chunk_encodings, ChunkFits, ChunksFit, encoding, encodings, pair_encodings, values_len, pairs_len, Fits, ValuesFit, PairsFit, float_bits, simple_width, IsSimple, IsFloatWidth}
 use Rattle.cbor_edn_core.specs.code.CborReading.{◌>>=◌, Reads, Reader, Head, head_at, many, until, several, past, pair_at, string_by, simple_by, float_by, special_by, item_by, item_at, inner, Makes, simple_nesting}
-use Rattle.cbor_edn_core.proofs.meaning.Nestings.{value_nesting, values_nesting, pairs_nesting}
+use Rattle.cbor_edn_core.proofs.bytes.Nestings.{value_nesting, values_nesting, pairs_nesting}
 use Rattle.cbor_edn_core.proofs.bytes.CborHeads.{head_again, open_again}
 use Rattle.cbor_edn_core.proofs.bytes.CborSpecials.{one_byte, two_bytes, simple_fits, simple_shallow, float_fits, float_again}
 use Rattle.cbor_edn_core.proofs.bytes.CborOutcomes.{outcome, within, beyond, none, outcome_then, outcome_map, many_none, more, until_more_at, until_end_at, string_again, chunks_again, chunks_many, values_many, pairs_many, going}

@@ -11,8 +11,8 @@ use Rattle.cbor_edn_core.specs.declared.cbor.Width.TheVariants.{Immediate, One, 
 use Rattle.cbor_edn_core.specs.declared.word.NonFinite.{NonFinite}
 use Rattle.cbor_edn_core.specs.declared.from_cbor.CborError.{CborError}
 use Rattle.cbor_edn_core.specs.declared.from_cbor.CborError.TheVariants.{TooDeep}
-use Rattle.cbor_edn_core.specs.declared.from_cbor.reader.Stop.{Stop}
-use Rattle.cbor_edn_core.specs.declared.from_cbor.reader.Stop.TheVariants.{Break}
+use Rattle.cbor_edn_core.specs.declared.from_cbor.head.Stop.{Stop}
+use Rattle.cbor_edn_core.specs.declared.from_cbor.head.Stop.TheVariants.{Break}
 use Rattle.cbor_edn_core.specs.Value.{Value, unsigned, negative, string, chunks, array, object, tag, head, open_head, string_major, is_content, chunk_encoding, ChunkFits, encoding}
 use Rattle.cbor_edn_core.specs.Decoded.{high_bytes}
 use Rattle.cbor_edn_core.specs.code.CborReading.{◌>>=◌, Reads, Reader, shown, head_at, head_by, argument_at, many, until, several, past, turn, string_at, chunk_at, chunk_by, string_by, pair_at, item_by, item_at, array_by, map_by, number_by, tag_by, simple_by, float_by, special_by, float_of}

@@ -2,7 +2,7 @@
 use Rattle.std.proofs.Common.{◌≡◌, ℕ, ◌≤◌, max, List, ◌++◌, Ok, refl, sym, ap, ◌∙◌, arith}
 use Rattle.cbor_edn_core.specs.Value.{Value, encoding, Enc}
 use Rattle.cbor_edn_core.specs.CborLaws.{OneEncoding}
-use Rattle.cbor_edn_core.proofs.meaning.Nestings.{value_nesting}
+use Rattle.cbor_edn_core.proofs.bytes.Nestings.{value_nesting}
 use Rattle.cbor_edn_core.proofs.bytes.CborHeads.{ok_is}
 use Rattle.cbor_edn_core.proofs.bytes.CborValues.{value_at}
 use Rattle.cbor_edn_core.proofs.bytes.CborOutcomes.{within}

@@ -8,8 +8,8 @@ use Rattle.cbor_edn_core.specs.declared.cbor.Width.{Width}
 use Rattle.cbor_edn_core.specs.declared.cbor.Width.TheVariants.{Immediate, One, Two, Four, Eight}
 use Rattle.cbor_edn_core.specs.declared.from_cbor.CborError.{CborError}
 use Rattle.cbor_edn_core.specs.declared.from_cbor.CborError.TheVariants.{TooDeep}
-use Rattle.cbor_edn_core.specs.declared.from_cbor.reader.Stop.{Stop}
-use Rattle.cbor_edn_core.specs.declared.from_cbor.reader.Stop.TheVariants.{Break, EndOfData}
+use Rattle.cbor_edn_core.specs.declared.from_cbor.head.Stop.{Stop}
+use Rattle.cbor_edn_core.specs.declared.from_cbor.head.Stop.TheVariants.{Break, EndOfData}
 use Rattle.cbor_edn_core.specs.Value.{Value, unsigned, negative, string, chunks, array, object, tag, simple, float, Values, no_values, value, Pairs, no_pairs, pair, Chunk, head, ArgumentFits, LengthFits, float_bits, simple_width, open_head, break, list_encoding, string_major, is_content, chunk_encoding, chunk_encodings, ChunkFits, ChunksFit, encoding, encodings, pair_encodings, values_len, pairs_len, Fits}
 use Rattle.cbor_edn_core.specs.code.CborReading.{◌>>=◌, Reader, many, until, past, string_at, chunk_at}
 use Rattle.cbor_edn_core.proofs.bytes.CborHeads.{head_again}

@@ -11,7 +11,7 @@ use Rattle.cbor_edn_parts.specs.declared.string.StringKind.{StringKind}
 use Rattle.cbor_edn_core.specs.declared.cbor.Width.{Width}
 use Rattle.cbor_edn_core.specs.declared.from_cbor.CborError.{CborError}
 use Rattle.cbor_edn_core.specs.declared.from_cbor.CborError.TheVariants.{OtherChunk, OpenChunk, MissingBytes, InvalidUtf8}
-use Rattle.cbor_edn_core.specs.declared.from_cbor.reader.Stop.TheVariants.{Break}
+use Rattle.cbor_edn_core.specs.declared.from_cbor.head.Stop.TheVariants.{Break}
 use Rattle.cbor_edn_core.specs.Trees.{Tree, OneString, StringTree, LiteralTree, LastPieceTree}
 use Rattle.cbor_edn_core.specs.Value.{is_content, string_major}
 use Rattle.cbor_edn_core.specs.Decoded.{indicator_of}

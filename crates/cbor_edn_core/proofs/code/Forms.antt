@@ -3,13 +3,13 @@ use Rattle.std.proofs.Common.{◌≡◌, ◌≢◌, Bool, true, false, Option, N
 use Rattle.std.specs.Global.{Box}
 use Rattle.cbor_edn_parts.specs.declared.indicator.Indicator.{Indicator}
 use Rattle.cbor_edn_core.specs.declared.tree.CborStringOf.{CborStringOf}
-use Rattle.cbor_edn_core.specs.declared.tree.Front.{Front}
+use Rattle.cbor_edn_core.specs.declared.tree.Label.{Label}
 use Rattle.cbor_edn_core.specs.declared.tree.InnerItemOf.{InnerItemOf, roll-InnerItemOf, roll-out-InnerItemOf}
 use Rattle.cbor_edn_core.specs.declared.tree.InnerItemOf.TheBlock.{shown-the_row-CborStringOf-row-3-0}
 use Rattle.cbor_edn_core.specs.declared.tree.InnerItemOf.TheVariants as inner
 use Rattle.cbor_edn_core.specs.declared.tree.InnerItemOf.TheViews.{outs-String', rolls-String}
 use Rattle.cbor_edn_core.specs.declared.tree.ItemListOf.{ItemListOf}
-use Rattle.cbor_edn_core.specs.declared.tree.Label.TheVariants as label
+use Rattle.cbor_edn_core.specs.declared.tree.LabelKind.TheVariants as label
 use Rattle.cbor_edn_core.specs.declared.tree.PairListOf.{PairListOf}
 use Rattle.cbor_edn_core.specs.declared.tree.StandaloneItemOf.{StandaloneItemOf}
 use Rattle.cbor_edn_core.specs.declared.tree.StreamOf.{StreamOf, StreamOf'}
@@ -63,7 +63,7 @@ module _ {S P M O N T D : Type 0} where
   IsForm Number y = (n : N) × (i : Option Indicator) × (y ≡ inner.Number n i)
   IsForm NonFinite y = (f : word.NonFinite) × (i : Option Indicator) × (y ≡ inner.NonFinite f i)
   IsForm Named y = (b : NamedSimple) × (y ≡ inner.Named b)
-  IsForm Enclosed y = (l : Front) × (b : Box (StandaloneItemOf S P M O N T D)) × (y ≡ inner.Enclosed l b)
+  IsForm Enclosed y = (l : Label) × (b : Box (StandaloneItemOf S P M O N T D)) × (y ≡ inner.Enclosed l b)
   IsForm Array y = (b : Box (ItemListOf S P M O N T D)) × (y ≡ inner.Array b)
   IsForm Map y = (b : Box (PairListOf S P M O N T D)) × (y ≡ inner.Map b)
   IsForm String y = (b : Box (CborStringOf S P M O N T D)) × (y ≡ inner.String b)

@@ -41,7 +41,7 @@ mutual
   inner_valid (inner.Number n i) = n.spelled
   inner_valid (inner.NonFinite f i) = tt
   inner_valid (inner.Named b) = tt
-  inner_valid (inner.Enclosed' front p before item after) = (front.fits, (before.spelled, inner_valid item, after.spelled))
+  inner_valid (inner.Enclosed' label p before item after) = (label.fits, (before.spelled, inner_valid item, after.spelled))
   inner_valid (inner.Array' p list) = list_valid list
   inner_valid (inner.Map' p list) = pair_list_valid list
   inner_valid (inner.String' p n row last) = pieces_valid row _ (piece_valid last)

@@ -6,7 +6,7 @@ use Rattle.cbor_edn_parts.specs.Indicator.{indicator_text}
 use Rattle.cbor_edn_core.specs.Items.{Row, Elements, Strings, Bracketed, entries_of}
 use Rattle.cbor_edn_core.specs.Spelling.{opening, ending}
 use Rattle.cbor_edn_core.specs.Trees.{OneItem, OnePiece, OneString, OneEntry, Inside, Rest, Seq, Standalone, Head, Tree, NumberTree, FloatTree, NamedTree, EnclosedTree, ListTree, StringTree, StreamTree, LiteralTree, DotsTree, EmbeddedTree, LastPieceTree, PlusTree, ElementTree, ChunkTree, PairTree, EmptyTree, FullTree, LastTree, MoreTree, NothingTree, SequenceTree, StandaloneTree, head_text, label_text, onto, text}
-use Rattle.cbor_edn_core.specs.declared.tree.Label.{Label}
+use Rattle.cbor_edn_core.specs.declared.tree.LabelKind.{LabelKind}
 use Rattle.cbor_edn_core.specs.declared.word.NamedSimple.{NamedSimple}
 use Rattle.cbor_edn_core.specs.declared.word.NonFinite.{NonFinite}
 use Rattle.cbor_edn_core.specs.Words.{named_text, non_finite_text}
@@ -25,7 +25,7 @@ pub text_named : (b : NamedSimple) → text (NamedTree b) ≡ named_text b
 unfolding onto
 text_named b = append-nil (named_text b)
 
-pub text_enclosed : (l : Label) (w : Tree Standalone) → text (EnclosedTree l w) ≡ label_text l ++ (40 ∷ (text w ++ (41 ∷ [])))
+pub text_enclosed : (l : LabelKind) (w : Tree Standalone) → text (EnclosedTree l w) ≡ label_text l ++ (40 ∷ (text w ++ (41 ∷ [])))
 unfolding onto
 text_enclosed l w = ap (λ t. label_text l ++ (40 ∷ t)) (parted w (41 ∷ []))
 

@@ -11,8 +11,8 @@ use Rattle.cbor_edn_core.specs.declared.word.NamedSimple.TheVariants.{False, Tru
 use Rattle.cbor_edn_core.specs.Items as kind
 use Rattle.cbor_edn_core.specs.Items.{Row, Bracketed, entries_of, Item, Node, Number, Named, Simple}
 use Rattle.cbor_edn_core.specs.Trees.{OneItem, OneEntry, Rest, Seq, Tree, EnclosedTree, ListTree, ElementTree, PairTree, StandaloneTree}
-use Rattle.cbor_edn_core.specs.declared.tree.Label.{Label}
-use Rattle.cbor_edn_core.specs.declared.tree.Label.TheVariants as label
+use Rattle.cbor_edn_core.specs.declared.tree.LabelKind.{LabelKind}
+use Rattle.cbor_edn_core.specs.declared.tree.LabelKind.TheVariants as label
 use Rattle.cbor_edn_core.specs.Value as values
 use Rattle.cbor_edn_core.specs.Value.{Value, unsigned, negative, string, chunks, array, object, tag, simple, float, Values, no_values, value, Pairs, no_pairs, pair}
 use Rattle.cbor_edn_core.specs.Decoded as decoded
@@ -39,7 +39,7 @@ inside_fixed i None f = refl
 inside_fixed None (Some m) f = ap (λ m. inside None (Some m)) f
 inside_fixed (Some i) (Some m) f = ap (λ m. inside (Some i) (Some m)) f
 
-enclosed_fixed : (l : Label) (w : Tree OneItem) → laid line w ≡ w → laid line (EnclosedTree l (alone w)) ≡ EnclosedTree l (alone w)
+enclosed_fixed : (l : LabelKind) (w : Tree OneItem) → laid line w ≡ w → laid line (EnclosedTree l (alone w)) ≡ EnclosedTree l (alone w)
 unfolding laid from_first to_last in_front behind
 enclosed_fixed l w h = ap (λ w. EnclosedTree l (alone w)) h
 

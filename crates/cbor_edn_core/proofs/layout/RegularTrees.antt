@@ -7,8 +7,8 @@ use Rattle.cbor_edn_parts.specs.declared.string.StringKind.{StringKind}
 use Rattle.cbor_edn_parts.specs.Comments.{from_first, to_last, in_front as front, behind}
 use Rattle.cbor_edn_parts.specs.Spacing.{Spacing, Least, OneLine}
 use Rattle.cbor_edn_core.specs.declared.word.NamedSimple.TheVariants.{False, True, Null, Undefined}
-use Rattle.cbor_edn_core.specs.declared.tree.Label.{Label}
-use Rattle.cbor_edn_core.specs.declared.tree.Label.TheVariants as label
+use Rattle.cbor_edn_core.specs.declared.tree.LabelKind.{LabelKind}
+use Rattle.cbor_edn_core.specs.declared.tree.LabelKind.TheVariants as label
 use Rattle.cbor_edn_core.specs.Items.{Row, Elements, Sort, Item, Node, Number, Float, Listed, Tagged, Named, Simple, String, Stream, Literal, Dots, Embedded, LastPiece, Plus, Element, Pair, Chunk, End, Then}
 use Rattle.cbor_edn_core.specs.Trees.{Rule, OneItem, OnePiece, OneString, OneEntry, Inside, Rest, Seq, Standalone, Tree, Head, Unmarked, Marked, mark, NumberTree, FloatTree, NamedTree, EnclosedTree, ListTree, StringTree, StreamTree, LiteralTree, DotsTree, EmbeddedTree, LastPieceTree, PlusTree, ElementTree, PairTree, ChunkTree, EmptyTree, FullTree, LastTree, MoreTree, NothingTree, SequenceTree, StandaloneTree, labelled, Of, items}
 use Rattle.cbor_edn_core.specs.Value as values
@@ -103,12 +103,12 @@ line = Inline OneLine
 abbrev least : Layout
 least = Inline Least
 
-label_regular : (l : Label) (x : Node Item) → regular (labelled l x) ≡ EnclosedTree l (alone (regular x))
+label_regular : (l : LabelKind) (x : Node Item) → regular (labelled l x) ≡ EnclosedTree l (alone (regular x))
 unfolding regular
 label_regular (label.Tag n i) x = refl
 label_regular label.Simple x = refl
 
-label_single : (l : Label) (x : Node Item) → Single (labelled l x) → Single x
+label_single : (l : LabelKind) (x : Node Item) → Single (labelled l x) → Single x
 label_single (label.Tag n i) x s = s
 label_single label.Simple x s = s
 

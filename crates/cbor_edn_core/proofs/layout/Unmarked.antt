@@ -6,8 +6,8 @@ use Rattle.cbor_edn_parts.specs.declared.error.ParseErrorKind.{ParseErrorKind}
 use Rattle.cbor_edn_parts.specs.code.SpaceTokens.{is_s, is_ms}
 use Rattle.cbor_edn_parts.proofs.SpaceTexts.{s_texts, ms_texts}
 use Rattle.cbor_edn_parts.proofs.Comments.{spaces_append}
-use Rattle.cbor_edn_core.specs.declared.tree.Label.{Label}
-use Rattle.cbor_edn_core.specs.declared.tree.Label.TheVariants as label
+use Rattle.cbor_edn_core.specs.declared.tree.LabelKind.{LabelKind}
+use Rattle.cbor_edn_core.specs.declared.tree.LabelKind.TheVariants as label
 use Rattle.cbor_edn_core.specs.Items.{Listed, String, Stream, LastPiece, Plus, Element, Pair, Chunk, End, Then, Node, Item}
 use Rattle.cbor_edn_core.specs.Labels.{IsLabel}
 use Rattle.cbor_edn_core.specs.Trees.{Rule, OneItem, OnePiece, OneString, OneEntry, Inside, Rest, Seq, Standalone, Tree, Head, Unmarked, Marked, IsHead, NumberTree, FloatTree, NamedTree, EnclosedTree, ListTree, StringTree, StreamTree, LiteralTree, DotsTree, EmbeddedTree, LastPieceTree, PlusTree, ElementTree, PairTree, ChunkTree, EmptyTree, FullTree, LastTree, MoreTree, NothingTree, SequenceTree, StandaloneTree, Valid, IsJoined, Joined, labelled, Of, items}
@@ -25,7 +25,7 @@ bare_of (Rest k) x = bare x
 bare_of Seq x = bare x
 bare_of Standalone x = bare x
 
-label_bare : (l : Label) (x : Node Item) → labelled (bare_label l) (bare x) ≡ bare (labelled l x)
+label_bare : (l : LabelKind) (x : Node Item) → labelled (bare_label l) (bare x) ≡ bare (labelled l x)
 unfolding bare
 label_bare (label.Tag n i) x = refl
 label_bare label.Simple x = refl
@@ -58,7 +58,7 @@ is_bare (StandaloneTree s w t) = is_bare w
 pub unmarked_is_bare : UnmarkedIsBare
 unmarked_is_bare = (λ w. is_bare w, λ w. is_bare w, λ w. is_bare w)
 
-label_fits : (l : Label) → IsLabel l → IsLabel (bare_label l)
+label_fits : (l : LabelKind) → IsLabel l → IsLabel (bare_label l)
 label_fits (label.Tag n i) v = v
 label_fits label.Simple v = tt
 

@@ -17,7 +17,7 @@ use Rattle.cbor_edn_core.specs.declared.tree.ItemsOf.{ItemsOf}
 use Rattle.cbor_edn_core.specs.View.{texts, view_items, view_some}
 use Rattle.cbor_edn_core.specs.declared.from_cbor.CborError.{CborError}
 use Rattle.cbor_edn_core.specs.declared.from_cbor.CborError.TheVariants.{TooDeep}
-use Rattle.cbor_edn_core.specs.declared.from_cbor.reader.Stop.TheVariants.{EndOfData}
+use Rattle.cbor_edn_core.specs.declared.from_cbor.head.Stop.TheVariants.{EndOfData}
 use Rattle.cbor_edn_core.specs.Items.{Elements, Items, nesting}
 use Rattle.cbor_edn_core.specs.Trees.{Tree, OneItem, Rest, Seq, NothingTree, SequenceTree, items}
 use Rattle.cbor_edn_core.specs.Value.{Value, Values, encoding, encodings, Enc, EncAll}
@@ -25,7 +25,7 @@ use Rattle.cbor_edn_core.specs.Meaning.{means}
 use Rattle.cbor_edn_parts.specs.Refusals.{IfTold}
 use Rattle.cbor_edn_core.specs.Decoded.{item_of, items_of, regular, sequence_tree_of, regular_sequence, Begins, IsDecoded, IsDecodedSequence, NoneIs, IsTooDeep, NoSequence, IsTooDeepSequence}
 use Rattle.cbor_edn_core.specs.code.CborReading.{◌>>=◌, Reader, Gives, Fails, shown, item_at, until, past, turn, trees, element_row, sequence_at}
-use Rattle.cbor_edn_core.proofs.meaning.Nestings.{value_nesting, values_nesting, item_nests, items_nest}
+use Rattle.cbor_edn_core.proofs.bytes.Nestings.{value_nesting, values_nesting, item_nests, items_nest}
 use Rattle.cbor_edn_core.proofs.bytes.CborHeads.{IsBytes, bind_ok}
 use Rattle.cbor_edn_core.proofs.code.CborTurns.{shown_ok, shown_err}
 use Rattle.cbor_edn_core.proofs.bytes.CborValues.{values_of, list_of, value_at}

@@ -14,8 +14,8 @@ use Rattle.cbor_edn_core.specs.Items.{Row, Elements, Pairs, Strings, Bracketed, 
 use Rattle.cbor_edn_core.specs.Spelling.{opening, ending}
 use Rattle.cbor_edn_core.specs.Labels.{IsLabel}
 use Rattle.cbor_edn_core.specs.Trees.{Rule, OneItem, OnePiece, OneString, OneEntry, Inside, Rest, Seq, Standalone, Head, Unmarked, Marked, head_text, label_text, Tree, NumberTree, FloatTree, NamedTree, EnclosedTree, ListTree, StringTree, StreamTree, LiteralTree, DotsTree, EmbeddedTree, LastPieceTree, PlusTree, ElementTree, PairTree, ChunkTree, EmptyTree, FullTree, LastTree, MoreTree, NothingTree, SequenceTree, StandaloneTree, onto, IsHead, Valid, IsJoined, Joined, Parts, FollowOf, depth}
-use Rattle.cbor_edn_core.specs.declared.tree.Label.{Label}
-use Rattle.cbor_edn_core.specs.declared.tree.Label.TheVariants as label
+use Rattle.cbor_edn_core.specs.declared.tree.LabelKind.{LabelKind}
+use Rattle.cbor_edn_core.specs.declared.tree.LabelKind.TheVariants as label
 use Rattle.cbor_edn_core.specs.declared.word.NamedSimple.{NamedSimple}
 use Rattle.cbor_edn_core.specs.declared.word.NamedSimple.TheVariants.{False}
 use Rattle.cbor_edn_core.specs.declared.word.NonFinite.{NonFinite}
@@ -103,12 +103,12 @@ module _ (g : ℕ → (s : Rule) → Reader s) where
   unfolding word_item
   float-again limit f i r h = rw (flat {A = Tree OneItem × List ℕ} limit (FloatTree f i, r)) (word_next limit (word.NonFinite f) (indicator_text i ++ r) (marked_ends i r h) ∙ rw (spec-again i r h))
 
-  label_next : (limit : ℕ) (l : Label) (xs : List ℕ) → IsLabel l → item g limit (label_text l ++ (40 ∷ xs)) ≡ enclosed_item g limit l (40 ∷ xs)
+  label_next : (limit : ℕ) (l : LabelKind) (xs : List ℕ) → IsLabel l → item g limit (label_text l ++ (40 ∷ xs)) ≡ enclosed_item g limit l (40 ∷ xs)
   unfolding word_item number_end tag_item
   label_next limit (label.Tag n i) xs v = rw append_assoc (number_next limit (decimal n) i (40 ∷ xs) (tag_digits n v) (halts_tag i xs) (spec-tag i xs) ∙ then_ok _ (ap or_invalid (tag_number-again n v)) refl)
   label_next limit label.Simple xs v = word_next limit word.Simple (40 ∷ xs) refl
 
-  enclosed-again : (limit : ℕ) (l : Label) (w : Tree Standalone) (r : List ℕ) → ((limit : ℕ) → g limit Standalone (onto w (41 ∷ r)) ≡ outcome (depth w) limit (w, 41 ∷ r)) → enclosed_item g limit l (40 ∷ onto w (41 ∷ r)) ≡ outcome (suc (depth w)) limit (EnclosedTree l w, r)
+  enclosed-again : (limit : ℕ) (l : LabelKind) (w : Tree Standalone) (r : List ℕ) → ((limit : ℕ) → g limit Standalone (onto w (41 ∷ r)) ≡ outcome (depth w) limit (w, 41 ∷ r)) → enclosed_item g limit l (40 ∷ onto w (41 ∷ r)) ≡ outcome (suc (depth w)) limit (EnclosedTree l w, r)
   unfolding enclosed_item
   enclosed-again zero l w r e = then_ok _ (byte-again 40 _) (sym (too_deep {A = Tree OneItem × List ℕ} (depth w) (EnclosedTree l w, r)))
   enclosed-again (suc limit) l w r e = then_ok _ (byte-again 40 _) (then_done (depth w) limit _ (e limit) (then_ok _ (byte-again 41 r) refl)) ∙ sym (deeper {A = Tree OneItem × List ℕ} (depth w) limit (EnclosedTree l w, r))

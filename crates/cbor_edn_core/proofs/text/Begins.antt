@@ -23,7 +23,7 @@ use Rattle.cbor_edn_parts.specs.declared.string.InDots.{InDots}
 use Rattle.cbor_edn_parts.specs.declared.string.InDots.TheVariants as in_dots
 use Rattle.cbor_edn_core.specs.Items.{Row, Array, Map}
 use Rattle.cbor_edn_core.specs.Trees.{OneItem, OnePiece, OneString, OneEntry, Rest, Tree, NumberTree, FloatTree, NamedTree, EnclosedTree, ListTree, StringTree, StreamTree, LiteralTree, DotsTree, EmbeddedTree, LastPieceTree, PlusTree, ElementTree, PairTree, ChunkTree, LastTree, MoreTree, onto, Valid, starts_digits, starts_number, joins, Parts, Next}
-use Rattle.cbor_edn_core.specs.declared.tree.Label.TheVariants as label
+use Rattle.cbor_edn_core.specs.declared.tree.LabelKind.TheVariants as label
 use Rattle.cbor_edn_core.specs.declared.word.NamedSimple.TheVariants.{False}
 use Rattle.cbor_edn_core.specs.declared.word.NonFinite.TheVariants.{Infinity}
 use Rattle.cbor_edn_core.specs.code.Reading.{starts_with, starts_string}

@@ -9,7 +9,7 @@ use Rattle.cbor_edn_parts.specs.code.Lex.{munch, push}
 use Rattle.cbor_edn_core.specs.Items.{Array, Map, Number, Listed, Element, Pair, End, Then}
 use Rattle.cbor_edn_core.specs.Trees.{OneItem, Seq, Unmarked, Marked, Tree, NumberTree, FloatTree, NamedTree, EnclosedTree, ListTree, StringTree, StreamTree, LiteralTree, DotsTree, EmbeddedTree, LastPieceTree, PlusTree, ElementTree, PairTree, ChunkTree, EmptyTree, FullTree, LastTree, MoreTree, NothingTree, SequenceTree, StandaloneTree, items, text, onto, joins}
 use Rattle.std.specs.Fmt.{digits}
-use Rattle.cbor_edn_core.specs.declared.tree.Label.TheVariants as label
+use Rattle.cbor_edn_core.specs.declared.tree.LabelKind.TheVariants as label
 use Rattle.cbor_edn_core.specs.declared.word.NamedSimple.TheVariants.{True}
 use Rattle.cbor_edn_core.specs.declared.word.NonFinite.TheVariants.{NegativeInfinity}
 use Rattle.cbor_edn_core.specs.Marks.{marks}

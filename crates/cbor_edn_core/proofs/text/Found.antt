@@ -18,8 +18,8 @@ use Rattle.cbor_edn_core.specs.Items.{Row, Elements, Pairs, Strings, Bracketed, 
 use Rattle.cbor_edn_core.specs.Spelling.{opening, ending}
 use Rattle.cbor_edn_core.specs.Labels.{IsLabel}
 use Rattle.cbor_edn_core.specs.Trees.{Rule, OneItem, OnePiece, OneString, OneEntry, Inside, Rest, Seq, Standalone, Head, head_text, label_text, Tree, onto, IsHead, Valid, IsJoined, Joined, depth, joins}
-use Rattle.cbor_edn_core.specs.declared.tree.Label.{Label}
-use Rattle.cbor_edn_core.specs.declared.tree.Label.TheVariants as label
+use Rattle.cbor_edn_core.specs.declared.tree.LabelKind.{LabelKind}
+use Rattle.cbor_edn_core.specs.declared.tree.LabelKind.TheVariants as label
 use Rattle.cbor_edn_core.specs.declared.word.Word.{Word}
 use Rattle.cbor_edn_core.specs.declared.word.Word.TheVariants.{Named, Simple, NonFinite}
 use Rattle.cbor_edn_core.specs.Words.{non_finite_text, word_text}
@@ -98,7 +98,7 @@ module _ (g : ℕ → (s : Rule) → Reader s) (gs : (limit : ℕ) (s : Rule) (x
   later : (limit : ℕ) (s : Rule) (xs ys : List ℕ) → marks ys ≤ marks xs → Meets (Sound limit s ys) (limit < marks xs) (g limit s ys)
   later limit s xs ys h = weaker (λ p v. v) (λ d. omega arith) (gs limit s ys)
 
-  enclosed-found : (limit : ℕ) (l : Label) (xs ys : List ℕ) → IsLabel l → xs ≡ label_text l ++ ys → IsSound limit OneItem xs (enclosed_item g limit l ys)
+  enclosed-found : (limit : ℕ) (l : LabelKind) (xs ys : List ℕ) → IsLabel l → xs ≡ label_text l ++ ys → IsSound limit OneItem xs (enclosed_item g limit l ys)
   unfolding enclosed_item onto Valid Joined
   enclosed-found zero l xs ys v e = bound _ (byte-found 40 ys) (λ r h. deep (rw (e, h) (omega (arith, marks_end (label_text l) (40 ∷ r)))))
   enclosed-found (suc limit) l xs ys v e = bound _ (byte-found 40 ys) (λ r h. bound _ (weaker (λ p s. s) (λ (d : limit < marks r). rw (e, h) (omega (arith, marks_end (label_text l) (40 ∷ r)))) (gs limit Standalone r)) (λ w vw. bound _ (byte-found 41 w.1) (λ q d. fine ((v, vw.0), vw.1, cc, omega (arith, vw.3)))))

@@ -11,8 +11,8 @@ use Rattle.cbor_edn_core.specs.Items.{Row, Elements, Strings, Bracketed, entries
 use Rattle.cbor_edn_core.specs.Spelling.{opening, ending, IsSpecms, Spells, SpellsSequence, SpellsOne}
 use Rattle.cbor_edn_core.specs.Labels.{IsLabel}
 use Rattle.cbor_edn_core.specs.Trees.{Rule, OneItem, OnePiece, OneString, OneEntry, Inside, Rest, Seq, Standalone, Head, Unmarked, Marked, mark, head_text, label_text, labelled, Tree, NumberTree, FloatTree, NamedTree, EnclosedTree, ListTree, StringTree, StreamTree, LiteralTree, DotsTree, EmbeddedTree, LastPieceTree, PlusTree, ElementTree, PairTree, ChunkTree, EmptyTree, FullTree, LastTree, MoreTree, NothingTree, SequenceTree, StandaloneTree, onto, text, Of, items, depth, IsHead, Valid, IsJoined, Joined}
-use Rattle.cbor_edn_core.specs.declared.tree.Label.{Label}
-use Rattle.cbor_edn_core.specs.declared.tree.Label.TheVariants as label
+use Rattle.cbor_edn_core.specs.declared.tree.LabelKind.{LabelKind}
+use Rattle.cbor_edn_core.specs.declared.tree.LabelKind.TheVariants as label
 use Rattle.cbor_edn_core.specs.Words.{named_text}
 use Rattle.cbor_edn_parts.proofs.SpaceTexts.{s_texts, soc_texts, ms_texts, msc_texts}
 use Rattle.cbor_edn_parts.proofs.NumberTexts.{number_texts}
@@ -209,7 +209,7 @@ embedded_given m i a v = record {
   text_is = λ r. rw (v.text_is (62 ∷ 62 ∷ (indicator_text i ++ r))) (simp append_assoc);
 }
 
-enclosed_given : (l : Label) (x : Node Item) (s a u : List ℕ) → IsLabel l → IsS s → HasTree OneItem x a → IsS u → HasTree OneItem (labelled l x) (label_text l ++ (40 ∷ (s ++ (a ++ (u ++ (41 ∷ []))))))
+enclosed_given : (l : LabelKind) (x : Node Item) (s a u : List ℕ) → IsLabel l → IsS s → HasTree OneItem x a → IsS u → HasTree OneItem (labelled l x) (label_text l ++ (40 ∷ (s ++ (a ++ (u ++ (41 ∷ []))))))
 unfolding onto Valid Joined items
 enclosed_given l x s a u vl vs v vu = record {
   tree = EnclosedTree l (StandaloneTree s v.tree u);
@@ -292,7 +292,7 @@ tells_stream : (ms : List ℕ) (m : Tree (Rest Strings)) → IsMs ms → Told m 
 unfolding Spells
 tells_stream ms m v t = rw t.same (ms, t.front, t.back, v, t.first_spelled, t.others_spelled, rw (t.text_is (41 ∷ [])) refl)
 
-tells_enclosed : (l : Label) (w : Tree Standalone) → IsLabel l → SpellsOne (items w) (text w) → Spells (labelled l (items w)) (label_text l ++ (40 ∷ onto w (41 ∷ [])))
+tells_enclosed : (l : LabelKind) (w : Tree Standalone) → IsLabel l → SpellsOne (items w) (text w) → Spells (labelled l (items w)) (label_text l ++ (40 ∷ onto w (41 ∷ [])))
 unfolding Spells SpellsOne
 tells_enclosed (label.Tag n i) w v h = (h.0, h.1, h.2, v, h.3, h.4, h.5, rw (parted w (41 ∷ []), h.6) (simp append_assoc))
 tells_enclosed label.Simple w v h = (h.0, h.1, h.2, h.3, h.4, h.5, rw (parted w (41 ∷ []), h.6) (simp append_assoc))

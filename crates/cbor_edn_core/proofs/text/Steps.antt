@@ -13,8 +13,8 @@ use Rattle.cbor_edn_parts.specs.code.LiteralTokens.{is_literal, are_dots}
 use Rattle.cbor_edn_core.specs.Items.{Row, Elements, Pairs, Strings, Bracketed, Array, Map, entries_of}
 use Rattle.cbor_edn_core.specs.Spelling.{ending}
 use Rattle.cbor_edn_core.specs.Trees.{Rule, OneItem, OnePiece, OneString, OneEntry, Inside, Rest, Seq, Standalone, head_text, label_text, Tree, NumberTree, FloatTree, NamedTree, EnclosedTree, ListTree, StringTree, StreamTree, LiteralTree, DotsTree, EmbeddedTree, LastPieceTree, PlusTree, ElementTree, PairTree, ChunkTree, EmptyTree, FullTree, LastTree, MoreTree, NothingTree, SequenceTree, StandaloneTree, onto, Valid, Joined, FollowOf, depth, joins}
-use Rattle.cbor_edn_core.specs.declared.tree.Label.{Label}
-use Rattle.cbor_edn_core.specs.declared.tree.Label.TheVariants as label
+use Rattle.cbor_edn_core.specs.declared.tree.LabelKind.{LabelKind}
+use Rattle.cbor_edn_core.specs.declared.tree.LabelKind.TheVariants as label
 use Rattle.cbor_edn_core.specs.declared.word.Word.{Word}
 use Rattle.cbor_edn_core.specs.declared.word.Word.TheVariants.{Named, Simple, NonFinite}
 use Rattle.cbor_edn_core.specs.Words.{word_text}
@@ -163,7 +163,7 @@ module _ (g h : ℕ → (s : Rule) → Reader s) (gs : (limit : ℕ) (s : Rule) 
   unfolding string_item
   string_item-same limit xs a = alike limit OneString xs _ (a limit OneString xs (omega arith))
 
-  enclosed-same : (limit : ℕ) (l : Label) (xs : List ℕ) → Agree (8 * length xs + 2) → enclosed_item g limit l xs ≡ enclosed_item h limit l xs
+  enclosed-same : (limit : ℕ) (l : LabelKind) (xs : List ℕ) → Agree (8 * length xs + 2) → enclosed_item g limit l xs ≡ enclosed_item h limit l xs
   unfolding enclosed_item
   enclosed-same zero l xs a = refl
   enclosed-same (suc limit) l xs a = same_then _ _ refl (byte-shorter 40 xs) (λ r lr. alike limit Standalone r _ (a limit Standalone r (omega arith)))

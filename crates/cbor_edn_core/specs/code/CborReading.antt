@@ -14,13 +14,13 @@ use Rattle.cbor_edn_core.specs.declared.cbor.Width.{Width}
 use Rattle.cbor_edn_core.specs.declared.cbor.Width.TheVariants.{Immediate, One, Two, Four, Eight}
 use Rattle.cbor_edn_core.specs.declared.from_cbor.CborError.{CborError}
 use Rattle.cbor_edn_core.specs.declared.from_cbor.CborError.TheVariants.{OutOfData, Reserved, MissingArgument, OtherChunk, OpenChunk, OpenNumber, MisplacedBreak, MissingBytes, InvalidUtf8, TooDeep, InvalidSimple, FloatOutOfScope}
-use Rattle.cbor_edn_core.specs.declared.from_cbor.reader.Stop.{Stop}
-use Rattle.cbor_edn_core.specs.declared.from_cbor.reader.Stop.TheVariants.{Break, EndOfData}
+use Rattle.cbor_edn_core.specs.declared.from_cbor.head.Stop.{Stop}
+use Rattle.cbor_edn_core.specs.declared.from_cbor.head.Stop.TheVariants.{Break, EndOfData}
 use Rattle.cbor_edn_core.specs.Items as kind
 use Rattle.cbor_edn_core.specs.Items.{Row, Elements, Strings, Bracketed, Array, Map, entries_of}
 use Rattle.cbor_edn_core.specs.Trees.{Tree, OneItem, OneString, OneEntry, Rest, NumberTree, FloatTree, EnclosedTree, ListTree, StringTree, LiteralTree, LastPieceTree, ElementTree, ChunkTree}
 use Rattle.cbor_edn_core.specs.Value.{Chunk, is_content, string_major, break, float_bits}
-use Rattle.cbor_edn_core.specs.declared.tree.Label.TheVariants.{Tag}
+use Rattle.cbor_edn_core.specs.declared.tree.LabelKind.TheVariants.{Tag}
 use Rattle.cbor_edn_core.specs.declared.word.NonFinite.{NonFinite}
 use Rattle.cbor_edn_core.specs.declared.word.NonFinite.TheVariants.{Infinity, NegativeInfinity, NaN}
 use Rattle.cbor_edn_core.specs.Decoded.{indicator_of, float_indicator, simple_item, in_front, inside, key_value, stream_tree, alone, regular}

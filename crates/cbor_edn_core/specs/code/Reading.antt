@@ -13,9 +13,9 @@ use Rattle.cbor_edn_parts.specs.code.LiteralTokens.{literal, dots, is_lower, is_
 use Rattle.cbor_edn_parts.specs.Number.{number_of}
 use Rattle.cbor_edn_parts.specs.code.ContentReading.{same}
 use Rattle.std.specs.Fmt.{decimal}
-use Rattle.cbor_edn_core.specs.declared.tree.Label.{Label}
-use Rattle.cbor_edn_core.specs.declared.tree.Label.TheVariants.{Tag}
-use Rattle.cbor_edn_core.specs.declared.tree.Label.TheVariants as label
+use Rattle.cbor_edn_core.specs.declared.tree.LabelKind.{LabelKind}
+use Rattle.cbor_edn_core.specs.declared.tree.LabelKind.TheVariants.{Tag}
+use Rattle.cbor_edn_core.specs.declared.tree.LabelKind.TheVariants as label
 use Rattle.cbor_edn_core.specs.declared.word.NamedSimple.TheVariants.{False, True, Null, Undefined}
 use Rattle.cbor_edn_core.specs.declared.word.NonFinite.TheVariants.{Infinity, NegativeInfinity, NaN}
 use Rattle.cbor_edn_core.specs.declared.word.Word.{Word}
@@ -116,7 +116,7 @@ tag_number x = cond (same x (decimal (number_of 10 x)) && nat_lt (number_of 10 x
 -- Each rule, by readers for a smaller text: `g n` for what nests at most n deep.
 module _ (g : ℕ → (s : Rule) → Reader s) where
   -- an item between parentheses, behind a label
-  unfoldable pub enclosed_item : (limit : ℕ) → Label → Reader OneItem
+  unfoldable pub enclosed_item : (limit : ℕ) → LabelKind → Reader OneItem
   enclosed_item zero l xs = byte 40 xs >>= λ r. Err TooDeep
   enclosed_item (suc limit) l xs = byte 40 xs >>= λ r. g limit Standalone r >>= λ w. byte 41 w.1 >>= λ r. Ok (EnclosedTree l w.0, r)
 

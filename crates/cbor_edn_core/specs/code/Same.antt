@@ -8,8 +8,8 @@ use Rattle.std.proofs.lemmas.Bool.{false≢true, eqb-true, eq-eqb}
 use Rattle.std.proofs.lemmas.Cmp.{nat_list_eq_equiv}
 use Rattle.cbor_edn_parts.specs.declared.indicator.Indicator.{Indicator}
 use Rattle.cbor_edn_parts.specs.declared.indicator.Indicator.TheVariants.{Indefinite, Immediate, One, Two, Four, Eight}
-use Rattle.cbor_edn_core.specs.declared.tree.Label.{Label}
-use Rattle.cbor_edn_core.specs.declared.tree.Label.TheVariants.{Tag, Simple}
+use Rattle.cbor_edn_core.specs.declared.tree.LabelKind.{LabelKind}
+use Rattle.cbor_edn_core.specs.declared.tree.LabelKind.TheVariants.{Tag, Simple}
 use Rattle.cbor_edn_core.specs.declared.word.NamedSimple.{NamedSimple}
 use Rattle.cbor_edn_core.specs.declared.word.NamedSimple.TheVariants.{False, True, Null, Undefined}
 use Rattle.cbor_edn_core.specs.declared.word.NonFinite.{NonFinite}
@@ -47,7 +47,7 @@ same_float NegativeInfinity NegativeInfinity = true
 same_float NaN NaN = true
 same_float _ _ = false
 
-abbrev pub same_label : Label → Label → Bool
+abbrev pub same_label : LabelKind → LabelKind → Bool
 same_label (Tag n i) (Tag k j) = nat_eq n k && same_indicator i j
 same_label Simple Simple = true
 same_label _ _ = false
@@ -131,7 +131,7 @@ floats_are NegativeInfinity NegativeInfinity e = refl
 floats_are NaN NaN e = refl
 floats_are _ _ e = absurd (false≢true e)
 
-labels_are : (l m : Label) → same_label l m ≡ true → l ≡ m
+labels_are : (l m : LabelKind) → same_label l m ≡ true → l ≡ m
 labels_are (Tag n i) (Tag k j) e = let h = both (eqb-true n k) (indicators_are i j) e in λ a. Tag (h.0 a) (h.1 a)
 labels_are Simple Simple e = refl
 labels_are _ _ e = absurd (false≢true e)
@@ -196,7 +196,7 @@ float_refl Infinity = refl
 float_refl NegativeInfinity = refl
 float_refl NaN = refl
 
-label_refl : (l : Label) → same_label l l ≡ true
+label_refl : (l : LabelKind) → same_label l l ≡ true
 label_refl (Tag n i) = both_true (eq-eqb n n refl) (indicator_refl i)
 label_refl Simple = refl
 

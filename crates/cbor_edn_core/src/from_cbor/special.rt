@@ -9,9 +9,9 @@ ghost use Rattle.std.specs.Fmt.{decimal};
 ghost use Rattle.cbor_edn_core.specs.View.{item_tree};
 
 use super::CborError;
-use super::reader::Argument;
+use super::head::Argument;
 use crate::cbor::{Width, float_bits};
-use crate::tree::{Front, Indicator, InnerItem, Item, StandaloneItem};
+use crate::tree::{Indicator, InnerItem, Item, Label, StandaloneItem};
 use crate::word::{NamedSimple, NonFinite};
 use cbor_edn_parts::error::Fault;
 use cbor_edn_parts::number::{Integer, Number};
@@ -45,7 +45,7 @@ fn simple_of<'a>(alloc: Global, number: u64, limit: usize) -> Result<Item<'a>, F
         22 => InnerItem::Named(NamedSimple::Null),
         23 => InnerItem::Named(NamedSimple::Undefined),
         _ if limit == 0 => return Err(Fault::Told(CborError::TooDeep)),
-        _ => return Ok(enclosed(alloc, Front::simple(), numeral(alloc, number)?)?),
+        _ => return Ok(enclosed(alloc, Label::simple(), numeral(alloc, number)?)?),
     };
     Ok(Item { inner })
 }
@@ -62,12 +62,12 @@ fn numeral<'a>(alloc: Global, number: u64) -> Result<Item<'a>, AllocError>
 /// The item between parentheses, with no space round it, behind a label.
 pub(super) fn enclosed<'a>(
     alloc: Global,
-    front: Front,
+    label: Label,
     item: Item<'a>,
 ) -> Result<Item<'a>, AllocError>
-    ensures { IfOk result (λ t. item_tree t ≡ EnclosedTree front.label (alone (item_tree item.entry))) }
+    ensures { IfOk result (λ t. item_tree t ≡ EnclosedTree label.kind (alone (item_tree item.entry))) }
 {
-    Item::enclosed(alloc, front, StandaloneItem::from(item))
+    Item::enclosed(alloc, label, StandaloneItem::from(item))
 }
 
 /// The floating-point number of so many bytes with these bits: finite ones are refused.

@@ -9,7 +9,7 @@ ghost use Rattle.cbor_edn_core.specs.code.Growing.{grown};
 use super::CborError;
 use super::finish::finish_strings;
 use super::growing::Growing;
-use super::reader::{Argument, Stop, head_of, indicator_of, past_stop};
+use super::head::{Argument, Stop, head_of, indicator_of, past_stop};
 use crate::cbor::{Width, string_major};
 use crate::tree::{CborString, Item, Piece, Stream, Strings};
 use cbor_edn_parts::error::Fault;
@@ -110,14 +110,20 @@ fn chunked<'a>(
     ensures { IfOk result (λ t. item_tree t ≡ chunked_tree kind (option_map (view_strings texts) strings.entry)) }
 {
     match strings {
-        Some(strings) => Item::stream(alloc, Stream {
-            ms: Ms::space(),
-            strings,
-        }),
-        None => Item::string(alloc, CborString {
-            row: Vec::new(alloc),
-            last: Piece::Literal(Literal::empty(kind), Some(Indicator::Indefinite)),
-        }),
+        Some(strings) => Item::stream(
+            alloc,
+            Stream {
+                ms: Ms::space(),
+                strings,
+            },
+        ),
+        None => Item::string(
+            alloc,
+            CborString {
+                row: Vec::new(alloc),
+                last: Piece::Literal(Literal::empty(kind), Some(Indicator::Indefinite)),
+            },
+        ),
     }
 }
 

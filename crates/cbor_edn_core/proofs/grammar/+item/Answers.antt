@@ -400,21 +400,21 @@ standalone-returns-clause-value t c =
     standalone_read c.args.limit _ _ _ _ _ _ _ (scan_read space _ _ _ c.in_ok-before.ensures.value) c.in_ok-item.ensures.value (scan_read space _ _ _ c.in_ok-after.ensures.value)
 
 pub enclosed-returns-then-not-is_at-clause-value : goal.enclosed-returns-then-not-is_at-clause-value
-enclosed-returns-then-not-is_at-clause-value t c = rw c.invalid.ensures (enclosed_shut c.args.limit c.args.front.label _ (c.if-not-is_at.ensures.no refl))
+enclosed-returns-then-not-is_at-clause-value t c = rw c.invalid.ensures (enclosed_shut c.args.limit c.args.label.kind _ (c.if-not-is_at.ensures.no refl))
 
 pub enclosed-returns-then-limit-eq0-clause-value : goal.enclosed-returns-then-limit-eq0-clause-value
-enclosed-returns-then-limit-eq0-clause-value t c = rw c.too_deep.ensures (enclosed_too_deep c.args.limit c.args.front.label _ _ c.if-limit-eq0.true (c.if-not-is_at.ensures.yes refl).0)
+enclosed-returns-then-limit-eq0-clause-value t c = rw c.too_deep.ensures (enclosed_too_deep c.args.limit c.args.label.kind _ _ c.if-limit-eq0.true (c.if-not-is_at.ensures.yes refl).0)
 
 pub enclosed-returns-in_err-content-clause-value : goal.enclosed-returns-in_err-content-clause-value
 enclosed-returns-in_err-content-clause-value t c =
     let p = err_from_is_err_and c.from_residual.result c.from_residual.ensures.1 in
-    rw (p.1, p.2) (enclosed_fails c.in_err-content.field-0.0 c.args.limit c.args.front.label _ _ (omega arith) (c.if-not-is_at.ensures.yes refl).0 c.in_err-content.ensures.value)
+    rw (p.1, p.2) (enclosed_fails c.in_err-content.field-0.0 c.args.limit c.args.label.kind _ _ (omega arith) (c.if-not-is_at.ensures.yes refl).0 c.in_err-content.ensures.value)
 
 pub enclosed-returns-then-not-is_at-2-clause-value : goal.enclosed-returns-then-not-is_at-2-clause-value
-enclosed-returns-then-not-is_at-2-clause-value t c = rw c.invalid-then-not-is_at-2.ensures (enclosed_open c.args.limit c.args.front.label _ _ _ _ (omega arith) (c.if-not-is_at.ensures.yes refl).0 c.in_ok-content.ensures.value (c.if-not-is_at-2.ensures.no refl))
+enclosed-returns-then-not-is_at-2-clause-value t c = rw c.invalid-then-not-is_at-2.ensures (enclosed_open c.args.limit c.args.label.kind _ _ _ _ (omega arith) (c.if-not-is_at.ensures.yes refl).0 c.in_ok-content.ensures.value (c.if-not-is_at-2.ensures.no refl))
 
 pub enclosed-returns-clause-value : goal.enclosed-returns-clause-value
-enclosed-returns-clause-value t c = rw (c.unspaced.ensures, c.in_ok-item.ensures.view) (enclosed_read c.args.limit c.args.front.label _ _ _ _ _ (omega arith) (c.if-not-is_at.ensures.yes refl).0 c.in_ok-content.ensures.value (c.if-not-is_at-2.ensures.yes refl).0)
+enclosed-returns-clause-value t c = rw (c.unspaced.ensures, c.in_ok-item.ensures.view) (enclosed_read c.args.limit c.args.label.kind _ _ _ _ _ (omega arith) (c.if-not-is_at.ensures.yes refl).0 c.in_ok-content.ensures.value (c.if-not-is_at-2.ensures.yes refl).0)
 
 pub item-returns-in-Word-clause-value : goal.item-returns-in-Word-clause-value
 item-returns-in-Word-clause-value t c = ends_same _ _ _ _ _ (word_here c.args.limit _ _ _ c.in-Word.ensures.opens.0) c.worded.ensures.value

@@ -1,7 +1,7 @@
 use Rattle.std.proofs.Common.{◌≡◌, ◌-◌, ◌++◌, ◌∷◌, [], map, arith, Some, None}
 use Rattle.std.proofs.lemmas.Result.{err_from_is_err_and}
 use Rattle.std.proofs.lemmas.List.{map_push}
-use Rattle.cbor_edn_core.specs.declared.from_cbor.reader.Stop.TheVariants.{Break}
+use Rattle.cbor_edn_core.specs.declared.from_cbor.head.Stop.TheVariants.{Break}
 use Rattle.cbor_edn_core.specs.View.{texts, item_tree, view_pair}
 use Rattle.cbor_edn_core.specs.code.Growing.{grown}
 use Rattle.cbor_edn_core.specs.code.CborReading.{past, item_at, pair_at, trees}

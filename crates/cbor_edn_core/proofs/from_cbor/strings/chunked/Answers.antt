@@ -13,6 +13,6 @@ returns-in-Some c =
 pub returns-in-None : goal.returns-in-None
 returns-in-None c =
     rw c.in-None.is (subst (λ (w : Tree OneItem). IfOk c.string.result (λ t. item_tree t ≡ w))
-      (ap (λ ps. StringTree (piece_row_onto texts ps (LastPieceTree (LiteralTree (literal_bytes c.empty.result) (Some Indefinite))))) c.new.ensures.items
-      ∙ ap (λ (l : List ℕ). StringTree (LastPieceTree (LiteralTree l (Some Indefinite)))) c.empty.ensures)
-      c.string.ensures.view)
+    (ap (λ ps. StringTree (piece_row_onto texts ps (LastPieceTree (LiteralTree (literal_bytes c.empty.result) (Some Indefinite))))) c.new.ensures.items
+    ∙ ap (λ (l : List ℕ). StringTree (LastPieceTree (LiteralTree l (Some Indefinite)))) c.empty.ensures)
+    c.string.ensures.view)
