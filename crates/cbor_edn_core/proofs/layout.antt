@@ -3,7 +3,10 @@ pub mod BareExamples
 pub mod BareItems
 pub mod CommentedItems
 pub mod LayoutExamples
+pub mod LayoutRows
 pub mod Layouts
+pub mod Policies
 pub mod RegularLayout
 pub mod RegularTrees
 pub mod Unmarked
+pub mod Widths

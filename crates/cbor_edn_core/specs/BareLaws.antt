@@ -1,5 +1,5 @@
 -- The laws of removed indicators, as contracts name them.
-use Rattle.std.specs.Prelude.{ℕ, ◌≡◌, ◌<◌, ◌^◌, length, Some}
+use Rattle.std.specs.Prelude.{◌≡◌, ◌<◌, ◌^◌, length, Some}
 use Rattle.cbor_edn_core.specs.Items.{Node, Item, Items}
 use Rattle.cbor_edn_core.specs.Trees.{Rule, OneItem, Seq, Standalone, Tree, Valid, Joined, items}
 use Rattle.cbor_edn_core.specs.Value.{Value, Values, encoding, encodings}

@@ -1,5 +1,5 @@
 -- The spaces of a tree after a delimiter policy. Everything that is no space stays.
-use Rattle.std.specs.Prelude.{ℕ, ◌+◌, ◌-◌, ◌^◌, min, Bool, nat_lt, if◌then◌else◌, List, length}
+use Rattle.std.specs.Prelude.{ℕ, ◌+◌, ◌-◌, ◌^◌, min, nat_lt, if◌then◌else◌, List, length}
 use Rattle.cbor_edn_parts.specs.Spacing.{DelimiterPolicy, DiscardAll, DiscardAllButComments, SingleLineRegularSpacing, IndentedRegularSpacing, SingleSpace, SpaceKind, S, MS, MSC, SOC, Spacing, Least, Comments, OneLine, NewLine, OneSpace, spaced}
 use Rattle.cbor_edn_core.specs.Trees.{Rule, OneItem, Tree, Head, Unmarked, Marked, NumberTree, FloatTree, NamedTree, EnclosedTree, ListTree, StringTree, StreamTree, LiteralTree, DotsTree, EmbeddedTree, LastPieceTree, PlusTree, ElementTree, PairTree, ChunkTree, EmptyTree, FullTree, LastTree, MoreTree, NothingTree, SequenceTree, StandaloneTree, text}
 
@@ -51,17 +51,17 @@ abbrev pub respaced : SpaceKind → Place → Layout → List ℕ → List ℕ
 respaced kind place l x = spaced kind (spacing l place) x
 
 -- The sum of two numbers of spaces: the greatest `usize` where it is more.
-abbrev pub sum : ℕ → ℕ → ℕ
-sum a b = min (a + b) (2 ^ 64 - 1)
+abbrev pub saturating_add : ℕ → ℕ → ℕ
+saturating_add a b = min (a + b) (2 ^ 64 - 1)
 
 -- An item whose parts are laid out by `part`: on a single line where that is less than `width` bytes wide behind the spaces of its line,
 -- else its parts have lines of their own.
 abbrev pub fitted : Layout → (Layout → Tree OneItem) → Tree OneItem
 fitted (Inline column) part = part (Inline column)
 fitted (Lines base end level width) part =
-    if nat_lt (sum (length (text (part (Inline OneLine)))) base) width
+    if nat_lt (saturating_add (length (text (part (Inline OneLine)))) base) width
     then part (Inline OneLine)
-    else part (Lines (sum base level) base level width)
+    else part (Lines (saturating_add base level) base level width)
 
 -- The strings of a stream have no space round their plus signs on a single line, and no test of their own.
 abbrev pub in_chunk : Layout → Layout

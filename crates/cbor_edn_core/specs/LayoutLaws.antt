@@ -1,10 +1,11 @@
 -- The laws of layouts, as contracts name them.
-use Rattle.std.specs.Prelude.{ℕ, List, ◌<◌, ◌≡◌, ◌⊎◌, All}
+use Rattle.std.specs.Prelude.{ℕ, List, [], ◌∷◌, ◌<◌, ◌≡◌, ◌⊎◌, All, Some}
 use Rattle.cbor_edn_parts.specs.Spacing.{DelimiterPolicy, DiscardAll, SingleLineRegularSpacing}
 use Rattle.cbor_edn_core.specs.Items.{Node, Item, Items}
 use Rattle.cbor_edn_core.specs.Spelling.{SpellsOne, SpellsSequence}
 use Rattle.cbor_edn_core.specs.Trees.{Rule, OneItem, Standalone, Seq, Tree, Valid, items, text}
-use Rattle.cbor_edn_core.specs.Value.{Value, Values}
+use Rattle.cbor_edn_core.specs.Value.{Value, Values, Fits, ValuesFit}
+use Rattle.cbor_edn_core.specs.Meaning.{means}
 use Rattle.cbor_edn_core.specs.Decoded.{item_of, items_of, regular, regular_sequence}
 use Rattle.cbor_edn_core.specs.Layout.{laid_out}
 use Rattle.cbor_edn_core.specs.Commented.{commented}
@@ -21,6 +22,17 @@ abbrev pub SpellsTheSame : Type 0
 SpellsTheSame =
     ((policy : DelimiterPolicy) (w : Tree Standalone) → Valid w → SpellsOne (items w) (text (laid_out policy w)))
     × ((policy : DelimiterPolicy) (w : Tree Seq) → Valid w → SpellsSequence (items w) (text (laid_out policy w)))
+
+-- a tree after policies, the first one first
+abbrev pub after : {s : Rule} → List DelimiterPolicy → Tree s → Tree s
+after [] w = w
+after (policy ∷ policies) w = after policies (laid_out policy w)
+
+-- Decoded items have the same value after any policies: whatever the text then spells means the value that was decoded.
+abbrev pub MeansTheSame : Type 0
+MeansTheSame =
+    ((policies : List DelimiterPolicy) (v : Value) (w : Tree Standalone) (x : Node Item) → Fits v → Valid w → items w ≡ item_of v → SpellsOne x (text (after policies w)) → means x ≡ Some v)
+    × ((policies : List DelimiterPolicy) (vs : Values) (w : Tree Seq) (x : Items) → ValuesFit vs → Valid w → items w ≡ items_of vs → SpellsSequence x (text (after policies w)) → means x ≡ Some vs)
 
 -- every policy but the first
 abbrev pub KeepsAllComments : DelimiterPolicy → Type 0

@@ -20,3 +20,5 @@ pub mod Bare
 pub mod Plain
 pub mod BareLaws
 pub mod code
+pub mod Widths
+pub mod LayoutRows

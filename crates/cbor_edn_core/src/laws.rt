@@ -4,7 +4,7 @@ ghost use Rattle.cbor_edn_parts.specs.Comments.{OneCommentsOf, CutAtComma};
 ghost use Rattle.cbor_edn_parts.specs.SpacingLaws.{StaysOfKind, ForgetsColumn, NotesAreSpace, NotesInFront};
 ghost use Rattle.cbor_edn_core.specs.BareLaws.{UnmarkedIsBare, UnmarkedStaysValid, BareMeans};
 ghost use Rattle.cbor_edn_core.specs.CborLaws.{OneEncoding, ItemMeans, SpelledMeans};
-ghost use Rattle.cbor_edn_core.specs.LayoutLaws.{KeepsItems, StaysValid, SpellsTheSame, CommentKeepsItems, CommentStaysValid, ForgetsLayout, SameTwice, DecodedIsRegular, OneRegularTree};
+ghost use Rattle.cbor_edn_core.specs.LayoutLaws.{KeepsItems, StaysValid, SpellsTheSame, CommentKeepsItems, CommentStaysValid, ForgetsLayout, SameTwice, DecodedIsRegular, OneRegularTree, MeansTheSame};
 ghost use Rattle.cbor_edn_core.specs.Laws.{ItemsAndSpaces, SpelledByTrees, UniqueItems, UniqueSpaces};
 ghost use Rattle.cbor_edn_core.specs.Spelling.{Spells, SpellsOne, SpellsSequence};
 ghost use Rattle.cbor_edn_core.specs.Trees.{items, text};
@@ -99,8 +99,9 @@ pub fn layouts_forget()
     ensures twice { SameTwice }
 {}
 
-/// Decoded items have the spaces of a single line.
+/// Decoded items have the spaces of a single line, and mean their value after any policies.
 pub fn decoded_layout()
+    ensures meaning { MeansTheSame }
     ensures itself { DecodedIsRegular }
     ensures every_tree { OneRegularTree }
 {}

@@ -1,13 +1,11 @@
 -- The comments of a space text are those of the set, and a separator is cut at its comma.
-use Rattle.std.proofs.Common.{ℕ, ◌≡◌, ◌≢◌, ◌≤◌, ◌<◌, ◌⊎◌, inl, inr, List, [], ◌∷◌, ◌++◌, Bool, true, false, refl, sym, ap, ◌∙◌, subst, append_assoc, arith}
-use Rattle.std.specs.Prelude.{cond, eqb, ltb, ◌||◌, ◌&&◌, ◌↔◌}
+use Rattle.std.proofs.Common.{ℕ, ◌≡◌, ◌≢◌, ◌⊎◌, inl, inr, List, [], ◌∷◌, ◌++◌, true, false, refl, sym, ap, ◌∙◌, subst, append_assoc, arith}
+use Rattle.std.specs.Prelude.{eqb}
 use mathlib.Core.Logic.{⊎_elim}
-use Rattle.std.specs.Bool.{Decides}
 use Rattle.std.proofs.lemmas.Bool.Decides.{nat_tests, Decides-or, Decides-eqb}
 use Rattle.std.proofs.lemmas.List.{append-nil}
-use Rattle.cbor_edn_parts.specs.Space.{IsBlank, IsPrintable, InSlashes, InHash, Each, end, next, IsComment, slashes, hash, IsS, empty, blank, comment}
-use Rattle.cbor_edn_parts.specs.Comments.{BeginsWithComment, EndsWithComment, IsTrimmed, IsCommentsOf, is_blank, past, is_between, from_first, unless_last, to_last, comments_of, is_comma, in_front, behind, before_comma, after_comma, OneCommentsOf, CutAtComma}
-use Rattle.cbor_edn_parts.specs.declared.space.Within.{Within}
+use Rattle.cbor_edn_parts.specs.Space.{IsBlank, InSlashes, InHash, Each, end, next, IsComment, slashes, hash, IsS, empty, blank, comment}
+use Rattle.cbor_edn_parts.specs.Comments.{BeginsWithComment, EndsWithComment, IsCommentsOf, is_blank, past, from_first, unless_last, to_last, comments_of, is_comma, in_front, behind, OneCommentsOf, CutAtComma}
 use Rattle.cbor_edn_parts.specs.declared.space.Within.TheVariants as within
 
 -- ---- bytes

@@ -28,3 +28,5 @@ pub mod Prefixes
 pub mod Comments
 pub mod Spacings
 pub mod Notes
+pub mod CommentScans
+pub mod SpacingExamples

@@ -1,14 +1,14 @@
 -- The note of a comment is space, and in front of a space text it leaves one of the same kind.
 use Rattle.std.proofs.Common.{ℕ, ◌≡◌, ◌≢◌, ◌≤◌, ◌<◌, ◌⊎◌, inl, inr, List, [], ◌∷◌, ◌++◌, Bool, true, false, refl, sym, ap, ◌∙◌, subst, append_assoc, arith}
-use Rattle.std.specs.Prelude.{All, cond, eqb, ltb, not, ◌||◌, ◌&&◌, map, codes}
+use Rattle.std.specs.Prelude.{All, eqb, ltb, not, ◌||◌, ◌&&◌, map, codes}
 use mathlib.Core.Logic.{⊎_elim}
 use Rattle.std.proofs.lemmas.Bool.{cond_both, cases_eq}
 use Rattle.std.proofs.lemmas.Bool.Decides.{nat_tests}
 use Rattle.std.proofs.lemmas.List.Elements.{All-head, All-tail}
-use Rattle.cbor_edn_parts.specs.Space.{IsBlank, IsPrintable, InSlashes, InHash, Each, end, next, IsComment, slashes, hash, IsS, empty, blank, comment, IsMs, IsSoc, IsMsc, space, comma, comma_first, space_alone, space_comma}
+use Rattle.cbor_edn_parts.specs.Space.{IsBlank, IsPrintable, InSlashes, InHash, Each, end, next, slashes, hash, IsS, empty, comment, IsMs, IsSoc, IsMsc, space, comma, comma_first, space_alone, space_comma}
 use Rattle.cbor_edn_parts.specs.Notes.{cleaned, has_slash, hash_lines, noted}
 use Rattle.cbor_edn_parts.specs.Spacing.{S, MS, MSC, SOC}
-use Rattle.cbor_edn_parts.specs.SpacingLaws.{is_of, NotesAreSpace, NotesInFront}
+use Rattle.cbor_edn_parts.specs.SpacingLaws.{NotesAreSpace, NotesInFront}
 use Rattle.cbor_edn_parts.proofs.SpaceTexts.{s_texts, ms_texts, soc_texts, msc_texts}
 use Rattle.cbor_edn_parts.proofs.Comments.{spaces_append, comment_space}
 

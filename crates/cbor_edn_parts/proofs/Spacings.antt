@@ -1,15 +1,14 @@
 -- The table of spaces keeps each text in its set, and forgets an earlier column that keeps comments.
-use Rattle.std.proofs.Common.{ℕ, zero, suc, ◌≡◌, ◌≢◌, ◌⊎◌, inl, inr, List, [], ◌∷◌, ◌++◌, Bool, true, false, refl, sym, ap, ◌∙◌, subst, append_assoc}
+use Rattle.std.proofs.Common.{ℕ, zero, suc, ◌≡◌, ◌≢◌, inl, inr, List, [], ◌∷◌, ◌++◌, refl, sym, ap, ◌∙◌, subst, append_assoc}
 use mathlib.Core.Logic.{⊎_elim}
 use Rattle.std.proofs.Math.ListN.{replicate}
 use Rattle.std.proofs.lemmas.List.{append-nil}
-use Rattle.cbor_edn_parts.specs.Space.{IsBlank, Each, end, next, IsComment, IsS, empty, blank, comment, IsMs, IsSoc, IsMsc, space, comma, comma_first, space_alone, space_comma}
-use Rattle.cbor_edn_parts.specs.code.SpaceTokens.{is_s, is_ms, is_msc, is_soc}
-use Rattle.cbor_edn_parts.specs.Comments.{BeginsWithComment, EndsWithComment, IsTrimmed, IsCommentsOf, from_first, to_last, comments_of, before_comma, after_comma, CutAtComma}
+use Rattle.cbor_edn_parts.specs.Space.{IsBlank, Each, end, next, IsS, empty, comment, IsMs, IsSoc, IsMsc, space, comma, comma_first, space_alone, space_comma}
+use Rattle.cbor_edn_parts.specs.Comments.{BeginsWithComment, EndsWithComment, IsTrimmed, from_first, to_last, comments_of, before_comma, after_comma, CutAtComma}
 use Rattle.cbor_edn_parts.specs.Spacing.{SpaceKind, S, MS, MSC, SOC, Spacing, Least, Comments, OneLine, NewLine, OneSpace, line, or_space, comments_before, comments_after, spaced}
-use Rattle.cbor_edn_parts.specs.SpacingLaws.{is_of, KeepsComments, StaysOfKind, ForgetsColumn}
+use Rattle.cbor_edn_parts.specs.SpacingLaws.{KeepsComments, StaysOfKind, ForgetsColumn}
 use Rattle.cbor_edn_parts.proofs.SpaceTexts.{s_texts, ms_texts, soc_texts, msc_texts}
-use Rattle.cbor_edn_parts.proofs.Comments.{spaces_append, blanks_space, comment_space, comments_is, comments_only, cut_at_comma}
+use Rattle.cbor_edn_parts.proofs.Comments.{spaces_append, blanks_space, comments_is, comments_only, cut_at_comma}
 
 -- ---- trimmed texts
 

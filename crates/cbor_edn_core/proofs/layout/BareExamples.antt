@@ -9,8 +9,8 @@ use Rattle.cbor_edn_parts.specs.Indicator.{indicator_at, word_at as indicator_wo
 use Rattle.cbor_edn_parts.specs.code.Lex.{munch, push}
 use Rattle.cbor_edn_parts.specs.Notes.{hash_lines, noted}
 use Rattle.cbor_edn_core.specs.declared.cbor.Width.TheVariants.{Immediate, One}
-use Rattle.cbor_edn_core.specs.Trees.{Rule, Standalone, Seq, Tree, StandaloneTree, text, onto, joins}
-use Rattle.cbor_edn_core.specs.code.Reading.{reads_all, reads, read, byte, not_empty, head_of, starts_string, word_at, tag_number, enclosed_item, tag_item, number_end, number_item, word_item, plain_item, list_item, stream_item, string_item, item, literal_piece, dots_piece, embedded_piece, piece, plus_string, string, entry, inside_full, inside, more, rest, sequence, standalone, ◌>>=◌}
+use Rattle.cbor_edn_core.specs.Trees.{Rule, Standalone, Tree, text, onto, joins}
+use Rattle.cbor_edn_core.specs.code.Reading.{reads_all, reads, read, byte, not_empty, head_of, starts_string, word_at, enclosed_item, tag_item, number_end, number_item, word_item, plain_item, list_item, stream_item, string_item, item, literal_piece, dots_piece, embedded_piece, piece, plus_string, string, entry, inside_full, inside, more, rest, sequence, standalone, ◌>>=◌}
 use Rattle.cbor_edn_core.specs.Value as value
 use Rattle.cbor_edn_core.specs.Bare.{unmarked}
 use Rattle.cbor_edn_core.specs.Plain.{integer, string as text_or_bytes, array, no_plains, one_plain, plain}

@@ -22,7 +22,7 @@ use Rattle.cbor_edn_core.specs.Bare.{bare}
 use Rattle.cbor_edn_core.specs.Plain.{joined, plain, plain_values, plain_pairs, integer, ChunksAreShort, IsShort, AreShort, PairsAreShort}
 use Rattle.cbor_edn_core.specs.Plain as plains
 use Rattle.cbor_edn_core.specs.BareLaws.{BareMeans}
-use Rattle.cbor_edn_core.proofs.meaning.MeaningSteps.{bind, if_both, both_steps, some_if, some_is}
+use Rattle.cbor_edn_core.proofs.meaning.MeaningSteps.{bind, both_steps, some_is}
 use Rattle.cbor_edn_core.proofs.meaning.Meanings.{shortest_fits, width_fits, if_content, given_chunk, string_value, stream_value}
 
 -- ---- widths

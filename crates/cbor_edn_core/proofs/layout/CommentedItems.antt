@@ -1,5 +1,5 @@
 -- A comment in front of an item.
-use Rattle.std.proofs.Common.{ℕ, List, refl}
+use Rattle.std.proofs.Common.{refl}
 use Rattle.cbor_edn_parts.specs.Notes.{noted}
 use Rattle.cbor_edn_parts.proofs.SpaceTexts.{s_texts}
 use Rattle.cbor_edn_parts.proofs.Notes.{notes_are_space}

@@ -1,15 +1,15 @@
 -- A layout changes spaces alone, keeps each of them in its set, and forgets an earlier layout that kept the comments.
-use Rattle.std.proofs.Common.{ℕ, ◌≡◌, ◌⊎◌, inl, inr, List, [], ◌∷◌, Bool, true, Option, Some, None, refl, sym, ap, ◌∙◌, subst}
+use Rattle.std.proofs.Common.{ℕ, ◌≡◌, ◌⊎◌, inl, inr, List, true, refl, sym, ap, ◌∙◌, subst}
 use Rattle.std.specs.Prelude.{nat_lt, length, if◌then◌else◌}
 use mathlib.Core.Logic.{⊎_elim}
 use Rattle.std.proofs.lemmas.Bool.{cond_both}
-use Rattle.cbor_edn_parts.specs.Spacing.{DelimiterPolicy, DiscardAll, DiscardAllButComments, SingleLineRegularSpacing, IndentedRegularSpacing, SingleSpace, SpaceKind, S, MS, MSC, SOC, Spacing, Least, Comments, OneLine, NewLine, OneSpace, spaced}
+use Rattle.cbor_edn_parts.specs.Spacing.{DelimiterPolicy, DiscardAll, SpaceKind, S, MS, MSC, SOC, Least, OneLine, spaced}
 use Rattle.cbor_edn_parts.specs.SpacingLaws.{is_of, KeepsComments}
 use Rattle.cbor_edn_parts.proofs.Spacings.{spaced_stays, spaced_forgets, least_forgets}
 use Rattle.cbor_edn_core.specs.Items.{Listed, String, Stream, Plus, Element, Pair, Chunk, End, Then}
 use Rattle.cbor_edn_core.specs.Spelling.{SpellsOne, SpellsSequence}
 use Rattle.cbor_edn_core.specs.Trees.{Rule, OneItem, Seq, Standalone, Tree, Head, Unmarked, Marked, mark, IsHead, NumberTree, FloatTree, NamedTree, EnclosedTree, ListTree, StringTree, StreamTree, LiteralTree, DotsTree, EmbeddedTree, LastPieceTree, PlusTree, ElementTree, PairTree, ChunkTree, EmptyTree, FullTree, LastTree, MoreTree, NothingTree, SequenceTree, StandaloneTree, Valid, labelled, items, text}
-use Rattle.cbor_edn_core.specs.Layout.{Layout, Inline, Lines, layout, Place, First, Between, Last, BeforePlus, AfterPlus, AfterColon, Elsewhere, spacing, respaced, sum, fitted, in_chunk, laid_head, laid, laid_out}
+use Rattle.cbor_edn_core.specs.Layout.{Layout, Inline, Lines, layout, Place, First, Between, Last, BeforePlus, AfterPlus, AfterColon, Elsewhere, spacing, respaced, saturating_add, fitted, in_chunk, laid_head, laid, laid_out}
 use Rattle.cbor_edn_core.specs.LayoutLaws.{KeepsItems, StaysValid, SpellsTheSame, KeepsAllComments, ForgetsLayout, SameTwice}
 use Rattle.cbor_edn_core.proofs.text.GrammarLaws.{spelled_by_trees}
 
@@ -17,7 +17,7 @@ use Rattle.cbor_edn_core.proofs.text.GrammarLaws.{spelled_by_trees}
 fitted_any : (P : Tree OneItem → Type 0) (l : Layout) (part : Layout → Tree OneItem) → ((m : Layout) → P (part m)) → P (fitted l part)
 fitted_any P (Inline column) part h = h (Inline column)
 fitted_any P (Lines base end level width) part h =
-    cond_both (nat_lt (sum (length (text (part (Inline OneLine)))) base) width) (part (Inline OneLine)) (part (Lines (sum base level) base level width)) P (λ e. h (Inline OneLine)) (λ e. h (Lines (sum base level) base level width))
+    cond_both (nat_lt (saturating_add (length (text (part (Inline OneLine)))) base) width) (part (Inline OneLine)) (part (Lines (saturating_add base level) base level width)) P (λ e. h (Inline OneLine)) (λ e. h (Lines (saturating_add base level) base level width))
 
 -- ---- items
 
@@ -142,7 +142,7 @@ chunk_forgets l m h = ⊎_elim (λ keeps. inl (keeps_in m keeps)) (λ least. inr
 fitted_earlier : (P : Tree OneItem → Type 0) (l m : Layout) (part : Layout → Tree OneItem) → Forgets l m → ((n : Layout) → Forgets l n → P (part n)) → P (fitted m part)
 fitted_earlier P l (Inline column) part f h = h (Inline column) f
 fitted_earlier P l (Lines base end level width) part f h =
-    cond_both (nat_lt (sum (length (text (part (Inline OneLine)))) base) width) (part (Inline OneLine)) (part (Lines (sum base level) base level width)) P (λ e. h (Inline OneLine) (inl tt)) (λ e. h (Lines (sum base level) base level width) (inl tt))
+    cond_both (nat_lt (saturating_add (length (text (part (Inline OneLine)))) base) width) (part (Inline OneLine)) (part (Lines (saturating_add base level) base level width)) P (λ e. h (Inline OneLine) (inl tt)) (λ e. h (Lines (saturating_add base level) base level width) (inl tt))
 
 only_keeps : (base end level width : ℕ) (m : Layout) → Forgets (Lines base end level width) m → Keeps m
 only_keeps base end level width m f = ⊎_elim (λ k. k) (λ h. absurd h) f
@@ -152,9 +152,9 @@ fitted_now : (l m : Layout) (f g : Layout → Tree OneItem) → Forgets l m → 
 fitted_now (Inline column) m f g forgets h = h (Inline column) forgets
 fitted_now (Lines base end level width) m f g forgets h =
     let keeps : Keeps m = only_keeps base end level width m forgets in
-    let inner : Layout = Lines (sum base level) base level width in
-    ap (λ v. if nat_lt (sum (length (text v)) base) width then v else f inner) (h (Inline OneLine) (inl keeps))
-    ∙ ap (λ v. if nat_lt (sum (length (text (g (Inline OneLine)))) base) width then g (Inline OneLine) else v) (h inner (inl keeps))
+    let inner : Layout = Lines (saturating_add base level) base level width in
+    ap (λ v. if nat_lt (saturating_add (length (text v)) base) width then v else f inner) (h (Inline OneLine) (inl keeps))
+    ∙ ap (λ v. if nat_lt (saturating_add (length (text (g (Inline OneLine)))) base) width then g (Inline OneLine) else v) (h inner (inl keeps))
 
 head_forgotten : (l m : Layout) (h : Head) → Forgets l m → IsHead h → laid_head l (laid_head m h) ≡ laid_head l h
 head_forgotten l m Unmarked f v = refl

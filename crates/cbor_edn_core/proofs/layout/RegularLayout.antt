@@ -1,23 +1,23 @@
 -- The trees of decoded items are laid out on a single line already.
-use Rattle.std.proofs.Common.{ℕ, ◌≡◌, List, [], ◌∷◌, Bool, true, false, cond, Option, Some, None, refl, sym, ap, ◌∙◌}
-use Rattle.std.specs.Prelude.{pos, length, eqb}
+use Rattle.std.proofs.Common.{ℕ, ◌≡◌, List, [], ◌∷◌, Option, Some, None, refl, ap, ◌∙◌}
+use Rattle.std.specs.Prelude.{pos, eqb}
 use Rattle.std.specs.Fmt.{signed_decimal}
 use Rattle.std.proofs.lemmas.Bool.{cond_both}
 use Rattle.cbor_edn_parts.specs.declared.indicator.Indicator.{Indicator}
 use Rattle.cbor_edn_parts.specs.declared.string.StringKind.{StringKind}
 use Rattle.cbor_edn_parts.specs.Comments.{from_first, to_last, in_front, behind}
-use Rattle.cbor_edn_parts.specs.Spacing.{SingleLineRegularSpacing, OneLine}
+use Rattle.cbor_edn_parts.specs.Spacing.{OneLine}
 use Rattle.cbor_edn_core.specs.declared.word.NamedSimple.TheVariants.{False, True, Null, Undefined}
 use Rattle.cbor_edn_core.specs.Items as kind
 use Rattle.cbor_edn_core.specs.Items.{Row, Bracketed, entries_of, Item, Node, Number, Named, Simple}
-use Rattle.cbor_edn_core.specs.Trees.{OneItem, OneEntry, Rest, Seq, Tree, EnclosedTree, ListTree, ElementTree, PairTree, StandaloneTree}
+use Rattle.cbor_edn_core.specs.Trees.{OneItem, OneEntry, Rest, Tree, EnclosedTree, ListTree, ElementTree}
 use Rattle.cbor_edn_core.specs.declared.tree.LabelKind.{LabelKind}
 use Rattle.cbor_edn_core.specs.declared.tree.LabelKind.TheVariants as label
 use Rattle.cbor_edn_core.specs.Value as values
 use Rattle.cbor_edn_core.specs.Value.{Value, unsigned, negative, string, chunks, array, object, tag, simple, float, Values, no_values, value, Pairs, no_pairs, pair}
 use Rattle.cbor_edn_core.specs.Decoded as decoded
 use Rattle.cbor_edn_core.specs.Decoded.{in_front as put, indicator_of, item_of, items_of, pairs_of, chunk_items, simple_item, inside, key_value, regular, alone, sequence_tree_of, stream_tree}
-use Rattle.cbor_edn_core.specs.Layout.{Layout, Inline, laid, laid_out}
+use Rattle.cbor_edn_core.specs.Layout.{Layout, Inline, laid}
 use Rattle.cbor_edn_core.specs.LayoutLaws.{DecodedIsRegular}
 
 abbrev line : Layout

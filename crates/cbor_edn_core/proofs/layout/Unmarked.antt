@@ -1,16 +1,14 @@
 -- The tree that removal of indicators leaves.
-use Rattle.std.proofs.Common.{ℕ, ◌≡◌, List, [], ◌∷◌, ◌++◌, true, cond, eqb, Option, None, refl, ap, ◌∙◌}
-use Rattle.std.specs.Prelude.{codes, Result, Ok}
+use Rattle.std.proofs.Common.{ℕ, ◌≡◌, List, ◌++◌, true, None, refl, ap, ◌∙◌}
 use Rattle.std.proofs.lemmas.Bool.{cond_both}
-use Rattle.cbor_edn_parts.specs.declared.error.ParseErrorKind.{ParseErrorKind}
-use Rattle.cbor_edn_parts.specs.code.SpaceTokens.{is_s, is_ms}
+use Rattle.cbor_edn_parts.specs.code.SpaceTokens.{is_s}
 use Rattle.cbor_edn_parts.proofs.SpaceTexts.{s_texts, ms_texts}
 use Rattle.cbor_edn_parts.proofs.Comments.{spaces_append}
 use Rattle.cbor_edn_core.specs.declared.tree.LabelKind.{LabelKind}
 use Rattle.cbor_edn_core.specs.declared.tree.LabelKind.TheVariants as label
 use Rattle.cbor_edn_core.specs.Items.{Listed, String, Stream, LastPiece, Plus, Element, Pair, Chunk, End, Then, Node, Item}
 use Rattle.cbor_edn_core.specs.Labels.{IsLabel}
-use Rattle.cbor_edn_core.specs.Trees.{Rule, OneItem, OnePiece, OneString, OneEntry, Inside, Rest, Seq, Standalone, Tree, Head, Unmarked, Marked, IsHead, NumberTree, FloatTree, NamedTree, EnclosedTree, ListTree, StringTree, StreamTree, LiteralTree, DotsTree, EmbeddedTree, LastPieceTree, PlusTree, ElementTree, PairTree, ChunkTree, EmptyTree, FullTree, LastTree, MoreTree, NothingTree, SequenceTree, StandaloneTree, Valid, IsJoined, Joined, labelled, Of, items}
+use Rattle.cbor_edn_core.specs.Trees.{Rule, OneItem, OnePiece, OneString, OneEntry, Inside, Rest, Seq, Standalone, Tree, Head, Unmarked, Marked, IsHead, NumberTree, FloatTree, NamedTree, EnclosedTree, ListTree, StringTree, StreamTree, LiteralTree, DotsTree, EmbeddedTree, LastPieceTree, PlusTree, ElementTree, PairTree, ChunkTree, EmptyTree, FullTree, LastTree, MoreTree, NothingTree, SequenceTree, StandaloneTree, Valid, Joined, labelled, Of, items}
 use Rattle.cbor_edn_core.specs.Bare.{bare, is_one_space, first_space, bare_label, unmarked}
 use Rattle.cbor_edn_core.specs.BareLaws.{UnmarkedIsBare, UnmarkedStaysValid}
 

@@ -1,0 +1,32 @@
+-- Decoded items mean their value after any policies.
+use Rattle.std.proofs.Common.{◌≡◌, List, [], ◌∷◌, refl, ap, ◌∙◌, subst}
+use Rattle.cbor_edn_parts.specs.Spacing.{DelimiterPolicy}
+use Rattle.cbor_edn_core.specs.Spelling.{SpellsOne, SpellsSequence}
+use Rattle.cbor_edn_core.specs.Trees.{Rule, Tree, Valid, items, text}
+use Rattle.cbor_edn_core.specs.Meaning.{means}
+use Rattle.cbor_edn_core.specs.Decoded.{item_of, items_of}
+use Rattle.cbor_edn_core.specs.Layout.{laid_out}
+use Rattle.cbor_edn_core.specs.LayoutLaws.{after, MeansTheSame}
+use Rattle.cbor_edn_core.proofs.meaning.Decoding.{item_means, items_mean}
+use Rattle.cbor_edn_core.proofs.text.GrammarLaws.{unique_items, spelled_by_trees}
+use Rattle.cbor_edn_core.proofs.layout.Layouts.{keeps_items, stays_valid}
+
+after_items : {s : Rule} (policies : List DelimiterPolicy) (w : Tree s) → items (after policies w) ≡ items w
+after_items [] w = refl
+after_items {s} (policy ∷ policies) w = after_items policies (laid_out policy w) ∙ keeps_items s policy w
+
+after_valid : {s : Rule} (policies : List DelimiterPolicy) (w : Tree s) → Valid w → Valid (after policies w)
+after_valid [] w v = v
+after_valid {s} (policy ∷ policies) w v = after_valid policies (laid_out policy w) (stays_valid s policy w v)
+
+pub means_the_same : MeansTheSame
+means_the_same = (
+  λ policies v w x fit valid e spelled.
+      let t = text (after policies w) in
+      let s : SpellsOne (item_of v) t = subst (λ x. SpellsOne x t) (after_items policies w ∙ e) (spelled_by_trees.3 (after policies w) (after_valid policies w valid)) in
+      ap means (unique_items.1 x (item_of v) t spelled s) ∙ item_means v fit,
+  λ policies vs w x fit valid e spelled.
+      let t = text (after policies w) in
+      let s : SpellsSequence (items_of vs) t = subst (λ x. SpellsSequence x t) (after_items policies w ∙ e) (spelled_by_trees.2 (after policies w) (after_valid policies w valid)) in
+      ap means (unique_items.0 x (items_of vs) t spelled s) ∙ items_mean vs fit,
+)
