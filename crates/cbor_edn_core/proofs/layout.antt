@@ -1,7 +1,10 @@
 -- Spaces by a policy, comments, and items without indicators.
 pub mod BareExamples
 pub mod BareItems
+pub mod BareParts
 pub mod CommentedItems
+pub mod Countings
+pub mod Fewer
 pub mod LayoutExamples
 pub mod LayoutRows
 pub mod Layouts

@@ -19,6 +19,7 @@ pub mod LayoutLaws
 pub mod Bare
 pub mod Plain
 pub mod BareLaws
+pub mod Fewer
 pub mod code
 pub mod Widths
 pub mod LayoutRows

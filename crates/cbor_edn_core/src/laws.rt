@@ -1,9 +1,7 @@
 //! Laws: each function's contract is one, and its body does nothing.
-ghost use Rattle.std.specs.Prelude.{List, ℕ};
-ghost use Rattle.cbor_edn_parts.specs.Comments.{OneCommentsOf, CutAtComma};
-ghost use Rattle.cbor_edn_parts.specs.SpacingLaws.{StaysOfKind, ForgetsColumn, NotesAreSpace, NotesInFront};
 ghost use Rattle.cbor_edn_core.specs.BareLaws.{UnmarkedIsBare, UnmarkedStaysValid, BareMeans};
 ghost use Rattle.cbor_edn_core.specs.CborLaws.{OneEncoding, ItemMeans, SpelledMeans};
+ghost use Rattle.cbor_edn_core.specs.Fewer.{FewerMean};
 ghost use Rattle.cbor_edn_core.specs.LayoutLaws.{KeepsItems, StaysValid, SpellsTheSame, CommentKeepsItems, CommentStaysValid, ForgetsLayout, SameTwice, DecodedIsRegular, OneRegularTree, MeansTheSame};
 ghost use Rattle.cbor_edn_core.specs.Laws.{ItemsAndSpaces, SpelledByTrees, UniqueItems, UniqueSpaces};
 ghost use Rattle.cbor_edn_core.specs.Spelling.{Spells, SpellsOne, SpellsSequence};
@@ -73,17 +71,6 @@ pub fn spelled_means()
     ensures { SpelledMeans }
 {}
 
-/// What the definitions say of one space text: its comments, its comma, and what each column of the table makes of it; and the note of a
-/// comment is space.
-pub fn space_layouts()
-    ensures comments { (text : List ℕ) → OneCommentsOf text }
-    ensures comma { (x y : List ℕ) → CutAtComma x y }
-    ensures kinds { StaysOfKind }
-    ensures columns { ForgetsColumn }
-    ensures notes { NotesAreSpace }
-    ensures in_front { NotesInFront }
-{}
-
 /// A delimiter policy and a comment change spaces alone, and leave each of them in its set, so that the text spells the same items.
 pub fn layouts_keep_items()
     ensures items { KeepsItems }
@@ -106,9 +93,11 @@ pub fn decoded_layout()
     ensures every_tree { OneRegularTree }
 {}
 
-/// Removal of indicators leaves the bare items, and where items meant a value these mean one that is the same but for its heads.
+/// Removal of indicators leaves the bare items, and where items meant a value these mean one that is the same but for its heads. So do
+/// those that are left where it stops on its way.
 pub fn bare_items()
     ensures items { UnmarkedIsBare }
     ensures valid { UnmarkedStaysValid }
     ensures meaning { BareMeans }
+    ensures stopped { FewerMean }
 {}

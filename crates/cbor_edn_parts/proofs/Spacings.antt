@@ -43,7 +43,6 @@ comments_behind u t blanks h = comments_only (u ++ t) t (record { front = u; bac
 -- ---- what the columns put in front
 
 replicate_blank : (n : ℕ) → Each IsBlank (replicate n 32)
-unfolding replicate
 replicate_blank zero = end
 replicate_blank (suc n) = next (inr (inr (inr refl))) (replicate_blank n)
 

@@ -1,6 +1,8 @@
 //! What holds of the definitions that the contracts cite. These functions do nothing.
 ghost use Rattle.std.specs.Prelude.{List, ℕ, All, ◌<◌};
+ghost use Rattle.cbor_edn_parts.specs.Comments.{OneCommentsOf, CutAtComma};
 ghost use Rattle.cbor_edn_parts.specs.Laws.{SpaceTexts, NumberTexts, IndicatorTexts, LiteralTexts, DecodedLiterals};
+ghost use Rattle.cbor_edn_parts.specs.SpacingLaws.{StaysOfKind, ForgetsColumn, NotesAreSpace, NotesInFront};
 
 /// The tests and tables of space texts take exactly the texts of the grammar.
 pub fn space_texts()
@@ -28,4 +30,15 @@ pub fn literal_texts()
 /// What decoded strings are printed as stands for them.
 pub fn decoded_literals()
     ensures { (bytes : List ℕ) → All (λ b. b < 256) bytes → DecodedLiterals bytes }
+{}
+
+/// What the definitions say of one space text: its comments, its comma, and what each column of the table makes of it; and the note of a
+/// comment is space.
+pub fn space_layouts()
+    ensures comments { (text : List ℕ) → OneCommentsOf text }
+    ensures comma { (x y : List ℕ) → CutAtComma x y }
+    ensures kinds { StaysOfKind }
+    ensures columns { ForgetsColumn }
+    ensures notes { NotesAreSpace }
+    ensures in_front { NotesInFront }
 {}

@@ -162,6 +162,7 @@ sequences :
     × Sequence indented (codes "[1,2],3") (codes "[1, 2],\n3\n")
     × Sequence (IndentedRegularSpacing 0 2 0) (codes "[1,2],3") (codes "[\n  1,\n  2\n],\n3\n")
     × Sequence indented (codes "[1, 2, 'x', ip'2001:db1::/64']\n") (codes "[1, 2, 'x', ip'2001:db1::/64']\n")
+    × Sequence indented (codes "{4/ exp /: dt'2023-11-14T22:13:20+00:00'}") (codes "{4/ exp /: dt'2023-11-14T22:13:20+00:00'}\n")
     × Sequence indented [] []
     × Sequence (IndentedRegularSpacing 2 4 80) (codes " /c/ ") (codes "/c/")
     × Sequence SingleSpace [] (codes " ")
@@ -170,7 +171,21 @@ sequences :
     × Sequence SingleSpace (codes "1 2") (codes " 1 ,2 ")
     × Sequence DiscardAllButComments (codes " /a/ 1 , /b/ 2") (codes "/a/1,/b/2")
 unfolding laid_text laid_item
-sequences = (refl, refl, refl, refl, refl, refl, refl, refl, refl, refl, refl)
+sequences = (refl, refl, refl, refl, refl, refl, refl, refl, refl, refl, refl, refl)
+
+-- the text after two policies
+laid_twice : DelimiterPolicy → DelimiterPolicy → List ℕ → Result (List ℕ) ParseErrorKind
+unfolding laid_text
+laid_twice first second xs = reads_all 9 Seq xs >>= λ w. Ok (text (laid_out second (laid_out first w)))
+
+-- Of an earlier policy nothing stays but that comments are gone.
+two_policies :
+    laid_twice DiscardAll indented (codes "[1 /c/, 2]\n") ≡ Ok (codes "[1, 2]\n")
+    × laid_twice (IndentedRegularSpacing 0 2 0) SingleLineRegularSpacing (codes "[1 /c/,{2 : 3} ]") ≡ Ok (codes "[1/c/, {2: 3}]")
+    × laid_twice SingleSpace DiscardAllButComments (codes "[_ 1 /c/ , 2]") ≡ Ok (codes "[_ 1/c/,2]")
+    × laid_twice indented DiscardAll (codes "[1 /c/, 2]") ≡ Ok (codes "[1,2]")
+unfolding laid_twice
+two_policies = (refl, refl, refl, refl)
 
 -- The test counts bytes: `["é"]` has six.
 bytes_counted :
