@@ -21,5 +21,3 @@ pub mod Plain
 pub mod BareLaws
 pub mod Fewer
 pub mod code
-pub mod Widths
-pub mod LayoutRows

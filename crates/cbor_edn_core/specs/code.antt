@@ -2,8 +2,10 @@
 pub mod CborReading
 pub mod Encoding
 pub mod Growing
+pub mod LayoutRows
 pub mod Lookahead
 pub mod ParserResults
 pub mod Reading
 pub mod Recoding
 pub mod Same
+pub mod Widths

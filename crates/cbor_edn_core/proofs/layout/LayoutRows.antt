@@ -6,8 +6,8 @@ use Rattle.cbor_edn_core.specs.Trees.{OnePiece, OneString, OneEntry, Rest, Tree,
 use Rattle.cbor_edn_core.specs.View.{entries_onto, pieces_onto}
 use Rattle.cbor_edn_core.specs.Layout.{Layout, Between, BeforePlus, AfterPlus, respaced, laid}
 use Rattle.cbor_edn_core.specs.Bare.{unmarked}
-use Rattle.cbor_edn_core.specs.Widths.{widths_onto}
-use Rattle.cbor_edn_core.specs.LayoutRows.{laid_entry, unmarked_entry, entry_items, entries_widths, laid_piece, unmarked_piece, piece_items}
+use Rattle.cbor_edn_core.specs.code.Widths.{widths_onto}
+use Rattle.cbor_edn_core.specs.code.LayoutRows.{laid_entry, unmarked_entry, entry_items, entries_widths, laid_piece, unmarked_piece, piece_items}
 
 pub laid_entries : {k : Row} (l : Layout) (ps : List (Tree (OneEntry k) × List ℕ)) (m : Tree (Rest k)) → laid l (entries_onto ps m) ≡ entries_onto (map (laid_entry l) ps) (laid l m)
 unfolding laid

@@ -6,7 +6,7 @@ use Rattle.cbor_edn_parts.specs.Spacing.{S, MSC, SOC, Spacing, Least, Comments, 
 use Rattle.cbor_edn_core.specs.Spelling.{ending}
 use Rattle.cbor_edn_core.specs.Trees.{Rule, OneItem, OnePiece, Tree, NumberTree, FloatTree, NamedTree, EnclosedTree, ListTree, StringTree, StreamTree, LiteralTree, DotsTree, EmbeddedTree, LastPieceTree, PlusTree, ElementTree, PairTree, ChunkTree, EmptyTree, FullTree, LastTree, MoreTree, NothingTree, SequenceTree, StandaloneTree, onto, text}
 use Rattle.cbor_edn_core.specs.Layout.{Inline, Between, Last, BeforePlus, AfterPlus, AfterColon, Elsewhere, respaced, in_chunk, saturating_add, laid}
-use Rattle.cbor_edn_core.specs.Widths.{width, chunk_column, measured}
+use Rattle.cbor_edn_core.specs.code.Widths.{width, chunk_column, measured}
 use Rattle.cbor_edn_core.proofs.text.Spelled.{parted}
 
 chunk_is : (c : Spacing) → in_chunk (Inline c) ≡ Inline (chunk_column c)

@@ -5,7 +5,7 @@ use Rattle.cbor_edn_core.specs.Items.{Row, Entry, Node, Piece}
 use Rattle.cbor_edn_core.specs.Trees.{OnePiece, OneEntry, Tree, items}
 use Rattle.cbor_edn_core.specs.Layout.{Layout, Between, BeforePlus, AfterPlus, respaced, laid}
 use Rattle.cbor_edn_core.specs.Bare.{unmarked}
-use Rattle.cbor_edn_core.specs.Widths.{widths_onto}
+use Rattle.cbor_edn_core.specs.code.Widths.{widths_onto}
 
 -- an entry and the separator behind it
 abbrev pub laid_entry : {k : Row} → Layout → Tree (OneEntry k) × List ℕ → Tree (OneEntry k) × List ℕ
