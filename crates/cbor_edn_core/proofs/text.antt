@@ -13,3 +13,4 @@ pub mod Steps
 pub mod TagNumbers
 pub mod Whole
 pub mod Words
+pub mod Tested

@@ -1,7 +1,5 @@
 -- A comment in front of an item.
 use Rattle.std.proofs.Common.{refl}
-use Rattle.cbor_edn_parts.specs.Notes.{noted}
-use Rattle.cbor_edn_parts.proofs.SpaceTexts.{s_texts}
 use Rattle.cbor_edn_parts.proofs.Notes.{notes_are_space}
 use Rattle.cbor_edn_core.specs.Trees.{StandaloneTree, Valid, items}
 use Rattle.cbor_edn_core.specs.LayoutLaws.{CommentKeepsItems, CommentStaysValid}
@@ -12,4 +10,4 @@ comment_keeps_items c (StandaloneTree s w t) = refl
 
 pub comment_stays_valid : CommentStaysValid
 unfolding Valid
-comment_stays_valid c (StandaloneTree s w t) small v = ((s_texts (noted c)).0 (notes_are_space c small).0, v.1, v.2)
+comment_stays_valid c (StandaloneTree s w t) small v = ((notes_are_space c small).0, v.1, v.2)

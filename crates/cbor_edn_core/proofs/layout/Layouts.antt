@@ -8,7 +8,8 @@ use Rattle.cbor_edn_parts.specs.SpacingLaws.{is_of, KeepsComments}
 use Rattle.cbor_edn_parts.proofs.Spacings.{spaced_stays, spaced_forgets, least_forgets}
 use Rattle.cbor_edn_core.specs.Items.{Listed, String, Stream, Plus, Element, Pair, Chunk, End, Then}
 use Rattle.cbor_edn_core.specs.Spelling.{SpellsOne, SpellsSequence}
-use Rattle.cbor_edn_core.specs.Trees.{Rule, OneItem, Seq, Standalone, Tree, Head, Unmarked, Marked, mark, IsHead, NumberTree, FloatTree, NamedTree, EnclosedTree, ListTree, StringTree, StreamTree, LiteralTree, DotsTree, EmbeddedTree, LastPieceTree, PlusTree, ElementTree, PairTree, ChunkTree, EmptyTree, FullTree, LastTree, MoreTree, NothingTree, SequenceTree, StandaloneTree, Valid, labelled, items, text}
+use Rattle.cbor_edn_core.specs.Trees.{Rule, OneItem, Seq, Standalone, Tree, Head, Unmarked, Marked, mark, NumberTree, FloatTree, NamedTree, EnclosedTree, ListTree, StringTree, StreamTree, LiteralTree, DotsTree, EmbeddedTree, LastPieceTree, PlusTree, ElementTree, PairTree, ChunkTree, EmptyTree, FullTree, LastTree, MoreTree, NothingTree, SequenceTree, StandaloneTree, labelled, items, text}
+use Rattle.cbor_edn_core.proofs.text.Tested.{IsTestedHead, Tested, tested, valid}
 use Rattle.cbor_edn_core.specs.Layout.{Layout, Inline, Lines, layout, Place, First, Between, Last, BeforePlus, AfterPlus, AfterColon, Elsewhere, spacing, respaced, saturating_add, fitted, in_chunk, laid_head, laid, laid_out}
 use Rattle.cbor_edn_core.specs.LayoutLaws.{KeepsItems, StaysValid, SpellsTheSame, KeepsAllComments, ForgetsLayout, SameTwice}
 use Rattle.cbor_edn_core.proofs.text.GrammarLaws.{spelled_by_trees}
@@ -55,19 +56,19 @@ keeps_items s policy w = items_kept (layout policy) w
 
 -- ---- texts in their sets
 
-head_stays : (l : Layout) (h : Head) → IsHead h → IsHead (laid_head l h)
+head_stays : (l : Layout) (h : Head) → IsTestedHead h → IsTestedHead (laid_head l h)
 head_stays l Unmarked v = tt
 head_stays l (Marked i ms) v = spaced_stays MS (spacing l Elsewhere) ms v
 
-pub stays : {s : Rule} (l : Layout) (w : Tree s) → Valid w → Valid (laid l w)
-unfolding Valid laid
+pub stays : {s : Rule} (l : Layout) (w : Tree s) → Tested w → Tested (laid l w)
+unfolding Tested laid
 stays l (NumberTree x i) v = v
 stays l (FloatTree f i) v = v
 stays l (NamedTree b) v = v
-stays l (EnclosedTree label w) v = fitted_any Valid l (λ l. EnclosedTree label (laid l w)) (λ m. (v.0, stays m w v.1))
-stays l (ListTree k w) v = fitted_any Valid l (λ l. ListTree k (laid l w)) (λ m. stays m w v)
-stays l (StringTree w) v = fitted_any Valid l (λ l. StringTree (laid l w)) (λ m. stays m w v)
-stays l (StreamTree ms m) v = fitted_any Valid l (λ l. StreamTree (respaced MS First l ms) (laid l m)) (λ l. (spaced_stays MS (spacing l First) ms v.0, stays l m v.1))
+stays l (EnclosedTree label w) v = fitted_any Tested l (λ l. EnclosedTree label (laid l w)) (λ m. (v.0, stays m w v.1))
+stays l (ListTree k w) v = fitted_any Tested l (λ l. ListTree k (laid l w)) (λ m. stays m w v)
+stays l (StringTree w) v = fitted_any Tested l (λ l. StringTree (laid l w)) (λ m. stays m w v)
+stays l (StreamTree ms m) v = fitted_any Tested l (λ l. StreamTree (respaced MS First l ms) (laid l m)) (λ l. (spaced_stays MS (spacing l First) ms v.0, stays l m v.1))
 stays l (LiteralTree x i) v = v
 stays l (DotsTree x) v = v
 stays l (EmbeddedTree w i) v = v
@@ -85,7 +86,7 @@ stays l (SequenceTree s m) v = (spaced_stays S (spacing l Elsewhere) s v.0, stay
 stays l (StandaloneTree s w t) v = (spaced_stays S (spacing l Elsewhere) s v.0, stays l w v.1, spaced_stays S (spacing l Elsewhere) t v.2)
 
 pub stays_valid : StaysValid
-stays_valid s policy w v = stays (layout policy) w v
+stays_valid s policy w v = valid (laid_out policy w) (stays (layout policy) w (tested w v))
 
 pub spells_the_same : SpellsTheSame
 spells_the_same = (
@@ -156,12 +157,12 @@ fitted_now (Lines base end level width) m f g forgets h =
     ap (λ v. if nat_lt (saturating_add (length (text v)) base) width then v else f inner) (h (Inline OneLine) (inl keeps))
     ∙ ap (λ v. if nat_lt (saturating_add (length (text (g (Inline OneLine)))) base) width then g (Inline OneLine) else v) (h inner (inl keeps))
 
-head_forgotten : (l m : Layout) (h : Head) → Forgets l m → IsHead h → laid_head l (laid_head m h) ≡ laid_head l h
+head_forgotten : (l m : Layout) (h : Head) → Forgets l m → IsTestedHead h → laid_head l (laid_head m h) ≡ laid_head l h
 head_forgotten l m Unmarked f v = refl
 head_forgotten l m (Marked i ms) f v = ap (Marked i) (space_forgotten MS Elsewhere l m ms f v)
 
-forgotten : {s : Rule} (l m : Layout) (w : Tree s) → Forgets l m → Valid w → laid l (laid m w) ≡ laid l w
-unfolding Valid laid
+forgotten : {s : Rule} (l m : Layout) (w : Tree s) → Forgets l m → Tested w → laid l (laid m w) ≡ laid l w
+unfolding Tested laid
 forgotten l m (NumberTree x i) f v = refl
 forgotten l m (FloatTree x i) f v = refl
 forgotten l m (NamedTree b) f v = refl
@@ -207,7 +208,7 @@ policy_keeps DiscardAll k = absurd k
 policy_keeps q k = tt
 
 pub forgets_layout : ForgetsLayout
-forgets_layout s p q w h v = forgotten (layout p) (layout q) w (⊎_elim (λ k. inl (policy_keeps q k)) (λ e. inr (subst (λ p. IsLeast (layout p)) (sym e) tt)) h) v
+forgets_layout s p q w h v = forgotten (layout p) (layout q) w (⊎_elim (λ k. inl (policy_keeps q k)) (λ e. inr (subst (λ p. IsLeast (layout p)) (sym e) tt)) h) (tested w v)
 
 keeps_or_all : (p : DelimiterPolicy) → KeepsAllComments p ⊎ (p ≡ DiscardAll)
 keeps_or_all DiscardAll = inr refl

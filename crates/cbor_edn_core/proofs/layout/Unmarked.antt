@@ -8,7 +8,8 @@ use Rattle.cbor_edn_core.specs.declared.tree.LabelKind.{LabelKind}
 use Rattle.cbor_edn_core.specs.declared.tree.LabelKind.TheVariants as label
 use Rattle.cbor_edn_core.specs.Items.{Listed, String, Stream, LastPiece, Plus, Element, Pair, Chunk, End, Then, Node, Item}
 use Rattle.cbor_edn_core.specs.Labels.{IsLabel}
-use Rattle.cbor_edn_core.specs.Trees.{Rule, OneItem, OnePiece, OneString, OneEntry, Inside, Rest, Seq, Standalone, Tree, Head, Unmarked, Marked, IsHead, NumberTree, FloatTree, NamedTree, EnclosedTree, ListTree, StringTree, StreamTree, LiteralTree, DotsTree, EmbeddedTree, LastPieceTree, PlusTree, ElementTree, PairTree, ChunkTree, EmptyTree, FullTree, LastTree, MoreTree, NothingTree, SequenceTree, StandaloneTree, Valid, Joined, labelled, Of, items}
+use Rattle.cbor_edn_core.specs.Trees.{Rule, OneItem, OnePiece, OneString, OneEntry, Inside, Rest, Seq, Standalone, Tree, Head, Unmarked, Marked, NumberTree, FloatTree, NamedTree, EnclosedTree, ListTree, StringTree, StreamTree, LiteralTree, DotsTree, EmbeddedTree, LastPieceTree, PlusTree, ElementTree, PairTree, ChunkTree, EmptyTree, FullTree, LastTree, MoreTree, NothingTree, SequenceTree, StandaloneTree, Joined, labelled, Of, items}
+use Rattle.cbor_edn_core.proofs.text.Tested.{IsTestedHead, Tested, tested, valid}
 use Rattle.cbor_edn_core.specs.Bare.{bare, is_one_space, first_space, bare_label, unmarked}
 use Rattle.cbor_edn_core.specs.BareLaws.{UnmarkedIsBare, UnmarkedStaysValid}
 
@@ -60,35 +61,35 @@ label_fits : (l : LabelKind) → IsLabel l → IsLabel (bare_label l)
 label_fits (label.Tag n i) v = v
 label_fits label.Simple v = tt
 
-first_is_space : (h : Head) (s : List ℕ) → IsHead h → is_s s ≡ true → is_s (first_space h s) ≡ true
+first_is_space : (h : Head) (s : List ℕ) → IsTestedHead h → is_s s ≡ true → is_s (first_space h s) ≡ true
 first_is_space Unmarked s v e = e
 first_is_space (Marked i ms) s v e =
     cond_both (is_one_space ms) s (ms ++ s) (λ x. is_s x ≡ true) (λ one. e) (λ other. (s_texts (ms ++ s)).0 (spaces_append ((ms_texts ms).1 v).0 ((s_texts s).1 e)))
 
-valid : {s : Rule} (w : Tree s) → Valid w → Valid (unmarked w)
-unfolding Valid unmarked
-valid (NumberTree x i) v = v
-valid (FloatTree f i) v = v
-valid (NamedTree b) v = v
-valid (EnclosedTree l w) v = (label_fits l v.0, valid w v.1)
-valid (ListTree k w) v = valid w v
-valid (StringTree w) v = valid w v
-valid (StreamTree ms m) v = (v.0, valid m v.1)
-valid (LiteralTree x i) v = v
-valid (DotsTree x) v = v
-valid (EmbeddedTree w i) v = v
-valid (LastPieceTree p) v = valid p v
-valid (PlusTree p s t w) v = (valid p v.0, v.1, v.2, valid w v.3)
-valid (ElementTree w) v = valid w v
-valid (PairTree k s t w) v = (valid k v.0, v.1, v.2, valid w v.3)
-valid (ChunkTree w) v = valid w v
-valid (EmptyTree i s) v = v
-valid (FullTree h s m) v = (tt, first_is_space h s v.0 v.1, valid m v.2)
-valid (LastTree e s) v = (valid e v.0, v.1)
-valid (MoreTree e s m) v = (valid e v.0, v.1, valid m v.2)
-valid (NothingTree s) v = v
-valid (SequenceTree s m) v = (v.0, valid m v.1)
-valid (StandaloneTree s w t) v = (v.0, valid w v.1, v.2)
+stays : {s : Rule} (w : Tree s) → Tested w → Tested (unmarked w)
+unfolding Tested unmarked
+stays (NumberTree x i) v = v
+stays (FloatTree f i) v = v
+stays (NamedTree b) v = v
+stays (EnclosedTree l w) v = (label_fits l v.0, stays w v.1)
+stays (ListTree k w) v = stays w v
+stays (StringTree w) v = stays w v
+stays (StreamTree ms m) v = (v.0, stays m v.1)
+stays (LiteralTree x i) v = v
+stays (DotsTree x) v = v
+stays (EmbeddedTree w i) v = v
+stays (LastPieceTree p) v = stays p v
+stays (PlusTree p s t w) v = (stays p v.0, v.1, v.2, stays w v.3)
+stays (ElementTree w) v = stays w v
+stays (PairTree k s t w) v = (stays k v.0, v.1, v.2, stays w v.3)
+stays (ChunkTree w) v = stays w v
+stays (EmptyTree i s) v = v
+stays (FullTree h s m) v = (tt, first_is_space h s v.0 v.1, stays m v.2)
+stays (LastTree e s) v = (stays e v.0, v.1)
+stays (MoreTree e s m) v = (stays e v.0, v.1, stays m v.2)
+stays (NothingTree s) v = v
+stays (SequenceTree s m) v = (v.0, stays m v.1)
+stays (StandaloneTree s w t) v = (v.0, stays w v.1, v.2)
 
 joined : {s : Rule} (w : Tree s) → Joined w → Joined (unmarked w)
 unfolding Joined unmarked
@@ -116,4 +117,4 @@ joined (SequenceTree s m) j = joined m j
 joined (StandaloneTree s w t) j = joined w j
 
 pub unmarked_stays_valid : UnmarkedStaysValid
-unmarked_stays_valid s w v = (valid w v, joined w)
+unmarked_stays_valid s w v = (valid (unmarked w) (stays w (tested w v)), joined w)

@@ -13,7 +13,8 @@ use Rattle.cbor_edn_parts.specs.code.LiteralTokens.{literal, dots, is_literal, a
 use Rattle.cbor_edn_core.specs.Items.{Row, Elements, Pairs, Strings, Bracketed, Array, Map, entries_of}
 use Rattle.cbor_edn_core.specs.Spelling.{opening, ending}
 use Rattle.cbor_edn_core.specs.Labels.{IsLabel}
-use Rattle.cbor_edn_core.specs.Trees.{Rule, OneItem, OnePiece, OneString, OneEntry, Inside, Rest, Seq, Standalone, Head, Unmarked, Marked, head_text, label_text, Tree, NumberTree, FloatTree, NamedTree, EnclosedTree, ListTree, StringTree, StreamTree, LiteralTree, DotsTree, EmbeddedTree, LastPieceTree, PlusTree, ElementTree, PairTree, ChunkTree, EmptyTree, FullTree, LastTree, MoreTree, NothingTree, SequenceTree, StandaloneTree, onto, IsHead, Valid, IsJoined, Joined, Parts, FollowOf, depth}
+use Rattle.cbor_edn_core.specs.Trees.{Rule, OneItem, OnePiece, OneString, OneEntry, Inside, Rest, Seq, Standalone, Head, Unmarked, Marked, head_text, label_text, Tree, NumberTree, FloatTree, NamedTree, EnclosedTree, ListTree, StringTree, StreamTree, LiteralTree, DotsTree, EmbeddedTree, LastPieceTree, PlusTree, ElementTree, PairTree, ChunkTree, EmptyTree, FullTree, LastTree, MoreTree, NothingTree, SequenceTree, StandaloneTree, onto, IsJoined, Joined, Parts, FollowOf, depth}
+use Rattle.cbor_edn_core.proofs.text.Tested.{IsTestedHead, Tested}
 use Rattle.cbor_edn_core.specs.declared.tree.LabelKind.{LabelKind}
 use Rattle.cbor_edn_core.specs.declared.tree.LabelKind.TheVariants as label
 use Rattle.cbor_edn_core.specs.declared.word.NamedSimple.{NamedSimple}
@@ -118,7 +119,7 @@ module _ (g : ℕ → (s : Rule) → Reader s) where
   string-again limit w [] r n h e = absurd (cc)
   string-again limit w (c ∷ xs) r n h e = plain_next limit c xs (string_unopened c xs h) ∙ rw (n, h) (then_done (depth w) limit _ e refl)
 
-  stream-again : (limit : ℕ) (ms : List ℕ) (m : Tree (Rest Strings)) (r : List ℕ) → is_ms ms ≡ true → Valid m → g limit (Rest Strings) (onto m (41 ∷ r)) ≡ outcome (depth m) limit (m, 41 ∷ r) → stream_item g limit (95 ∷ (ms ++ onto m (41 ∷ r))) ≡ outcome (depth m) limit (StreamTree ms m, r)
+  stream-again : (limit : ℕ) (ms : List ℕ) (m : Tree (Rest Strings)) (r : List ℕ) → is_ms ms ≡ true → Tested m → g limit (Rest Strings) (onto m (41 ∷ r)) ≡ outcome (depth m) limit (m, 41 ∷ r) → stream_item g limit (95 ∷ (ms ++ onto m (41 ∷ r))) ≡ outcome (depth m) limit (StreamTree ms m, r)
   unfolding stream_item not_empty
   stream-again limit [] m r v vm e = absurd (cc)
   stream-again limit (c ∷ ms) m r v vm e = then_ok _ (byte-again 95 _) (then_ok _ (space-again (c ∷ ms) _ v (begins_solid _ (rest_starts m _ vm).0)) (then_ok _ refl (then_done (depth m) limit _ e (then_ok _ (byte-again 41 r) refl))))
@@ -179,7 +180,7 @@ module _ (g : ℕ → (s : Rule) → Reader s) where
   unfolding entry
   chunk-again limit w r e = then_done (depth w) limit _ e refl
 
-  pair-again : (limit : ℕ) (v : Tree OneItem) (s t : List ℕ) (w : Tree OneItem) (r : List ℕ) → is_s s ≡ true → is_s t ≡ true → Valid w → g limit OneItem (onto v (s ++ (58 ∷ (t ++ onto w r)))) ≡ outcome (depth v) limit (v, s ++ (58 ∷ (t ++ onto w r))) → g limit OneItem (onto w r) ≡ outcome (depth w) limit (w, r) → entry g limit Pairs (onto v (s ++ (58 ∷ (t ++ onto w r)))) ≡ outcome (max (depth v) (depth w)) limit (PairTree v s t w, r)
+  pair-again : (limit : ℕ) (v : Tree OneItem) (s t : List ℕ) (w : Tree OneItem) (r : List ℕ) → is_s s ≡ true → is_s t ≡ true → Tested w → g limit OneItem (onto v (s ++ (58 ∷ (t ++ onto w r)))) ≡ outcome (depth v) limit (v, s ++ (58 ∷ (t ++ onto w r))) → g limit OneItem (onto w r) ≡ outcome (depth w) limit (w, r) → entry g limit Pairs (onto v (s ++ (58 ∷ (t ++ onto w r)))) ≡ outcome (max (depth v) (depth w)) limit (PairTree v s t w, r)
   unfolding entry
   pair-again limit v s t w r vs vt vw ev ew = then_outcome (depth v) (depth w) limit _ _ ev (then_ok _ (space-again s _ vs (colon_solid (t ++ onto w r))) (then_ok _ (byte-again 58 _) (then_ok _ (space-again t _ vt (begins_solid _ (item_starts w r vw).0)) (then_done (depth w) limit _ ew refl))))
 
@@ -188,11 +189,11 @@ module _ (g : ℕ → (s : Rule) → Reader s) where
   empty-again limit k i s r v h = rw (flat {A = Tree (Inside k) × List ℕ} limit (EmptyTree i s, r), spec-again i (s ++ r) (space_follow s r v (closes_follow r h))) (then_ok _ (space-again s r v (closes_solid r h)) (rw (closes_closed r h)))
 
   -- behind an indicator, or none, and the space that follows
-  headed : (limit : ℕ) (k : Bracketed) (i : Option Indicator) (h : Head) (s t xs : List ℕ) (m : Tree (Rest (entries_of k))) (r : List ℕ) → indicator_at xs ≡ (i, s ++ onto m r) → head_of i s ≡ Ok (h, t) → is_s s ≡ true → Valid m → g limit (Rest (entries_of k)) (onto m r) ≡ outcome (depth m) limit (m, r) → inside g limit k xs ≡ outcome (depth m) limit (FullTree h t m, r)
+  headed : (limit : ℕ) (k : Bracketed) (i : Option Indicator) (h : Head) (s t xs : List ℕ) (m : Tree (Rest (entries_of k))) (r : List ℕ) → indicator_at xs ≡ (i, s ++ onto m r) → head_of i s ≡ Ok (h, t) → is_s s ≡ true → Tested m → g limit (Rest (entries_of k)) (onto m r) ≡ outcome (depth m) limit (m, r) → inside g limit k xs ≡ outcome (depth m) limit (FullTree h t m, r)
   unfolding inside inside_full
   headed limit k i h s t xs m r ei eh v vm e = let b = (rest_starts m r vm).0 in rw ei (then_ok _ (space-again s _ v (begins_solid _ b)) (rw (begins_open _ b) (then_ok _ eh (then_done (depth m) limit _ e refl))))
 
-  full-again : (limit : ℕ) (k : Bracketed) (h : Head) (s : List ℕ) (m : Tree (Rest (entries_of k))) (r : List ℕ) → IsHead h → is_s s ≡ true → IsJoined h s → Valid m → g limit (Rest (entries_of k)) (onto m r) ≡ outcome (depth m) limit (m, r) → inside g limit k (head_text h ++ (s ++ onto m r)) ≡ outcome (depth m) limit (FullTree h s m, r)
+  full-again : (limit : ℕ) (k : Bracketed) (h : Head) (s : List ℕ) (m : Tree (Rest (entries_of k))) (r : List ℕ) → IsTestedHead h → is_s s ≡ true → IsJoined h s → Tested m → g limit (Rest (entries_of k)) (onto m r) ≡ outcome (depth m) limit (m, r) → inside g limit k (head_text h ++ (s ++ onto m r)) ≡ outcome (depth m) limit (FullTree h s m, r)
   unfolding head_of
   full-again limit k Unmarked s m r vh v j vm e = headed limit k None Unmarked s s _ m r (spec-none _ (space_plain s _ v (rest_starts m r vm).0)) refl v vm e
   full-again limit k (Marked i []) s m r vh v j vm e = absurd (cc)
@@ -203,7 +204,7 @@ module _ (g : ℕ → (s : Rule) → Reader s) where
   unfolding rest
   last-again limit k e s r v h q = then_done (depth e) limit _ q (then_ok _ (separator-again s r v (closes_solid r h)) (rw (closes_closed r h)))
 
-  more-again : (limit : ℕ) (k : Row) (e : Tree (OneEntry k)) (s : List ℕ) (m : Tree (Rest k)) (r : List ℕ) → is_msc s ≡ true → Valid m → g limit (OneEntry k) (onto e (s ++ onto m r)) ≡ outcome (depth e) limit (e, s ++ onto m r) → g limit (Rest k) (onto m r) ≡ outcome (depth m) limit (m, r) → rest g limit k (onto e (s ++ onto m r)) ≡ outcome (max (depth e) (depth m)) limit (MoreTree e s m, r)
+  more-again : (limit : ℕ) (k : Row) (e : Tree (OneEntry k)) (s : List ℕ) (m : Tree (Rest k)) (r : List ℕ) → is_msc s ≡ true → Tested m → g limit (OneEntry k) (onto e (s ++ onto m r)) ≡ outcome (depth e) limit (e, s ++ onto m r) → g limit (Rest k) (onto m r) ≡ outcome (depth m) limit (m, r) → rest g limit k (onto e (s ++ onto m r)) ≡ outcome (max (depth e) (depth m)) limit (MoreTree e s m, r)
   unfolding rest more not_empty
   more-again limit k e [] m r v vm qe qm = absurd (cc)
   more-again limit k e (c ∷ s) m r v vm qe qm = let b = (rest_starts m r vm).0 in then_outcome (depth e) (depth m) limit _ _ qe (then_ok _ (separator-again (c ∷ s) _ v (begins_solid _ b)) (rw (begins_open _ b) (then_ok _ refl (then_done (depth m) limit _ qm refl))))
@@ -212,11 +213,11 @@ module _ (g : ℕ → (s : Rule) → Reader s) where
   unfolding sequence
   nothing-again limit s r v h = rw (flat {A = Tree Seq × List ℕ} limit (NothingTree s, r)) (then_ok _ (space-again s r v (closes_solid r h)) (rw (closes_closed r h)))
 
-  sequence-again : (limit : ℕ) (s : List ℕ) (m : Tree (Rest Elements)) (r : List ℕ) → is_s s ≡ true → Valid m → g limit (Rest Elements) (onto m r) ≡ outcome (depth m) limit (m, r) → sequence g limit (s ++ onto m r) ≡ outcome (depth m) limit (SequenceTree s m, r)
+  sequence-again : (limit : ℕ) (s : List ℕ) (m : Tree (Rest Elements)) (r : List ℕ) → is_s s ≡ true → Tested m → g limit (Rest Elements) (onto m r) ≡ outcome (depth m) limit (m, r) → sequence g limit (s ++ onto m r) ≡ outcome (depth m) limit (SequenceTree s m, r)
   unfolding sequence
   sequence-again limit s m r v vm e = let b = (rest_starts m r vm).0 in then_ok _ (space-again s _ v (begins_solid _ b)) (rw (begins_open _ b) (then_done (depth m) limit _ e refl))
 
-  standalone-again : (limit : ℕ) (s : List ℕ) (w : Tree OneItem) (t r : List ℕ) → is_s s ≡ true → Valid w → is_s t ≡ true → Closes r → g limit OneItem (onto w (t ++ r)) ≡ outcome (depth w) limit (w, t ++ r) → standalone g limit (s ++ onto w (t ++ r)) ≡ outcome (depth w) limit (StandaloneTree s w t, r)
+  standalone-again : (limit : ℕ) (s : List ℕ) (w : Tree OneItem) (t r : List ℕ) → is_s s ≡ true → Tested w → is_s t ≡ true → Closes r → g limit OneItem (onto w (t ++ r)) ≡ outcome (depth w) limit (w, t ++ r) → standalone g limit (s ++ onto w (t ++ r)) ≡ outcome (depth w) limit (StandaloneTree s w t, r)
   unfolding standalone
   standalone-again limit s w t r vs vw vt h e = then_ok _ (space-again s _ vs (begins_solid _ (item_starts w _ vw).0)) (then_done (depth w) limit _ e (then_ok _ (space-again t r vt (closes_solid r h)) refl))
 
@@ -245,8 +246,8 @@ positive (NothingTree s) h = omega arith
 positive (SequenceTree s m) h = omega arith
 positive (StandaloneTree s w t) h = omega arith
 
-pub again : (f limit : ℕ) {s : Rule} (w : Tree s) (r : List ℕ) → Valid w → Joined w → FollowOf s r → size w ≤ f → read f limit s (onto w r) ≡ outcome (depth w) limit (w, r)
-unfolding read onto Valid Joined size
+pub again : (f limit : ℕ) {s : Rule} (w : Tree s) (r : List ℕ) → Tested w → Joined w → FollowOf s r → size w ≤ f → read f limit s (onto w r) ≡ outcome (depth w) limit (w, r)
+unfolding read onto Tested Joined size
 again zero limit w r v j h n = absurd (positive w n)
 again (suc f) limit (NumberTree x i) r v j h n = number-again (read f) limit x i r v h.0
 again (suc f) limit (FloatTree e i) r v j h n = float-again (read f) limit e i r h.0

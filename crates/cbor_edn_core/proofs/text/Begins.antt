@@ -22,7 +22,8 @@ use Rattle.cbor_edn_parts.specs.declared.string.InLiteral.TheVariants as in_lite
 use Rattle.cbor_edn_parts.specs.declared.string.InDots.{InDots}
 use Rattle.cbor_edn_parts.specs.declared.string.InDots.TheVariants as in_dots
 use Rattle.cbor_edn_core.specs.Items.{Row, Array, Map}
-use Rattle.cbor_edn_core.specs.Trees.{OneItem, OnePiece, OneString, OneEntry, Rest, Tree, NumberTree, FloatTree, NamedTree, EnclosedTree, ListTree, StringTree, StreamTree, LiteralTree, DotsTree, EmbeddedTree, LastPieceTree, PlusTree, ElementTree, PairTree, ChunkTree, LastTree, MoreTree, onto, Valid, starts_digits, starts_number, joins, Parts, Next}
+use Rattle.cbor_edn_core.specs.Trees.{OneItem, OnePiece, OneString, OneEntry, Rest, Tree, NumberTree, FloatTree, NamedTree, EnclosedTree, ListTree, StringTree, StreamTree, LiteralTree, DotsTree, EmbeddedTree, LastPieceTree, PlusTree, ElementTree, PairTree, ChunkTree, LastTree, MoreTree, onto, starts_digits, starts_number, joins, Parts, Next}
+use Rattle.cbor_edn_core.proofs.text.Tested.{Tested}
 use Rattle.cbor_edn_core.specs.declared.tree.LabelKind.TheVariants as label
 use Rattle.cbor_edn_core.specs.declared.word.NamedSimple.TheVariants.{False}
 use Rattle.cbor_edn_core.specs.declared.word.NonFinite.TheVariants.{Infinity}
@@ -248,20 +249,20 @@ unfolding joins starts_string kind
 string_starts [] h = absurd (cc)
 string_starts (c ∷ r) h = let s = first_strung c r h in (strung-begins (kind c) s, and_left (eqb c 43) _ (differs strung c 43 s refl))
 
-pub piece_begins : (p : Tree OnePiece) (r : List ℕ) → Valid p → starts_string (onto p r) ≡ true
-unfolding onto Valid starts_string
+pub piece_begins : (p : Tree OnePiece) (r : List ℕ) → Tested p → starts_string (onto p r) ≡ true
+unfolding onto Tested starts_string
 piece_begins (LiteralTree [] i) r v = absurd (literal_some v)
 piece_begins (LiteralTree (c ∷ x) i) r v = literal_begins c x (x ++ (indicator_text i ++ r)) v
 piece_begins (DotsTree x) r v = rw (dots_begin x v).1
 piece_begins (EmbeddedTree w i) r v = refl
 
-pub string_begins : (w : Tree OneString) (r : List ℕ) → Valid w → starts_string (onto w r) ≡ true
-unfolding onto Valid
+pub string_begins : (w : Tree OneString) (r : List ℕ) → Tested w → starts_string (onto w r) ≡ true
+unfolding onto Tested
 string_begins (LastPieceTree p) r v = piece_begins p r v
 string_begins (PlusTree p s t w) r v = piece_begins p _ v.0
 
-pub item_starts : (w : Tree OneItem) (r : List ℕ) → Valid w → Starts (onto w r)
-unfolding onto Valid kind joins
+pub item_starts : (w : Tree OneItem) (r : List ℕ) → Tested w → Starts (onto w r)
+unfolding onto Tested kind joins
 item_starts (NumberTree x i) r v = number_starts x (indicator_text i ++ r) v
 item_starts (FloatTree Infinity i) r v = (refl, refl)
 item_starts (FloatTree _ i) r v = (refl, refl)
@@ -274,14 +275,14 @@ item_starts (ListTree Map w) r v = (refl, refl)
 item_starts (StringTree w) r v = string_starts (onto w r) (string_begins w r v)
 item_starts (StreamTree ms m) r v = (refl, refl)
 
-pub entry_starts : {k : Row} (e : Tree (OneEntry k)) (r : List ℕ) → Valid e → Starts (onto e r)
-unfolding onto Valid
+pub entry_starts : {k : Row} (e : Tree (OneEntry k)) (r : List ℕ) → Tested e → Starts (onto e r)
+unfolding onto Tested
 entry_starts (ElementTree w) r v = item_starts w r v
 entry_starts (PairTree v s t w) r h = item_starts v _ h.0
 entry_starts (ChunkTree w) r v = string_starts (onto w r) (string_begins w r v)
 
-pub rest_starts : {k : Row} (m : Tree (Rest k)) (r : List ℕ) → Valid m → Starts (onto m r)
-unfolding onto Valid
+pub rest_starts : {k : Row} (m : Tree (Rest k)) (r : List ℕ) → Tested m → Starts (onto m r)
+unfolding onto Tested
 rest_starts (LastTree e s) r v = entry_starts e _ v.0
 rest_starts (MoreTree e s m) r v = entry_starts e _ v.0
 
@@ -309,7 +310,7 @@ closes_joins (c ∷ r) h = and_left (eqb c 43) _ (differs closing c 43 h refl)
 pub end_next : (s r : List ℕ) → is_soc s ≡ true → Closes r → Next (s ++ r)
 end_next s r v h = (separator_follow s r v (closes_follow r h), separator_parts s r ((soc_texts s).1 v) (closes_solid r h) (closes_joins r h))
 
-pub more_next : {k : Row} (s : List ℕ) (m : Tree (Rest k)) (r : List ℕ) → is_msc s ≡ true → Valid m → Next (s ++ onto m r)
+pub more_next : {k : Row} (s : List ℕ) (m : Tree (Rest k)) (r : List ℕ) → is_msc s ≡ true → Tested m → Next (s ++ onto m r)
 more_next s m r v vm = let b = rest_starts m r vm in (msc_follow s _ v, separator_parts s _ ((soc_texts s).1 (and_parts _ _ v).1) (begins_solid _ b.0) b.1)
 
 pub colon_next : (s r : List ℕ) → is_s s ≡ true → Next (s ++ (58 ∷ r))

@@ -3,7 +3,8 @@ use Rattle.std.proofs.Common.{ℕ, List, [], ◌≡◌, ◌≤◌, ap, sym, arit
 use Rattle.std.specs.Prelude.{Result, Ok, max}
 use Rattle.std.proofs.lemmas.Bool.{le-leb}
 use Rattle.cbor_edn_parts.specs.declared.error.ParseErrorKind.{ParseErrorKind}
-use Rattle.cbor_edn_core.specs.Trees.{Rule, Seq, Standalone, Tree, Valid, Joined, FollowOf, Of, onto, text, items, depth}
+use Rattle.cbor_edn_core.specs.Trees.{Rule, Seq, Standalone, Tree, Joined, FollowOf, Of, onto, text, items, depth}
+use Rattle.cbor_edn_core.proofs.text.Tested.{Tested, tested, valid}
 use Rattle.cbor_edn_core.specs.code.Reading.{reads}
 use Rattle.cbor_edn_core.specs.Laws.{UniqueItems, UniqueSpaces, SpelledByTrees}
 use Rattle.cbor_edn_core.proofs.text.Outcomes.{within}
@@ -12,11 +13,11 @@ use Rattle.cbor_edn_core.proofs.text.Spelled.{HasTree, tells, spelled_sequence, 
 use Rattle.cbor_edn_core.proofs.text.Whole.{sequence_made, standalone_made}
 
 -- Read with a limit that is deep enough.
-read_back : {s : Rule} (limit : ℕ) (w : Tree s) (r : List ℕ) → Valid w → Joined w → FollowOf s r → depth w ≤ limit → reads limit s (onto w r) ≡ Ok (w, r)
+read_back : {s : Rule} (limit : ℕ) (w : Tree s) (r : List ℕ) → Tested w → Joined w → FollowOf s r → depth w ≤ limit → reads limit s (onto w r) ≡ Ok (w, r)
 read_back limit w r v j h n = reads-again limit w r v j h ∙ within (depth w) limit (w, r) (le-leb (depth w) limit n)
 
 -- No tree's text begins another's, where both are followed by what may follow.
-pub one_front : {s : Rule} (w v : Tree s) (q r : List ℕ) → Valid w → Joined w → Valid v → Joined v → FollowOf s q → FollowOf s r → onto w q ≡ onto v r → ◌≡◌ {A = Tree s × List ℕ} (w, q) (v, r)
+pub one_front : {s : Rule} (w v : Tree s) (q r : List ℕ) → Tested w → Joined w → Tested v → Joined v → FollowOf s q → FollowOf s r → onto w q ≡ onto v r → ◌≡◌ {A = Tree s × List ℕ} (w, q) (v, r)
 one_front {s} w v q r vw jw vv jv fq fr e = same_Ok (sym (read_back limit w q vw jw fq (omega arith)) ∙ ap (reads limit s) e ∙ read_back limit v r vv jv fr (omega arith))
   where
     limit : ℕ
@@ -26,7 +27,7 @@ one_front {s} w v q r vw jw vv jv fq fr e = same_Ok (sym (read_back limit w q vw
     same_Ok e = cc
 
 -- One text, one tree.
-pub one_tree : {s : Rule} (w v : Tree s) → Valid w → Joined w → Valid v → Joined v → FollowOf s [] → text w ≡ text v → w ≡ v
+pub one_tree : {s : Rule} (w v : Tree s) → Tested w → Joined w → Tested v → Joined v → FollowOf s [] → text w ≡ text v → w ≡ v
 one_tree {s} w v vw jw vv jv f e = ap (λ (p : Tree s × List ℕ). p.0) (one_front w v [] [] vw jw vv jv f f e)
 
 same_items : {s : Rule} (x y : Of s) (t : List ℕ) → FollowOf s [] → HasTree s x t → HasTree s y t → x ≡ y
@@ -36,7 +37,15 @@ pub unique_items : UniqueItems
 unique_items = (λ x y t hx hy. same_items {s = Seq} x y t tt (spelled_sequence x t hx) (spelled_sequence y t hy), λ x y t hx hy. same_items {s = Standalone} x y t tt (spelled_one x t hx) (spelled_one y t hy))
 
 pub unique_spaces : UniqueSpaces
-unique_spaces = (λ w v vw vv jw jv e. one_tree w v vw jw vv jv tt e, λ w v vw vv jw jv e. one_tree w v vw jw vv jv tt e)
+unique_spaces = (
+  λ w v vw vv jw jv e. one_tree w v (tested w vw) jw (tested v vv) jv tt e,
+  λ w v vw vv jw jv e. one_tree w v (tested w vw) jw (tested v vv) jv tt e,
+)
 
 pub spelled_by_trees : SpelledByTrees
-spelled_by_trees = (sequence_made, standalone_made, λ w v. tells w v, λ w v. tells w v)
+spelled_by_trees = (
+  λ x t h. let m = sequence_made x t h in (m.0, valid m.0 m.1, m.2, m.3, m.4),
+  λ x t h. let m = standalone_made x t h in (m.0, valid m.0 m.1, m.2, m.3, m.4),
+  λ w v. tells w (tested w v),
+  λ w v. tells w (tested w v),
+)

@@ -10,7 +10,8 @@ use Rattle.cbor_edn_parts.specs.code.SpaceTokens.{is_s}
 use Rattle.cbor_edn_core.specs.Items.{Row, Elements, Strings, Bracketed, entries_of, Sort, Item, Piece, Pieces, Entry, Entries, Node, Number, Float, Listed, Tagged, Named, Simple, String, Stream, Literal, Dots, Embedded, LastPiece, Plus, Element, Pair, Chunk, End, Then, Items, nesting}
 use Rattle.cbor_edn_core.specs.Spelling.{opening, ending, IsSpecms, Spells, SpellsSequence, SpellsOne}
 use Rattle.cbor_edn_core.specs.Labels.{IsLabel}
-use Rattle.cbor_edn_core.specs.Trees.{Rule, OneItem, OnePiece, OneString, OneEntry, Inside, Rest, Seq, Standalone, Head, Unmarked, Marked, mark, head_text, label_text, labelled, Tree, NumberTree, FloatTree, NamedTree, EnclosedTree, ListTree, StringTree, StreamTree, LiteralTree, DotsTree, EmbeddedTree, LastPieceTree, PlusTree, ElementTree, PairTree, ChunkTree, EmptyTree, FullTree, LastTree, MoreTree, NothingTree, SequenceTree, StandaloneTree, onto, text, Of, items, depth, IsHead, Valid, IsJoined, Joined}
+use Rattle.cbor_edn_core.specs.Trees.{Rule, OneItem, OnePiece, OneString, OneEntry, Inside, Rest, Seq, Standalone, Head, Unmarked, Marked, mark, head_text, label_text, labelled, Tree, NumberTree, FloatTree, NamedTree, EnclosedTree, ListTree, StringTree, StreamTree, LiteralTree, DotsTree, EmbeddedTree, LastPieceTree, PlusTree, ElementTree, PairTree, ChunkTree, EmptyTree, FullTree, LastTree, MoreTree, NothingTree, SequenceTree, StandaloneTree, onto, text, Of, items, depth, IsJoined, Joined}
+use Rattle.cbor_edn_core.proofs.text.Tested.{IsTestedHead, Tested}
 use Rattle.cbor_edn_core.specs.declared.tree.LabelKind.{LabelKind}
 use Rattle.cbor_edn_core.specs.declared.tree.LabelKind.TheVariants as label
 use Rattle.cbor_edn_core.specs.Words.{named_text}
@@ -96,7 +97,7 @@ parted w r = onto-append w [] r
 -- A valid tree, joined, with these items and this text.
 pub record HasTree (s : Rule) (x : Of s) (t : List ℕ) : Type 0 where
   pub tree : Tree s
-  pub valid : Valid tree
+  pub valid : Tested tree
   pub joined : Joined tree
   pub same : items tree ≡ x
   pub text_is : (r : List ℕ) → onto tree r ≡ t ++ r
@@ -104,7 +105,7 @@ pub record HasTree (s : Rule) (x : Of s) (t : List ℕ) : Type 0 where
 -- The same of an entry, other entries, and the text behind the first.
 pub record Continues {k : Row} (e : Tree (OneEntry k)) (x : Node (Entries k)) (t : List ℕ) : Type 0 where
   pub tree : Tree (Rest k)
-  pub valid : Valid tree
+  pub valid : Tested tree
   pub joined : Joined tree
   pub same : items tree ≡ Then (items e) x
   pub text_is : (r : List ℕ) → onto tree r ≡ onto e (t ++ r)
@@ -114,10 +115,10 @@ Given Item x t = HasTree OneItem x t
 Given Piece x t = HasTree OnePiece x t
 Given Pieces x t = HasTree OneString x t
 Given (Entry k) x t = HasTree (OneEntry k) x t
-Given (Entries k) x t = (e : Tree (OneEntry k)) → Valid e → Joined e → Continues e x t
+Given (Entries k) x t = (e : Tree (OneEntry k)) → Tested e → Joined e → Continues e x t
 
-end_given : {k : Row} (t : List ℕ) (e : Tree (OneEntry k)) → Valid e → Joined e → Spells (End {k = k}) t → Continues e End t
-unfolding Spells onto Valid Joined items
+end_given : {k : Row} (t : List ℕ) (e : Tree (OneEntry k)) → Tested e → Joined e → Spells (End {k = k}) t → Continues e End t
+unfolding Spells onto Tested Joined items
 end_given t e v j h = record { tree = LastTree e t; valid = (v, (soc_texts t).0 h); joined = j; same = refl; text_is = λ r. refl }
 
 s-append : {x y : List ℕ} → IsS x → IsS y → IsS (x ++ y)
@@ -137,7 +138,7 @@ pub record HasHead (i : Option Indicator) (h s : List ℕ) : Type 0 where
   pub head : Head
   pub space : List ℕ
   pub same : mark head ≡ i
-  pub head_valid : IsHead head
+  pub head_valid : IsTestedHead head
   pub space_valid : is_s space ≡ true
   pub joined : IsJoined head space
   pub text_is : (r : List ℕ) → head_text head ++ (space ++ r) ≡ h ++ (s ++ r)
@@ -155,7 +156,7 @@ head_given (Some i) h s vh vs = record {
 }
 
 full_given : (k : Bracketed) (i : Option Indicator) (e : Node (Entry (entries_of k))) (m : Node (Entries (entries_of k))) (h s a b : List ℕ) → HasHead i h s → (v : HasTree (OneEntry (entries_of k)) e a) → Continues v.tree m b → HasTree OneItem (Listed k i (Then e m)) (opening k ∷ (h ++ (s ++ (a ++ (b ++ (ending k ∷ []))))))
-unfolding onto Valid Joined items
+unfolding onto Tested Joined items
 full_given k i e m h s a b u v w = record {
   tree = ListTree k (FullTree u.head u.space w.tree);
   valid = (u.head_valid, u.space_valid, w.valid);
@@ -164,8 +165,8 @@ full_given k i e m h s a b u v w = record {
   text_is = λ r. rw (w.text_is (ending k ∷ r), v.text_is (b ++ (ending k ∷ r)), u.text_is (a ++ (b ++ (ending k ∷ r)))) (simp append_assoc);
 }
 
-more_given : {k : Row} (e : Node (Entry k)) (m : Node (Entries k)) (c a b : List ℕ) (u : Tree (OneEntry k)) → Valid u → Joined u → IsMsc c → (v : HasTree (OneEntry k) e a) → Continues v.tree m b → Continues u (Then e m) (c ++ (a ++ b))
-unfolding onto Valid Joined items
+more_given : {k : Row} (e : Node (Entry k)) (m : Node (Entries k)) (c a b : List ℕ) (u : Tree (OneEntry k)) → Tested u → Joined u → IsMsc c → (v : HasTree (OneEntry k) e a) → Continues v.tree m b → Continues u (Then e m) (c ++ (a ++ b))
+unfolding onto Tested Joined items
 more_given {k} e m c a b u vu ju h v w = record {
   tree = MoreTree u c w.tree;
   valid = (vu, (msc_texts c).0 h, w.valid);
@@ -175,7 +176,7 @@ more_given {k} e m c a b u vu ju h v w = record {
 }
 
 stream_given : (e : Node (Entry Strings)) (m : Node (Entries Strings)) (ms a b : List ℕ) → IsMs ms → (v : HasTree (OneEntry Strings) e a) → Continues v.tree m b → HasTree OneItem (Stream (Then e m)) (40 ∷ 95 ∷ (ms ++ (a ++ (b ++ (41 ∷ [])))))
-unfolding onto Valid Joined items
+unfolding onto Tested Joined items
 stream_given e m ms a b h v w = record {
   tree = StreamTree ms w.tree;
   valid = ((ms_texts ms).0 h, w.valid);
@@ -186,11 +187,11 @@ stream_given e m ms a b h v w = record {
 
 -- A sequence without items, and one with a first item and others.
 nothing_given : (t : List ℕ) → IsS t → HasTree Seq End t
-unfolding onto Valid Joined items
+unfolding onto Tested Joined items
 nothing_given t h = record { tree = NothingTree t; valid = (s_texts t).0 h; joined = tt; same = refl; text_is = λ r. refl }
 
 sequence_given : (e : Node (Entry Elements)) (m : Items) (s a b : List ℕ) → IsS s → (v : HasTree (OneEntry Elements) e a) → Continues v.tree m b → HasTree Seq (Then e m) (s ++ (a ++ b))
-unfolding onto Valid Joined items
+unfolding onto Tested Joined items
 sequence_given e m s a b h v w = record {
   tree = SequenceTree s w.tree;
   valid = ((s_texts s).0 h, w.valid);
@@ -200,7 +201,7 @@ sequence_given e m s a b h v w = record {
 }
 
 embedded_given : (m : Items) (i : Option Indicator) (a : List ℕ) → HasTree Seq m a → HasTree OnePiece (Embedded m i) (60 ∷ 60 ∷ (a ++ (62 ∷ 62 ∷ indicator_text i)))
-unfolding onto Valid Joined items
+unfolding onto Tested Joined items
 embedded_given m i a v = record {
   tree = EmbeddedTree v.tree i;
   valid = v.valid;
@@ -210,7 +211,7 @@ embedded_given m i a v = record {
 }
 
 enclosed_given : (l : LabelKind) (x : Node Item) (s a u : List ℕ) → IsLabel l → IsS s → HasTree OneItem x a → IsS u → HasTree OneItem (labelled l x) (label_text l ++ (40 ∷ (s ++ (a ++ (u ++ (41 ∷ []))))))
-unfolding onto Valid Joined items
+unfolding onto Tested Joined items
 enclosed_given l x s a u vl vs v vu = record {
   tree = EnclosedTree l (StandaloneTree s v.tree u);
   valid = (vl, ((s_texts s).0 vs, v.valid, (s_texts u).0 vu));
@@ -220,7 +221,7 @@ enclosed_given l x s a u vl vs v vu = record {
 }
 
 pub spelled : {s : Sort} (x : Node s) (t : List ℕ) → Spells x t → Given s x t
-unfolding Spells SpellsSequence onto Valid Joined items
+unfolding Spells SpellsSequence onto Tested Joined items
 spelled (Number x i) t h = record { tree = NumberTree x i; valid = (number_texts x).0 h.0; joined = tt; same = refl; text_is = λ r. rw h.1 (simp append_assoc) }
 spelled (Float f i) t h = record { tree = FloatTree f i; valid = tt; joined = tt; same = refl; text_is = λ r. rw h (simp append_assoc) }
 spelled (Tagged n i w) t h = rw (h.7 ∙ sym (append_assoc (decimal n) (indicator_text i) _)) (enclosed_given (label.Tag n i) w h.0 h.1 h.2 h.3 h.4 (spelled w h.1 h.5) h.6)
@@ -249,7 +250,7 @@ spelled_sequence End t h = nothing_given t h
 spelled_sequence (Then e m) t h = let v = spelled e h.1 h.4 in rw h.6 (sequence_given e m h.0 h.1 h.2 h.3 v (spelled m h.2 h.5 v.tree v.valid v.joined))
 
 pub spelled_one : (x : Node Item) (t : List ℕ) → SpellsOne x t → HasTree Standalone x t
-unfolding SpellsOne onto Valid Joined items
+unfolding SpellsOne onto Tested Joined items
 spelled_one x t h = let a = spelled x h.1 h.4 in record {
   tree = StandaloneTree h.0 a.tree h.2;
   valid = ((s_texts h.0).0 h.3, a.valid, (s_texts h.2).0 h.5);
@@ -280,11 +281,11 @@ Tells (Rest k) w = Told w
 Tells Seq w = SpellsSequence (items w) (text w)
 Tells Standalone w = SpellsOne (items w) (text w)
 
-head_told : (h : Head) → IsHead h → IsSpecms (mark h) (head_text h)
+head_told : (h : Head) → IsTestedHead h → IsSpecms (mark h) (head_text h)
 head_told Unmarked v = refl
 head_told (Marked i ms) v = (ms, (ms_texts ms).1 v, refl)
 
-tells_full : (k : Bracketed) (h : Head) (s : List ℕ) (m : Tree (Rest (entries_of k))) → IsHead h → IsS s → Told m → Spells (Listed k (mark h) (items m)) (opening k ∷ (head_text h ++ (s ++ onto m (ending k ∷ []))))
+tells_full : (k : Bracketed) (h : Head) (s : List ℕ) (m : Tree (Rest (entries_of k))) → IsTestedHead h → IsS s → Told m → Spells (Listed k (mark h) (items m)) (opening k ∷ (head_text h ++ (s ++ onto m (ending k ∷ []))))
 unfolding Spells
 tells_full k h s m vh v t = rw t.same (head_text h, s, t.front, t.back, head_told h vh, v, t.first_spelled, t.others_spelled, rw (t.text_is (ending k ∷ [])) refl)
 
@@ -326,8 +327,8 @@ tells_sequence : (s : List ℕ) (m : Tree (Rest Elements)) → IsS s → Told m 
 unfolding SpellsSequence
 tells_sequence s m v h = rw h.same (s, h.front, h.back, v, h.first_spelled, h.others_spelled, rw (h.text_is []) (simp append-nil))
 
-pub tells : {s : Rule} (w : Tree s) → Valid w → Tells s w
-unfolding Valid onto items Spells SpellsSequence SpellsOne
+pub tells : {s : Rule} (w : Tree s) → Tested w → Tells s w
+unfolding Tested onto items Spells SpellsSequence SpellsOne
 tells (NumberTree x i) v = ((number_texts x).1 v, simp append-nil)
 tells (FloatTree f i) v = simp append-nil
 tells (NamedTree b) v = append-nil (named_text b)

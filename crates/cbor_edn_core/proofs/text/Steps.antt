@@ -12,7 +12,8 @@ use Rattle.cbor_edn_parts.specs.code.NumberTokens.{number, is_number}
 use Rattle.cbor_edn_parts.specs.code.LiteralTokens.{is_literal, are_dots}
 use Rattle.cbor_edn_core.specs.Items.{Row, Elements, Pairs, Strings, Bracketed, Array, Map, entries_of}
 use Rattle.cbor_edn_core.specs.Spelling.{ending}
-use Rattle.cbor_edn_core.specs.Trees.{Rule, OneItem, OnePiece, OneString, OneEntry, Inside, Rest, Seq, Standalone, head_text, label_text, Tree, NumberTree, FloatTree, NamedTree, EnclosedTree, ListTree, StringTree, StreamTree, LiteralTree, DotsTree, EmbeddedTree, LastPieceTree, PlusTree, ElementTree, PairTree, ChunkTree, EmptyTree, FullTree, LastTree, MoreTree, NothingTree, SequenceTree, StandaloneTree, onto, Valid, Joined, FollowOf, depth, joins}
+use Rattle.cbor_edn_core.specs.Trees.{Rule, OneItem, OnePiece, OneString, OneEntry, Inside, Rest, Seq, Standalone, head_text, label_text, Tree, NumberTree, FloatTree, NamedTree, EnclosedTree, ListTree, StringTree, StreamTree, LiteralTree, DotsTree, EmbeddedTree, LastPieceTree, PlusTree, ElementTree, PairTree, ChunkTree, EmptyTree, FullTree, LastTree, MoreTree, NothingTree, SequenceTree, StandaloneTree, onto, Joined, FollowOf, depth, joins}
+use Rattle.cbor_edn_core.proofs.text.Tested.{Tested}
 use Rattle.cbor_edn_core.specs.declared.tree.LabelKind.{LabelKind}
 use Rattle.cbor_edn_core.specs.declared.tree.LabelKind.TheVariants as label
 use Rattle.cbor_edn_core.specs.declared.word.Word.{Word}
@@ -47,8 +48,8 @@ literal_length (c ∷ x) v = omega arith
 dots_length : (x : List ℕ) → are_dots x ≡ true → 0 < length x
 dots_length x v = rw (dots_begin x v).1 (omega arith)
 
-pub size_fits : {s : Rule} (w : Tree s) (r : List ℕ) → Valid w → size w + extra s + 8 * length r ≤ 8 * length (onto w r) + 1
-unfolding size onto Valid
+pub size_fits : {s : Rule} (w : Tree s) (r : List ℕ) → Tested w → size w + extra s + 8 * length r ≤ 8 * length (onto w r) + 1
+unfolding size onto Tested
 size_fits (NumberTree x i) r v = omega (arith, number_length x v, length-append x (indicator_text i ++ r), length-append (indicator_text i) r)
 size_fits (FloatTree f i) r v = omega (arith, word_length (NonFinite f), length-append (word_text (NonFinite f)) (indicator_text i ++ r), length-append (indicator_text i) r)
 size_fits (NamedTree b) r v = omega (arith, word_length (Named b), length-append (word_text (Named b)) r)
@@ -74,7 +75,7 @@ size_fits (StandaloneTree s w t) r v = omega (arith, length-append t r, size_fit
 
 -- The text of a valid tree, joined, is read as that tree, whatever follows that may follow it, where it nests within the
 -- limit.
-pub reads-again : (limit : ℕ) {s : Rule} (w : Tree s) (r : List ℕ) → Valid w → Joined w → FollowOf s r → reads limit s (onto w r) ≡ outcome (depth w) limit (w, r)
+pub reads-again : (limit : ℕ) {s : Rule} (w : Tree s) (r : List ℕ) → Tested w → Joined w → FollowOf s r → reads limit s (onto w r) ≡ outcome (depth w) limit (w, r)
 unfolding reads
 reads-again limit w r v j h = again _ limit w r v j h (omega (arith, size_fits w r v))
 
@@ -100,7 +101,7 @@ Shortens s xs o = Meets (Shorter s xs) (Unit {0}) o
 sound-shorter : (limit : ℕ) (s : Rule) (xs : List ℕ) (p : Tree s × List ℕ) → Sound limit s xs p → Shorter s xs p
 sound-shorter limit s xs p v = rw v.2 (left s p.0 p.1 v.0)
   where
-    left : (s : Rule) (w : Tree s) (r : List ℕ) → Valid w → length r + least s ≤ length (onto w r)
+    left : (s : Rule) (w : Tree s) (r : List ℕ) → Tested w → length r + least s ≤ length (onto w r)
     left OneItem w r v = omega (arith, size_fits w r v)
     left OnePiece w r v = omega (arith, size_fits w r v)
     left OneString w r v = omega (arith, size_fits w r v)

@@ -24,7 +24,8 @@ use Rattle.cbor_edn_core.specs.declared.word.NonFinite.TheVariants.{Infinity, Ne
 use Rattle.cbor_edn_core.specs.declared.word.Word.{Word}
 use Rattle.cbor_edn_core.specs.declared.word.Word.TheVariants.{Named, Simple, NonFinite}
 use Rattle.cbor_edn_core.specs.Words.{word_text}
-use Rattle.cbor_edn_core.specs.Trees.{OnePiece, OneString, Tree, LiteralTree, DotsTree, EmbeddedTree, LastPieceTree, PlusTree, onto, Valid, starts_number}
+use Rattle.cbor_edn_core.specs.Trees.{OnePiece, OneString, Tree, LiteralTree, DotsTree, EmbeddedTree, LastPieceTree, PlusTree, onto, starts_number}
+use Rattle.cbor_edn_core.proofs.text.Tested.{Tested}
 use Rattle.cbor_edn_core.specs.code.Reading.{word_of, behind, is_prefix, ended, if_word, word_at}
 use Rattle.cbor_edn_core.proofs.text.Follows.{quoted}
 use Rattle.cbor_edn_core.proofs.text.Begins.{quoted_byte, digit_byte, signed_digit, literal_some, dots_begin}
@@ -138,15 +139,15 @@ literal_word w n x r s a = not_ended w _ (lower_goes_on (drop 1 (word_text w)) x
 pub literal_wordless : (c : ℕ) (x r : List ℕ) → is_literal (c ∷ x) ≡ true → word_at (c ∷ (x ++ r)) ≡ None
 literal_wordless c x r v = let a = (token_texts literal (c ∷ x)).1 v in wordless c (x ++ r) (λ w e. rw e (literal_word w a.0 x r (sym (ap (λ d. literal_step d in_literal.Start) e) ∙ a.1) a.2))
 
-piece_wordless : (p : Tree OnePiece) (r : List ℕ) → Valid p → word_at (onto p r) ≡ None
-unfolding onto Valid word_at
+piece_wordless : (p : Tree OnePiece) (r : List ℕ) → Tested p → word_at (onto p r) ≡ None
+unfolding onto Tested word_at
 piece_wordless (LiteralTree [] i) r v = absurd (literal_some v)
 piece_wordless (LiteralTree (c ∷ x) i) r v = literal_wordless c x (indicator_text i ++ r) v
 piece_wordless (DotsTree x) r v = rw (dots_begin x v).1
 piece_wordless (EmbeddedTree w i) r v = refl
 
-pub string_wordless : (w : Tree OneString) (r : List ℕ) → Valid w → word_at (onto w r) ≡ None
-unfolding onto Valid
+pub string_wordless : (w : Tree OneString) (r : List ℕ) → Tested w → word_at (onto w r) ≡ None
+unfolding onto Tested
 string_wordless (LastPieceTree p) r v = piece_wordless p r v
 string_wordless (PlusTree p s t w) r v = piece_wordless p _ v.0
 
