@@ -1,6 +1,7 @@
 -- The laws of layouts, as contracts name them.
 use Rattle.std.specs.Prelude.{ℕ, List, [], ◌∷◌, ◌<◌, ◌≡◌, ◌⊎◌, All, Some}
-use Rattle.cbor_edn_parts.specs.Spacing.{DelimiterPolicy, DiscardAll, SingleLineRegularSpacing}
+use Rattle.cbor_edn_parts.specs.declared.policy.DelimiterPolicy.{DelimiterPolicy}
+use Rattle.cbor_edn_parts.specs.declared.policy.DelimiterPolicy.TheVariants.{DiscardAll, SingleLineRegularSpacing}
 use Rattle.cbor_edn_core.specs.Items.{Node, Item, Items}
 use Rattle.cbor_edn_core.specs.Spelling.{SpellsOne, SpellsSequence}
 use Rattle.cbor_edn_core.specs.Trees.{Rule, OneItem, Standalone, Seq, Tree, Valid, items, text}

@@ -1,20 +1,11 @@
 -- Delimiter policies, and the table by which they change one space text.
 use Rattle.std.specs.Prelude.{ℕ, List, [], ◌∷◌, ◌++◌, replicate}
 use Rattle.cbor_edn_parts.specs.Comments.{comments_of, before_comma, after_comma}
-
--- What is to become of the spaces between the tokens of items.
-pub data DelimiterPolicy : Type 0 where
-  -- no comments, and no space but where the grammar wants one
-  DiscardAll : DelimiterPolicy
-  -- the comments, and no space but where the grammar wants one
-  DiscardAllButComments : DelimiterPolicy
-  -- the spaces of a single line, as in `[1, {2: 3}]`
-  SingleLineRegularSpacing : DelimiterPolicy
-  -- What is less than `max_width` bytes wide stands on a single line, all else on lines of its own: the first number is `base_indent`, how
-  -- many spaces such a line begins with, the second `indent_level`, how many more of them each level has, the third `max_width`.
-  IndentedRegularSpacing : ℕ → ℕ → ℕ → DelimiterPolicy
-  -- one space, and the comments, wherever space may be
-  SingleSpace : DelimiterPolicy
+-- the policies, and the columns of the table below: what is done with one space text
+pub use Rattle.cbor_edn_parts.specs.declared.policy.DelimiterPolicy.{DelimiterPolicy}
+pub use Rattle.cbor_edn_parts.specs.declared.policy.DelimiterPolicy.TheVariants.{DiscardAll, DiscardAllButComments, SingleLineRegularSpacing, IndentedRegularSpacing, SingleSpace}
+pub use Rattle.cbor_edn_parts.specs.declared.policy.Spacing.{Spacing}
+pub use Rattle.cbor_edn_parts.specs.declared.policy.Spacing.TheVariants.{Least, Comments, OneLine, NewLine, OneSpace}
 
 -- no indentation at first, then by four spaces, on lines of less than 80 bytes
 abbrev pub indented : DelimiterPolicy
@@ -30,19 +21,6 @@ pub data SpaceKind : Type 0 where
   MSC : SpaceKind
   -- space with one comma or none
   SOC : SpaceKind
-
--- What is done with a space text: each column of the table below is one.
-pub data Spacing : Type 0 where
-  -- as little as the grammar lets stand
-  Least : Spacing
-  -- the comments alone
-  Comments : Spacing
-  -- the comments, and a space behind each comma
-  OneLine : Spacing
-  -- the comments, on a line of their own that begins with so many spaces
-  NewLine : ℕ → Spacing
-  -- one space, and the comments
-  OneSpace : Spacing
 
 -- a line feed and so many spaces
 unfoldable pub line : ℕ → List ℕ

@@ -7,6 +7,7 @@ pub mod indicator;
 pub mod laws;
 pub mod looks;
 pub mod number;
+pub mod policy;
 mod scan;
 pub mod space;
 pub mod string;

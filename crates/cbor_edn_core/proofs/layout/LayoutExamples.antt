@@ -7,7 +7,9 @@ use Rattle.cbor_edn_parts.specs.Bytes.{kind}
 use Rattle.cbor_edn_parts.specs.Indicator.{indicator_at, word_at as indicator_word}
 use Rattle.cbor_edn_parts.specs.code.Lex.{munch, push}
 use Rattle.cbor_edn_parts.specs.Comments.{from_first, to_last, in_front, behind}
-use Rattle.cbor_edn_parts.specs.Spacing.{DelimiterPolicy, DiscardAll, DiscardAllButComments, SingleLineRegularSpacing, IndentedRegularSpacing, SingleSpace, indented, line}
+use Rattle.cbor_edn_parts.specs.Spacing.{indented, line}
+use Rattle.cbor_edn_parts.specs.declared.policy.DelimiterPolicy.{DelimiterPolicy}
+use Rattle.cbor_edn_parts.specs.declared.policy.DelimiterPolicy.TheVariants.{DiscardAll, DiscardAllButComments, SingleLineRegularSpacing, IndentedRegularSpacing, SingleSpace}
 use Rattle.cbor_edn_core.specs.Items.{Array}
 use Rattle.cbor_edn_core.specs.Trees.{Rule, Standalone, OneItem, Seq, Unmarked, Tree, NumberTree, ElementTree, ListTree, FullTree, LastTree, MoreTree, SequenceTree, StandaloneTree, text, onto, joins}
 use Rattle.cbor_edn_core.specs.code.Reading.{reads_all, reads, read, byte, not_empty, head_of, starts_string, word_at, enclosed_item, tag_item, number_end, number_item, word_item, plain_item, list_item, stream_item, string_item, item, literal_piece, dots_piece, embedded_piece, piece, plus_string, string, entry, inside_full, inside, more, rest, sequence, standalone, ◌>>=◌}

@@ -3,7 +3,10 @@ use Rattle.std.proofs.Common.{ℕ, ◌≡◌, ◌⊎◌, inl, inr, List, true, r
 use Rattle.std.specs.Prelude.{nat_lt, length, if◌then◌else◌}
 use mathlib.Core.Logic.{⊎_elim}
 use Rattle.std.proofs.lemmas.Bool.{cond_both}
-use Rattle.cbor_edn_parts.specs.Spacing.{DelimiterPolicy, DiscardAll, SpaceKind, S, MS, MSC, SOC, Least, OneLine, spaced}
+use Rattle.cbor_edn_parts.specs.Spacing.{SpaceKind, S, MS, MSC, SOC, spaced}
+use Rattle.cbor_edn_parts.specs.declared.policy.DelimiterPolicy.{DelimiterPolicy}
+use Rattle.cbor_edn_parts.specs.declared.policy.DelimiterPolicy.TheVariants.{DiscardAll}
+use Rattle.cbor_edn_parts.specs.declared.policy.Spacing.TheVariants.{Least, OneLine}
 use Rattle.cbor_edn_parts.specs.SpacingLaws.{is_of, KeepsComments}
 use Rattle.cbor_edn_parts.proofs.Spacings.{spaced_stays, spaced_forgets, least_forgets}
 use Rattle.cbor_edn_core.specs.Items.{Listed, String, Stream, Plus, Element, Pair, Chunk, End, Then}

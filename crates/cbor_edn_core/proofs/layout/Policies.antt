@@ -1,6 +1,6 @@
 -- Decoded items mean their value after any policies.
 use Rattle.std.proofs.Common.{◌≡◌, List, [], ◌∷◌, refl, ap, ◌∙◌, subst}
-use Rattle.cbor_edn_parts.specs.Spacing.{DelimiterPolicy}
+use Rattle.cbor_edn_parts.specs.declared.policy.DelimiterPolicy.{DelimiterPolicy}
 use Rattle.cbor_edn_core.specs.Spelling.{SpellsOne, SpellsSequence}
 use Rattle.cbor_edn_core.specs.Trees.{Rule, Tree, Valid, items, text}
 use Rattle.cbor_edn_core.specs.Meaning.{means}

@@ -6,7 +6,7 @@ use Rattle.std.proofs.lemmas.Bool.{cond_both}
 use Rattle.cbor_edn_parts.specs.declared.indicator.Indicator.{Indicator}
 use Rattle.cbor_edn_parts.specs.declared.string.StringKind.{StringKind}
 use Rattle.cbor_edn_parts.specs.Comments.{from_first, to_last, in_front, behind}
-use Rattle.cbor_edn_parts.specs.Spacing.{OneLine}
+use Rattle.cbor_edn_parts.specs.declared.policy.Spacing.TheVariants.{OneLine}
 use Rattle.cbor_edn_core.specs.declared.word.NamedSimple.TheVariants.{False, True, Null, Undefined}
 use Rattle.cbor_edn_core.specs.Items as kind
 use Rattle.cbor_edn_core.specs.Items.{Row, Bracketed, entries_of, Item, Node, Number, Named, Simple}

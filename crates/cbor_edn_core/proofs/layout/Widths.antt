@@ -2,7 +2,9 @@
 use Rattle.std.proofs.Common.{ℕ, ◌+◌, ◌-◌, ◌^◌, ◌≡◌, List, [], ◌∷◌, ◌++◌, length, refl, ap, ◌∙◌, length-append, arith}
 use Rattle.std.specs.Prelude.{min, nat_lt}
 use Rattle.cbor_edn_parts.specs.Indicator.{indicator_text}
-use Rattle.cbor_edn_parts.specs.Spacing.{S, MSC, SOC, Spacing, Least, Comments, OneLine, NewLine, OneSpace}
+use Rattle.cbor_edn_parts.specs.Spacing.{S, MSC, SOC}
+use Rattle.cbor_edn_parts.specs.declared.policy.Spacing.{Spacing}
+use Rattle.cbor_edn_parts.specs.declared.policy.Spacing.TheVariants.{Least, Comments, OneLine, NewLine, OneSpace}
 use Rattle.cbor_edn_core.specs.Spelling.{ending}
 use Rattle.cbor_edn_core.specs.Trees.{Rule, OneItem, OnePiece, Tree, NumberTree, FloatTree, NamedTree, EnclosedTree, ListTree, StringTree, StreamTree, LiteralTree, DotsTree, EmbeddedTree, LastPieceTree, PlusTree, ElementTree, PairTree, ChunkTree, EmptyTree, FullTree, LastTree, MoreTree, NothingTree, SequenceTree, StandaloneTree, onto, text}
 use Rattle.cbor_edn_core.specs.Layout.{Inline, Between, Last, BeforePlus, AfterPlus, AfterColon, Elsewhere, respaced, in_chunk, saturating_add, laid}

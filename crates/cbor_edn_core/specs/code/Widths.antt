@@ -1,7 +1,9 @@
 -- How many bytes wide the items of a tree are on a single line: what decides which of them have lines of their own, measured part by part.
 use Rattle.std.specs.Prelude.{ℕ, ◌+◌, ◌-◌, ◌^◌, min, List, ◌∷◌, length}
 use Rattle.cbor_edn_parts.specs.Indicator.{indicator_text}
-use Rattle.cbor_edn_parts.specs.Spacing.{SpaceKind, S, MS, MSC, SOC, Spacing, Comments, OneLine}
+use Rattle.cbor_edn_parts.specs.Spacing.{SpaceKind, S, MS, MSC, SOC}
+use Rattle.cbor_edn_parts.specs.declared.policy.Spacing.{Spacing}
+use Rattle.cbor_edn_parts.specs.declared.policy.Spacing.TheVariants.{Comments, OneLine}
 use Rattle.cbor_edn_core.specs.Words.{named_text, non_finite_text}
 use Rattle.cbor_edn_core.specs.Trees.{Rule, Tree, NumberTree, FloatTree, NamedTree, EnclosedTree, ListTree, StringTree, StreamTree, LiteralTree, DotsTree, EmbeddedTree, LastPieceTree, PlusTree, ElementTree, PairTree, ChunkTree, EmptyTree, FullTree, LastTree, MoreTree, NothingTree, SequenceTree, StandaloneTree, label_text, head_text, text}
 use Rattle.cbor_edn_core.specs.Layout.{Inline, Place, First, Between, Last, BeforePlus, AfterPlus, AfterColon, Elsewhere, respaced, laid_head}
