@@ -1,9 +1,14 @@
--- The end of the last comment, byte by byte: it is behind the last byte that is no blank between comments.
-use Rattle.std.proofs.Common.{ℕ, ◌≡◌, List, [], ◌∷◌, ◌++◌, true, false, refl, sym, ap, ◌∙◌, append_assoc}
+-- Scans for comments and commas, byte by byte. The end of the last comment is behind the last byte that is no blank between comments.
+use Rattle.std.proofs.Common.{ℕ, ◌≡◌, ◌<◌, ◌+◌, List, [], ◌∷◌, ◌++◌, true, false, length, get_or, take, drop, add-one, refl, sym, ap, ◌∙◌, append_assoc, arith}
 use Rattle.std.specs.Prelude.{◌&&◌}
-use Rattle.cbor_edn_parts.specs.Comments.{is_blank, past, is_between, unless_last, to_last}
+use Rattle.std.specs.Str.{IsUtf8, IsCharBoundary}
+use Rattle.std.proofs.Math.Seq.{drop-cons}
+use Rattle.std.proofs.lemmas.Bool.Decides.{nat_tests}
+use Rattle.std.proofs.lemmas.List.{take_more, append-nil}
+use Rattle.std.proofs.lemmas.Str.{IsCharBoundary-before_ascii, IsCharBoundary-after_ascii}
+use Rattle.cbor_edn_parts.specs.Comments.{is_blank, past, is_between, from_first, unless_last, to_last, is_comma, in_front, behind}
 use Rattle.cbor_edn_parts.specs.declared.space.Within.{Within}
-use Rattle.cbor_edn_parts.specs.declared.space.Within.TheVariants.{Between}
+use Rattle.cbor_edn_parts.specs.declared.space.Within.TheVariants.{Between, InSlashes, InHash}
 
 -- What is kept of a text, whose front was passed and kept up to a point: all of the front, where something of the rest is kept.
 abbrev pub kept_with : List ℕ → List ℕ → List ℕ → List ℕ
@@ -37,3 +42,72 @@ kept_more kept front m c x e = ap (λ b. kept_with kept front (unless_last b c (
 pub kept_end : (kept front : List ℕ) (m : Within) → kept_with kept front (to_last m []) ≡ kept
 unfolding to_last
 kept_end kept front m = refl
+
+-- ---- at a place of a text
+
+next_place : (x : List ℕ) (i : ℕ) → i < length x → drop i x ≡ get_or x i 0 ∷ drop (i + 1) x
+next_place x i lt = rw (add-one) (drop-cons x i 0 lt)
+
+pub first_blank : (x : List ℕ) (i : ℕ) → i < length x → is_blank (get_or x i 0) ≡ true → from_first (drop i x) ≡ from_first (drop (i + 1) x)
+unfolding from_first
+first_blank x i lt e = ap from_first (next_place x i lt) ∙ rw e refl
+
+pub first_other : (x : List ℕ) (i : ℕ) → i < length x → is_blank (get_or x i 0) ≡ false → from_first (drop i x) ≡ drop i x
+unfolding from_first
+first_other x i lt e = ap from_first (next_place x i lt) ∙ rw e (sym (next_place x i lt))
+
+pub blank_here : (x kept : List ℕ) (m : Within) (i : ℕ) → i < length x → (is_between m && is_blank (get_or x i 0)) ≡ true → kept_with kept (take i x) (to_last m (drop i x)) ≡ kept_with kept (take (i + 1) x) (to_last (past m (get_or x i 0)) (drop (i + 1) x))
+blank_here x kept m i lt e =
+    ap (λ t. kept_with kept (take i x) (to_last m t)) (next_place x i lt)
+    ∙ (kept_passed kept (take i x) m (get_or x i 0) (drop (i + 1) x) e ∙ ap (λ f. kept_with kept f (to_last (past m (get_or x i 0)) (drop (i + 1) x))) (sym (take_more x i 0 lt)))
+
+pub other_here : (x kept : List ℕ) (m : Within) (i : ℕ) → i < length x → (is_between m && is_blank (get_or x i 0)) ≡ false → kept_with kept (take i x) (to_last m (drop i x)) ≡ kept_with (take (i + 1) x) (take (i + 1) x) (to_last (past m (get_or x i 0)) (drop (i + 1) x))
+other_here x kept m i lt e =
+    ap (λ t. kept_with kept (take i x) (to_last m t)) (next_place x i lt)
+    ∙ (kept_more kept (take i x) m (get_or x i 0) (drop (i + 1) x) e ∙ ap (λ f. kept_with f f (to_last (past m (get_or x i 0)) (drop (i + 1) x))) (sym (take_more x i 0 lt)))
+
+pub front_on : (x : List ℕ) (m : Within) (i : ℕ) → i < length x → is_comma m (get_or x i 0) ≡ false → take i x ++ in_front m (drop i x) ≡ take (i + 1) x ++ in_front (past m (get_or x i 0)) (drop (i + 1) x)
+unfolding in_front
+front_on x m i lt e =
+    let r : List ℕ = in_front (past m (get_or x i 0)) (drop (i + 1) x) in
+    ap (λ t. take i x ++ in_front m t) (next_place x i lt)
+    ∙ rw e (sym (append_assoc (take i x) (get_or x i 0 ∷ []) r) ∙ ap (◌++ r) (sym (take_more x i 0 lt)))
+
+pub front_found : (x : List ℕ) (m : Within) (i : ℕ) → i < length x → is_comma m (get_or x i 0) ≡ true → take i x ++ in_front m (drop i x) ≡ take i x
+unfolding in_front
+front_found x m i lt e = ap (λ t. take i x ++ in_front m t) (next_place x i lt) ∙ rw e (append-nil (take i x))
+
+pub behind_on : (x : List ℕ) (m : Within) (i : ℕ) → i < length x → is_comma m (get_or x i 0) ≡ false → behind m (drop i x) ≡ behind (past m (get_or x i 0)) (drop (i + 1) x)
+unfolding behind
+behind_on x m i lt e = ap (behind m) (next_place x i lt) ∙ rw e refl
+
+pub behind_found : (x : List ℕ) (m : Within) (i : ℕ) → i < length x → is_comma m (get_or x i 0) ≡ true → behind m (drop i x) ≡ drop (i + 1) x
+unfolding behind
+behind_found x m i lt e = ap (behind m) (next_place x i lt) ∙ rw e refl
+
+-- ---- where a text may be cut
+
+blank_small : (c : ℕ) → is_blank c ≡ true → c < 128
+blank_small c e = grind (arith, nat_tests)
+
+between_blank : (m : Within) (c : ℕ) → (is_between m && is_blank c) ≡ true → is_blank c ≡ true
+between_blank Between c e = e
+between_blank InSlashes c e = absurd (cc)
+between_blank InHash c e = absurd (cc)
+
+comma_small : (m : Within) (c : ℕ) → is_comma m c ≡ true → c < 128
+comma_small Between c e = grind (arith, nat_tests)
+comma_small InSlashes c e = absurd (cc)
+comma_small InHash c e = absurd (cc)
+
+pub before_blank : (x : List ℕ) (m : Within) (i : ℕ) → i < length x → (is_between m && is_blank (get_or x i 0)) ≡ true → IsCharBoundary x i
+before_blank x m i lt e = IsCharBoundary-before_ascii x i lt (blank_small (get_or x i 0) (between_blank m (get_or x i 0) e))
+
+pub after_blank : (x : List ℕ) (i : ℕ) → IsUtf8 x → i < length x → is_blank (get_or x i 0) ≡ true → IsCharBoundary x (i + 1)
+after_blank x i u lt e = IsCharBoundary-after_ascii x i u lt (blank_small (get_or x i 0) e)
+
+pub before_comma_here : (x : List ℕ) (m : Within) (i : ℕ) → i < length x → is_comma m (get_or x i 0) ≡ true → IsCharBoundary x i
+before_comma_here x m i lt e = IsCharBoundary-before_ascii x i lt (comma_small m (get_or x i 0) e)
+
+pub after_comma_here : (x : List ℕ) (m : Within) (i : ℕ) → IsUtf8 x → i < length x → is_comma m (get_or x i 0) ≡ true → IsCharBoundary x (i + 1)
+after_comma_here x m i u lt e = IsCharBoundary-after_ascii x i u lt (comma_small m (get_or x i 0) e)

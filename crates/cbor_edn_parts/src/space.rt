@@ -11,6 +11,7 @@ pub use read::{End, separator, separator_behind, space, space_behind};
 use std::alloc::AllocError;
 use std::borrow::CowStr;
 
+mod comments;
 mod read;
 
 /// Optional space (S): blanks and comments.
