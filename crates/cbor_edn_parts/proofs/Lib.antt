@@ -29,4 +29,5 @@ pub mod Comments
 pub mod Spacings
 pub mod Notes
 pub mod CommentScans
+pub mod Columns
 pub mod SpacingExamples

@@ -1,5 +1,6 @@
 -- What only clauses of private functions cite, and what laws tie to the definitions: nothing of it needs to be believed.
 pub mod Alphabets
+pub mod Columns
 pub mod ContentReading
 pub mod Ended
 pub mod Ends

@@ -13,6 +13,7 @@ use std::borrow::CowStr;
 
 mod comments;
 mod read;
+mod spaced;
 
 /// Optional space (S): blanks and comments.
 #[derive(Debug, PartialEq, Drop)]
@@ -123,6 +124,15 @@ impl<'a> Ms<'a> {
 
 impl<'a> Msc<'a> {
     ghost use Rattle.cbor_edn_parts.specs.Leaves.{msc_bytes, BorrowsMsc};
+
+    /// A comma.
+    pub fn comma() -> Msc<'a>
+        ensures bytes { msc_bytes result ≡ 44 ∷ [] }
+        ensures borrowed { BorrowsMsc result }
+    {
+        let text = CowStr::Borrowed(",");
+        Msc { text }
+    }
 
     /// A comma and one space.
     pub fn comma_space() -> Msc<'a>

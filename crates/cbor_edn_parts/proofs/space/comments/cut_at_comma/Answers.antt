@@ -1,12 +1,12 @@
-use Rattle.std.proofs.Common.{◌≡◌, ◌<◌, ◌≤◌, ◌++◌, length, get_or, take, drop, [], true, false, refl, sym, ap, ◌∙◌, arith}
+use Rattle.std.proofs.Common.{◌≡◌, ◌<◌, ◌≤◌, ◌++◌, length, get_or, take, true, false, sym, ap, ◌∙◌}
 use Rattle.std.proofs.Math.Nat.{sub-zero}
 use Rattle.std.proofs.lemmas.List.{drop_all, take_all, append-nil}
 use Rattle.cbor_edn_parts.specs.Comments.{is_comma, past, in_front, behind}
-use Rattle.cbor_edn_parts.proofs.CommentScans.{front_on, front_found, behind_on, behind_found, before_comma_here, after_comma_here}
+use Rattle.cbor_edn_parts.proofs.CommentScans.{front_on, front_found, behind_on, behind_found, after_comma_here}
 use Rattle.cbor_edn_parts.proofs.space.comments.cut_at_comma.Goals as goal
 
 pub range_from-requires : goal.range_from-requires
-range_from-requires c = 
+range_from-requires c =
     let lt : c.bytes.at < length c.args.text.now = rw c.as_bytes-byte-items.ensures.value at c.bytes-test.true in
     let comma : is_comma c.bytes.within (get_or c.args.text.now c.bytes.at 0) ≡ true = rw c.as_bytes-byte-items.ensures.value at (sym c.is_comma.ensures ∙ c.if-is_comma.true) in
     λ _. after_comma_here c.args.text.now c.bytes.within c.bytes.at c.utf8.text lt comma

@@ -1,0 +1,12 @@
+use Rattle.std.proofs.Common.{◌≡◌, true, sym, ap, ◌∙◌, subst}
+use Rattle.cbor_edn_parts.specs.Leaves.{msc_bytes}
+use Rattle.cbor_edn_parts.specs.Spacing as table
+use Rattle.cbor_edn_parts.specs.code.SpaceTokens.{is_msc}
+use Rattle.cbor_edn_parts.proofs.Spacings.{spaced_stays}
+use Rattle.cbor_edn_parts.proofs.space.Msc.spaced.Goals as goal
+
+pub invariant_of-result : goal.invariant_of-result
+invariant_of-result c = record {
+  spelled = subst (λ t. is_msc t ≡ true) (sym (c.in_ok-text.ensures.bytes ∙ ap (table.spaced table.MSC c.args.spacing) c.as_str.ensures))
+      (spaced_stays table.MSC c.args.spacing (msc_bytes c.args.self.now) c.args.self.now.spelled);
+}

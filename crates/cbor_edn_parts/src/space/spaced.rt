@@ -1,0 +1,149 @@
+//! Space texts by a column of the table of spaces.
+ghost use Rattle.std.specs.Prelude.{◌≡◌, ◌∷◌, ◌++◌, IfOk, IsOk, OnOk, string_bytes};
+ghost use Rattle.std.specs.Cow.{cow_str_bytes};
+ghost use Rattle.cbor_edn_parts.specs.Leaves.{s_bytes, ms_bytes, msc_bytes, soc_bytes};
+ghost use Rattle.cbor_edn_parts.specs.Spacing as table;
+ghost use Rattle.cbor_edn_parts.specs.Spacing.{line};
+ghost use Rattle.cbor_edn_parts.specs.code.Columns.{in_column};
+
+use super::comments::{comments, cut_at_comma};
+use super::{Ms, Msc, S, Soc};
+use crate::policy::Spacing;
+use std::alloc::{AllocError, Global};
+use std::borrow::CowStr;
+
+impl<'a> S<'a> {
+    /// The text by a column of the table. Fails where memory runs out; no memory is taken for no space and for one space.
+    pub fn spaced(&self, alloc: Global, spacing: Spacing) -> Result<S<'a>, AllocError>
+        ensures bytes { IfOk result (λ t. s_bytes t ≡ table.spaced table.S spacing (s_bytes self.now)) }
+        ensures least { spacing ≡ table.Least → IsOk result }
+    {
+        let text = in_column(alloc, spacing, comments(self.as_str()), "")?;
+        Ok(S { text })
+    }
+}
+
+impl<'a> Ms<'a> {
+    /// The text by a column of the table. Fails where memory runs out; no memory is taken for one space.
+    pub fn spaced(&self, alloc: Global, spacing: Spacing) -> Result<Ms<'a>, AllocError>
+        ensures bytes { IfOk result (λ t. ms_bytes t ≡ table.spaced table.MS spacing (ms_bytes self.now)) }
+        ensures least { spacing ≡ table.Least → IsOk result }
+    {
+        let text = or_space(in_column(alloc, spacing, comments(self.as_str()), "")?);
+        Ok(Ms { text })
+    }
+}
+
+impl<'a> Msc<'a> {
+    /// The text by a column of the table. Fails where memory runs out; no memory is taken for a comma, nor for a comma and
+    /// one space.
+    pub fn spaced(&self, alloc: Global, spacing: Spacing) -> Result<Msc<'a>, AllocError>
+        ensures bytes { IfOk result (λ t. msc_bytes t ≡ table.spaced table.MSC spacing (msc_bytes self.now)) }
+        ensures least { spacing ≡ table.Least → IsOk result }
+    {
+        let text = with_comma(alloc, spacing, self.as_str())?;
+        Ok(Msc { text })
+    }
+}
+
+impl<'a> Soc<'a> {
+    /// The text by a column of the table. Fails where memory runs out; no memory is taken for no space and for one space.
+    pub fn spaced(&self, alloc: Global, spacing: Spacing) -> Result<Soc<'a>, AllocError>
+        ensures bytes { IfOk result (λ t. soc_bytes t ≡ table.spaced table.SOC spacing (soc_bytes self.now)) }
+        ensures least { spacing ≡ table.Least → IsOk result }
+    {
+        let (before, after) = cut_at_comma(self.as_str());
+        let text = in_column(alloc, spacing, comments(before), comments(after))?;
+        Ok(Soc { text })
+    }
+}
+
+/// Comments, one behind the other, behind the blanks of a column.
+fn in_column<'a>(
+    alloc: Global,
+    spacing: Spacing,
+    before: &str,
+    after: &str,
+) -> Result<CowStr<'a>, AllocError>
+    ensures bytes { IfOk result (λ t. cow_str_bytes t ≡ in_column spacing (before.now ++ after.now)) }
+    ensures least { spacing ≡ table.Least → IsOk result }
+{
+    match spacing {
+        Spacing::Least => Ok(CowStr::Borrowed("")),
+        Spacing::Comments | Spacing::OneLine => behind(alloc, "", before, after),
+        Spacing::OneSpace => behind(alloc, " ", before, after),
+        Spacing::NewLine(indent) => {
+            let mut text = String::new(alloc);
+            push_line(&mut text, indent)?;
+            text.push_str(before)?;
+            text.push_str(after)?;
+            Ok(CowStr::Owned(text))
+        }
+    }
+}
+
+/// Comments, one behind the other, behind these blanks. No memory is taken where there are no comments.
+fn behind<'a>(
+    alloc: Global,
+    blanks: &'static str,
+    before: &str,
+    after: &str,
+) -> Result<CowStr<'a>, AllocError>
+    ensures { IfOk result (λ t. cow_str_bytes t ≡ blanks.now ++ (before.now ++ after.now)) }
+{
+    if before.is_empty() && after.is_empty() {
+        return Ok(CowStr::Borrowed(blanks));
+    }
+    let text = format!(in alloc; "{blanks}{before}{after}")?;
+    Ok(CowStr::Owned(text))
+}
+
+/// One space in place of nothing.
+fn or_space<'a>(text: CowStr<'a>) -> CowStr<'a>
+    ensures { cow_str_bytes result ≡ table.or_space (cow_str_bytes text.entry) }
+{
+    if text.as_str().is_empty() {
+        CowStr::Borrowed(" ")
+    } else {
+        text
+    }
+}
+
+/// A separator by a column: its comments with a comma between those in front of it and those behind it.
+fn with_comma<'a>(alloc: Global, spacing: Spacing, text: &str) -> Result<CowStr<'a>, AllocError>
+    ensures bytes { IfOk result (λ t. cow_str_bytes t ≡ table.spaced table.MSC spacing text.now) }
+    ensures least { spacing ≡ table.Least → IsOk result }
+{
+    let (before, after) = cut_at_comma(text);
+    let before = comments(before);
+    let after = comments(after);
+    let is_empty = before.is_empty() && after.is_empty();
+    let text = match spacing {
+        Spacing::Least => return Ok(CowStr::Borrowed(",")),
+        Spacing::Comments if is_empty => return Ok(CowStr::Borrowed(",")),
+        Spacing::OneLine if is_empty => return Ok(CowStr::Borrowed(", ")),
+        Spacing::Comments => format!(in alloc; "{before},{after}")?,
+        Spacing::OneLine => format!(in alloc; "{before}, {after}")?,
+        Spacing::OneSpace => format!(in alloc; " {before},{after}")?,
+        Spacing::NewLine(indent) => {
+            let mut text = String::from_str(alloc, before)?;
+            text.push(',')?;
+            push_line(&mut text, indent)?;
+            text.push_str(after)?;
+            text
+        }
+    };
+    Ok(CowStr::Owned(text))
+}
+
+/// Appends a line feed and so many spaces. Where there is no memory for these it fails before it writes them.
+fn push_line(text: &mut String, indent: usize) -> Result<(), AllocError>
+    ensures { OnOk result (string_bytes text.new ≡ string_bytes text.old ++ line indent) }
+{
+    text.push('\n')?;
+    text.reserve(indent)?;
+    'spaces: for _ in 0..indent {
+        text.push(' ')?;
+    }
+    Ok(())
+}
