@@ -28,6 +28,7 @@ pub mod Prefixes
 pub mod Comments
 pub mod Spacings
 pub mod Notes
+pub mod NoteTexts
 pub mod CommentScans
 pub mod Columns
 pub mod SpacingExamples

@@ -1,0 +1,68 @@
+//! Comments as space texts.
+ghost use Rattle.std.specs.Prelude.{◌≡◌, ◌∷◌, ◌++◌, [], IfOk, OnOk, map, encode_utf8, string_bytes};
+ghost use Rattle.cbor_edn_parts.specs.Leaves.{s_bytes};
+ghost use Rattle.cbor_edn_parts.specs.Notes as definition;
+ghost use Rattle.cbor_edn_parts.specs.Notes.{noted, hash_lines};
+
+use super::S;
+use std::alloc::{AllocError, Global};
+use std::borrow::CowStr;
+
+impl<'a> S<'a> {
+    /// A comment as space: `/ comment /`, or each line behind `# ` where it has a slash. Control characters other than HT, LF
+    /// and CR become spaces. Fails where memory runs out.
+    pub fn note(alloc: Global, comment: &str) -> Result<S<'a>, AllocError>
+        ensures { IfOk result (λ t. s_bytes t ≡ noted comment.now) }
+    {
+        let text = if comment.as_bytes().contains(&b'/') {
+            behind_hashes(alloc, comment)?
+        } else {
+            between_slashes(alloc, comment)?
+        };
+        let text = CowStr::Owned(text);
+        Ok(S { text })
+    }
+}
+
+fn between_slashes(alloc: Global, comment: &str) -> Result<String, AllocError>
+    ensures { IfOk result (λ t. string_bytes t ≡ 47 ∷ 32 ∷ (map definition.cleaned comment.now ++ (32 ∷ 47 ∷ []))) }
+{
+    let mut text = String::from_str(alloc, "/ ")?;
+    for character in comment.chars() {
+        text.push(cleaned(character))?;
+    }
+    text.push_str(" /")?;
+    Ok(text)
+}
+
+fn behind_hashes(alloc: Global, comment: &str) -> Result<String, AllocError>
+    ensures { IfOk result (λ t. string_bytes t ≡ 35 ∷ 32 ∷ (hash_lines (map definition.cleaned comment.now) ++ (10 ∷ []))) }
+{
+    let mut text = String::from_str(alloc, "# ")?;
+    for character in comment.chars() {
+        push_behind_hash(&mut text, character)?;
+    }
+    text.push('\n')?;
+    Ok(text)
+}
+
+/// Appends a character of a comment behind `#`.
+fn push_behind_hash(text: &mut String, character: char) -> Result<(), AllocError>
+    ensures { OnOk result (string_bytes text.new ≡ string_bytes text.old ++ hash_lines (map definition.cleaned (encode_utf8 character))) }
+{
+    match character {
+        '\n' => text.push_str("\n# "),
+        _ => text.push(cleaned(character)),
+    }
+}
+
+/// The character, or a space in place of a control character that a comment may not hold.
+fn cleaned(character: char) -> char
+    ensures { result ≡ definition.cleaned character }
+{
+    match character {
+        '\t' | '\n' | '\r' => character,
+        _ if character < ' ' => ' ',
+        _ => character,
+    }
+}
