@@ -13,6 +13,7 @@ pub mod laws;
 mod location;
 mod lookahead;
 mod parse;
+mod policy;
 mod serialize;
 mod to_cbor;
 pub mod tree;

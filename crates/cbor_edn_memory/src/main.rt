@@ -6,7 +6,7 @@
 #![tactic(auto)]
 
 use cbor_edn::engine::{Command, Options, RunError, StdSink, StdSource, run, serve};
-use cbor_edn::{Fault, Sequence};
+use cbor_edn::{Fault, Sequence, StandaloneItem};
 use std::alloc::Global;
 use std::io::Read;
 use std::{fmt, io};
@@ -107,6 +107,20 @@ fn from_cbor(alloc: Global) -> Outcome {
     }
 }
 
+fn set_comment(alloc: Global) -> Outcome {
+    let mut item = match StandaloneItem::parse(alloc, "1 # one\n") {
+        Ok(item) => item,
+        Err(fault) => return Outcome::of_fault(fault),
+    };
+    match item.set_comment(alloc, "0 / 1") {
+        Ok(()) => match item.serialize(alloc) {
+            Ok(text) => Outcome::of_answer(text.as_str() == "# 0 / 1\n1 # one\n"),
+            Err(_) => Outcome::Refused,
+        },
+        Err(_) => Outcome::Refused,
+    }
+}
+
 // Where memory was refused nothing may have been written. The sink takes memory too, and fails where that is refused.
 fn run_once(alloc: Global) -> Outcome {
     let mut sink = StdSink::new(Vec::new(alloc));
@@ -180,6 +194,7 @@ fn main(rt: HostRuntime) -> io::Result<()> {
             on_sequence(rt.alloc(), |s| to_cbor(s, rt.alloc())),
         ),
         ("from_cbor", from_cbor(rt.alloc())),
+        ("set_comment", set_comment(rt.alloc())),
         ("run", run_once(rt.alloc())),
         ("serve", serve_fault(rt.alloc())),
     ] {
