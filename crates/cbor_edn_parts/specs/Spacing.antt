@@ -1,7 +1,8 @@
 -- Delimiter policies, and the table by which they change one space text.
 use Rattle.std.specs.Prelude.{ℕ, List, [], ◌∷◌, ◌++◌, replicate}
 use Rattle.cbor_edn_parts.specs.Comments.{comments_of, before_comma, after_comma}
--- the policies, and the columns of the table below: what is done with one space text
+-- The policies, and the columns of the table below, which say what is done with one space text: enums of `src/policy.rt`. The numbers of
+-- `IndentedRegularSpacing` are `base_indent`, `indent_level` and `max_width`.
 pub use Rattle.cbor_edn_parts.specs.declared.policy.DelimiterPolicy.{DelimiterPolicy}
 pub use Rattle.cbor_edn_parts.specs.declared.policy.DelimiterPolicy.TheVariants.{DiscardAll, DiscardAllButComments, SingleLineRegularSpacing, IndentedRegularSpacing, SingleSpace}
 pub use Rattle.cbor_edn_parts.specs.declared.policy.Spacing.{Spacing}

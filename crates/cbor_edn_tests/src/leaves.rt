@@ -3,6 +3,7 @@ use cbor_edn_parts::error::Refusal;
 use cbor_edn_parts::indicator::{Indicator, indicator_at};
 use cbor_edn_parts::looks::Looks;
 use cbor_edn_parts::number::number_at;
+use cbor_edn_parts::policy::{DelimiterPolicy, Spacing};
 use cbor_edn_parts::space::{
     End, Ms, Msc, S, Soc, separator, separator_behind, space, space_behind,
 };
@@ -42,10 +43,142 @@ fn spaces(rt: HostRuntime) -> Result<(), Fail> {
 fn plain_spaces(rt: HostRuntime) {
     assert_eq!(rt; S::space().as_str(), " ");
     assert_eq!(rt; Ms::space().as_str(), " ");
+    assert_eq!(rt; Msc::comma().as_str(), ",");
     assert_eq!(rt; Msc::comma_space().as_str(), ", ");
     assert_eq!(rt; S::empty().into_ms(), None);
     assert_eq!(rt; S::space().into_ms(), Some(Ms::space()));
     assert_eq!(rt; Soc::empty().into_msc(), None);
+}
+
+#[test]
+fn columns_of_space(rt: HostRuntime) -> Result<(), Fail> {
+    for (text, spacing, optional, mandatory) in [
+        (" /a/ # b\n\n ", Spacing::Least, "", " "),
+        (" /a/ # b\n\n ", Spacing::Comments, "/a/ # b\n", "/a/ # b\n"),
+        (" /a/ # b\n\n ", Spacing::OneLine, "/a/ # b\n", "/a/ # b\n"),
+        (
+            " /a/ # b\n\n ",
+            Spacing::NewLine(2),
+            "\n  /a/ # b\n",
+            "\n  /a/ # b\n",
+        ),
+        (
+            " /a/ # b\n\n ",
+            Spacing::OneSpace,
+            " /a/ # b\n",
+            " /a/ # b\n",
+        ),
+        ("\t", Spacing::Least, "", " "),
+        ("\t", Spacing::Comments, "", " "),
+        ("\t", Spacing::OneLine, "", " "),
+        ("\t", Spacing::NewLine(0), "\n", "\n"),
+        ("\t", Spacing::OneSpace, " ", " "),
+        (
+            "\r/ # \u{e9}/\r",
+            Spacing::Comments,
+            "/ # \u{e9}/",
+            "/ # \u{e9}/",
+        ),
+    ] {
+        let text = Text::new(text);
+        let (before, _) = space(&text, text.start(), &mut Looks::new())?;
+        assert_eq!(rt;
+            before.spaced(rt.alloc(), spacing)?.as_str(),
+            optional,
+            "{spacing:?}"
+        );
+        let Some(before) = before.into_ms() else {
+            return Err(Fail::from("no space"));
+        };
+        assert_eq!(rt;
+            before.spaced(rt.alloc(), spacing)?.as_str(),
+            mandatory,
+            "{spacing:?}"
+        );
+    }
+    Ok(())
+}
+
+#[test]
+fn columns_of_separators(rt: HostRuntime) -> Result<(), Fail> {
+    for (text, spacing, end, between) in [
+        (" /a/ , # b\n ", Spacing::Least, "", ","),
+        (" /a/ , # b\n ", Spacing::Comments, "/a/# b\n", "/a/,# b\n"),
+        (" /a/ , # b\n ", Spacing::OneLine, "/a/# b\n", "/a/, # b\n"),
+        (
+            " /a/ , # b\n ",
+            Spacing::NewLine(2),
+            "\n  /a/# b\n",
+            "/a/,\n  # b\n",
+        ),
+        (
+            " /a/ , # b\n ",
+            Spacing::OneSpace,
+            " /a/# b\n",
+            " /a/,# b\n",
+        ),
+        ("/,/ ", Spacing::OneLine, "/,/", "/,/, "),
+        (" ", Spacing::Least, "", ","),
+        (" ", Spacing::Comments, "", ","),
+        (" ", Spacing::OneLine, "", ", "),
+        (" ", Spacing::NewLine(0), "\n", ",\n"),
+        (" ", Spacing::OneSpace, " ", " ,"),
+    ] {
+        let text = Text::new(text);
+        let (last, _) = separator(&text, text.start(), &mut Looks::new())?;
+        assert_eq!(rt;
+            last.spaced(rt.alloc(), spacing)?.as_str(),
+            end,
+            "{spacing:?}"
+        );
+        let Some(last) = last.into_msc() else {
+            return Err(Fail::from("no separator"));
+        };
+        assert_eq!(rt;
+            last.spaced(rt.alloc(), spacing)?.as_str(),
+            between,
+            "{spacing:?}"
+        );
+    }
+    Ok(())
+}
+
+// Where there is no memory for so many spaces, that is told before any of them is written.
+#[test]
+fn endless_indents(rt: HostRuntime) {
+    let spacing = Spacing::NewLine(usize::MAX);
+    assert!(rt; S::empty().spaced(rt.alloc(), spacing).is_err());
+    assert!(rt; Ms::space().spaced(rt.alloc(), spacing).is_err());
+    assert!(rt; Msc::comma().spaced(rt.alloc(), spacing).is_err());
+    assert!(rt; Soc::empty().spaced(rt.alloc(), spacing).is_err());
+}
+
+#[test]
+fn notes(rt: HostRuntime) -> Result<(), Fail> {
+    for (comment, note) in [
+        ("c", "/ c /"),
+        ("", "/  /"),
+        ("\u{1}", "/   /"),
+        ("a\tb\nc\rd\u{1f}", "/ a\tb\nc\rd  /"),
+        ("\u{e9}\u{7f}\u{1f600}", "/ \u{e9}\u{7f}\u{1f600} /"),
+        ("a/b\nc", "# a/b\n# c\n"),
+        ("/\n", "# /\n# \n"),
+        ("/\u{0}\u{e9}\r", "# / \u{e9}\r\n"),
+    ] {
+        let note_of = S::note(rt.alloc(), comment)?;
+        assert_eq!(rt; note_of.as_str(), note, "{comment:?}");
+    }
+    Ok(())
+}
+
+#[test]
+fn indented(rt: HostRuntime) {
+    let policy = DelimiterPolicy::IndentedRegularSpacing {
+        base_indent: 0,
+        indent_level: 4,
+        max_width: 80,
+    };
+    assert_eq!(rt; DelimiterPolicy::indented(), policy);
 }
 
 #[test]
