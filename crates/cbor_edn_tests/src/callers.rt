@@ -6,7 +6,7 @@ use std::test::Fail;
 fn callers_answer(rt: HostRuntime) -> Result<(), Fail> {
     let alloc = rt.alloc();
     let bytes = shipped(alloc, "[1, 'a'] # two\n").unwrap_or(Vec::new(alloc));
-    assert_eq!(rt; bytes.as_slice(), b"\x82\x01\x41a");
+    assert_eq!(rt; bytes.as_slice(), b"\x82\x01\x41a".as_slice());
     assert!(rt; shipped(alloc, "[1").is_none());
     assert!(rt; shipped(alloc, "1.5").is_none());
     let text = shown(alloc, b"\x82\x01\x41a").unwrap_or(String::new(alloc));
