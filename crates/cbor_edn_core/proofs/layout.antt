@@ -11,5 +11,5 @@ pub mod Layouts
 pub mod Policies
 pub mod RegularLayout
 pub mod RegularTrees
-pub mod Unmarked
+pub mod WithoutIndicators
 pub mod Widths

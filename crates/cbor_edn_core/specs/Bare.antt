@@ -3,7 +3,7 @@ use Rattle.std.specs.Prelude.{ℕ, Bool, false, cond, eqb, List, [], ◌∷◌, 
 use Rattle.cbor_edn_core.specs.declared.tree.LabelKind.{LabelKind}
 use Rattle.cbor_edn_core.specs.declared.tree.LabelKind.TheVariants as label
 use Rattle.cbor_edn_core.specs.Items.{Sort, Node, Number, Float, Listed, Tagged, Named, Simple, String, Stream, Literal, Dots, Embedded, LastPiece, Plus, Element, Pair, Chunk, End, Then}
-use Rattle.cbor_edn_core.specs.Trees.{Rule, Tree, Head, Unmarked, Marked, NumberTree, FloatTree, NamedTree, EnclosedTree, ListTree, StringTree, StreamTree, LiteralTree, DotsTree, EmbeddedTree, LastPieceTree, PlusTree, ElementTree, PairTree, ChunkTree, EmptyTree, FullTree, LastTree, MoreTree, NothingTree, SequenceTree, StandaloneTree}
+use Rattle.cbor_edn_core.specs.Trees.{Rule, Tree, ListHead, Unmarked, Marked, NumberTree, FloatTree, NamedTree, EnclosedTree, ListTree, StringTree, StreamTree, LiteralTree, DotsTree, EmbeddedTree, LastPieceTree, PlusTree, ElementTree, PairTree, ChunkTree, EmptyTree, FullTree, LastTree, MoreTree, NothingTree, SequenceTree, StandaloneTree}
 
 -- The items without any indicator outside embedded sequences: that of an embedded sequence itself goes, and what stands in it stays.
 -- A stream stays one.
@@ -32,7 +32,7 @@ is_one_space (c ∷ []) = eqb c 32
 is_one_space _ = false
 
 -- the first space of a list: the one behind its indicator stands in front of it, but for a single space, which goes with the indicator
-abbrev pub first_space : Head → List ℕ → List ℕ
+abbrev pub first_space : ListHead → List ℕ → List ℕ
 first_space Unmarked s = s
 first_space (Marked i ms) s = cond (is_one_space ms) s (ms ++ s)
 
@@ -41,26 +41,26 @@ bare_label (label.Tag n i) = label.Tag n None
 bare_label label.Simple = label.Simple
 
 -- The tree of the bare items, with the spaces that stay: `[_ 1]` becomes `[1]`, and `[_ /c/ 1]` becomes `[ /c/ 1]`.
-unfoldable pub unmarked : {s : Rule} → Tree s → Tree s
-unmarked (NumberTree x i) = NumberTree x None
-unmarked (FloatTree f i) = FloatTree f None
-unmarked (NamedTree b) = NamedTree b
-unmarked (EnclosedTree l w) = EnclosedTree (bare_label l) (unmarked w)
-unmarked (ListTree k w) = ListTree k (unmarked w)
-unmarked (StringTree w) = StringTree (unmarked w)
-unmarked (StreamTree ms m) = StreamTree ms (unmarked m)
-unmarked (LiteralTree x i) = LiteralTree x None
-unmarked (DotsTree x) = DotsTree x
-unmarked (EmbeddedTree w i) = EmbeddedTree w None
-unmarked (LastPieceTree p) = LastPieceTree (unmarked p)
-unmarked (PlusTree p s t w) = PlusTree (unmarked p) s t (unmarked w)
-unmarked (ElementTree w) = ElementTree (unmarked w)
-unmarked (PairTree v s t w) = PairTree (unmarked v) s t (unmarked w)
-unmarked (ChunkTree w) = ChunkTree (unmarked w)
-unmarked (EmptyTree i s) = EmptyTree None s
-unmarked (FullTree h s m) = FullTree Unmarked (first_space h s) (unmarked m)
-unmarked (LastTree e s) = LastTree (unmarked e) s
-unmarked (MoreTree e s m) = MoreTree (unmarked e) s (unmarked m)
-unmarked (NothingTree s) = NothingTree s
-unmarked (SequenceTree s m) = SequenceTree s (unmarked m)
-unmarked (StandaloneTree s w t) = StandaloneTree s (unmarked w) t
+unfoldable pub without_indicators : {s : Rule} → Tree s → Tree s
+without_indicators (NumberTree x i) = NumberTree x None
+without_indicators (FloatTree f i) = FloatTree f None
+without_indicators (NamedTree b) = NamedTree b
+without_indicators (EnclosedTree l w) = EnclosedTree (bare_label l) (without_indicators w)
+without_indicators (ListTree k w) = ListTree k (without_indicators w)
+without_indicators (StringTree w) = StringTree (without_indicators w)
+without_indicators (StreamTree ms m) = StreamTree ms (without_indicators m)
+without_indicators (LiteralTree x i) = LiteralTree x None
+without_indicators (DotsTree x) = DotsTree x
+without_indicators (EmbeddedTree w i) = EmbeddedTree w None
+without_indicators (LastPieceTree p) = LastPieceTree (without_indicators p)
+without_indicators (PlusTree p s t w) = PlusTree (without_indicators p) s t (without_indicators w)
+without_indicators (ElementTree w) = ElementTree (without_indicators w)
+without_indicators (PairTree v s t w) = PairTree (without_indicators v) s t (without_indicators w)
+without_indicators (ChunkTree w) = ChunkTree (without_indicators w)
+without_indicators (EmptyTree i s) = EmptyTree None s
+without_indicators (FullTree h s m) = FullTree Unmarked (first_space h s) (without_indicators m)
+without_indicators (LastTree e s) = LastTree (without_indicators e) s
+without_indicators (MoreTree e s m) = MoreTree (without_indicators e) s (without_indicators m)
+without_indicators (NothingTree s) = NothingTree s
+without_indicators (SequenceTree s m) = SequenceTree s (without_indicators m)
+without_indicators (StandaloneTree s w t) = StandaloneTree s (without_indicators w) t

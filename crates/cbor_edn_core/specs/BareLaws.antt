@@ -1,18 +1,18 @@
 -- The laws of removed indicators, as contracts name them.
 use Rattle.std.specs.Prelude.{◌≡◌, ◌<◌, ◌^◌, length, Some}
 use Rattle.cbor_edn_core.specs.Items.{Node, Item, Items}
-use Rattle.cbor_edn_core.specs.Trees.{Rule, OneItem, Seq, Standalone, Tree, Valid, Joined, items}
+use Rattle.cbor_edn_core.specs.Trees.{Rule, OneItem, Seq, Standalone, Tree, Valid, Merged, items}
 use Rattle.cbor_edn_core.specs.Value.{Value, Values, encoding, encodings}
 use Rattle.cbor_edn_core.specs.Meaning.{means}
-use Rattle.cbor_edn_core.specs.Bare.{bare, unmarked}
+use Rattle.cbor_edn_core.specs.Bare.{bare, without_indicators}
 use Rattle.cbor_edn_core.specs.Plain.{plain, plain_values, IsShort, AreShort}
 
 -- A tree without indicators has the bare items, and each of its texts is in its set.
-abbrev pub UnmarkedIsBare : Type 0
-UnmarkedIsBare = ((w : Tree OneItem) → items (unmarked w) ≡ bare (items w)) × ((w : Tree Standalone) → items (unmarked w) ≡ bare (items w)) × ((w : Tree Seq) → items (unmarked w) ≡ bare (items w))
+abbrev pub WithoutIndicatorsIsBare : Type 0
+WithoutIndicatorsIsBare = ((w : Tree OneItem) → items (without_indicators w) ≡ bare (items w)) × ((w : Tree Standalone) → items (without_indicators w) ≡ bare (items w)) × ((w : Tree Seq) → items (without_indicators w) ≡ bare (items w))
 
-abbrev pub UnmarkedStaysValid : Type 0
-UnmarkedStaysValid = (s : Rule) (w : Tree s) → Valid w → Valid (unmarked w) × (Joined w → Joined (unmarked w))
+abbrev pub WithoutIndicatorsStaysValid : Type 0
+WithoutIndicatorsStaysValid = (s : Rule) (w : Tree s) → Valid w → Valid (without_indicators w) × (Merged w → Merged (without_indicators w))
 
 -- Where an item means a value, the bare item means one that is the same but for its heads, and these are the shortest. (Encodings of
 -- 2^64 bytes and more are left out: a list of so many entries may have indefinite length alone.)

@@ -28,9 +28,9 @@ use Rattle.cbor_edn_core.specs.declared.tree.SequenceOf as sequence
 use Rattle.cbor_edn_core.specs.View.{Item, StandaloneItem}
 
 -- an indicator and the space behind it, if they are there
-abbrev pub BorrowsHead : Option (Indicator × Ms) → Type 0
-BorrowsHead None = Unit {0}
-BorrowsHead (Some h) = BorrowsMs h.1
+abbrev pub BorrowsListHead : Option (Indicator × Ms) → Type 0
+BorrowsListHead None = Unit {0}
+BorrowsListHead (Some h) = BorrowsMs h.1
 
 abbrev mutual
   pub BorrowsInner : InnerItemOf S Ms Msc Soc Number Literal Dots → Type 0
@@ -70,7 +70,7 @@ abbrev mutual
   BorrowsStringRow (more_of-StringsOf-row-2 m pieces last separator row) = (BorrowsPieces pieces × BorrowsPiece last) × BorrowsMsc separator × BorrowsStringRow row
 
   pub BorrowsList : ItemListOf S Ms Msc Soc Number Literal Dots → Type 0
-  BorrowsList (item_list.Present head s items) = BorrowsHead head × BorrowsS s × BorrowsItems items
+  BorrowsList (item_list.Present head s items) = BorrowsListHead head × BorrowsS s × BorrowsItems items
   BorrowsList (item_list.Absent i s) = BorrowsS s
 
   pub BorrowsItems : ItemsOf S Ms Msc Soc Number Literal Dots → Type 0
@@ -81,7 +81,7 @@ abbrev mutual
   BorrowsRow (more_of-ItemsOf-row-2 item separator row) = BorrowsInner item × BorrowsMsc separator × BorrowsRow row
 
   pub BorrowsPairList : PairListOf S Ms Msc Soc Number Literal Dots → Type 0
-  BorrowsPairList (pair_list.Present head s pairs) = BorrowsHead head × BorrowsS s × BorrowsPairs pairs
+  BorrowsPairList (pair_list.Present head s pairs) = BorrowsListHead head × BorrowsS s × BorrowsPairs pairs
   BorrowsPairList (pair_list.Absent i s) = BorrowsS s
 
   pub BorrowsPairs : PairsOf S Ms Msc Soc Number Literal Dots → Type 0

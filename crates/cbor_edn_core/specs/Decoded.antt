@@ -11,7 +11,7 @@ use Rattle.cbor_edn_core.specs.declared.tree.LabelKind.TheVariants as label
 use Rattle.cbor_edn_core.specs.declared.word.NamedSimple.TheVariants.{False, True, Null, Undefined}
 use Rattle.cbor_edn_core.specs.Items as kind
 use Rattle.cbor_edn_core.specs.Items.{Row, Elements, Strings, Bracketed, Array, Map, entries_of, Sort, Item, Piece, Pieces, Entry, Entries, Node, Number, Float, Listed, Tagged, Named, Simple, String, Stream, Literal, Dots, Embedded, LastPiece, Plus, Element, Pair, Chunk, End, Then, Items, nesting}
-use Rattle.cbor_edn_core.specs.Trees.{Tree, OneItem, OnePiece, OneString, OneEntry, Inside, Rest, Seq, Standalone, Head, Unmarked, Marked, NumberTree, FloatTree, NamedTree, EnclosedTree, ListTree, StringTree, StreamTree, LiteralTree, DotsTree, EmbeddedTree, LastPieceTree, PlusTree, ElementTree, PairTree, ChunkTree, EmptyTree, FullTree, LastTree, MoreTree, NothingTree, SequenceTree, StandaloneTree, items}
+use Rattle.cbor_edn_core.specs.Trees.{Tree, OneItem, OnePiece, OneString, OneEntry, Inside, Rest, Seq, Standalone, ListHead, Unmarked, Marked, NumberTree, FloatTree, NamedTree, EnclosedTree, ListTree, StringTree, StreamTree, LiteralTree, DotsTree, EmbeddedTree, LastPieceTree, PlusTree, ElementTree, PairTree, ChunkTree, EmptyTree, FullTree, LastTree, MoreTree, NothingTree, SequenceTree, StandaloneTree, items}
 use Rattle.cbor_edn_core.specs.Value as values
 use Rattle.cbor_edn_core.specs.Value.{Value, unsigned, negative, string, chunks, array, object, tag, simple, float, Values, no_values, value, values_len, Pairs, no_pairs, pair, pairs_len, Enc, EncAll}
 use Rattle.cbor_edn_core.specs.Meaning.{means}
@@ -93,14 +93,14 @@ in_front e None = LastTree e []
 in_front e (Some m) = MoreTree e (44 ∷ 32 ∷ []) m
 
 -- one space behind an indicator
-abbrev pub head_of : Option Indicator → Head
-head_of None = Unmarked
-head_of (Some i) = Marked i (32 ∷ [])
+abbrev pub spaced_list_head : Option Indicator → ListHead
+spaced_list_head None = Unmarked
+spaced_list_head (Some i) = Marked i (32 ∷ [])
 
 -- what stands between brackets: `[_]` and `[]` have no space
-abbrev pub inside : {k : Bracketed} → Option Indicator → Option (Tree (Rest (entries_of k))) → Tree (Inside k)
-inside i None = EmptyTree i []
-inside i (Some m) = FullTree (head_of i) [] m
+abbrev pub list_inside : {k : Bracketed} → Option Indicator → Option (Tree (Rest (entries_of k))) → Tree (Inside k)
+list_inside i None = EmptyTree i []
+list_inside i (Some m) = FullTree (spaced_list_head i) [] m
 
 abbrev pub key_value : Tree OneItem → Tree OneItem → Tree (OneEntry kind.Pairs)
 key_value v w = PairTree v [] (32 ∷ []) w
@@ -133,7 +133,7 @@ Regular (Entries k) = Option (Tree (Rest k))
 unfoldable pub regular : {s : Sort} → Node s → Regular s
 regular (Number x i) = NumberTree x i
 regular (Float f i) = FloatTree f i
-regular (Listed k i m) = ListTree k (inside i (regular m))
+regular (Listed k i m) = ListTree k (list_inside i (regular m))
 regular (Tagged n i w) = EnclosedTree (label.Tag n i) (alone (regular w))
 regular (Named b) = NamedTree b
 regular (Simple w) = EnclosedTree label.Simple (alone (regular w))
@@ -156,8 +156,8 @@ regular_sequence m = sequence_tree_of (regular m)
 -- ---- what is decoded
 
 -- The bytes are an encoding of the value and what follows it.
-abbrev pub Begins : List ℕ → List ℕ → Value → Type 0
-Begins bytes rest v = (front : List ℕ) × Enc front v × (bytes ≡ front ++ rest)
+abbrev pub BeginsWith : List ℕ → List ℕ → Value → Type 0
+BeginsWith bytes rest v = (front : List ℕ) × Enc front v × (bytes ≡ front ++ rest)
 
 -- The tree is that of a value that is encoded so and whose item nests no deeper than the limit: its items are that item, with
 -- the spaces of a single line, and mean this value.
@@ -189,8 +189,8 @@ abbrev pub high_bytes : List ℕ → ℕ
 high_bytes bytes = count_by (λ b. nat_le 128 b) bytes
 
 -- More than `limit` bytes can be heads of what nests, and the item of each value that is encoded so nests deeper.
-abbrev pub IsTooDeep : ℕ → List ℕ → (Value → Type 0) → Type 0
-IsTooDeep limit bytes Encoded = (limit < high_bytes bytes) × ((v : Value) → Encoded v → limit < nesting (item_of v))
+abbrev pub IsTooDeepEncoding : ℕ → List ℕ → (Value → Type 0) → Type 0
+IsTooDeepEncoding limit bytes Encoded = (limit < high_bytes bytes) × ((v : Value) → Encoded v → limit < nesting (item_of v))
 
 abbrev pub NoSequence : List ℕ → Type 0
 NoSequence bytes = (vs : Values) → EncAll bytes vs → ⊥

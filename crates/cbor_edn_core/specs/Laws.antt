@@ -2,7 +2,7 @@
 use Rattle.std.specs.Prelude.{List, ℕ, ◌≡◌, ◌↔◌}
 use Rattle.cbor_edn_core.specs.Items.{Node, Item, Items}
 use Rattle.cbor_edn_core.specs.Spelling.{SpellsSequence, SpellsOne}
-use Rattle.cbor_edn_core.specs.Trees.{Rule, Seq, Standalone, Tree, Valid, Joined, text, spaces, items}
+use Rattle.cbor_edn_core.specs.Trees.{Rule, Seq, Standalone, Tree, Valid, Merged, text, spaces, items}
 
 -- A text spells at most one list of items, and at most one item.
 abbrev pub UniqueItems : Type 0
@@ -12,14 +12,14 @@ UniqueItems = ((x y : Items) (t : List ℕ) → SpellsSequence x t → SpellsSeq
 -- is in its set, and the S after each indicator's mandatory space is empty (a text does not say where one ends and the
 -- other begins).
 abbrev pub UniqueSpaces : Type 0
-UniqueSpaces = ((w v : Tree Seq) → Valid w → Valid v → Joined w → Joined v → text w ≡ text v → w ≡ v) × ((w v : Tree Standalone) → Valid w → Valid v → Joined w → Joined v → text w ≡ text v → w ≡ v)
+UniqueSpaces = ((w v : Tree Seq) → Valid w → Valid v → Merged w → Merged v → text w ≡ text v → w ≡ v) × ((w v : Tree Standalone) → Valid w → Valid v → Merged w → Merged v → text w ≡ text v → w ≡ v)
 
 -- What a text spells are the items of one tree whose text it is, with no space after an indicator's mandatory space; and the
 -- text of a tree, also of one with such a space, spells its items.
 abbrev pub SpelledByTrees : Type 0
 SpelledByTrees =
-    ((x : Items) (t : List ℕ) → SpellsSequence x t → (w : Tree Seq) × Valid w × Joined w × (items w ≡ x) × (text w ≡ t))
-    × ((x : Node Item) (t : List ℕ) → SpellsOne x t → (w : Tree Standalone) × Valid w × Joined w × (items w ≡ x) × (text w ≡ t))
+    ((x : Items) (t : List ℕ) → SpellsSequence x t → (w : Tree Seq) × Valid w × Merged w × (items w ≡ x) × (text w ≡ t))
+    × ((x : Node Item) (t : List ℕ) → SpellsOne x t → (w : Tree Standalone) × Valid w × Merged w × (items w ≡ x) × (text w ≡ t))
     × ((w : Tree Seq) → Valid w → SpellsSequence (items w) (text w))
     × ((w : Tree Standalone) → Valid w → SpellsOne (items w) (text w))
 

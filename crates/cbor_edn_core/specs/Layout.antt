@@ -5,7 +5,7 @@ use Rattle.cbor_edn_parts.specs.declared.policy.DelimiterPolicy.{DelimiterPolicy
 use Rattle.cbor_edn_parts.specs.declared.policy.DelimiterPolicy.TheVariants.{DiscardAll, DiscardAllButComments, SingleLineRegularSpacing, IndentedRegularSpacing, SingleSpace}
 use Rattle.cbor_edn_parts.specs.declared.policy.Spacing.{Spacing}
 use Rattle.cbor_edn_parts.specs.declared.policy.Spacing.TheVariants.{Least, Comments, OneLine, NewLine, OneSpace}
-use Rattle.cbor_edn_core.specs.Trees.{Rule, OneItem, Tree, Head, Unmarked, Marked, NumberTree, FloatTree, NamedTree, EnclosedTree, ListTree, StringTree, StreamTree, LiteralTree, DotsTree, EmbeddedTree, LastPieceTree, PlusTree, ElementTree, PairTree, ChunkTree, EmptyTree, FullTree, LastTree, MoreTree, NothingTree, SequenceTree, StandaloneTree, text}
+use Rattle.cbor_edn_core.specs.Trees.{Rule, OneItem, Tree, ListHead, Unmarked, Marked, NumberTree, FloatTree, NamedTree, EnclosedTree, ListTree, StringTree, StreamTree, LiteralTree, DotsTree, EmbeddedTree, LastPieceTree, PlusTree, ElementTree, PairTree, ChunkTree, EmptyTree, FullTree, LastTree, MoreTree, NothingTree, SequenceTree, StandaloneTree, text}
 
 -- How the spaces of a part of a tree are changed.
 pub data Layout : Type 0 where
@@ -73,9 +73,9 @@ in_chunk (Inline OneLine) = Inline Comments
 in_chunk l = l
 
 -- an indicator and the space behind it
-abbrev pub laid_head : Layout → Head → Head
-laid_head l Unmarked = Unmarked
-laid_head l (Marked i ms) = Marked i (respaced MS Elsewhere l ms)
+abbrev pub laid_list_head : Layout → ListHead → ListHead
+laid_list_head l Unmarked = Unmarked
+laid_list_head l (Marked i ms) = Marked i (respaced MS Elsewhere l ms)
 
 -- A tree with other spaces. What stands in an embedded sequence stays as it is.
 unfoldable pub laid : {s : Rule} → Layout → Tree s → Tree s
@@ -95,7 +95,7 @@ laid l (ElementTree w) = ElementTree (laid l w)
 laid l (PairTree v s t w) = PairTree (laid l v) (respaced S Elsewhere l s) (respaced S AfterColon l t) (laid l w)
 laid l (ChunkTree w) = ChunkTree (laid (in_chunk l) w)
 laid l (EmptyTree i s) = EmptyTree i (respaced S Elsewhere l s)
-laid l (FullTree h s m) = FullTree (laid_head l h) (respaced S First l s) (laid l m)
+laid l (FullTree h s m) = FullTree (laid_list_head l h) (respaced S First l s) (laid l m)
 laid l (LastTree e s) = LastTree (laid l e) (respaced SOC Last l s)
 laid l (MoreTree e s m) = MoreTree (laid l e) (respaced MSC Between l s) (laid l m)
 laid l (NothingTree s) = NothingTree (respaced S Elsewhere l s)

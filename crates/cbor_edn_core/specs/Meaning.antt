@@ -67,13 +67,13 @@ abbrev pub tagged : ℕ → List ℕ → Value
 tagged number bs = tag Immediate number (string Bytes (shortest (length bs)) bs)
 
 -- what takes no indicator
-abbrev pub unmarked : Option Indicator → Value → Option Value
-unmarked None v = Some v
-unmarked (Some i) v = None
+abbrev pub no_indicator : Option Indicator → Value → Option Value
+no_indicator None v = Some v
+no_indicator (Some i) v = None
 
 -- A bignum (RFC 8949, section 3.4.3): the tag's number, the number of its bytes, and its magnitude, which is below 2^128.
 abbrev pub bignum : ℕ → ℕ → ℕ → Option Indicator → Option Value
-bignum number n magnitude i = if nat_lt magnitude (2 ^ 128) then (unmarked i (tagged number (magnitude_bytes n))) else None
+bignum number n magnitude i = if nat_lt magnitude (2 ^ 128) then (no_indicator i (tagged number (magnitude_bytes n))) else None
 
 -- An integer: of major type 0 or 1 from -2^64 to 2^64 - 1, and else of tag 2 or 3. (`negsuc n` is -1 - n.)
 abbrev pub means_integer : Option Indicator → ℤ → Option Value

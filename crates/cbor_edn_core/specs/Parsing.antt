@@ -8,7 +8,7 @@ use Rattle.cbor_edn_core.specs.Borrowed.{BorrowsSequence, BorrowsStandalone}
 use Rattle.cbor_edn_core.specs.Items.{Sort, Node, nesting}
 use Rattle.cbor_edn_core.specs.Marks.{marks}
 use Rattle.cbor_edn_core.specs.Spelling.{SpellsSequence, SpellsOne}
-use Rattle.cbor_edn_core.specs.Trees.{Rule, Tree, Joined, items, text}
+use Rattle.cbor_edn_core.specs.Trees.{Rule, Tree, Merged, items, text}
 use Rattle.cbor_edn_core.specs.View.{Sequence, StandaloneItem, sequence_tree, standalone_tree}
 
 module _ {s : Sort} (Spelled : Node s → List ℕ → Type 0) where
@@ -37,7 +37,7 @@ module _ {s : Sort} (Spelled : Node s → List ℕ → Type 0) where
 pub record Parsed {s : Sort} {r : Rule} {X : Type 0} (Spelled : Node s → List ℕ → Type 0) (items_of : Tree r → Node s) (tree_of : X → Tree r) (Borrows : X → Type 0) (limit : ℕ) (input : List ℕ) (x : X) : Type 0 where
   pub prints : text (tree_of x) ≡ input
   pub accepted : IsAccepted Spelled limit input (items_of (tree_of x))
-  pub joined : Joined (tree_of x)
+  pub merged : Merged (tree_of x)
   pub borrowed : Borrows x
 
 abbrev pub ParsedSequence : ℕ → List ℕ → Sequence → Type 0

@@ -27,10 +27,10 @@ mutual
     no_plain_pairs : PlainPairs
     plain_pair : Plain → Plain → PlainPairs → PlainPairs
 
--- the bytes of chunks, joined
-abbrev pub joined : List values.Chunk → List ℕ
-joined [] = []
-joined (c ∷ cs) = c.1 ++ joined cs
+-- the bytes of chunks, one behind the other
+abbrev pub concatenated : List values.Chunk → List ℕ
+concatenated [] = []
+concatenated (c ∷ cs) = c.1 ++ concatenated cs
 
 -- The plain value: that of 18 01 is that of 01, that of 9f 01 ff that of 81 01, and that of 5f 41 61 41 62 ff that of 42 61 62.
 abbrev mutual
@@ -38,7 +38,7 @@ abbrev mutual
   plain (values.unsigned w n) = integer (pos n)
   plain (values.negative w n) = integer (negsuc n)
   plain (values.string k w bs) = string k bs
-  plain (values.chunks k cs) = string k (joined cs)
+  plain (values.chunks k cs) = string k (concatenated cs)
   plain (values.array w vs) = array (plain_values vs)
   plain (values.object w ps) = object (plain_pairs ps)
   plain (values.tag w n v) = tag n (plain v)

@@ -1,7 +1,7 @@
 -- What only clauses of private functions cite, and what laws tie to the definitions: nothing of it needs to be believed.
 pub mod CborReading
 pub mod Encoding
-pub mod Growing
+pub mod RowBuilder
 pub mod LayoutRows
 pub mod Lookahead
 pub mod ParserResults

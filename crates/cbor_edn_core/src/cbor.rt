@@ -342,7 +342,7 @@ fn push_bignum(
     indicator: Option<Indicator>,
 ) -> Result<(), Fault<InconsistentEdn>>
     requires { tag < 24 }
-    ensures { Encodes encoding (meaning.unmarked indicator (tagged tag (magnitude_bytes number))) out.old.items out.new.items result }
+    ensures { Encodes encoding (meaning.no_indicator indicator (tagged tag (magnitude_bytes number))) out.old.items out.new.items result }
 {
     match indicator {
         Some(_) => Err(Fault::Told(InconsistentEdn::IndicatorDoesNotFit)),

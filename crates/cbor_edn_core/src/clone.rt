@@ -1,7 +1,7 @@
 //! Copies of trees. Memory comes from the allocator of what is copied.
 ghost use Rattle.std.specs.Prelude.{◌≡◌, map, IfOk};
 ghost use Rattle.cbor_edn_parts.specs.Leaves.{s_bytes};
-ghost use Rattle.cbor_edn_core.specs.View.{texts, view_head, view_list, view_items, seen, view_pair_list, view_pairs, view_pair, seen_pair, view_string, view_piece, seen_piece, view_stream, view_strings, seen_string, item_tree, standalone_tree, sequence_tree};
+ghost use Rattle.cbor_edn_core.specs.View.{texts, view_list_head, view_list, view_items, seen, view_pair_list, view_pairs, view_pair, seen_pair, view_string, view_piece, seen_piece, view_stream, view_strings, seen_string, item_tree, standalone_tree, sequence_tree};
 
 use crate::tree::{
     CborString, Indicator, InnerItem, Item, ItemList, ItemOf, Items, Kp, PairList, Pairs, Piece,
@@ -37,10 +37,10 @@ impl<'a> Sequence<'a> {
     }
 }
 
-fn clone_head<'a>(
+fn clone_list_head<'a>(
     head: &Option<(Indicator, Ms<'a>)>,
 ) -> Result<Option<(Indicator, Ms<'a>)>, AllocError>
-    ensures { IfOk result (λ t. view_head texts t ≡ view_head texts head.now) }
+    ensures { IfOk result (λ t. view_list_head texts t ≡ view_list_head texts head.now) }
 {
     match head {
         None => Ok(None),
@@ -221,7 +221,7 @@ fn clone_list<'a>(list: &ItemList<'a>) -> Result<ItemList<'a>, AllocError>
 {
     match list {
         ItemList::Present { head, s, items } => {
-            let head = clone_head(head)?;
+            let head = clone_list_head(head)?;
             let s = s.clone()?;
             let items = clone_items(items)?;
             Ok(ItemList::Present { head, s, items })
@@ -266,7 +266,7 @@ fn clone_pair_list<'a>(list: &PairList<'a>) -> Result<PairList<'a>, AllocError>
 {
     match list {
         PairList::Present { head, s, pairs } => {
-            let head = clone_head(head)?;
+            let head = clone_list_head(head)?;
             let s = s.clone()?;
             let pairs = clone_pairs(pairs)?;
             Ok(PairList::Present { head, s, pairs })

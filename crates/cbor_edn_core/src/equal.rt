@@ -1,7 +1,7 @@
 //! Whether two trees are written the same, spaces included.
 ghost use Rattle.std.specs.Prelude.{◌≡◌, ◌↔◌, IsTrue, map};
 ghost use Rattle.cbor_edn_core.specs.code.Same.{same, same_indicator, same_word, same_named, same_float, same_label, same_head, same_entries, same_pieces, same_laws};
-ghost use Rattle.cbor_edn_core.specs.View.{texts, view_head, view_list, view_items, seen, view_pair_list, view_pairs, view_pair, seen_pair, view_string, view_piece, seen_piece, view_stream, view_strings, seen_string, item_tree, standalone_tree, sequence_tree};
+ghost use Rattle.cbor_edn_core.specs.View.{texts, view_list_head, view_list, view_items, seen, view_pair_list, view_pairs, view_pair, seen_pair, view_string, view_piece, seen_piece, view_stream, view_strings, seen_string, item_tree, standalone_tree, sequence_tree};
 
 use crate::tree::{
     CborString, Indicator, InnerItem, Item, ItemList, Items, Kp, LabelKind, PairList, Pairs, Piece,
@@ -98,7 +98,7 @@ fn have_same_label(a: LabelKind, b: LabelKind) -> bool
 }
 
 fn have_same_head(a: &Option<(Indicator, Ms<'_>)>, b: &Option<(Indicator, Ms<'_>)>) -> bool
-    ensures { result ≡ same_head (view_head texts a.now) (view_head texts b.now) }
+    ensures { result ≡ same_head (view_list_head texts a.now) (view_list_head texts b.now) }
 {
     match (a, b) {
         (None, None) => true,

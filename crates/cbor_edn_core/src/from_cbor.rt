@@ -4,7 +4,7 @@ ghost use Rattle.cbor_edn_core.specs.Trees.{Tree, OneItem};
 ghost use Rattle.cbor_edn_core.specs.View.{item_tree, standalone_tree, sequence_tree};
 ghost use Rattle.cbor_edn_core.specs.Value.{Enc};
 ghost use Rattle.cbor_edn_parts.specs.Refusals.{IfTold};
-ghost use Rattle.cbor_edn_core.specs.Decoded.{Begins, IsDecoded, IsDecodedSequence, NoneIs, IsTooDeep, NoSequence, IsTooDeepSequence, alone};
+ghost use Rattle.cbor_edn_core.specs.Decoded.{BeginsWith, IsDecoded, IsDecodedSequence, NoneIs, IsTooDeepEncoding, NoSequence, IsTooDeepSequence, alone};
 
 use crate::tree::{Item, NESTING_LIMIT, Sequence, StandaloneItem};
 use cbor_edn_parts::error::Fault;
@@ -16,9 +16,9 @@ use std::alloc::Global;
 use thiserror::Error;
 
 mod finish;
-mod growing;
 mod head;
 mod reader;
+mod row_builder;
 mod special;
 mod strings;
 
@@ -68,7 +68,7 @@ impl<'a> Item<'a> {
     pub fn from_cbor(alloc: Global, bytes: &[u8]) -> Result<Item<'a>, Fault<CborError>>
         ensures accepted { IfOk result (λ t. IsDecoded NESTING_LIMIT (Enc bytes.now) (item_tree t)) }
         ensures refused { IfTold result (λ e. e ≢ CborError.TooDeep → NoneIs (Enc bytes.now)) }
-        ensures too_deep { IfTold result (λ e. e ≡ CborError.TooDeep → IsTooDeep NESTING_LIMIT bytes.now (Enc bytes.now)) }
+        ensures too_deep { IfTold result (λ e. e ≡ CborError.TooDeep → IsTooDeepEncoding NESTING_LIMIT bytes.now (Enc bytes.now)) }
     {
         Item::from_cbor_within(alloc, bytes, NESTING_LIMIT)
     }
@@ -81,7 +81,7 @@ impl<'a> Item<'a> {
     ) -> Result<Item<'a>, Fault<CborError>>
         ensures accepted { IfOk result (λ t. IsDecoded limit (Enc bytes.now) (item_tree t)) }
         ensures refused { IfTold result (λ e. e ≢ CborError.TooDeep → NoneIs (Enc bytes.now)) }
-        ensures too_deep { IfTold result (λ e. e ≡ CborError.TooDeep → IsTooDeep limit bytes.now (Enc bytes.now)) }
+        ensures too_deep { IfTold result (λ e. e ≡ CborError.TooDeep → IsTooDeepEncoding limit bytes.now (Enc bytes.now)) }
     {
         let (item, rest) = item_of(alloc, bytes, limit)?;
         if rest.is_empty() {
@@ -96,9 +96,9 @@ impl<'a> Item<'a> {
         alloc: Global,
         bytes: &[u8],
     ) -> Result<(Item<'a>, &[u8]), Fault<CborError>>
-        ensures accepted { IfOk result (λ x. IsDecoded NESTING_LIMIT (Begins bytes.now x.1.now) (item_tree x.0)) }
-        ensures refused { IfTold result (λ e. e ≢ CborError.TooDeep → NoneIs (λ v. (rest : List ℕ) × Begins bytes.now rest v)) }
-        ensures too_deep { IfTold result (λ e. e ≡ CborError.TooDeep → IsTooDeep NESTING_LIMIT bytes.now (λ v. (rest : List ℕ) × Begins bytes.now rest v)) }
+        ensures accepted { IfOk result (λ x. IsDecoded NESTING_LIMIT (BeginsWith bytes.now x.1.now) (item_tree x.0)) }
+        ensures refused { IfTold result (λ e. e ≢ CborError.TooDeep → NoneIs (λ v. (rest : List ℕ) × BeginsWith bytes.now rest v)) }
+        ensures too_deep { IfTold result (λ e. e ≡ CborError.TooDeep → IsTooDeepEncoding NESTING_LIMIT bytes.now (λ v. (rest : List ℕ) × BeginsWith bytes.now rest v)) }
     {
         Item::from_cbor_with_rest_within(alloc, bytes, NESTING_LIMIT)
     }
@@ -109,9 +109,9 @@ impl<'a> Item<'a> {
         bytes: &[u8],
         limit: usize,
     ) -> Result<(Item<'a>, &[u8]), Fault<CborError>>
-        ensures accepted { IfOk result (λ x. IsDecoded limit (Begins bytes.now x.1.now) (item_tree x.0)) }
-        ensures refused { IfTold result (λ e. e ≢ CborError.TooDeep → NoneIs (λ v. (rest : List ℕ) × Begins bytes.now rest v)) }
-        ensures too_deep { IfTold result (λ e. e ≡ CborError.TooDeep → IsTooDeep limit bytes.now (λ v. (rest : List ℕ) × Begins bytes.now rest v)) }
+        ensures accepted { IfOk result (λ x. IsDecoded limit (BeginsWith bytes.now x.1.now) (item_tree x.0)) }
+        ensures refused { IfTold result (λ e. e ≢ CborError.TooDeep → NoneIs (λ v. (rest : List ℕ) × BeginsWith bytes.now rest v)) }
+        ensures too_deep { IfTold result (λ e. e ≡ CborError.TooDeep → IsTooDeepEncoding limit bytes.now (λ v. (rest : List ℕ) × BeginsWith bytes.now rest v)) }
     {
         item_of(alloc, bytes, limit)
     }
@@ -123,7 +123,7 @@ impl<'a> StandaloneItem<'a> {
     pub fn from_cbor(alloc: Global, bytes: &[u8]) -> Result<StandaloneItem<'a>, Fault<CborError>>
         ensures accepted { IfOk result (λ t. (w : Tree OneItem) × IsDecoded NESTING_LIMIT (Enc bytes.now) w × (standalone_tree t ≡ alone w)) }
         ensures refused { IfTold result (λ e. e ≢ CborError.TooDeep → NoneIs (Enc bytes.now)) }
-        ensures too_deep { IfTold result (λ e. e ≡ CborError.TooDeep → IsTooDeep NESTING_LIMIT bytes.now (Enc bytes.now)) }
+        ensures too_deep { IfTold result (λ e. e ≡ CborError.TooDeep → IsTooDeepEncoding NESTING_LIMIT bytes.now (Enc bytes.now)) }
     {
         StandaloneItem::from_cbor_within(alloc, bytes, NESTING_LIMIT)
     }
@@ -136,7 +136,7 @@ impl<'a> StandaloneItem<'a> {
     ) -> Result<StandaloneItem<'a>, Fault<CborError>>
         ensures accepted { IfOk result (λ t. (w : Tree OneItem) × IsDecoded limit (Enc bytes.now) w × (standalone_tree t ≡ alone w)) }
         ensures refused { IfTold result (λ e. e ≢ CborError.TooDeep → NoneIs (Enc bytes.now)) }
-        ensures too_deep { IfTold result (λ e. e ≡ CborError.TooDeep → IsTooDeep limit bytes.now (Enc bytes.now)) }
+        ensures too_deep { IfTold result (λ e. e ≡ CborError.TooDeep → IsTooDeepEncoding limit bytes.now (Enc bytes.now)) }
     {
         let item = Item::from_cbor_within(alloc, bytes, limit)?;
         Ok(StandaloneItem::from(item))
@@ -147,9 +147,9 @@ impl<'a> StandaloneItem<'a> {
         alloc: Global,
         bytes: &[u8],
     ) -> Result<(StandaloneItem<'a>, &[u8]), Fault<CborError>>
-        ensures accepted { IfOk result (λ x. (w : Tree OneItem) × IsDecoded NESTING_LIMIT (Begins bytes.now x.1.now) w × (standalone_tree x.0 ≡ alone w)) }
-        ensures refused { IfTold result (λ e. e ≢ CborError.TooDeep → NoneIs (λ v. (rest : List ℕ) × Begins bytes.now rest v)) }
-        ensures too_deep { IfTold result (λ e. e ≡ CborError.TooDeep → IsTooDeep NESTING_LIMIT bytes.now (λ v. (rest : List ℕ) × Begins bytes.now rest v)) }
+        ensures accepted { IfOk result (λ x. (w : Tree OneItem) × IsDecoded NESTING_LIMIT (BeginsWith bytes.now x.1.now) w × (standalone_tree x.0 ≡ alone w)) }
+        ensures refused { IfTold result (λ e. e ≢ CborError.TooDeep → NoneIs (λ v. (rest : List ℕ) × BeginsWith bytes.now rest v)) }
+        ensures too_deep { IfTold result (λ e. e ≡ CborError.TooDeep → IsTooDeepEncoding NESTING_LIMIT bytes.now (λ v. (rest : List ℕ) × BeginsWith bytes.now rest v)) }
     {
         StandaloneItem::from_cbor_with_rest_within(alloc, bytes, NESTING_LIMIT)
     }
@@ -160,9 +160,9 @@ impl<'a> StandaloneItem<'a> {
         bytes: &[u8],
         limit: usize,
     ) -> Result<(StandaloneItem<'a>, &[u8]), Fault<CborError>>
-        ensures accepted { IfOk result (λ x. (w : Tree OneItem) × IsDecoded limit (Begins bytes.now x.1.now) w × (standalone_tree x.0 ≡ alone w)) }
-        ensures refused { IfTold result (λ e. e ≢ CborError.TooDeep → NoneIs (λ v. (rest : List ℕ) × Begins bytes.now rest v)) }
-        ensures too_deep { IfTold result (λ e. e ≡ CborError.TooDeep → IsTooDeep limit bytes.now (λ v. (rest : List ℕ) × Begins bytes.now rest v)) }
+        ensures accepted { IfOk result (λ x. (w : Tree OneItem) × IsDecoded limit (BeginsWith bytes.now x.1.now) w × (standalone_tree x.0 ≡ alone w)) }
+        ensures refused { IfTold result (λ e. e ≢ CborError.TooDeep → NoneIs (λ v. (rest : List ℕ) × BeginsWith bytes.now rest v)) }
+        ensures too_deep { IfTold result (λ e. e ≡ CborError.TooDeep → IsTooDeepEncoding limit bytes.now (λ v. (rest : List ℕ) × BeginsWith bytes.now rest v)) }
     {
         let (item, rest) = Item::from_cbor_with_rest_within(alloc, bytes, limit)?;
         Ok((StandaloneItem::from(item), rest))

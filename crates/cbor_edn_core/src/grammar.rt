@@ -13,7 +13,7 @@ ghost use Rattle.cbor_edn_parts.specs.Refusals.{IfTold};
 ghost use Rattle.cbor_edn_parts.specs.code.Text.{text_bytes};
 ghost use Rattle.cbor_edn_core.specs.Borrowed.{BorrowsItem, BorrowsList, BorrowsItems, BorrowsPair, BorrowsPairList, BorrowsPairs, BorrowsPiece, BorrowsString, BorrowsStream, BorrowsStrings, BorrowsSequence, BorrowsStandalone};
 ghost use Rattle.cbor_edn_core.specs.Items.{Elements, Pairs as Keyed, Strings as Chunks, Array as Bracket, Map as Brace};
-ghost use Rattle.cbor_edn_core.specs.code.ParserResults.{Reads, Lands, ReadsEnd, LandsEnd, CostsEnd, CostsEndAhead, CostsAhead, IsPushed, IsByteAt, IsUnclosed, behind_colon, Parts, LandsParted, CostsParted};
+ghost use Rattle.cbor_edn_core.specs.code.ParserResults.{Reads, Lands, ReadsEnd, LandsEnd, CostsEnd, CostsEndAhead, CostsAhead, IsPushed, IsByteAt, IsUnclosed, behind_colon, ReadsSeparator, LandsSeparator, CostsSeparator};
 ghost use Rattle.cbor_edn_core.specs.code.Reading.{reads, number_item, word_item, enclosed_item, stream_item, starts_string, word_at};
 ghost use Rattle.cbor_edn_core.specs.Trees.{OneItem, OnePiece, OneString, OneEntry, Inside, Rest, Seq, Standalone};
 ghost use Rattle.cbor_edn_core.specs.View.{texts, item_tree, view_list, view_items, view_pair, view_pair_list, view_pairs, view_piece, view_string, view_stream, view_strings, sequence_tree, standalone_tree};
@@ -331,7 +331,7 @@ fn items<'a>(
     let mut at = from;
     'items: loop {
         let read = item(alloc, text, at, limit, looks)?;
-        let (item, soc, next) = parted(text, read, looks)?;
+        let (item, soc, next) = with_separator(text, read, looks)?;
         if closes(text, next, looks) {
             let last = item;
             return Ok((Items { row, last, soc }, next));
@@ -360,7 +360,7 @@ fn pairs<'a>(
     let mut at = from;
     'pairs: loop {
         let read = pair(alloc, text, at, limit, looks)?;
-        let (pair, soc, next) = parted(text, read, looks)?;
+        let (pair, soc, next) = with_separator(text, read, looks)?;
         if closes(text, next, looks) {
             let last = pair;
             return Ok((Pairs { row, last, soc }, next));
@@ -389,7 +389,7 @@ fn strings<'a>(
     let mut at = from;
     'strings: loop {
         let read = string(alloc, text, at, limit, looks)?;
-        let (string, soc, next) = parted(text, read, looks)?;
+        let (string, soc, next) = with_separator(text, read, looks)?;
         if closes(text, next, looks) {
             let last = string;
             return Ok((Strings { row, last, soc }, next));
@@ -400,17 +400,17 @@ fn strings<'a>(
 }
 
 /// An entry that was read, with the space and the comma behind it.
-fn parted<'a, T: Drop>(
+fn with_separator<'a, T: Drop>(
     text: &Text<'a>,
     read: (T, End),
     looks: &mut Looks,
 ) -> Result<(T, Soc<'a>, usize), Fault<Refusal>>
     requires { IsEnd (text_bytes text.now) read.1 }
-    ensures value { Parts (text_bytes text.now) result read.1.item }
+    ensures value { ReadsSeparator (text_bytes text.now) result read.1.item }
     ensures entry { IfOk result (λ p. p.0 ≡ read.0) }
     ensures borrowed { IfOk result (λ p. BorrowsSoc p.1) }
-    ensures place { LandsParted (text_bytes text.now) read.1.item result }
-    ensures cost { CostsParted (text_bytes text.now) (reached read.1) looks.old.count looks.new.count result }
+    ensures place { LandsSeparator (text_bytes text.now) read.1.item result }
+    ensures cost { CostsSeparator (text_bytes text.now) (reached read.1) looks.old.count looks.new.count result }
 {
     let (entry, end) = read;
     let (soc, next) = separator_behind(text, end, looks)?;

@@ -1,5 +1,5 @@
 //! Laws: each function's contract is one, and its body does nothing.
-ghost use Rattle.cbor_edn_core.specs.BareLaws.{UnmarkedIsBare, UnmarkedStaysValid, BareMeans};
+ghost use Rattle.cbor_edn_core.specs.BareLaws.{WithoutIndicatorsIsBare, WithoutIndicatorsStaysValid, BareMeans};
 ghost use Rattle.cbor_edn_core.specs.CborLaws.{OneEncoding, ItemMeans, SpelledMeans};
 ghost use Rattle.cbor_edn_core.specs.Fewer.{FewerMean};
 ghost use Rattle.cbor_edn_core.specs.LayoutLaws.{KeepsItems, StaysValid, SpellsTheSame, CommentKeepsItems, CommentStaysValid, ForgetsLayout, SameTwice, DecodedIsRegular, OneRegularTree, MeansTheSame};
@@ -96,8 +96,8 @@ pub fn decoded_layout()
 /// Removal of indicators leaves the bare items, and where items meant a value these mean one that is the same but for its heads. So do
 /// those that are left where it stops on its way.
 pub fn bare_items()
-    ensures items { UnmarkedIsBare }
-    ensures valid { UnmarkedStaysValid }
+    ensures items { WithoutIndicatorsIsBare }
+    ensures valid { WithoutIndicatorsStaysValid }
     ensures meaning { BareMeans }
     ensures stopped { FewerMean }
 {}

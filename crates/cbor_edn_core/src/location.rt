@@ -19,13 +19,13 @@ pub(crate) fn located(text: &Text<'_>, refusal: Refusal, looks: &mut Looks) -> P
     let mut line = 1;
     let mut column = 1;
     'bytes: for at in 0..refusal.at {
-        (line, column) = behind(text.byte(at, looks), line, column);
+        (line, column) = advanced(text.byte(at, looks), line, column);
     }
     ParseError::new(refusal.kind, refusal.at, line, column)
 }
 
 /// The line and the column behind a byte.
-fn behind(byte: Option<u8>, line: usize, column: usize) -> (usize, usize)
+fn advanced(byte: Option<u8>, line: usize, column: usize) -> (usize, usize)
     requires lines { line < 2 ^ 64 - 1 }
     requires columns { column < 2 ^ 64 - 1 }
     ensures { IfSome byte (λ c. (result.0, result.1) ≡ place_behind c line column) }

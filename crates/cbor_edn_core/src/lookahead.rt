@@ -4,13 +4,13 @@ ghost use Rattle.std.specs.Str.{IsCharBoundary};
 ghost use Rattle.cbor_edn_parts.specs.Bytes.{is_closed, closing, kind};
 ghost use Rattle.cbor_edn_parts.specs.code.Text.{text_bytes};
 ghost use Rattle.cbor_edn_parts.specs.Leaves.{s_bytes, BorrowsS};
-ghost use Rattle.cbor_edn_core.specs.Borrowed.{BorrowsHead};
+ghost use Rattle.cbor_edn_core.specs.Borrowed.{BorrowsListHead};
 ghost use Rattle.cbor_edn_core.specs.code.ParserResults.{IsNotAt, IsByteAt, ahead};
 ghost use Rattle.cbor_edn_core.specs.code.Lookahead.{Opens, OpensWith, Looked, digit_in_front};
 ghost use Rattle.cbor_edn_core.specs.code.Reading as reading;
-ghost use Rattle.cbor_edn_core.specs.code.Reading.{head_of};
+ghost use Rattle.cbor_edn_core.specs.code.Reading.{list_head_of};
 ghost use Rattle.cbor_edn_core.specs.Trees as trees;
-ghost use Rattle.cbor_edn_core.specs.View.{texts, view_head};
+ghost use Rattle.cbor_edn_core.specs.View.{texts, view_list_head};
 ghost use Rattle.cbor_edn_parts.specs.declared.error.ParseErrorKind.TheVariants.{Invalid};
 
 use crate::word::{NamedSimple, NonFinite, Word};
@@ -94,7 +94,7 @@ fn word_at(text: &Text<'_>, at: usize, word: Word, looks: &mut Looks) -> Option<
     ensures found { IfSome result (λ to. (at < to) × (looks.new.count + at ≡ looks.old.count + to + 1)) }
     ensures missed { IfNone result ((looks.old.count ≤ looks.new.count) × (looks.new.count ≤ looks.old.count + ahead (text_bytes text.now) at + 1)) }
 {
-    let to = behind(text, at, word.as_str().as_bytes(), looks)?;
+    let to = behind_bytes(text, at, word.as_str().as_bytes(), looks)?;
     if is_prefix(text, to, looks) {
         None
     } else {
@@ -103,17 +103,22 @@ fn word_at(text: &Text<'_>, at: usize, word: Word, looks: &mut Looks) -> Option<
 }
 
 /// The place behind ASCII bytes, where they stand at a place.
-fn behind(text: &Text<'_>, at: usize, bytes: &[u8], looks: &mut Looks) -> Option<usize>
+fn behind_bytes(text: &Text<'_>, at: usize, bytes: &[u8], looks: &mut Looks) -> Option<usize>
     requires begins { IsCharBoundary (text_bytes text.now) at }
     requires ascii { All (λ b. b < 128) bytes.now }
-    ensures some { IfSome result (λ to. (reading.behind bytes.now (drop at (text_bytes text.now)) ≡ Some (drop to (text_bytes text.now))) × IsCharBoundary (text_bytes text.now) to) }
-    ensures none { IfNone result (reading.behind bytes.now (drop at (text_bytes text.now)) ≡ None) }
+    ensures some { IfSome result (λ to. (reading.behind_bytes bytes.now (drop at (text_bytes text.now)) ≡ Some (drop to (text_bytes text.now))) × IsCharBoundary (text_bytes text.now) to) }
+    ensures none { IfNone result (reading.behind_bytes bytes.now (drop at (text_bytes text.now)) ≡ None) }
     ensures found { IfSome result (λ to. (to ≡ at + length bytes.now) × (looks.new.count ≡ looks.old.count + length bytes.now)) }
     ensures missed { IfNone result ((looks.old.count ≤ looks.new.count) × (looks.new.count ≤ looks.old.count + length bytes.now) × (looks.new.count + at ≤ looks.old.count + length (text_bytes text.now) + 1)) }
 {
     match bytes {
         [] => Some(at),
-        [first, rest @ ..] if is_at(text, at, *first, looks) => behind(text, at + 1, rest, looks),
+        [first, rest @ ..] if is_at(text, at, *first, looks) => behind_bytes(
+            text,
+            at + 1,
+            rest,
+            looks,
+        ),
         _ => None,
     }
 }
@@ -194,9 +199,9 @@ pub(crate) fn marked<'a>(
     indicator: Option<Indicator>,
     s: S<'a>,
 ) -> Option<(Option<(Indicator, Ms<'a>)>, S<'a>)>
-    ensures some { IfSome result (λ p. head_of indicator (s_bytes s.entry) ≡ Ok (view_head texts p.0, s_bytes p.1)) }
-    ensures none { IfNone result (head_of indicator (s_bytes s.entry) ≡ Err Invalid) }
-    ensures borrowed { BorrowsS s.entry → IfSome result (λ p. BorrowsHead p.0 × BorrowsS p.1) }
+    ensures some { IfSome result (λ p. list_head_of indicator (s_bytes s.entry) ≡ Ok (view_list_head texts p.0, s_bytes p.1)) }
+    ensures none { IfNone result (list_head_of indicator (s_bytes s.entry) ≡ Err Invalid) }
+    ensures borrowed { BorrowsS s.entry → IfSome result (λ p. BorrowsListHead p.0 × BorrowsS p.1) }
 {
     match indicator {
         None => Some((None, s)),

@@ -2,9 +2,9 @@
 ghost use Rattle.std.specs.Prelude.{◌≡◌, ◌++◌, OnOk, IfOk};
 ghost use Rattle.std.specs.String.{string_bytes};
 ghost use Rattle.cbor_edn_parts.specs.Indicator.{indicator_text};
-ghost use Rattle.cbor_edn_core.specs.Trees.{text, label_text, head_text, items};
+ghost use Rattle.cbor_edn_core.specs.Trees.{text, label_text, list_head_text, items};
 ghost use Rattle.cbor_edn_core.specs.Spelling.{Spells, SpellsSequence, SpellsOne};
-ghost use Rattle.cbor_edn_core.specs.View.{texts, view_head, view_list, view_items, row_text, view_pair_list, view_pairs, view_pair, pair_row_text, view_string, view_piece, piece_row_text, view_stream, view_strings, string_row_text, item_tree, standalone_tree, sequence_tree};
+ghost use Rattle.cbor_edn_core.specs.View.{texts, view_list_head, view_list, view_items, row_text, view_pair_list, view_pairs, view_pair, pair_row_text, view_string, view_piece, piece_row_text, view_stream, view_strings, string_row_text, item_tree, standalone_tree, sequence_tree};
 
 use crate::tree::{
     CborString, Indicator, InnerItem, Item, ItemList, Items, Kp, LabelKind, PairList, Pairs, Piece,
@@ -92,8 +92,8 @@ fn push_label(out: &mut String, label: LabelKind) -> Result<(), AllocError>
     }
 }
 
-fn push_head(out: &mut String, head: &Option<(Indicator, Ms<'_>)>) -> Result<(), AllocError>
-    ensures { OnOk result (string_bytes out.new ≡ string_bytes out.old ++ head_text (view_head texts head.now)) }
+fn push_list_head(out: &mut String, head: &Option<(Indicator, Ms<'_>)>) -> Result<(), AllocError>
+    ensures { OnOk result (string_bytes out.new ≡ string_bytes out.old ++ list_head_text (view_list_head texts head.now)) }
 {
     match head {
         None => Ok(()),
@@ -222,7 +222,7 @@ fn push_list(out: &mut String, list: &ItemList<'_>) -> Result<(), AllocError>
 {
     match list {
         ItemList::Present { head, s, items } => {
-            push_head(out, head)?;
+            push_list_head(out, head)?;
             out.push_str(s.as_str())?;
             push_items(out, items)
         }
@@ -262,7 +262,7 @@ fn push_pair_list(out: &mut String, list: &PairList<'_>) -> Result<(), AllocErro
 {
     match list {
         PairList::Present { head, s, pairs } => {
-            push_head(out, head)?;
+            push_list_head(out, head)?;
             out.push_str(s.as_str())?;
             push_pairs(out, pairs)
         }

@@ -4,7 +4,7 @@ ghost use Rattle.cbor_edn_parts.specs.code.ContentReading.{literal_content};
 ghost use Rattle.cbor_edn_parts.specs.Leaves.{literal_bytes, number_bytes};
 ghost use Rattle.cbor_edn_core.specs.Items as nodes;
 ghost use Rattle.cbor_edn_core.specs.Trees as trees;
-ghost use Rattle.cbor_edn_core.specs.View.{texts, view_list, view_items, view_pair_list, view_pairs, view_pair, view_head, view_piece, view_string, view_strings, seen, seen_pair, seen_piece, seen_string, item_tree, standalone_tree, sequence_tree};
+ghost use Rattle.cbor_edn_core.specs.View.{texts, view_list, view_items, view_pair_list, view_pairs, view_pair, view_list_head, view_piece, view_string, view_strings, seen, seen_pair, seen_piece, seen_string, item_tree, standalone_tree, sequence_tree};
 ghost use Rattle.cbor_edn_core.specs.Value.{AreBytes, Value, Values, encoding, encodings, pair_encodings, Enc, EncAll};
 ghost use Rattle.cbor_edn_core.specs.Meaning as meaning;
 ghost use Rattle.cbor_edn_core.specs.Meaning.{NoEncoding, means, length_of};
@@ -153,7 +153,7 @@ fn push_number(
 
 /// The indicator of a list with entries.
 fn mark_of(head: &Option<(Indicator, Ms<'_>)>) -> Option<Indicator>
-    ensures { result ≡ trees.mark (view_head texts head.now) }
+    ensures { result ≡ trees.mark (view_list_head texts head.now) }
 {
     match head {
         None => None,

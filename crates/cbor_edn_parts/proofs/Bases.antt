@@ -8,7 +8,7 @@ use Rattle.std.proofs.lemmas.List.Elements.{All-head, All-tail, All-cons}
 use Rattle.std.specs.Prelude.{All, ◌↔◌, bit_or, if◌then◌else◌, ◌&&◌}
 use Rattle.cbor_edn_parts.specs.Contents.{Alphabet, AreSymbols, end, IsBase, bits_of, base64_symbol, base32_symbol, base32hex_symbol}
 use Rattle.cbor_edn_parts.specs.code.ContentReading.{base_bytes}
-use Rattle.cbor_edn_parts.specs.Contents.{joined as joined_bits, ignored as ignored_symbol, symbol as a_symbol}
+use Rattle.cbor_edn_parts.specs.Contents.{joined_bits, ignored as ignored_symbol, symbol as a_symbol}
 use Rattle.cbor_edn_parts.proofs.Bits.{length-bits_of, bits_split, same_bits, zero_bits, no_bits}
 use Rattle.cbor_edn_parts.specs.code.Alphabets.{alphabet}
 use Rattle.cbor_edn_parts.specs.declared.string.base.Alphabet as code

@@ -6,7 +6,7 @@ use Rattle.std.proofs.Math.Seq.{drop-cons}
 use Rattle.std.proofs.lemmas.Bool.Decides.{nat_tests}
 use Rattle.std.proofs.lemmas.List.{take_more, append-nil}
 use Rattle.std.proofs.lemmas.Str.{IsCharBoundary-before_ascii, IsCharBoundary-after_ascii}
-use Rattle.cbor_edn_parts.specs.Comments.{is_blank, past, is_between, from_first, unless_last, to_last, is_comma, in_front, behind}
+use Rattle.cbor_edn_parts.specs.Comments.{is_blank, past, is_between, from_first, unless_last, to_last, is_comma, up_to_comma, past_comma}
 use Rattle.cbor_edn_parts.specs.declared.space.Within.{Within}
 use Rattle.cbor_edn_parts.specs.declared.space.Within.TheVariants.{Between, InSlashes, InHash}
 
@@ -66,24 +66,24 @@ other_here x kept m i lt e =
     ap (λ t. kept_with kept (take i x) (to_last m t)) (next_place x i lt)
     ∙ (kept_more kept (take i x) m (get_or x i 0) (drop (i + 1) x) e ∙ ap (λ f. kept_with f f (to_last (past m (get_or x i 0)) (drop (i + 1) x))) (sym (take_more x i 0 lt)))
 
-pub front_on : (x : List ℕ) (m : Within) (i : ℕ) → i < length x → is_comma m (get_or x i 0) ≡ false → take i x ++ in_front m (drop i x) ≡ take (i + 1) x ++ in_front (past m (get_or x i 0)) (drop (i + 1) x)
-unfolding in_front
+pub front_on : (x : List ℕ) (m : Within) (i : ℕ) → i < length x → is_comma m (get_or x i 0) ≡ false → take i x ++ up_to_comma m (drop i x) ≡ take (i + 1) x ++ up_to_comma (past m (get_or x i 0)) (drop (i + 1) x)
+unfolding up_to_comma
 front_on x m i lt e =
-    let r : List ℕ = in_front (past m (get_or x i 0)) (drop (i + 1) x) in
-    ap (λ t. take i x ++ in_front m t) (next_place x i lt)
+    let r : List ℕ = up_to_comma (past m (get_or x i 0)) (drop (i + 1) x) in
+    ap (λ t. take i x ++ up_to_comma m t) (next_place x i lt)
     ∙ rw e (sym (append_assoc (take i x) (get_or x i 0 ∷ []) r) ∙ ap (◌++ r) (sym (take_more x i 0 lt)))
 
-pub front_found : (x : List ℕ) (m : Within) (i : ℕ) → i < length x → is_comma m (get_or x i 0) ≡ true → take i x ++ in_front m (drop i x) ≡ take i x
-unfolding in_front
-front_found x m i lt e = ap (λ t. take i x ++ in_front m t) (next_place x i lt) ∙ rw e (append-nil (take i x))
+pub front_found : (x : List ℕ) (m : Within) (i : ℕ) → i < length x → is_comma m (get_or x i 0) ≡ true → take i x ++ up_to_comma m (drop i x) ≡ take i x
+unfolding up_to_comma
+front_found x m i lt e = ap (λ t. take i x ++ up_to_comma m t) (next_place x i lt) ∙ rw e (append-nil (take i x))
 
-pub behind_on : (x : List ℕ) (m : Within) (i : ℕ) → i < length x → is_comma m (get_or x i 0) ≡ false → behind m (drop i x) ≡ behind (past m (get_or x i 0)) (drop (i + 1) x)
-unfolding behind
-behind_on x m i lt e = ap (behind m) (next_place x i lt) ∙ rw e refl
+pub behind_on : (x : List ℕ) (m : Within) (i : ℕ) → i < length x → is_comma m (get_or x i 0) ≡ false → past_comma m (drop i x) ≡ past_comma (past m (get_or x i 0)) (drop (i + 1) x)
+unfolding past_comma
+behind_on x m i lt e = ap (past_comma m) (next_place x i lt) ∙ rw e refl
 
-pub behind_found : (x : List ℕ) (m : Within) (i : ℕ) → i < length x → is_comma m (get_or x i 0) ≡ true → behind m (drop i x) ≡ drop (i + 1) x
-unfolding behind
-behind_found x m i lt e = ap (behind m) (next_place x i lt) ∙ rw e refl
+pub behind_found : (x : List ℕ) (m : Within) (i : ℕ) → i < length x → is_comma m (get_or x i 0) ≡ true → past_comma m (drop i x) ≡ drop (i + 1) x
+unfolding past_comma
+behind_found x m i lt e = ap (past_comma m) (next_place x i lt) ∙ rw e refl
 
 -- ---- where a text may be cut
 

@@ -5,7 +5,7 @@ use mathlib.Core.Logic.{⊎_elim}
 use Rattle.std.proofs.lemmas.Bool.Decides.{nat_tests, Decides-or, Decides-eqb}
 use Rattle.std.proofs.lemmas.List.{append-nil}
 use Rattle.cbor_edn_parts.specs.Space.{IsBlank, InSlashes, InHash, Each, end, next, IsComment, slashes, hash, IsS, empty, blank, comment}
-use Rattle.cbor_edn_parts.specs.Comments.{BeginsWithComment, EndsWithComment, IsCommentsOf, is_blank, past, from_first, unless_last, to_last, comments_of, is_comma, in_front, behind, OneCommentsOf, CutAtComma}
+use Rattle.cbor_edn_parts.specs.Comments.{BeginsWithComment, EndsWithComment, IsCommentsOf, is_blank, past, from_first, unless_last, to_last, comments_of, is_comma, up_to_comma, past_comma, OneCommentsOf, CutAtComma}
 use Rattle.cbor_edn_parts.specs.declared.space.Within.TheVariants as within
 
 -- ---- bytes
@@ -203,45 +203,45 @@ one_comments_of x s t = (λ h. sym (comments_only x t h), λ e. subst (IsComment
 
 -- ---- the comma
 
-in_front-in_slashes : {x : List ℕ} (y : List ℕ) → Each InSlashes x → in_front within.InSlashes ((x ++ (47 ∷ [])) ++ y) ≡ (x ++ (47 ∷ [])) ++ in_front within.Between y
-unfolding in_front
+in_front-in_slashes : {x : List ℕ} (y : List ℕ) → Each InSlashes x → up_to_comma within.InSlashes ((x ++ (47 ∷ [])) ++ y) ≡ (x ++ (47 ∷ [])) ++ up_to_comma within.Between y
+unfolding up_to_comma
 in_front-in_slashes y end = refl
 in_front-in_slashes y (next {c = c} h more) = rw (slashes_past c h.0) (ap (c ∷◌) (in_front-in_slashes y more))
 
-in_front-in_hash : {x : List ℕ} (y : List ℕ) → Each InHash x → in_front within.InHash ((x ++ (10 ∷ [])) ++ y) ≡ (x ++ (10 ∷ [])) ++ in_front within.Between y
-unfolding in_front
+in_front-in_hash : {x : List ℕ} (y : List ℕ) → Each InHash x → up_to_comma within.InHash ((x ++ (10 ∷ [])) ++ y) ≡ (x ++ (10 ∷ [])) ++ up_to_comma within.Between y
+unfolding up_to_comma
 in_front-in_hash y end = refl
 in_front-in_hash y (next {c = c} h more) = rw (hash_past c h) (ap (c ∷◌) (in_front-in_hash y more))
 
-in_front-space : {x : List ℕ} (y : List ℕ) → IsS x → in_front within.Between (x ++ y) ≡ x ++ in_front within.Between y
-unfolding in_front
+in_front-space : {x : List ℕ} (y : List ℕ) → IsS x → up_to_comma within.Between (x ++ y) ≡ x ++ up_to_comma within.Between y
+unfolding up_to_comma
 in_front-space y empty = refl
 in_front-space y (blank {c = c} {x = x} b s) = rw (blank_comma c (blank_is c b), blank_past c b) (ap (c ∷◌) (in_front-space y s))
-in_front-space y (comment {x = x} (slashes {x = c} h) s) = ap (λ t. 47 ∷ in_front within.InSlashes t) (append_assoc (c ++ (47 ∷ [])) x y) ∙ (ap (47 ∷◌) (in_front-in_slashes (x ++ y) h) ∙ (ap (λ t. 47 ∷ ((c ++ (47 ∷ [])) ++ t)) (in_front-space y s) ∙ ap (47 ∷◌) (sym (append_assoc (c ++ (47 ∷ [])) x _))))
-in_front-space y (comment {x = x} (hash {x = c} h) s) = ap (λ t. 35 ∷ in_front within.InHash t) (append_assoc (c ++ (10 ∷ [])) x y) ∙ (ap (35 ∷◌) (in_front-in_hash (x ++ y) h) ∙ (ap (λ t. 35 ∷ ((c ++ (10 ∷ [])) ++ t)) (in_front-space y s) ∙ ap (35 ∷◌) (sym (append_assoc (c ++ (10 ∷ [])) x _))))
+in_front-space y (comment {x = x} (slashes {x = c} h) s) = ap (λ t. 47 ∷ up_to_comma within.InSlashes t) (append_assoc (c ++ (47 ∷ [])) x y) ∙ (ap (47 ∷◌) (in_front-in_slashes (x ++ y) h) ∙ (ap (λ t. 47 ∷ ((c ++ (47 ∷ [])) ++ t)) (in_front-space y s) ∙ ap (47 ∷◌) (sym (append_assoc (c ++ (47 ∷ [])) x _))))
+in_front-space y (comment {x = x} (hash {x = c} h) s) = ap (λ t. 35 ∷ up_to_comma within.InHash t) (append_assoc (c ++ (10 ∷ [])) x y) ∙ (ap (35 ∷◌) (in_front-in_hash (x ++ y) h) ∙ (ap (λ t. 35 ∷ ((c ++ (10 ∷ [])) ++ t)) (in_front-space y s) ∙ ap (35 ∷◌) (sym (append_assoc (c ++ (10 ∷ [])) x _))))
 
-behind-in_slashes : {x : List ℕ} (y : List ℕ) → Each InSlashes x → behind within.InSlashes ((x ++ (47 ∷ [])) ++ y) ≡ behind within.Between y
-unfolding behind
+behind-in_slashes : {x : List ℕ} (y : List ℕ) → Each InSlashes x → past_comma within.InSlashes ((x ++ (47 ∷ [])) ++ y) ≡ past_comma within.Between y
+unfolding past_comma
 behind-in_slashes y end = refl
 behind-in_slashes y (next {c = c} h more) = rw (slashes_past c h.0) (behind-in_slashes y more)
 
-behind-in_hash : {x : List ℕ} (y : List ℕ) → Each InHash x → behind within.InHash ((x ++ (10 ∷ [])) ++ y) ≡ behind within.Between y
-unfolding behind
+behind-in_hash : {x : List ℕ} (y : List ℕ) → Each InHash x → past_comma within.InHash ((x ++ (10 ∷ [])) ++ y) ≡ past_comma within.Between y
+unfolding past_comma
 behind-in_hash y end = refl
 behind-in_hash y (next {c = c} h more) = rw (hash_past c h) (behind-in_hash y more)
 
-behind-space : {x : List ℕ} (y : List ℕ) → IsS x → behind within.Between (x ++ y) ≡ behind within.Between y
-unfolding behind
+behind-space : {x : List ℕ} (y : List ℕ) → IsS x → past_comma within.Between (x ++ y) ≡ past_comma within.Between y
+unfolding past_comma
 behind-space y empty = refl
 behind-space y (blank {c = c} {x = x} b s) = rw (blank_comma c (blank_is c b), blank_past c b) (behind-space y s)
-behind-space y (comment {x = x} (slashes {x = c} h) s) = ap (behind within.InSlashes) (append_assoc (c ++ (47 ∷ [])) x y) ∙ (behind-in_slashes (x ++ y) h ∙ behind-space y s)
-behind-space y (comment {x = x} (hash {x = c} h) s) = ap (behind within.InHash) (append_assoc (c ++ (10 ∷ [])) x y) ∙ (behind-in_hash (x ++ y) h ∙ behind-space y s)
+behind-space y (comment {x = x} (slashes {x = c} h) s) = ap (past_comma within.InSlashes) (append_assoc (c ++ (47 ∷ [])) x y) ∙ (behind-in_slashes (x ++ y) h ∙ behind-space y s)
+behind-space y (comment {x = x} (hash {x = c} h) s) = ap (past_comma within.InHash) (append_assoc (c ++ (10 ∷ [])) x y) ∙ (behind-in_hash (x ++ y) h ∙ behind-space y s)
 
 pub cut_at_comma : (x y : List ℕ) → CutAtComma x y
-unfolding in_front behind
+unfolding up_to_comma past_comma
 cut_at_comma x y = record {
   front = λ s. in_front-space (44 ∷ y) s ∙ append-nil x;
   back = λ s. behind-space (44 ∷ y) s;
-  alone = λ s. ap (in_front within.Between) (sym (append-nil x)) ∙ (in_front-space [] s ∙ append-nil x);
-  nothing = λ s. ap (behind within.Between) (sym (append-nil x)) ∙ behind-space [] s;
+  alone = λ s. ap (up_to_comma within.Between) (sym (append-nil x)) ∙ (in_front-space [] s ∙ append-nil x);
+  nothing = λ s. ap (past_comma within.Between) (sym (append-nil x)) ∙ behind-space [] s;
 }

@@ -9,7 +9,7 @@ use Rattle.cbor_edn_parts.specs.Space as set
 use Rattle.cbor_edn_parts.specs.Space.{IsBlank, Each, end, next, slashes, hash, IsS, empty, blank, comment}
 use Rattle.cbor_edn_parts.specs.code.SpaceTokens.{space_step}
 use Rattle.cbor_edn_parts.specs.Contents.{IsHexPairs, unended, pair, IsHex}
-use Rattle.cbor_edn_parts.specs.code.ContentReading.{hex_bytes, digit_at, behind}
+use Rattle.cbor_edn_parts.specs.code.ContentReading.{hex_bytes, digit_at, if_scanned}
 use Rattle.cbor_edn_parts.specs.Contents as contents
 use Rattle.cbor_edn_parts.specs.declared.space.Within.{Within}
 use Rattle.cbor_edn_parts.specs.declared.space.Within.TheVariants.{Between, InSlashes, InHash}
@@ -125,7 +125,7 @@ rest_digit c d t (Some h) bs is ih e =
     let m = mapped (16 * h + d) (hex_bytes Between None t) bs (sym (hex_second c t Between h d is) ∙ e) in
     ([], c, t, m.0, empty, ltb-true (digit_value c) 16 f.0, ih Between None m.0 m.1, refl, ap (λ n. (16 * h + n) ∷ m.0) f.1 ∙ m.2)
 
-rest_space : (m : Within) (h : Option ℕ) (c : ℕ) (t bs : List ℕ) (o : Option Within) → space_step (kind c) m ≡ o → Found t → behind o (λ n. hex_bytes n h t) ≡ Some bs → Rest m h (c ∷ t) bs
+rest_space : (m : Within) (h : Option ℕ) (c : ℕ) (t bs : List ℕ) (o : Option Within) → space_step (kind c) m ≡ o → Found t → if_scanned o (λ n. hex_bytes n h t) ≡ Some bs → Rest m h (c ∷ t) bs
 rest_space m h c t bs None s ih e = absurd (cc)
 rest_space m h c t bs (Some n) s ih e = moved m n h c t bs (step-from m n c s) (ih n h bs e)
 

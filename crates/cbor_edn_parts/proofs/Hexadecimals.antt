@@ -5,7 +5,7 @@ use Rattle.std.specs.Char.{digit_value}
 use Rattle.std.proofs.lemmas.Bool.Decides.{nat_tests}
 use Rattle.cbor_edn_parts.specs.Bytes.{kind}
 use Rattle.cbor_edn_parts.specs.code.SpaceTokens.{space_step}
-use Rattle.cbor_edn_parts.specs.code.ContentReading.{hex_bytes, digit_at, behind}
+use Rattle.cbor_edn_parts.specs.code.ContentReading.{hex_bytes, digit_at, if_scanned}
 use Rattle.cbor_edn_parts.specs.declared.space.Within.{Within}
 use Rattle.cbor_edn_parts.specs.declared.space.Within.TheVariants.{Between, InSlashes, InHash}
 
@@ -36,7 +36,7 @@ module _ (c : ℕ) (t : List ℕ) where
   hex_second InHash h d e = absurd (cc)
 
   -- a byte that is no digit stands in space, or nowhere
-  pub hex_space : (m : Within) (h : Option ℕ) → None ≡ digit_at m c → hex_bytes m h (c ∷ t) ≡ behind (space_step (kind c) m) (λ n. hex_bytes n h t)
+  pub hex_space : (m : Within) (h : Option ℕ) → None ≡ digit_at m c → hex_bytes m h (c ∷ t) ≡ if_scanned (space_step (kind c) m) (λ n. hex_bytes n h t)
   unfolding hex_bytes
   hex_space Between None e = rw (no_digit (ltb (digit_value c) 16) (digit_value c) e)
   hex_space Between (Some d) e = rw (no_digit (ltb (digit_value c) 16) (digit_value c) e)
@@ -44,10 +44,10 @@ module _ (c : ℕ) (t : List ℕ) where
   hex_space InHash h e = refl
 
   pub hex_on : (m n : Within) (h : Option ℕ) → None ≡ digit_at m c → Some n ≡ space_step (kind c) m → hex_bytes m h (c ∷ t) ≡ hex_bytes n h t
-  hex_on m n h e s = hex_space m h e ∙ ap (λ o. behind o (λ n. hex_bytes n h t)) (sym s)
+  hex_on m n h e s = hex_space m h e ∙ ap (λ o. if_scanned o (λ n. hex_bytes n h t)) (sym s)
 
   pub hex_refused : (m : Within) (h : Option ℕ) → None ≡ digit_at m c → None ≡ space_step (kind c) m → hex_bytes m h (c ∷ t) ≡ None
-  hex_refused m h e s = hex_space m h e ∙ ap (λ o. behind o (λ n. hex_bytes n h t)) (sym s)
+  hex_refused m h e s = hex_space m h e ∙ ap (λ o. if_scanned o (λ n. hex_bytes n h t)) (sym s)
 
 pub hex_all : (m : Within) (h : Option ℕ) → false ≡ is_some h → (m ≡ Between) ⊎ (m ≡ InHash) → hex_bytes m h [] ≡ Some []
 unfolding hex_bytes

@@ -17,7 +17,7 @@ use Rattle.cbor_edn_parts.specs.code.NumberTokens.{number_step}
 use Rattle.cbor_edn_parts.specs.declared.number.Reached.{Reached}
 use Rattle.cbor_edn_parts.specs.declared.number.Reached.TheVariants.{Signed}
 use Rattle.cbor_edn_parts.proofs.ByteKinds.{differs}
-use Rattle.cbor_edn_parts.proofs.NumberTexts.{parted, behind_sign-is, behind_prefix, after_prefix}
+use Rattle.cbor_edn_parts.proofs.NumberTexts.{number_parts, behind_sign-is, behind_prefix, after_prefix}
 
 -- A fold from the left is the sum by places.
 pub number_after : (base n : ℕ) (ds : List ℕ) → digits_value_after base n ds ≡ n * base ^ length ds + number_of base ds
@@ -54,14 +54,14 @@ behind_sign PlusSign u = refl
 behind_sign MinusSign u = refl
 
 module _ (t : List ℕ) (n : IsNumber t) where
-  rest_accepted : Accepts tokens.number Signed (parted n).rest
-  rest_accepted = behind_sign-is (parted n).rest (parted n).rest_is
+  rest_accepted : Accepts tokens.number Signed (number_parts n).rest
+  rest_accepted = behind_sign-is (number_parts n).rest (number_parts n).rest_is
 
-  pub sign_of_is : sign_of t ≡ (parted n).sign
-  sign_of_is = ap sign_of (parted n).spelled ∙ sign_is (parted n).sign (parted n).rest rest_accepted
+  pub sign_of_is : sign_of t ≡ (number_parts n).sign
+  sign_of_is = ap sign_of (number_parts n).spelled ∙ sign_is (number_parts n).sign (number_parts n).rest rest_accepted
 
-  pub unsigned_of : unsigned t ≡ (parted n).rest
-  unsigned_of = ap (λ s. drop (length (sign_text s)) t) sign_of_is ∙ (ap (drop (length (sign_text (parted n).sign))) (parted n).spelled ∙ behind_sign (parted n).sign (parted n).rest)
+  pub unsigned_of : unsigned t ≡ (number_parts n).rest
+  unsigned_of = ap (λ s. drop (length (sign_text s)) t) sign_of_is ∙ (ap (drop (length (sign_text (number_parts n).sign))) (number_parts n).spelled ∙ behind_sign (number_parts n).sign (number_parts n).rest)
 
   unsigned_accepted : Accepts tokens.number Signed (unsigned t)
   unsigned_accepted = subst (Accepts tokens.number Signed) (sym unsigned_of) rest_accepted

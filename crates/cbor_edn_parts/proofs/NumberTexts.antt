@@ -596,13 +596,13 @@ pub record Parted (t : List ℕ) : Type 0 where
   pub rest_is : Unsigned rest
   pub spelled : t ≡ sign_text sign ++ rest
 
-abbrev pub parted : {t : List ℕ} → IsNumber t → Parted t
-parted (integer r) = record { sign = r.sign; rest = r.prefix ++ r.digits; rest_is = unsigned_integer r.base r.prefix r.digits r.prefix_is r.digits_are refl; spelled = r.spelled }
-parted (decimal r) = record { sign = r.sign; rest = r.mantissa ++ r.exponent; rest_is = unsigned_decimal r.mantissa r.exponent r.mantissa_is r.exponent_is refl; spelled = r.spelled }
-parted (hex_float r) = record { sign = r.sign; rest = r.prefix ++ (r.mantissa ++ r.exponent); rest_is = unsigned_hex r.prefix r.mantissa r.exponent r.prefix_is r.mantissa_is r.exponent_is refl; spelled = r.spelled }
+abbrev pub number_parts : {t : List ℕ} → IsNumber t → Parted t
+number_parts (integer r) = record { sign = r.sign; rest = r.prefix ++ r.digits; rest_is = unsigned_integer r.base r.prefix r.digits r.prefix_is r.digits_are refl; spelled = r.spelled }
+number_parts (decimal r) = record { sign = r.sign; rest = r.mantissa ++ r.exponent; rest_is = unsigned_decimal r.mantissa r.exponent r.mantissa_is r.exponent_is refl; spelled = r.spelled }
+number_parts (hex_float r) = record { sign = r.sign; rest = r.prefix ++ (r.mantissa ++ r.exponent); rest_is = unsigned_hex r.prefix r.mantissa r.exponent r.prefix_is r.mantissa_is r.exponent_is refl; spelled = r.spelled }
 
 pub number-is : {t : List ℕ} → IsNumber t → Is tokens.number t
-number-is n = let r = parted n in subst (Is tokens.number) (sym r.spelled) (signed-is r.sign r.rest r.rest_is)
+number-is n = let r = number_parts n in subst (Is tokens.number) (sym r.spelled) (signed-is r.sign r.rest r.rest_is)
 
 -- What is accepted is a number.
 named_by : (c x small large : ℕ) → c ≡ 48 → (x ≡ small) ⊎ (x ≡ large) → (c ∷ x ∷ [] ≡ 48 ∷ small ∷ []) ⊎ (c ∷ x ∷ [] ≡ 48 ∷ large ∷ [])

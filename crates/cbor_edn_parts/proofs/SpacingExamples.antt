@@ -1,7 +1,7 @@
 -- The comments of some space texts, and each cell of the table of spaces, computed.
 use Rattle.std.proofs.Common.{[], ◌≡◌, refl}
 use Rattle.std.specs.Prelude.{codes}
-use Rattle.cbor_edn_parts.specs.Comments.{from_first, to_last, comments_of, in_front, behind, before_comma, after_comma}
+use Rattle.cbor_edn_parts.specs.Comments.{from_first, to_last, comments_of, up_to_comma, past_comma, before_comma, after_comma}
 use Rattle.cbor_edn_parts.specs.Spacing.{S, MS, MSC, SOC, Least, Comments, OneLine, NewLine, OneSpace, line, spaced}
 
 -- From the first comment to the end of the last, with the line feed behind `#`, and without the blanks round them.
@@ -24,7 +24,7 @@ commas :
     × after_comma (codes "/,/ #,\n ,/,/") ≡ codes "/,/"
     × before_comma (codes "/,/ ") ≡ codes "/,/ "
     × after_comma (codes "/,/ ") ≡ []
-unfolding in_front behind
+unfolding up_to_comma past_comma
 commas = (refl, refl, refl, refl, refl, refl)
 
 -- S
@@ -39,7 +39,7 @@ optional :
     × spaced S OneLine (codes " \t") ≡ []
     × spaced S (NewLine 2) (codes " \t") ≡ codes "\n  "
     × spaced S OneSpace (codes " \t") ≡ codes " "
-unfolding from_first to_last in_front behind line
+unfolding from_first to_last up_to_comma past_comma line
 optional = (refl, refl, refl, refl, refl, refl, refl, refl, refl, refl)
 
 -- MS: never empty
@@ -54,7 +54,7 @@ mandatory :
     × spaced MS OneLine (codes "\t") ≡ codes " "
     × spaced MS (NewLine 2) (codes "\t") ≡ codes "\n  "
     × spaced MS OneSpace (codes "\t") ≡ codes " "
-unfolding from_first to_last in_front behind line
+unfolding from_first to_last up_to_comma past_comma line
 mandatory = (refl, refl, refl, refl, refl, refl, refl, refl, refl, refl)
 
 -- MSC: with a comma always, and the comments on its two sides; without a comma all of them stand in front of it
@@ -74,7 +74,7 @@ separators :
     × spaced MSC OneLine (codes " , ") ≡ codes ", "
     × spaced MSC (NewLine 2) (codes " , ") ≡ codes ",\n  "
     × spaced MSC OneSpace (codes " , ") ≡ codes " ,"
-unfolding from_first to_last in_front behind line
+unfolding from_first to_last up_to_comma past_comma line
 separators = (refl, refl, refl, refl, refl, refl, refl, refl, refl, refl, refl, refl, refl, refl, refl)
 
 -- SOC: without a comma always
@@ -89,5 +89,5 @@ ends :
     × spaced SOC OneLine (codes " , ") ≡ []
     × spaced SOC (NewLine 2) (codes " , ") ≡ codes "\n  "
     × spaced SOC OneSpace (codes " , ") ≡ codes " "
-unfolding from_first to_last in_front behind line
+unfolding from_first to_last up_to_comma past_comma line
 ends = (refl, refl, refl, refl, refl, refl, refl, refl, refl, refl)

@@ -64,20 +64,20 @@ comments_of x = to_last Between (from_first x)
 abbrev pub is_comma : Within → ℕ → Bool
 is_comma m c = is_between m && eqb c 44
 
-unfoldable pub in_front : Within → List ℕ → List ℕ
-in_front m [] = []
-in_front m (c ∷ x) = cond (is_comma m c) [] (c ∷ in_front (past m c) x)
+unfoldable pub up_to_comma : Within → List ℕ → List ℕ
+up_to_comma m [] = []
+up_to_comma m (c ∷ x) = cond (is_comma m c) [] (c ∷ up_to_comma (past m c) x)
 
-unfoldable pub behind : Within → List ℕ → List ℕ
-behind m [] = []
-behind m (c ∷ x) = cond (is_comma m c) x (behind (past m c) x)
+unfoldable pub past_comma : Within → List ℕ → List ℕ
+past_comma m [] = []
+past_comma m (c ∷ x) = cond (is_comma m c) x (past_comma (past m c) x)
 
 -- What stands in front of the comma of a separator, all of it where it has none, and what stands behind it.
 abbrev pub before_comma : List ℕ → List ℕ
-before_comma x = in_front Between x
+before_comma x = up_to_comma Between x
 
 abbrev pub after_comma : List ℕ → List ℕ
-after_comma x = behind Between x
+after_comma x = past_comma Between x
 
 -- ---- laws of these
 

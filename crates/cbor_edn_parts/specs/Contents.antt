@@ -72,13 +72,13 @@ pub data AreSymbols (a : Alphabet) : List ℕ → List ℕ → Type 0 where
   ignored : {t ss : List ℕ} → AreSymbols a t ss → AreSymbols a (61 ∷ t) ss
   symbol : {c s : ℕ} {t ss : List ℕ} → a.symbol c ≡ Some s → AreSymbols a t ss → AreSymbols a (c ∷ t) (s ∷ ss)
 
-abbrev pub joined : ℕ → List ℕ → List Bool
-joined k [] = []
-joined k (n ∷ ns) = bits_of k n ++ joined k ns
+abbrev pub joined_bits : ℕ → List ℕ → List Bool
+joined_bits k [] = []
+joined_bits k (n ∷ ns) = bits_of k n ++ joined_bits k ns
 
 -- The bits of the symbols, joined, are those of the bytes and then fewer than one symbol has, all of them zero.
 abbrev pub IsBase : Alphabet → List ℕ → List ℕ → Type 0
-IsBase a v bs = (ss : List ℕ) × (z : List Bool) × AreSymbols a v ss × All (λ b. b < 256) bs × (joined a.bits ss ≡ joined 8 bs ++ z) × (length z < a.bits) × All (λ b. b ≡ false) z
+IsBase a v bs = (ss : List ℕ) × (z : List Bool) × AreSymbols a v ss × All (λ b. b < 256) bs × (joined_bits a.bits ss ≡ joined_bits 8 bs ++ z) × (length z < a.bits) × All (λ b. b ≡ false) z
 
 -- ---- the content of a literal
 

@@ -3,7 +3,7 @@ ghost use Rattle.std.specs.Prelude.{◌≡◌, ◌≤◌, ◌+◌, ℕ, Bool, co
 ghost use Rattle.std.specs.Str.{IsCharBoundary};
 ghost use Rattle.cbor_edn_parts.specs.Bytes.{IsLong};
 ghost use Rattle.cbor_edn_parts.specs.code.Lex.{Table, munch};
-ghost use Rattle.cbor_edn_parts.specs.code.Scans.{Scans, Lands, Costs};
+ghost use Rattle.cbor_edn_parts.specs.code.Scans.{Scans, ScanLands, Costs};
 ghost use Rattle.cbor_edn_parts.specs.code.Text.{text_bytes};
 
 use crate::error::Refusal;
@@ -37,7 +37,7 @@ pub(crate) fn scan<'a, T: State>(
 ) -> Result<(&'a str, usize), Refusal>
     requires { IsCharBoundary (text_bytes text.now) from }
     ensures value { Scans (λ s. s.now) (text_bytes text.now) result (munch T.table start (drop from (text_bytes text.now))) }
-    ensures place { Lands (text_bytes text.now) from result }
+    ensures place { ScanLands (text_bytes text.now) from result }
     ensures cost { Costs 1 1 1 (text_bytes text.now) from looks.old.count looks.new.count result }
 {
     let (state, at) = run(start, text, from, looks);

@@ -12,11 +12,11 @@ use Rattle.cbor_edn_core.specs.declared.from_cbor.CborError.TheVariants.{TooDeep
 use Rattle.cbor_edn_core.specs.declared.from_cbor.head.Stop.{Stop}
 use Rattle.cbor_edn_core.specs.declared.from_cbor.head.Stop.TheVariants.{Break}
 use Rattle.cbor_edn_core.specs.Value.{Value, unsigned, negative, string, chunks, array, object, tag, simple, float, Values, no_values, value, Pairs, no_pairs, pair, Chunk, head, ArgumentFits, LengthFits, open_head, break, list_encoding, string_major, chunk_encoding, chunk_encodings, ChunkFits, ChunksFit, encoding, encodings, pair_encodings, values_len, pairs_len, Fits, ValuesFit, PairsFit, float_bits, simple_width, IsSimple, IsFloatWidth}
-use Rattle.cbor_edn_core.specs.code.CborReading.{◌>>=◌, Reads, Reader, Head, head_at, many, until, several, past, pair_at, string_by, simple_by, float_by, special_by, item_by, item_at, inner, Makes, simple_nesting}
+use Rattle.cbor_edn_core.specs.code.CborReading.{◌>>=◌, DecoderResult, Decoder, Head, head_at, many, until, several, past, pair_at, string_by, simple_by, float_by, special_by, item_by, item_at, inner, Makes, simple_nesting}
 use Rattle.cbor_edn_core.proofs.bytes.Nestings.{value_nesting, values_nesting, pairs_nesting}
 use Rattle.cbor_edn_core.proofs.bytes.CborHeads.{head_again, open_again}
 use Rattle.cbor_edn_core.proofs.bytes.CborSpecials.{one_byte, two_bytes, simple_fits, simple_shallow, float_fits, float_again}
-use Rattle.cbor_edn_core.proofs.bytes.CborOutcomes.{outcome, within, beyond, none, outcome_then, outcome_map, many_none, more, until_more_at, until_end_at, string_again, chunks_again, chunks_many, values_many, pairs_many, going}
+use Rattle.cbor_edn_core.proofs.bytes.CborOutcomes.{decoder_outcome, within, beyond, none, outcome_then, outcome_map, many_none, more, until_more_at, until_end_at, string_again, chunks_again, chunks_many, values_many, pairs_many, going}
 use Rattle.cbor_edn_core.proofs.bytes.CborValues.{values_of, pairs_of, list_of, pair_list_of, values_of_list, pairs_of_list, argument_width, makes, value_at, in_front_of}
 
 -- ---- an item by its head
@@ -35,7 +35,7 @@ inner_more m d =
     let less : suc d - 1 ≡ d = omega arith in
     rw (more, less) refl
 
-deeper : {X : Type 0} → (n limit : ℕ) (x : X) → outcome n limit x ≡ outcome (n + 1) (suc limit) x
+deeper : {X : Type 0} → (n limit : ℕ) (x : X) → decoder_outcome n limit x ≡ decoder_outcome (n + 1) (suc limit) x
 deeper n limit x =
     elim (cases_lt limit n) [
       | inl lt ↦ beyond n limit x lt ∙ sym (beyond (n + 1) (suc limit) x (omega arith))
@@ -43,18 +43,18 @@ deeper n limit x =
     ]
 
 -- what reads the entries of a list, and what is made of them
-record Lists (A : Type 0) (major : ℕ) (one : ℕ → Reader A) (make : Option Width → List A → Value) : Type 0 where
+record Lists (A : Type 0) (major : ℕ) (one : ℕ → Decoder A) (make : Option Width → List A → Value) : Type 0 where
   opened : (d : ℕ) (argument : Option (Width × ℕ)) (rest : List ℕ) → item_by makes (Some (value_at d)) major argument rest ≡ (several (one d) argument rest >>= λ xs. Ok (make (argument_width argument) xs.0, xs.1))
   closed : (argument : Option (Width × ℕ)) (rest : List ℕ) → item_by makes None major argument rest ≡ Err TooDeep
 
 -- the contents of a list are read again
-record Contents (A : Type 0) (one : ℕ → Reader A) (n depth : ℕ) (bytes : List ℕ) (xs : List A) : Type 0 where
-  counted : (d : ℕ) (rest : List ℕ) → many (one d) n (bytes ++ rest) ≡ outcome depth d (xs, rest)
-  ended : (d turns : ℕ) (rest : List ℕ) → n < turns → until Break (one d) turns (bytes ++ (255 ∷ rest)) ≡ outcome depth d (xs, rest)
+record Contents (A : Type 0) (one : ℕ → Decoder A) (n depth : ℕ) (bytes : List ℕ) (xs : List A) : Type 0 where
+  counted : (d : ℕ) (rest : List ℕ) → many (one d) n (bytes ++ rest) ≡ decoder_outcome depth d (xs, rest)
+  ended : (d turns : ℕ) (rest : List ℕ) → n < turns → until Break (one d) turns (bytes ++ (255 ∷ rest)) ≡ decoder_outcome depth d (xs, rest)
   long : n ≤ length bytes
 
-by_inner : {A : Type 0} (one : ℕ → Reader A) (make : Option Width → List A → Value) (major : ℕ) (lists : Lists A major one make) (depth : ℕ) (w : Option Width) (argument : Option (Width × ℕ)) (bytes after rest : List ℕ) (xs : List A) (limit : ℕ)
-    → argument_width argument ≡ w → head_at bytes ≡ Ok ((major, argument), after) → ((d : ℕ) → several (one d) argument after ≡ outcome depth d (xs, rest)) → value_at limit bytes ≡ outcome (depth + 1) limit (make w xs, rest)
+by_inner : {A : Type 0} (one : ℕ → Decoder A) (make : Option Width → List A → Value) (major : ℕ) (lists : Lists A major one make) (depth : ℕ) (w : Option Width) (argument : Option (Width × ℕ)) (bytes after rest : List ℕ) (xs : List A) (limit : ℕ)
+    → argument_width argument ≡ w → head_at bytes ≡ Ok ((major, argument), after) → ((d : ℕ) → several (one d) argument after ≡ decoder_outcome depth d (xs, rest)) → value_at limit bytes ≡ decoder_outcome (depth + 1) limit (make w xs, rest)
 by_inner one make major lists depth w argument bytes after rest xs zero w_is read inside =
     item_at_ok makes 0 bytes after (major, argument) read ∙ lists.closed argument after ∙ sym (beyond (depth + 1) 0 (make w xs, rest) (omega arith))
 by_inner {A} one make major lists depth w argument bytes after rest xs (suc d) w_is read inside =
@@ -63,11 +63,11 @@ by_inner {A} one make major lists depth w argument bytes after rest xs (suc d) w
     ∙ lists.opened d argument after
     ∙ ap (λ r. r >>= λ (ys : List A × List ℕ). Ok (make (argument_width argument) ys.0, ys.1)) (inside d)
     ∙ outcome_map depth d (xs, rest) (λ ys. (make (argument_width argument) ys.0, ys.1))
-    ∙ ap (λ v. outcome depth d (make v xs, rest)) w_is
+    ∙ ap (λ v. decoder_outcome depth d (make v xs, rest)) w_is
     ∙ deeper depth d (make w xs, rest)
 
-list_again : {A : Type 0} (one : ℕ → Reader A) (make : Option Width → List A → Value) (major : ℕ) (lists : Lists A major one make) (w : Option Width) (n depth : ℕ) (contents : List ℕ) (xs : List A) (limit : ℕ) (rest : List ℕ)
-    → Contents A one n depth contents xs → LengthFits w n → value_at limit (list_encoding major w n contents ++ rest) ≡ outcome (depth + 1) limit (make w xs, rest)
+list_again : {A : Type 0} (one : ℕ → Decoder A) (make : Option Width → List A → Value) (major : ℕ) (lists : Lists A major one make) (w : Option Width) (n depth : ℕ) (contents : List ℕ) (xs : List A) (limit : ℕ) (rest : List ℕ)
+    → Contents A one n depth contents xs → LengthFits w n → value_at limit (list_encoding major w n contents ++ rest) ≡ decoder_outcome (depth + 1) limit (make w xs, rest)
 unfolding several
 list_again one make major lists (Some w) n depth contents xs limit rest inside fits =
     ap (value_at limit) (append_assoc (head major w n) contents rest)
@@ -81,7 +81,7 @@ arrays : Lists Value 4 (value_at) (λ w vs. array w (values_of vs))
 unfolding item_by
 arrays = record { opened = λ d argument rest. refl; closed = λ argument rest. refl }
 
-abbrev pair_reader : ℕ → Reader (Value × Value)
+abbrev pair_reader : ℕ → Decoder (Value × Value)
 pair_reader d = pair_at makes (value_at d)
 
 objects : Lists (Value × Value) 5 pair_reader (λ w ps. object w (pairs_of ps))
@@ -89,33 +89,33 @@ unfolding item_by
 objects = record { opened = λ d argument rest. refl; closed = λ argument rest. refl }
 
 abbrev ManyAgain : Values → Type 0
-ManyAgain vs = (limit : ℕ) (rest : List ℕ) → many (value_at limit) (values_len vs) (encodings vs ++ rest) ≡ outcome (values_nesting vs) limit (list_of vs, rest)
+ManyAgain vs = (limit : ℕ) (rest : List ℕ) → many (value_at limit) (values_len vs) (encodings vs ++ rest) ≡ decoder_outcome (values_nesting vs) limit (list_of vs, rest)
 
 -- in front of the end of a row
 abbrev pub UntilAgain : Values → Type 0
-UntilAgain vs = (stop : Stop) (limit turns : ℕ) (tail rest : List ℕ) → past stop tail ≡ Some rest → values_len vs < turns → until stop (value_at limit) turns (encodings vs ++ tail) ≡ outcome (values_nesting vs) limit (list_of vs, rest)
+UntilAgain vs = (stop : Stop) (limit turns : ℕ) (tail rest : List ℕ) → past stop tail ≡ Some rest → values_len vs < turns → until stop (value_at limit) turns (encodings vs ++ tail) ≡ decoder_outcome (values_nesting vs) limit (list_of vs, rest)
 
 abbrev ManyPairsAgain : Pairs → Type 0
-ManyPairsAgain ps = (limit : ℕ) (rest : List ℕ) → many (pair_reader limit) (pairs_len ps) (pair_encodings ps ++ rest) ≡ outcome (pairs_nesting ps) limit (pair_list_of ps, rest)
+ManyPairsAgain ps = (limit : ℕ) (rest : List ℕ) → many (pair_reader limit) (pairs_len ps) (pair_encodings ps ++ rest) ≡ decoder_outcome (pairs_nesting ps) limit (pair_list_of ps, rest)
 
 abbrev UntilPairsAgain : Pairs → Type 0
-UntilPairsAgain ps = (limit turns : ℕ) (rest : List ℕ) → pairs_len ps < turns → until Break (pair_reader limit) turns (pair_encodings ps ++ (255 ∷ rest)) ≡ outcome (pairs_nesting ps) limit (pair_list_of ps, rest)
+UntilPairsAgain ps = (limit turns : ℕ) (rest : List ℕ) → pairs_len ps < turns → until Break (pair_reader limit) turns (pair_encodings ps ++ (255 ∷ rest)) ≡ decoder_outcome (pairs_nesting ps) limit (pair_list_of ps, rest)
 
 array_again : (limit : ℕ) (w : Option Width) (vs : Values) (rest : List ℕ) → LengthFits w (values_len vs) → ManyAgain vs → UntilAgain vs
-    → value_at limit (list_encoding 4 w (values_len vs) (encodings vs) ++ rest) ≡ outcome (values_nesting vs + 1) limit (array w vs, rest)
+    → value_at limit (list_encoding 4 w (values_len vs) (encodings vs) ++ rest) ≡ decoder_outcome (values_nesting vs + 1) limit (array w vs, rest)
 array_again limit w vs rest fits counted ended =
     list_again (value_at) (λ w vs. array w (values_of vs)) 4 arrays w (values_len vs) (values_nesting vs) (encodings vs) (list_of vs) limit rest
     (record { counted = counted; ended = λ d turns rest lt. ended Break d turns (255 ∷ rest) rest refl lt; long = values_many vs }) fits
-    ∙ ap (λ us. outcome (values_nesting vs + 1) limit (array w us, rest)) (values_of_list vs)
+    ∙ ap (λ us. decoder_outcome (values_nesting vs + 1) limit (array w us, rest)) (values_of_list vs)
 
 object_again : (limit : ℕ) (w : Option Width) (ps : Pairs) (rest : List ℕ) → LengthFits w (pairs_len ps) → ManyPairsAgain ps → UntilPairsAgain ps
-    → value_at limit (list_encoding 5 w (pairs_len ps) (pair_encodings ps) ++ rest) ≡ outcome (pairs_nesting ps + 1) limit (object w ps, rest)
+    → value_at limit (list_encoding 5 w (pairs_len ps) (pair_encodings ps) ++ rest) ≡ decoder_outcome (pairs_nesting ps + 1) limit (object w ps, rest)
 object_again limit w ps rest fits counted ended =
     list_again pair_reader (λ w ps. object w (pairs_of ps)) 5 objects w (pairs_len ps) (pairs_nesting ps) (pair_encodings ps) (pair_list_of ps) limit rest
     (record { counted = counted; ended = ended; long = pairs_many ps }) fits
-    ∙ ap (λ us. outcome (pairs_nesting ps + 1) limit (object w us, rest)) (pairs_of_list ps)
+    ∙ ap (λ us. decoder_outcome (pairs_nesting ps + 1) limit (object w us, rest)) (pairs_of_list ps)
 
-leaf : (limit : ℕ) (v : Value) (rest : List ℕ) (r : Reads Value) → r ≡ Ok (v, rest) → r ≡ outcome 0 limit (v, rest)
+leaf : (limit : ℕ) (v : Value) (rest : List ℕ) (r : DecoderResult Value) → r ≡ Ok (v, rest) → r ≡ decoder_outcome 0 limit (v, rest)
 leaf limit v rest r e = e ∙ sym (none limit (v, rest))
 
 number_again : (limit : ℕ) (w : Width) (n : ℕ) (rest : List ℕ) → ArgumentFits w n → (value_at limit (head 0 w n ++ rest) ≡ Ok (unsigned w n, rest)) × (value_at limit (head 1 w n ++ rest) ≡ Ok (negative w n, rest))
@@ -125,7 +125,7 @@ number_again limit w n rest fits = (
   item_at_ok makes limit (head 1 w n ++ rest) rest (1, Some (w, n)) (head_again 1 w n rest fits),
 )
 
-string_opened : (i : Option (Reader Value)) (k : StringKind) (argument : Option (Width × ℕ)) (rest : List ℕ) → item_by makes i (string_major k) argument rest ≡ string_by makes k argument rest
+string_opened : (i : Option (Decoder Value)) (k : StringKind) (argument : Option (Width × ℕ)) (rest : List ℕ) → item_by makes i (string_major k) argument rest ≡ string_by makes k argument rest
 unfolding item_by
 string_opened i Bytes argument rest = refl
 string_opened i Text argument rest = refl
@@ -145,8 +145,8 @@ all_chunks_again limit k cs rest fits =
     ∙ ap (λ r. r >>= λ (s : List Chunk × List ℕ). Ok (chunks k s.0, s.1)) (chunks_again k cs rest (suc (length after)) (omega (arith, chunks_many k cs, length-append (chunk_encodings k cs) (255 ∷ rest))) fits)
 
 -- a tag and what it holds
-tag_again : (limit : ℕ) (w : Width) (n : ℕ) (v : Value) (rest : List ℕ) → ArgumentFits w n → ((d : ℕ) → value_at d (encoding v ++ rest) ≡ outcome (value_nesting v) d (v, rest))
-    → value_at limit ((head 6 w n ++ encoding v) ++ rest) ≡ outcome (value_nesting v + 1) limit (tag w n v, rest)
+tag_again : (limit : ℕ) (w : Width) (n : ℕ) (v : Value) (rest : List ℕ) → ArgumentFits w n → ((d : ℕ) → value_at d (encoding v ++ rest) ≡ decoder_outcome (value_nesting v) d (v, rest))
+    → value_at limit ((head 6 w n ++ encoding v) ++ rest) ≡ decoder_outcome (value_nesting v + 1) limit (tag w n v, rest)
 unfolding item_by
 tag_again zero w n v rest fits inside =
     let after = encoding v ++ rest in
@@ -158,17 +158,17 @@ tag_again (suc d) w n v rest fits inside =
     ∙ opened ∙ ap (λ r. r >>= λ (x : Value × List ℕ). Ok (tag w n x.0, x.1)) (inside d) ∙ outcome_map (value_nesting v) d (v, rest) (λ x. (tag w n x.0, x.1)) ∙ deeper (value_nesting v) d (tag w n v, rest)
 
 -- a simple value by its head
-simple_opened : (i : Option (Reader Value)) (n : ℕ) → IsSimple n → special_by makes i (Some (simple_width n, n)) ≡ simple_by makes i n
+simple_opened : (i : Option (Decoder Value)) (n : ℕ) → IsSimple n → special_by makes i (Some (simple_width n, n)) ≡ simple_by makes i n
 simple_opened i n (inl lt) = ap (λ w. special_by makes i (Some (w, n))) (one_byte n lt)
 simple_opened i n (inr wide) =
     let long : ltb n 32 ≡ false = le-ltb n 32 wide.0 in
     ap (λ w. special_by makes i (Some (w, n))) (two_bytes n (omega (arith, wide.0))) ∙ rw long refl
 
-named_again : (named : Bool) (n : ℕ) (rest : List ℕ) → (cond (eqb (cond named 0 1) 0) (Ok (simple n)) (Err TooDeep) >>= in_front_of rest) ≡ outcome (cond named 0 1) 0 (simple n, rest)
+named_again : (named : Bool) (n : ℕ) (rest : List ℕ) → (cond (eqb (cond named 0 1) 0) (Ok (simple n)) (Err TooDeep) >>= in_front_of rest) ≡ decoder_outcome (cond named 0 1) 0 (simple n, rest)
 named_again true n rest = refl
 named_again false n rest = refl
 
-simple_again : (limit n : ℕ) (rest : List ℕ) → IsSimple n → value_at limit (head 7 (simple_width n) n ++ rest) ≡ outcome (simple_nesting n) limit (simple n, rest)
+simple_again : (limit n : ℕ) (rest : List ℕ) → IsSimple n → value_at limit (head 7 (simple_width n) n ++ rest) ≡ decoder_outcome (simple_nesting n) limit (simple n, rest)
 unfolding item_by
 simple_again zero n rest is =
     item_at_ok makes 0 (head 7 (simple_width n) n ++ rest) rest (7, Some (simple_width n, n)) (head_again 7 (simple_width n) n rest (simple_fits n is))
@@ -178,7 +178,7 @@ simple_again (suc d) n rest is =
     ∙ ap (λ i. special_by makes i (Some (simple_width n, n)) >>= in_front_of rest) (inner_more makes d)
     ∙ ap (λ r. r >>= in_front_of rest) (simple_opened (Some (value_at d)) n is) ∙ sym (within (simple_nesting n) (suc d) (simple n, rest) (omega (arith, simple_shallow n)))
 
-float_opened : (i : Option (Reader Value)) (w : Width) (f : NonFinite) → IsFloatWidth w → special_by makes i (Some (w, float_bits w f)) ≡ Ok (float w f)
+float_opened : (i : Option (Decoder Value)) (w : Width) (f : NonFinite) → IsFloatWidth w → special_by makes i (Some (w, float_bits w f)) ≡ Ok (float w f)
 float_opened i Immediate f is = absurd is
 float_opened i One f is = absurd is
 float_opened i Two f is = ap (float_by makes Two) (float_again Two f is)
@@ -191,8 +191,8 @@ float_item_again limit w f rest is =
     item_at_ok makes limit (head 7 w (float_bits w f) ++ rest) rest (7, Some (w, float_bits w f)) (head_again 7 w (float_bits w f) rest (float_fits w f is))
     ∙ ap (λ r. r >>= in_front_of rest) (float_opened (inner makes limit) w f is)
 
-pair_again : (limit : ℕ) (k v : Value) (rest : List ℕ) → value_at limit (encoding k ++ (encoding v ++ rest)) ≡ outcome (value_nesting k) limit (k, encoding v ++ rest) → value_at limit (encoding v ++ rest) ≡ outcome (value_nesting v) limit (v, rest)
-    → pair_at makes (value_at limit) (encoding k ++ (encoding v ++ rest)) ≡ outcome (max (value_nesting k) (value_nesting v)) limit ((k, v), rest)
+pair_again : (limit : ℕ) (k v : Value) (rest : List ℕ) → value_at limit (encoding k ++ (encoding v ++ rest)) ≡ decoder_outcome (value_nesting k) limit (k, encoding v ++ rest) → value_at limit (encoding v ++ rest) ≡ decoder_outcome (value_nesting v) limit (v, rest)
+    → pair_at makes (value_at limit) (encoding k ++ (encoding v ++ rest)) ≡ decoder_outcome (max (value_nesting k) (value_nesting v)) limit ((k, v), rest)
 unfolding pair_at
 pair_again limit k v rest first second =
     ap (λ r. r >>= λ (x : Value × List ℕ). value_at limit x.1 >>= λ y. Ok ((x.0, y.0), y.1)) first
@@ -200,7 +200,7 @@ pair_again limit k v rest first second =
 
 mutual
   -- the law of the reader: what is written is read again, whatever follows it
-  pub item_again : (v : Value) (limit : ℕ) (rest : List ℕ) → Fits v → value_at limit (encoding v ++ rest) ≡ outcome (value_nesting v) limit (v, rest)
+  pub item_again : (v : Value) (limit : ℕ) (rest : List ℕ) → Fits v → value_at limit (encoding v ++ rest) ≡ decoder_outcome (value_nesting v) limit (v, rest)
   item_again (unsigned w n) limit rest fits = leaf limit (unsigned w n) rest _ (number_again limit w n rest fits).0
   item_again (negative w n) limit rest fits = leaf limit (negative w n) rest _ (number_again limit w n rest fits).1
   item_again (string k w bs) limit rest fits = leaf limit (string k w bs) rest _ (text_again limit k w bs rest fits)

@@ -15,7 +15,7 @@ use Rattle.cbor_edn_core.specs.declared.from_cbor.head.Stop.{Stop}
 use Rattle.cbor_edn_core.specs.declared.from_cbor.head.Stop.TheVariants.{Break}
 use Rattle.cbor_edn_core.specs.Value.{Value, unsigned, negative, string, chunks, array, object, tag, head, open_head, string_major, is_content, chunk_encoding, ChunkFits, encoding}
 use Rattle.cbor_edn_core.specs.Decoded.{high_bytes}
-use Rattle.cbor_edn_core.specs.code.CborReading.{◌>>=◌, Reads, Reader, shown, head_at, head_by, argument_at, many, until, several, past, turn, string_at, chunk_at, chunk_by, string_by, pair_at, item_by, item_at, array_by, map_by, number_by, tag_by, simple_by, float_by, special_by, float_of}
+use Rattle.cbor_edn_core.specs.code.CborReading.{◌>>=◌, DecoderResult, Decoder, shown, head_at, head_by, argument_at, many, until, several, past, turn, string_at, chunk_at, chunk_by, string_by, pair_at, item_by, item_at, array_by, map_by, number_by, tag_by, simple_by, float_by, special_by, float_of}
 use Rattle.cbor_edn_core.proofs.bytes.CborHeads.{IsBytes, chosen, Takes, HeadIs, head_takes}
 use Rattle.cbor_edn_core.proofs.bytes.CborSpecials.{last_major}
 use Rattle.cbor_edn_core.proofs.code.CborTurns.{shown_err}
@@ -30,7 +30,7 @@ bind_err : {A B : Type 0} (r : Result A CborError) (f : A → Result B CborError
 bind_err (Ok x) f e is = inr (x, refl, is)
 bind_err (Err d) f e is = inl (let same : d ≡ e = cc in ap (λ g. Err g) same)
 
-abbrev fault : {A : Type 0} → CborError → Reads A
+abbrev fault : {A : Type 0} → CborError → DecoderResult A
 fault e = Err e
 
 abbrev given : {A : Type 0} → A → Result A CborError
@@ -40,13 +40,13 @@ not_given : {A : Type 0} (x : A) (e : CborError) → given x ≡ Err e → ⊥
 not_given x e is = cc
 
 -- where a reader finds too much nesting, there are so many high bytes
-abbrev pub Deep : {A : Type 0} → ℕ → Reader A → Type 0
+abbrev pub Deep : {A : Type 0} → ℕ → Decoder A → Type 0
 Deep d one = (bytes : List ℕ) → IsBytes bytes → one bytes ≡ Err TooDeep → d < high_bytes bytes
 
 behind : (d : ℕ) (bytes front rest : List ℕ) → Takes bytes front rest → d < high_bytes rest → d < high_bytes bytes
 behind d bytes front rest t lt = let e : high_bytes bytes ≡ high_bytes front + high_bytes rest = ap high_bytes t.parts ∙ high-append front rest in omega arith
 
-many_deep : {A : Type 0} (P : A → Type 0) (spelled : A → List ℕ) (one : Reader A) (d : ℕ) → Sound P spelled one → Deep d one → (n : ℕ) → Deep d (many one n)
+many_deep : {A : Type 0} (P : A → Type 0) (spelled : A → List ℕ) (one : Decoder A) (d : ℕ) → Sound P spelled one → Deep d one → (n : ℕ) → Deep d (many one n)
 unfolding many
 many_deep P spelled one d sound deep zero bytes fits e = absurd cc
 many_deep P spelled one d sound deep (suc n) bytes fits e =
@@ -59,7 +59,7 @@ many_deep P spelled one d sound deep (suc n) bytes fits e =
           ])
     ]
 
-turn_deep : {A : Type 0} (P : A → Type 0) (spelled : A → List ℕ) (one : Reader A) (more : Reader (List A)) (d : ℕ) → Sound P spelled one → Deep d one → Deep d more → (o : Option (List ℕ)) (bytes : List ℕ) → IsBytes bytes → turn one more bytes o ≡ Err TooDeep → d < high_bytes bytes
+turn_deep : {A : Type 0} (P : A → Type 0) (spelled : A → List ℕ) (one : Decoder A) (more : Decoder (List A)) (d : ℕ) → Sound P spelled one → Deep d one → Deep d more → (o : Option (List ℕ)) (bytes : List ℕ) → IsBytes bytes → turn one more bytes o ≡ Err TooDeep → d < high_bytes bytes
 turn_deep P spelled one more d sound deep others (Some rest) bytes fits e = absurd cc
 turn_deep P spelled one more d sound deep others None bytes fits e =
     elim (bind_err (one bytes) (λ y. more y.1 >>= λ ys. Ok (y.0 ∷ ys.0, ys.1)) TooDeep e) [
@@ -71,17 +71,17 @@ turn_deep P spelled one more d sound deep others None bytes fits e =
           ])
     ]
 
-pub until_deep : {A : Type 0} (stop : Stop) (P : A → Type 0) (spelled : A → List ℕ) (one : Reader A) (d : ℕ) → Sound P spelled one → Deep d one → (n : ℕ) → Deep d (until stop one n)
+pub until_deep : {A : Type 0} (stop : Stop) (P : A → Type 0) (spelled : A → List ℕ) (one : Decoder A) (d : ℕ) → Sound P spelled one → Deep d one → (n : ℕ) → Deep d (until stop one n)
 unfolding until
 until_deep stop P spelled one d sound deep zero bytes fits e = absurd cc
 until_deep stop P spelled one d sound deep (suc n) bytes fits e = turn_deep P spelled one (until stop one n) d sound deep (until_deep stop P spelled one d sound deep n) (past stop bytes) bytes fits e
 
-several_deep : {A : Type 0} (P : A → Type 0) (spelled : A → List ℕ) (one : Reader A) (d : ℕ) → Sound P spelled one → Deep d one → (argument : Option (Width × ℕ)) → Deep d (several one argument)
+several_deep : {A : Type 0} (P : A → Type 0) (spelled : A → List ℕ) (one : Decoder A) (d : ℕ) → Sound P spelled one → Deep d one → (argument : Option (Width × ℕ)) → Deep d (several one argument)
 unfolding several
 several_deep P spelled one d sound deep (Some (w, n)) bytes fits e = many_deep P spelled one d sound deep n bytes fits e
 several_deep P spelled one d sound deep None bytes fits e = until_deep Break P spelled one d sound deep (suc (length bytes)) bytes fits e
 
-pair_deep : (d : ℕ) (one : Reader Value) → Sound (Within d) encoding one → Deep d one → Deep d (pair_at makes one)
+pair_deep : (d : ℕ) (one : Decoder Value) → Sound (Within d) encoding one → Deep d one → Deep d (pair_at makes one)
 unfolding pair_at
 pair_deep d one sound deep bytes fits e =
     elim (bind_err (one bytes) (λ k. one k.1 >>= λ v. Ok ((k.0, v.0), v.1)) TooDeep e) [
@@ -152,11 +152,11 @@ head_rest major (Some (w, n)) bytes rest h = h.1.rest_fits
 head_rest major None bytes rest h = h.rest_fits
 
 -- what reads inside
-abbrev InnerDeep : ℕ → Option (Reader Value) → Type 0
+abbrev InnerDeep : ℕ → Option (Decoder Value) → Type 0
 InnerDeep limit None = limit ≡ 0
 InnerDeep limit (Some one) = (d : ℕ) × (limit ≡ d + 1) × Sound (Within d) encoding one × Deep d one
 
-array_deep : (limit : ℕ) (i : Option (Reader Value)) (argument : Option (Width × ℕ)) (bytes rest : List ℕ) → InnerDeep limit i → HeadIs bytes 4 argument rest → array_by makes i argument rest ≡ Err TooDeep → limit < high_bytes bytes
+array_deep : (limit : ℕ) (i : Option (Decoder Value)) (argument : Option (Width × ℕ)) (bytes rest : List ℕ) → InnerDeep limit i → HeadIs bytes 4 argument rest → array_by makes i argument rest ≡ Err TooDeep → limit < high_bytes bytes
 array_deep limit None argument bytes rest inner h e = past_head limit 4 argument bytes rest (omega arith) h (omega arith)
 array_deep limit (Some one) argument bytes rest inner h e =
     elim (bind_err (several one argument rest) (λ xs. Ok (array (argument_width argument) (values_of xs.0), xs.1)) TooDeep e) [
@@ -164,7 +164,7 @@ array_deep limit (Some one) argument bytes rest inner h e =
       | inr a ↦ absurd (not_given _ TooDeep a.2)
     ]
 
-map_deep : (limit : ℕ) (i : Option (Reader Value)) (argument : Option (Width × ℕ)) (bytes rest : List ℕ) → InnerDeep limit i → HeadIs bytes 5 argument rest → map_by makes i argument rest ≡ Err TooDeep → limit < high_bytes bytes
+map_deep : (limit : ℕ) (i : Option (Decoder Value)) (argument : Option (Width × ℕ)) (bytes rest : List ℕ) → InnerDeep limit i → HeadIs bytes 5 argument rest → map_by makes i argument rest ≡ Err TooDeep → limit < high_bytes bytes
 map_deep limit None argument bytes rest inner h e = past_head limit 5 argument bytes rest (omega arith) h (omega arith)
 map_deep limit (Some one) argument bytes rest inner h e =
     elim (bind_err (several (pair_at makes one) argument rest) (λ xs. Ok (object (argument_width argument) (pairs_of xs.0), xs.1)) TooDeep e) [
@@ -209,7 +209,7 @@ string_deep limit k None bytes rest h e =
 
 -- ---- tags and simple values
 
-tag_deep : (limit : ℕ) (i : Option (Reader Value)) (argument : Option (Width × ℕ)) (bytes rest : List ℕ) → InnerDeep limit i → HeadIs bytes 6 argument rest → tag_by makes i argument rest ≡ Err TooDeep → limit < high_bytes bytes
+tag_deep : (limit : ℕ) (i : Option (Decoder Value)) (argument : Option (Width × ℕ)) (bytes rest : List ℕ) → InnerDeep limit i → HeadIs bytes 6 argument rest → tag_by makes i argument rest ≡ Err TooDeep → limit < high_bytes bytes
 tag_deep limit i None bytes rest inner h e = absurd cc
 tag_deep limit None (Some (w, n)) bytes rest inner h e = past_head limit 6 (Some (w, n)) bytes rest (omega arith) h (omega arith)
 tag_deep limit (Some one) (Some (w, n)) bytes rest inner h e =
@@ -218,7 +218,7 @@ tag_deep limit (Some one) (Some (w, n)) bytes rest inner h e =
       | inr a ↦ absurd (not_given _ TooDeep a.2)
     ]
 
-simple_deep : (limit : ℕ) (i : Option (Reader Value)) (n : ℕ) → InnerDeep limit i → simple_by makes i n ≡ Err TooDeep → limit ≡ 0
+simple_deep : (limit : ℕ) (i : Option (Decoder Value)) (n : ℕ) → InnerDeep limit i → simple_by makes i n ≡ Err TooDeep → limit ≡ 0
 simple_deep limit None n inner e = inner
 simple_deep limit (Some one) n inner e = absurd cc
 
@@ -226,7 +226,7 @@ float_not_deep : (w : Width) (o : Option NonFinite) → float_by makes w o ≡ E
 float_not_deep w None e = cc
 float_not_deep w (Some f) e = cc
 
-special_by_deep : (limit : ℕ) (i : Option (Reader Value)) (argument : Option (Width × ℕ)) → InnerDeep limit i → special_by makes i argument ≡ Err TooDeep → limit ≡ 0
+special_by_deep : (limit : ℕ) (i : Option (Decoder Value)) (argument : Option (Width × ℕ)) → InnerDeep limit i → special_by makes i argument ≡ Err TooDeep → limit ≡ 0
 special_by_deep limit i None inner e = absurd cc
 special_by_deep limit i (Some (Immediate, n)) inner e = simple_deep limit i n inner e
 special_by_deep limit i (Some (One, n)) inner e = elim (chosen (ltb n 32) _ _ _ e) [ inl a ↦ absurd (let g = a.1 in cc) | inr a ↦ simple_deep limit i n inner a.1 ]
@@ -234,14 +234,14 @@ special_by_deep limit i (Some (Two, n)) inner e = absurd (float_not_deep Two (fl
 special_by_deep limit i (Some (Four, n)) inner e = absurd (float_not_deep Four (float_of Four n) e)
 special_by_deep limit i (Some (Eight, n)) inner e = absurd (float_not_deep Eight (float_of Eight n) e)
 
-special_deep : (limit : ℕ) (i : Option (Reader Value)) (argument : Option (Width × ℕ)) (bytes rest : List ℕ) → InnerDeep limit i → HeadIs bytes 7 argument rest → (special_by makes i argument >>= in_front_of rest) ≡ Err TooDeep → limit < high_bytes bytes
+special_deep : (limit : ℕ) (i : Option (Decoder Value)) (argument : Option (Width × ℕ)) (bytes rest : List ℕ) → InnerDeep limit i → HeadIs bytes 7 argument rest → (special_by makes i argument >>= in_front_of rest) ≡ Err TooDeep → limit < high_bytes bytes
 special_deep limit i argument bytes rest inner h e =
     elim (bind_err (special_by makes i argument) (in_front_of rest) TooDeep e) [
       | inl a ↦ past_head limit 7 argument bytes rest (omega arith) h (omega (arith, special_by_deep limit i argument inner a))
       | inr a ↦ absurd (not_given _ TooDeep a.2)
     ]
 
-item_by_deep : (limit : ℕ) (i : Option (Reader Value)) (major : ℕ) (argument : Option (Width × ℕ)) (bytes rest : List ℕ) → InnerDeep limit i → HeadIs bytes major argument rest × (major < 8) → item_by makes i major argument rest ≡ Err TooDeep → limit < high_bytes bytes
+item_by_deep : (limit : ℕ) (i : Option (Decoder Value)) (major : ℕ) (argument : Option (Width × ℕ)) (bytes rest : List ℕ) → InnerDeep limit i → HeadIs bytes major argument rest × (major < 8) → item_by makes i major argument rest ≡ Err TooDeep → limit < high_bytes bytes
 unfolding item_by
 item_by_deep limit i major argument bytes rest inner h e =
     let of : (m : ℕ) → major ≡ m → HeadIs bytes m argument rest = λ m same. subst (λ (k : ℕ). HeadIs bytes k argument rest) same h.0 in

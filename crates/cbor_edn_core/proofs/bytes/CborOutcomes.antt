@@ -11,25 +11,25 @@ use Rattle.cbor_edn_core.specs.declared.from_cbor.CborError.TheVariants.{TooDeep
 use Rattle.cbor_edn_core.specs.declared.from_cbor.head.Stop.{Stop}
 use Rattle.cbor_edn_core.specs.declared.from_cbor.head.Stop.TheVariants.{Break, EndOfData}
 use Rattle.cbor_edn_core.specs.Value.{Value, unsigned, negative, string, chunks, array, object, tag, simple, float, Values, no_values, value, Pairs, no_pairs, pair, Chunk, head, ArgumentFits, LengthFits, float_bits, simple_width, open_head, break, list_encoding, string_major, is_content, chunk_encoding, chunk_encodings, ChunkFits, ChunksFit, encoding, encodings, pair_encodings, values_len, pairs_len, Fits}
-use Rattle.cbor_edn_core.specs.code.CborReading.{◌>>=◌, Reader, many, until, past, string_at, chunk_at}
+use Rattle.cbor_edn_core.specs.code.CborReading.{◌>>=◌, Decoder, many, until, past, string_at, chunk_at}
 use Rattle.cbor_edn_core.proofs.bytes.CborHeads.{head_again}
 use Rattle.cbor_edn_core.proofs.bytes.CborSpecials.{simple_fits, float_fits}
 
 -- x, where n is no more than the limit
-abbrev pub outcome : {X : Type 0} → ℕ → ℕ → X → Result X CborError
-outcome n limit x = cond (leb n limit) (Ok x) (Err TooDeep)
+abbrev pub decoder_outcome : {X : Type 0} → ℕ → ℕ → X → Result X CborError
+decoder_outcome n limit x = cond (leb n limit) (Ok x) (Err TooDeep)
 
-pub within : {X : Type 0} → (n limit : ℕ) (x : X) → n ≤ limit → outcome n limit x ≡ Ok x
+pub within : {X : Type 0} → (n limit : ℕ) (x : X) → n ≤ limit → decoder_outcome n limit x ≡ Ok x
 within n limit x le = let e : leb n limit ≡ true = le-leb n limit le in rw e refl
 
-pub beyond : {X : Type 0} → (n limit : ℕ) (x : X) → limit < n → outcome n limit x ≡ Err TooDeep
+pub beyond : {X : Type 0} → (n limit : ℕ) (x : X) → limit < n → decoder_outcome n limit x ≡ Err TooDeep
 beyond n limit x lt = let e : leb n limit ≡ false = lt-leb n limit lt in rw e refl
 
-pub none : {X : Type 0} → (limit : ℕ) (x : X) → outcome 0 limit x ≡ Ok x
+pub none : {X : Type 0} → (limit : ℕ) (x : X) → decoder_outcome 0 limit x ≡ Ok x
 none limit x = within 0 limit x (omega arith)
 
 -- one step, and then what reads on
-pub outcome_then : {X Y : Type 0} → (n m limit : ℕ) (x : X) (k : X → Result Y CborError) (z : Y) → k x ≡ outcome m limit z → (outcome n limit x >>= k) ≡ outcome (max n m) limit z
+pub outcome_then : {X Y : Type 0} → (n m limit : ℕ) (x : X) (k : X → Result Y CborError) (z : Y) → k x ≡ decoder_outcome m limit z → (decoder_outcome n limit x >>= k) ≡ decoder_outcome (max n m) limit z
 outcome_then n m limit x k z next =
     elim (cases_lt limit n) [
       | inl lt ↦ ap (λ r. r >>= k) (beyond n limit x lt) ∙ sym (beyond (max n m) limit z (omega arith))
@@ -39,7 +39,7 @@ outcome_then n m limit x k z next =
       ])
     ]
 
-pub outcome_map : {X Y : Type 0} → (n limit : ℕ) (x : X) (f : X → Y) → (outcome n limit x >>= λ y. Ok (f y)) ≡ outcome n limit (f x)
+pub outcome_map : {X Y : Type 0} → (n limit : ℕ) (x : X) (f : X → Y) → (decoder_outcome n limit x >>= λ y. Ok (f y)) ≡ decoder_outcome n limit (f x)
 outcome_map n limit x f =
     elim (cases_lt limit n) [
       | inl lt ↦ ap (λ r. r >>= λ y. Ok (f y)) (beyond n limit x lt) ∙ sym (beyond n limit (f x) lt)
@@ -48,44 +48,44 @@ outcome_map n limit x f =
 
 -- ---- several
 
-pub many_none : {A : Type 0} → (one : Reader A) (bytes : List ℕ) → many one 0 bytes ≡ Ok ([], bytes)
+pub many_none : {A : Type 0} → (one : Decoder A) (bytes : List ℕ) → many one 0 bytes ≡ Ok ([], bytes)
 unfolding many
 many_none one bytes = refl
 
-many_step : {A : Type 0} → (one : Reader A) (n : ℕ) (bytes : List ℕ) → many one (n + 1) bytes ≡ (one bytes >>= λ x. many one n x.1 >>= λ xs. Ok (x.0 ∷ xs.0, xs.1))
+many_step : {A : Type 0} → (one : Decoder A) (n : ℕ) (bytes : List ℕ) → many one (n + 1) bytes ≡ (one bytes >>= λ x. many one n x.1 >>= λ xs. Ok (x.0 ∷ xs.0, xs.1))
 unfolding many
 many_step one n bytes = let e : n + 1 ≡ suc n = omega arith in rw e refl
 
 -- one more in front of what reads on
-pub more : {A : Type 0} → (one : Reader A) (limit n m count : ℕ) (bytes after rest : List ℕ) (x : A) (xs : List A) → one bytes ≡ outcome n limit (x, after) → many one count after ≡ outcome m limit (xs, rest)
-    → many one (count + 1) bytes ≡ outcome (max n m) limit (x ∷ xs, rest)
+pub more : {A : Type 0} → (one : Decoder A) (limit n m count : ℕ) (bytes after rest : List ℕ) (x : A) (xs : List A) → one bytes ≡ decoder_outcome n limit (x, after) → many one count after ≡ decoder_outcome m limit (xs, rest)
+    → many one (count + 1) bytes ≡ decoder_outcome (max n m) limit (x ∷ xs, rest)
 more {A} one limit n m count bytes after rest x xs first others =
-    let next : (many one count after >>= λ (ys : List A × List ℕ). Ok (x ∷ ys.0, ys.1)) ≡ outcome m limit (x ∷ xs, rest) =
+    let next : (many one count after >>= λ (ys : List A × List ℕ). Ok (x ∷ ys.0, ys.1)) ≡ decoder_outcome m limit (x ∷ xs, rest) =
     ap (λ r. r >>= λ (ys : List A × List ℕ). Ok (x ∷ ys.0, ys.1)) others ∙ outcome_map m limit (xs, rest) (λ ys. (x ∷ ys.0, ys.1)) in
     many_step one count bytes ∙ ap (λ r. r >>= λ (y : A × List ℕ). many one count y.1 >>= λ xs. Ok (y.0 ∷ xs.0, xs.1)) first ∙ outcome_then n m limit (x, after) _ (x ∷ xs, rest) next
 
-until_step : {A : Type 0} → (stop : Stop) (one : Reader A) (n : ℕ) (bytes : List ℕ) → past stop bytes ≡ None → until stop one (n + 1) bytes ≡ (one bytes >>= λ x. until stop one n x.1 >>= λ xs. Ok (x.0 ∷ xs.0, xs.1))
+until_step : {A : Type 0} → (stop : Stop) (one : Decoder A) (n : ℕ) (bytes : List ℕ) → past stop bytes ≡ None → until stop one (n + 1) bytes ≡ (one bytes >>= λ x. until stop one n x.1 >>= λ xs. Ok (x.0 ∷ xs.0, xs.1))
 unfolding until
 until_step stop one n bytes going = let e : n + 1 ≡ suc n = omega arith in rw (e, going) refl
 
-until_more : {A : Type 0} → (stop : Stop) (one : Reader A) (limit n m turns : ℕ) (bytes after rest : List ℕ) (x : A) (xs : List A) → past stop bytes ≡ None → one bytes ≡ outcome n limit (x, after)
-    → until stop one turns after ≡ outcome m limit (xs, rest) → until stop one (turns + 1) bytes ≡ outcome (max n m) limit (x ∷ xs, rest)
+until_more : {A : Type 0} → (stop : Stop) (one : Decoder A) (limit n m turns : ℕ) (bytes after rest : List ℕ) (x : A) (xs : List A) → past stop bytes ≡ None → one bytes ≡ decoder_outcome n limit (x, after)
+    → until stop one turns after ≡ decoder_outcome m limit (xs, rest) → until stop one (turns + 1) bytes ≡ decoder_outcome (max n m) limit (x ∷ xs, rest)
 until_more {A} stop one limit n m turns bytes after rest x xs going first others =
-    let next : (until stop one turns after >>= λ (ys : List A × List ℕ). Ok (x ∷ ys.0, ys.1)) ≡ outcome m limit (x ∷ xs, rest) =
+    let next : (until stop one turns after >>= λ (ys : List A × List ℕ). Ok (x ∷ ys.0, ys.1)) ≡ decoder_outcome m limit (x ∷ xs, rest) =
     ap (λ r. r >>= λ (ys : List A × List ℕ). Ok (x ∷ ys.0, ys.1)) others ∙ outcome_map m limit (xs, rest) (λ ys. (x ∷ ys.0, ys.1)) in
     until_step stop one turns bytes going ∙ ap (λ r. r >>= λ (y : A × List ℕ). until stop one turns y.1 >>= λ xs. Ok (y.0 ∷ xs.0, xs.1)) first ∙ outcome_then n m limit (x, after) _ (x ∷ xs, rest) next
 
-until_end : {A : Type 0} → (stop : Stop) (one : Reader A) (n : ℕ) (bytes rest : List ℕ) → past stop bytes ≡ Some rest → until stop one (n + 1) bytes ≡ Ok ([], rest)
+until_end : {A : Type 0} → (stop : Stop) (one : Decoder A) (n : ℕ) (bytes rest : List ℕ) → past stop bytes ≡ Some rest → until stop one (n + 1) bytes ≡ Ok ([], rest)
 unfolding until
 until_end stop one n bytes rest ends = let e : n + 1 ≡ suc n = omega arith in rw (e, ends) refl
 
-pub until_more_at : {A : Type 0} → (stop : Stop) (one : Reader A) (limit n m turns : ℕ) (bytes after rest : List ℕ) (x : A) (xs : List A) → 0 < turns → past stop bytes ≡ None → one bytes ≡ outcome n limit (x, after)
-    → until stop one (turns - 1) after ≡ outcome m limit (xs, rest) → until stop one turns bytes ≡ outcome (max n m) limit (x ∷ xs, rest)
+pub until_more_at : {A : Type 0} → (stop : Stop) (one : Decoder A) (limit n m turns : ℕ) (bytes after rest : List ℕ) (x : A) (xs : List A) → 0 < turns → past stop bytes ≡ None → one bytes ≡ decoder_outcome n limit (x, after)
+    → until stop one (turns - 1) after ≡ decoder_outcome m limit (xs, rest) → until stop one turns bytes ≡ decoder_outcome (max n m) limit (x ∷ xs, rest)
 until_more_at stop one limit n m turns bytes after rest x xs lt going first others =
     let e : turns ≡ (turns - 1) + 1 = omega arith in
     ap (λ k. until stop one k bytes) e ∙ until_more stop one limit n m (turns - 1) bytes after rest x xs going first others
 
-pub until_end_at : {A : Type 0} → (stop : Stop) (one : Reader A) (turns limit : ℕ) (bytes rest : List ℕ) → 0 < turns → past stop bytes ≡ Some rest → until stop one turns bytes ≡ outcome 0 limit ([], rest)
+pub until_end_at : {A : Type 0} → (stop : Stop) (one : Decoder A) (turns limit : ℕ) (bytes rest : List ℕ) → 0 < turns → past stop bytes ≡ Some rest → until stop one turns bytes ≡ decoder_outcome 0 limit ([], rest)
 until_end_at stop one turns limit bytes rest lt ends =
     let e : turns ≡ (turns - 1) + 1 = omega arith in
     ap (λ k. until stop one k bytes) e ∙ until_end stop one (turns - 1) bytes rest ends ∙ sym (none limit ([], rest))

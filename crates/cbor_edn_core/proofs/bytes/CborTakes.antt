@@ -12,14 +12,14 @@ use Rattle.cbor_edn_core.specs.declared.word.NonFinite.{NonFinite}
 use Rattle.cbor_edn_core.specs.declared.from_cbor.head.Stop.{Stop}
 use Rattle.cbor_edn_core.specs.declared.from_cbor.head.Stop.TheVariants.{Break, EndOfData}
 use Rattle.cbor_edn_core.specs.Value.{Value, Chunk, unsigned, negative, string, chunks, array, object, tag, simple, float, head, ArgumentFits, LengthFits, open_head, list_encoding, string_major, chunk_encoding, chunk_encodings, is_content, AreBytes, ChunkFits, ChunksFit, encoding, encodings, pair_encodings, values_len, pairs_len, Fits, ValuesFit, PairsFit, simple_width, IsSimple, IsFloatWidth}
-use Rattle.cbor_edn_core.specs.code.CborReading.{◌>>=◌, Reader, head_at, many, until, several, past, turn, string_at, chunk_at, chunk_by, string_by, pair_at, item_by, item_at, array_by, map_by, number_by, tag_by, simple_by, float_by, special_by, float_of, simple_nesting}
+use Rattle.cbor_edn_core.specs.code.CborReading.{◌>>=◌, Decoder, head_at, many, until, several, past, turn, string_at, chunk_at, chunk_by, string_by, pair_at, item_by, item_at, array_by, map_by, number_by, tag_by, simple_by, float_by, special_by, float_of, simple_nesting}
 use Rattle.cbor_edn_core.proofs.bytes.Nestings.{value_nesting, values_nesting, pairs_nesting}
 use Rattle.cbor_edn_core.proofs.bytes.CborHeads.{IsBytes, IsBytes-rest, IsBytes-take, IsBytes-drop, bind_ok, ok_is, chosen, Takes, Takes-then, HeadIs, head_takes}
 use Rattle.cbor_edn_core.proofs.bytes.CborValues.{values_of, pairs_of, argument_width, makes, value_at, in_front_of}
 use Rattle.cbor_edn_core.proofs.bytes.CborSpecials.{last_major, one_byte, two_bytes, simple_shallow, float_found}
 
 -- what a reader gives is in P, and is spelled so
-abbrev pub Sound : {A : Type 0} → (A → Type 0) → (A → List ℕ) → Reader A → Type 0
+abbrev pub Sound : {A : Type 0} → (A → Type 0) → (A → List ℕ) → Decoder A → Type 0
 Sound {A} P spelled one = (bytes : List ℕ) (x : A × List ℕ) → IsBytes bytes → one bytes ≡ Ok x → P x.0 × Takes bytes (spelled x.0) x.1
 
 abbrev pub Several : {A : Type 0} → (A → Type 0) → (A → List ℕ) → List ℕ → List ℕ → List A × List ℕ → Type 0
@@ -30,7 +30,7 @@ one_more P spelled ending bytes after a x p first others =
     let both = Takes-then bytes (spelled a) after (flat_map spelled x.0 ++ ending) x.1 first others.1 in
     ((p, others.0), record { parts = both.parts ∙ ap (λ (l : List ℕ). l ++ x.1) (sym (append_assoc (spelled a) (flat_map spelled x.0) ending)); rest_fits = both.rest_fits })
 
-pub many_takes : {A : Type 0} (P : A → Type 0) (spelled : A → List ℕ) (one : Reader A) → Sound P spelled one → (n : ℕ) (bytes : List ℕ) (x : List A × List ℕ) → IsBytes bytes → many one n bytes ≡ Ok x
+pub many_takes : {A : Type 0} (P : A → Type 0) (spelled : A → List ℕ) (one : Decoder A) → Sound P spelled one → (n : ℕ) (bytes : List ℕ) (x : List A × List ℕ) → IsBytes bytes → many one n bytes ≡ Ok x
     → Several P spelled [] bytes x × (length x.0 ≡ n)
 unfolding many
 many_takes {A} P spelled one sound zero bytes x fits e =
@@ -62,7 +62,7 @@ ended_fits : (stop : Stop) (rest : List ℕ) → IsBytes (ending stop ++ rest) �
 ended_fits Break rest fits = IsBytes-rest 255 rest fits
 ended_fits EndOfData rest fits = fits
 
-turned : {A : Type 0} (stop : Stop) (P : A → Type 0) (spelled : A → List ℕ) (one : Reader A) (more : Reader (List A)) → Sound P spelled one → ((bytes : List ℕ) (x : List A × List ℕ) → IsBytes bytes → more bytes ≡ Ok x → Several P spelled (ending stop) bytes x)
+turned : {A : Type 0} (stop : Stop) (P : A → Type 0) (spelled : A → List ℕ) (one : Decoder A) (more : Decoder (List A)) → Sound P spelled one → ((bytes : List ℕ) (x : List A × List ℕ) → IsBytes bytes → more bytes ≡ Ok x → Several P spelled (ending stop) bytes x)
     → (bytes : List ℕ) (x : List A × List ℕ) (o : Option (List ℕ)) → IsBytes bytes → past stop bytes ≡ o → turn one more bytes o ≡ Ok x → Several P spelled (ending stop) bytes x
 turned stop P spelled one more sound again bytes x (Some rest) fits is f =
     let split = broken stop bytes rest is in
@@ -74,7 +74,7 @@ turned stop P spelled one more sound again bytes x None fits is f =
     let others = again a.0.1 b.0 first.1.rest_fits b.1 in
     subst (λ (y : List _ × List ℕ). Several P spelled (ending stop) bytes y) (ok_is (a.0.0 ∷ b.0.0, b.0.1) x b.2) (one_more P spelled (ending stop) bytes a.0.1 a.0.0 b.0 first.0 first.1 others)
 
-pub until_takes : {A : Type 0} (stop : Stop) (P : A → Type 0) (spelled : A → List ℕ) (one : Reader A) → Sound P spelled one → (n : ℕ) (bytes : List ℕ) (x : List A × List ℕ) → IsBytes bytes → until stop one n bytes ≡ Ok x
+pub until_takes : {A : Type 0} (stop : Stop) (P : A → Type 0) (spelled : A → List ℕ) (one : Decoder A) → Sound P spelled one → (n : ℕ) (bytes : List ℕ) (x : List A × List ℕ) → IsBytes bytes → until stop one n bytes ≡ Ok x
     → Several P spelled (ending stop) bytes x
 unfolding until
 until_takes stop P spelled one sound zero bytes x fits e = absurd cc
@@ -133,7 +133,7 @@ BothWithin limit p = Within limit p.0 × Within limit p.1
 abbrev pub pair_encoding : Value × Value → List ℕ
 pair_encoding p = encoding p.0 ++ encoding p.1
 
-pub pair_takes : (limit : ℕ) (one : Reader Value) → Sound (Within limit) encoding one → Sound (BothWithin limit) pair_encoding (pair_at makes one)
+pub pair_takes : (limit : ℕ) (one : Decoder Value) → Sound (Within limit) encoding one → Sound (BothWithin limit) pair_encoding (pair_at makes one)
 unfolding pair_at
 pair_takes limit one sound bytes x fits e =
     let a = bind_ok (one bytes) (λ k. one k.1 >>= λ v. Ok ((k.0, v.0), v.1)) x e in
@@ -182,7 +182,7 @@ Good limit bytes x = Within limit x.0 × Takes bytes (encoding x.0) x.1
 abbrev Made : {A : Type 0} → (A → Type 0) → (A → List ℕ) → (Option Width → List A → Value) → ℕ → ℕ → Type 0
 Made {A} P spelled make major d = (xs : List A) (w : Option Width) → AllByRecursion P xs → LengthFits w (length xs) → Within (d + 1) (make w xs) × (encoding (make w xs) ≡ list_encoding major w (length xs) (flat_map spelled xs))
 
-list_takes : {A : Type 0} (P : A → Type 0) (spelled : A → List ℕ) (one : Reader A) (make : Option Width → List A → Value) (major d : ℕ) → Sound P spelled one → Made P spelled make major d
+list_takes : {A : Type 0} (P : A → Type 0) (spelled : A → List ℕ) (one : Decoder A) (make : Option Width → List A → Value) (major d : ℕ) → Sound P spelled one → Made P spelled make major d
     → (argument : Option (Width × ℕ)) (bytes rest : List ℕ) (ys : List A × List ℕ) → HeadIs bytes major argument rest → several one argument rest ≡ Ok ys → Good (d + 1) bytes (make (argument_width argument) ys.0, ys.1)
 unfolding several
 list_takes P spelled one make major d sound made (Some (w, n)) bytes rest ys h e =
@@ -211,11 +211,11 @@ object_made d ps w all fits =
     (((fits_len w _ _ are.len fits, are.fit), omega (arith, are.nested)), ap (λ k. list_encoding 5 w k (pair_encodings (pairs_of ps))) are.len ∙ ap (λ l. list_encoding 5 w (length ps) l) (sym are.spelled))
 
 -- what reads inside is sound
-abbrev InnerSound : ℕ → Option (Reader Value) → Type 0
+abbrev InnerSound : ℕ → Option (Decoder Value) → Type 0
 InnerSound limit None = Unit {0}
 InnerSound limit (Some one) = (d : ℕ) × (limit ≡ d + 1) × Sound (Within d) encoding one
 
-array_takes : (limit : ℕ) (i : Option (Reader Value)) (argument : Option (Width × ℕ)) (bytes rest : List ℕ) (x : Value × List ℕ) → InnerSound limit i → HeadIs bytes 4 argument rest → array_by makes i argument rest ≡ Ok x → Good limit bytes x
+array_takes : (limit : ℕ) (i : Option (Decoder Value)) (argument : Option (Width × ℕ)) (bytes rest : List ℕ) (x : Value × List ℕ) → InnerSound limit i → HeadIs bytes 4 argument rest → array_by makes i argument rest ≡ Ok x → Good limit bytes x
 array_takes limit None argument bytes rest x sound h e = absurd cc
 array_takes limit (Some one) argument bytes rest x sound h e =
     let d = sound.0 in
@@ -223,7 +223,7 @@ array_takes limit (Some one) argument bytes rest x sound h e =
     subst (λ (y : Value × List ℕ). Good limit bytes y) (ok_is (array (argument_width argument) (values_of b.0.0), b.0.1) x b.2)
     (subst (λ k. Good k bytes (array (argument_width argument) (values_of b.0.0), b.0.1)) (sym sound.1) (list_takes (Within d) encoding one (λ w vs. array w (values_of vs)) 4 d sound.2 (array_made d) argument bytes rest b.0 h b.1))
 
-map_takes : (limit : ℕ) (i : Option (Reader Value)) (argument : Option (Width × ℕ)) (bytes rest : List ℕ) (x : Value × List ℕ) → InnerSound limit i → HeadIs bytes 5 argument rest → map_by makes i argument rest ≡ Ok x → Good limit bytes x
+map_takes : (limit : ℕ) (i : Option (Decoder Value)) (argument : Option (Width × ℕ)) (bytes rest : List ℕ) (x : Value × List ℕ) → InnerSound limit i → HeadIs bytes 5 argument rest → map_by makes i argument rest ≡ Ok x → Good limit bytes x
 map_takes limit None argument bytes rest x sound h e = absurd cc
 map_takes limit (Some one) argument bytes rest x sound h e =
     let d = sound.0 in
@@ -252,7 +252,7 @@ string_by_takes limit k None bytes rest x h e =
     subst (λ (y : Value × List ℕ). Good limit bytes y) (ok_is (chunks k b.0.0, b.0.1) x b.2)
     ((are.0, omega arith), subst (λ (l : List ℕ). Takes bytes l b.0.1) (ap (λ (l : List ℕ). open_head (string_major k) ∷ (l ++ 255 ∷ [])) are.1) whole)
 
-tag_takes : (limit : ℕ) (i : Option (Reader Value)) (argument : Option (Width × ℕ)) (bytes rest : List ℕ) (x : Value × List ℕ) → InnerSound limit i → HeadIs bytes 6 argument rest → tag_by makes i argument rest ≡ Ok x → Good limit bytes x
+tag_takes : (limit : ℕ) (i : Option (Decoder Value)) (argument : Option (Width × ℕ)) (bytes rest : List ℕ) (x : Value × List ℕ) → InnerSound limit i → HeadIs bytes 6 argument rest → tag_by makes i argument rest ≡ Ok x → Good limit bytes x
 tag_takes limit i None bytes rest x sound h e = absurd cc
 tag_takes limit None (Some (w, n)) bytes rest x sound h e = absurd cc
 tag_takes limit (Some one) (Some (w, n)) bytes rest x sound h e =
@@ -261,7 +261,7 @@ tag_takes limit (Some one) (Some (w, n)) bytes rest x sound h e =
     subst (λ (y : Value × List ℕ). Good limit bytes y) (ok_is (tag w n b.0.0, b.0.1) x b.2)
     (((h.0, held.0.0), omega (arith, sound.1, held.0.1)), Takes-then bytes (head 6 w n) rest (encoding b.0.0) b.0.1 h.1 held.1)
 
-simple_is : (limit : ℕ) (i : Option (Reader Value)) (n : ℕ) (v : Value) → InnerSound limit i → simple_by makes i n ≡ Ok v → (simple n ≡ v) × (simple_nesting n ≤ limit)
+simple_is : (limit : ℕ) (i : Option (Decoder Value)) (n : ℕ) (v : Value) → InnerSound limit i → simple_by makes i n ≡ Ok v → (simple n ≡ v) × (simple_nesting n ≤ limit)
 simple_is limit None n v sound e =
     elim (chosen (eqb (simple_nesting n) 0) _ _ _ e) [
       | inl a ↦ (ok_is (simple n) v a.1, omega (arith, eqb-true (simple_nesting n) 0 a.0))
@@ -277,7 +277,7 @@ float_is w (Some f) v e = (f, refl, ok_is (float w f) v e)
 abbrev Special : ℕ → List ℕ → List ℕ → Value → Type 0
 Special limit bytes rest v = Within limit v × Takes bytes (encoding v) rest
 
-simple_special : (limit : ℕ) (i : Option (Reader Value)) (w : Width) (n : ℕ) (bytes rest : List ℕ) (v : Value) → InnerSound limit i → Takes bytes (head 7 w n) rest → IsSimple n → simple_width n ≡ w → simple_by makes i n ≡ Ok v → Special limit bytes rest v
+simple_special : (limit : ℕ) (i : Option (Decoder Value)) (w : Width) (n : ℕ) (bytes rest : List ℕ) (v : Value) → InnerSound limit i → Takes bytes (head 7 w n) rest → IsSimple n → simple_width n ≡ w → simple_by makes i n ≡ Ok v → Special limit bytes rest v
 simple_special limit i w n bytes rest v sound taken is width e =
     let s = simple_is limit i n v sound e in
     subst (Special limit bytes rest) s.0 ((is, s.1), subst (λ w. Takes bytes (head 7 w n) rest) (sym width) taken)
@@ -287,7 +287,7 @@ float_special limit w n bytes rest v taken is e =
     let f = float_is w (float_of w n) v e in
     subst (Special limit bytes rest) f.2 ((is, omega arith), subst (λ (m : ℕ). Takes bytes (head 7 w m) rest) (float_found w n f.0 f.1) taken)
 
-special_is : (limit : ℕ) (i : Option (Reader Value)) (argument : Option (Width × ℕ)) (bytes rest : List ℕ) (v : Value) → InnerSound limit i → HeadIs bytes 7 argument rest → special_by makes i argument ≡ Ok v → Special limit bytes rest v
+special_is : (limit : ℕ) (i : Option (Decoder Value)) (argument : Option (Width × ℕ)) (bytes rest : List ℕ) (v : Value) → InnerSound limit i → HeadIs bytes 7 argument rest → special_by makes i argument ≡ Ok v → Special limit bytes rest v
 special_is limit i None bytes rest v sound h e = absurd cc
 special_is limit i (Some (Immediate, n)) bytes rest v sound h e = simple_special limit i Immediate n bytes rest v sound h.1 (inl h.0) (one_byte n h.0) e
 special_is limit i (Some (One, n)) bytes rest v sound h e =
@@ -299,12 +299,12 @@ special_is limit i (Some (Two, n)) bytes rest v sound h e = float_special limit 
 special_is limit i (Some (Four, n)) bytes rest v sound h e = float_special limit Four n bytes rest v h.1 tt e
 special_is limit i (Some (Eight, n)) bytes rest v sound h e = float_special limit Eight n bytes rest v h.1 tt e
 
-special_takes : (limit : ℕ) (i : Option (Reader Value)) (argument : Option (Width × ℕ)) (bytes rest : List ℕ) (x : Value × List ℕ) → InnerSound limit i → HeadIs bytes 7 argument rest → (special_by makes i argument >>= in_front_of rest) ≡ Ok x → Good limit bytes x
+special_takes : (limit : ℕ) (i : Option (Decoder Value)) (argument : Option (Width × ℕ)) (bytes rest : List ℕ) (x : Value × List ℕ) → InnerSound limit i → HeadIs bytes 7 argument rest → (special_by makes i argument >>= in_front_of rest) ≡ Ok x → Good limit bytes x
 special_takes limit i argument bytes rest x sound h e =
     let b = bind_ok (special_by makes i argument) (in_front_of rest) x e in
     subst (λ (y : Value × List ℕ). Good limit bytes y) (ok_is (b.0, rest) x b.2) (special_is limit i argument bytes rest b.0 sound h b.1)
 
-item_by_takes : (limit : ℕ) (i : Option (Reader Value)) (major : ℕ) (argument : Option (Width × ℕ)) (bytes rest : List ℕ) (x : Value × List ℕ) → InnerSound limit i → HeadIs bytes major argument rest × (major < 8) → item_by makes i major argument rest ≡ Ok x → Good limit bytes x
+item_by_takes : (limit : ℕ) (i : Option (Decoder Value)) (major : ℕ) (argument : Option (Width × ℕ)) (bytes rest : List ℕ) (x : Value × List ℕ) → InnerSound limit i → HeadIs bytes major argument rest × (major < 8) → item_by makes i major argument rest ≡ Ok x → Good limit bytes x
 unfolding item_by
 item_by_takes limit i major argument bytes rest x sound h e =
     let of : (m : ℕ) → major ≡ m → HeadIs bytes m argument rest = λ m same. subst (λ (k : ℕ). HeadIs bytes k argument rest) same h.0 in

@@ -3,7 +3,7 @@ use Rattle.std.proofs.Common.{◌≡◌, ℕ, List, [], ◌∷◌, Option, Some,
 use Rattle.cbor_edn_core.specs.declared.cbor.Width.{Width}
 use Rattle.cbor_edn_core.specs.Value as cbor
 use Rattle.cbor_edn_core.specs.Value.{Value, array, Values, no_values, value, Pairs, no_pairs, pair, object}
-use Rattle.cbor_edn_core.specs.code.CborReading.{Argument, Reads, Reader, Makes, item_at}
+use Rattle.cbor_edn_core.specs.code.CborReading.{Argument, DecoderResult, Decoder, Makes, item_at}
 
 abbrev pub values_of : List Value → Values
 values_of [] = no_values
@@ -47,9 +47,9 @@ makes = record {
   float = cbor.float;
 }
 
-abbrev pub value_at : ℕ → Reader Value
+abbrev pub value_at : ℕ → Decoder Value
 value_at = item_at makes
 
 -- what is read with these bytes behind it
-abbrev pub in_front_of : {A : Type 0} → List ℕ → A → Reads A
+abbrev pub in_front_of : {A : Type 0} → List ℕ → A → DecoderResult A
 in_front_of rest x = Ok (x, rest)

@@ -13,7 +13,7 @@ use Rattle.cbor_edn_parts.specs.code.NumberReading.{integer_of}
 use Rattle.cbor_edn_parts.proofs.NumberParts.{integer_reads, integer_read}
 use Rattle.cbor_edn_core.specs.declared.cbor.Width.{Width}
 use Rattle.cbor_edn_core.specs.Items.{Row, Elements, Pairs, Strings, Bracketed, Array, Map, entries_of, Node, Item, Number, Listed, Tagged, Items}
-use Rattle.cbor_edn_core.specs.Trees.{Tree, OneItem, OneEntry, Rest, LastTree, ElementTree, PairTree, EmptyTree, FullTree, Head, mark, items}
+use Rattle.cbor_edn_core.specs.Trees.{Tree, OneItem, OneEntry, Rest, LastTree, ElementTree, PairTree, EmptyTree, FullTree, ListHead, mark, items}
 use Rattle.cbor_edn_core.specs.View.{entries_onto}
 use Rattle.cbor_edn_core.specs.Value.{Value, Values, tag, AreBytes, head, encoding, encodings, Enc, EncAll}
 use Rattle.cbor_edn_core.specs.Meaning.{◌>>=◌, width_of, length_of, means_integer, is_simple, simple_number, simple_of, EntryOf, RowOf, row_len, list_value, listed, no_entries, one_more, means}
@@ -202,7 +202,7 @@ list_unfit k i o n old new (Told e) counts found = none_listed k i o n counts fo
 list_unfit k i o n old new (Memory e) counts found = tt
 
 -- a list with entries
-module _ (k : Bracketed) (h : Head) (s : List ℕ) (m : Tree (Rest (entries_of k))) (ps : List (Tree (OneEntry (entries_of k)) × List ℕ)) (w : Tree (OneEntry (entries_of k))) (t : List ℕ) (m_is : m ≡ entries_onto ps (LastTree w t)) (n : ℕ) (count : n ≡ length ps + 1) where
+module _ (k : Bracketed) (h : ListHead) (s : List ℕ) (m : Tree (Rest (entries_of k))) (ps : List (Tree (OneEntry (entries_of k)) × List ℕ)) (w : Tree (OneEntry (entries_of k))) (t : List ℕ) (m_is : m ≡ entries_onto ps (LastTree w t)) (n : ℕ) (count : n ≡ length ps + 1) where
   counts : Counts (entries_of k) (means (items m)) n
   counts r meant = row_length (entries_of k) ps w t r (ap (λ t. means (items t)) (sym m_is) ∙ meant) ∙ sym count
 

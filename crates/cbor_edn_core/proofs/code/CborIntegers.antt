@@ -7,7 +7,7 @@ use Rattle.cbor_edn_parts.specs.declared.error.InconsistentEdn.{InconsistentEdn}
 use Rattle.cbor_edn_parts.specs.declared.indicator.Indicator.{Indicator}
 use Rattle.cbor_edn_core.specs.declared.cbor.Width.{Width}
 use Rattle.cbor_edn_core.specs.Value.{Value, unsigned, negative, head, encoding}
-use Rattle.cbor_edn_core.specs.Meaning.{◌>>=◌, width_of, unmarked, tagged, magnitude_bytes, bignum, means_integer}
+use Rattle.cbor_edn_core.specs.Meaning.{◌>>=◌, width_of, no_indicator, tagged, magnitude_bytes, bignum, means_integer}
 use Rattle.cbor_edn_core.specs.code.Encoding.{Encodes}
 
 abbrev Pushed : Type 0
@@ -31,7 +31,7 @@ negative_small i n m old new r same lt pushed =
     let small : is_small m ≡ true = lt-ltb m (2 ^ 64) lt in
     rw (← same, small) (made (width_of i m) (λ w. negative w m) (λ w. head 1 w m) old new r (λ w. refl) pushed)
 
-large_is : (n magnitude number : ℕ) (i : Option Indicator) (small : Option Value) → 2 ^ 64 ≤ n → magnitude < 2 ^ 128 → cond (ltb n (2 ^ 64)) small (bignum number n magnitude i) ≡ unmarked i (tagged number (magnitude_bytes n))
+large_is : (n magnitude number : ℕ) (i : Option Indicator) (small : Option Value) → 2 ^ 64 ≤ n → magnitude < 2 ^ 128 → cond (ltb n (2 ^ 64)) small (bignum number n magnitude i) ≡ no_indicator i (tagged number (magnitude_bytes n))
 large_is n magnitude number i small le lt =
     let large : is_small n ≡ false = le-ltb n (2 ^ 64) le in
     let below : ltb magnitude (2 ^ 128) ≡ true = lt-ltb magnitude (2 ^ 128) lt in

@@ -7,7 +7,7 @@ use Rattle.cbor_edn_core.specs.Trees.{Tree, OneEntry, LastTree, MoreTree}
 use Rattle.cbor_edn_core.specs.View.{entries_onto}
 use Rattle.cbor_edn_core.specs.Decoded.{in_front}
 use Rattle.cbor_edn_core.specs.code.CborReading.{row_of}
-use Rattle.cbor_edn_core.specs.code.Growing.{entries}
+use Rattle.cbor_edn_core.specs.code.RowBuilder.{entries}
 
 abbrev pub comma : List ℕ
 comma = 44 ∷ 32 ∷ []

@@ -15,7 +15,7 @@ use Rattle.cbor_edn_core.specs.declared.from_cbor.head.Stop.TheVariants.{Break}
 use Rattle.cbor_edn_core.specs.Trees.{Tree, OneString, StringTree, LiteralTree, LastPieceTree}
 use Rattle.cbor_edn_core.specs.Value.{is_content, string_major}
 use Rattle.cbor_edn_core.specs.Decoded.{indicator_of}
-use Rattle.cbor_edn_core.specs.code.CborReading.{Reader, Fails, shown, head_at, until, string_at, chunk_at, chunk_by, string_by, string_tree, string_row, chunked_tree, chunks_tree, trees}
+use Rattle.cbor_edn_core.specs.code.CborReading.{Decoder, DecoderFails, shown, head_at, until, string_at, chunk_at, chunk_by, string_by, string_tree, string_row, chunked_tree, chunks_tree, trees}
 use Rattle.cbor_edn_core.proofs.bytes.CborHeads.{chosen}
 use Rattle.cbor_edn_core.proofs.bytes.CborTrees.{until_shown, shown_again}
 use Rattle.cbor_edn_core.proofs.code.CborTurns.{shown_ok, shown_fails, fails_shown}
@@ -68,7 +68,7 @@ module _ (k : StringKind) where
   pub alone_read : (w : Width) (n : ℕ) (bytes rest : List ℕ) (t : Tree OneString) → shown (λ bs. string_tree k (w, bs)) (string_at k n bytes) ≡ Ok (t, rest) → string_by trees k (Some (w, n)) bytes ≡ Ok (StringTree t, rest)
   alone_read w n bytes rest t e = sym (shown_again (λ bs. string_tree k (w, bs)) StringTree (string_at k n bytes)) ∙ ap (shown StringTree) e
 
-  pub chunk_fails : (e : Fault CborError) (bytes : List ℕ) → Fails e (head_at bytes) → Fails e (shown (string_tree k) (chunk_at k bytes))
+  pub chunk_fails : (e : Fault CborError) (bytes : List ℕ) → DecoderFails e (head_at bytes) → DecoderFails e (shown (string_tree k) (chunk_at k bytes))
   unfolding chunk_at
   chunk_fails (Memory m) bytes h = tt
   chunk_fails (Told e) bytes h = rw h refl
@@ -93,7 +93,7 @@ module _ (k : StringKind) where
         let found : chunk_at k bytes ≡ shown (λ bs. (w, bs)) (string_at k n rest) = chunk_read ∙ rw (is, same) refl in
         ap (shown (string_tree k)) found ∙ shown_again (λ bs. (w, bs)) (string_tree k) (string_at k n rest)
 
-  abbrev pub one : Reader (Tree OneString)
+  abbrev pub one : Decoder (Tree OneString)
   one bytes = shown (string_tree k) (chunk_at k bytes)
 
   shown_chunks : (n : ℕ) (bytes : List ℕ) → until Break one n bytes ≡ shown (map (string_tree k)) (until Break (chunk_at k) n bytes)
@@ -104,5 +104,5 @@ module _ (k : StringKind) where
       let s = shown_ok (map (string_tree k)) (until Break (chunk_at k) n bytes) (ws, rest) (sym (shown_chunks n bytes) ∙ e) in
       ap (shown (chunks_tree k)) s.1 ∙ ap (λ (p : List (Tree OneString) × List ℕ). Ok (chunked_tree k (string_row p.0), p.1)) s.2
 
-  pub chunks_fail : (e : Fault CborError) (n : ℕ) (bytes : List ℕ) → Fails e (until Break one n bytes) → Fails e (shown (chunks_tree k) (until Break (chunk_at k) n bytes))
+  pub chunks_fail : (e : Fault CborError) (n : ℕ) (bytes : List ℕ) → DecoderFails e (until Break one n bytes) → DecoderFails e (shown (chunks_tree k) (until Break (chunk_at k) n bytes))
   chunks_fail e n bytes h = shown_fails (chunks_tree k) e _ (fails_shown (map (string_tree k)) e _ (rw shown_chunks at h))

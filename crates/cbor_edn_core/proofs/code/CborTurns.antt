@@ -5,13 +5,13 @@ use Rattle.cbor_edn_core.specs.declared.from_cbor.CborError.{CborError}
 use Rattle.cbor_edn_core.specs.declared.from_cbor.head.Stop.{Stop}
 use Rattle.cbor_edn_parts.specs.declared.error.Fault.{Fault}
 use Rattle.cbor_edn_parts.specs.declared.error.Fault.TheVariants.{Memory, Told}
-use Rattle.cbor_edn_core.specs.declared.from_cbor.growing.Growing.{Growing}
-use Rattle.cbor_edn_core.specs.code.Growing.{grown, Pushes}
-use Rattle.cbor_edn_core.specs.code.CborReading.{Reads, Reader, ◌>>=◌, shown, Gives, Fails, many, until, past, turn, head_at, item_at, Makes}
+use Rattle.cbor_edn_core.specs.declared.from_cbor.row_builder.RowBuilder.{RowBuilder}
+use Rattle.cbor_edn_core.specs.code.RowBuilder.{grown, Pushes}
+use Rattle.cbor_edn_core.specs.code.CborReading.{DecoderResult, Decoder, ◌>>=◌, shown, DecoderGives, DecoderFails, many, until, past, turn, head_at, item_at, Makes}
 
 -- ---- what is seen by a function
 
-abbrev refusal : {A : Type 0} → CborError → Reads A
+abbrev refusal : {A : Type 0} → CborError → DecoderResult A
 refusal e = Err e
 
 abbrev answer : {A : Type 0} → A → Result A CborError
@@ -20,26 +20,26 @@ answer x = Ok x
 answers : {A : Type 0} (x y : A) → answer x ≡ answer y → x ≡ y
 answers x y e = cc
 
-pub shown_ok : {A B : Type 0} (f : A → B) (r : Reads A) (y : B × List ℕ) → shown f r ≡ Ok y → (x : A × List ℕ) × (r ≡ Ok x) × ((f x.0, x.1) ≡ y)
+pub shown_ok : {A B : Type 0} (f : A → B) (r : DecoderResult A) (y : B × List ℕ) → shown f r ≡ Ok y → (x : A × List ℕ) × (r ≡ Ok x) × ((f x.0, x.1) ≡ y)
 shown_ok f (Ok x) y e = (x, refl, answers (f x.0, x.1) y e)
 shown_ok f (Err e) y is = absurd cc
 
-pub shown_err : {A B : Type 0} (f : A → B) (r : Reads A) (e : CborError) → shown f r ≡ Err e → r ≡ Err e
+pub shown_err : {A B : Type 0} (f : A → B) (r : DecoderResult A) (e : CborError) → shown f r ≡ Err e → r ≡ Err e
 shown_err f (Ok x) e is = absurd cc
 shown_err {A} f (Err d) e is = let same : d ≡ e = cc in ap (λ c. refusal {A = A} c) same
 
 -- a refusal is seen as it is
-pub shown_fails : {A B : Type 0} (f : A → B) (e : Fault CborError) (r : Reads A) → Fails e r → Fails e (shown f r)
+pub shown_fails : {A B : Type 0} (f : A → B) (e : Fault CborError) (r : DecoderResult A) → DecoderFails e r → DecoderFails e (shown f r)
 shown_fails f (Memory m) r h = tt
 shown_fails f (Told e) r h = rw h refl
 
-pub fails_shown : {A B : Type 0} (f : A → B) (e : Fault CborError) (r : Reads A) → Fails e (shown f r) → Fails e r
+pub fails_shown : {A B : Type 0} (f : A → B) (e : Fault CborError) (r : DecoderResult A) → DecoderFails e (shown f r) → DecoderFails e r
 fails_shown f (Memory m) r h = tt
 fails_shown f (Told e) r h = shown_err f r e h
 
 -- one entry more, of what a call read
-pub pushed_shown : {X R A : Type 0} (view : X → A) (now : R → List ℕ) (found : Growing X) (read : Result (X × R) (Fault CborError)) (result : Result (Growing X × R) (Fault CborError)) (expected : Reads A)
-    → Gives (λ x. (view x.0, now x.1)) read expected → Pushes found read result → Gives (λ x. (map view (grown x.0), now x.1)) result (shown (λ a. map view (grown found) ++ a ∷ []) expected)
+pub pushed_shown : {X R A : Type 0} (view : X → A) (now : R → List ℕ) (found : RowBuilder X) (read : Result (X × R) (Fault CborError)) (result : Result (RowBuilder X × R) (Fault CborError)) (expected : DecoderResult A)
+    → DecoderGives (λ x. (view x.0, now x.1)) read expected → Pushes found read result → DecoderGives (λ x. (map view (grown x.0), now x.1)) result (shown (λ a. map view (grown found) ++ a ∷ []) expected)
 pushed_shown view now found (Err e) result expected given pushes = rw pushes (shown_fails (λ a. map view (grown found) ++ a ∷ []) e expected given)
 pushed_shown {X} view now found (Ok (x, rest)) (Ok p) expected given pushes =
     let seen : map view (grown p.0) ≡ map view (grown found) ++ view x ∷ [] = ap (map view) pushes.0 ∙ map_push view (grown found) x in
@@ -48,10 +48,10 @@ pushed_shown view now found (Ok (x, rest)) (Err (Memory e)) expected given pushe
 pushed_shown view now found (Ok (x, rest)) (Err (Told e)) expected given pushes = absurd pushes
 
 -- what was read before, and what is still read
-abbrev pub with_front : {A : Type 0} → List A → Reads (List A) → Reads (List A)
+abbrev pub with_front : {A : Type 0} → List A → DecoderResult (List A) → DecoderResult (List A)
 with_front front read = read >>= λ x. Ok (front ++ x.0, x.1)
 
-regroup : {A : Type 0} → (front : List A) (a : A) (read : Reads (List A)) → with_front front (read >>= λ x. Ok (a ∷ x.0, x.1)) ≡ with_front (front ++ a ∷ []) read
+regroup : {A : Type 0} → (front : List A) (a : A) (read : DecoderResult (List A)) → with_front front (read >>= λ x. Ok (a ∷ x.0, x.1)) ≡ with_front (front ++ a ∷ []) read
 regroup {A} front a (Ok x) = ap (λ (as' : List A). Ok (as', x.1)) (simp append_assoc)
 regroup front a (Err f) = refl
 
@@ -60,19 +60,19 @@ ended {A} front rest = ap (λ (as' : List A). Ok (as', rest)) (append-nil front)
 
 -- ---- so many
 
-many_more : {A : Type 0} → (one : Reader A) (n : ℕ) (bytes after : List ℕ) (a : A) → one bytes ≡ Ok (a, after) → many one (suc n) bytes ≡ (many one n after >>= λ xs. Ok (a ∷ xs.0, xs.1))
+many_more : {A : Type 0} → (one : Decoder A) (n : ℕ) (bytes after : List ℕ) (a : A) → one bytes ≡ Ok (a, after) → many one (suc n) bytes ≡ (many one n after >>= λ xs. Ok (a ∷ xs.0, xs.1))
 unfolding many
 many_more one n bytes after a h = rw h refl
 
-many_fails : {A : Type 0} → (one : Reader A) (n : ℕ) (bytes : List ℕ) (f : CborError) → one bytes ≡ Err f → many one (suc n) bytes ≡ Err f
+many_fails : {A : Type 0} → (one : Decoder A) (n : ℕ) (bytes : List ℕ) (f : CborError) → one bytes ≡ Err f → many one (suc n) bytes ≡ Err f
 unfolding many
 many_fails one n bytes f h = rw h refl
 
-many_none : {A : Type 0} → (one : Reader A) (bytes : List ℕ) → many one 0 bytes ≡ Ok ([], bytes)
+many_none : {A : Type 0} → (one : Decoder A) (bytes : List ℕ) → many one 0 bytes ≡ Ok ([], bytes)
 unfolding many
 many_none one bytes = refl
 
-pub goes_on : {A : Type 0} → (one : Reader A) (front : List A) (count i : ℕ) (bytes after : List ℕ) (a : A) (total : Reads (List A)) → i < count → one bytes ≡ Ok (a, after)
+pub goes_on : {A : Type 0} → (one : Decoder A) (front : List A) (count i : ℕ) (bytes after : List ℕ) (a : A) (total : DecoderResult (List A)) → i < count → one bytes ≡ Ok (a, after)
     → with_front front (many one (count - i) bytes) ≡ total → with_front (front ++ a ∷ []) (many one (count - (i + 1)) after) ≡ total
 goes_on one front count i bytes after a total lt h so_far =
     let k : count - i ≡ suc (count - (i + 1)) = omega arith in
@@ -80,51 +80,51 @@ goes_on one front count i bytes after a total lt h so_far =
     sym (ap (with_front front) step ∙ regroup front a (many one (count - (i + 1)) after)) ∙ so_far
 
 -- one more, seen with those in front of it
-pub goes_on_with : {A : Type 0} → (one : Reader A) (front : List A) (count i : ℕ) (bytes after : List ℕ) (more : List A) (total : Reads (List A)) → i < count → shown (λ a. front ++ a ∷ []) (one bytes) ≡ Ok (more, after)
+pub goes_on_with : {A : Type 0} → (one : Decoder A) (front : List A) (count i : ℕ) (bytes after : List ℕ) (more : List A) (total : DecoderResult (List A)) → i < count → shown (λ a. front ++ a ∷ []) (one bytes) ≡ Ok (more, after)
     → with_front front (many one (count - i) bytes) ≡ total → with_front more (many one (count - (i + 1)) after) ≡ total
 goes_on_with {A} one front count i bytes after more total lt h so_far =
     let s = shown_ok (λ a. front ++ a ∷ []) (one bytes) (more, after) h in
     subst (λ (p : List A × List ℕ). with_front p.0 (many one (count - (i + 1)) p.1) ≡ total) s.2 (goes_on one front count i bytes s.0.1 s.0.0 total lt s.1 so_far)
 
-pub fails : {A : Type 0} → (e : Fault CborError) (one : Reader A) (front : List A) (count i : ℕ) (bytes : List ℕ) (total : Reads (List A)) → i < count → Fails e (one bytes)
-    → with_front front (many one (count - i) bytes) ≡ total → Fails e total
+pub fails : {A : Type 0} → (e : Fault CborError) (one : Decoder A) (front : List A) (count i : ℕ) (bytes : List ℕ) (total : DecoderResult (List A)) → i < count → DecoderFails e (one bytes)
+    → with_front front (many one (count - i) bytes) ≡ total → DecoderFails e total
 fails (Memory m) one front count i bytes total lt h so_far = tt
 fails (Told f) one front count i bytes total lt h so_far =
     let k : count - i ≡ suc (count - (i + 1)) = omega arith in
     sym so_far ∙ ap (with_front front) (ap (λ n. many one n bytes) k ∙ many_fails one (count - (i + 1)) bytes f h)
 
-pub is_done : {A : Type 0} → (one : Reader A) (front : List A) (count i : ℕ) (bytes : List ℕ) (total : Reads (List A)) → count ≤ i → with_front front (many one (count - i) bytes) ≡ total → total ≡ Ok (front, bytes)
+pub is_done : {A : Type 0} → (one : Decoder A) (front : List A) (count i : ℕ) (bytes : List ℕ) (total : DecoderResult (List A)) → count ≤ i → with_front front (many one (count - i) bytes) ≡ total → total ≡ Ok (front, bytes)
 is_done one front count i bytes total le so_far =
     let k : count - i ≡ 0 = omega arith in
     sym so_far ∙ ap (with_front front) (ap (λ n. many one n bytes) k ∙ many_none one bytes) ∙ ended front bytes
 
 -- ---- up to an end
 
-turns : {A : Type 0} → (stop : Stop) (one : Reader A) (n : ℕ) (bytes : List ℕ) → 0 < n → until stop one n bytes ≡ turn one (until stop one (n - 1)) bytes (past stop bytes)
+turns : {A : Type 0} → (stop : Stop) (one : Decoder A) (n : ℕ) (bytes : List ℕ) → 0 < n → until stop one n bytes ≡ turn one (until stop one (n - 1)) bytes (past stop bytes)
 unfolding until
 turns stop one zero bytes lt = absurd (omega arith)
 turns stop one (suc n) bytes lt = let k : suc n - 1 ≡ n = omega arith in rw k refl
 
-pub until_more : {A : Type 0} → (stop : Stop) (one : Reader A) (front : List A) (n : ℕ) (bytes after : List ℕ) (a : A) (total : Reads (List A)) → 0 < n → past stop bytes ≡ None → one bytes ≡ Ok (a, after)
+pub until_more : {A : Type 0} → (stop : Stop) (one : Decoder A) (front : List A) (n : ℕ) (bytes after : List ℕ) (a : A) (total : DecoderResult (List A)) → 0 < n → past stop bytes ≡ None → one bytes ≡ Ok (a, after)
     → with_front front (until stop one n bytes) ≡ total → with_front (front ++ a ∷ []) (until stop one (n - 1) after) ≡ total
 until_more stop one front n bytes after a total lt going h so_far =
     let step : until stop one n bytes ≡ (until stop one (n - 1) after >>= λ xs. Ok (a ∷ xs.0, xs.1)) = turns stop one n bytes lt ∙ rw (going, h) refl in
     sym (ap (with_front front) step ∙ regroup front a (until stop one (n - 1) after)) ∙ so_far
 
-pub until_more_with : {A : Type 0} → (stop : Stop) (one : Reader A) (front : List A) (n : ℕ) (bytes after : List ℕ) (more : List A) (total : Reads (List A)) → 0 < n → past stop bytes ≡ None → shown (λ a. front ++ a ∷ []) (one bytes) ≡ Ok (more, after)
+pub until_more_with : {A : Type 0} → (stop : Stop) (one : Decoder A) (front : List A) (n : ℕ) (bytes after : List ℕ) (more : List A) (total : DecoderResult (List A)) → 0 < n → past stop bytes ≡ None → shown (λ a. front ++ a ∷ []) (one bytes) ≡ Ok (more, after)
     → with_front front (until stop one n bytes) ≡ total → with_front more (until stop one (n - 1) after) ≡ total
 until_more_with {A} stop one front n bytes after more total lt going h so_far =
     let s = shown_ok (λ a. front ++ a ∷ []) (one bytes) (more, after) h in
     subst (λ (p : List A × List ℕ). with_front p.0 (until stop one (n - 1) p.1) ≡ total) s.2 (until_more stop one front n bytes s.0.1 s.0.0 total lt going s.1 so_far)
 
-pub until_fails : {A : Type 0} → (stop : Stop) (e : Fault CborError) (one : Reader A) (front : List A) (n : ℕ) (bytes : List ℕ) (total : Reads (List A)) → 0 < n → past stop bytes ≡ None → Fails e (one bytes)
-    → with_front front (until stop one n bytes) ≡ total → Fails e total
+pub until_fails : {A : Type 0} → (stop : Stop) (e : Fault CborError) (one : Decoder A) (front : List A) (n : ℕ) (bytes : List ℕ) (total : DecoderResult (List A)) → 0 < n → past stop bytes ≡ None → DecoderFails e (one bytes)
+    → with_front front (until stop one n bytes) ≡ total → DecoderFails e total
 until_fails stop (Memory m) one front n bytes total lt going h so_far = tt
 until_fails stop (Told f) one front n bytes total lt going h so_far =
     let step : until stop one n bytes ≡ Err f = turns stop one n bytes lt ∙ rw (going, h) refl in
     sym so_far ∙ ap (with_front front) step
 
-pub until_done : {A : Type 0} → (stop : Stop) (one : Reader A) (front : List A) (n : ℕ) (bytes after : List ℕ) (total : Reads (List A)) → 0 < n → past stop bytes ≡ Some after
+pub until_done : {A : Type 0} → (stop : Stop) (one : Decoder A) (front : List A) (n : ℕ) (bytes after : List ℕ) (total : DecoderResult (List A)) → 0 < n → past stop bytes ≡ Some after
     → with_front front (until stop one n bytes) ≡ total → total ≡ Ok (front, after)
 until_done stop one front n bytes after total lt ends so_far =
     let step : until stop one n bytes ≡ Ok ([], after) = turns stop one n bytes lt ∙ rw ends refl in
@@ -137,6 +137,6 @@ unfolding item_at
 item_at_err m zero bytes f e = rw e refl
 item_at_err m (suc depth) bytes f e = rw e refl
 
-pub item_fails : {A B : Type 0} (m : Makes A B) (e : Fault CborError) (depth : ℕ) (bytes : List ℕ) → Fails e (head_at bytes) → Fails e (item_at m depth bytes)
+pub item_fails : {A B : Type 0} (m : Makes A B) (e : Fault CborError) (depth : ℕ) (bytes : List ℕ) → DecoderFails e (head_at bytes) → DecoderFails e (item_at m depth bytes)
 item_fails m (Memory _) depth bytes h = tt
 item_fails m (Told f) depth bytes h = item_at_err m depth bytes f h

@@ -17,9 +17,9 @@ use Rattle.cbor_edn_parts.specs.code.SpaceTokens.{space, separator}
 use Rattle.cbor_edn_parts.specs.code.NumberTokens.{number}
 use Rattle.cbor_edn_core.specs.Items.{Row, Elements, Pairs, Bracketed, Array, Map, entries_of}
 use Rattle.cbor_edn_core.specs.Spelling.{opening, ending}
-use Rattle.cbor_edn_core.specs.Trees.{Rule, OneItem, OneString, OneEntry, Inside, Rest, Seq, Standalone, Head, Tree, ListTree, StringTree, ElementTree, PairTree, EmptyTree, FullTree, LastTree, MoreTree, NothingTree, SequenceTree, StandaloneTree}
-use Rattle.cbor_edn_core.specs.code.Reading.{◌>>=◌, Read, token, byte, not_empty, number_item, list_item, string_item, stream_item, starts_string, word_at, plain_item, item, entry, head_of, inside, inside_full, more, rest, sequence, standalone, reads, reads_all, at_end}
-use Rattle.cbor_edn_core.specs.code.ParserResults.{Fails, ReadsEnd, IsNotAt, behind_colon, parted}
+use Rattle.cbor_edn_core.specs.Trees.{Rule, OneItem, OneString, OneEntry, Inside, Rest, Seq, Standalone, ListHead, Tree, ListTree, StringTree, ElementTree, PairTree, EmptyTree, FullTree, LastTree, MoreTree, NothingTree, SequenceTree, StandaloneTree}
+use Rattle.cbor_edn_core.specs.code.Reading.{◌>>=◌, Read, token, byte, not_empty, number_item, list_item, string_item, stream_item, starts_string, word_at, plain_item, item, entry, list_head_of, inside, inside_full, more, rest, sequence, standalone, reads, reads_all, at_end}
+use Rattle.cbor_edn_core.specs.code.ParserResults.{Fails, ReadsEnd, IsNotAt, behind_colon, with_separator}
 use Rattle.cbor_edn_parts.specs.Refusals.{IfTold}
 use Rattle.cbor_edn_parts.specs.declared.space.read.End.{End}
 use Rattle.cbor_edn_core.specs.View.{entries_onto}
@@ -165,19 +165,19 @@ inside_behind limit k xs r s q i at h = reads-rule limit (Inside k) xs ∙ rw at
 pub inside_empty : (limit : ℕ) (k : Bracketed) (xs r s q : List ℕ) (i : Option Indicator) → indicator_at xs ≡ (i, r) → token space r ≡ Ok (s, q) → is_closed q ≡ true → reads limit (Inside k) xs ≡ Ok (EmptyTree i s, q)
 inside_empty limit k xs r s q i at h c = inside_behind limit k xs r s q i at h ∙ rw c
 
-inside_open : (limit : ℕ) (k : Bracketed) (xs r s q : List ℕ) (i : Option Indicator) → indicator_at xs ≡ (i, r) → token space r ≡ Ok (s, q) → is_closed q ≡ false → reads limit (Inside k) xs ≡ (head_of i s >>= λ h. reads limit (Rest (entries_of k)) q >>= λ m. Ok (FullTree h.0 h.1 m.0, m.1))
+inside_open : (limit : ℕ) (k : Bracketed) (xs r s q : List ℕ) (i : Option Indicator) → indicator_at xs ≡ (i, r) → token space r ≡ Ok (s, q) → is_closed q ≡ false → reads limit (Inside k) xs ≡ (list_head_of i s >>= λ h. reads limit (Rest (entries_of k)) q >>= λ m. Ok (FullTree h.0 h.1 m.0, m.1))
 unfolding inside_full
 inside_open limit k xs r s q i at h c = inside_behind limit k xs r s q i at h ∙ rw c
 
 -- an indicator without the space that it needs
-pub inside_unparted : (limit : ℕ) (k : Bracketed) (xs r s q : List ℕ) (i : Option Indicator) → indicator_at xs ≡ (i, r) → token space r ≡ Ok (s, q) → is_closed q ≡ false → head_of i s ≡ Err Invalid → reads limit (Inside k) xs ≡ Err Invalid
-inside_unparted limit k xs r s q i at h c n = inside_open limit k xs r s q i at h c ∙ bind_fails (Told (record { kind = Invalid; at = 0 })) (head_of i s) _ n
+pub inside_unparted : (limit : ℕ) (k : Bracketed) (xs r s q : List ℕ) (i : Option Indicator) → indicator_at xs ≡ (i, r) → token space r ≡ Ok (s, q) → is_closed q ≡ false → list_head_of i s ≡ Err Invalid → reads limit (Inside k) xs ≡ Err Invalid
+inside_unparted limit k xs r s q i at h c n = inside_open limit k xs r s q i at h c ∙ bind_fails (Told (record { kind = Invalid; at = 0 })) (list_head_of i s) _ n
 
-pub inside_rest_fails : (e : Fault Refusal) (limit : ℕ) (k : Bracketed) (xs r s q t : List ℕ) (i : Option Indicator) (head : Head) → indicator_at xs ≡ (i, r) → token space r ≡ Ok (s, q) → is_closed q ≡ false → head_of i s ≡ Ok (head, t) → Fails e (reads limit (Rest (entries_of k)) q) → Fails e (reads limit (Inside k) xs)
-inside_rest_fails e limit k xs r s q t i head at h c o f = fails_at e _ _ (inside_open limit k xs r s q i at h c ∙ bind_ok (head_of i s) (head, t) _ o) (bind_fails e (reads limit (Rest (entries_of k)) q) _ f)
+pub inside_rest_fails : (e : Fault Refusal) (limit : ℕ) (k : Bracketed) (xs r s q t : List ℕ) (i : Option Indicator) (head : ListHead) → indicator_at xs ≡ (i, r) → token space r ≡ Ok (s, q) → is_closed q ≡ false → list_head_of i s ≡ Ok (head, t) → Fails e (reads limit (Rest (entries_of k)) q) → Fails e (reads limit (Inside k) xs)
+inside_rest_fails e limit k xs r s q t i head at h c o f = fails_at e _ _ (inside_open limit k xs r s q i at h c ∙ bind_ok (list_head_of i s) (head, t) _ o) (bind_fails e (reads limit (Rest (entries_of k)) q) _ f)
 
-pub inside_read : (limit : ℕ) (k : Bracketed) (xs r s q t p : List ℕ) (i : Option Indicator) (head : Head) (m : Tree (Rest (entries_of k))) → indicator_at xs ≡ (i, r) → token space r ≡ Ok (s, q) → is_closed q ≡ false → head_of i s ≡ Ok (head, t) → reads limit (Rest (entries_of k)) q ≡ Ok (m, p) → reads limit (Inside k) xs ≡ Ok (FullTree head t m, p)
-inside_read limit k xs r s q t p i head m at h c o f = inside_open limit k xs r s q i at h c ∙ bind_ok (head_of i s) (head, t) _ o ∙ bind_ok (reads limit (Rest (entries_of k)) q) (m, p) _ f
+pub inside_read : (limit : ℕ) (k : Bracketed) (xs r s q t p : List ℕ) (i : Option Indicator) (head : ListHead) (m : Tree (Rest (entries_of k))) → indicator_at xs ≡ (i, r) → token space r ≡ Ok (s, q) → is_closed q ≡ false → list_head_of i s ≡ Ok (head, t) → reads limit (Rest (entries_of k)) q ≡ Ok (m, p) → reads limit (Inside k) xs ≡ Ok (FullTree head t m, p)
+inside_read limit k xs r s q t p i head m at h c o f = inside_open limit k xs r s q i at h c ∙ bind_ok (list_head_of i s) (head, t) _ o ∙ bind_ok (reads limit (Rest (entries_of k)) q) (m, p) _ f
 
 -- the entries of arrays and maps
 
@@ -227,21 +227,21 @@ value_read limit v w s xs u o z a f = before_value limit v s xs u o a ∙ bind_o
 
 -- entries, one or more
 
-pub parted_fails : (e : Fault Refusal) (limit : ℕ) (k : Row) (xs : List ℕ) → Fails e (reads limit (OneEntry k) xs) → Fails e (parted limit k xs)
-parted_fails e limit k xs h = bind_fails e (reads limit (OneEntry k) xs) _ h
+pub with_separator_fails : (e : Fault Refusal) (limit : ℕ) (k : Row) (xs : List ℕ) → Fails e (reads limit (OneEntry k) xs) → Fails e (with_separator limit k xs)
+with_separator_fails e limit k xs h = bind_fails e (reads limit (OneEntry k) xs) _ h
 
-parted_behind : (limit : ℕ) (k : Row) (xs r : List ℕ) (w : Tree (OneEntry k)) → reads limit (OneEntry k) xs ≡ Ok (w, r) → parted limit k xs ≡ (token separator r >>= λ s. Ok ((w, s.0), s.1))
-parted_behind limit k xs r w h = bind_ok (reads limit (OneEntry k) xs) (w, r) _ h
+with_separator_behind : (limit : ℕ) (k : Row) (xs r : List ℕ) (w : Tree (OneEntry k)) → reads limit (OneEntry k) xs ≡ Ok (w, r) → with_separator limit k xs ≡ (token separator r >>= λ s. Ok ((w, s.0), s.1))
+with_separator_behind limit k xs r w h = bind_ok (reads limit (OneEntry k) xs) (w, r) _ h
 
-pub parted_fails_behind : (e : Fault Refusal) (limit : ℕ) (k : Row) (xs r : List ℕ) (w : Tree (OneEntry k)) → reads limit (OneEntry k) xs ≡ Ok (w, r) → Fails e (token separator r) → Fails e (parted limit k xs)
-parted_fails_behind e limit k xs r w h t = fails_at e _ _ (parted_behind limit k xs r w h) (bind_fails e (token separator r) _ t)
+pub with_separator_fails_behind : (e : Fault Refusal) (limit : ℕ) (k : Row) (xs r : List ℕ) (w : Tree (OneEntry k)) → reads limit (OneEntry k) xs ≡ Ok (w, r) → Fails e (token separator r) → Fails e (with_separator limit k xs)
+with_separator_fails_behind e limit k xs r w h t = fails_at e _ _ (with_separator_behind limit k xs r w h) (bind_fails e (token separator r) _ t)
 
-parted_read : (limit : ℕ) (k : Row) (xs r s q : List ℕ) (w : Tree (OneEntry k)) → reads limit (OneEntry k) xs ≡ Ok (w, r) → token separator r ≡ Ok (s, q) → parted limit k xs ≡ Ok ((w, s), q)
-parted_read limit k xs r s q w h t = parted_behind limit k xs r w h ∙ bind_ok (token separator r) (s, q) _ t
+with_separator_read : (limit : ℕ) (k : Row) (xs r s q : List ℕ) (w : Tree (OneEntry k)) → reads limit (OneEntry k) xs ≡ Ok (w, r) → token separator r ≡ Ok (s, q) → with_separator limit k xs ≡ Ok ((w, s), q)
+with_separator_read limit k xs r s q w h t = with_separator_behind limit k xs r w h ∙ bind_ok (token separator r) (s, q) _ t
 
 -- the same of an entry that was handed on
-pub parted_entry : {X : Type 0} {k : Row} (view : X → Tree (OneEntry k)) (limit : ℕ) (xs r s q : List ℕ) (x y : X) → y ≡ x → reads limit (OneEntry k) xs ≡ Ok (view x, r) → token separator r ≡ Ok (s, q) → parted limit k xs ≡ Ok ((view y, s), q)
-parted_entry {k} view limit xs r s q x y same h t = parted_read limit k xs r s q (view y) (h ∙ ap (λ z. Ok (view z, r)) (sym same)) t
+pub with_separator_entry : {X : Type 0} {k : Row} (view : X → Tree (OneEntry k)) (limit : ℕ) (xs r s q : List ℕ) (x y : X) → y ≡ x → reads limit (OneEntry k) xs ≡ Ok (view x, r) → token separator r ≡ Ok (s, q) → with_separator limit k xs ≡ Ok ((view y, s), q)
+with_separator_entry {k} view limit xs r s q x y same h t = with_separator_read limit k xs r s q (view y) (h ∙ ap (λ z. Ok (view z, r)) (sym same)) t
 
 -- behind an entry and its separator
 abbrev Behind : (limit : ℕ) (k : Row) → (Tree (OneEntry k) × List ℕ) × List ℕ → Read (Tree (Rest k))
@@ -257,23 +257,23 @@ unfolding ◌>>=◌
 bind_twice (Err e) f g h = refl
 bind_twice (Ok a) f g h = bind_once (f a) (g a) h
 
-rest_parted : (limit : ℕ) (k : Row) (xs : List ℕ) → reads limit (Rest k) xs ≡ (parted limit k xs >>= Behind limit k)
+rest_with_separator : (limit : ℕ) (k : Row) (xs : List ℕ) → reads limit (Rest k) xs ≡ (with_separator limit k xs >>= Behind limit k)
 unfolding rest
-rest_parted limit k xs = reads-rule limit (Rest k) xs ∙ bind_twice (reads limit (OneEntry k) xs) (λ e. token separator e.1) (λ e s. ((e.0, s.0), s.1)) (Behind limit k)
+rest_with_separator limit k xs = reads-rule limit (Rest k) xs ∙ bind_twice (reads limit (OneEntry k) xs) (λ e. token separator e.1) (λ e s. ((e.0, s.0), s.1)) (Behind limit k)
 
-rest_fails : (e : Fault Refusal) (limit : ℕ) (k : Row) (xs : List ℕ) → Fails e (parted limit k xs) → Fails e (reads limit (Rest k) xs)
-rest_fails e limit k xs h = fails_at e _ _ (rest_parted limit k xs) (bind_fails e (parted limit k xs) _ h)
+rest_fails : (e : Fault Refusal) (limit : ℕ) (k : Row) (xs : List ℕ) → Fails e (with_separator limit k xs) → Fails e (reads limit (Rest k) xs)
+rest_fails e limit k xs h = fails_at e _ _ (rest_with_separator limit k xs) (bind_fails e (with_separator limit k xs) _ h)
 
-rest_behind : (limit : ℕ) (k : Row) (xs s q : List ℕ) (w : Tree (OneEntry k)) → parted limit k xs ≡ Ok ((w, s), q) → reads limit (Rest k) xs ≡ Behind limit k ((w, s), q)
-rest_behind limit k xs s q w h = rest_parted limit k xs ∙ bind_ok (parted limit k xs) ((w, s), q) _ h
+rest_behind : (limit : ℕ) (k : Row) (xs s q : List ℕ) (w : Tree (OneEntry k)) → with_separator limit k xs ≡ Ok ((w, s), q) → reads limit (Rest k) xs ≡ Behind limit k ((w, s), q)
+rest_behind limit k xs s q w h = rest_with_separator limit k xs ∙ bind_ok (with_separator limit k xs) ((w, s), q) _ h
 
-rest_last : (limit : ℕ) (k : Row) (xs s q : List ℕ) (w : Tree (OneEntry k)) → parted limit k xs ≡ Ok ((w, s), q) → is_closed q ≡ true → reads limit (Rest k) xs ≡ Ok (LastTree w s, q)
+rest_last : (limit : ℕ) (k : Row) (xs s q : List ℕ) (w : Tree (OneEntry k)) → with_separator limit k xs ≡ Ok ((w, s), q) → is_closed q ≡ true → reads limit (Rest k) xs ≡ Ok (LastTree w s, q)
 rest_last limit k xs s q w h c = rest_behind limit k xs s q w h ∙ rw c refl
 
-rest_open : (limit : ℕ) (k : Row) (xs s q : List ℕ) (w : Tree (OneEntry k)) → parted limit k xs ≡ Ok ((w, s), q) → is_closed q ≡ false → reads limit (Rest k) xs ≡ more reads limit k w s q
+rest_open : (limit : ℕ) (k : Row) (xs s q : List ℕ) (w : Tree (OneEntry k)) → with_separator limit k xs ≡ Ok ((w, s), q) → is_closed q ≡ false → reads limit (Rest k) xs ≡ more reads limit k w s q
 rest_open limit k xs s q w h c = rest_behind limit k xs s q w h ∙ rw c refl
 
-rest_unparted : (limit : ℕ) (k : Row) (xs s q : List ℕ) (w : Tree (OneEntry k)) → parted limit k xs ≡ Ok ((w, s), q) → s ≡ [] → is_closed q ≡ false → reads limit (Rest k) xs ≡ Err Invalid
+rest_unparted : (limit : ℕ) (k : Row) (xs s q : List ℕ) (w : Tree (OneEntry k)) → with_separator limit k xs ≡ Ok ((w, s), q) → s ≡ [] → is_closed q ≡ false → reads limit (Rest k) xs ≡ Err Invalid
 unfolding more not_empty ◌>>=◌
 rest_unparted limit k xs s q w h none c = rest_open limit k xs s q w h c ∙ rw none refl
 
@@ -307,10 +307,10 @@ with_more f xs x w s r is = ap (λ ps. with_row ps r) (sym (map-append f xs (x �
 -- The turns of a loop over entries, with those so far.
 module _ (limit : ℕ) (k : Row) (total : Read (Tree (Rest k))) (ps : List (Tree (OneEntry k) × List ℕ)) (xs : List ℕ) (so_far : total ≡ with_row ps (reads limit (Rest k) xs)) where
   -- an entry or its separator is refused
-  pub turn_fails : (e : Fault Refusal) → Fails e (parted limit k xs) → Fails e total
+  pub turn_fails : (e : Fault Refusal) → Fails e (with_separator limit k xs) → Fails e total
   turn_fails e h = fails_at e _ _ so_far (with_fails e ps _ (rest_fails e limit k xs h))
 
-  module _ (w : Tree (OneEntry k)) (s q : List ℕ) (h : parted limit k xs ≡ Ok ((w, s), q)) where
+  module _ (w : Tree (OneEntry k)) (s q : List ℕ) (h : with_separator limit k xs ≡ Ok ((w, s), q)) where
     -- the last entry
     pub turn_last : is_closed q ≡ true → total ≡ Ok (entries_onto ps (LastTree w s), q)
     turn_last c = so_far ∙ ap (with_row ps) (rest_last limit k xs s q w h c)

@@ -10,19 +10,19 @@ use Rattle.cbor_edn_parts.specs.code.Lex.{munch, push}
 use Rattle.cbor_edn_parts.specs.Notes.{hash_lines, noted}
 use Rattle.cbor_edn_core.specs.declared.cbor.Width.TheVariants.{Immediate, One}
 use Rattle.cbor_edn_core.specs.Trees.{Rule, Standalone, Tree, text, onto, joins}
-use Rattle.cbor_edn_core.specs.code.Reading.{reads_all, reads, read, byte, not_empty, head_of, starts_string, word_at, enclosed_item, tag_item, number_end, number_item, word_item, plain_item, list_item, stream_item, string_item, item, literal_piece, dots_piece, embedded_piece, piece, plus_string, string, entry, inside_full, inside, more, rest, sequence, standalone, ◌>>=◌}
+use Rattle.cbor_edn_core.specs.code.Reading.{reads_all, reads, read, byte, not_empty, list_head_of, starts_string, word_at, enclosed_item, tag_item, number_end, number_item, word_item, plain_item, list_item, stream_item, string_item, item, literal_piece, dots_piece, embedded_piece, piece, plus_string, string, entry, inside_full, inside, more, rest, sequence, standalone, ◌>>=◌}
 use Rattle.cbor_edn_core.specs.Value as value
-use Rattle.cbor_edn_core.specs.Bare.{unmarked}
+use Rattle.cbor_edn_core.specs.Bare.{without_indicators}
 use Rattle.cbor_edn_core.specs.Plain.{integer, string as text_or_bytes, array, no_plains, one_plain, plain}
 use Rattle.cbor_edn_core.specs.Commented.{commented}
 
 -- the text of what is read, after a change
 changed : (s : Rule) → (Tree s → Tree s) → List ℕ → Result (List ℕ) ParseErrorKind
-unfolding reads_all reads read byte not_empty head_of starts_string joins word_at enclosed_item tag_item number_end number_item word_item plain_item list_item stream_item string_item item literal_piece dots_piece embedded_piece piece plus_string string entry inside_full inside more rest sequence standalone ◌>>=◌ indicator_at indicator_word kind munch push digits onto
+unfolding reads_all reads read byte not_empty list_head_of starts_string joins word_at enclosed_item tag_item number_end number_item word_item plain_item list_item stream_item string_item item literal_piece dots_piece embedded_piece piece plus_string string entry inside_full inside more rest sequence standalone ◌>>=◌ indicator_at indicator_word kind munch push digits onto
 changed s change xs = reads_all 9 s xs >>= λ w. Ok (text (change w))
 
 abbrev Bare : List ℕ → List ℕ → Type 0
-Bare xs ys = changed Standalone unmarked xs ≡ Ok ys
+Bare xs ys = changed Standalone without_indicators xs ≡ Ok ys
 
 abbrev Commented : List ℕ → List ℕ → List ℕ → Type 0
 Commented c xs ys = changed Standalone (commented c) xs ≡ Ok ys
@@ -51,7 +51,7 @@ removed :
     -- nothing in an embedded sequence goes
     × Bare (codes "<<[_ 1_1]>>_0") (codes "<<[_ 1_1]>>")
     × Bare (codes "(_ <<1_0>>_1)") (codes "(_ <<1_0>>)")
-unfolding changed unmarked
+unfolding changed without_indicators
 removed = (refl, refl, refl, refl, refl, refl, refl, refl, refl, refl, refl, refl, refl, refl, refl, refl, refl)
 
 -- A comment takes the place of the space in front.

@@ -15,7 +15,7 @@ use Rattle.cbor_edn_core.specs.Meaning as meaning
 use Rattle.cbor_edn_core.specs.Meaning.{◌>>=◌, shortest, width_of, length_of, means_integer, means_float, named_number, means_simple, piece_mark, are_unmarked, pieces_mark, chunk_of, string_of, same_kind, chunks_of, stream_of, MeaningOf, EntryOf, RowOf, row_len, list_value, listed, no_entries, one_more, means}
 use Rattle.cbor_edn_core.specs.Fewer as fewer
 use Rattle.cbor_edn_core.specs.Fewer.{Remarked, number, float, named, simple, string, stream, literal, dots, embedded, last_piece, plus, element, pair, chunk, end, then, StaysOrGoes, FewerMean}
-use Rattle.cbor_edn_core.specs.Plain.{joined, plain, plain_values, plain_pairs, ChunksAreShort, IsShort, AreShort, PairsAreShort}
+use Rattle.cbor_edn_core.specs.Plain.{concatenated, plain, plain_values, plain_pairs, ChunksAreShort, IsShort, AreShort, PairsAreShort}
 use Rattle.cbor_edn_core.specs.Plain as plains
 use Rattle.cbor_edn_core.specs.BareLaws.{BareMeans}
 use Rattle.cbor_edn_core.proofs.meaning.MeaningSteps.{bind, both_steps, some_if, some_is, if_both}
@@ -124,10 +124,10 @@ module _ (R : Option Indicator → Option Indicator → Type 0) (P : Type 0) (le
   -- ---- streams
 
   abbrev StillChunks : Option (List values.Chunk) → List values.Chunk → Type 0
-  StillChunks o cs = (ds : List values.Chunk) × (o ≡ Some ds) × (joined ds ≡ joined cs) × (P → ChunksAreShort ds)
+  StillChunks o cs = (ds : List values.Chunk) × (o ≡ Some ds) × (concatenated ds ≡ concatenated cs) × (P → ChunksAreShort ds)
 
   chunks_left : (k : StringKind) (ps qs : List (StringKind × values.Chunk)) (cs : List values.Chunk) → SameChunks ps qs → chunks_of k qs ≡ Some cs → StillChunks (chunks_of k ps) cs
-  chunks_left k [] [] cs s e = ([], refl, ap joined (some_is [] cs e), λ p. tt)
+  chunks_left k [] [] cs s e = ([], refl, ap concatenated (some_is [] cs e), λ p. tt)
   chunks_left k [] (q ∷ qs) cs s e = absurd s
   chunks_left k (p ∷ ps) [] cs s e = absurd s
   chunks_left k (p ∷ ps) (q ∷ qs) cs s e =
@@ -136,7 +136,7 @@ module _ (R : Option Indicator → Option Indicator → Type 0) (P : Type 0) (le
       let ih : StillChunks (chunks_of k ps) b.0 = chunks_left k ps qs b.0 s.1 b.1 in (
         p.1 ∷ ih.0,
         ap (λ b. cond b (bind (chunks_of k ps) (λ cs. Some (p.1 ∷ cs))) None) (ap (same_kind k) s.0.0 ∙ a.0) ∙ ap (λ o. bind o (λ cs. Some (p.1 ∷ cs))) ih.1,
-        ap (λ x. x ++ joined ih.0) s.0.1 ∙ (ap (λ y. q.1.1 ++ y) ih.2 ∙ ap joined (some_is (q.1 ∷ b.0) cs b.2)),
+        ap (λ x. x ++ concatenated ih.0) s.0.1 ∙ (ap (λ y. q.1.1 ++ y) ih.2 ∙ ap concatenated (some_is (q.1 ∷ b.0) cs b.2)),
         λ p. (s.0.2 p, ih.3 p),
       )
 

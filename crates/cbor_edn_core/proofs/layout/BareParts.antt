@@ -15,8 +15,8 @@ use Rattle.cbor_edn_core.specs.declared.word.NonFinite.{NonFinite}
 use Rattle.cbor_edn_core.specs.Items.{Number}
 use Rattle.cbor_edn_core.specs.Value as values
 use Rattle.cbor_edn_core.specs.Value.{Value, Values, unsigned, negative, string, chunks, array, object, tag, simple, float, limit_of, ArgumentFits, is_content, values_len, pairs_len, head, encoding, encodings, pair_encodings, list_encoding}
-use Rattle.cbor_edn_core.specs.Meaning.{◌>>=◌, shortest, width_of, length_of, magnitude_bytes, tagged, unmarked, bignum, means_integer, float_width, means_float, is_simple, is_shortest, simple_number, simple_of, means_simple, chunk_of, string_of}
-use Rattle.cbor_edn_core.specs.Plain.{joined, plain, plain_values, plain_pairs, integer, ChunksAreShort, IsShort, AreShort, PairsAreShort}
+use Rattle.cbor_edn_core.specs.Meaning.{◌>>=◌, shortest, width_of, length_of, magnitude_bytes, tagged, no_indicator, bignum, means_integer, float_width, means_float, is_simple, is_shortest, simple_number, simple_of, means_simple, chunk_of, string_of}
+use Rattle.cbor_edn_core.specs.Plain.{concatenated, plain, plain_values, plain_pairs, integer, ChunksAreShort, IsShort, AreShort, PairsAreShort}
 use Rattle.cbor_edn_core.specs.Plain as plains
 use Rattle.cbor_edn_core.proofs.meaning.MeaningSteps.{bind, both_steps, some_is}
 use Rattle.cbor_edn_core.proofs.meaning.Meanings.{shortest_fits, width_fits, if_content, given_chunk, string_value}
@@ -56,7 +56,7 @@ number_bare true make i n big other v same short large e =
     (make (shortest n), ap (λ o. bind o (λ w. Some (make w))) (width_none n (width_below i s.0 n s.1)), same s.0 ∙ ap plain (some_is (make s.0) v s.2), short)
 number_bare false make i n big other v same short large e = large e
 
-unmarked_bare : (b : Bool) (i : Option Indicator) (u v : Value) → IsShort u → cond b (unmarked i u) None ≡ Some v → BareValue (cond b (unmarked None u) None) v
+unmarked_bare : (b : Bool) (i : Option Indicator) (u v : Value) → IsShort u → cond b (no_indicator i u) None ≡ Some v → BareValue (cond b (no_indicator None u) None) v
 unmarked_bare true None u v short e = (u, refl, ap plain (some_is u v e), short)
 unmarked_bare true (Some i) u v short e = absurd cc
 unmarked_bare false i u v short e = absurd cc

@@ -6,13 +6,13 @@ use Rattle.cbor_edn_parts.specs.declared.error.ParseErrorKind.{ParseErrorKind}
 use Rattle.cbor_edn_parts.specs.Bytes.{kind}
 use Rattle.cbor_edn_parts.specs.Indicator.{indicator_at, word_at as indicator_word}
 use Rattle.cbor_edn_parts.specs.code.Lex.{munch, push}
-use Rattle.cbor_edn_parts.specs.Comments.{from_first, to_last, in_front, behind}
+use Rattle.cbor_edn_parts.specs.Comments.{from_first, to_last, up_to_comma, past_comma}
 use Rattle.cbor_edn_parts.specs.Spacing.{indented, line}
 use Rattle.cbor_edn_parts.specs.declared.policy.DelimiterPolicy.{DelimiterPolicy}
 use Rattle.cbor_edn_parts.specs.declared.policy.DelimiterPolicy.TheVariants.{DiscardAll, DiscardAllButComments, SingleLineRegularSpacing, IndentedRegularSpacing, SingleSpace}
 use Rattle.cbor_edn_core.specs.Items.{Array}
 use Rattle.cbor_edn_core.specs.Trees.{Rule, Standalone, OneItem, Seq, Unmarked, Tree, NumberTree, ElementTree, ListTree, FullTree, LastTree, MoreTree, SequenceTree, StandaloneTree, text, onto, joins}
-use Rattle.cbor_edn_core.specs.code.Reading.{reads_all, reads, read, byte, not_empty, head_of, starts_string, word_at, enclosed_item, tag_item, number_end, number_item, word_item, plain_item, list_item, stream_item, string_item, item, literal_piece, dots_piece, embedded_piece, piece, plus_string, string, entry, inside_full, inside, more, rest, sequence, standalone, ◌>>=◌}
+use Rattle.cbor_edn_core.specs.code.Reading.{reads_all, reads, read, byte, not_empty, list_head_of, starts_string, word_at, enclosed_item, tag_item, number_end, number_item, word_item, plain_item, list_item, stream_item, string_item, item, literal_piece, dots_piece, embedded_piece, piece, plus_string, string, entry, inside_full, inside, more, rest, sequence, standalone, ◌>>=◌}
 use Rattle.cbor_edn_core.specs.Layout.{laid, laid_out}
 
 -- an item without the space round it
@@ -21,7 +21,7 @@ inner (StandaloneTree s w t) = w
 
 -- The text after a policy: of a sequence or of an item with the space round it, and of an item alone.
 laid_text : (s : Rule) → DelimiterPolicy → List ℕ → Result (List ℕ) ParseErrorKind
-unfolding reads_all reads read byte not_empty head_of starts_string joins word_at enclosed_item tag_item number_end number_item word_item plain_item list_item stream_item string_item item literal_piece dots_piece embedded_piece piece plus_string string entry inside_full inside more rest sequence standalone ◌>>=◌ indicator_at indicator_word kind munch push digits laid onto from_first to_last in_front behind line
+unfolding reads_all reads read byte not_empty list_head_of starts_string joins word_at enclosed_item tag_item number_end number_item word_item plain_item list_item stream_item string_item item literal_piece dots_piece embedded_piece piece plus_string string entry inside_full inside more rest sequence standalone ◌>>=◌ indicator_at indicator_word kind munch push digits laid onto from_first to_last up_to_comma past_comma line
 laid_text s policy xs = reads_all 9 s xs >>= λ w. Ok (text (laid_out policy w))
 
 laid_item : DelimiterPolicy → List ℕ → Result (List ℕ) ParseErrorKind
@@ -217,5 +217,5 @@ great :
     × laid_out (IndentedRegularSpacing 0 (2 ^ 64 - 1) 0) (ListTree Array (FullTree Unmarked [] (LastTree (ElementTree (one [] [])) []))) ≡ ListTree Array (FullTree Unmarked longest (LastTree (ElementTree (one longest longest)) (line 0 ++ [])))
     -- the sequence `1, 2`
     × laid_out (IndentedRegularSpacing (2 ^ 64 - 1) 4 80) (SequenceTree [] (MoreTree (ElementTree number) (44 ∷ 32 ∷ []) (LastTree (ElementTree number) []))) ≡ SequenceTree [] (MoreTree (ElementTree number) (44 ∷ longest) (LastTree (ElementTree number) longest))
-unfolding laid onto from_first to_last in_front behind
+unfolding laid onto from_first to_last up_to_comma past_comma
 great = (refl, refl, refl, refl, refl)

@@ -5,9 +5,9 @@ use Rattle.cbor_edn_core.specs.Items.{Row, Plus, Then}
 use Rattle.cbor_edn_core.specs.Trees.{OnePiece, OneString, OneEntry, Rest, Tree, PlusTree, MoreTree, items}
 use Rattle.cbor_edn_core.specs.View.{entries_onto, pieces_onto}
 use Rattle.cbor_edn_core.specs.Layout.{Layout, Between, BeforePlus, AfterPlus, respaced, laid}
-use Rattle.cbor_edn_core.specs.Bare.{unmarked}
+use Rattle.cbor_edn_core.specs.Bare.{without_indicators}
 use Rattle.cbor_edn_core.specs.code.Widths.{widths_onto}
-use Rattle.cbor_edn_core.specs.code.LayoutRows.{laid_entry, unmarked_entry, entry_items, entries_widths, laid_piece, unmarked_piece, piece_items}
+use Rattle.cbor_edn_core.specs.code.LayoutRows.{laid_entry, entry_without_indicators, entry_items, entries_widths, laid_piece, piece_without_indicators, piece_items}
 
 pub laid_entries : {k : Row} (l : Layout) (ps : List (Tree (OneEntry k) × List ℕ)) (m : Tree (Rest k)) → laid l (entries_onto ps m) ≡ entries_onto (map (laid_entry l) ps) (laid l m)
 unfolding laid
@@ -19,15 +19,15 @@ unfolding laid
 laid_pieces l [] w = refl
 laid_pieces l (p ∷ ps) w = ap (PlusTree p.0 (respaced S BeforePlus l p.1) (respaced S AfterPlus l p.2)) (laid_pieces l ps w)
 
-pub unmarked_entries : {k : Row} (ps : List (Tree (OneEntry k) × List ℕ)) (m : Tree (Rest k)) → unmarked (entries_onto ps m) ≡ entries_onto (map unmarked_entry ps) (unmarked m)
-unfolding unmarked
-unmarked_entries [] m = refl
-unmarked_entries (p ∷ ps) m = ap (MoreTree (unmarked p.0) p.1) (unmarked_entries ps m)
+pub entries_without_indicators : {k : Row} (ps : List (Tree (OneEntry k) × List ℕ)) (m : Tree (Rest k)) → without_indicators (entries_onto ps m) ≡ entries_onto (map entry_without_indicators ps) (without_indicators m)
+unfolding without_indicators
+entries_without_indicators [] m = refl
+entries_without_indicators (p ∷ ps) m = ap (MoreTree (without_indicators p.0) p.1) (entries_without_indicators ps m)
 
-pub unmarked_pieces : (ps : List (Tree OnePiece × List ℕ × List ℕ)) (w : Tree OneString) → unmarked (pieces_onto ps w) ≡ pieces_onto (map unmarked_piece ps) (unmarked w)
-unfolding unmarked
-unmarked_pieces [] w = refl
-unmarked_pieces (p ∷ ps) w = ap (PlusTree (unmarked p.0) p.1 p.2) (unmarked_pieces ps w)
+pub pieces_without_indicators : (ps : List (Tree OnePiece × List ℕ × List ℕ)) (w : Tree OneString) → without_indicators (pieces_onto ps w) ≡ pieces_onto (map piece_without_indicators ps) (without_indicators w)
+unfolding without_indicators
+pieces_without_indicators [] w = refl
+pieces_without_indicators (p ∷ ps) w = ap (PlusTree (without_indicators p.0) p.1 p.2) (pieces_without_indicators ps w)
 
 pub widths_entries : {k : Row} (ps : List (Tree (OneEntry k) × List ℕ)) (m : Tree (Rest k)) (r : List ℕ) → widths_onto (entries_onto ps m) r ≡ entries_widths ps (widths_onto m r)
 unfolding widths_onto

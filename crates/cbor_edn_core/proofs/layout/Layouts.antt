@@ -11,9 +11,9 @@ use Rattle.cbor_edn_parts.specs.SpacingLaws.{is_of, KeepsComments}
 use Rattle.cbor_edn_parts.proofs.Spacings.{spaced_stays, spaced_forgets, least_forgets}
 use Rattle.cbor_edn_core.specs.Items.{Listed, String, Stream, Plus, Element, Pair, Chunk, End, Then}
 use Rattle.cbor_edn_core.specs.Spelling.{SpellsOne, SpellsSequence}
-use Rattle.cbor_edn_core.specs.Trees.{Rule, OneItem, Seq, Standalone, Tree, Head, Unmarked, Marked, mark, NumberTree, FloatTree, NamedTree, EnclosedTree, ListTree, StringTree, StreamTree, LiteralTree, DotsTree, EmbeddedTree, LastPieceTree, PlusTree, ElementTree, PairTree, ChunkTree, EmptyTree, FullTree, LastTree, MoreTree, NothingTree, SequenceTree, StandaloneTree, labelled, items, text}
-use Rattle.cbor_edn_core.proofs.text.Tested.{IsTestedHead, Tested, tested, valid}
-use Rattle.cbor_edn_core.specs.Layout.{Layout, Inline, Lines, layout, Place, First, Between, Last, BeforePlus, AfterPlus, AfterColon, Elsewhere, spacing, respaced, saturating_add, fitted, in_chunk, laid_head, laid, laid_out}
+use Rattle.cbor_edn_core.specs.Trees.{Rule, OneItem, Seq, Standalone, Tree, ListHead, Unmarked, Marked, mark, NumberTree, FloatTree, NamedTree, EnclosedTree, ListTree, StringTree, StreamTree, LiteralTree, DotsTree, EmbeddedTree, LastPieceTree, PlusTree, ElementTree, PairTree, ChunkTree, EmptyTree, FullTree, LastTree, MoreTree, NothingTree, SequenceTree, StandaloneTree, labelled, items, text}
+use Rattle.cbor_edn_core.proofs.text.Tested.{IsTestedListHead, Tested, tested, valid}
+use Rattle.cbor_edn_core.specs.Layout.{Layout, Inline, Lines, layout, Place, First, Between, Last, BeforePlus, AfterPlus, AfterColon, Elsewhere, spacing, respaced, saturating_add, fitted, in_chunk, laid_list_head, laid, laid_out}
 use Rattle.cbor_edn_core.specs.LayoutLaws.{KeepsItems, StaysValid, SpellsTheSame, KeepsAllComments, ForgetsLayout, SameTwice}
 use Rattle.cbor_edn_core.proofs.text.GrammarLaws.{spelled_by_trees}
 
@@ -25,7 +25,7 @@ fitted_any P (Lines base end level width) part h =
 
 -- ---- items
 
-mark_kept : (l : Layout) (h : Head) → mark (laid_head l h) ≡ mark h
+mark_kept : (l : Layout) (h : ListHead) → mark (laid_list_head l h) ≡ mark h
 mark_kept l Unmarked = refl
 mark_kept l (Marked i ms) = refl
 
@@ -59,7 +59,7 @@ keeps_items s policy w = items_kept (layout policy) w
 
 -- ---- texts in their sets
 
-head_stays : (l : Layout) (h : Head) → IsTestedHead h → IsTestedHead (laid_head l h)
+head_stays : (l : Layout) (h : ListHead) → IsTestedListHead h → IsTestedListHead (laid_list_head l h)
 head_stays l Unmarked v = tt
 head_stays l (Marked i ms) v = spaced_stays MS (spacing l Elsewhere) ms v
 
@@ -160,7 +160,7 @@ fitted_now (Lines base end level width) m f g forgets h =
     ap (λ v. if nat_lt (saturating_add (length (text v)) base) width then v else f inner) (h (Inline OneLine) (inl keeps))
     ∙ ap (λ v. if nat_lt (saturating_add (length (text (g (Inline OneLine)))) base) width then g (Inline OneLine) else v) (h inner (inl keeps))
 
-head_forgotten : (l m : Layout) (h : Head) → Forgets l m → IsTestedHead h → laid_head l (laid_head m h) ≡ laid_head l h
+head_forgotten : (l m : Layout) (h : ListHead) → Forgets l m → IsTestedListHead h → laid_list_head l (laid_list_head m h) ≡ laid_list_head l h
 head_forgotten l m Unmarked f v = refl
 head_forgotten l m (Marked i ms) f v = ap (Marked i) (space_forgotten MS Elsewhere l m ms f v)
 
@@ -195,7 +195,7 @@ forgotten l m (ChunkTree w) f v = ap ChunkTree (forgotten (in_chunk l) (in_chunk
 forgotten l m (EmptyTree i s) f v = ap (EmptyTree i) (space_forgotten S Elsewhere l m s f v)
 forgotten l m (FullTree h s w) f v =
     ap (λ a. FullTree a (respaced S First l (respaced S First m s)) (laid l (laid m w))) (head_forgotten l m h f v.0)
-    ∙ (ap (λ a. FullTree (laid_head l h) a (laid l (laid m w))) (space_forgotten S First l m s f v.1) ∙ ap (FullTree (laid_head l h) (respaced S First l s)) (forgotten l m w f v.2))
+    ∙ (ap (λ a. FullTree (laid_list_head l h) a (laid l (laid m w))) (space_forgotten S First l m s f v.1) ∙ ap (FullTree (laid_list_head l h) (respaced S First l s)) (forgotten l m w f v.2))
 forgotten l m (LastTree e s) f v = ap (λ a. LastTree a (respaced SOC Last l (respaced SOC Last m s))) (forgotten l m e f v.0) ∙ ap (LastTree (laid l e)) (space_forgotten SOC Last l m s f v.1)
 forgotten l m (MoreTree e s w) f v =
     ap (λ a. MoreTree a (respaced MSC Between l (respaced MSC Between m s)) (laid l (laid m w))) (forgotten l m e f v.0)

@@ -4,17 +4,17 @@ use Rattle.std.specs.Prelude.{pos, eqb}
 use Rattle.std.specs.Fmt.{signed_decimal}
 use Rattle.std.proofs.lemmas.Bool.{cond_both}
 use Rattle.cbor_edn_parts.specs.declared.string.StringKind.{StringKind}
-use Rattle.cbor_edn_parts.specs.Comments.{from_first, to_last, in_front as front, behind}
+use Rattle.cbor_edn_parts.specs.Comments.{from_first, to_last, up_to_comma as front, past_comma}
 use Rattle.cbor_edn_parts.specs.declared.policy.Spacing.TheVariants.{Least, OneLine}
 use Rattle.cbor_edn_core.specs.declared.word.NamedSimple.TheVariants.{False, True, Null, Undefined}
 use Rattle.cbor_edn_core.specs.declared.tree.LabelKind.{LabelKind}
 use Rattle.cbor_edn_core.specs.declared.tree.LabelKind.TheVariants as label
 use Rattle.cbor_edn_core.specs.Items.{Sort, Item, Node, Number, Float, Listed, Tagged, Named, Simple, String, Stream, Literal, Dots, Embedded, LastPiece, Plus, Element, Pair, Chunk, End, Then}
-use Rattle.cbor_edn_core.specs.Trees.{Rule, OneItem, OnePiece, OneString, OneEntry, Inside, Rest, Seq, Standalone, Tree, Head, Unmarked, Marked, mark, NumberTree, FloatTree, NamedTree, EnclosedTree, ListTree, StringTree, StreamTree, LiteralTree, DotsTree, EmbeddedTree, LastPieceTree, PlusTree, ElementTree, PairTree, ChunkTree, EmptyTree, FullTree, LastTree, MoreTree, NothingTree, SequenceTree, StandaloneTree, labelled, Of, items}
+use Rattle.cbor_edn_core.specs.Trees.{Rule, OneItem, OnePiece, OneString, OneEntry, Inside, Rest, Seq, Standalone, Tree, ListHead, Unmarked, Marked, mark, NumberTree, FloatTree, NamedTree, EnclosedTree, ListTree, StringTree, StreamTree, LiteralTree, DotsTree, EmbeddedTree, LastPieceTree, PlusTree, ElementTree, PairTree, ChunkTree, EmptyTree, FullTree, LastTree, MoreTree, NothingTree, SequenceTree, StandaloneTree, labelled, Of, items}
 use Rattle.cbor_edn_core.specs.Value as values
 use Rattle.cbor_edn_core.specs.Value.{Value, unsigned, negative, string, chunks, array, object, tag, simple, float, Values, no_values, value, Pairs, no_pairs, pair}
-use Rattle.cbor_edn_core.specs.Decoded.{item_of, items_of, pairs_of, chunk_items, chunked_item, simple_item, in_front, head_of, inside, key_value, regular, alone, sequence_tree_of, stream_tree}
-use Rattle.cbor_edn_core.specs.Layout.{Layout, Inline, laid_head, laid}
+use Rattle.cbor_edn_core.specs.Decoded.{item_of, items_of, pairs_of, chunk_items, chunked_item, simple_item, in_front, spaced_list_head, list_inside, key_value, regular, alone, sequence_tree_of, stream_tree}
+use Rattle.cbor_edn_core.specs.Layout.{Layout, Inline, laid_list_head, laid}
 use Rattle.cbor_edn_core.specs.LayoutLaws.{OneRegularTree}
 
 -- ---- items without plus signs and embedded sequences
@@ -92,7 +92,7 @@ IsRegular OneItem w x = w ≡ regular x
 IsRegular OnePiece w x = w ≡ regular x
 IsRegular OneString w x = w ≡ regular x
 IsRegular (OneEntry k) w x = w ≡ regular x
-IsRegular (Inside k) w p = w ≡ inside p.0 (regular p.1)
+IsRegular (Inside k) w p = w ≡ list_inside p.0 (regular p.1)
 IsRegular (Rest k) w m = Some w ≡ regular m
 IsRegular Seq w m = w ≡ sequence_tree_of (regular m)
 IsRegular Standalone w x = w ≡ alone (regular x)
@@ -124,13 +124,13 @@ unfolding items regular laid
 string_regular l m (LastPieceTree p) s = ap LastPieceTree (piece_regular p s)
 string_regular l m (PlusTree p t u w) s = absurd s
 
-head_regular : (h : Head) → laid_head line (laid_head least h) ≡ head_of (mark h)
-unfolding from_first to_last front behind
+head_regular : (h : ListHead) → laid_list_head line (laid_list_head least h) ≡ spaced_list_head (mark h)
+unfolding from_first to_last front past_comma
 head_regular Unmarked = refl
 head_regular (Marked i ms) = refl
 
 is_regular : {s : Rule} (w : Tree s) → SingleOf s (items w) → IsRegular s (laid line (laid least w)) (items w)
-unfolding items regular laid from_first to_last front behind
+unfolding items regular laid from_first to_last front past_comma
 is_regular (NumberTree x i) s = refl
 is_regular (FloatTree f i) s = refl
 is_regular (NamedTree b) s = refl
@@ -147,7 +147,7 @@ is_regular (ElementTree w) s = ap ElementTree (is_regular w s)
 is_regular (PairTree v t u w) s = ap (λ v. key_value v (laid line (laid least w))) (is_regular v s.0) ∙ ap (key_value (regular (items v))) (is_regular w s.1)
 is_regular (ChunkTree w) s = ap ChunkTree (string_regular _ _ w s)
 is_regular (EmptyTree i t) s = refl
-is_regular (FullTree h t m) s = ap (λ h. FullTree h [] (laid line (laid least m))) (head_regular h) ∙ ap (inside (mark h)) (is_regular m s)
+is_regular (FullTree h t m) s = ap (λ h. FullTree h [] (laid line (laid least m))) (head_regular h) ∙ ap (list_inside (mark h)) (is_regular m s)
 is_regular (LastTree e t) s = ap (λ e. Some (LastTree e [])) (is_regular e s.0)
 is_regular (MoreTree e t m) s = ap (λ e. Some (in_front e (Some (laid line (laid least m))))) (is_regular e s.0) ∙ ap (λ m. Some (in_front (regular (items e)) m)) (is_regular m s.1)
 is_regular (NothingTree t) s = refl

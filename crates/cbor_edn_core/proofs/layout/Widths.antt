@@ -9,7 +9,7 @@ use Rattle.cbor_edn_core.specs.Spelling.{ending}
 use Rattle.cbor_edn_core.specs.Trees.{Rule, OneItem, OnePiece, Tree, NumberTree, FloatTree, NamedTree, EnclosedTree, ListTree, StringTree, StreamTree, LiteralTree, DotsTree, EmbeddedTree, LastPieceTree, PlusTree, ElementTree, PairTree, ChunkTree, EmptyTree, FullTree, LastTree, MoreTree, NothingTree, SequenceTree, StandaloneTree, onto, text}
 use Rattle.cbor_edn_core.specs.Layout.{Inline, Between, Last, BeforePlus, AfterPlus, AfterColon, Elsewhere, respaced, in_chunk, saturating_add, laid}
 use Rattle.cbor_edn_core.specs.code.Widths.{width, chunk_column, measured}
-use Rattle.cbor_edn_core.proofs.text.Spelled.{parted}
+use Rattle.cbor_edn_core.proofs.text.Spelled.{onto-text}
 
 chunk_is : (c : Spacing) → in_chunk (Inline c) ≡ Inline (chunk_column c)
 chunk_is Least = refl
@@ -24,7 +24,7 @@ unfolding onto width
 piece_width c (LiteralTree x i) r = simp length-append (omega arith)
 piece_width c (DotsTree x) r = simp length-append (omega arith)
 piece_width c (EmbeddedTree w i) r =
-    let h : length (onto w (62 ∷ 62 ∷ (indicator_text i ++ r))) ≡ length (text w) + (length (indicator_text i) + length r + 2) = ap length (parted w (62 ∷ 62 ∷ (indicator_text i ++ r))) ∙ simp length-append (omega arith) in
+    let h : length (onto w (62 ∷ 62 ∷ (indicator_text i ++ r))) ≡ length (text w) + (length (indicator_text i) + length r + 2) = ap length (onto-text w (62 ∷ 62 ∷ (indicator_text i ++ r))) ∙ simp length-append (omega arith) in
     omega (arith, h)
 
 width_onto : {s : Rule} (c : Spacing) (w : Tree s) (r : List ℕ) → length (onto (laid (Inline c) w) r) ≡ width c w + length r

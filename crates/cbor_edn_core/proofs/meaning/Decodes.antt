@@ -23,13 +23,13 @@ use Rattle.cbor_edn_core.specs.Trees.{Tree, OneItem, Rest, Seq, NothingTree, Seq
 use Rattle.cbor_edn_core.specs.Value.{Value, Values, encoding, encodings, Enc, EncAll}
 use Rattle.cbor_edn_core.specs.Meaning.{means}
 use Rattle.cbor_edn_parts.specs.Refusals.{IfTold}
-use Rattle.cbor_edn_core.specs.Decoded.{item_of, items_of, regular, sequence_tree_of, regular_sequence, Begins, IsDecoded, IsDecodedSequence, NoneIs, IsTooDeep, NoSequence, IsTooDeepSequence}
-use Rattle.cbor_edn_core.specs.code.CborReading.{◌>>=◌, Reader, Gives, Fails, shown, item_at, until, past, turn, trees, element_row, sequence_at}
+use Rattle.cbor_edn_core.specs.Decoded.{item_of, items_of, regular, sequence_tree_of, regular_sequence, BeginsWith, IsDecoded, IsDecodedSequence, NoneIs, IsTooDeepEncoding, NoSequence, IsTooDeepSequence}
+use Rattle.cbor_edn_core.specs.code.CborReading.{◌>>=◌, Decoder, DecoderGives, DecoderFails, shown, item_at, until, past, turn, trees, element_row, sequence_at}
 use Rattle.cbor_edn_core.proofs.bytes.Nestings.{value_nesting, values_nesting, item_nests, items_nest}
 use Rattle.cbor_edn_core.proofs.bytes.CborHeads.{IsBytes, bind_ok}
 use Rattle.cbor_edn_core.proofs.code.CborTurns.{shown_ok, shown_err}
 use Rattle.cbor_edn_core.proofs.bytes.CborValues.{values_of, list_of, value_at}
-use Rattle.cbor_edn_core.proofs.bytes.CborOutcomes.{outcome, within, beyond, values_many}
+use Rattle.cbor_edn_core.proofs.bytes.CborOutcomes.{decoder_outcome, within, beyond, values_many}
 use Rattle.cbor_edn_core.proofs.bytes.CborAgain.{item_again, values_until}
 use Rattle.cbor_edn_core.proofs.bytes.CborTakes.{Within, item_takes, until_takes, values_are}
 use Rattle.cbor_edn_core.proofs.bytes.CborDeep.{item_deep, until_deep}
@@ -53,7 +53,7 @@ answer_refused x e is = cc
 same_refusal : {A : Type 0} (d e : CborError) → refusal {A = A} d ≡ refusal e → d ≡ e
 same_refusal d e is = cc
 
-shown_outcome : {A B : Type 0} (f : A → B) (n limit : ℕ) (x : A) (rest : List ℕ) → shown f (outcome n limit (x, rest)) ≡ outcome n limit (f x, rest)
+shown_outcome : {A B : Type 0} (f : A → B) (n limit : ℕ) (x : A) (rest : List ℕ) → shown f (decoder_outcome n limit (x, rest)) ≡ decoder_outcome n limit (f x, rest)
 shown_outcome f n limit x rest =
     elim (cases_lt limit n) [
       | inl lt ↦ ap (shown f) (beyond n limit (x, rest) lt) ∙ sym (beyond n limit (f x, rest) lt)
@@ -61,14 +61,14 @@ shown_outcome f n limit x rest =
     ]
 
 -- an outcome that is refused is too deep
-outcome_err : {A : Type 0} (n limit : ℕ) (x : A) (e : CborError) → outcome n limit x ≡ Err e → (limit < n) × (e ≡ TooDeep)
+outcome_err : {A : Type 0} (n limit : ℕ) (x : A) (e : CborError) → decoder_outcome n limit x ≡ Err e → (limit < n) × (e ≡ TooDeep)
 outcome_err {A} n limit x e is =
     elim (cases_lt limit n) [
       | inl lt ↦ (lt, same_refusal {A = A} e TooDeep (sym is ∙ beyond n limit x lt))
       | inr le ↦ absurd (answer_refused x e (sym (within n limit x le) ∙ is))
     ]
 
-outcome_ok : {A : Type 0} (n limit : ℕ) (x y : A) → outcome n limit x ≡ Ok y → x ≡ y
+outcome_ok : {A : Type 0} (n limit : ℕ) (x y : A) → decoder_outcome n limit x ≡ Ok y → x ≡ y
 outcome_ok n limit x y is =
     elim (cases_lt limit n) [
       | inl lt ↦ absurd (answer_refused y TooDeep (sym is ∙ beyond n limit x lt))
@@ -87,14 +87,14 @@ not_empty (x ∷ xs) e = λ is. cc
 
 -- the bytes begin with an encoding
 abbrev Somewhere : List ℕ → Value → Type 0
-Somewhere bytes v = (rest : List ℕ) × Begins bytes rest v
+Somewhere bytes v = (rest : List ℕ) × BeginsWith bytes rest v
 
 module _ (limit : ℕ) (bytes : List ℕ) where
-  tree_found : (v : Value) (rest : List ℕ) → Begins bytes rest v → item_at trees limit bytes ≡ outcome (value_nesting v) limit (tree_of v, rest)
+  tree_found : (v : Value) (rest : List ℕ) → BeginsWith bytes rest v → item_at trees limit bytes ≡ decoder_outcome (value_nesting v) limit (tree_of v, rest)
   tree_found v rest begins =
       tree_read limit bytes ∙ ap (shown tree_of) (ap (value_at limit) (begins.2 ∙ ap (λ (l : List ℕ). l ++ rest) begins.1.1) ∙ item_again v limit rest begins.1.0) ∙ shown_outcome tree_of (value_nesting v) limit v rest
 
-  pub found : (y : Tree OneItem × List ℕ) → IsBytes bytes → item_at trees limit bytes ≡ Ok y → IsDecoded limit (Begins bytes y.1) y.0
+  pub found : (y : Tree OneItem × List ℕ) → IsBytes bytes → item_at trees limit bytes ≡ Ok y → IsDecoded limit (BeginsWith bytes y.1) y.0
   found y fits e =
       let s = shown_ok tree_of (value_at limit bytes) y (sym (tree_read limit bytes) ∙ e) in
       let v = s.0.0 in
@@ -114,7 +114,7 @@ module _ (limit : ℕ) (bytes : List ℕ) where
   pub refused : (e : CborError) → item_at trees limit bytes ≡ Err e → e ≢ TooDeep → NoneIs (Somewhere bytes)
   refused e is other v somewhere = other (outcome_err (value_nesting v) limit (tree_of v, somewhere.0) e (sym (tree_found v somewhere.0 somewhere.1) ∙ is)).1
 
-  pub too_deep : IsBytes bytes → item_at trees limit bytes ≡ Err TooDeep → IsTooDeep limit bytes (Somewhere bytes)
+  pub too_deep : IsBytes bytes → item_at trees limit bytes ≡ Err TooDeep → IsTooDeepEncoding limit bytes (Somewhere bytes)
   too_deep fits is = (
     item_deep limit bytes fits (shown_err tree_of (value_at limit bytes) TooDeep (sym (tree_read limit bytes) ∙ is)),
     λ v somewhere. omega (arith, item_nests v, (outcome_err (value_nesting v) limit (tree_of v, somewhere.0) TooDeep (sym (tree_found v somewhere.0 somewhere.1) ∙ is)).0),
@@ -140,7 +140,7 @@ module _ (limit : ℕ) (bytes : List ℕ) where
   pub refused_whole : (e : CborError) → item_at trees limit bytes ≡ Err e → e ≢ TooDeep → NoneIs (Enc bytes)
   refused_whole e is other v enc = refused e is other v (whole v enc)
 
-  pub too_deep_whole : IsBytes bytes → item_at trees limit bytes ≡ Err TooDeep → IsTooDeep limit bytes (Enc bytes)
+  pub too_deep_whole : IsBytes bytes → item_at trees limit bytes ≡ Err TooDeep → IsTooDeepEncoding limit bytes (Enc bytes)
   too_deep_whole fits is = let t = too_deep fits is in (t.0, λ v enc. t.1 v (whole v enc))
 
   -- where more follows
@@ -151,25 +151,25 @@ module _ (limit : ℕ) (bytes : List ℕ) where
       more (ap (λ (p : Tree OneItem × List ℕ). p.1) (sym same))
 
   -- of a call's result
-  pub gives_accepted : {T : Type 0} (view : T → Tree OneItem × List ℕ) (r : Result T (Fault CborError)) → IsBytes bytes → Gives view r (item_at trees limit bytes) → IfOk r (λ x. IsDecoded limit (Begins bytes (view x).1) (view x).0)
+  pub gives_accepted : {T : Type 0} (view : T → Tree OneItem × List ℕ) (r : Result T (Fault CborError)) → IsBytes bytes → DecoderGives view r (item_at trees limit bytes) → IfOk r (λ x. IsDecoded limit (BeginsWith bytes (view x).1) (view x).0)
   gives_accepted view (Ok x) fits given = found (view x) fits given
   gives_accepted view (Err e) fits given = tt
 
-  pub gives_refused : {T : Type 0} (view : T → Tree OneItem × List ℕ) (r : Result T (Fault CborError)) → Gives view r (item_at trees limit bytes) → IfTold r (λ e. e ≢ TooDeep → NoneIs (Somewhere bytes))
+  pub gives_refused : {T : Type 0} (view : T → Tree OneItem × List ℕ) (r : Result T (Fault CborError)) → DecoderGives view r (item_at trees limit bytes) → IfTold r (λ e. e ≢ TooDeep → NoneIs (Somewhere bytes))
   gives_refused view (Ok x) given = tt
   gives_refused view (Err (Memory e)) given = tt
   gives_refused view (Err (Told e)) given = refused e given
 
-  pub gives_deep : {T : Type 0} (view : T → Tree OneItem × List ℕ) (r : Result T (Fault CborError)) → IsBytes bytes → Gives view r (item_at trees limit bytes) → IfTold r (λ e. e ≡ TooDeep → IsTooDeep limit bytes (Somewhere bytes))
+  pub gives_deep : {T : Type 0} (view : T → Tree OneItem × List ℕ) (r : Result T (Fault CborError)) → IsBytes bytes → DecoderGives view r (item_at trees limit bytes) → IfTold r (λ e. e ≡ TooDeep → IsTooDeepEncoding limit bytes (Somewhere bytes))
   gives_deep view (Ok x) fits given = tt
   gives_deep view (Err (Memory e)) fits given = tt
   gives_deep view (Err (Told e)) fits given = λ is. too_deep fits (given ∙ ap (λ d. refusal d) is)
 
-  pub fails_refused : (T : Type 0) (f : Fault CborError) → Fails f (item_at trees limit bytes) → IfTold {X = T} (Err f) (λ e. e ≢ TooDeep → NoneIs (Enc bytes))
+  pub fails_refused : (T : Type 0) (f : Fault CborError) → DecoderFails f (item_at trees limit bytes) → IfTold {X = T} (Err f) (λ e. e ≢ TooDeep → NoneIs (Enc bytes))
   fails_refused T (Memory e) fails = tt
   fails_refused T (Told e) fails = refused_whole e fails
 
-  pub fails_deep : (T : Type 0) (f : Fault CborError) → IsBytes bytes → Fails f (item_at trees limit bytes) → IfTold {X = T} (Err f) (λ e. e ≡ TooDeep → IsTooDeep limit bytes (Enc bytes))
+  pub fails_deep : (T : Type 0) (f : Fault CborError) → IsBytes bytes → DecoderFails f (item_at trees limit bytes) → IfTold {X = T} (Err f) (λ e. e ≡ TooDeep → IsTooDeepEncoding limit bytes (Enc bytes))
   fails_deep T (Memory e) fits fails = tt
   fails_deep T (Told e) fits fails = λ is. too_deep_whole fits (fails ∙ ap (λ d. refusal d) is)
 
@@ -179,7 +179,7 @@ stopped : (xs rest : List ℕ) → past EndOfData xs ≡ Some rest → rest ≡ 
 stopped [] rest is = cc
 stopped (b ∷ xs) rest is = absurd cc
 
-ends_by : {A : Type 0} (one : Reader A) (more : Reader (List A)) → ((bytes : List ℕ) (x : List A × List ℕ) → more bytes ≡ Ok x → x.1 ≡ []) → (bytes : List ℕ) (x : List A × List ℕ) (o : Option (List ℕ)) → past EndOfData bytes ≡ o → turn one more bytes o ≡ Ok x → x.1 ≡ []
+ends_by : {A : Type 0} (one : Decoder A) (more : Decoder (List A)) → ((bytes : List ℕ) (x : List A × List ℕ) → more bytes ≡ Ok x → x.1 ≡ []) → (bytes : List ℕ) (x : List A × List ℕ) (o : Option (List ℕ)) → past EndOfData bytes ≡ o → turn one more bytes o ≡ Ok x → x.1 ≡ []
 ends_by {A} one more again bytes x (Some rest) is e = ap (λ (y : List A × List ℕ). y.1) (sym (answers ([], rest) x e)) ∙ stopped bytes rest is
 ends_by {A} one more again bytes x None is e =
     let a = bind_ok (one bytes) (λ y. more y.1 >>= λ ys. Ok (y.0 ∷ ys.0, ys.1)) x e in
@@ -187,7 +187,7 @@ ends_by {A} one more again bytes x None is e =
     ap (λ (y : List A × List ℕ). y.1) (sym (answers (a.0.0 ∷ b.0.0, b.0.1) x b.2)) ∙ again a.0.1 b.0 b.1
 
 -- a sequence is read to its end
-ends_at : {A : Type 0} (one : Reader A) (n : ℕ) (bytes : List ℕ) (x : List A × List ℕ) → until EndOfData one n bytes ≡ Ok x → x.1 ≡ []
+ends_at : {A : Type 0} (one : Decoder A) (n : ℕ) (bytes : List ℕ) (x : List A × List ℕ) → until EndOfData one n bytes ≡ Ok x → x.1 ≡ []
 unfolding until
 ends_at one zero bytes x e = absurd cc
 ends_at one (suc n) bytes x e = ends_by one (until EndOfData one n) (ends_at one n) bytes x (past EndOfData bytes) refl e
@@ -196,10 +196,10 @@ module _ (limit : ℕ) (bytes : List ℕ) where
   sequence_read : sequence_at trees limit bytes ≡ shown (map tree_of) (until EndOfData (value_at limit) (suc (length bytes)) bytes)
   sequence_read = until_shown tree_of EndOfData (item_at trees limit) (value_at limit) (tree_read limit) (suc (length bytes)) bytes
 
-  sequence_again : (vs : Values) → EncAll bytes vs → sequence_at trees limit bytes ≡ outcome (values_nesting vs) limit (map tree_of (list_of vs), [])
+  sequence_again : (vs : Values) → EncAll bytes vs → sequence_at trees limit bytes ≡ decoder_outcome (values_nesting vs) limit (map tree_of (list_of vs), [])
   sequence_again vs enc =
       let all : encodings vs ++ [] ≡ bytes = append-nil (encodings vs) ∙ sym enc.1 in
-      let read : until EndOfData (value_at limit) (suc (length bytes)) bytes ≡ outcome (values_nesting vs) limit (list_of vs, []) =
+      let read : until EndOfData (value_at limit) (suc (length bytes)) bytes ≡ decoder_outcome (values_nesting vs) limit (list_of vs, []) =
       ap (until EndOfData (value_at limit) (suc (length bytes))) (sym all)
       ∙ values_until vs enc.0 EndOfData limit (suc (length bytes)) [] [] refl (omega (arith, values_many vs, ap length enc.1)) in
       sequence_read ∙ ap (shown (map tree_of)) read ∙ shown_outcome (map tree_of) (values_nesting vs) limit (list_of vs) []
@@ -223,11 +223,11 @@ module _ (limit : ℕ) (bytes : List ℕ) where
     λ vs enc. omega (arith, items_nest vs, (outcome_err (values_nesting vs) limit (map tree_of (list_of vs), []) TooDeep (sym (sequence_again vs enc) ∙ is)).0),
   )
 
-  pub sequence_fails_refused : (T : Type 0) (f : Fault CborError) → Fails f (sequence_at trees limit bytes) → IfTold {X = T} (Err f) (λ e. e ≢ TooDeep → NoSequence bytes)
+  pub sequence_fails_refused : (T : Type 0) (f : Fault CborError) → DecoderFails f (sequence_at trees limit bytes) → IfTold {X = T} (Err f) (λ e. e ≢ TooDeep → NoSequence bytes)
   sequence_fails_refused T (Memory e) fails = tt
   sequence_fails_refused T (Told e) fails = sequence_refused e fails
 
-  pub sequence_fails_deep : (T : Type 0) (f : Fault CborError) → IsBytes bytes → Fails f (sequence_at trees limit bytes) → IfTold {X = T} (Err f) (λ e. e ≡ TooDeep → IsTooDeepSequence limit bytes)
+  pub sequence_fails_deep : (T : Type 0) (f : Fault CborError) → IsBytes bytes → DecoderFails f (sequence_at trees limit bytes) → IfTold {X = T} (Err f) (λ e. e ≡ TooDeep → IsTooDeepSequence limit bytes)
   sequence_fails_deep T (Memory e) fits fails = tt
   sequence_fails_deep T (Told e) fits fails = λ is. sequence_too_deep fits (fails ∙ ap (λ d. refusal d) is)
 

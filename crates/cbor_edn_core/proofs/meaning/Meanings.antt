@@ -18,7 +18,7 @@ use Rattle.cbor_edn_core.specs.declared.word.NamedSimple.{NamedSimple}
 use Rattle.cbor_edn_core.specs.declared.word.NamedSimple.TheVariants.{False, True, Null, Undefined}
 use Rattle.cbor_edn_core.specs.Value as values
 use Rattle.cbor_edn_core.specs.Value.{Value, unsigned, negative, string, chunks, tag, simple, float, limit_of, IsSimple, IsFloatWidth, ArgumentFits, LengthFits, AreBytes, is_content, ChunkFits, ChunksFit, Fits, ValuesFit, PairsFit, values_len, pairs_len, head, string_major, open_head, break, list_encoding, chunk_encoding, chunk_encodings, encoding, encodings, pair_encodings}
-use Rattle.cbor_edn_core.specs.Meaning.{◌>>=◌, shortest, fitting, width_of, length_of, without_zeros, magnitude_bytes, tagged, unmarked, bignum, means_integer, float_width, named_number, is_simple, is_shortest, simple_number, simple_of, means_simple, pieces_mark, chunk_of, string_of, chunks_of, stream_of, MeaningOf, EntryOf, RowOf, row_len, list_value, listed, no_entries, one_more, means}
+use Rattle.cbor_edn_core.specs.Meaning.{◌>>=◌, shortest, fitting, width_of, length_of, without_zeros, magnitude_bytes, tagged, no_indicator, bignum, means_integer, float_width, named_number, is_simple, is_shortest, simple_number, simple_of, means_simple, pieces_mark, chunk_of, string_of, chunks_of, stream_of, MeaningOf, EntryOf, RowOf, row_len, list_value, listed, no_entries, one_more, means}
 use Rattle.cbor_edn_core.specs.code.Encoding.{entry_encoding, row_encoding, string_encodings}
 use Rattle.cbor_edn_core.proofs.meaning.MeaningSteps.{if_both, both_steps, some_if, some_is}
 
@@ -83,11 +83,11 @@ magnitude_fits n = let r = high_first 16 n in let s = stripped (bytes_high_first
 pub tagged_fits : (number n : ℕ) → number < 24 → Fits (tagged number (magnitude_bytes n))
 tagged_fits number n lt = let m = magnitude_fits n in (lt, (shortest_fits (length (magnitude_bytes n)) (omega (arith, m.1)), m.0, refl))
 
-unmarked_is : (i : Option Indicator) (v w : Value) → unmarked i v ≡ Some w → v ≡ w
+unmarked_is : (i : Option Indicator) (v w : Value) → no_indicator i v ≡ Some w → v ≡ w
 unmarked_is None v w e = some_is v w e
 unmarked_is (Some i) v w e = absurd cc
 
-unmarked_if : (b : Bool) (i : Option Indicator) (v w : Value) → cond b (unmarked i v) None ≡ Some w → v ≡ w
+unmarked_if : (b : Bool) (i : Option Indicator) (v w : Value) → cond b (no_indicator i v) None ≡ Some w → v ≡ w
 unmarked_if true i v w e = unmarked_is i v w e
 unmarked_if false i v w e = absurd cc
 

@@ -1,4 +1,4 @@
--- What the text of a valid tree, joined, is read as, whatever follows: the tree, where it nests no deeper than the limit.
+-- What the text of a valid tree, merged, is read as, whatever follows: the tree, where it nests no deeper than the limit.
 use Rattle.std.proofs.Common.{ℕ, zero, suc, List, [], ◌∷◌, ◌++◌, ◌≡◌, ◌≤◌, ◌+◌, refl, ap, sym, arith, ◌∙◌, append_assoc}
 use Rattle.std.specs.Prelude.{true, false, eqb, Option, Some, None, Ok, max}
 use Rattle.std.proofs.lemmas.Bool.{eq-eqb}
@@ -13,8 +13,8 @@ use Rattle.cbor_edn_parts.specs.code.LiteralTokens.{literal, dots, is_literal, a
 use Rattle.cbor_edn_core.specs.Items.{Row, Elements, Pairs, Strings, Bracketed, Array, Map, entries_of}
 use Rattle.cbor_edn_core.specs.Spelling.{opening, ending}
 use Rattle.cbor_edn_core.specs.Labels.{IsLabel}
-use Rattle.cbor_edn_core.specs.Trees.{Rule, OneItem, OnePiece, OneString, OneEntry, Inside, Rest, Seq, Standalone, Head, Unmarked, Marked, head_text, label_text, Tree, NumberTree, FloatTree, NamedTree, EnclosedTree, ListTree, StringTree, StreamTree, LiteralTree, DotsTree, EmbeddedTree, LastPieceTree, PlusTree, ElementTree, PairTree, ChunkTree, EmptyTree, FullTree, LastTree, MoreTree, NothingTree, SequenceTree, StandaloneTree, onto, IsJoined, Joined, Parts, FollowOf, depth}
-use Rattle.cbor_edn_core.proofs.text.Tested.{IsTestedHead, Tested}
+use Rattle.cbor_edn_core.specs.Trees.{Rule, OneItem, OnePiece, OneString, OneEntry, Inside, Rest, Seq, Standalone, ListHead, Unmarked, Marked, list_head_text, label_text, Tree, NumberTree, FloatTree, NamedTree, EnclosedTree, ListTree, StringTree, StreamTree, LiteralTree, DotsTree, EmbeddedTree, LastPieceTree, PlusTree, ElementTree, PairTree, ChunkTree, EmptyTree, FullTree, LastTree, MoreTree, NothingTree, SequenceTree, StandaloneTree, onto, IsMerged, Merged, NoPlus, FollowOf, depth}
+use Rattle.cbor_edn_core.proofs.text.Tested.{IsTestedListHead, Tested}
 use Rattle.cbor_edn_core.specs.declared.tree.LabelKind.{LabelKind}
 use Rattle.cbor_edn_core.specs.declared.tree.LabelKind.TheVariants as label
 use Rattle.cbor_edn_core.specs.declared.word.NamedSimple.{NamedSimple}
@@ -24,7 +24,7 @@ use Rattle.cbor_edn_core.specs.declared.word.NonFinite.TheVariants.{NaN}
 use Rattle.cbor_edn_core.specs.declared.word.Word.{Word}
 use Rattle.cbor_edn_core.specs.declared.word.Word.TheVariants as word
 use Rattle.cbor_edn_core.specs.Words.{named_text, non_finite_text, word_text}
-use Rattle.cbor_edn_core.specs.code.Reading.{◌>>=◌, Reader, or_invalid, token, byte, not_empty, head_of, starts_string, is_prefix, word_at, enclosed_item, tag_item, number_end, number_item, word_item, plain_item, list_item, stream_item, string_item, item, literal_piece, dots_piece, embedded_piece, piece, plus_string, string, entry, inside_full, inside, more, rest, sequence, standalone, read, outcome}
+use Rattle.cbor_edn_core.specs.code.Reading.{◌>>=◌, Reader, or_invalid, token, byte, not_empty, list_head_of, starts_string, is_prefix, word_at, enclosed_item, tag_item, number_end, number_item, word_item, plain_item, list_item, stream_item, string_item, item, literal_piece, dots_piece, embedded_piece, piece, plus_string, string, entry, inside_full, inside, more, rest, sequence, standalone, read, outcome}
 use Rattle.cbor_edn_parts.proofs.Indicators.{spec-none, spec-some, spec-again}
 use Rattle.cbor_edn_parts.proofs.Tokens.{Halts, munch-again, token_texts}
 use Rattle.cbor_edn_core.proofs.text.Follows.{number_some, Solid, solid_spaceless, halts_space, halts_separator, halts_marked, halts_tag, spec-tag, follow_unopened, halts_literal, halts_dots, closes_solid, closes_closed, closes_follow, begins_solid, begins_open, ending_closes, stream_closes, embedded_closes, space_before, space_follow, space_plain, colon_solid, plus_solid, plus_follow}
@@ -154,7 +154,7 @@ module _ (g : ℕ → (s : Rule) → Reader s) where
   embedded-again zero w i r h e = sym (too_deep {A = Tree OnePiece × List ℕ} (depth w) (EmbeddedTree w i, r))
   embedded-again (suc limit) w i r h e = then_done (depth w) limit _ (e limit) (then_ok _ (byte-again 62 _) (then_ok _ (byte-again 62 _) (rw (spec-again i r h)))) ∙ sym (deeper {A = Tree OnePiece × List ℕ} (depth w) limit (EmbeddedTree w i, r))
 
-  last_piece-again : (limit : ℕ) (p : Tree OnePiece) (r : List ℕ) → Parts r → g limit OnePiece (onto p r) ≡ outcome (depth p) limit (p, r) → string g limit (onto p r) ≡ outcome (depth p) limit (LastPieceTree p, r)
+  last_piece-again : (limit : ℕ) (p : Tree OnePiece) (r : List ℕ) → NoPlus r → g limit OnePiece (onto p r) ≡ outcome (depth p) limit (p, r) → string g limit (onto p r) ≡ outcome (depth p) limit (LastPieceTree p, r)
   unfolding string
   last_piece-again limit p r q e = then_done (depth p) limit _ e (then_ok _ (ap or_invalid q.1) (rw q.2))
 
@@ -189,12 +189,12 @@ module _ (g : ℕ → (s : Rule) → Reader s) where
   empty-again limit k i s r v h = rw (flat {A = Tree (Inside k) × List ℕ} limit (EmptyTree i s, r), spec-again i (s ++ r) (space_follow s r v (closes_follow r h))) (then_ok _ (space-again s r v (closes_solid r h)) (rw (closes_closed r h)))
 
   -- behind an indicator, or none, and the space that follows
-  headed : (limit : ℕ) (k : Bracketed) (i : Option Indicator) (h : Head) (s t xs : List ℕ) (m : Tree (Rest (entries_of k))) (r : List ℕ) → indicator_at xs ≡ (i, s ++ onto m r) → head_of i s ≡ Ok (h, t) → is_s s ≡ true → Tested m → g limit (Rest (entries_of k)) (onto m r) ≡ outcome (depth m) limit (m, r) → inside g limit k xs ≡ outcome (depth m) limit (FullTree h t m, r)
+  headed : (limit : ℕ) (k : Bracketed) (i : Option Indicator) (h : ListHead) (s t xs : List ℕ) (m : Tree (Rest (entries_of k))) (r : List ℕ) → indicator_at xs ≡ (i, s ++ onto m r) → list_head_of i s ≡ Ok (h, t) → is_s s ≡ true → Tested m → g limit (Rest (entries_of k)) (onto m r) ≡ outcome (depth m) limit (m, r) → inside g limit k xs ≡ outcome (depth m) limit (FullTree h t m, r)
   unfolding inside inside_full
   headed limit k i h s t xs m r ei eh v vm e = let b = (rest_starts m r vm).0 in rw ei (then_ok _ (space-again s _ v (begins_solid _ b)) (rw (begins_open _ b) (then_ok _ eh (then_done (depth m) limit _ e refl))))
 
-  full-again : (limit : ℕ) (k : Bracketed) (h : Head) (s : List ℕ) (m : Tree (Rest (entries_of k))) (r : List ℕ) → IsTestedHead h → is_s s ≡ true → IsJoined h s → Tested m → g limit (Rest (entries_of k)) (onto m r) ≡ outcome (depth m) limit (m, r) → inside g limit k (head_text h ++ (s ++ onto m r)) ≡ outcome (depth m) limit (FullTree h s m, r)
-  unfolding head_of
+  full-again : (limit : ℕ) (k : Bracketed) (h : ListHead) (s : List ℕ) (m : Tree (Rest (entries_of k))) (r : List ℕ) → IsTestedListHead h → is_s s ≡ true → IsMerged h s → Tested m → g limit (Rest (entries_of k)) (onto m r) ≡ outcome (depth m) limit (m, r) → inside g limit k (list_head_text h ++ (s ++ onto m r)) ≡ outcome (depth m) limit (FullTree h s m, r)
+  unfolding list_head_of
   full-again limit k Unmarked s m r vh v j vm e = headed limit k None Unmarked s s _ m r (spec-none _ (space_plain s _ v (rest_starts m r vm).0)) refl v vm e
   full-again limit k (Marked i []) s m r vh v j vm e = absurd (cc)
   full-again limit k (Marked i (c ∷ ms)) (d ∷ s) m r vh v j vm e = absurd (cc)
@@ -246,8 +246,8 @@ positive (NothingTree s) h = omega arith
 positive (SequenceTree s m) h = omega arith
 positive (StandaloneTree s w t) h = omega arith
 
-pub again : (f limit : ℕ) {s : Rule} (w : Tree s) (r : List ℕ) → Tested w → Joined w → FollowOf s r → size w ≤ f → read f limit s (onto w r) ≡ outcome (depth w) limit (w, r)
-unfolding read onto Tested Joined size
+pub again : (f limit : ℕ) {s : Rule} (w : Tree s) (r : List ℕ) → Tested w → Merged w → FollowOf s r → size w ≤ f → read f limit s (onto w r) ≡ outcome (depth w) limit (w, r)
+unfolding read onto Tested Merged size
 again zero limit w r v j h n = absurd (positive w n)
 again (suc f) limit (NumberTree x i) r v j h n = number-again (read f) limit x i r v h.0
 again (suc f) limit (FloatTree e i) r v j h n = float-again (read f) limit e i r h.0

@@ -22,7 +22,7 @@ use Rattle.cbor_edn_parts.specs.declared.string.InLiteral.TheVariants as in_lite
 use Rattle.cbor_edn_parts.specs.declared.string.InDots.{InDots}
 use Rattle.cbor_edn_parts.specs.declared.string.InDots.TheVariants as in_dots
 use Rattle.cbor_edn_core.specs.Items.{Row, Array, Map}
-use Rattle.cbor_edn_core.specs.Trees.{OneItem, OnePiece, OneString, OneEntry, Rest, Tree, NumberTree, FloatTree, NamedTree, EnclosedTree, ListTree, StringTree, StreamTree, LiteralTree, DotsTree, EmbeddedTree, LastPieceTree, PlusTree, ElementTree, PairTree, ChunkTree, LastTree, MoreTree, onto, starts_digits, starts_number, joins, Parts, Next}
+use Rattle.cbor_edn_core.specs.Trees.{OneItem, OnePiece, OneString, OneEntry, Rest, Tree, NumberTree, FloatTree, NamedTree, EnclosedTree, ListTree, StringTree, StreamTree, LiteralTree, DotsTree, EmbeddedTree, LastPieceTree, PlusTree, ElementTree, PairTree, ChunkTree, LastTree, MoreTree, onto, starts_digits, starts_number, joins, NoPlus, Next}
 use Rattle.cbor_edn_core.proofs.text.Tested.{Tested}
 use Rattle.cbor_edn_core.specs.declared.tree.LabelKind.TheVariants as label
 use Rattle.cbor_edn_core.specs.declared.word.NamedSimple.TheVariants.{False}
@@ -288,19 +288,19 @@ rest_starts (MoreTree e s m) r v = entry_starts e _ v.0
 
 -- ---- what follows an item
 
-parts_at : (s r : List ℕ) → is_s s ≡ true → Spaceless r → joins r ≡ false → Parts (s ++ r)
-parts_at s r v h j = ((s, r), munch-again space space.start s r ((token_texts space s).1 v) (halts_space r h), j)
+no_plus_at : (s r : List ℕ) → is_s s ≡ true → Spaceless r → joins r ≡ false → NoPlus (s ++ r)
+no_plus_at s r v h j = ((s, r), munch-again space space.start s r ((token_texts space s).1 v) (halts_space r h), j)
 
-comma_parts : (x r : List ℕ) → is_s x ≡ true → Parts (x ++ (44 ∷ r))
+comma_no_plus : (x r : List ℕ) → is_s x ≡ true → NoPlus (x ++ (44 ∷ r))
 unfolding joins kind
-comma_parts x r v = parts_at x (44 ∷ r) v refl refl
+comma_no_plus x r v = no_plus_at x (44 ∷ r) v refl refl
 
-separator_parts : (s r : List ℕ) → IsSoc s → Solid r → joins r ≡ false → Parts (s ++ r)
-separator_parts s r (space_alone h) o j = parts_at s r ((s_texts s).0 h) (solid_spaceless r o) j
-separator_parts _ r (comma {x = x} {y = y} h k) o j = rw (append_assoc x (44 ∷ y) r) (comma_parts x (y ++ r) ((s_texts x).0 h))
+separator_no_plus : (s r : List ℕ) → IsSoc s → Solid r → joins r ≡ false → NoPlus (s ++ r)
+separator_no_plus s r (space_alone h) o j = no_plus_at s r ((s_texts s).0 h) (solid_spaceless r o) j
+separator_no_plus _ r (comma {x = x} {y = y} h k) o j = rw (append_assoc x (44 ∷ y) r) (comma_no_plus x (y ++ r) ((s_texts x).0 h))
 
 pub space_next : (s r : List ℕ) → is_s s ≡ true → Solid r → Follow r → joins r ≡ false → Next (s ++ r)
-space_next s r v o f j = (space_follow s r v f, parts_at s r v (solid_spaceless r o) j)
+space_next s r v o f j = (space_follow s r v f, no_plus_at s r v (solid_spaceless r o) j)
 
 pub closes_joins : (r : List ℕ) → Closes r → joins r ≡ false
 unfolding joins kind
@@ -308,10 +308,10 @@ closes_joins [] h = refl
 closes_joins (c ∷ r) h = and_left (eqb c 43) _ (differs closing c 43 h refl)
 
 pub end_next : (s r : List ℕ) → is_soc s ≡ true → Closes r → Next (s ++ r)
-end_next s r v h = (separator_follow s r v (closes_follow r h), separator_parts s r ((soc_texts s).1 v) (closes_solid r h) (closes_joins r h))
+end_next s r v h = (separator_follow s r v (closes_follow r h), separator_no_plus s r ((soc_texts s).1 v) (closes_solid r h) (closes_joins r h))
 
 pub more_next : {k : Row} (s : List ℕ) (m : Tree (Rest k)) (r : List ℕ) → is_msc s ≡ true → Tested m → Next (s ++ onto m r)
-more_next s m r v vm = let b = rest_starts m r vm in (msc_follow s _ v, separator_parts s _ ((soc_texts s).1 (and_parts _ _ v).1) (begins_solid _ b.0) b.1)
+more_next s m r v vm = let b = rest_starts m r vm in (msc_follow s _ v, separator_no_plus s _ ((soc_texts s).1 (and_parts _ _ v).1) (begins_solid _ b.0) b.1)
 
 pub colon_next : (s r : List ℕ) → is_s s ≡ true → Next (s ++ (58 ∷ r))
 unfolding joins

@@ -3,7 +3,7 @@ use Rattle.std.proofs.Common.{ℕ, List, [], ◌≡◌, ◌≤◌, ap, sym, arit
 use Rattle.std.specs.Prelude.{Result, Ok, max}
 use Rattle.std.proofs.lemmas.Bool.{le-leb}
 use Rattle.cbor_edn_parts.specs.declared.error.ParseErrorKind.{ParseErrorKind}
-use Rattle.cbor_edn_core.specs.Trees.{Rule, Seq, Standalone, Tree, Joined, FollowOf, Of, onto, text, items, depth}
+use Rattle.cbor_edn_core.specs.Trees.{Rule, Seq, Standalone, Tree, Merged, FollowOf, Of, onto, text, items, depth}
 use Rattle.cbor_edn_core.proofs.text.Tested.{Tested, tested, valid}
 use Rattle.cbor_edn_core.specs.code.Reading.{reads}
 use Rattle.cbor_edn_core.specs.Laws.{UniqueItems, UniqueSpaces, SpelledByTrees}
@@ -13,11 +13,11 @@ use Rattle.cbor_edn_core.proofs.text.Spelled.{HasTree, tells, spelled_sequence, 
 use Rattle.cbor_edn_core.proofs.text.Whole.{sequence_made, standalone_made}
 
 -- Read with a limit that is deep enough.
-read_back : {s : Rule} (limit : ℕ) (w : Tree s) (r : List ℕ) → Tested w → Joined w → FollowOf s r → depth w ≤ limit → reads limit s (onto w r) ≡ Ok (w, r)
+read_back : {s : Rule} (limit : ℕ) (w : Tree s) (r : List ℕ) → Tested w → Merged w → FollowOf s r → depth w ≤ limit → reads limit s (onto w r) ≡ Ok (w, r)
 read_back limit w r v j h n = reads-again limit w r v j h ∙ within (depth w) limit (w, r) (le-leb (depth w) limit n)
 
 -- No tree's text begins another's, where both are followed by what may follow.
-pub one_front : {s : Rule} (w v : Tree s) (q r : List ℕ) → Tested w → Joined w → Tested v → Joined v → FollowOf s q → FollowOf s r → onto w q ≡ onto v r → ◌≡◌ {A = Tree s × List ℕ} (w, q) (v, r)
+pub one_front : {s : Rule} (w v : Tree s) (q r : List ℕ) → Tested w → Merged w → Tested v → Merged v → FollowOf s q → FollowOf s r → onto w q ≡ onto v r → ◌≡◌ {A = Tree s × List ℕ} (w, q) (v, r)
 one_front {s} w v q r vw jw vv jv fq fr e = same_Ok (sym (read_back limit w q vw jw fq (omega arith)) ∙ ap (reads limit s) e ∙ read_back limit v r vv jv fr (omega arith))
   where
     limit : ℕ
@@ -27,11 +27,11 @@ one_front {s} w v q r vw jw vv jv fq fr e = same_Ok (sym (read_back limit w q vw
     same_Ok e = cc
 
 -- One text, one tree.
-pub one_tree : {s : Rule} (w v : Tree s) → Tested w → Joined w → Tested v → Joined v → FollowOf s [] → text w ≡ text v → w ≡ v
+pub one_tree : {s : Rule} (w v : Tree s) → Tested w → Merged w → Tested v → Merged v → FollowOf s [] → text w ≡ text v → w ≡ v
 one_tree {s} w v vw jw vv jv f e = ap (λ (p : Tree s × List ℕ). p.0) (one_front w v [] [] vw jw vv jv f f e)
 
 same_items : {s : Rule} (x y : Of s) (t : List ℕ) → FollowOf s [] → HasTree s x t → HasTree s y t → x ≡ y
-same_items x y t f a b = sym a.same ∙ ap items (one_tree a.tree b.tree a.valid a.joined b.valid b.joined f (a.text_is [] ∙ sym (b.text_is []))) ∙ b.same
+same_items x y t f a b = sym a.same ∙ ap items (one_tree a.tree b.tree a.valid a.merged b.valid b.merged f (a.text_is [] ∙ sym (b.text_is []))) ∙ b.same
 
 pub unique_items : UniqueItems
 unique_items = (λ x y t hx hy. same_items {s = Seq} x y t tt (spelled_sequence x t hx) (spelled_sequence y t hy), λ x y t hx hy. same_items {s = Standalone} x y t tt (spelled_one x t hx) (spelled_one y t hy))

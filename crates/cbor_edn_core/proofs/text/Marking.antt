@@ -4,7 +4,7 @@ use Rattle.std.specs.Prelude.{cond, eqb}
 use Rattle.std.proofs.lemmas.Bool.{cond_both}
 use Rattle.cbor_edn_parts.specs.Indicator.{indicator_text}
 use Rattle.cbor_edn_core.specs.Spelling.{opening, ending}
-use Rattle.cbor_edn_core.specs.Trees.{Rule, head_text, label_text, Tree, NumberTree, FloatTree, NamedTree, EnclosedTree, ListTree, StringTree, StreamTree, LiteralTree, DotsTree, EmbeddedTree, LastPieceTree, PlusTree, ElementTree, PairTree, ChunkTree, EmptyTree, FullTree, LastTree, MoreTree, NothingTree, SequenceTree, StandaloneTree, onto}
+use Rattle.cbor_edn_core.specs.Trees.{Rule, list_head_text, label_text, Tree, NumberTree, FloatTree, NamedTree, EnclosedTree, ListTree, StringTree, StreamTree, LiteralTree, DotsTree, EmbeddedTree, LastPieceTree, PlusTree, ElementTree, PairTree, ChunkTree, EmptyTree, FullTree, LastTree, MoreTree, NothingTree, SequenceTree, StandaloneTree, onto}
 use Rattle.cbor_edn_core.specs.Words.{named_text, non_finite_text}
 use Rattle.cbor_edn_core.specs.Marks.{opens, marks, marks_behind}
 
@@ -48,7 +48,7 @@ marks_onto (ElementTree w) r = marks_onto w r
 marks_onto (PairTree v s t w) r = omega (arith, marks_onto w r, marks_between s 58 t (onto w r), marks_onto v (s ++ (58 ∷ (t ++ onto w r))))
 marks_onto (ChunkTree w) r = marks_onto w r
 marks_onto (EmptyTree i s) r = omega (arith, marks_end s r, marks_end (indicator_text i) (s ++ r))
-marks_onto (FullTree h s m) r = omega (arith, marks_onto m r, marks_end s (onto m r), marks_end (head_text h) (s ++ onto m r))
+marks_onto (FullTree h s m) r = omega (arith, marks_onto m r, marks_end s (onto m r), marks_end (list_head_text h) (s ++ onto m r))
 marks_onto (LastTree e s) r = omega (arith, marks_end s r, marks_onto e (s ++ r))
 marks_onto (MoreTree e s m) r = omega (arith, marks_onto m r, marks_end s (onto m r), marks_onto e (s ++ onto m r))
 marks_onto (NothingTree s) r = marks_end s r

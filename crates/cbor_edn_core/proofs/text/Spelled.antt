@@ -1,4 +1,4 @@
--- What is spelled is the text of a valid tree, joined, with these items, and a valid tree's text spells its items.
+-- What is spelled is the text of a valid tree, merged, with these items, and a valid tree's text spells its items.
 use Rattle.std.proofs.Common.{ℕ, suc, List, [], ◌∷◌, ◌++◌, ◌≡◌, refl, ap, sym, arith, ◌∙◌, append_assoc, subst}
 use Rattle.std.proofs.lemmas.List.{append-nil}
 use Rattle.std.specs.Prelude.{true, Option, Some, None, ◌≢◌}
@@ -10,8 +10,8 @@ use Rattle.cbor_edn_parts.specs.code.SpaceTokens.{is_s}
 use Rattle.cbor_edn_core.specs.Items.{Row, Elements, Strings, Bracketed, entries_of, Sort, Item, Piece, Pieces, Entry, Entries, Node, Number, Float, Listed, Tagged, Named, Simple, String, Stream, Literal, Dots, Embedded, LastPiece, Plus, Element, Pair, Chunk, End, Then, Items, nesting}
 use Rattle.cbor_edn_core.specs.Spelling.{opening, ending, IsSpecms, Spells, SpellsSequence, SpellsOne}
 use Rattle.cbor_edn_core.specs.Labels.{IsLabel}
-use Rattle.cbor_edn_core.specs.Trees.{Rule, OneItem, OnePiece, OneString, OneEntry, Inside, Rest, Seq, Standalone, Head, Unmarked, Marked, mark, head_text, label_text, labelled, Tree, NumberTree, FloatTree, NamedTree, EnclosedTree, ListTree, StringTree, StreamTree, LiteralTree, DotsTree, EmbeddedTree, LastPieceTree, PlusTree, ElementTree, PairTree, ChunkTree, EmptyTree, FullTree, LastTree, MoreTree, NothingTree, SequenceTree, StandaloneTree, onto, text, Of, items, depth, IsJoined, Joined}
-use Rattle.cbor_edn_core.proofs.text.Tested.{IsTestedHead, Tested}
+use Rattle.cbor_edn_core.specs.Trees.{Rule, OneItem, OnePiece, OneString, OneEntry, Inside, Rest, Seq, Standalone, ListHead, Unmarked, Marked, mark, list_head_text, label_text, labelled, Tree, NumberTree, FloatTree, NamedTree, EnclosedTree, ListTree, StringTree, StreamTree, LiteralTree, DotsTree, EmbeddedTree, LastPieceTree, PlusTree, ElementTree, PairTree, ChunkTree, EmptyTree, FullTree, LastTree, MoreTree, NothingTree, SequenceTree, StandaloneTree, onto, text, Of, items, depth, IsMerged, Merged}
+use Rattle.cbor_edn_core.proofs.text.Tested.{IsTestedListHead, Tested}
 use Rattle.cbor_edn_core.specs.declared.tree.LabelKind.{LabelKind}
 use Rattle.cbor_edn_core.specs.declared.tree.LabelKind.TheVariants as label
 use Rattle.cbor_edn_core.specs.Words.{named_text}
@@ -84,21 +84,21 @@ onto-append (ElementTree w) q r = onto-append w q r
 onto-append (PairTree v s t w) q r = between-append v 58 w s t q r (onto-append w q r) (λ x. onto-append v x r)
 onto-append (ChunkTree w) q r = onto-append w q r
 onto-append (EmptyTree i s) q r = simp append_assoc
-onto-append (FullTree h s m) q r = ap (λ (x : List ℕ). head_text h ++ (s ++ x)) (onto-append m q r) ∙ full-append (head_text h) s (onto m q) r
+onto-append (FullTree h s m) q r = ap (λ (x : List ℕ). list_head_text h ++ (s ++ x)) (onto-append m q r) ∙ full-append (list_head_text h) s (onto m q) r
 onto-append (LastTree e s) q r = ap (onto e) (sym (append_assoc s q r)) ∙ onto-append e (s ++ q) r
 onto-append (MoreTree e s m) q r = ap (λ (x : List ℕ). onto e (s ++ x)) (onto-append m q r) ∙ ap (onto e) (sym (append_assoc s (onto m q) r)) ∙ onto-append e (s ++ onto m q) r
 onto-append (NothingTree s) q r = simp append_assoc
 onto-append (SequenceTree s m) q r = ap (s ++◌) (onto-append m q r) ∙ sym (append_assoc s (onto m q) r)
 onto-append (StandaloneTree s w t) q r = ap (λ (x : List ℕ). s ++ onto w x) (sym (append_assoc t q r)) ∙ ap (s ++◌) (onto-append w (t ++ q) r) ∙ sym (append_assoc s (onto w (t ++ q)) r)
 
-pub parted : {s : Rule} (w : Tree s) (r : List ℕ) → onto w r ≡ text w ++ r
-parted w r = onto-append w [] r
+pub onto-text : {s : Rule} (w : Tree s) (r : List ℕ) → onto w r ≡ text w ++ r
+onto-text w r = onto-append w [] r
 
--- A valid tree, joined, with these items and this text.
+-- A valid tree, merged, with these items and this text.
 pub record HasTree (s : Rule) (x : Of s) (t : List ℕ) : Type 0 where
   pub tree : Tree s
   pub valid : Tested tree
-  pub joined : Joined tree
+  pub merged : Merged tree
   pub same : items tree ≡ x
   pub text_is : (r : List ℕ) → onto tree r ≡ t ++ r
 
@@ -106,7 +106,7 @@ pub record HasTree (s : Rule) (x : Of s) (t : List ℕ) : Type 0 where
 pub record Continues {k : Row} (e : Tree (OneEntry k)) (x : Node (Entries k)) (t : List ℕ) : Type 0 where
   pub tree : Tree (Rest k)
   pub valid : Tested tree
-  pub joined : Joined tree
+  pub merged : Merged tree
   pub same : items tree ≡ Then (items e) x
   pub text_is : (r : List ℕ) → onto tree r ≡ onto e (t ++ r)
 
@@ -115,11 +115,11 @@ Given Item x t = HasTree OneItem x t
 Given Piece x t = HasTree OnePiece x t
 Given Pieces x t = HasTree OneString x t
 Given (Entry k) x t = HasTree (OneEntry k) x t
-Given (Entries k) x t = (e : Tree (OneEntry k)) → Tested e → Joined e → Continues e x t
+Given (Entries k) x t = (e : Tree (OneEntry k)) → Tested e → Merged e → Continues e x t
 
-end_given : {k : Row} (t : List ℕ) (e : Tree (OneEntry k)) → Tested e → Joined e → Spells (End {k = k}) t → Continues e End t
-unfolding Spells onto Tested Joined items
-end_given t e v j h = record { tree = LastTree e t; valid = (v, (soc_texts t).0 h); joined = j; same = refl; text_is = λ r. refl }
+end_given : {k : Row} (t : List ℕ) (e : Tree (OneEntry k)) → Tested e → Merged e → Spells (End {k = k}) t → Continues e End t
+unfolding Spells onto Tested Merged items
+end_given t e v j h = record { tree = LastTree e t; valid = (v, (soc_texts t).0 h); merged = j; same = refl; text_is = λ r. refl }
 
 s-append : {x y : List ℕ} → IsS x → IsS y → IsS (x ++ y)
 s-append empty k = k
@@ -134,127 +134,127 @@ ms_append : {x y : List ℕ} → IsMs x → IsS y → IsMs (x ++ y)
 ms_append {x = x} {y = y} h k = (s-append h.0 k, not_empty-append x y h.1)
 
 -- An indicator with its space, and the space behind it: the mandatory space takes all of both.
-pub record HasHead (i : Option Indicator) (h s : List ℕ) : Type 0 where
-  pub head : Head
+pub record HasListHead (i : Option Indicator) (h s : List ℕ) : Type 0 where
+  pub head : ListHead
   pub space : List ℕ
   pub same : mark head ≡ i
-  pub head_valid : IsTestedHead head
+  pub head_valid : IsTestedListHead head
   pub space_valid : is_s space ≡ true
-  pub joined : IsJoined head space
-  pub text_is : (r : List ℕ) → head_text head ++ (space ++ r) ≡ h ++ (s ++ r)
+  pub merged : IsMerged head space
+  pub text_is : (r : List ℕ) → list_head_text head ++ (space ++ r) ≡ h ++ (s ++ r)
 
-head_given : (i : Option Indicator) (h s : List ℕ) → IsSpecms i h → IsS s → HasHead i h s
-head_given None h s vh vs = record { head = Unmarked; space = s; same = refl; head_valid = tt; space_valid = (s_texts s).0 vs; joined = tt; text_is = λ r. ap (λ (x : List ℕ). x ++ (s ++ r)) (sym vh) }
+head_given : (i : Option Indicator) (h s : List ℕ) → IsSpecms i h → IsS s → HasListHead i h s
+head_given None h s vh vs = record { head = Unmarked; space = s; same = refl; head_valid = tt; space_valid = (s_texts s).0 vs; merged = tt; text_is = λ r. ap (λ (x : List ℕ). x ++ (s ++ r)) (sym vh) }
 head_given (Some i) h s vh vs = record {
   head = Marked i (vh.0 ++ s);
   space = [];
   same = refl;
   head_valid = (ms_texts (vh.0 ++ s)).0 (ms_append vh.1 vs);
   space_valid = no_space;
-  joined = refl;
+  merged = refl;
   text_is = λ r. rw vh.2 (simp append_assoc);
 }
 
-full_given : (k : Bracketed) (i : Option Indicator) (e : Node (Entry (entries_of k))) (m : Node (Entries (entries_of k))) (h s a b : List ℕ) → HasHead i h s → (v : HasTree (OneEntry (entries_of k)) e a) → Continues v.tree m b → HasTree OneItem (Listed k i (Then e m)) (opening k ∷ (h ++ (s ++ (a ++ (b ++ (ending k ∷ []))))))
-unfolding onto Tested Joined items
+full_given : (k : Bracketed) (i : Option Indicator) (e : Node (Entry (entries_of k))) (m : Node (Entries (entries_of k))) (h s a b : List ℕ) → HasListHead i h s → (v : HasTree (OneEntry (entries_of k)) e a) → Continues v.tree m b → HasTree OneItem (Listed k i (Then e m)) (opening k ∷ (h ++ (s ++ (a ++ (b ++ (ending k ∷ []))))))
+unfolding onto Tested Merged items
 full_given k i e m h s a b u v w = record {
   tree = ListTree k (FullTree u.head u.space w.tree);
   valid = (u.head_valid, u.space_valid, w.valid);
-  joined = (u.joined, w.joined);
+  merged = (u.merged, w.merged);
   same = rw (u.same, w.same, v.same);
   text_is = λ r. rw (w.text_is (ending k ∷ r), v.text_is (b ++ (ending k ∷ r)), u.text_is (a ++ (b ++ (ending k ∷ r)))) (simp append_assoc);
 }
 
-more_given : {k : Row} (e : Node (Entry k)) (m : Node (Entries k)) (c a b : List ℕ) (u : Tree (OneEntry k)) → Tested u → Joined u → IsMsc c → (v : HasTree (OneEntry k) e a) → Continues v.tree m b → Continues u (Then e m) (c ++ (a ++ b))
-unfolding onto Tested Joined items
+more_given : {k : Row} (e : Node (Entry k)) (m : Node (Entries k)) (c a b : List ℕ) (u : Tree (OneEntry k)) → Tested u → Merged u → IsMsc c → (v : HasTree (OneEntry k) e a) → Continues v.tree m b → Continues u (Then e m) (c ++ (a ++ b))
+unfolding onto Tested Merged items
 more_given {k} e m c a b u vu ju h v w = record {
   tree = MoreTree u c w.tree;
   valid = (vu, (msc_texts c).0 h, w.valid);
-  joined = (ju, w.joined);
+  merged = (ju, w.merged);
   same = ap (Then (items u)) (w.same ∙ ap (λ (x : Node (Entry k)). Then x m) v.same);
   text_is = λ r. rw (w.text_is r, v.text_is (b ++ r)) (ap (onto u) (simp append_assoc));
 }
 
 stream_given : (e : Node (Entry Strings)) (m : Node (Entries Strings)) (ms a b : List ℕ) → IsMs ms → (v : HasTree (OneEntry Strings) e a) → Continues v.tree m b → HasTree OneItem (Stream (Then e m)) (40 ∷ 95 ∷ (ms ++ (a ++ (b ++ (41 ∷ [])))))
-unfolding onto Tested Joined items
+unfolding onto Tested Merged items
 stream_given e m ms a b h v w = record {
   tree = StreamTree ms w.tree;
   valid = ((ms_texts ms).0 h, w.valid);
-  joined = w.joined;
+  merged = w.merged;
   same = rw (w.same, v.same);
   text_is = λ r. rw (w.text_is (41 ∷ r), v.text_is (b ++ (41 ∷ r))) (simp append_assoc);
 }
 
 -- A sequence without items, and one with a first item and others.
 nothing_given : (t : List ℕ) → IsS t → HasTree Seq End t
-unfolding onto Tested Joined items
-nothing_given t h = record { tree = NothingTree t; valid = (s_texts t).0 h; joined = tt; same = refl; text_is = λ r. refl }
+unfolding onto Tested Merged items
+nothing_given t h = record { tree = NothingTree t; valid = (s_texts t).0 h; merged = tt; same = refl; text_is = λ r. refl }
 
 sequence_given : (e : Node (Entry Elements)) (m : Items) (s a b : List ℕ) → IsS s → (v : HasTree (OneEntry Elements) e a) → Continues v.tree m b → HasTree Seq (Then e m) (s ++ (a ++ b))
-unfolding onto Tested Joined items
+unfolding onto Tested Merged items
 sequence_given e m s a b h v w = record {
   tree = SequenceTree s w.tree;
   valid = ((s_texts s).0 h, w.valid);
-  joined = w.joined;
+  merged = w.merged;
   same = rw (w.same, v.same);
   text_is = λ r. rw (w.text_is r, v.text_is (b ++ r)) (simp append_assoc);
 }
 
 embedded_given : (m : Items) (i : Option Indicator) (a : List ℕ) → HasTree Seq m a → HasTree OnePiece (Embedded m i) (60 ∷ 60 ∷ (a ++ (62 ∷ 62 ∷ indicator_text i)))
-unfolding onto Tested Joined items
+unfolding onto Tested Merged items
 embedded_given m i a v = record {
   tree = EmbeddedTree v.tree i;
   valid = v.valid;
-  joined = v.joined;
+  merged = v.merged;
   same = ap (λ (x : Items). Embedded x i) v.same;
   text_is = λ r. rw (v.text_is (62 ∷ 62 ∷ (indicator_text i ++ r))) (simp append_assoc);
 }
 
 enclosed_given : (l : LabelKind) (x : Node Item) (s a u : List ℕ) → IsLabel l → IsS s → HasTree OneItem x a → IsS u → HasTree OneItem (labelled l x) (label_text l ++ (40 ∷ (s ++ (a ++ (u ++ (41 ∷ []))))))
-unfolding onto Tested Joined items
+unfolding onto Tested Merged items
 enclosed_given l x s a u vl vs v vu = record {
   tree = EnclosedTree l (StandaloneTree s v.tree u);
   valid = (vl, ((s_texts s).0 vs, v.valid, (s_texts u).0 vu));
-  joined = v.joined;
+  merged = v.merged;
   same = ap (labelled l) v.same;
   text_is = λ r. rw (v.text_is (u ++ (41 ∷ r))) (simp append_assoc);
 }
 
 pub spelled : {s : Sort} (x : Node s) (t : List ℕ) → Spells x t → Given s x t
-unfolding Spells SpellsSequence onto Tested Joined items
-spelled (Number x i) t h = record { tree = NumberTree x i; valid = (number_texts x).0 h.0; joined = tt; same = refl; text_is = λ r. rw h.1 (simp append_assoc) }
-spelled (Float f i) t h = record { tree = FloatTree f i; valid = tt; joined = tt; same = refl; text_is = λ r. rw h (simp append_assoc) }
+unfolding Spells SpellsSequence onto Tested Merged items
+spelled (Number x i) t h = record { tree = NumberTree x i; valid = (number_texts x).0 h.0; merged = tt; same = refl; text_is = λ r. rw h.1 (simp append_assoc) }
+spelled (Float f i) t h = record { tree = FloatTree f i; valid = tt; merged = tt; same = refl; text_is = λ r. rw h (simp append_assoc) }
 spelled (Tagged n i w) t h = rw (h.7 ∙ sym (append_assoc (decimal n) (indicator_text i) _)) (enclosed_given (label.Tag n i) w h.0 h.1 h.2 h.3 h.4 (spelled w h.1 h.5) h.6)
-spelled (Named b) t h = record { tree = NamedTree b; valid = tt; joined = tt; same = refl; text_is = λ r. rw h refl }
+spelled (Named b) t h = record { tree = NamedTree b; valid = tt; merged = tt; same = refl; text_is = λ r. rw h refl }
 spelled (Simple w) t h = rw h.6 (enclosed_given label.Simple w h.0 h.1 h.2 tt h.3 (spelled w h.1 h.4) h.5)
-spelled (Listed k i End) t h = record { tree = ListTree k (EmptyTree i h.0); valid = (s_texts h.0).0 h.1; joined = tt; same = refl; text_is = λ r. rw h.2 (simp append_assoc) }
-spelled (Listed k i (Then e m)) t h = let v = spelled e h.2 h.6 in rw h.8 (full_given k i e m h.0 h.1 h.2 h.3 (head_given i h.0 h.1 h.4 h.5) v (spelled m h.3 h.7 v.tree v.valid v.joined))
-spelled (String w) t h = let v = spelled w t h in record { tree = StringTree v.tree; valid = v.valid; joined = v.joined; same = ap String v.same; text_is = v.text_is }
+spelled (Listed k i End) t h = record { tree = ListTree k (EmptyTree i h.0); valid = (s_texts h.0).0 h.1; merged = tt; same = refl; text_is = λ r. rw h.2 (simp append_assoc) }
+spelled (Listed k i (Then e m)) t h = let v = spelled e h.2 h.6 in rw h.8 (full_given k i e m h.0 h.1 h.2 h.3 (head_given i h.0 h.1 h.4 h.5) v (spelled m h.3 h.7 v.tree v.valid v.merged))
+spelled (String w) t h = let v = spelled w t h in record { tree = StringTree v.tree; valid = v.valid; merged = v.merged; same = ap String v.same; text_is = v.text_is }
 spelled (Stream End) t h = absurd h
-spelled (Stream (Then e m)) t h = let v = spelled e h.1 h.4 in rw h.6 (stream_given e m h.0 h.1 h.2 h.3 v (spelled m h.2 h.5 v.tree v.valid v.joined))
-spelled (Literal x i) t h = record { tree = LiteralTree x i; valid = (literal_test x).0 h.0; joined = tt; same = refl; text_is = λ r. rw h.1 (simp append_assoc) }
-spelled (Dots x) t h = record { tree = DotsTree x; valid = (dots_test x).0 h.0; joined = tt; same = refl; text_is = λ r. rw h.1 refl }
+spelled (Stream (Then e m)) t h = let v = spelled e h.1 h.4 in rw h.6 (stream_given e m h.0 h.1 h.2 h.3 v (spelled m h.2 h.5 v.tree v.valid v.merged))
+spelled (Literal x i) t h = record { tree = LiteralTree x i; valid = (literal_test x).0 h.0; merged = tt; same = refl; text_is = λ r. rw h.1 (simp append_assoc) }
+spelled (Dots x) t h = record { tree = DotsTree x; valid = (dots_test x).0 h.0; merged = tt; same = refl; text_is = λ r. rw h.1 refl }
 spelled (Embedded End i) t h = rw h.2 (embedded_given End i h.0 (nothing_given h.0 h.1))
-spelled (Embedded (Then e m) i) t h = let q = h.1 in let v = spelled e q.1 q.4 in rw h.2 (embedded_given (Then e m) i h.0 (rw q.6 (sequence_given e m q.0 q.1 q.2 q.3 v (spelled m q.2 q.5 v.tree v.valid v.joined))))
-spelled (LastPiece p) t h = let v = spelled p t h in record { tree = LastPieceTree v.tree; valid = v.valid; joined = v.joined; same = ap LastPiece v.same; text_is = v.text_is }
-spelled (Plus p w) t h = let a = spelled p h.0 h.4 in let b = spelled w h.3 h.7 in record { tree = PlusTree a.tree h.1 h.2 b.tree; valid = (a.valid, (s_texts h.1).0 h.5, (s_texts h.2).0 h.6, b.valid); joined = (a.joined, b.joined); same = rw (a.same, b.same); text_is = λ r. rw h.8 (simp (a.text_is, b.text_is, append_assoc)) }
-spelled (Element w) t h = let v = spelled w t h in record { tree = ElementTree v.tree; valid = v.valid; joined = v.joined; same = ap Element v.same; text_is = v.text_is }
-spelled (Pair v w) t h = let a = spelled v h.0 h.4 in let b = spelled w h.3 h.7 in record { tree = PairTree a.tree h.1 h.2 b.tree; valid = (a.valid, (s_texts h.1).0 h.5, (s_texts h.2).0 h.6, b.valid); joined = (a.joined, b.joined); same = rw (a.same, b.same); text_is = λ r. rw h.8 (simp (a.text_is, b.text_is, append_assoc)) }
-spelled (Chunk w) t h = let v = spelled w t h in record { tree = ChunkTree v.tree; valid = v.valid; joined = v.joined; same = ap Chunk v.same; text_is = v.text_is }
+spelled (Embedded (Then e m) i) t h = let q = h.1 in let v = spelled e q.1 q.4 in rw h.2 (embedded_given (Then e m) i h.0 (rw q.6 (sequence_given e m q.0 q.1 q.2 q.3 v (spelled m q.2 q.5 v.tree v.valid v.merged))))
+spelled (LastPiece p) t h = let v = spelled p t h in record { tree = LastPieceTree v.tree; valid = v.valid; merged = v.merged; same = ap LastPiece v.same; text_is = v.text_is }
+spelled (Plus p w) t h = let a = spelled p h.0 h.4 in let b = spelled w h.3 h.7 in record { tree = PlusTree a.tree h.1 h.2 b.tree; valid = (a.valid, (s_texts h.1).0 h.5, (s_texts h.2).0 h.6, b.valid); merged = (a.merged, b.merged); same = rw (a.same, b.same); text_is = λ r. rw h.8 (simp (a.text_is, b.text_is, append_assoc)) }
+spelled (Element w) t h = let v = spelled w t h in record { tree = ElementTree v.tree; valid = v.valid; merged = v.merged; same = ap Element v.same; text_is = v.text_is }
+spelled (Pair v w) t h = let a = spelled v h.0 h.4 in let b = spelled w h.3 h.7 in record { tree = PairTree a.tree h.1 h.2 b.tree; valid = (a.valid, (s_texts h.1).0 h.5, (s_texts h.2).0 h.6, b.valid); merged = (a.merged, b.merged); same = rw (a.same, b.same); text_is = λ r. rw h.8 (simp (a.text_is, b.text_is, append_assoc)) }
+spelled (Chunk w) t h = let v = spelled w t h in record { tree = ChunkTree v.tree; valid = v.valid; merged = v.merged; same = ap Chunk v.same; text_is = v.text_is }
 spelled End t h = λ e v j. end_given t e v j h
-spelled (Then e m) t h = λ u vu ju. let v = spelled e h.1 h.4 in rw h.6 (more_given e m h.0 h.1 h.2 u vu ju h.3 v (spelled m h.2 h.5 v.tree v.valid v.joined))
+spelled (Then e m) t h = λ u vu ju. let v = spelled e h.1 h.4 in rw h.6 (more_given e m h.0 h.1 h.2 u vu ju h.3 v (spelled m h.2 h.5 v.tree v.valid v.merged))
 
 pub spelled_sequence : (x : Items) (t : List ℕ) → SpellsSequence x t → HasTree Seq x t
 unfolding SpellsSequence
 spelled_sequence End t h = nothing_given t h
-spelled_sequence (Then e m) t h = let v = spelled e h.1 h.4 in rw h.6 (sequence_given e m h.0 h.1 h.2 h.3 v (spelled m h.2 h.5 v.tree v.valid v.joined))
+spelled_sequence (Then e m) t h = let v = spelled e h.1 h.4 in rw h.6 (sequence_given e m h.0 h.1 h.2 h.3 v (spelled m h.2 h.5 v.tree v.valid v.merged))
 
 pub spelled_one : (x : Node Item) (t : List ℕ) → SpellsOne x t → HasTree Standalone x t
-unfolding SpellsOne onto Tested Joined items
+unfolding SpellsOne onto Tested Merged items
 spelled_one x t h = let a = spelled x h.1 h.4 in record {
   tree = StandaloneTree h.0 a.tree h.2;
   valid = ((s_texts h.0).0 h.3, a.valid, (s_texts h.2).0 h.5);
-  joined = a.joined;
+  merged = a.merged;
   same = a.same;
   text_is = λ r. rw h.6 (simp (a.text_is, append_assoc));
 }
@@ -281,13 +281,13 @@ Tells (Rest k) w = Told w
 Tells Seq w = SpellsSequence (items w) (text w)
 Tells Standalone w = SpellsOne (items w) (text w)
 
-head_told : (h : Head) → IsTestedHead h → IsSpecms (mark h) (head_text h)
+head_told : (h : ListHead) → IsTestedListHead h → IsSpecms (mark h) (list_head_text h)
 head_told Unmarked v = refl
 head_told (Marked i ms) v = (ms, (ms_texts ms).1 v, refl)
 
-tells_full : (k : Bracketed) (h : Head) (s : List ℕ) (m : Tree (Rest (entries_of k))) → IsTestedHead h → IsS s → Told m → Spells (Listed k (mark h) (items m)) (opening k ∷ (head_text h ++ (s ++ onto m (ending k ∷ []))))
+tells_full : (k : Bracketed) (h : ListHead) (s : List ℕ) (m : Tree (Rest (entries_of k))) → IsTestedListHead h → IsS s → Told m → Spells (Listed k (mark h) (items m)) (opening k ∷ (list_head_text h ++ (s ++ onto m (ending k ∷ []))))
 unfolding Spells
-tells_full k h s m vh v t = rw t.same (head_text h, s, t.front, t.back, head_told h vh, v, t.first_spelled, t.others_spelled, rw (t.text_is (ending k ∷ [])) refl)
+tells_full k h s m vh v t = rw t.same (list_head_text h, s, t.front, t.back, head_told h vh, v, t.first_spelled, t.others_spelled, rw (t.text_is (ending k ∷ [])) refl)
 
 tells_stream : (ms : List ℕ) (m : Tree (Rest Strings)) → IsMs ms → Told m → Spells (Stream (items m)) (40 ∷ 95 ∷ (ms ++ onto m (41 ∷ [])))
 unfolding Spells
@@ -295,16 +295,16 @@ tells_stream ms m v t = rw t.same (ms, t.front, t.back, v, t.first_spelled, t.ot
 
 tells_enclosed : (l : LabelKind) (w : Tree Standalone) → IsLabel l → SpellsOne (items w) (text w) → Spells (labelled l (items w)) (label_text l ++ (40 ∷ onto w (41 ∷ [])))
 unfolding Spells SpellsOne
-tells_enclosed (label.Tag n i) w v h = (h.0, h.1, h.2, v, h.3, h.4, h.5, rw (parted w (41 ∷ []), h.6) (simp append_assoc))
-tells_enclosed label.Simple w v h = (h.0, h.1, h.2, h.3, h.4, h.5, rw (parted w (41 ∷ []), h.6) (simp append_assoc))
+tells_enclosed (label.Tag n i) w v h = (h.0, h.1, h.2, v, h.3, h.4, h.5, rw (onto-text w (41 ∷ []), h.6) (simp append_assoc))
+tells_enclosed label.Simple w v h = (h.0, h.1, h.2, h.3, h.4, h.5, rw (onto-text w (41 ∷ []), h.6) (simp append_assoc))
 
 tells_embedded : (w : Tree Seq) (i : Option Indicator) → SpellsSequence (items w) (text w) → Spells (Embedded (items w) i) (60 ∷ 60 ∷ onto w (62 ∷ 62 ∷ (indicator_text i ++ [])))
 unfolding Spells
-tells_embedded w i h = (text w, h, ap (λ (x : List ℕ). 60 ∷ 60 ∷ x) (ap (λ (x : List ℕ). onto w (62 ∷ 62 ∷ x)) (append-nil (indicator_text i)) ∙ parted w (62 ∷ 62 ∷ indicator_text i)))
+tells_embedded w i h = (text w, h, ap (λ (x : List ℕ). 60 ∷ 60 ∷ x) (ap (λ (x : List ℕ). onto w (62 ∷ 62 ∷ x)) (append-nil (indicator_text i)) ∙ onto-text w (62 ∷ 62 ∷ indicator_text i)))
 
 tells_last : (k : Row) (e : Tree (OneEntry k)) (s : List ℕ) → IsSoc s → Spells (items e) (text e) → Told (LastTree e s)
 unfolding Spells onto items
-tells_last k e s v h = record { first = items e; others = End; front = text e; back = s; same = refl; first_spelled = h; others_spelled = v; text_is = λ r. parted e (s ++ r) }
+tells_last k e s v h = record { first = items e; others = End; front = text e; back = s; same = refl; first_spelled = h; others_spelled = v; text_is = λ r. onto-text e (s ++ r) }
 
 others_told : {k : Row} (c : List ℕ) (e : Node (Entry k)) (m : Node (Entries k)) (a b : List ℕ) → IsMsc c → Spells e a → Spells m b → Spells (Then e m) (c ++ (a ++ b))
 unfolding Spells
@@ -320,7 +320,7 @@ tells_more k e s m v h t = record {
   same = refl;
   first_spelled = h;
   others_spelled = rw t.same (others_told s t.first t.others t.front t.back v t.first_spelled t.others_spelled);
-  text_is = λ r. rw (t.text_is r, parted e (s ++ (t.front ++ (t.back ++ r)))) (simp append_assoc);
+  text_is = λ r. rw (t.text_is r, onto-text e (s ++ (t.front ++ (t.back ++ r)))) (simp append_assoc);
 }
 
 tells_sequence : (s : List ℕ) (m : Tree (Rest Elements)) → IsS s → Told m → SpellsSequence (items m) (s ++ text m)
@@ -340,9 +340,9 @@ tells (LiteralTree x i) v = ((literal_test x).1 v, simp append-nil)
 tells (DotsTree x) v = ((dots_test x).1 v, simp append-nil)
 tells (EmbeddedTree w i) v = tells_embedded w i (tells w v)
 tells (LastPieceTree p) v = tells p v
-tells (PlusTree p s t w) v = (text p, s, t, text w, tells p v.0, (s_texts s).1 v.1, (s_texts t).1 v.2, tells w v.3, parted p _)
+tells (PlusTree p s t w) v = (text p, s, t, text w, tells p v.0, (s_texts s).1 v.1, (s_texts t).1 v.2, tells w v.3, onto-text p _)
 tells (ElementTree w) v = tells w v
-tells (PairTree a s t b) v = (text a, s, t, text b, tells a v.0, (s_texts s).1 v.1, (s_texts t).1 v.2, tells b v.3, parted a _)
+tells (PairTree a s t b) v = (text a, s, t, text b, tells a v.0, (s_texts s).1 v.1, (s_texts t).1 v.2, tells b v.3, onto-text a _)
 tells (ChunkTree w) v = tells w v
 tells (EmptyTree i s) v = (s, (s_texts s).1 v, refl)
 tells (FullTree {k = k} h s m) v = tells_full k h s m v.0 ((s_texts s).1 v.1) (tells m v.2)
@@ -350,4 +350,4 @@ tells (LastTree {k = k} e s) v = tells_last k e s ((soc_texts s).1 v.1) (tells e
 tells (MoreTree {k = k} e s m) v = tells_more k e s m ((msc_texts s).1 v.1) (tells e v.0) (tells m v.2)
 tells (NothingTree s) v = rw append-nil ((s_texts s).1 v)
 tells (SequenceTree s m) v = tells_sequence s m ((s_texts s).1 v.0) (tells m v.1)
-tells (StandaloneTree s w t) v = (s, text w, t, (s_texts s).1 v.0, tells w v.1, (s_texts t).1 v.2, ap (s ++◌) (parted w _ ∙ ap (text w ++◌) (append-nil t)))
+tells (StandaloneTree s w t) v = (s, text w, t, (s_texts s).1 v.0, tells w v.1, (s_texts t).1 v.2, ap (s ++◌) (onto-text w _ ∙ ap (text w ++◌) (append-nil t)))

@@ -12,14 +12,14 @@ use Rattle.cbor_edn_parts.specs.code.NumberTokens.{number, is_number}
 use Rattle.cbor_edn_parts.specs.code.LiteralTokens.{is_literal, are_dots}
 use Rattle.cbor_edn_core.specs.Items.{Row, Elements, Pairs, Strings, Bracketed, Array, Map, entries_of}
 use Rattle.cbor_edn_core.specs.Spelling.{ending}
-use Rattle.cbor_edn_core.specs.Trees.{Rule, OneItem, OnePiece, OneString, OneEntry, Inside, Rest, Seq, Standalone, head_text, label_text, Tree, NumberTree, FloatTree, NamedTree, EnclosedTree, ListTree, StringTree, StreamTree, LiteralTree, DotsTree, EmbeddedTree, LastPieceTree, PlusTree, ElementTree, PairTree, ChunkTree, EmptyTree, FullTree, LastTree, MoreTree, NothingTree, SequenceTree, StandaloneTree, onto, Joined, FollowOf, depth, joins}
+use Rattle.cbor_edn_core.specs.Trees.{Rule, OneItem, OnePiece, OneString, OneEntry, Inside, Rest, Seq, Standalone, list_head_text, label_text, Tree, NumberTree, FloatTree, NamedTree, EnclosedTree, ListTree, StringTree, StreamTree, LiteralTree, DotsTree, EmbeddedTree, LastPieceTree, PlusTree, ElementTree, PairTree, ChunkTree, EmptyTree, FullTree, LastTree, MoreTree, NothingTree, SequenceTree, StandaloneTree, onto, Merged, FollowOf, depth, joins}
 use Rattle.cbor_edn_core.proofs.text.Tested.{Tested}
 use Rattle.cbor_edn_core.specs.declared.tree.LabelKind.{LabelKind}
 use Rattle.cbor_edn_core.specs.declared.tree.LabelKind.TheVariants as label
 use Rattle.cbor_edn_core.specs.declared.word.Word.{Word}
 use Rattle.cbor_edn_core.specs.declared.word.Word.TheVariants.{Named, Simple, NonFinite}
 use Rattle.cbor_edn_core.specs.Words.{word_text}
-use Rattle.cbor_edn_core.specs.code.Reading.{◌>>=◌, Reader, or_invalid, token, byte, not_empty, head_of, starts_with, word_at, tag_number, enclosed_item, tag_item, number_end, number_item, word_item, plain_item, list_item, stream_item, string_item, item, literal_piece, dots_piece, embedded_piece, piece, plus_string, string, entry, inside_full, inside, more, rest, sequence, standalone, rule, read, reads, outcome}
+use Rattle.cbor_edn_core.specs.code.Reading.{◌>>=◌, Reader, or_invalid, token, byte, not_empty, list_head_of, starts_with, word_at, tag_number, enclosed_item, tag_item, number_end, number_item, word_item, plain_item, list_item, stream_item, string_item, item, literal_piece, dots_piece, embedded_piece, piece, plus_string, string, entry, inside_full, inside, more, rest, sequence, standalone, rule, read, reads, outcome}
 use Rattle.cbor_edn_parts.proofs.Indicators.{spec-found}
 use Rattle.cbor_edn_parts.proofs.Tokens.{Holds, nothing, just}
 use Rattle.cbor_edn_core.proofs.text.Follows.{number_some}
@@ -66,16 +66,16 @@ size_fits (ElementTree w) r v = omega (arith, size_fits w r v)
 size_fits (PairTree v s t w) r h = omega (arith, size_fits v (s ++ (58 ∷ (t ++ onto w r))) h.0, size_fits w r h.3, length-append s (58 ∷ (t ++ onto w r)), length-append t (onto w r))
 size_fits (ChunkTree w) r v = omega (arith, size_fits w r v)
 size_fits (EmptyTree i s) r v = omega (arith, length-append (indicator_text i) (s ++ r), length-append s r)
-size_fits (FullTree h s m) r v = omega (arith, length-append (head_text h) (s ++ onto m r), length-append s (onto m r), size_fits m r v.2)
+size_fits (FullTree h s m) r v = omega (arith, length-append (list_head_text h) (s ++ onto m r), length-append s (onto m r), size_fits m r v.2)
 size_fits (LastTree e s) r v = omega (arith, length-append s r, size_fits e (s ++ r) v.0)
 size_fits (MoreTree e s m) r v = omega (arith, length-append s (onto m r), size_fits m r v.2, size_fits e (s ++ onto m r) v.0)
 size_fits (NothingTree s) r v = omega (arith, length-append s r)
 size_fits (SequenceTree s m) r v = omega (arith, length-append s (onto m r), size_fits m r v.1)
 size_fits (StandaloneTree s w t) r v = omega (arith, length-append t r, size_fits w (t ++ r) v.1, length-append s (onto w (t ++ r)))
 
--- The text of a valid tree, joined, is read as that tree, whatever follows that may follow it, where it nests within the
+-- The text of a valid tree, merged, is read as that tree, whatever follows that may follow it, where it nests within the
 -- limit.
-pub reads-again : (limit : ℕ) {s : Rule} (w : Tree s) (r : List ℕ) → Tested w → Joined w → FollowOf s r → reads limit s (onto w r) ≡ outcome (depth w) limit (w, r)
+pub reads-again : (limit : ℕ) {s : Rule} (w : Tree s) (r : List ℕ) → Tested w → Merged w → FollowOf s r → reads limit s (onto w r) ≡ outcome (depth w) limit (w, r)
 unfolding reads
 reads-again limit w r v j h = again _ limit w r v j h (omega (arith, size_fits w r v))
 
@@ -215,7 +215,7 @@ module _ (g h : ℕ → (s : Rule) → Reader s) (gs : (limit : ℕ) (s : Rule) 
 
   inside_full-same : (limit : ℕ) (k : Bracketed) (i : Option Indicator) (s xs : List ℕ) → Agree (8 * length xs + 5) → inside_full g limit k i s xs ≡ inside_full h limit k i s xs
   unfolding inside_full
-  inside_full-same limit k i s xs a = same_then _ _ refl (any (head_of i s)) (λ y u. alike limit (Rest (entries_of k)) xs _ (a limit (Rest (entries_of k)) xs (omega arith)))
+  inside_full-same limit k i s xs a = same_then _ _ refl (any (list_head_of i s)) (λ y u. alike limit (Rest (entries_of k)) xs _ (a limit (Rest (entries_of k)) xs (omega arith)))
 
   inside-same : (limit : ℕ) (k : Bracketed) (xs : List ℕ) → Agree (8 * length xs + 5) → inside g limit k xs ≡ inside h limit k xs
   unfolding inside

@@ -8,11 +8,11 @@ use Rattle.cbor_edn_parts.proofs.NumberTexts.{number_texts}
 use Rattle.cbor_edn_parts.proofs.LiteralTexts.{literal_test}
 use Rattle.cbor_edn_parts.proofs.DotTexts.{dots_test}
 use Rattle.cbor_edn_core.specs.Labels.{IsLabel}
-use Rattle.cbor_edn_core.specs.Trees.{Rule, Tree, Head, Unmarked, Marked, NumberTree, FloatTree, NamedTree, EnclosedTree, ListTree, StringTree, StreamTree, LiteralTree, DotsTree, EmbeddedTree, LastPieceTree, PlusTree, ElementTree, PairTree, ChunkTree, EmptyTree, FullTree, LastTree, MoreTree, NothingTree, SequenceTree, StandaloneTree, IsHead, Valid}
+use Rattle.cbor_edn_core.specs.Trees.{Rule, Tree, ListHead, Unmarked, Marked, NumberTree, FloatTree, NamedTree, EnclosedTree, ListTree, StringTree, StreamTree, LiteralTree, DotsTree, EmbeddedTree, LastPieceTree, PlusTree, ElementTree, PairTree, ChunkTree, EmptyTree, FullTree, LastTree, MoreTree, NothingTree, SequenceTree, StandaloneTree, IsListHead, Valid}
 
-abbrev pub IsTestedHead : Head → Type 0
-IsTestedHead Unmarked = Unit {0}
-IsTestedHead (Marked i ms) = is_ms ms ≡ true
+abbrev pub IsTestedListHead : ListHead → Type 0
+IsTestedListHead Unmarked = Unit {0}
+IsTestedListHead (Marked i ms) = is_ms ms ≡ true
 
 -- Each text of a tree passes the test of its set, which the leaves of Rust trees carry.
 unfoldable pub Tested : {s : Rule} → Tree s → Type 0
@@ -32,18 +32,18 @@ Tested (ElementTree w) = Tested w
 Tested (PairTree v s t w) = Tested v × (is_s s ≡ true) × (is_s t ≡ true) × Tested w
 Tested (ChunkTree w) = Tested w
 Tested (EmptyTree i s) = is_s s ≡ true
-Tested (FullTree h s m) = IsTestedHead h × (is_s s ≡ true) × Tested m
+Tested (FullTree h s m) = IsTestedListHead h × (is_s s ≡ true) × Tested m
 Tested (LastTree e s) = Tested e × (is_soc s ≡ true)
 Tested (MoreTree e s m) = Tested e × (is_msc s ≡ true) × Tested m
 Tested (NothingTree s) = is_s s ≡ true
 Tested (SequenceTree s m) = (is_s s ≡ true) × Tested m
 Tested (StandaloneTree s w t) = (is_s s ≡ true) × Tested w × (is_s t ≡ true)
 
-tested_head : (h : Head) → IsHead h → IsTestedHead h
+tested_head : (h : ListHead) → IsListHead h → IsTestedListHead h
 tested_head Unmarked v = tt
 tested_head (Marked i ms) v = (ms_texts ms).0 v
 
-valid_head : (h : Head) → IsTestedHead h → IsHead h
+valid_head : (h : ListHead) → IsTestedListHead h → IsListHead h
 valid_head Unmarked v = tt
 valid_head (Marked i ms) v = (ms_texts ms).1 v
 

@@ -26,16 +26,16 @@ use Rattle.cbor_edn_core.specs.declared.word.Word.TheVariants.{Named, Simple, No
 use Rattle.cbor_edn_core.specs.Words.{word_text}
 use Rattle.cbor_edn_core.specs.Trees.{OnePiece, OneString, Tree, LiteralTree, DotsTree, EmbeddedTree, LastPieceTree, PlusTree, onto, starts_number}
 use Rattle.cbor_edn_core.proofs.text.Tested.{Tested}
-use Rattle.cbor_edn_core.specs.code.Reading.{word_of, behind, is_prefix, ended, if_word, word_at}
+use Rattle.cbor_edn_core.specs.code.Reading.{word_of, behind_bytes, is_prefix, ended, if_word, word_at}
 use Rattle.cbor_edn_core.proofs.text.Follows.{quoted}
 use Rattle.cbor_edn_core.proofs.text.Begins.{quoted_byte, digit_byte, signed_digit, literal_some, dots_begin}
 
 -- ---- what is read as a word
 
-pub behind-found : (bs xs : List ℕ) → Holds (λ r. xs ≡ bs ++ r) (behind bs xs)
+pub behind-found : (bs xs : List ℕ) → Holds (λ r. xs ≡ bs ++ r) (behind_bytes bs xs)
 behind-found [] xs = just refl
 behind-found (b ∷ bs) [] = nothing
-behind-found (b ∷ bs) (c ∷ xs) = cond_both (eqb c b) (behind bs xs) None (Holds (λ r. c ∷ xs ≡ b ∷ (bs ++ r))) (λ e. longer (behind bs xs) (eqb-true c b e) (behind-found bs xs)) (λ e. nothing)
+behind-found (b ∷ bs) (c ∷ xs) = cond_both (eqb c b) (behind_bytes bs xs) None (Holds (λ r. c ∷ xs ≡ b ∷ (bs ++ r))) (λ e. longer (behind_bytes bs xs) (eqb-true c b e) (behind-found bs xs)) (λ e. nothing)
   where
     longer : (o : Option (List ℕ)) → c ≡ b → Holds (λ r. xs ≡ bs ++ r) o → Holds (λ r. c ∷ xs ≡ b ∷ (bs ++ r)) o
     longer _ e nothing = nothing
@@ -86,16 +86,16 @@ word_first c Q some none =
     cond_both (eqb c 45) _ _ Q (λ e. some (NonFinite NegativeInfinity) (eqb-true c 45 e)) (λ e.
     cond_both (eqb c 78) _ _ Q (λ e. some (NonFinite NaN) (eqb-true c 78 e)) (λ e. none))))))))
 
-wordless : (c : ℕ) (xs : List ℕ) → ((w : Word) → c ≡ first w → ended w (behind (word_text w) (c ∷ xs)) ≡ None) → word_at (c ∷ xs) ≡ None
+wordless : (c : ℕ) (xs : List ℕ) → ((w : Word) → c ≡ first w → ended w (behind_bytes (word_text w) (c ∷ xs)) ≡ None) → word_at (c ∷ xs) ≡ None
 unfolding word_at
 wordless c xs h = word_first c (λ o. if_word o (c ∷ xs) ≡ None) h refl
 
 -- A sign is followed by a digit or a point.
-no_letter : (bs xs : List ℕ) → starts_number xs ≡ true → behind (73 ∷ bs) xs ≡ None
+no_letter : (bs xs : List ℕ) → starts_number xs ≡ true → behind_bytes (73 ∷ bs) xs ≡ None
 no_letter bs [] h = refl
-no_letter bs (d ∷ xs) h = cond_both (eqb d 73) (behind bs xs) None (λ o. o ≡ None) (λ e. let no : false ≡ true = rw (eqb-true d 73 e) at h in absurd (cc)) (λ e. refl)
+no_letter bs (d ∷ xs) h = cond_both (eqb d 73) (behind_bytes bs xs) None (λ o. o ≡ None) (λ e. let no : false ≡ true = rw (eqb-true d 73 e) at h in absurd (cc)) (λ e. refl)
 
-number_word : (w : Word) (n : Reached) (x r : List ℕ) → number_step (kind (first w)) Start ≡ Some n → Accepts number n x → ended w (behind (word_text w) (first w ∷ (x ++ r))) ≡ None
+number_word : (w : Word) (n : Reached) (x r : List ℕ) → number_step (kind (first w)) Start ≡ Some n → Accepts number n x → ended w (behind_bytes (word_text w) (first w ∷ (x ++ r))) ≡ None
 unfolding kind
 number_word (NonFinite NegativeInfinity) n x r s a = ap (ended (NonFinite NegativeInfinity)) (no_letter (drop 2 (word_text (NonFinite NegativeInfinity))) (x ++ r) (signed_digit x r (rw (sym (same_Some _ _ s)) at a)))
 number_word (Named False) n x r s a = absurd (none-some n s)
@@ -116,20 +116,20 @@ prefix_by false false false a b n e = cc
 lower_step : (c : ℕ) → is_lower c ≡ true → literal_step c in_literal.Lower ≡ Some in_literal.Lower
 lower_step c h = rw (false_from_ne_true (eqb c 39) (λ e. both_ways false refl (rw (eqb-true c 39 e) at h)), h)
 
-lower_goes_on : (bs x r : List ℕ) → list_all is_lower bs ≡ true → Accepts literal in_literal.Lower x → Holds (λ q. is_prefix q ≡ true) (behind bs (x ++ r))
+lower_goes_on : (bs x r : List ℕ) → list_all is_lower bs ≡ true → Accepts literal in_literal.Lower x → Holds (λ q. is_prefix q ≡ true) (behind_bytes bs (x ++ r))
 lower_goes_on bs [] r l a = absurd (cc)
 lower_goes_on [] (d ∷ x) r l a = just (prefix_by (is_lower d) (is_digit d) (eqb d 39) _ _ _ a.1)
-lower_goes_on (b ∷ bs) (d ∷ x) r l a = cond_both (eqb d b) (behind bs (x ++ r)) None (Holds (λ q. is_prefix q ≡ true)) (λ e. let both = and_parts (is_lower b) (list_all is_lower bs) l in lower_goes_on bs x r both.1 (rw (same_Some _ _ (sym a.1 ∙ lower_step d (rw (eqb-true d b e) both.0))) at a.2)) (λ e. nothing)
+lower_goes_on (b ∷ bs) (d ∷ x) r l a = cond_both (eqb d b) (behind_bytes bs (x ++ r)) None (Holds (λ q. is_prefix q ≡ true)) (λ e. let both = and_parts (is_lower b) (list_all is_lower bs) l in lower_goes_on bs x r both.1 (rw (same_Some _ _ (sym a.1 ∙ lower_step d (rw (eqb-true d b e) both.0))) at a.2)) (λ e. nothing)
 
-upper_stops : (b : ℕ) (bs x r : List ℕ) → literal_step b in_literal.Upper ≡ None → Accepts literal in_literal.Upper x → behind (b ∷ bs) (x ++ r) ≡ None
+upper_stops : (b : ℕ) (bs x r : List ℕ) → literal_step b in_literal.Upper ≡ None → Accepts literal in_literal.Upper x → behind_bytes (b ∷ bs) (x ++ r) ≡ None
 upper_stops b bs [] r l a = absurd (cc)
-upper_stops b bs (d ∷ x) r l a = cond_both (eqb d b) (behind bs (x ++ r)) None (λ o. o ≡ None) (λ e. let s = rw (eqb-true d b e) at a.1 in absurd (cc)) (λ e. refl)
+upper_stops b bs (d ∷ x) r l a = cond_both (eqb d b) (behind_bytes bs (x ++ r)) None (λ o. o ≡ None) (λ e. let s = rw (eqb-true d b e) at a.1 in absurd (cc)) (λ e. refl)
 
 not_ended : (w : Word) (o : Option (List ℕ)) → Holds (λ q. is_prefix q ≡ true) o → ended w o ≡ None
 not_ended w _ nothing = refl
 not_ended w _ (just h) = rw h
 
-literal_word : (w : Word) (n : InLiteral) (x r : List ℕ) → literal_step (first w) in_literal.Start ≡ Some n → Accepts literal n x → ended w (behind (word_text w) (first w ∷ (x ++ r))) ≡ None
+literal_word : (w : Word) (n : InLiteral) (x r : List ℕ) → literal_step (first w) in_literal.Start ≡ Some n → Accepts literal n x → ended w (behind_bytes (word_text w) (first w ∷ (x ++ r))) ≡ None
 literal_word (NonFinite Infinity) n x r s a = ap (ended (NonFinite Infinity)) (upper_stops 110 (drop 2 (word_text (NonFinite Infinity))) x r refl (rw (sym (same_Some _ _ s)) at a))
 literal_word (NonFinite NegativeInfinity) n x r s a = absurd (none-some n s)
 literal_word (NonFinite NaN) n x r s a = ap (ended (NonFinite NaN)) (upper_stops 97 (drop 2 (word_text (NonFinite NaN))) x r refl (rw (sym (same_Some _ _ s)) at a))

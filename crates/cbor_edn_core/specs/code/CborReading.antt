@@ -23,14 +23,14 @@ use Rattle.cbor_edn_core.specs.Value.{Chunk, is_content, string_major, break, fl
 use Rattle.cbor_edn_core.specs.declared.tree.LabelKind.TheVariants.{Tag}
 use Rattle.cbor_edn_core.specs.declared.word.NonFinite.{NonFinite}
 use Rattle.cbor_edn_core.specs.declared.word.NonFinite.TheVariants.{Infinity, NegativeInfinity, NaN}
-use Rattle.cbor_edn_core.specs.Decoded.{indicator_of, float_indicator, simple_item, in_front, inside, key_value, stream_tree, alone, regular}
+use Rattle.cbor_edn_core.specs.Decoded.{indicator_of, float_indicator, simple_item, in_front, list_inside, key_value, stream_tree, alone, regular}
 
 -- what is read, and the bytes behind it
-abbrev pub Reads : Type 0 → Type 0
-Reads A = Result (A × List ℕ) CborError
+abbrev pub DecoderResult : Type 0 → Type 0
+DecoderResult A = Result (A × List ℕ) CborError
 
-abbrev pub Reader : Type 0 → Type 0
-Reader A = List ℕ → Reads A
+abbrev pub Decoder : Type 0 → Type 0
+Decoder A = List ℕ → DecoderResult A
 
 infixl 10 ◌>>=◌
 abbrev pub ◌>>=◌ : {A B : Type 0} → Result A CborError → (A → Result B CborError) → Result B CborError
@@ -38,17 +38,17 @@ abbrev pub ◌>>=◌ : {A B : Type 0} → Result A CborError → (A → Result B
 (Err e) >>= f = Err e
 
 -- what is read, seen by a function
-abbrev pub shown : {A B : Type 0} → (A → B) → Reads A → Reads B
+abbrev pub shown : {A B : Type 0} → (A → B) → DecoderResult A → DecoderResult B
 shown f r = r >>= λ x. Ok (f x.0, x.1)
 
 -- What a function returned, seen by a view, is what reading gives, unless memory ran out.
-abbrev pub Fails : {Y : Type 0} → Fault CborError → Result Y CborError → Type 0
-Fails (Memory _) read = Unit {0}
-Fails (Told f) read = read ≡ Err f
+abbrev pub DecoderFails : {Y : Type 0} → Fault CborError → Result Y CborError → Type 0
+DecoderFails (Memory _) read = Unit {0}
+DecoderFails (Told f) read = read ≡ Err f
 
-abbrev pub Gives : {X Y : Type 0} → (X → Y) → Result X (Fault CborError) → Result Y CborError → Type 0
-Gives view (Ok x) read = read ≡ Ok (view x)
-Gives view (Err e) read = Fails e read
+abbrev pub DecoderGives : {X Y : Type 0} → (X → Y) → Result X (Fault CborError) → Result Y CborError → Type 0
+DecoderGives view (Ok x) read = read ≡ Ok (view x)
+DecoderGives view (Err e) read = DecoderFails e read
 
 -- the argument of a head and its width, or none
 abbrev pub Argument : Type 0
@@ -58,12 +58,12 @@ Argument = Option (Width × ℕ)
 abbrev pub Head : Type 0
 Head = ℕ × Argument
 
-abbrev pub argument_at : ℕ → Width → Bits → Reader Head
+abbrev pub argument_at : ℕ → Width → Bits → Decoder Head
 argument_at major w bits bytes =
     if nat_lt (length bytes) (byte_len bits) then Err MissingArgument
     else Ok ((major, Some (w, from_be_bytes bits (take (byte_len bits) bytes))), drop (byte_len bits) bytes)
 
-abbrev pub head_by : ℕ → ℕ → Reader Head
+abbrev pub head_by : ℕ → ℕ → Decoder Head
 head_by major info rest =
     if nat_lt info 24 then Ok ((major, Some (Immediate, info)), rest)
     else if info == 24 then argument_at major One w8 rest
@@ -73,12 +73,12 @@ head_by major info rest =
     else if info == 31 then Ok ((major, None), rest)
     else Err Reserved
 
-unfoldable pub head_at : Reader Head
+unfoldable pub head_at : Decoder Head
 head_at [] = Err OutOfData
 head_at (b ∷ rest) = head_by (b / 32) (b % 32) rest
 
 -- so many of a kind
-unfoldable pub many : {A : Type 0} → Reader A → ℕ → Reader (List A)
+unfoldable pub many : {A : Type 0} → Decoder A → ℕ → Decoder (List A)
 many one zero bytes = Ok ([], bytes)
 many one (suc n) bytes = do
   x ← one bytes
@@ -92,7 +92,7 @@ past Break (b ∷ bytes) = if b == break then Some bytes else None
 past EndOfData [] = Some []
 past EndOfData (b ∷ bytes) = None
 
-abbrev pub turn : {A : Type 0} → Reader A → Reader (List A) → List ℕ → Option (List ℕ) → Reads (List A)
+abbrev pub turn : {A : Type 0} → Decoder A → Decoder (List A) → List ℕ → Option (List ℕ) → DecoderResult (List A)
 turn one more bytes (Some rest) = Ok ([], rest)
 turn one more bytes None = do
   x ← one bytes
@@ -100,28 +100,28 @@ turn one more bytes None = do
   Ok (x.0 ∷ xs.0, xs.1)
 
 -- All up to an end. The number bounds the turns, and one more than the count of the bytes is always enough.
-unfoldable pub until : {A : Type 0} → Stop → Reader A → ℕ → Reader (List A)
+unfoldable pub until : {A : Type 0} → Stop → Decoder A → ℕ → Decoder (List A)
 until stop one zero bytes = Err OutOfData
 until stop one (suc n) bytes = turn one (until stop one n) bytes (past stop bytes)
 
 -- what an argument counts, or all up to a break
-unfoldable pub several : {A : Type 0} → Reader A → Argument → Reader (List A)
+unfoldable pub several : {A : Type 0} → Decoder A → Argument → Decoder (List A)
 several one (Some (w, n)) bytes = many one n bytes
 several one None bytes = until Break one (suc (length bytes)) bytes
 
 -- the bytes of a string: those of a text are UTF-8
-unfoldable pub string_at : StringKind → ℕ → Reader (List ℕ)
+unfoldable pub string_at : StringKind → ℕ → Decoder (List ℕ)
 string_at k n bytes =
     if nat_lt (length bytes) n then Err MissingBytes
     else if is_content k (take n bytes) then Ok (take n bytes, drop n bytes)
     else Err InvalidUtf8
 
-abbrev pub chunk_by : StringKind → Head → Reader Chunk
+abbrev pub chunk_by : StringKind → Head → Decoder Chunk
 chunk_by k (major, Some (w, n)) rest =
     if major == string_major k then (string_at k n rest >>= λ s. Ok ((w, s.0), s.1)) else Err OtherChunk
 chunk_by k (major, None) rest = if major == string_major k then Err OpenChunk else Err OtherChunk
 
-unfoldable pub chunk_at : StringKind → Reader Chunk
+unfoldable pub chunk_at : StringKind → Decoder Chunk
 chunk_at k bytes = do
   h ← head_at bytes
   chunk_by k h.0 h.1
@@ -139,31 +139,31 @@ pub record Makes (A B : Type 0) : Type 0 where
   pub simple : ℕ → A
   pub float : Width → NonFinite → A
 
-unfoldable pub pair_at : {A B : Type 0} → Makes A B → Reader A → Reader B
+unfoldable pub pair_at : {A B : Type 0} → Makes A B → Decoder A → Decoder B
 pair_at m one bytes = do
   k ← one bytes
   v ← one k.1
   Ok (m.pair k.0 v.0, v.1)
 
-abbrev pub number_by : {A : Type 0} → (Width → ℕ → A) → Argument → Reader A
+abbrev pub number_by : {A : Type 0} → (Width → ℕ → A) → Argument → Decoder A
 number_by make None rest = Err OpenNumber
 number_by make (Some (w, n)) rest = Ok (make w n, rest)
 
 -- An item by its head. Where nothing may nest any deeper, `inner` is none.
-abbrev pub array_by : {A B : Type 0} → Makes A B → Option (Reader A) → Argument → Reader A
+abbrev pub array_by : {A B : Type 0} → Makes A B → Option (Decoder A) → Argument → Decoder A
 array_by m None argument rest = Err TooDeep
 array_by m (Some inner) argument rest = several inner argument rest >>= λ xs. Ok (m.array argument xs.0, xs.1)
 
-abbrev pub map_by : {A B : Type 0} → Makes A B → Option (Reader A) → Argument → Reader A
+abbrev pub map_by : {A B : Type 0} → Makes A B → Option (Decoder A) → Argument → Decoder A
 map_by m None argument rest = Err TooDeep
 map_by m (Some inner) argument rest = several (pair_at m inner) argument rest >>= λ xs. Ok (m.object argument xs.0, xs.1)
 
-abbrev pub tag_by : {A B : Type 0} → Makes A B → Option (Reader A) → Argument → Reader A
+abbrev pub tag_by : {A B : Type 0} → Makes A B → Option (Decoder A) → Argument → Decoder A
 tag_by m inner None rest = Err OpenNumber
 tag_by m None (Some (w, n)) rest = Err TooDeep
 tag_by m (Some inner) (Some (w, n)) rest = inner rest >>= λ x. Ok (m.tag w n x.0, x.1)
 
-abbrev pub string_by : {A B : Type 0} → Makes A B → StringKind → Argument → Reader A
+abbrev pub string_by : {A B : Type 0} → Makes A B → StringKind → Argument → Decoder A
 string_by m k (Some (w, n)) rest = string_at k n rest >>= λ s. Ok (m.string k w s.0, s.1)
 string_by m k None rest = until Break (chunk_at k) (suc (length rest)) rest >>= λ cs. Ok (m.chunks k cs.0, cs.1)
 
@@ -172,7 +172,7 @@ abbrev pub simple_nesting : ℕ → ℕ
 simple_nesting n = if nat_le 20 n && nat_lt n 24 then 0 else 1
 
 -- A simple value: one without a name nests.
-abbrev pub simple_by : {A B : Type 0} → Makes A B → Option (Reader A) → ℕ → Result A CborError
+abbrev pub simple_by : {A B : Type 0} → Makes A B → Option (Decoder A) → ℕ → Result A CborError
 simple_by m None n = if simple_nesting n == 0 then Ok (m.simple n) else Err TooDeep
 simple_by m (Some inner) n = Ok (m.simple n)
 
@@ -189,13 +189,13 @@ float_by m w None = Err FloatOutOfScope
 float_by m w (Some f) = Ok (m.float w f)
 
 -- Simple values and floating-point numbers, and a break where an item has to stand.
-abbrev pub special_by : {A B : Type 0} → Makes A B → Option (Reader A) → Argument → Result A CborError
+abbrev pub special_by : {A B : Type 0} → Makes A B → Option (Decoder A) → Argument → Result A CborError
 special_by m inner None = Err MisplacedBreak
 special_by m inner (Some (Immediate, n)) = simple_by m inner n
 special_by m inner (Some (One, n)) = if nat_lt n 32 then Err InvalidSimple else simple_by m inner n
 special_by m inner (Some (w, n)) = float_by m w (float_of w n)
 
-unfoldable pub item_by : {A B : Type 0} → Makes A B → Option (Reader A) → ℕ → Argument → Reader A
+unfoldable pub item_by : {A B : Type 0} → Makes A B → Option (Decoder A) → ℕ → Argument → Decoder A
 item_by m inner major argument rest =
     if major == 0 then number_by m.unsigned argument rest
     else if major == 1 then number_by m.negative argument rest
@@ -207,16 +207,16 @@ item_by m inner major argument rest =
     else special_by m inner argument >>= λ x. Ok (x, rest)
 
 -- one item, nested no deeper than the number
-unfoldable pub item_at : {A B : Type 0} → Makes A B → ℕ → Reader A
+unfoldable pub item_at : {A B : Type 0} → Makes A B → ℕ → Decoder A
 item_at m zero bytes = head_at bytes >>= λ h. item_by m None h.0.0 h.0.1 h.1
 item_at m (suc depth) bytes = head_at bytes >>= λ h. item_by m (Some (item_at m depth)) h.0.0 h.0.1 h.1
 
 -- what reads inside, with that number
-abbrev pub inner : {A B : Type 0} → Makes A B → ℕ → Option (Reader A)
+abbrev pub inner : {A B : Type 0} → Makes A B → ℕ → Option (Decoder A)
 inner m depth = if depth == 0 then None else Some (item_at m (depth - 1))
 
 -- the items of a sequence, each nested no deeper than the number
-abbrev pub sequence_at : {A B : Type 0} → Makes A B → ℕ → Reader (List A)
+abbrev pub sequence_at : {A B : Type 0} → Makes A B → ℕ → Decoder (List A)
 sequence_at m limit bytes = until EndOfData (item_at m limit) (suc (length bytes)) bytes
 
 -- ---- trees
@@ -253,7 +253,7 @@ abbrev pub chunks_tree : StringKind → List Chunk → Tree OneItem
 chunks_tree k cs = chunked_tree k (string_row (map (string_tree k) cs))
 
 abbrev pub list_tree : (k : Bracketed) → Argument → Option (Tree (Rest (entries_of k))) → Tree OneItem
-list_tree k argument m = ListTree k (inside (argument_indicator argument) m)
+list_tree k argument m = ListTree k (list_inside (argument_indicator argument) m)
 
 -- a simple value by its name, or by its number in `simple(..)`
 abbrev pub simple_tree : ℕ → Tree OneItem

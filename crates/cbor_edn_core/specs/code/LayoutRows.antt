@@ -4,15 +4,15 @@ use Rattle.cbor_edn_parts.specs.Spacing.{S, MSC}
 use Rattle.cbor_edn_core.specs.Items.{Row, Entry, Node, Piece}
 use Rattle.cbor_edn_core.specs.Trees.{OnePiece, OneEntry, Tree, items}
 use Rattle.cbor_edn_core.specs.Layout.{Layout, Between, BeforePlus, AfterPlus, respaced, laid}
-use Rattle.cbor_edn_core.specs.Bare.{unmarked}
+use Rattle.cbor_edn_core.specs.Bare.{without_indicators}
 use Rattle.cbor_edn_core.specs.code.Widths.{widths_onto}
 
 -- an entry and the separator behind it
 abbrev pub laid_entry : {k : Row} → Layout → Tree (OneEntry k) × List ℕ → Tree (OneEntry k) × List ℕ
 laid_entry l p = (laid l p.0, respaced MSC Between l p.1)
 
-abbrev pub unmarked_entry : {k : Row} → Tree (OneEntry k) × List ℕ → Tree (OneEntry k) × List ℕ
-unmarked_entry p = (unmarked p.0, p.1)
+abbrev pub entry_without_indicators : {k : Row} → Tree (OneEntry k) × List ℕ → Tree (OneEntry k) × List ℕ
+entry_without_indicators p = (without_indicators p.0, p.1)
 
 abbrev pub entry_items : {k : Row} → Tree (OneEntry k) × List ℕ → Node (Entry k)
 entry_items p = items p.0
@@ -26,8 +26,8 @@ entries_widths (p ∷ ps) r = widths_onto p.0 (entries_widths ps r)
 abbrev pub laid_piece : Layout → Tree OnePiece × List ℕ × List ℕ → Tree OnePiece × List ℕ × List ℕ
 laid_piece l p = (p.0, respaced S BeforePlus l p.1, respaced S AfterPlus l p.2)
 
-abbrev pub unmarked_piece : Tree OnePiece × List ℕ × List ℕ → Tree OnePiece × List ℕ × List ℕ
-unmarked_piece p = (unmarked p.0, p.1, p.2)
+abbrev pub piece_without_indicators : Tree OnePiece × List ℕ × List ℕ → Tree OnePiece × List ℕ × List ℕ
+piece_without_indicators p = (without_indicators p.0, p.1, p.2)
 
 abbrev pub piece_items : Tree OnePiece × List ℕ × List ℕ → Node Piece
 piece_items p = items p.0

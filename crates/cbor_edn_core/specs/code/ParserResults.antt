@@ -101,8 +101,8 @@ abbrev pub behind_colon : ℕ → Tree OneItem → List ℕ → List ℕ → Rea
 behind_colon limit v s xs = token space xs >>= λ t. reads limit OneItem t.1 >>= λ w. Ok (PairTree v s t.0 w.0, w.1)
 
 -- an entry with the separator behind it
-abbrev pub parted : ℕ → (k : Row) → List ℕ → Read (Tree (OneEntry k) × List ℕ)
-parted limit k xs = reads limit (OneEntry k) xs >>= λ e. token separator e.1 >>= λ s. Ok ((e.0, s.0), s.1)
+abbrev pub with_separator : ℕ → (k : Row) → List ℕ → Read (Tree (OneEntry k) × List ℕ)
+with_separator limit k xs = reads limit (OneEntry k) xs >>= λ e. token separator e.1 >>= λ s. Ok ((e.0, s.0), s.1)
 
 abbrev pub element_tree : Item → Tree (OneEntry Elements)
 element_tree x = ElementTree (item_tree x)
@@ -111,14 +111,14 @@ abbrev pub chunk_tree : CborStringOf S Ms Msc Soc Number Literal Dots → Tree (
 chunk_tree x = ChunkTree (view_string texts x)
 
 -- The same three of what stands behind an entry: its separator, and how little that costs.
-abbrev pub Parts : {X : Type 0} → List ℕ → Result (X × Soc × ℕ) (Fault Refusal) → ℕ → Type 0
-Parts text (Ok p) at = token separator (drop at text) ≡ Ok (soc_bytes p.1, drop p.2 text)
-Parts text (Err e) at = Fails e (token separator (drop at text))
+abbrev pub ReadsSeparator : {X : Type 0} → List ℕ → Result (X × Soc × ℕ) (Fault Refusal) → ℕ → Type 0
+ReadsSeparator text (Ok p) at = token separator (drop at text) ≡ Ok (soc_bytes p.1, drop p.2 text)
+ReadsSeparator text (Err e) at = Fails e (token separator (drop at text))
 
-abbrev pub LandsParted : {X : Type 0} → List ℕ → ℕ → Result (X × Soc × ℕ) (Fault Refusal) → Type 0
-LandsParted text at (Ok p) = (at + length (soc_bytes p.1) ≤ p.2) × IsCharBoundary text p.2
-LandsParted text at (Err e) = IsPlaced text e
+abbrev pub LandsSeparator : {X : Type 0} → List ℕ → ℕ → Result (X × Soc × ℕ) (Fault Refusal) → Type 0
+LandsSeparator text at (Ok p) = (at + length (soc_bytes p.1) ≤ p.2) × IsCharBoundary text p.2
+LandsSeparator text at (Err e) = IsPlaced text e
 
-abbrev pub CostsParted : {X E : Type 0} → List ℕ → ℕ → ℕ → ℕ → Result (X × Soc × ℕ) E → Type 0
-CostsParted text at old new (Ok p) = (new + at ≤ old + p.2 + 2) × (old + p.2 ≤ new + at)
-CostsParted text at old new (Err e) = (new + at ≤ old + length text + 2) × (old ≤ new)
+abbrev pub CostsSeparator : {X E : Type 0} → List ℕ → ℕ → ℕ → ℕ → Result (X × Soc × ℕ) E → Type 0
+CostsSeparator text at old new (Ok p) = (new + at ≤ old + p.2 + 2) × (old + p.2 ≤ new + at)
+CostsSeparator text at old new (Err e) = (new + at ≤ old + length text + 2) × (old ≤ new)

@@ -23,7 +23,7 @@ use Rattle.cbor_edn_core.specs.declared.word.Word.TheVariants.{Named, Simple, No
 use Rattle.cbor_edn_core.specs.Words.{word_text}
 use Rattle.cbor_edn_core.specs.Items.{Row, Elements, Pairs, Strings, Bracketed, Array, Map, entries_of}
 use Rattle.cbor_edn_core.specs.Spelling.{ending}
-use Rattle.cbor_edn_core.specs.Trees.{Rule, OneItem, OnePiece, OneString, OneEntry, Inside, Rest, Seq, Standalone, Head, Unmarked, Marked, Tree, NumberTree, FloatTree, NamedTree, EnclosedTree, ListTree, StringTree, StreamTree, LiteralTree, DotsTree, EmbeddedTree, LastPieceTree, PlusTree, ElementTree, PairTree, ChunkTree, EmptyTree, FullTree, LastTree, MoreTree, NothingTree, SequenceTree, StandaloneTree, joins}
+use Rattle.cbor_edn_core.specs.Trees.{Rule, OneItem, OnePiece, OneString, OneEntry, Inside, Rest, Seq, Standalone, ListHead, Unmarked, Marked, Tree, NumberTree, FloatTree, NamedTree, EnclosedTree, ListTree, StringTree, StreamTree, LiteralTree, DotsTree, EmbeddedTree, LastPieceTree, PlusTree, ElementTree, PairTree, ChunkTree, EmptyTree, FullTree, LastTree, MoreTree, NothingTree, SequenceTree, StandaloneTree, joins}
 
 infixl 10 ◌>>=◌
 unfoldable pub ◌>>=◌ : {A B : Type 0} → Result A ParseErrorKind → (A → Result B ParseErrorKind) → Result B ParseErrorKind
@@ -55,10 +55,10 @@ not_empty [] = Err Invalid
 not_empty (c ∷ s) = Ok (c ∷ s)
 
 -- The indicator and the first space of a list that has entries: behind an indicator the space is its own, and not empty.
-unfoldable pub head_of : Option Indicator → List ℕ → Result (Head × List ℕ) ParseErrorKind
-head_of None s = Ok (Unmarked, s)
-head_of (Some i) [] = Err Invalid
-head_of (Some i) (c ∷ s) = Ok (Marked i (c ∷ s), [])
+unfoldable pub list_head_of : Option Indicator → List ℕ → Result (ListHead × List ℕ) ParseErrorKind
+list_head_of None s = Ok (Unmarked, s)
+list_head_of (Some i) [] = Err Invalid
+list_head_of (Some i) (c ∷ s) = Ok (Marked i (c ∷ s), [])
 
 abbrev pub starts_with : ℕ → List ℕ → Bool
 starts_with b [] = false
@@ -86,10 +86,10 @@ word_of c =
     cond (eqb c 78) (Some (NonFinite NaN)) None)))))))
 
 -- What stands behind these bytes, where they stand in front.
-abbrev pub behind : List ℕ → List ℕ → Option (List ℕ)
-behind [] xs = Some xs
-behind (b ∷ bs) [] = None
-behind (b ∷ bs) (c ∷ xs) = cond (eqb c b) (behind bs xs) None
+abbrev pub behind_bytes : List ℕ → List ℕ → Option (List ℕ)
+behind_bytes [] xs = Some xs
+behind_bytes (b ∷ bs) [] = None
+behind_bytes (b ∷ bs) (c ∷ xs) = cond (eqb c b) (behind_bytes bs xs) None
 
 -- Whether a prefix goes on there, or ends: prefixes are read before words.
 abbrev pub is_prefix : List ℕ → Bool
@@ -102,7 +102,7 @@ ended w (Some r) = cond (is_prefix r) None (Some (w, r))
 
 abbrev pub if_word : Option Word → List ℕ → Option (Word × List ℕ)
 if_word None xs = None
-if_word (Some w) xs = ended w (behind (word_text w) xs)
+if_word (Some w) xs = ended w (behind_bytes (word_text w) xs)
 
 -- The word that stands in front, and what follows it.
 unfoldable pub word_at : List ℕ → Option (Word × List ℕ)
@@ -193,7 +193,7 @@ module _ (g : ℕ → (s : Rule) → Reader s) where
   entry limit Pairs xs = g limit OneItem xs >>= λ v. token space v.1 >>= λ s. byte 58 s.1 >>= λ r. token space r >>= λ t. g limit OneItem t.1 >>= λ w. Ok (PairTree v.0 s.0 t.0 w.0, w.1)
 
   unfoldable pub inside_full : ℕ → (k : Bracketed) → Option Indicator → List ℕ → Reader (Inside k)
-  inside_full limit k i s xs = head_of i s >>= λ h. g limit (Rest (entries_of k)) xs >>= λ m. Ok (FullTree h.0 h.1 m.0, m.1)
+  inside_full limit k i s xs = list_head_of i s >>= λ h. g limit (Rest (entries_of k)) xs >>= λ m. Ok (FullTree h.0 h.1 m.0, m.1)
 
   unfoldable pub inside : ℕ → (k : Bracketed) → Reader (Inside k)
   inside limit k xs = token space (indicator_at xs).1 >>= λ s. cond (is_closed s.1) (Ok (EmptyTree (indicator_at xs).0 s.0, s.1)) (inside_full limit k (indicator_at xs).0 s.0 s.1)

@@ -15,7 +15,7 @@ use Rattle.cbor_edn_core.specs.declared.word.NamedSimple.TheVariants.{False, Tru
 use Rattle.cbor_edn_core.specs.declared.word.NonFinite.{NonFinite}
 use Rattle.cbor_edn_core.specs.declared.word.NonFinite.TheVariants.{Infinity, NegativeInfinity, NaN}
 use Rattle.cbor_edn_core.specs.Items.{Row, Array, Map}
-use Rattle.cbor_edn_core.specs.Trees.{Rule, OnePiece, OneEntry, Head, Unmarked, Marked, Tree, NumberTree, FloatTree, NamedTree, EnclosedTree, ListTree, StringTree, StreamTree, LiteralTree, DotsTree, EmbeddedTree, LastPieceTree, PlusTree, ElementTree, PairTree, ChunkTree, EmptyTree, FullTree, LastTree, MoreTree, NothingTree, SequenceTree, StandaloneTree}
+use Rattle.cbor_edn_core.specs.Trees.{Rule, OnePiece, OneEntry, ListHead, Unmarked, Marked, Tree, NumberTree, FloatTree, NamedTree, EnclosedTree, ListTree, StringTree, StreamTree, LiteralTree, DotsTree, EmbeddedTree, LastPieceTree, PlusTree, ElementTree, PairTree, ChunkTree, EmptyTree, FullTree, LastTree, MoreTree, NothingTree, SequenceTree, StandaloneTree}
 
 abbrev pub same_bytes : List ℕ → List ℕ → Bool
 same_bytes = pointwise nat_eq
@@ -52,7 +52,7 @@ same_label (Tag n i) (Tag k j) = nat_eq n k && same_indicator i j
 same_label Simple Simple = true
 same_label _ _ = false
 
-abbrev pub same_head : Head → Head → Bool
+abbrev pub same_head : ListHead → ListHead → Bool
 same_head Unmarked Unmarked = true
 same_head (Marked i s) (Marked j t) = same_word i j && same_bytes s t
 same_head _ _ = false
@@ -136,7 +136,7 @@ labels_are (Tag n i) (Tag k j) e = let h = both (eqb-true n k) (indicators_are i
 labels_are Simple Simple e = refl
 labels_are _ _ e = absurd (false≢true e)
 
-heads_are : (h g : Head) → same_head h g ≡ true → h ≡ g
+heads_are : (h g : ListHead) → same_head h g ≡ true → h ≡ g
 heads_are Unmarked Unmarked e = refl
 heads_are (Marked i s) (Marked j t) e = let h = both (words_are i j) (bytes_are s t) e in λ k. Marked (h.0 k) (h.1 k)
 heads_are _ _ e = absurd (false≢true e)
@@ -200,7 +200,7 @@ label_refl : (l : LabelKind) → same_label l l ≡ true
 label_refl (Tag n i) = both_true (eq-eqb n n refl) (indicator_refl i)
 label_refl Simple = refl
 
-head_refl : (h : Head) → same_head h h ≡ true
+head_refl : (h : ListHead) → same_head h h ≡ true
 head_refl Unmarked = refl
 head_refl (Marked i s) = both_true (word_refl i) (bytes_refl s)
 

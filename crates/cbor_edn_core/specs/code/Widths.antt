@@ -5,8 +5,8 @@ use Rattle.cbor_edn_parts.specs.Spacing.{SpaceKind, S, MS, MSC, SOC}
 use Rattle.cbor_edn_parts.specs.declared.policy.Spacing.{Spacing}
 use Rattle.cbor_edn_parts.specs.declared.policy.Spacing.TheVariants.{Comments, OneLine}
 use Rattle.cbor_edn_core.specs.Words.{named_text, non_finite_text}
-use Rattle.cbor_edn_core.specs.Trees.{Rule, Tree, NumberTree, FloatTree, NamedTree, EnclosedTree, ListTree, StringTree, StreamTree, LiteralTree, DotsTree, EmbeddedTree, LastPieceTree, PlusTree, ElementTree, PairTree, ChunkTree, EmptyTree, FullTree, LastTree, MoreTree, NothingTree, SequenceTree, StandaloneTree, label_text, head_text, text}
-use Rattle.cbor_edn_core.specs.Layout.{Inline, Place, First, Between, Last, BeforePlus, AfterPlus, AfterColon, Elsewhere, respaced, laid_head}
+use Rattle.cbor_edn_core.specs.Trees.{Rule, Tree, NumberTree, FloatTree, NamedTree, EnclosedTree, ListTree, StringTree, StreamTree, LiteralTree, DotsTree, EmbeddedTree, LastPieceTree, PlusTree, ElementTree, PairTree, ChunkTree, EmptyTree, FullTree, LastTree, MoreTree, NothingTree, SequenceTree, StandaloneTree, label_text, list_head_text, text}
+use Rattle.cbor_edn_core.specs.Layout.{Inline, Place, First, Between, Last, BeforePlus, AfterPlus, AfterColon, Elsewhere, respaced, laid_list_head}
 
 -- the width of a space text by a column
 abbrev pub space_width : SpaceKind → Place → Spacing → List ℕ → ℕ
@@ -35,7 +35,7 @@ width c (ElementTree w) = width c w
 width c (PairTree v s t w) = width c v + space_width S Elsewhere c s + space_width S AfterColon c t + width c w + 1
 width c (ChunkTree w) = width (chunk_column c) w
 width c (EmptyTree i s) = length (indicator_text i) + space_width S Elsewhere c s
-width c (FullTree h s m) = length (head_text (laid_head (Inline c) h)) + space_width S First c s + width c m
+width c (FullTree h s m) = length (list_head_text (laid_list_head (Inline c) h)) + space_width S First c s + width c m
 width c (LastTree e s) = width c e + space_width SOC Last c s
 width c (MoreTree e s m) = width c e + space_width MSC Between c s + width c m
 width c (NothingTree s) = space_width S Elsewhere c s

@@ -2,13 +2,13 @@
 ghost use Rattle.std.specs.Prelude.{◌≡◌, map, option_map};
 ghost use Rattle.cbor_edn_core.specs.View.{texts, item_tree, view_items, view_pair, view_pairs, view_string, view_strings};
 ghost use Rattle.cbor_edn_core.specs.code.CborReading.{row_of, element_row, string_row};
-ghost use Rattle.cbor_edn_core.specs.code.Growing.{grown};
+ghost use Rattle.cbor_edn_core.specs.code.RowBuilder.{grown};
 
-use super::growing::Growing;
+use super::row_builder::RowBuilder;
 use crate::tree::{CborString, Item, Items, Kp, Pairs, Strings};
 use cbor_edn_parts::space::Soc;
 
-pub(super) fn finish_items<'a>(found: Growing<'a, Item<'a>>) -> Option<Items<'a>>
+pub(super) fn finish_items<'a>(found: RowBuilder<'a, Item<'a>>) -> Option<Items<'a>>
     ensures { option_map (view_items texts) result ≡ element_row (map item_tree (grown found.entry)) }
 {
     let row = found.row;
@@ -23,7 +23,7 @@ pub(super) fn finish_items<'a>(found: Growing<'a, Item<'a>>) -> Option<Items<'a>
     })
 }
 
-pub(super) fn finish_pairs<'a>(found: Growing<'a, Kp<'a>>) -> Option<Pairs<'a>>
+pub(super) fn finish_pairs<'a>(found: RowBuilder<'a, Kp<'a>>) -> Option<Pairs<'a>>
     ensures { option_map (view_pairs texts) result ≡ row_of (map (view_pair texts) (grown found.entry)) }
 {
     let row = found.row;
@@ -38,7 +38,7 @@ pub(super) fn finish_pairs<'a>(found: Growing<'a, Kp<'a>>) -> Option<Pairs<'a>>
     })
 }
 
-pub(super) fn finish_strings<'a>(found: Growing<'a, CborString<'a>>) -> Option<Strings<'a>>
+pub(super) fn finish_strings<'a>(found: RowBuilder<'a, CborString<'a>>) -> Option<Strings<'a>>
     ensures { option_map (view_strings texts) result ≡ string_row (map (view_string texts) (grown found.entry)) }
 {
     let row = found.row;

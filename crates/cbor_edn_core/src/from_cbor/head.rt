@@ -2,7 +2,7 @@
 ghost use Rattle.std.specs.Prelude.{◌≡◌, ◌<◌, ◌≤◌, length, option_map, IfSome, IfOk};
 ghost use Rattle.cbor_edn_core.specs.Decoded as decoded;
 ghost use Rattle.cbor_edn_core.specs.code.CborReading as reading;
-ghost use Rattle.cbor_edn_core.specs.code.CborReading.{Gives, head_at, argument_indicator};
+ghost use Rattle.cbor_edn_core.specs.code.CborReading.{DecoderGives, head_at, argument_indicator};
 
 use super::CborError;
 use crate::cbor::Width;
@@ -16,7 +16,7 @@ pub(super) type Head = (u8, Argument);
 /// The head at the front.
 #[tactic(auto, unfolding(crate::specs::code::CborReading::head_at))]
 pub(super) fn head_of(bytes: &[u8]) -> Result<(Head, &[u8]), Fault<CborError>>
-    ensures exact { Gives (λ x. (x.0, x.1.now)) result (head_at bytes.now) }
+    ensures exact { DecoderGives (λ x. (x.0, x.1.now)) result (head_at bytes.now) }
     ensures shorter { IfOk result (λ x. length x.1.now < length bytes.now) }
 {
     let [first, rest @ ..] = bytes else {

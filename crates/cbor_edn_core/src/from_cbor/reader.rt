@@ -4,17 +4,17 @@ ghost use Rattle.std.specs.Fmt.{signed_decimal};
 ghost use Rattle.cbor_edn_parts.specs.Leaves as leaves;
 ghost use Rattle.cbor_edn_parts.specs.Leaves.{HasMagnitude};
 ghost use Rattle.cbor_edn_core.specs.Trees.{NumberTree};
-ghost use Rattle.cbor_edn_core.specs.View.{texts, view_list, view_pair_list, view_head, view_items, view_pairs, view_pair, item_tree};
+ghost use Rattle.cbor_edn_core.specs.View.{texts, view_list, view_pair_list, view_list_head, view_items, view_pairs, view_pair, item_tree};
 ghost use Rattle.cbor_edn_core.specs.Decoded as decoded;
-ghost use Rattle.cbor_edn_core.specs.Decoded.{inside};
+ghost use Rattle.cbor_edn_core.specs.Decoded.{list_inside};
 ghost use Rattle.cbor_edn_core.specs.code.CborReading as reading;
-ghost use Rattle.cbor_edn_core.specs.code.CborReading.{Gives, trees, head_at, many, until, several, pair_at, array_by, map_by, tag_by, item_by, item_at, inner, shown, argument_indicator};
-ghost use Rattle.cbor_edn_core.specs.code.Growing.{grown, Pushes};
+ghost use Rattle.cbor_edn_core.specs.code.CborReading.{DecoderGives, trees, head_at, many, until, several, pair_at, array_by, map_by, tag_by, item_by, item_at, inner, shown, argument_indicator};
+ghost use Rattle.cbor_edn_core.specs.code.RowBuilder.{grown, Pushes};
 
 use super::CborError;
 use super::finish::{finish_items, finish_pairs};
-use super::growing::Growing;
 use super::head::{Argument, Head, Stop, head_of, indicator_of, past_stop};
+use super::row_builder::RowBuilder;
 use super::special::{enclosed, special_of};
 use super::strings::string_of;
 use crate::tree::{InnerItem, Item, ItemList, Items, Kp, Label, PairList, Pairs};
@@ -27,7 +27,7 @@ use std::alloc::{AllocError, Global};
 
 /// What stands between the brackets of a decoded array.
 fn elements<'a>(argument: Argument, items: Option<Items<'a>>) -> ItemList<'a>
-    ensures { view_list texts result ≡ inside (argument_indicator argument) (option_map (view_items texts) items.entry) }
+    ensures { view_list texts result ≡ list_inside (argument_indicator argument) (option_map (view_items texts) items.entry) }
 {
     let indicator = indicator_of(argument);
     let s = S::empty();
@@ -43,7 +43,7 @@ fn elements<'a>(argument: Argument, items: Option<Items<'a>>) -> ItemList<'a>
 
 /// What stands between the braces of a decoded map.
 fn entries<'a>(argument: Argument, pairs: Option<Pairs<'a>>) -> PairList<'a>
-    ensures { view_pair_list texts result ≡ inside (argument_indicator argument) (option_map (view_pairs texts) pairs.entry) }
+    ensures { view_pair_list texts result ≡ list_inside (argument_indicator argument) (option_map (view_pairs texts) pairs.entry) }
 {
     let indicator = indicator_of(argument);
     let s = S::empty();
@@ -59,7 +59,7 @@ fn entries<'a>(argument: Argument, pairs: Option<Pairs<'a>>) -> PairList<'a>
 
 /// One space behind an indicator.
 fn head_space<'a>(indicator: Option<Indicator>) -> Option<(Indicator, Ms<'a>)>
-    ensures { view_head texts result ≡ decoded.head_of indicator }
+    ensures { view_list_head texts result ≡ decoded.spaced_list_head indicator }
 {
     match indicator {
         None => None,
@@ -79,9 +79,9 @@ fn number<'a>(alloc: Global, integer: Integer, argument: Argument) -> Result<Ite
 
 /// The entry that is read, behind the others, and the bytes behind it.
 fn pushed<'a, 'b, T: Drop>(
-    found: Growing<'a, T>,
+    found: RowBuilder<'a, T>,
     read: Result<(T, &'b [u8]), Fault<CborError>>,
-) -> Result<(Growing<'a, T>, &'b [u8]), Fault<CborError>>
+) -> Result<(RowBuilder<'a, T>, &'b [u8]), Fault<CborError>>
     ensures { Pushes found.entry read.entry result }
 {
     let (entry, rest) = read?;
@@ -94,11 +94,11 @@ fn items_of<'a, 'b>(
     count: u64,
     bytes: &'b [u8],
     limit: usize,
-) -> Result<(Growing<'a, Item<'a>>, &'b [u8]), Fault<CborError>>
-    ensures exact { Gives (λ x. (map item_tree (grown x.0), x.1.now)) result (many (item_at trees limit) count bytes.now) }
+) -> Result<(RowBuilder<'a, Item<'a>>, &'b [u8]), Fault<CborError>>
+    ensures exact { DecoderGives (λ x. (map item_tree (grown x.0), x.1.now)) result (many (item_at trees limit) count bytes.now) }
     ensures shorter { IfOk result (λ x. length x.1.now ≤ length bytes.now) }
 {
-    let mut found: Growing<'a, Item<'a>> = Growing::new(alloc);
+    let mut found: RowBuilder<'a, Item<'a>> = RowBuilder::new(alloc);
     let mut rest = bytes;
     for _ in 0..count {
         let (item, after) = item_of(alloc, rest, limit)?;
@@ -114,11 +114,11 @@ pub(super) fn items_until<'a, 'b>(
     bytes: &'b [u8],
     limit: usize,
     stop: Stop,
-) -> Result<(Growing<'a, Item<'a>>, &'b [u8]), Fault<CborError>>
-    ensures exact { Gives (λ x. (map item_tree (grown x.0), x.1.now)) result (until stop (item_at trees limit) (suc (length bytes.now)) bytes.now) }
+) -> Result<(RowBuilder<'a, Item<'a>>, &'b [u8]), Fault<CborError>>
+    ensures exact { DecoderGives (λ x. (map item_tree (grown x.0), x.1.now)) result (until stop (item_at trees limit) (suc (length bytes.now)) bytes.now) }
     ensures shorter { IfOk result (λ x. length x.1.now ≤ length bytes.now) }
 {
-    let mut found: Growing<'a, Item<'a>> = Growing::new(alloc);
+    let mut found: RowBuilder<'a, Item<'a>> = RowBuilder::new(alloc);
     let mut rest = bytes;
     'turns: loop {
         match past_stop(stop, rest) {
@@ -139,7 +139,7 @@ fn pair_of<'a, 'b>(
     bytes: &'b [u8],
     limit: usize,
 ) -> Result<(Kp<'a>, &'b [u8]), Fault<CborError>>
-    ensures exact { Gives (λ x. (view_pair texts x.0, x.1.now)) result (pair_at trees (item_at trees limit) bytes.now) }
+    ensures exact { DecoderGives (λ x. (view_pair texts x.0, x.1.now)) result (pair_at trees (item_at trees limit) bytes.now) }
     ensures shorter { IfOk result (λ x. length x.1.now < length bytes.now) }
 {
     let (key, rest) = item_of(alloc, bytes, limit)?;
@@ -157,11 +157,11 @@ fn pair_of<'a, 'b>(
 #[cycle(item)]
 fn with_pair<'a, 'b>(
     alloc: Global,
-    found: Growing<'a, Kp<'a>>,
+    found: RowBuilder<'a, Kp<'a>>,
     bytes: &'b [u8],
     limit: usize,
-) -> Result<(Growing<'a, Kp<'a>>, &'b [u8]), Fault<CborError>>
-    ensures exact { Gives (λ x. (map (view_pair texts) (grown x.0), x.1.now)) result (shown (λ p. map (view_pair texts) (grown found.entry) ++ p ∷ []) (pair_at trees (item_at trees limit) bytes.now)) }
+) -> Result<(RowBuilder<'a, Kp<'a>>, &'b [u8]), Fault<CborError>>
+    ensures exact { DecoderGives (λ x. (map (view_pair texts) (grown x.0), x.1.now)) result (shown (λ p. map (view_pair texts) (grown found.entry) ++ p ∷ []) (pair_at trees (item_at trees limit) bytes.now)) }
     ensures shorter { IfOk result (λ x. length x.1.now < length bytes.now) }
 {
     pushed(found, pair_of(alloc, bytes, limit))
@@ -173,11 +173,11 @@ fn pairs_of<'a, 'b>(
     count: u64,
     bytes: &'b [u8],
     limit: usize,
-) -> Result<(Growing<'a, Kp<'a>>, &'b [u8]), Fault<CborError>>
-    ensures exact { Gives (λ x. (map (view_pair texts) (grown x.0), x.1.now)) result (many (pair_at trees (item_at trees limit)) count bytes.now) }
+) -> Result<(RowBuilder<'a, Kp<'a>>, &'b [u8]), Fault<CborError>>
+    ensures exact { DecoderGives (λ x. (map (view_pair texts) (grown x.0), x.1.now)) result (many (pair_at trees (item_at trees limit)) count bytes.now) }
     ensures shorter { IfOk result (λ x. length x.1.now ≤ length bytes.now) }
 {
-    let mut found: Growing<'a, Kp<'a>> = Growing::new(alloc);
+    let mut found: RowBuilder<'a, Kp<'a>> = RowBuilder::new(alloc);
     let mut rest = bytes;
     for _ in 0..count {
         let (more, after) = with_pair(alloc, found, rest, limit)?;
@@ -192,11 +192,11 @@ fn pairs_until<'a, 'b>(
     alloc: Global,
     bytes: &'b [u8],
     limit: usize,
-) -> Result<(Growing<'a, Kp<'a>>, &'b [u8]), Fault<CborError>>
-    ensures exact { Gives (λ x. (map (view_pair texts) (grown x.0), x.1.now)) result (until Stop.Break (pair_at trees (item_at trees limit)) (suc (length bytes.now)) bytes.now) }
+) -> Result<(RowBuilder<'a, Kp<'a>>, &'b [u8]), Fault<CborError>>
+    ensures exact { DecoderGives (λ x. (map (view_pair texts) (grown x.0), x.1.now)) result (until Stop.Break (pair_at trees (item_at trees limit)) (suc (length bytes.now)) bytes.now) }
     ensures shorter { IfOk result (λ x. length x.1.now ≤ length bytes.now) }
 {
-    let mut found: Growing<'a, Kp<'a>> = Growing::new(alloc);
+    let mut found: RowBuilder<'a, Kp<'a>> = RowBuilder::new(alloc);
     let mut rest = bytes;
     'turns: loop {
         match past_stop(Stop::Break, rest) {
@@ -218,7 +218,7 @@ fn array_of<'a, 'b>(
     bytes: &'b [u8],
     limit: usize,
 ) -> Result<(Item<'a>, &'b [u8]), Fault<CborError>>
-    ensures exact { Gives (λ x. (item_tree x.0, x.1.now)) result (array_by trees (inner trees limit) argument bytes.now) }
+    ensures exact { DecoderGives (λ x. (item_tree x.0, x.1.now)) result (array_by trees (inner trees limit) argument bytes.now) }
     ensures shorter { IfOk result (λ x. length x.1.now ≤ length bytes.now) }
 {
     if limit == 0 {
@@ -240,7 +240,7 @@ fn map_of<'a, 'b>(
     bytes: &'b [u8],
     limit: usize,
 ) -> Result<(Item<'a>, &'b [u8]), Fault<CborError>>
-    ensures exact { Gives (λ x. (item_tree x.0, x.1.now)) result (map_by trees (inner trees limit) argument bytes.now) }
+    ensures exact { DecoderGives (λ x. (item_tree x.0, x.1.now)) result (map_by trees (inner trees limit) argument bytes.now) }
     ensures shorter { IfOk result (λ x. length x.1.now ≤ length bytes.now) }
 {
     if limit == 0 {
@@ -262,7 +262,7 @@ fn tag_of<'a, 'b>(
     bytes: &'b [u8],
     limit: usize,
 ) -> Result<(Item<'a>, &'b [u8]), Fault<CborError>>
-    ensures exact { Gives (λ x. (item_tree x.0, x.1.now)) result (tag_by trees (inner trees limit) argument bytes.now) }
+    ensures exact { DecoderGives (λ x. (item_tree x.0, x.1.now)) result (tag_by trees (inner trees limit) argument bytes.now) }
     ensures shorter { IfOk result (λ x. length x.1.now ≤ length bytes.now) }
 {
     let Some((_, number)) = argument else {
@@ -285,7 +285,7 @@ fn content_of<'a, 'b>(
     bytes: &'b [u8],
     limit: usize,
 ) -> Result<(Item<'a>, &'b [u8]), Fault<CborError>>
-    ensures exact { Gives (λ x. (item_tree x.0, x.1.now)) result (item_by trees (inner trees limit) head.0 head.1 bytes.now) }
+    ensures exact { DecoderGives (λ x. (item_tree x.0, x.1.now)) result (item_by trees (inner trees limit) head.0 head.1 bytes.now) }
     ensures shorter { IfOk result (λ x. length x.1.now ≤ length bytes.now) }
 {
     let (major, argument) = head;
@@ -320,7 +320,7 @@ pub(super) fn item_of<'a, 'b>(
     bytes: &'b [u8],
     limit: usize,
 ) -> Result<(Item<'a>, &'b [u8]), Fault<CborError>>
-    ensures exact { Gives (λ x. (item_tree x.0, x.1.now)) result (item_at trees limit bytes.now) }
+    ensures exact { DecoderGives (λ x. (item_tree x.0, x.1.now)) result (item_at trees limit bytes.now) }
     ensures shorter { IfOk result (λ x. length x.1.now < length bytes.now) }
 {
     let (head, rest) = head_of(bytes)?;

@@ -1,7 +1,7 @@
 //! Simple values and floating-point numbers from their encoding.
 ghost use Rattle.std.specs.Prelude.{◌≡◌, IfOk, None};
 ghost use Rattle.cbor_edn_core.specs.code.CborReading as reading;
-ghost use Rattle.cbor_edn_core.specs.code.CborReading.{Gives, trees, inner};
+ghost use Rattle.cbor_edn_core.specs.code.CborReading.{DecoderGives, trees, inner};
 ghost use Rattle.cbor_edn_core.specs.Decoded as decoded;
 ghost use Rattle.cbor_edn_core.specs.Decoded.{alone};
 ghost use Rattle.cbor_edn_core.specs.Trees.{EnclosedTree, NumberTree};
@@ -23,7 +23,7 @@ pub(super) fn special_of<'a>(
     argument: Argument,
     limit: usize,
 ) -> Result<Item<'a>, Fault<CborError>>
-    ensures { Gives item_tree result (reading.special_by trees (inner trees limit) argument) }
+    ensures { DecoderGives item_tree result (reading.special_by trees (inner trees limit) argument) }
 {
     match argument {
         None => Err(Fault::Told(CborError::MisplacedBreak)),
@@ -37,7 +37,7 @@ pub(super) fn special_of<'a>(
 /// A simple value by its name, or in `simple(..)`, which nests.
 #[tactic(auto, unfolding(crate::specs::Decoded::regular))]
 fn simple_of<'a>(alloc: Global, number: u64, limit: usize) -> Result<Item<'a>, Fault<CborError>>
-    ensures { Gives item_tree result (reading.simple_by trees (inner trees limit) number) }
+    ensures { DecoderGives item_tree result (reading.simple_by trees (inner trees limit) number) }
 {
     let inner = match number {
         20 => InnerItem::Named(NamedSimple::False),
@@ -72,7 +72,7 @@ pub(super) fn enclosed<'a>(
 
 /// The floating-point number of so many bytes with these bits: finite ones are refused.
 fn float_of<'a>(width: Width, bits: u64) -> Result<Item<'a>, Fault<CborError>>
-    ensures { Gives item_tree result (reading.float_by trees width (reading.float_of width bits)) }
+    ensures { DecoderGives item_tree result (reading.float_by trees width (reading.float_of width bits)) }
 {
     let Some(float) = non_finite(width, bits) else {
         return Err(Fault::Told(CborError::FloatOutOfScope));

@@ -3,13 +3,13 @@ ghost use Rattle.std.specs.Prelude.{◌≡◌, ◌<◌, ◌≤◌, suc, length, 
 ghost use Rattle.cbor_edn_parts.specs.Contents.{kind_literal};
 ghost use Rattle.cbor_edn_parts.specs.Leaves.{literal_bytes};
 ghost use Rattle.cbor_edn_core.specs.View.{texts, view_string, view_strings, item_tree};
-ghost use Rattle.cbor_edn_core.specs.code.CborReading.{Gives, trees, until, string_at, chunk_at, string_by, string_tree, chunked_tree, shown};
-ghost use Rattle.cbor_edn_core.specs.code.Growing.{grown};
+ghost use Rattle.cbor_edn_core.specs.code.CborReading.{DecoderGives, trees, until, string_at, chunk_at, string_by, string_tree, chunked_tree, shown};
+ghost use Rattle.cbor_edn_core.specs.code.RowBuilder.{grown};
 
 use super::CborError;
 use super::finish::finish_strings;
-use super::growing::Growing;
 use super::head::{Argument, Stop, head_of, indicator_of, past_stop};
+use super::row_builder::RowBuilder;
 use crate::cbor::{Width, string_major};
 use crate::tree::{CborString, Item, Piece, Stream, Strings};
 use cbor_edn_parts::error::Fault;
@@ -25,7 +25,7 @@ fn literal_of<'a, 'b>(
     count: u64,
     bytes: &'b [u8],
 ) -> Result<(Literal<'a>, &'b [u8]), Fault<CborError>>
-    ensures exact { Gives (λ x. (literal_bytes x.0, x.1.now)) result (shown (kind_literal kind) (string_at kind count bytes.now)) }
+    ensures exact { DecoderGives (λ x. (literal_bytes x.0, x.1.now)) result (shown (kind_literal kind) (string_at kind count bytes.now)) }
     ensures shorter { IfOk result (λ x. length x.1.now ≤ length bytes.now) }
     ensures counted { IfOk result (λ x. count ≤ length bytes.now) }
 {
@@ -51,7 +51,7 @@ fn definite<'a, 'b>(
     count: u64,
     bytes: &'b [u8],
 ) -> Result<(CborString<'a>, &'b [u8]), Fault<CborError>>
-    ensures exact { Gives (λ x. (view_string texts x.0, x.1.now)) result (shown (λ bs. string_tree kind (width, bs)) (string_at kind count bytes.now)) }
+    ensures exact { DecoderGives (λ x. (view_string texts x.0, x.1.now)) result (shown (λ bs. string_tree kind (width, bs)) (string_at kind count bytes.now)) }
     ensures shorter { IfOk result (λ x. length x.1.now ≤ length bytes.now) }
 {
     let (literal, rest) = literal_of(alloc, kind, count, bytes)?;
@@ -66,7 +66,7 @@ fn chunk_of<'a, 'b>(
     kind: StringKind,
     bytes: &'b [u8],
 ) -> Result<(CborString<'a>, &'b [u8]), Fault<CborError>>
-    ensures exact { Gives (λ x. (view_string texts x.0, x.1.now)) result (shown (string_tree kind) (chunk_at kind bytes.now)) }
+    ensures exact { DecoderGives (λ x. (view_string texts x.0, x.1.now)) result (shown (string_tree kind) (chunk_at kind bytes.now)) }
     ensures shorter { IfOk result (λ x. length x.1.now < length bytes.now) }
 {
     let ((major, argument), rest) = head_of(bytes)?;
@@ -83,11 +83,11 @@ fn chunks_until<'a, 'b>(
     alloc: Global,
     kind: StringKind,
     bytes: &'b [u8],
-) -> Result<(Growing<'a, CborString<'a>>, &'b [u8]), Fault<CborError>>
-    ensures exact { Gives (λ x. (map (view_string texts) (grown x.0), x.1.now)) result (until Stop.Break (λ bs. shown (string_tree kind) (chunk_at kind bs)) (suc (length bytes.now)) bytes.now) }
+) -> Result<(RowBuilder<'a, CborString<'a>>, &'b [u8]), Fault<CborError>>
+    ensures exact { DecoderGives (λ x. (map (view_string texts) (grown x.0), x.1.now)) result (until Stop.Break (λ bs. shown (string_tree kind) (chunk_at kind bs)) (suc (length bytes.now)) bytes.now) }
     ensures shorter { IfOk result (λ x. length x.1.now ≤ length bytes.now) }
 {
-    let mut found: Growing<'a, CborString<'a>> = Growing::new(alloc);
+    let mut found: RowBuilder<'a, CborString<'a>> = RowBuilder::new(alloc);
     let mut rest = bytes;
     'turns: loop {
         match past_stop(Stop::Break, rest) {
@@ -134,7 +134,7 @@ pub(super) fn string_of<'a, 'b>(
     argument: Argument,
     bytes: &'b [u8],
 ) -> Result<(Item<'a>, &'b [u8]), Fault<CborError>>
-    ensures exact { Gives (λ x. (item_tree x.0, x.1.now)) result (string_by trees kind argument bytes.now) }
+    ensures exact { DecoderGives (λ x. (item_tree x.0, x.1.now)) result (string_by trees kind argument bytes.now) }
     ensures shorter { IfOk result (λ x. length x.1.now ≤ length bytes.now) }
 {
     match argument {

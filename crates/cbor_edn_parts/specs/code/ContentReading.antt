@@ -23,9 +23,9 @@ hex_end InSlashes h = None
 hex_end m (Some d) = None
 hex_end m None = Some []
 
-abbrev pub behind : Option Within → (Within → Option (List ℕ)) → Option (List ℕ)
-behind None rest = None
-behind (Some m) rest = rest m
+abbrev pub if_scanned : Option Within → (Within → Option (List ℕ)) → Option (List ℕ)
+if_scanned None rest = None
+if_scanned (Some m) rest = rest m
 
 -- the digit that stands at a byte, where a scan of space stands at m: none inside a comment
 abbrev pub digit_at : Within → ℕ → Option ℕ
@@ -35,9 +35,9 @@ digit_at m c = None
 -- The bytes of the rest of a text of pairs, where a scan of space stands at m, and h is the digit that waits for its second.
 unfoldable pub hex_bytes : Within → Option ℕ → List ℕ → Option (List ℕ)
 hex_bytes m h [] = hex_end m h
-hex_bytes Between None (c ∷ t) = if nat_lt (digit_value c) 16 then hex_bytes Between (Some (digit_value c)) t else behind (space_step (kind c) Between) (λ n. hex_bytes n None t)
-hex_bytes Between (Some d) (c ∷ t) = if nat_lt (digit_value c) 16 then option_map (◌∷◌ (16 * d + digit_value c)) (hex_bytes Between None t) else behind (space_step (kind c) Between) (λ n. hex_bytes n (Some d) t)
-hex_bytes m h (c ∷ t) = behind (space_step (kind c) m) (λ n. hex_bytes n h t)
+hex_bytes Between None (c ∷ t) = if nat_lt (digit_value c) 16 then hex_bytes Between (Some (digit_value c)) t else if_scanned (space_step (kind c) Between) (λ n. hex_bytes n None t)
+hex_bytes Between (Some d) (c ∷ t) = if nat_lt (digit_value c) 16 then option_map (◌∷◌ (16 * d + digit_value c)) (hex_bytes Between None t) else if_scanned (space_step (kind c) Between) (λ n. hex_bytes n (Some d) t)
+hex_bytes m h (c ∷ t) = if_scanned (space_step (kind c) m) (λ n. hex_bytes n h t)
 
 -- ---- symbols of 6 or 5 bits
 

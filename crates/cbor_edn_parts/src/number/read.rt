@@ -4,7 +4,7 @@ ghost use Rattle.std.specs.Str.{IsCharBoundary};
 ghost use Rattle.cbor_edn_parts.specs.code.Lex.{token};
 ghost use Rattle.cbor_edn_parts.specs.Leaves.{number_bytes, BorrowsNumber};
 ghost use Rattle.cbor_edn_parts.specs.code.NumberTokens as tokens;
-ghost use Rattle.cbor_edn_parts.specs.code.Scans.{Scans, Lands, Costs};
+ghost use Rattle.cbor_edn_parts.specs.code.Scans.{Scans, ScanLands, Costs};
 ghost use Rattle.cbor_edn_parts.specs.code.Text.{text_bytes};
 
 use super::{Number, Reached};
@@ -23,7 +23,7 @@ pub fn number_at<'a>(
     requires { IsCharBoundary (text_bytes text.now) from }
     ensures value { Scans number_bytes (text_bytes text.now) result (token tokens.number (drop from (text_bytes text.now))) }
     ensures borrowed { IfOk result (λ p. BorrowsNumber p.0) }
-    ensures place { Lands (text_bytes text.now) from result }
+    ensures place { ScanLands (text_bytes text.now) from result }
     ensures cost { Costs 1 1 1 (text_bytes text.now) from looks.old.count looks.new.count result }
 {
     let (text, to) = scan(Reached::Start, text, from, looks)?;

@@ -4,7 +4,7 @@ ghost use Rattle.std.specs.Str.{IsCharBoundary};
 ghost use Rattle.cbor_edn_parts.specs.code.Lex.{token};
 ghost use Rattle.cbor_edn_parts.specs.Leaves.{s_bytes, soc_bytes, BorrowsS, BorrowsSoc};
 ghost use Rattle.cbor_edn_parts.specs.code.Ends.{IsEnd, reached};
-ghost use Rattle.cbor_edn_parts.specs.code.Scans.{Scans, Lands, Costs};
+ghost use Rattle.cbor_edn_parts.specs.code.Scans.{Scans, ScanLands, Costs};
 ghost use Rattle.cbor_edn_parts.specs.code.SpaceTokens as tokens;
 ghost use Rattle.cbor_edn_parts.specs.code.Text.{text_bytes};
 
@@ -20,7 +20,7 @@ pub fn space<'a>(text: &Text<'a>, from: usize, looks: &mut Looks) -> Result<(S<'
     requires { IsCharBoundary (text_bytes text.now) from }
     ensures value { Scans s_bytes (text_bytes text.now) result (token tokens.space (drop from (text_bytes text.now))) }
     ensures borrowed { IfOk result (λ p. BorrowsS p.0) }
-    ensures place { Lands (text_bytes text.now) from result }
+    ensures place { ScanLands (text_bytes text.now) from result }
     ensures cost { Costs 1 1 1 (text_bytes text.now) from looks.old.count looks.new.count result }
 {
     let (text, to) = scan(Within::Between, text, from, looks)?;
@@ -37,7 +37,7 @@ pub fn separator<'a>(
     requires { IsCharBoundary (text_bytes text.now) from }
     ensures value { Scans soc_bytes (text_bytes text.now) result (token tokens.separator (drop from (text_bytes text.now))) }
     ensures borrowed { IfOk result (λ p. BorrowsSoc p.0) }
-    ensures place { Lands (text_bytes text.now) from result }
+    ensures place { ScanLands (text_bytes text.now) from result }
     ensures cost { Costs 1 1 1 (text_bytes text.now) from looks.old.count looks.new.count result }
 {
     let (text, to) = scan(Around::Before(Within::Between), text, from, looks)?;
@@ -61,7 +61,7 @@ pub fn space_behind<'a>(
     requires { IsEnd (text_bytes text.now) end }
     ensures value { Scans s_bytes (text_bytes text.now) result (token tokens.space (drop end.item (text_bytes text.now))) }
     ensures borrowed { IfOk result (λ p. BorrowsS p.0) }
-    ensures place { Lands (text_bytes text.now) (reached end) result }
+    ensures place { ScanLands (text_bytes text.now) (reached end) result }
     ensures cost { Costs 1 1 1 (text_bytes text.now) (reached end) looks.old.count looks.new.count result }
 {
     match end.space {
@@ -82,7 +82,7 @@ pub fn separator_behind<'a>(
     requires { IsEnd (text_bytes text.now) end }
     ensures value { Scans soc_bytes (text_bytes text.now) result (token tokens.separator (drop end.item (text_bytes text.now))) }
     ensures borrowed { IfOk result (λ p. BorrowsSoc p.0) }
-    ensures place { Lands (text_bytes text.now) (reached end) result }
+    ensures place { ScanLands (text_bytes text.now) (reached end) result }
     ensures cost { Costs 1 2 2 (text_bytes text.now) (reached end) looks.old.count looks.new.count result }
 {
     let Some(at) = end.space else {

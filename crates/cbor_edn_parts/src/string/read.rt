@@ -4,7 +4,7 @@ ghost use Rattle.std.specs.Str.{IsCharBoundary};
 ghost use Rattle.cbor_edn_parts.specs.code.Lex.{token};
 ghost use Rattle.cbor_edn_parts.specs.Leaves.{literal_bytes, dots_bytes, BorrowsLiteral, BorrowsDots};
 ghost use Rattle.cbor_edn_parts.specs.code.LiteralTokens as tokens;
-ghost use Rattle.cbor_edn_parts.specs.code.Scans.{Scans, Lands, Costs};
+ghost use Rattle.cbor_edn_parts.specs.code.Scans.{Scans, ScanLands, Costs};
 ghost use Rattle.cbor_edn_parts.specs.code.Text.{text_bytes};
 
 use super::{Dots, InDots, InLiteral, Literal};
@@ -23,7 +23,7 @@ pub fn literal_at<'a>(
     requires { IsCharBoundary (text_bytes text.now) from }
     ensures value { Scans literal_bytes (text_bytes text.now) result (token tokens.literal (drop from (text_bytes text.now))) }
     ensures borrowed { IfOk result (λ p. BorrowsLiteral p.0) }
-    ensures place { Lands (text_bytes text.now) from result }
+    ensures place { ScanLands (text_bytes text.now) from result }
     ensures cost { Costs 1 1 1 (text_bytes text.now) from looks.old.count looks.new.count result }
 {
     let (text, to) = scan(InLiteral::Start, text, from, looks)?;
@@ -40,7 +40,7 @@ pub fn dots_at<'a>(
     requires { IsCharBoundary (text_bytes text.now) from }
     ensures value { Scans dots_bytes (text_bytes text.now) result (token tokens.dots (drop from (text_bytes text.now))) }
     ensures borrowed { IfOk result (λ p. BorrowsDots p.0) }
-    ensures place { Lands (text_bytes text.now) from result }
+    ensures place { ScanLands (text_bytes text.now) from result }
     ensures cost { Costs 1 1 1 (text_bytes text.now) from looks.old.count looks.new.count result }
 {
     let (text, to) = scan(InDots::None, text, from, looks)?;

@@ -12,7 +12,7 @@ use Rattle.cbor_edn_core.specs.Borrowed.{BorrowsItem, BorrowsPair, BorrowsString
 use Rattle.cbor_edn_core.specs.Items.{Elements, Pairs, Strings, Array, Map}
 use Rattle.cbor_edn_core.specs.code.ParserResults.{element_tree, chunk_tree}
 use Rattle.cbor_edn_core.specs.View.{texts, seen, seen_pair, seen_string, seen_piece, view_pair}
-use Rattle.cbor_edn_core.proofs.code.Turns.{ends_same, fails_at, scan_fails, scan_read, number_at, number_fails, string_item_fails, string_item_read, stream_at, list_too_deep, list_fails, list_open, list_read, standalone_fails, standalone_fails_item, standalone_fails_after, standalone_read, inside_fails, inside_empty, inside_unparted, inside_rest_fails, inside_read, element_read, element_fails, parted_fails, parted_fails_behind, parted_entry, pair_fails, pair_fails_before, pair_no_colon, pair_behind_colon, value_fails_before, value_fails, value_read, turn_fails, turn_last, turn_refused, turn_more, with_more, some_length, token_behind, sequence_fails, sequence_empty, sequence_rest_fails, sequence_full}
+use Rattle.cbor_edn_core.proofs.code.Turns.{ends_same, fails_at, scan_fails, scan_read, number_at, number_fails, string_item_fails, string_item_read, stream_at, list_too_deep, list_fails, list_open, list_read, standalone_fails, standalone_fails_item, standalone_fails_after, standalone_read, inside_fails, inside_empty, inside_unparted, inside_rest_fails, inside_read, element_read, element_fails, with_separator_fails, with_separator_fails_behind, with_separator_entry, pair_fails, pair_fails_before, pair_no_colon, pair_behind_colon, value_fails_before, value_fails, value_read, turn_fails, turn_last, turn_refused, turn_more, with_more, some_length, token_behind, sequence_fails, sequence_empty, sequence_rest_fails, sequence_full}
 use Rattle.cbor_edn_core.proofs.code.EnclosedTurns.{enclosed_shut, enclosed_too_deep, enclosed_fails, enclosed_open, enclosed_read, number_read, no_tag, tag_at, word_here, named_read, float_read, simple_at}
 use Rattle.cbor_edn_core.proofs.code.Looks.{ahead_small, token_two, literal_open, dots_open, spared_push, pushed_some, spared_first, costs_ahead}
 use Rattle.cbor_edn_core.proofs.code.StringTurns.{stream_unmarked, stream_fails, stream_unspaced, stream_rest_fails, stream_open, stream_read, chunk_fails, chunk_read, dots_fail, dots_read, literal_fails, literal_read, embedded_single, embedded_too_deep, embedded_fails, embedded_unclosed, embedded_read, with_more_pieces, pieces_turn_fails, pieces_turn_fails_before, pieces_turn_last, pieces_turn_fails_after, pieces_turn_more}
@@ -111,15 +111,15 @@ map-returns-clause-value t c = inside_read c.args.limit Map _ _ _ _ _ _ _ _ _ c.
 pub items-returns-in_err-read-clause-value : goal.items-returns-in_err-read-clause-value
 items-returns-in_err-read-clause-value t c =
     let p = err_from_is_err_and c.from_residual.result c.from_residual.ensures.1 in
-    rw (p.1, p.2) (turn_fails c.args.limit Elements _ _ _ c.items.invariant.reads c.in_err-read.field-0.0 (parted_fails c.in_err-read.field-0.0 c.args.limit Elements _ (element_fails c.in_err-read.field-0.0 c.args.limit _ c.in_err-read.ensures.value)))
+    rw (p.1, p.2) (turn_fails c.args.limit Elements _ _ _ c.items.invariant.reads c.in_err-read.field-0.0 (with_separator_fails c.in_err-read.field-0.0 c.args.limit Elements _ (element_fails c.in_err-read.field-0.0 c.args.limit _ c.in_err-read.ensures.value)))
 
 pub items-returns-in_err-item-clause-value : goal.items-returns-in_err-item-clause-value
 items-returns-in_err-item-clause-value t c =
     let p = err_from_is_err_and c.from_residual-in_err-item.result c.from_residual-in_err-item.ensures.1 in
-    rw (p.1, p.2) (turn_fails c.args.limit Elements _ _ _ c.items.invariant.reads c.in_err-item.field-0.0 (parted_fails_behind c.in_err-item.field-0.0 c.args.limit Elements _ _ _ (element_read c.args.limit _ _ _ c.in_ok-read.ensures.value) c.in_err-item.ensures.value))
+    rw (p.1, p.2) (turn_fails c.args.limit Elements _ _ _ c.items.invariant.reads c.in_err-item.field-0.0 (with_separator_fails_behind c.in_err-item.field-0.0 c.args.limit Elements _ _ _ (element_read c.args.limit _ _ _ c.in_ok-read.ensures.value) c.in_err-item.ensures.value))
 
 pub items-returns-then-closes-clause-value : goal.items-returns-then-closes-clause-value
-items-returns-then-closes-clause-value t c = rw (view_items_made texts) (turn_last c.args.limit Elements _ _ _ c.items.invariant.reads _ _ _ (parted_entry element_tree c.args.limit _ _ _ _ _ _ c.in_ok-item.ensures.entry (element_read c.args.limit _ _ _ c.in_ok-read.ensures.value) c.in_ok-item.ensures.value) (sym c.if-closes.ensures.closed))
+items-returns-then-closes-clause-value t c = rw (view_items_made texts) (turn_last c.args.limit Elements _ _ _ c.items.invariant.reads _ _ _ (with_separator_entry element_tree c.args.limit _ _ _ _ _ _ c.in_ok-item.ensures.entry (element_read c.args.limit _ _ _ c.in_ok-read.ensures.value) c.in_ok-item.ensures.value) (sym c.if-closes.ensures.closed))
 
 pub items-returns-then-closes-clause-borrowed : goal.items-returns-then-closes-clause-borrowed
 items-returns-then-closes-clause-borrowed t c = borrows_made _ _ refl c.items.invariant.borrowed (subst BorrowsItem (sym c.in_ok-item.ensures.entry) c.in_ok-read.ensures.borrowed) c.in_ok-item.ensures.borrowed
@@ -127,7 +127,7 @@ items-returns-then-closes-clause-borrowed t c = borrows_made _ _ refl c.items.in
 pub items-returns-in_err-push_entry-clause-value : goal.items-returns-in_err-push_entry-clause-value
 items-returns-in_err-push_entry-clause-value t c =
     let p = err_from_is_err_and c.from_residual-in_err-push_entry.result c.from_residual-in_err-push_entry.ensures.1 in
-    rw (p.1, p.2) (turn_refused c.args.limit Elements _ _ _ c.items.invariant.reads _ _ _ (parted_entry element_tree c.args.limit _ _ _ _ _ _ c.in_ok-item.ensures.entry (element_read c.args.limit _ _ _ c.in_ok-read.ensures.value) c.in_ok-item.ensures.value) c.in_err-push_entry.field-0.0 _ c.in_err-push_entry.ensures.unparted (sym c.if-closes.ensures.closed))
+    rw (p.1, p.2) (turn_refused c.args.limit Elements _ _ _ c.items.invariant.reads _ _ _ (with_separator_entry element_tree c.args.limit _ _ _ _ _ _ c.in_ok-item.ensures.entry (element_read c.args.limit _ _ _ c.in_ok-read.ensures.value) c.in_ok-item.ensures.value) c.in_err-push_entry.field-0.0 _ c.in_err-push_entry.ensures.unparted (sym c.if-closes.ensures.closed))
 
 pub items-items-smaller : goal.items-items-smaller
 items-items-smaller t c =
@@ -144,22 +144,22 @@ items-items-preserved t c =
       cost = omega (arith, some, c.in_ok-item.ensures.place.0, c.in_ok-read.ensures.cost, c.in_ok-item.ensures.cost);
       least = omega (arith, some, c.in_ok-item.ensures.place.0, c.in_ok-read.ensures.cost, c.in_ok-item.ensures.cost);
       borrowed = rw pushed.items (borrows_push c.items.row.items _ c.items.invariant.borrowed (subst BorrowsItem (sym c.in_ok-item.ensures.entry) c.in_ok-read.ensures.borrowed) (pushed.borrowed c.in_ok-item.ensures.borrowed));
-      reads = rw pushed.items (turn_more c.args.limit Elements _ _ _ c.items.invariant.reads _ _ _ (parted_entry element_tree c.args.limit _ _ _ _ _ _ c.in_ok-item.ensures.entry (element_read c.args.limit _ _ _ c.in_ok-read.ensures.value) c.in_ok-item.ensures.value) pushed.not_empty (sym c.if-closes.ensures.closed)
+      reads = rw pushed.items (turn_more c.args.limit Elements _ _ _ c.items.invariant.reads _ _ _ (with_separator_entry element_tree c.args.limit _ _ _ _ _ _ c.in_ok-item.ensures.entry (element_read c.args.limit _ _ _ c.in_ok-read.ensures.value) c.in_ok-item.ensures.value) pushed.not_empty (sym c.if-closes.ensures.closed)
           ∙ with_more (seen texts) _ (c.in_ok-item.item, pushed.separator) _ _ _ (ap (λ (s : List ℕ). (element_tree c.in_ok-item.item, s)) pushed.same));
     }
 
 pub pairs-returns-in_err-read-clause-value : goal.pairs-returns-in_err-read-clause-value
 pairs-returns-in_err-read-clause-value t c =
     let p = err_from_is_err_and c.from_residual.result c.from_residual.ensures.1 in
-    rw (p.1, p.2) (turn_fails c.args.limit Pairs _ _ _ c.pairs.invariant.reads c.in_err-read.field-0.0 (parted_fails c.in_err-read.field-0.0 c.args.limit Pairs _ c.in_err-read.ensures.value))
+    rw (p.1, p.2) (turn_fails c.args.limit Pairs _ _ _ c.pairs.invariant.reads c.in_err-read.field-0.0 (with_separator_fails c.in_err-read.field-0.0 c.args.limit Pairs _ c.in_err-read.ensures.value))
 
 pub pairs-returns-in_err-pair-clause-value : goal.pairs-returns-in_err-pair-clause-value
 pairs-returns-in_err-pair-clause-value t c =
     let p = err_from_is_err_and c.from_residual-in_err-pair.result c.from_residual-in_err-pair.ensures.1 in
-    rw (p.1, p.2) (turn_fails c.args.limit Pairs _ _ _ c.pairs.invariant.reads c.in_err-pair.field-0.0 (parted_fails_behind c.in_err-pair.field-0.0 c.args.limit Pairs _ _ _ c.in_ok-read.ensures.value c.in_err-pair.ensures.value))
+    rw (p.1, p.2) (turn_fails c.args.limit Pairs _ _ _ c.pairs.invariant.reads c.in_err-pair.field-0.0 (with_separator_fails_behind c.in_err-pair.field-0.0 c.args.limit Pairs _ _ _ c.in_ok-read.ensures.value c.in_err-pair.ensures.value))
 
 pub pairs-returns-then-closes-clause-value : goal.pairs-returns-then-closes-clause-value
-pairs-returns-then-closes-clause-value t c = rw (view_pairs_made texts) (turn_last c.args.limit Pairs _ _ _ c.pairs.invariant.reads _ _ _ (parted_entry (view_pair texts) c.args.limit _ _ _ _ _ _ c.in_ok-pair.ensures.entry c.in_ok-read.ensures.value c.in_ok-pair.ensures.value) (sym c.if-closes.ensures.closed))
+pairs-returns-then-closes-clause-value t c = rw (view_pairs_made texts) (turn_last c.args.limit Pairs _ _ _ c.pairs.invariant.reads _ _ _ (with_separator_entry (view_pair texts) c.args.limit _ _ _ _ _ _ c.in_ok-pair.ensures.entry c.in_ok-read.ensures.value c.in_ok-pair.ensures.value) (sym c.if-closes.ensures.closed))
 
 pub pairs-returns-then-closes-clause-borrowed : goal.pairs-returns-then-closes-clause-borrowed
 pairs-returns-then-closes-clause-borrowed t c = borrows_pairs_made _ _ refl c.pairs.invariant.borrowed (subst BorrowsPair (sym c.in_ok-pair.ensures.entry) c.in_ok-read.ensures.borrowed) c.in_ok-pair.ensures.borrowed
@@ -167,7 +167,7 @@ pairs-returns-then-closes-clause-borrowed t c = borrows_pairs_made _ _ refl c.pa
 pub pairs-returns-in_err-push_entry-clause-value : goal.pairs-returns-in_err-push_entry-clause-value
 pairs-returns-in_err-push_entry-clause-value t c =
     let p = err_from_is_err_and c.from_residual-in_err-push_entry.result c.from_residual-in_err-push_entry.ensures.1 in
-    rw (p.1, p.2) (turn_refused c.args.limit Pairs _ _ _ c.pairs.invariant.reads _ _ _ (parted_entry (view_pair texts) c.args.limit _ _ _ _ _ _ c.in_ok-pair.ensures.entry c.in_ok-read.ensures.value c.in_ok-pair.ensures.value) c.in_err-push_entry.field-0.0 _ c.in_err-push_entry.ensures.unparted (sym c.if-closes.ensures.closed))
+    rw (p.1, p.2) (turn_refused c.args.limit Pairs _ _ _ c.pairs.invariant.reads _ _ _ (with_separator_entry (view_pair texts) c.args.limit _ _ _ _ _ _ c.in_ok-pair.ensures.entry c.in_ok-read.ensures.value c.in_ok-pair.ensures.value) c.in_err-push_entry.field-0.0 _ c.in_err-push_entry.ensures.unparted (sym c.if-closes.ensures.closed))
 
 pub pairs-pairs-smaller : goal.pairs-pairs-smaller
 pairs-pairs-smaller t c =
@@ -184,22 +184,22 @@ pairs-pairs-preserved t c =
       cost = omega (arith, some, c.in_ok-pair.ensures.place.0, c.in_ok-read.ensures.cost, c.in_ok-pair.ensures.cost);
       least = omega (arith, some, c.in_ok-pair.ensures.place.0, c.in_ok-read.ensures.cost, c.in_ok-pair.ensures.cost);
       borrowed = rw pushed.items (borrows_pair_push c.pairs.row.items _ c.pairs.invariant.borrowed (subst BorrowsPair (sym c.in_ok-pair.ensures.entry) c.in_ok-read.ensures.borrowed) (pushed.borrowed c.in_ok-pair.ensures.borrowed));
-      reads = rw pushed.items (turn_more c.args.limit Pairs _ _ _ c.pairs.invariant.reads _ _ _ (parted_entry (view_pair texts) c.args.limit _ _ _ _ _ _ c.in_ok-pair.ensures.entry c.in_ok-read.ensures.value c.in_ok-pair.ensures.value) pushed.not_empty (sym c.if-closes.ensures.closed)
+      reads = rw pushed.items (turn_more c.args.limit Pairs _ _ _ c.pairs.invariant.reads _ _ _ (with_separator_entry (view_pair texts) c.args.limit _ _ _ _ _ _ c.in_ok-pair.ensures.entry c.in_ok-read.ensures.value c.in_ok-pair.ensures.value) pushed.not_empty (sym c.if-closes.ensures.closed)
           ∙ with_more (seen_pair texts) _ (c.in_ok-pair.pair, pushed.separator) _ _ _ (ap (λ (s : List ℕ). (view_pair texts c.in_ok-pair.pair, s)) pushed.same));
     }
 
 pub strings-returns-in_err-read-clause-value : goal.strings-returns-in_err-read-clause-value
 strings-returns-in_err-read-clause-value t c =
     let p = err_from_is_err_and c.from_residual.result c.from_residual.ensures.1 in
-    rw (p.1, p.2) (turn_fails c.args.limit Strings _ _ _ c.strings.invariant.reads c.in_err-read.field-0.0 (parted_fails c.in_err-read.field-0.0 c.args.limit Strings _ (chunk_fails c.in_err-read.field-0.0 c.args.limit _ c.in_err-read.ensures.value)))
+    rw (p.1, p.2) (turn_fails c.args.limit Strings _ _ _ c.strings.invariant.reads c.in_err-read.field-0.0 (with_separator_fails c.in_err-read.field-0.0 c.args.limit Strings _ (chunk_fails c.in_err-read.field-0.0 c.args.limit _ c.in_err-read.ensures.value)))
 
 pub strings-returns-in_err-string-clause-value : goal.strings-returns-in_err-string-clause-value
 strings-returns-in_err-string-clause-value t c =
     let p = err_from_is_err_and c.from_residual-in_err-string.result c.from_residual-in_err-string.ensures.1 in
-    rw (p.1, p.2) (turn_fails c.args.limit Strings _ _ _ c.strings.invariant.reads c.in_err-string.field-0.0 (parted_fails_behind c.in_err-string.field-0.0 c.args.limit Strings _ _ _ (chunk_read c.args.limit _ _ _ c.in_ok-read.ensures.value) c.in_err-string.ensures.value))
+    rw (p.1, p.2) (turn_fails c.args.limit Strings _ _ _ c.strings.invariant.reads c.in_err-string.field-0.0 (with_separator_fails_behind c.in_err-string.field-0.0 c.args.limit Strings _ _ _ (chunk_read c.args.limit _ _ _ c.in_ok-read.ensures.value) c.in_err-string.ensures.value))
 
 pub strings-returns-then-closes-clause-value : goal.strings-returns-then-closes-clause-value
-strings-returns-then-closes-clause-value t c = rw (view_strings_made texts) (turn_last c.args.limit Strings _ _ _ c.strings.invariant.reads _ _ _ (parted_entry chunk_tree c.args.limit _ _ _ _ _ _ c.in_ok-string.ensures.entry (chunk_read c.args.limit _ _ _ c.in_ok-read.ensures.value) c.in_ok-string.ensures.value) (sym c.if-closes.ensures.closed))
+strings-returns-then-closes-clause-value t c = rw (view_strings_made texts) (turn_last c.args.limit Strings _ _ _ c.strings.invariant.reads _ _ _ (with_separator_entry chunk_tree c.args.limit _ _ _ _ _ _ c.in_ok-string.ensures.entry (chunk_read c.args.limit _ _ _ c.in_ok-read.ensures.value) c.in_ok-string.ensures.value) (sym c.if-closes.ensures.closed))
 
 pub strings-returns-then-closes-clause-borrowed : goal.strings-returns-then-closes-clause-borrowed
 strings-returns-then-closes-clause-borrowed t c = borrows_strings_made _ _ refl c.strings.invariant.borrowed (subst BorrowsString (sym c.in_ok-string.ensures.entry) c.in_ok-read.ensures.borrowed) c.in_ok-string.ensures.borrowed
@@ -207,7 +207,7 @@ strings-returns-then-closes-clause-borrowed t c = borrows_strings_made _ _ refl 
 pub strings-returns-in_err-push_entry-clause-value : goal.strings-returns-in_err-push_entry-clause-value
 strings-returns-in_err-push_entry-clause-value t c =
     let p = err_from_is_err_and c.from_residual-in_err-push_entry.result c.from_residual-in_err-push_entry.ensures.1 in
-    rw (p.1, p.2) (turn_refused c.args.limit Strings _ _ _ c.strings.invariant.reads _ _ _ (parted_entry chunk_tree c.args.limit _ _ _ _ _ _ c.in_ok-string.ensures.entry (chunk_read c.args.limit _ _ _ c.in_ok-read.ensures.value) c.in_ok-string.ensures.value) c.in_err-push_entry.field-0.0 _ c.in_err-push_entry.ensures.unparted (sym c.if-closes.ensures.closed))
+    rw (p.1, p.2) (turn_refused c.args.limit Strings _ _ _ c.strings.invariant.reads _ _ _ (with_separator_entry chunk_tree c.args.limit _ _ _ _ _ _ c.in_ok-string.ensures.entry (chunk_read c.args.limit _ _ _ c.in_ok-read.ensures.value) c.in_ok-string.ensures.value) c.in_err-push_entry.field-0.0 _ c.in_err-push_entry.ensures.unparted (sym c.if-closes.ensures.closed))
 
 pub strings-strings-smaller : goal.strings-strings-smaller
 strings-strings-smaller t c =
@@ -224,7 +224,7 @@ strings-strings-preserved t c =
       cost = omega (arith, some, c.in_ok-string.ensures.place.0, c.in_ok-read.ensures.cost, c.in_ok-string.ensures.cost);
       least = omega (arith, some, c.in_ok-string.ensures.place.0, c.in_ok-read.ensures.cost, c.in_ok-string.ensures.cost);
       borrowed = rw pushed.items (borrows_string_push c.strings.row.items _ c.strings.invariant.borrowed (subst BorrowsString (sym c.in_ok-string.ensures.entry) c.in_ok-read.ensures.borrowed) (pushed.borrowed c.in_ok-string.ensures.borrowed));
-      reads = rw pushed.items (turn_more c.args.limit Strings _ _ _ c.strings.invariant.reads _ _ _ (parted_entry chunk_tree c.args.limit _ _ _ _ _ _ c.in_ok-string.ensures.entry (chunk_read c.args.limit _ _ _ c.in_ok-read.ensures.value) c.in_ok-string.ensures.value) pushed.not_empty (sym c.if-closes.ensures.closed)
+      reads = rw pushed.items (turn_more c.args.limit Strings _ _ _ c.strings.invariant.reads _ _ _ (with_separator_entry chunk_tree c.args.limit _ _ _ _ _ _ c.in_ok-string.ensures.entry (chunk_read c.args.limit _ _ _ c.in_ok-read.ensures.value) c.in_ok-string.ensures.value) pushed.not_empty (sym c.if-closes.ensures.closed)
           ∙ with_more (seen_string texts) _ (c.in_ok-string.string, pushed.separator) _ _ _ (ap (λ (s : List ℕ). (chunk_tree c.in_ok-string.string, s)) pushed.same));
     }
 

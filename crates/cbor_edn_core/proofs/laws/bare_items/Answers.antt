@@ -1,11 +1,11 @@
-use Rattle.cbor_edn_core.proofs.layout.Unmarked.{unmarked_is_bare, unmarked_stays_valid}
+use Rattle.cbor_edn_core.proofs.layout.WithoutIndicators.{unmarked_is_bare, without_indicators_stays_valid}
 use Rattle.cbor_edn_core.proofs.layout.BareItems.{bare_items_mean, fewer_mean}
 use Rattle.cbor_edn_core.proofs.laws.bare_items.Goals as goal
 
 pub returns : goal.returns
 returns c = record {
   items = unmarked_is_bare;
-  valid = unmarked_stays_valid;
+  valid = without_indicators_stays_valid;
   meaning = bare_items_mean;
   stopped = fewer_mean;
 }

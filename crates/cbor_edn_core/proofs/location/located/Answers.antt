@@ -14,7 +14,7 @@ bytes-init c =
 
 pub bytes-preserved : goal.bytes-preserved
 bytes-preserved c =
-    let next = turn c.args.text.now.all.now c.bytes.at c.bytes.line c.bytes.column c.byte.result c.behind.result c.byte.ensures.value (omega (arith, c.requires.0)) c.bytes.invariant.line c.bytes.invariant.column c.behind.ensures in
+    let next = turn c.args.text.now.all.now c.bytes.at c.bytes.line c.bytes.column c.byte.result c.advanced.result c.byte.ensures.value (omega (arith, c.requires.0)) c.bytes.invariant.line c.bytes.invariant.column c.advanced.ensures in
     record {
       line = next.0;
       column = next.1;

@@ -2,21 +2,21 @@ use Rattle.std.proofs.Common.{◌≡◌, ◌≢◌, [], ◌∷◌, List, ℕ, Ok
 use Rattle.std.proofs.lemmas.Bool.{false≢true}
 use Rattle.cbor_edn_parts.specs.declared.indicator.Indicator.{Indicator}
 use Rattle.cbor_edn_parts.specs.declared.error.ParseErrorKind.TheVariants.{Invalid}
-use Rattle.cbor_edn_core.specs.code.Reading.{head_of}
+use Rattle.cbor_edn_core.specs.code.Reading.{list_head_of}
 use Rattle.cbor_edn_core.specs.Trees.{Marked}
 use Rattle.cbor_edn_core.proofs.lookahead.marked.Goals as goal
 
-no_space : (i : Indicator) (s : List ℕ) → s ≡ [] → head_of (Some i) s ≡ Err Invalid
-unfolding head_of
+no_space : (i : Indicator) (s : List ℕ) → s ≡ [] → list_head_of (Some i) s ≡ Err Invalid
+unfolding list_head_of
 no_space i s e = rw e
 
-own_space : (i : Indicator) (s : List ℕ) → s ≢ [] → head_of (Some i) s ≡ Ok (Marked i s, [])
-unfolding head_of
+own_space : (i : Indicator) (s : List ℕ) → s ≢ [] → list_head_of (Some i) s ≡ Ok (Marked i s, [])
+unfolding list_head_of
 own_space i [] n = absurd (n refl)
 own_space i (c ∷ s) n = refl
 
 pub returns-in-None-clause-some : goal.returns-in-None-clause-some
-unfolding head_of
+unfolding list_head_of
 returns-in-None-clause-some c = rw c.in-None.is
 
 pub returns-in-None-into_ms-clause-none : goal.returns-in-None-into_ms-clause-none

@@ -3,7 +3,7 @@ use Rattle.cbor_edn_core.specs.Items.{Elements, Pairs, Strings, Array, Map}
 use Rattle.cbor_edn_core.specs.Trees.{ElementTree, ChunkTree, LastPieceTree, items, mark}
 use Rattle.cbor_edn_core.specs.Meaning.{length_of, named_number, means}
 use Rattle.cbor_edn_core.specs.code.Encoding.{Encodes, Finds, list_head}
-use Rattle.cbor_edn_core.specs.View.{texts, seen, seen_pair, seen_piece, seen_string, item_tree, view_piece, view_sequence, view_string, view_strings, view_head, view_items, view_pairs, view_pair}
+use Rattle.cbor_edn_core.specs.View.{texts, seen, seen_pair, seen_piece, seen_string, item_tree, view_piece, view_sequence, view_string, view_strings, view_list_head, view_items, view_pairs, view_pair}
 use Rattle.cbor_edn_core.proofs.code.CborEncodes.{empty_encoded, full_encoded, full_stops, full_unfit, row_then_last, row_stops, element_encoded, pair_encoded, pair_stops, next_pushed, next_stops, all_pushed, rest_at, tag_pushed, tag_stops, PushesRest}
 use Rattle.std.proofs.lemmas.Result.{err_from_is_err_and}
 use Rattle.std.proofs.lemmas.List.{drop_all, length-map}
@@ -101,8 +101,8 @@ push_array-returns-in_err-width-in-Present t c =
     let count : n ≡ length (map (seen texts) row.items) + 1 = simp length-map (ap (λ k. k + 1) (c.len.ensures ∙ row.ok.0)) in
     let f = c.in_err-width-in-Present.field-0.0 in
     let p = err_from_is_err_and c.from_residual.result c.from_residual.ensures.1 in
-    let found : Finds (length_of (mark (view_head texts c.in-Present.head)) n) (Err f) = subst (λ i. Finds (length_of i n) (Err f)) c.mark_of.ensures c.in_err-width-in-Present.ensures in
-    rw (c.in-Present.is, p.1, p.2) (full_unfit Array (view_head texts c.in-Present.head) (s_bytes c.in-Present.s) (view_items texts c.in-Present.items) (map (seen texts) row.items) (ElementTree (item_tree last)) (soc_bytes soc) (view_items_is texts c.in-Present.items) n count c.args.out.now.items c.args.out.now.items f found)
+    let found : Finds (length_of (mark (view_list_head texts c.in-Present.head)) n) (Err f) = subst (λ i. Finds (length_of i n) (Err f)) c.mark_of.ensures c.in_err-width-in-Present.ensures in
+    rw (c.in-Present.is, p.1, p.2) (full_unfit Array (view_list_head texts c.in-Present.head) (s_bytes c.in-Present.s) (view_items texts c.in-Present.items) (map (seen texts) row.items) (ElementTree (item_tree last)) (soc_bytes soc) (view_items_is texts c.in-Present.items) n count c.args.out.now.items c.args.out.now.items f found)
 
 pub push_array-returns-in_err-push_items-in-Present : goal.push_array-returns-in_err-push_items-in-Present
 push_array-returns-in_err-push_items-in-Present t c =
@@ -113,7 +113,7 @@ push_array-returns-in_err-push_items-in-Present t c =
     let count : n ≡ length (map (seen texts) row.items) + 1 = simp length-map (ap (λ k. k + 1) (c.len.ensures ∙ row.ok.0)) in
     let p = err_from_is_err_and c.from_residual-in_err-push_items-in-Present.result c.from_residual-in_err-push_items-in-Present.ensures.1 in
     rw (c.in-Present.is, p.1, p.2)
-    (full_stops Array (view_head texts c.in-Present.head) (s_bytes c.in-Present.s) (view_items texts c.in-Present.items) (map (seen texts) row.items) (ElementTree (item_tree last)) (soc_bytes soc) (view_items_is texts c.in-Present.items) n count c.args.out.now.items c.push_list_head.new.out.items c.push_items.new.out.items c.push_items.new.out.items c.in_err-push_items-in-Present.field-0.0 c.in_err-push_items-in-Present.ensures)
+    (full_stops Array (view_list_head texts c.in-Present.head) (s_bytes c.in-Present.s) (view_items texts c.in-Present.items) (map (seen texts) row.items) (ElementTree (item_tree last)) (soc_bytes soc) (view_items_is texts c.in-Present.items) n count c.args.out.now.items c.push_list_head.new.out.items c.push_items.new.out.items c.push_items.new.out.items c.in_err-push_items-in-Present.field-0.0 c.in_err-push_items-in-Present.ensures)
 
 pub push_array-returns-in_ok-push_list_end-in-Present : goal.push_array-returns-in_ok-push_list_end-in-Present
 push_array-returns-in_ok-push_list_end-in-Present t c =
@@ -123,9 +123,9 @@ push_array-returns-in_ok-push_list_end-in-Present t c =
     let n = c.len.result + 1 in
     let count : n ≡ length (map (seen texts) row.items) + 1 = simp length-map (ap (λ k. k + 1) (c.len.ensures ∙ row.ok.0)) in
     let v = c.in_ok-width-in-Present.width in
-    let width : length_of (mark (view_head texts c.in-Present.head)) n ≡ Some v = subst (λ i. length_of i n ≡ Some v) c.mark_of.ensures c.in_ok-width-in-Present.ensures in
+    let width : length_of (mark (view_list_head texts c.in-Present.head)) n ≡ Some v = subst (λ i. length_of i n ≡ Some v) c.mark_of.ensures c.in_ok-width-in-Present.ensures in
     rw c.in-Present.is
-    (full_encoded Array (view_head texts c.in-Present.head) (s_bytes c.in-Present.s) (view_items texts c.in-Present.items) (map (seen texts) row.items) (ElementTree (item_tree last)) (soc_bytes soc) (view_items_is texts c.in-Present.items) n count v c.args.out.now.items c.push_list_head.new.out.items c.push_items.new.out.items c.push_list_end.new.out.items width c.in_ok-push_list_head-in-Present.ensures c.in_ok-push_items-in-Present.ensures c.in_ok-push_list_end-in-Present.ensures)
+    (full_encoded Array (view_list_head texts c.in-Present.head) (s_bytes c.in-Present.s) (view_items texts c.in-Present.items) (map (seen texts) row.items) (ElementTree (item_tree last)) (soc_bytes soc) (view_items_is texts c.in-Present.items) n count v c.args.out.now.items c.push_list_head.new.out.items c.push_items.new.out.items c.push_list_end.new.out.items width c.in_ok-push_list_head-in-Present.ensures c.in_ok-push_items-in-Present.ensures c.in_ok-push_list_end-in-Present.ensures)
 
 pub push_map-returns-in-Absent : goal.push_map-returns-in-Absent
 push_map-returns-in-Absent t c = rw c.in-Absent.is (empty_encoded Map c.in-Absent.indicator (s_bytes c.in-Absent.s) c.args.out.now.items c.push_empty.new.out.items c.push_empty.result c.push_empty.ensures)
@@ -139,8 +139,8 @@ push_map-returns-in_err-width-in-Present t c =
     let count : n ≡ length (map (seen_pair texts) row.items) + 1 = simp length-map (ap (λ k. k + 1) (c.len.ensures ∙ row.ok.0)) in
     let f = c.in_err-width-in-Present.field-0.0 in
     let p = err_from_is_err_and c.from_residual.result c.from_residual.ensures.1 in
-    let found : Finds (length_of (mark (view_head texts c.in-Present.head)) n) (Err f) = subst (λ i. Finds (length_of i n) (Err f)) c.mark_of.ensures c.in_err-width-in-Present.ensures in
-    rw (c.in-Present.is, p.1, p.2) (full_unfit Map (view_head texts c.in-Present.head) (s_bytes c.in-Present.s) (view_pairs texts c.in-Present.pairs) (map (seen_pair texts) row.items) (view_pair texts last) (soc_bytes soc) (view_pairs_is texts c.in-Present.pairs) n count c.args.out.now.items c.args.out.now.items f found)
+    let found : Finds (length_of (mark (view_list_head texts c.in-Present.head)) n) (Err f) = subst (λ i. Finds (length_of i n) (Err f)) c.mark_of.ensures c.in_err-width-in-Present.ensures in
+    rw (c.in-Present.is, p.1, p.2) (full_unfit Map (view_list_head texts c.in-Present.head) (s_bytes c.in-Present.s) (view_pairs texts c.in-Present.pairs) (map (seen_pair texts) row.items) (view_pair texts last) (soc_bytes soc) (view_pairs_is texts c.in-Present.pairs) n count c.args.out.now.items c.args.out.now.items f found)
 
 pub push_map-returns-in_err-push_pairs-in-Present : goal.push_map-returns-in_err-push_pairs-in-Present
 push_map-returns-in_err-push_pairs-in-Present t c =
@@ -151,7 +151,7 @@ push_map-returns-in_err-push_pairs-in-Present t c =
     let count : n ≡ length (map (seen_pair texts) row.items) + 1 = simp length-map (ap (λ k. k + 1) (c.len.ensures ∙ row.ok.0)) in
     let p = err_from_is_err_and c.from_residual-in_err-push_pairs-in-Present.result c.from_residual-in_err-push_pairs-in-Present.ensures.1 in
     rw (c.in-Present.is, p.1, p.2)
-    (full_stops Map (view_head texts c.in-Present.head) (s_bytes c.in-Present.s) (view_pairs texts c.in-Present.pairs) (map (seen_pair texts) row.items) (view_pair texts last) (soc_bytes soc) (view_pairs_is texts c.in-Present.pairs) n count c.args.out.now.items c.push_list_head.new.out.items c.push_pairs.new.out.items c.push_pairs.new.out.items c.in_err-push_pairs-in-Present.field-0.0 c.in_err-push_pairs-in-Present.ensures)
+    (full_stops Map (view_list_head texts c.in-Present.head) (s_bytes c.in-Present.s) (view_pairs texts c.in-Present.pairs) (map (seen_pair texts) row.items) (view_pair texts last) (soc_bytes soc) (view_pairs_is texts c.in-Present.pairs) n count c.args.out.now.items c.push_list_head.new.out.items c.push_pairs.new.out.items c.push_pairs.new.out.items c.in_err-push_pairs-in-Present.field-0.0 c.in_err-push_pairs-in-Present.ensures)
 
 pub push_map-returns-in_ok-push_list_end-in-Present : goal.push_map-returns-in_ok-push_list_end-in-Present
 push_map-returns-in_ok-push_list_end-in-Present t c =
@@ -161,9 +161,9 @@ push_map-returns-in_ok-push_list_end-in-Present t c =
     let n = c.len.result + 1 in
     let count : n ≡ length (map (seen_pair texts) row.items) + 1 = simp length-map (ap (λ k. k + 1) (c.len.ensures ∙ row.ok.0)) in
     let v = c.in_ok-width-in-Present.width in
-    let width : length_of (mark (view_head texts c.in-Present.head)) n ≡ Some v = subst (λ i. length_of i n ≡ Some v) c.mark_of.ensures c.in_ok-width-in-Present.ensures in
+    let width : length_of (mark (view_list_head texts c.in-Present.head)) n ≡ Some v = subst (λ i. length_of i n ≡ Some v) c.mark_of.ensures c.in_ok-width-in-Present.ensures in
     rw c.in-Present.is
-    (full_encoded Map (view_head texts c.in-Present.head) (s_bytes c.in-Present.s) (view_pairs texts c.in-Present.pairs) (map (seen_pair texts) row.items) (view_pair texts last) (soc_bytes soc) (view_pairs_is texts c.in-Present.pairs) n count v c.args.out.now.items c.push_list_head.new.out.items c.push_pairs.new.out.items c.push_list_end.new.out.items width c.in_ok-push_list_head-in-Present.ensures c.in_ok-push_pairs-in-Present.ensures c.in_ok-push_list_end-in-Present.ensures)
+    (full_encoded Map (view_list_head texts c.in-Present.head) (s_bytes c.in-Present.s) (view_pairs texts c.in-Present.pairs) (map (seen_pair texts) row.items) (view_pair texts last) (soc_bytes soc) (view_pairs_is texts c.in-Present.pairs) n count v c.args.out.now.items c.push_list_head.new.out.items c.push_pairs.new.out.items c.push_list_end.new.out.items width c.in_ok-push_list_head-in-Present.ensures c.in_ok-push_pairs-in-Present.ensures c.in_ok-push_list_end-in-Present.ensures)
 
 pub push_pair-returns-in_err-push_item : goal.push_pair-returns-in_err-push_item
 push_pair-returns-in_err-push_item t c =

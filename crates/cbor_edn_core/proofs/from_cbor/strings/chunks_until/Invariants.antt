@@ -1,7 +1,7 @@
 use Rattle.std.proofs.Common.{◌≡◌, ℕ, suc, ◌≤◌, ◌<◌, length, map}
 use Rattle.cbor_edn_core.specs.declared.from_cbor.head.Stop.TheVariants.{Break}
 use Rattle.cbor_edn_core.specs.View.{texts, view_string}
-use Rattle.cbor_edn_core.specs.code.Growing.{grown}
+use Rattle.cbor_edn_core.specs.code.RowBuilder.{grown}
 use Rattle.cbor_edn_core.specs.code.CborReading.{until}
 use Rattle.cbor_edn_core.proofs.code.CborStrings.{one}
 use Rattle.cbor_edn_core.proofs.code.CborTurns.{with_front}

@@ -5,7 +5,7 @@ use Rattle.cbor_edn_core.proofs.parse.Sequence.parse_looking.Goals as goal
 pub returns-in-Ok-clause-parsed : goal.returns-in-Ok-clause-parsed
 returns-in-Ok-clause-parsed c =
     let all = sequence_accepted c.args.limit _ _ (rw c.new-text.ensures at c.in-Ok.ensures.value) in
-    record { prints = all.0; accepted = all.3; joined = all.2; borrowed = c.in-Ok.ensures.borrowed }
+    record { prints = all.0; accepted = all.3; merged = all.2; borrowed = c.in-Ok.ensures.borrowed }
 
 pub returns-in-Err-Told-clause-refused : goal.returns-in-Err-Told-clause-refused
 returns-in-Err-Told-clause-refused c =

@@ -1,7 +1,7 @@
 use Rattle.std.proofs.Common.{◌≡◌, ◌<◌, ◌≤◌, ◌++◌, length, get_or, take, true, false, sym, ap, ◌∙◌}
 use Rattle.std.proofs.Math.Nat.{sub-zero}
 use Rattle.std.proofs.lemmas.List.{drop_all, take_all, append-nil}
-use Rattle.cbor_edn_parts.specs.Comments.{is_comma, past, in_front, behind}
+use Rattle.cbor_edn_parts.specs.Comments.{is_comma, past, up_to_comma, past_comma}
 use Rattle.cbor_edn_parts.proofs.CommentScans.{front_on, front_found, behind_on, behind_found, after_comma_here}
 use Rattle.cbor_edn_parts.proofs.space.comments.cut_at_comma.Goals as goal
 
@@ -34,13 +34,13 @@ bytes-preserved c =
     })
 
 pub returns-clause-before : goal.returns-clause-before
-unfolding in_front
+unfolding up_to_comma
 returns-clause-before c =
     let end : length c.args.text.now ≤ c.bytes.at = rw c.as_bytes-byte-items.ensures.value at c.bytes-test.false in
-    sym (c.bytes.invariant.before ∙ (ap (λ t. take c.bytes.at c.args.text.now ++ in_front c.bytes.within t) (drop_all c.bytes.at c.args.text.now end) ∙ (append-nil (take c.bytes.at c.args.text.now) ∙ take_all c.bytes.at c.args.text.now end)))
+    sym (c.bytes.invariant.before ∙ (ap (λ t. take c.bytes.at c.args.text.now ++ up_to_comma c.bytes.within t) (drop_all c.bytes.at c.args.text.now end) ∙ (append-nil (take c.bytes.at c.args.text.now) ∙ take_all c.bytes.at c.args.text.now end)))
 
 pub returns-clause-after : goal.returns-clause-after
-unfolding behind
+unfolding past_comma
 returns-clause-after c =
     let end : length c.args.text.now ≤ c.bytes.at = rw c.as_bytes-byte-items.ensures.value at c.bytes-test.false in
-    sym (c.bytes.invariant.after ∙ ap (behind c.bytes.within) (drop_all c.bytes.at c.args.text.now end))
+    sym (c.bytes.invariant.after ∙ ap (past_comma c.bytes.within) (drop_all c.bytes.at c.args.text.now end))

@@ -4,7 +4,7 @@ use Rattle.cbor_edn_parts.specs.declared.error.Fault.{Fault}
 use Rattle.cbor_edn_parts.specs.declared.error.Fault.TheVariants.{Memory}
 use Rattle.cbor_edn_core.specs.declared.from_cbor.CborError.{CborError}
 use Rattle.cbor_edn_parts.specs.declared.space.Msc.{Msc}
-use Rattle.cbor_edn_core.specs.declared.from_cbor.growing.Growing.{Growing}
+use Rattle.cbor_edn_core.specs.declared.from_cbor.row_builder.RowBuilder.{RowBuilder}
 
 -- the last entry alone, if there is one
 abbrev pub last_alone : {X : Type 0} → Option X → List X
@@ -16,11 +16,11 @@ abbrev pub entries : {X : Type 0} → List (X × Msc) → Option X → List X
 entries row last = map (λ p. p.0) row ++ last_alone last
 
 -- the entries so far
-abbrev pub grown : {X : Type 0} → Growing X → List X
+abbrev pub grown : {X : Type 0} → RowBuilder X → List X
 grown g = entries g.row.items g.last
 
 -- What is read is set behind the others.
-abbrev pub Pushes : {X Y : Type 0} → Growing X → Result (X × Y) (Fault CborError) → Result (Growing X × Y) (Fault CborError) → Type 0
+abbrev pub Pushes : {X Y : Type 0} → RowBuilder X → Result (X × Y) (Fault CborError) → Result (RowBuilder X × Y) (Fault CborError) → Type 0
 Pushes found (Err e) result = result ≡ Err e
 Pushes found (Ok (x, rest)) (Ok p) = (grown p.0 ≡ grown found ++ x ∷ []) × (p.1 ≡ rest)
 Pushes found (Ok (x, rest)) (Err (Memory e)) = Unit {0}

@@ -2,7 +2,7 @@ use Rattle.std.proofs.Common.{arith}
 use Rattle.std.proofs.lemmas.Result.{err_from_is_err_and}
 use Rattle.cbor_edn_parts.specs.code.SpaceTokens.{separator}
 use Rattle.cbor_edn_core.proofs.code.Turns.{scan_fails, scan_read, token_end}
-use Rattle.cbor_edn_core.proofs.grammar.parted.Goals as goal
+use Rattle.cbor_edn_core.proofs.grammar.with_separator.Goals as goal
 
 pub returns-in_err-soc-clause-value : goal.returns-in_err-soc-clause-value
 returns-in_err-soc-clause-value g c =

@@ -7,40 +7,40 @@ use std::alloc::{AllocError, Global};
 
 /// Entries that are read one behind the other.
 #[derive(Drop)]
-pub(crate) struct Growing<'a, T: Drop> {
+pub(crate) struct RowBuilder<'a, T: Drop> {
     pub(super) row: Vec<(T, Msc<'a>)>,
     pub(super) last: Option<T>,
     pub ghost commas: { map (λ p. msc_bytes p.1) row.items ≡ map (λ _. 44 ∷ 32 ∷ []) row.items },
     pub ghost started: { last ≡ None → row.items ≡ [] },
 }
 
-impl<'a, T: Drop> Growing<'a, T> {
-    ghost use Rattle.cbor_edn_core.specs.code.Growing.{grown};
+impl<'a, T: Drop> RowBuilder<'a, T> {
+    ghost use Rattle.cbor_edn_core.specs.code.RowBuilder.{grown};
 
     /// No entries.
-    pub(super) fn new(alloc: Global) -> Growing<'a, T>
+    pub(super) fn new(alloc: Global) -> RowBuilder<'a, T>
         ensures { grown result ≡ [] }
     {
-        Growing {
+        RowBuilder {
             row: Vec::new(alloc),
             last: None,
         }
     }
 
     /// One entry more. Fails where memory runs out.
-    pub(super) fn push(self, entry: T) -> Result<Growing<'a, T>, AllocError>
+    pub(super) fn push(self, entry: T) -> Result<RowBuilder<'a, T>, AllocError>
         ensures { IfOk result (λ g. grown g ≡ grown self.entry ++ entry ∷ []) }
     {
         let mut row = self.row;
         let last = self.last;
         match last {
-            None => Ok(Growing {
+            None => Ok(RowBuilder {
                 row,
                 last: Some(entry),
             }),
             Some(last) => {
                 row.push((last, Msc::comma_space()))?;
-                Ok(Growing {
+                Ok(RowBuilder {
                     row,
                     last: Some(entry),
                 })

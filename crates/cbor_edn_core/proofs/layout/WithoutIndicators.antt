@@ -8,10 +8,10 @@ use Rattle.cbor_edn_core.specs.declared.tree.LabelKind.{LabelKind}
 use Rattle.cbor_edn_core.specs.declared.tree.LabelKind.TheVariants as label
 use Rattle.cbor_edn_core.specs.Items.{Listed, String, Stream, LastPiece, Plus, Element, Pair, Chunk, End, Then, Node, Item}
 use Rattle.cbor_edn_core.specs.Labels.{IsLabel}
-use Rattle.cbor_edn_core.specs.Trees.{Rule, OneItem, OnePiece, OneString, OneEntry, Inside, Rest, Seq, Standalone, Tree, Head, Unmarked, Marked, NumberTree, FloatTree, NamedTree, EnclosedTree, ListTree, StringTree, StreamTree, LiteralTree, DotsTree, EmbeddedTree, LastPieceTree, PlusTree, ElementTree, PairTree, ChunkTree, EmptyTree, FullTree, LastTree, MoreTree, NothingTree, SequenceTree, StandaloneTree, Joined, labelled, Of, items}
-use Rattle.cbor_edn_core.proofs.text.Tested.{IsTestedHead, Tested, tested, valid}
-use Rattle.cbor_edn_core.specs.Bare.{bare, is_one_space, first_space, bare_label, unmarked}
-use Rattle.cbor_edn_core.specs.BareLaws.{UnmarkedIsBare, UnmarkedStaysValid}
+use Rattle.cbor_edn_core.specs.Trees.{Rule, OneItem, OnePiece, OneString, OneEntry, Inside, Rest, Seq, Standalone, Tree, ListHead, Unmarked, Marked, NumberTree, FloatTree, NamedTree, EnclosedTree, ListTree, StringTree, StreamTree, LiteralTree, DotsTree, EmbeddedTree, LastPieceTree, PlusTree, ElementTree, PairTree, ChunkTree, EmptyTree, FullTree, LastTree, MoreTree, NothingTree, SequenceTree, StandaloneTree, Merged, labelled, Of, items}
+use Rattle.cbor_edn_core.proofs.text.Tested.{IsTestedListHead, Tested, tested, valid}
+use Rattle.cbor_edn_core.specs.Bare.{bare, is_one_space, first_space, bare_label, without_indicators}
+use Rattle.cbor_edn_core.specs.BareLaws.{WithoutIndicatorsIsBare, WithoutIndicatorsStaysValid}
 
 -- the bare items of a use of a rule
 abbrev bare_of : (s : Rule) → Of s → Of s
@@ -29,8 +29,8 @@ unfolding bare
 label_bare (label.Tag n i) x = refl
 label_bare label.Simple x = refl
 
-is_bare : {s : Rule} (w : Tree s) → items (unmarked w) ≡ bare_of s (items w)
-unfolding items bare unmarked
+is_bare : {s : Rule} (w : Tree s) → items (without_indicators w) ≡ bare_of s (items w)
+unfolding items bare without_indicators
 is_bare (NumberTree x i) = refl
 is_bare (FloatTree f i) = refl
 is_bare (NamedTree b) = refl
@@ -42,32 +42,32 @@ is_bare (LiteralTree x i) = refl
 is_bare (DotsTree x) = refl
 is_bare (EmbeddedTree w i) = refl
 is_bare (LastPieceTree p) = ap LastPiece (is_bare p)
-is_bare (PlusTree p s t w) = ap (λ p. Plus p (items (unmarked w))) (is_bare p) ∙ ap (Plus (bare (items p))) (is_bare w)
+is_bare (PlusTree p s t w) = ap (λ p. Plus p (items (without_indicators w))) (is_bare p) ∙ ap (Plus (bare (items p))) (is_bare w)
 is_bare (ElementTree w) = ap Element (is_bare w)
-is_bare (PairTree v s t w) = ap (λ v. Pair v (items (unmarked w))) (is_bare v) ∙ ap (Pair (bare (items v))) (is_bare w)
+is_bare (PairTree v s t w) = ap (λ v. Pair v (items (without_indicators w))) (is_bare v) ∙ ap (Pair (bare (items v))) (is_bare w)
 is_bare (ChunkTree w) = ap Chunk (is_bare w)
 is_bare (EmptyTree i s) = refl
 is_bare (FullTree h s m) = ap (λ m. (None, m)) (is_bare m)
 is_bare (LastTree e s) = ap (λ e. Then e End) (is_bare e)
-is_bare (MoreTree e s m) = ap (λ e. Then e (items (unmarked m))) (is_bare e) ∙ ap (Then (bare (items e))) (is_bare m)
+is_bare (MoreTree e s m) = ap (λ e. Then e (items (without_indicators m))) (is_bare e) ∙ ap (Then (bare (items e))) (is_bare m)
 is_bare (NothingTree s) = refl
 is_bare (SequenceTree s m) = is_bare m
 is_bare (StandaloneTree s w t) = is_bare w
 
-pub unmarked_is_bare : UnmarkedIsBare
+pub unmarked_is_bare : WithoutIndicatorsIsBare
 unmarked_is_bare = (λ w. is_bare w, λ w. is_bare w, λ w. is_bare w)
 
 label_fits : (l : LabelKind) → IsLabel l → IsLabel (bare_label l)
 label_fits (label.Tag n i) v = v
 label_fits label.Simple v = tt
 
-first_is_space : (h : Head) (s : List ℕ) → IsTestedHead h → is_s s ≡ true → is_s (first_space h s) ≡ true
+first_is_space : (h : ListHead) (s : List ℕ) → IsTestedListHead h → is_s s ≡ true → is_s (first_space h s) ≡ true
 first_is_space Unmarked s v e = e
 first_is_space (Marked i ms) s v e =
     cond_both (is_one_space ms) s (ms ++ s) (λ x. is_s x ≡ true) (λ one. e) (λ other. (s_texts (ms ++ s)).0 (spaces_append ((ms_texts ms).1 v).0 ((s_texts s).1 e)))
 
-stays : {s : Rule} (w : Tree s) → Tested w → Tested (unmarked w)
-unfolding Tested unmarked
+stays : {s : Rule} (w : Tree s) → Tested w → Tested (without_indicators w)
+unfolding Tested without_indicators
 stays (NumberTree x i) v = v
 stays (FloatTree f i) v = v
 stays (NamedTree b) v = v
@@ -91,30 +91,30 @@ stays (NothingTree s) v = v
 stays (SequenceTree s m) v = (v.0, stays m v.1)
 stays (StandaloneTree s w t) v = (v.0, stays w v.1, v.2)
 
-joined : {s : Rule} (w : Tree s) → Joined w → Joined (unmarked w)
-unfolding Joined unmarked
-joined (NumberTree x i) j = tt
-joined (FloatTree f i) j = tt
-joined (NamedTree b) j = tt
-joined (EnclosedTree l w) j = joined w j
-joined (ListTree k w) j = joined w j
-joined (StringTree w) j = joined w j
-joined (StreamTree ms m) j = joined m j
-joined (LiteralTree x i) j = tt
-joined (DotsTree x) j = tt
-joined (EmbeddedTree w i) j = j
-joined (LastPieceTree p) j = joined p j
-joined (PlusTree p s t w) j = (joined p j.0, joined w j.1)
-joined (ElementTree w) j = joined w j
-joined (PairTree k s t w) j = (joined k j.0, joined w j.1)
-joined (ChunkTree w) j = joined w j
-joined (EmptyTree i s) j = tt
-joined (FullTree h s m) j = (tt, joined m j.1)
-joined (LastTree e s) j = joined e j
-joined (MoreTree e s m) j = (joined e j.0, joined m j.1)
-joined (NothingTree s) j = tt
-joined (SequenceTree s m) j = joined m j
-joined (StandaloneTree s w t) j = joined w j
+merged : {s : Rule} (w : Tree s) → Merged w → Merged (without_indicators w)
+unfolding Merged without_indicators
+merged (NumberTree x i) j = tt
+merged (FloatTree f i) j = tt
+merged (NamedTree b) j = tt
+merged (EnclosedTree l w) j = merged w j
+merged (ListTree k w) j = merged w j
+merged (StringTree w) j = merged w j
+merged (StreamTree ms m) j = merged m j
+merged (LiteralTree x i) j = tt
+merged (DotsTree x) j = tt
+merged (EmbeddedTree w i) j = j
+merged (LastPieceTree p) j = merged p j
+merged (PlusTree p s t w) j = (merged p j.0, merged w j.1)
+merged (ElementTree w) j = merged w j
+merged (PairTree k s t w) j = (merged k j.0, merged w j.1)
+merged (ChunkTree w) j = merged w j
+merged (EmptyTree i s) j = tt
+merged (FullTree h s m) j = (tt, merged m j.1)
+merged (LastTree e s) j = merged e j
+merged (MoreTree e s m) j = (merged e j.0, merged m j.1)
+merged (NothingTree s) j = tt
+merged (SequenceTree s m) j = merged m j
+merged (StandaloneTree s w t) j = merged w j
 
-pub unmarked_stays_valid : UnmarkedStaysValid
-unmarked_stays_valid s w v = (valid (unmarked w) (stays w (tested w v)), joined w)
+pub without_indicators_stays_valid : WithoutIndicatorsStaysValid
+without_indicators_stays_valid s w v = (valid (without_indicators w) (stays w (tested w v)), merged w)
