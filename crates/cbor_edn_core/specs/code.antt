@@ -3,6 +3,7 @@ pub mod CborReading
 pub mod Encoding
 pub mod RowBuilder
 pub mod LayoutRows
+pub mod LookCosts
 pub mod Lookahead
 pub mod ParserResults
 pub mod Reading

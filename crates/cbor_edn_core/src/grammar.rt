@@ -13,6 +13,7 @@ ghost use Rattle.cbor_edn_parts.specs.Refusals.{IfTold};
 ghost use Rattle.cbor_edn_parts.specs.code.Text.{text_bytes};
 ghost use Rattle.cbor_edn_core.specs.Borrowed.{BorrowsItem, BorrowsList, BorrowsItems, BorrowsPair, BorrowsPairList, BorrowsPairs, BorrowsPiece, BorrowsString, BorrowsStream, BorrowsStrings, BorrowsSequence, BorrowsStandalone};
 ghost use Rattle.cbor_edn_core.specs.Items.{Elements, Pairs as Keyed, Strings as Chunks, Array as Bracket, Map as Brace};
+ghost use Rattle.cbor_edn_core.specs.code.LookCosts.{a_byte, extra, refused_extra, word_extra, enclosed_extra, refused_enclosed_extra, list_extra, refused_stream_extra, value_extra, refused_value_extra};
 ghost use Rattle.cbor_edn_core.specs.code.ParserResults.{Reads, Lands, ReadsEnd, LandsEnd, CostsEnd, CostsEndAhead, CostsAhead, IsPushed, IsByteAt, IsUnclosed, behind_colon, ReadsSeparator, LandsSeparator, CostsSeparator};
 ghost use Rattle.cbor_edn_core.specs.code.Reading.{reads, number_item, word_item, enclosed_item, stream_item, starts_string, word_at};
 ghost use Rattle.cbor_edn_core.specs.Trees.{OneItem, OnePiece, OneString, OneEntry, Inside, Rest, Seq, Standalone};
@@ -46,7 +47,7 @@ fn item<'a>(
     ensures value { ReadsEnd item_tree (text_bytes text.now) result (reads limit OneItem (drop from (text_bytes text.now))) }
     ensures borrowed { IfOk result (λ p. BorrowsItem p.0) }
     ensures place { LandsEnd (text_bytes text.now) from result }
-    ensures cost { CostsEnd 12 6 10 (text_bytes text.now) from looks.old.count looks.new.count result }
+    ensures cost { CostsEnd a_byte (extra OneItem) (refused_extra OneItem) (text_bytes text.now) from looks.old.count looks.new.count result }
 {
     match opening_at(text, from, looks) {
         Opening::Array => bracketed(alloc, text, from, limit, looks),
@@ -71,7 +72,7 @@ fn numbered<'a>(
     ensures value { ReadsEnd item_tree (text_bytes text.now) result (number_item reads limit (drop from (text_bytes text.now))) }
     ensures borrowed { IfOk result (λ p. BorrowsItem p.0) }
     ensures place { LandsEnd (text_bytes text.now) from result }
-    ensures cost { CostsEndAhead 12 4 4 (text_bytes text.now) from looks.old.count looks.new.count result }
+    ensures cost { CostsEndAhead a_byte word_extra word_extra (text_bytes text.now) from looks.old.count looks.new.count result }
 {
     let (number, at) = number_at(text, from, looks)?;
     let (indicator, to) = indicator_at(text, at, looks);
@@ -103,7 +104,7 @@ fn worded<'a>(
     ensures value { ReadsEnd item_tree (text_bytes text.now) result (word_item reads limit word (drop from (text_bytes text.now))) }
     ensures borrowed { IfOk result (λ p. BorrowsItem p.0) }
     ensures place { LandsEnd (text_bytes text.now) from result }
-    ensures cost { CostsEnd 12 4 4 (text_bytes text.now) from looks.old.count looks.new.count result }
+    ensures cost { CostsEnd a_byte word_extra word_extra (text_bytes text.now) from looks.old.count looks.new.count result }
 {
     match word {
         Word::Named(name) => Ok((
@@ -139,7 +140,7 @@ fn enclosed<'a>(
     ensures value { ReadsEnd item_tree (text_bytes text.now) result (enclosed_item reads limit label.kind (drop from (text_bytes text.now))) }
     ensures borrowed { IfOk result (λ p. BorrowsItem p.0) }
     ensures place { LandsEnd (text_bytes text.now) from result }
-    ensures cost { CostsEnd 12 0 1 (text_bytes text.now) from looks.old.count looks.new.count result }
+    ensures cost { CostsEnd a_byte enclosed_extra refused_enclosed_extra (text_bytes text.now) from looks.old.count looks.new.count result }
 {
     if !is_at(text, from, b'(', looks) {
         return Err(Fault::Told(Refusal::invalid(from)));
@@ -176,7 +177,7 @@ fn bracketed<'a>(
     ensures value { ReadsEnd item_tree (text_bytes text.now) result (reads limit OneItem (drop from (text_bytes text.now))) }
     ensures borrowed { IfOk result (λ p. BorrowsItem p.0) }
     ensures place { LandsEnd (text_bytes text.now) from result }
-    ensures cost { CostsEnd 12 4 14 (text_bytes text.now) (from + 1) looks.old.count looks.new.count result }
+    ensures cost { CostsEnd a_byte list_extra (refused_extra (Inside Bracket)) (text_bytes text.now) (from + 1) looks.old.count looks.new.count result }
 {
     if limit == 0 {
         return Err(Fault::Told(Refusal::too_deep(from)));
@@ -203,7 +204,7 @@ fn braced<'a>(
     ensures value { ReadsEnd item_tree (text_bytes text.now) result (reads limit OneItem (drop from (text_bytes text.now))) }
     ensures borrowed { IfOk result (λ p. BorrowsItem p.0) }
     ensures place { LandsEnd (text_bytes text.now) from result }
-    ensures cost { CostsEnd 12 4 14 (text_bytes text.now) (from + 1) looks.old.count looks.new.count result }
+    ensures cost { CostsEnd a_byte list_extra (refused_extra (Inside Brace)) (text_bytes text.now) (from + 1) looks.old.count looks.new.count result }
 {
     if limit == 0 {
         return Err(Fault::Told(Refusal::too_deep(from)));
@@ -230,7 +231,7 @@ fn chunked<'a>(
     ensures value { ReadsEnd item_tree (text_bytes text.now) result (reads limit OneItem (drop from (text_bytes text.now))) }
     ensures borrowed { IfOk result (λ p. BorrowsItem p.0) }
     ensures place { LandsEnd (text_bytes text.now) from result }
-    ensures cost { CostsEnd 12 4 12 (text_bytes text.now) (from + 1) looks.old.count looks.new.count result }
+    ensures cost { CostsEnd a_byte list_extra refused_stream_extra (text_bytes text.now) (from + 1) looks.old.count looks.new.count result }
 {
     let (stream, to) = stream(alloc, text, from + 1, limit, looks)?;
     let item = Item::stream(alloc, stream)?;
@@ -251,7 +252,7 @@ fn joined<'a>(
     ensures value { ReadsEnd item_tree (text_bytes text.now) result (reads limit OneItem (drop from (text_bytes text.now))) }
     ensures borrowed { IfOk result (λ p. BorrowsItem p.0) }
     ensures place { LandsEnd (text_bytes text.now) from result }
-    ensures cost { CostsEndAhead 12 4 8 (text_bytes text.now) from looks.old.count looks.new.count result }
+    ensures cost { CostsEndAhead a_byte (extra OneString) (refused_extra OneString) (text_bytes text.now) from looks.old.count looks.new.count result }
 {
     let (string, end) = string(alloc, text, from, limit, looks)?;
     let item = Item::string(alloc, string)?;
@@ -271,7 +272,7 @@ fn array<'a>(
     ensures value { Reads (view_list texts) (text_bytes text.now) result (reads limit (Inside Bracket) (drop from (text_bytes text.now))) }
     ensures borrowed { IfOk result (λ p. BorrowsList p.0) }
     ensures place { Lands (text_bytes text.now) from result }
-    ensures cost { Costs 12 13 14 (text_bytes text.now) from looks.old.count looks.new.count result }
+    ensures cost { Costs a_byte (extra (Inside Bracket)) (refused_extra (Inside Bracket)) (text_bytes text.now) from looks.old.count looks.new.count result }
 {
     let (indicator, at) = indicator_at(text, from, looks);
     let (s, at) = space(text, at, looks)?;
@@ -298,7 +299,7 @@ fn map<'a>(
     ensures value { Reads (view_pair_list texts) (text_bytes text.now) result (reads limit (Inside Brace) (drop from (text_bytes text.now))) }
     ensures borrowed { IfOk result (λ p. BorrowsPairList p.0) }
     ensures place { Lands (text_bytes text.now) from result }
-    ensures cost { Costs 12 13 14 (text_bytes text.now) from looks.old.count looks.new.count result }
+    ensures cost { Costs a_byte (extra (Inside Brace)) (refused_extra (Inside Brace)) (text_bytes text.now) from looks.old.count looks.new.count result }
 {
     let (indicator, at) = indicator_at(text, from, looks);
     let (s, at) = space(text, at, looks)?;
@@ -325,7 +326,7 @@ fn items<'a>(
     ensures value { Reads (view_items texts) (text_bytes text.now) result (reads limit (Rest Elements) (drop from (text_bytes text.now))) }
     ensures borrowed { IfOk result (λ p. BorrowsItems p.0) }
     ensures place { Lands (text_bytes text.now) from result }
-    ensures cost { Costs 12 9 10 (text_bytes text.now) from looks.old.count looks.new.count result }
+    ensures cost { Costs a_byte (extra (Rest Elements)) (refused_extra (Rest Elements)) (text_bytes text.now) from looks.old.count looks.new.count result }
 {
     let mut row = Vec::new(alloc);
     let mut at = from;
@@ -354,7 +355,7 @@ fn pairs<'a>(
     ensures value { Reads (view_pairs texts) (text_bytes text.now) result (reads limit (Rest Keyed) (drop from (text_bytes text.now))) }
     ensures borrowed { IfOk result (λ p. BorrowsPairs p.0) }
     ensures place { Lands (text_bytes text.now) from result }
-    ensures cost { Costs 12 9 10 (text_bytes text.now) from looks.old.count looks.new.count result }
+    ensures cost { Costs a_byte (extra (Rest Keyed)) (refused_extra (Rest Keyed)) (text_bytes text.now) from looks.old.count looks.new.count result }
 {
     let mut row = Vec::new(alloc);
     let mut at = from;
@@ -383,7 +384,7 @@ fn strings<'a>(
     ensures value { Reads (view_strings texts) (text_bytes text.now) result (reads limit (Rest Chunks) (drop from (text_bytes text.now))) }
     ensures borrowed { IfOk result (λ p. BorrowsStrings p.0) }
     ensures place { Lands (text_bytes text.now) from result }
-    ensures cost { Costs 12 9 10 (text_bytes text.now) from looks.old.count looks.new.count result }
+    ensures cost { Costs a_byte (extra (Rest Chunks)) (refused_extra (Rest Chunks)) (text_bytes text.now) from looks.old.count looks.new.count result }
 {
     let mut row = Vec::new(alloc);
     let mut at = from;
@@ -448,7 +449,7 @@ fn pair<'a>(
     ensures value { ReadsEnd (view_pair texts) (text_bytes text.now) result (reads limit (OneEntry Keyed) (drop from (text_bytes text.now))) }
     ensures borrowed { IfOk result (λ p. BorrowsPair p.0) }
     ensures place { LandsEnd (text_bytes text.now) from result }
-    ensures cost { CostsEnd 12 6 10 (text_bytes text.now) from looks.old.count looks.new.count result }
+    ensures cost { CostsEnd a_byte (extra (OneEntry Keyed)) (refused_extra (OneEntry Keyed)) (text_bytes text.now) from looks.old.count looks.new.count result }
 {
     let (key, end) = item(alloc, text, from, limit, looks)?;
     let (before_colon, at) = space_behind(text, end, looks)?;
@@ -473,7 +474,7 @@ fn valued<'a>(
     ensures value { ReadsEnd (view_pair texts) (text_bytes text.now) result (behind_colon limit (item_tree key.entry) (s_bytes before_colon.entry) (drop from (text_bytes text.now))) }
     ensures borrowed { BorrowsItem key.entry → BorrowsS before_colon.entry → IfOk result (λ p. BorrowsPair p.0) }
     ensures place { LandsEnd (text_bytes text.now) from result }
-    ensures cost { CostsEnd 12 8 11 (text_bytes text.now) from looks.old.count looks.new.count result }
+    ensures cost { CostsEnd a_byte value_extra refused_value_extra (text_bytes text.now) from looks.old.count looks.new.count result }
 {
     let (after_colon, at) = space(text, from, looks)?;
     let (value, end) = item(alloc, text, at, limit, looks)?;
@@ -501,7 +502,7 @@ fn stream<'a>(
     ensures value { Reads (view_stream texts) (text_bytes text.now) result (stream_item reads limit (drop from (text_bytes text.now))) }
     ensures borrowed { IfOk result (λ p. BorrowsStream p.0) }
     ensures place { Lands (text_bytes text.now) from result }
-    ensures cost { Costs 12 4 12 (text_bytes text.now) from looks.old.count looks.new.count result }
+    ensures cost { Costs a_byte list_extra refused_stream_extra (text_bytes text.now) from looks.old.count looks.new.count result }
 {
     if !is_at(text, from, b'_', looks) {
         return Err(Fault::Told(Refusal::invalid(from)));
@@ -530,7 +531,7 @@ fn string<'a>(
     ensures value { ReadsEnd (view_string texts) (text_bytes text.now) result (reads limit OneString (drop from (text_bytes text.now))) }
     ensures borrowed { IfOk result (λ p. BorrowsString p.0) }
     ensures place { LandsEnd (text_bytes text.now) from result }
-    ensures cost { CostsEndAhead 12 4 8 (text_bytes text.now) from looks.old.count looks.new.count result }
+    ensures cost { CostsEndAhead a_byte (extra OneString) (refused_extra OneString) (text_bytes text.now) from looks.old.count looks.new.count result }
 {
     let mut row = Vec::new(alloc);
     let mut at = from;
@@ -563,7 +564,7 @@ fn piece<'a>(
     ensures value { Reads (view_piece texts) (text_bytes text.now) result (reads limit OnePiece (drop from (text_bytes text.now))) }
     ensures borrowed { IfOk result (λ p. BorrowsPiece p.0) }
     ensures place { Lands (text_bytes text.now) from result }
-    ensures cost { CostsAhead 12 0 5 (text_bytes text.now) from looks.old.count looks.new.count result }
+    ensures cost { CostsAhead a_byte (extra OnePiece) (refused_extra OnePiece) (text_bytes text.now) from looks.old.count looks.new.count result }
 {
     if is_at(text, from, b'<', looks) {
         return embedded(alloc, text, from, limit, looks);
@@ -591,7 +592,7 @@ fn embedded<'a>(
     ensures value { Reads (view_piece texts) (text_bytes text.now) result (reads limit OnePiece (drop from (text_bytes text.now))) }
     ensures borrowed { IfOk result (λ p. BorrowsPiece p.0) }
     ensures place { Lands (text_bytes text.now) from result }
-    ensures cost { Costs 12 0 5 (text_bytes text.now) (from + 1) looks.old.count looks.new.count result }
+    ensures cost { Costs a_byte (extra OnePiece) (refused_extra OnePiece) (text_bytes text.now) (from + 1) looks.old.count looks.new.count result }
 {
     if !is_at(text, from + 1, b'<', looks) {
         return Err(Fault::Told(Refusal::invalid(from + 1)));
@@ -636,7 +637,7 @@ pub(crate) fn sequence<'a>(
     ensures value { Reads sequence_tree (text_bytes text.now) result (reads limit Seq (drop from (text_bytes text.now))) }
     ensures borrowed { IfOk result (λ p. BorrowsSequence p.0) }
     ensures place { Lands (text_bytes text.now) from result }
-    ensures cost { Costs 12 11 12 (text_bytes text.now) from looks.old.count looks.new.count result }
+    ensures cost { Costs a_byte (extra Seq) (refused_extra Seq) (text_bytes text.now) from looks.old.count looks.new.count result }
 {
     let (before, at) = space(text, from, looks)?;
     if closes(text, at, looks) {
@@ -671,7 +672,7 @@ pub(crate) fn standalone<'a>(
     ensures value { Reads standalone_tree (text_bytes text.now) result (reads limit Standalone (drop from (text_bytes text.now))) }
     ensures borrowed { IfOk result (λ p. BorrowsStandalone p.0) }
     ensures place { Lands (text_bytes text.now) from result }
-    ensures cost { Costs 12 10 11 (text_bytes text.now) from looks.old.count looks.new.count result }
+    ensures cost { Costs a_byte (extra Standalone) (refused_extra Standalone) (text_bytes text.now) from looks.old.count looks.new.count result }
 {
     let (before, at) = space(text, from, looks)?;
     let (item, end) = item(alloc, text, at, limit, looks)?;

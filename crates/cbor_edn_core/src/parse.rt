@@ -2,6 +2,7 @@
 ghost use Rattle.std.specs.Prelude.{◌≤◌, ◌+◌, ◌*◌, length, IfOk, IfErr, OnOk};
 ghost use Rattle.cbor_edn_core.specs.Borrowed.{BorrowsSequence, BorrowsStandalone};
 ghost use Rattle.cbor_edn_parts.specs.code.Text.{text_bytes};
+ghost use Rattle.cbor_edn_core.specs.code.LookCosts.{a_byte, text_extra};
 ghost use Rattle.cbor_edn_core.specs.code.ParserResults.{Gives, IsPlaced};
 ghost use Rattle.cbor_edn_core.specs.code.Reading.{reads_all};
 ghost use Rattle.cbor_edn_core.specs.Parsing.{ParsedSequence, ParsedStandalone, Unparsed};
@@ -143,7 +144,7 @@ fn whole_sequence<'a>(
     ensures value { Gives sequence_tree result (reads_all limit Seq (text_bytes text.now)) }
     ensures borrowed { IfOk result BorrowsSequence }
     ensures place { IfErr result (IsPlaced (text_bytes text.now)) }
-    ensures most { looks.new.count ≤ looks.old.count + 12 * length (text_bytes text.now) + 12 }
+    ensures most { looks.new.count ≤ looks.old.count + a_byte * length (text_bytes text.now) + text_extra }
     ensures least { OnOk result (looks.old.count + length (text_bytes text.now) ≤ looks.new.count) }
     ensures no_fewer { looks.old.count ≤ looks.new.count }
 {
@@ -162,7 +163,7 @@ fn whole_standalone<'a>(
     ensures value { Gives standalone_tree result (reads_all limit Standalone (text_bytes text.now)) }
     ensures borrowed { IfOk result BorrowsStandalone }
     ensures place { IfErr result (IsPlaced (text_bytes text.now)) }
-    ensures most { looks.new.count ≤ looks.old.count + 12 * length (text_bytes text.now) + 12 }
+    ensures most { looks.new.count ≤ looks.old.count + a_byte * length (text_bytes text.now) + text_extra }
     ensures least { OnOk result (looks.old.count + length (text_bytes text.now) ≤ looks.new.count) }
     ensures no_fewer { looks.old.count ≤ looks.new.count }
 {

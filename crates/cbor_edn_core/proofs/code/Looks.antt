@@ -7,10 +7,11 @@ use Rattle.cbor_edn_parts.specs.code.Lex.{Table, Accepts}
 use Rattle.cbor_edn_parts.specs.code.LiteralTokens.{literal, dots, literal_final, dots_final, is_lower, is_upper}
 use Rattle.cbor_edn_parts.specs.declared.space.read.End.{End}
 use Rattle.cbor_edn_parts.proofs.Tokens.{munch-took, Holds, nothing, just}
+use Rattle.cbor_edn_core.specs.code.LookCosts.{a_byte, longest_word, word_extra, enclosed_extra, refused_enclosed_extra}
 use Rattle.cbor_edn_core.specs.code.ParserResults.{CostsEnd, CostsEndAhead, ahead}
 use Rattle.cbor_edn_core.proofs.code.Turns.{token_end}
 
-pub ahead_small : (text : List ℕ) (at : ℕ) → ahead text at ≤ 9
+pub ahead_small : (text : List ℕ) (at : ℕ) → ahead text at ≤ longest_word
 ahead_small text at = omega arith
 
 -- tokens of two bytes or more
@@ -56,11 +57,11 @@ pub pushed_some : {X : Type 0} (xs : List X) (x : X) → xs ++ x ∷ [] ≡ [] �
 pushed_some [] x e = cc
 pushed_some (y ∷ xs) x e = cc
 
-pub spared_first : {X : Type 0} (row : List X) (text : List ℕ) (at from count old : ℕ) → (row ≡ [] → at ≡ from) → count + spared row (ahead text from) + 12 * from ≤ old + 12 * at → count + ahead text from + 12 * from ≤ old + 12 * at + ahead text at
+pub spared_first : {X : Type 0} (row : List X) (text : List ℕ) (at from count old : ℕ) → (row ≡ [] → at ≡ from) → count + spared row (ahead text from) + a_byte * from ≤ old + a_byte * at → count + ahead text from + a_byte * from ≤ old + a_byte * at + ahead text at
 spared_first [] text at from count old first h = omega (arith, h, ap (ahead text) (first refl))
 spared_first (x ∷ row) text at from count old first h = omega (arith, h)
 
 -- what follows a number
-pub costs_ahead : {X E : Type 0} (text : List ℕ) (from at old now new : ℕ) (r : Result (X × End) E) → now + ahead text from + 12 * from ≤ old + 12 * at + 3 → old + at ≤ now + from → CostsEnd 12 0 1 text at now new r → CostsEndAhead 12 4 4 text from old new r
+pub costs_ahead : {X E : Type 0} (text : List ℕ) (from at old now new : ℕ) (r : Result (X × End) E) → now + ahead text from + a_byte * from ≤ old + a_byte * at + 3 → old + at ≤ now + from → CostsEnd a_byte enclosed_extra refused_enclosed_extra text at now new r → CostsEndAhead a_byte word_extra word_extra text from old new r
 costs_ahead text from at old now new (Ok p) most least c = (omega (arith, most, c.0), omega (arith, least, c.1))
 costs_ahead text from at old now new (Err e) most least c = (omega (arith, most, c.0), omega (arith, least, c.1))

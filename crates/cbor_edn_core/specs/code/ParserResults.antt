@@ -20,6 +20,7 @@ use Rattle.cbor_edn_parts.specs.declared.space.Ms.{Ms}
 use Rattle.cbor_edn_parts.specs.declared.number.Number.{Number}
 use Rattle.cbor_edn_parts.specs.declared.string.Literal.{Literal}
 use Rattle.cbor_edn_parts.specs.declared.string.Dots.{Dots}
+use Rattle.cbor_edn_core.specs.code.LookCosts.{longest_word, separator_extra}
 use Rattle.cbor_edn_core.specs.code.Reading.{◌>>=◌, Read, token, reads}
 
 -- The refusal is the reader's, unless memory ran out.
@@ -63,7 +64,7 @@ CostsEnd rate k failed text at old new (Err e) = (new + rate * at ≤ old + rate
 
 -- how many looks a word may take that does not stand there: none is longer
 abbrev pub ahead : List ℕ → ℕ → ℕ
-ahead text at = min 9 (length text - at)
+ahead text at = min longest_word (length text - at)
 
 -- The same of what may have been taken for a word: the looks for that come on top.
 abbrev pub CostsEndAhead : {X E : Type 0} → ℕ → ℕ → ℕ → List ℕ → ℕ → ℕ → ℕ → Result (X × End) E → Type 0
@@ -120,5 +121,5 @@ LandsSeparator text at (Ok p) = (at + length (soc_bytes p.1) ≤ p.2) × IsCharB
 LandsSeparator text at (Err e) = IsPlaced text e
 
 abbrev pub CostsSeparator : {X E : Type 0} → List ℕ → ℕ → ℕ → ℕ → Result (X × Soc × ℕ) E → Type 0
-CostsSeparator text at old new (Ok p) = (new + at ≤ old + p.2 + 2) × (old + p.2 ≤ new + at)
-CostsSeparator text at old new (Err e) = (new + at ≤ old + length text + 2) × (old ≤ new)
+CostsSeparator text at old new (Ok p) = (new + at ≤ old + p.2 + separator_extra) × (old + p.2 ≤ new + at)
+CostsSeparator text at old new (Err e) = (new + at ≤ old + length text + separator_extra) × (old ≤ new)

@@ -2,6 +2,7 @@ use Rattle.std.proofs.Common.{◌≡◌, ◌+◌, ◌-◌, ◌*◌, ◌≤◌, [
 use Rattle.std.specs.Str.{IsCharBoundary}
 use Rattle.cbor_edn_core.specs.Borrowed.{BorrowsEach, BorrowsEachPair, BorrowsEachString, BorrowsEachPiece}
 use Rattle.cbor_edn_core.specs.Items.{Elements, Pairs, Strings}
+use Rattle.cbor_edn_core.specs.code.LookCosts.{a_byte}
 use Rattle.cbor_edn_core.specs.code.ParserResults.{ahead}
 use Rattle.cbor_edn_core.specs.code.Reading.{reads}
 use Rattle.cbor_edn_core.specs.Trees.{Rest, OneString}
@@ -78,7 +79,7 @@ abbrev pub invariant-items-items : goal.invariant-items-items
 invariant-items-items l = record {
   order : l.fn.from ≤ l.at;
   place : IsCharBoundary l.text.all.now l.at;
-  cost : l.looks.count + 12 * l.fn.from ≤ l.fn.looks.count + 12 * l.at;
+  cost : l.looks.count + a_byte * l.fn.from ≤ l.fn.looks.count + a_byte * l.at;
   least : l.fn.looks.count + l.at ≤ l.looks.count + l.fn.from;
   borrowed : BorrowsEach l.row.items;
   reads : reads l.limit (Rest Elements) (drop l.fn.from l.text.all.now) ≡ with_row (map (seen texts) l.row.items) (reads l.limit (Rest Elements) (drop l.at l.text.all.now));
@@ -91,7 +92,7 @@ abbrev pub invariant-pairs-pairs : goal.invariant-pairs-pairs
 invariant-pairs-pairs l = record {
   order : l.fn.from ≤ l.at;
   place : IsCharBoundary l.text.all.now l.at;
-  cost : l.looks.count + 12 * l.fn.from ≤ l.fn.looks.count + 12 * l.at;
+  cost : l.looks.count + a_byte * l.fn.from ≤ l.fn.looks.count + a_byte * l.at;
   least : l.fn.looks.count + l.at ≤ l.looks.count + l.fn.from;
   borrowed : BorrowsEachPair l.row.items;
   reads : reads l.limit (Rest Pairs) (drop l.fn.from l.text.all.now) ≡ with_row (map (seen_pair texts) l.row.items) (reads l.limit (Rest Pairs) (drop l.at l.text.all.now));
@@ -104,7 +105,7 @@ abbrev pub invariant-strings-strings : goal.invariant-strings-strings
 invariant-strings-strings l = record {
   order : l.fn.from ≤ l.at;
   place : IsCharBoundary l.text.all.now l.at;
-  cost : l.looks.count + 12 * l.fn.from ≤ l.fn.looks.count + 12 * l.at;
+  cost : l.looks.count + a_byte * l.fn.from ≤ l.fn.looks.count + a_byte * l.at;
   least : l.fn.looks.count + l.at ≤ l.looks.count + l.fn.from;
   borrowed : BorrowsEachString l.row.items;
   reads : reads l.limit (Rest Strings) (drop l.fn.from l.text.all.now) ≡ with_row (map (seen_string texts) l.row.items) (reads l.limit (Rest Strings) (drop l.at l.text.all.now));
@@ -118,7 +119,7 @@ invariant-string-pieces l = record {
   order : l.fn.from ≤ l.at;
   place : IsCharBoundary l.text.all.now l.at;
   first : l.row.items ≡ [] → l.at ≡ l.fn.from;
-  cost : l.looks.count + spared l.row.items (ahead l.text.all.now l.fn.from) + 12 * l.fn.from ≤ l.fn.looks.count + 12 * l.at;
+  cost : l.looks.count + spared l.row.items (ahead l.text.all.now l.fn.from) + a_byte * l.fn.from ≤ l.fn.looks.count + a_byte * l.at;
   least : l.fn.looks.count + l.at ≤ l.looks.count + l.fn.from;
   borrowed : BorrowsEachPiece l.row.items;
   reads : reads l.limit OneString (drop l.fn.from l.text.all.now) ≡ with_pieces (map (seen_piece texts) l.row.items) (reads l.limit OneString (drop l.at l.text.all.now));
