@@ -1,1 +1,2 @@
+mod Recoding
 mod Written

@@ -2,9 +2,9 @@
 #![tactic(auto)]
 
 pub mod engine;
+pub mod laws;
 
 pub use cbor_edn_core::from_cbor::CborError;
-pub use cbor_edn_core::laws;
 pub use cbor_edn_core::tree::{Item, NESTING_LIMIT, Sequence, StandaloneItem};
 pub use cbor_edn_parts::error::{Fault, InconsistentEdn, ParseError};
 pub use cbor_edn_parts::looks::Looks;

@@ -5,4 +5,3 @@ pub mod Decoding
 pub mod MeaningExamples
 pub mod MeaningSteps
 pub mod Meanings
-pub mod Recoding

@@ -7,6 +7,5 @@ pub mod LookCosts
 pub mod Lookahead
 pub mod ParserResults
 pub mod Reading
-pub mod Recoding
 pub mod Same
 pub mod Widths

@@ -8,8 +8,6 @@ ghost use Rattle.cbor_edn_core.specs.Spelling.{Spells, SpellsOne, SpellsSequence
 ghost use Rattle.cbor_edn_core.specs.Trees.{items, text};
 ghost use Rattle.cbor_edn_core.specs.View.{item_tree, standalone_tree, sequence_tree};
 
-pub mod recode;
-
 use crate::tree::{Item, Sequence, StandaloneItem};
 
 /// A text spells at most one list of items, and has one tree.

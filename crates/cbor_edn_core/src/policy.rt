@@ -4,7 +4,7 @@ ghost use Rattle.cbor_edn_core.specs.Commented.{commented};
 ghost use Rattle.cbor_edn_core.specs.Decoded.{alone};
 ghost use Rattle.cbor_edn_core.specs.View.{item_tree, standalone_tree};
 
-use crate::tree::{Item, StandaloneItem, StandaloneItemOf};
+use crate::tree::{Item, StandaloneItem};
 use cbor_edn_parts::space::S;
 use std::alloc::{AllocError, Global};
 
@@ -26,18 +26,14 @@ impl<'a> StandaloneItem<'a> {
     /// has a slash itself. Control characters but tabs and line ends become spaces. Fails where memory runs out; the item
     /// is dropped then.
     pub fn with_comment(
-        self,
+        mut self,
         alloc: Global,
         comment: &str,
     ) -> Result<StandaloneItem<'a>, AllocError>
         ensures { IfOk result (λ t. standalone_tree t ≡ commented comment.now (standalone_tree self.entry)) }
     {
-        let before = S::note(alloc, comment)?;
-        Ok(StandaloneItemOf {
-            before,
-            item: self.item,
-            after: self.after,
-        })
+        self.set_comment(alloc, comment)?;
+        Ok(self)
     }
 
     /// Puts the comment there, as `with_comment` does. Fails where memory runs out, and leaves the item as it was then.

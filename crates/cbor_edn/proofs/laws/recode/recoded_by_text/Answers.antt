@@ -1,9 +1,9 @@
 use Rattle.std.proofs.Common.{sym, subst}
 use Rattle.std.specs.String.{string_bytes}
-use Rattle.cbor_edn_core.specs.code.Recoding.{IsTextOf}
+use Rattle.cbor_edn.specs.Recoding.{IsTextOf}
 use Rattle.cbor_edn_core.specs.declared.tree.TheConstants.{NESTING_LIMIT}
-use Rattle.cbor_edn_core.proofs.meaning.Recoding.{one_encoding_of_text}
-use Rattle.cbor_edn_core.proofs.laws.recode.recoded_by_text.Goals as goal
+use Rattle.cbor_edn.proofs.Recoding.{one_encoding_of_text}
+use Rattle.cbor_edn.proofs.laws.recode.recoded_by_text.Goals as goal
 
 pub read_and_encoded-requires : goal.read_and_encoded-requires
 read_and_encoded-requires c = (c.args.bytes.now, subst (IsTextOf NESTING_LIMIT c.args.bytes.now) (sym c.as_str.ensures.value) c.in_ok-text.ensures.text)

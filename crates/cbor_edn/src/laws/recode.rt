@@ -7,10 +7,10 @@ ghost use Rattle.cbor_edn_core.specs.View.{sequence_tree};
 ghost use Rattle.cbor_edn_core.specs.Value.{Values, EncAll};
 ghost use Rattle.cbor_edn_core.specs.Meaning.{means};
 ghost use Rattle.cbor_edn_core.specs.Decoded.{NoSequence, IsTooDeepSequence};
-ghost use Rattle.cbor_edn_core.specs.code.Recoding.{IsTextOf};
+ghost use Rattle.cbor_edn.specs.Recoding.{IsTextOf};
 
-use crate::from_cbor::CborError;
-use crate::tree::{NESTING_LIMIT, Sequence};
+use cbor_edn_core::from_cbor::CborError;
+use cbor_edn_core::tree::{NESTING_LIMIT, Sequence};
 use cbor_edn_parts::error::Fault;
 use std::alloc::{AllocError, Global};
 

@@ -6,7 +6,7 @@ use Rattle.cbor_edn_core.specs.Spelling.{SpellsSequence}
 use Rattle.cbor_edn_core.specs.Value.{Values, encodings}
 use Rattle.cbor_edn_core.specs.Meaning.{means}
 use Rattle.cbor_edn_core.specs.Decoded.{IsDecodedSequence}
-use Rattle.cbor_edn_core.specs.code.Recoding.{IsTextOf}
+use Rattle.cbor_edn.specs.Recoding.{IsTextOf}
 use Rattle.cbor_edn_core.proofs.text.GrammarLaws.{unique_items}
 
 pub text_of_decoded : (limit : ℕ) (bytes t : List ℕ) (w : Tree Seq) → IsDecodedSequence limit bytes w → SpellsSequence (items w) t → IsTextOf limit bytes t
