@@ -31,4 +31,5 @@ pub mod Notes
 pub mod NoteTexts
 pub mod CommentScans
 pub mod Columns
+pub mod ColumnLengths
 pub mod SpacingExamples

@@ -15,6 +15,7 @@ mod comments;
 mod note;
 mod read;
 mod spaced;
+mod width;
 
 /// Optional space (S): blanks and comments.
 #[derive(Debug, PartialEq, Drop)]

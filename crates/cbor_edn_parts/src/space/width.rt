@@ -1,0 +1,77 @@
+//! How long space texts are by a column of the table, told without memory.
+ghost use Rattle.std.specs.Prelude.{◌≡◌, ◌+◌, ◌-◌, ◌^◌, min, length};
+ghost use Rattle.cbor_edn_parts.specs.Leaves.{s_bytes, ms_bytes, msc_bytes, soc_bytes};
+ghost use Rattle.cbor_edn_parts.specs.Spacing as table;
+ghost use Rattle.cbor_edn_parts.specs.code.Columns.{column_length, separator_length};
+
+use super::comments::{comments, cut_at_comma};
+use super::{Ms, Msc, S, Soc};
+use crate::policy::Spacing;
+
+impl S<'_> {
+    /// How long the text is by a column of the table, or the greatest number where it is longer.
+    pub fn spaced_len(&self, spacing: Spacing) -> usize
+        ensures { result ≡ min (length (table.spaced table.S spacing (s_bytes self.now))) (2 ^ 64 - 1) }
+    {
+        let comments = comments(self.as_str());
+        column_len(spacing, comments.len())
+    }
+}
+
+impl Ms<'_> {
+    /// How long the text is by a column of the table, or the greatest number where it is longer.
+    pub fn spaced_len(&self, spacing: Spacing) -> usize
+        ensures { result ≡ min (length (table.spaced table.MS spacing (ms_bytes self.now))) (2 ^ 64 - 1) }
+    {
+        let comments = comments(self.as_str());
+        column_len(spacing, comments.len()).max(1)
+    }
+}
+
+impl Msc<'_> {
+    /// How long the text is by a column of the table, or the greatest number where it is longer.
+    pub fn spaced_len(&self, spacing: Spacing) -> usize
+        ensures { result ≡ min (length (table.spaced table.MSC spacing (msc_bytes self.now))) (2 ^ 64 - 1) }
+    {
+        let (before, after) = cut_at_comma(self.as_str());
+        let before = comments(before);
+        let after = comments(after);
+        separator_len(spacing, before.len().saturating_add(after.len()))
+    }
+}
+
+impl Soc<'_> {
+    /// How long the text is by a column of the table, or the greatest number where it is longer.
+    pub fn spaced_len(&self, spacing: Spacing) -> usize
+        ensures { result ≡ min (length (table.spaced table.SOC spacing (soc_bytes self.now))) (2 ^ 64 - 1) }
+    {
+        let (before, after) = cut_at_comma(self.as_str());
+        let before = comments(before);
+        let after = comments(after);
+        column_len(spacing, before.len().saturating_add(after.len()))
+    }
+}
+
+/// How long comments are behind the blanks of a column.
+fn column_len(spacing: Spacing, comments: usize) -> usize
+    ensures { result ≡ min (column_length spacing comments) (2 ^ 64 - 1) }
+{
+    match spacing {
+        Spacing::Least => 0,
+        Spacing::Comments | Spacing::OneLine => comments,
+        Spacing::NewLine(indent) => comments.saturating_add(indent).saturating_add(1),
+        Spacing::OneSpace => comments.saturating_add(1),
+    }
+}
+
+/// How long a separator with such comments is.
+fn separator_len(spacing: Spacing, comments: usize) -> usize
+    ensures { result ≡ min (separator_length spacing comments) (2 ^ 64 - 1) }
+{
+    match spacing {
+        Spacing::Least => 1,
+        Spacing::Comments => comments.saturating_add(1),
+        Spacing::OneLine | Spacing::OneSpace => comments.saturating_add(2),
+        Spacing::NewLine(indent) => comments.saturating_add(indent).saturating_add(2),
+    }
+}
