@@ -18,3 +18,4 @@ pub mod TagDigits
 pub mod Texts
 pub mod Turns
 pub mod Views
+pub mod Digits

@@ -1,0 +1,464 @@
+//! How wide items are on a single line, measured bottom up before any space is changed.
+ghost use Rattle.std.specs.Fmt.{decimal};
+ghost use Rattle.std.specs.Prelude.{◌≡◌, length, map, IfOk};
+ghost use Rattle.cbor_edn_parts.specs.Indicator.{indicator_text};
+ghost use Rattle.cbor_edn_parts.specs.Leaves.{s_bytes, ms_bytes, msc_bytes, soc_bytes};
+ghost use Rattle.cbor_edn_parts.specs.Spacing as kind;
+ghost use Rattle.cbor_edn_core.specs.Trees.{label_text};
+ghost use Rattle.cbor_edn_core.specs.View.{texts, view_list_head, view_list, view_items, seen, view_pair_list, view_pairs, view_pair, seen_pair, view_string, view_piece, seen_piece, view_stream, view_strings, seen_string, item_tree, standalone_tree, sequence_tree};
+ghost use Rattle.cbor_edn_core.specs.code.Widths as widths;
+ghost use Rattle.cbor_edn_core.specs.code.Widths.{space_width, head_width, width, capped, entries_width, pieces_width, pushed, widths_by, entries_widths_by, stack};
+
+use crate::tree::{
+    CborString, Indicator, InnerItem, Item, ItemList, Items, Kp, LabelKind, PairList, Pairs, Piece,
+    Sequence, StandaloneItem, Stream, Strings,
+};
+use cbor_edn_parts::policy::Spacing;
+use cbor_edn_parts::space::{Ms, Msc, S, Soc};
+use std::alloc::AllocError;
+
+/// Which spaces a width counts.
+#[derive(Clone, Copy)]
+pub(super) enum Spaces {
+    /// Those that stand there.
+    Kept,
+    /// Those by a column of the table.
+    By(Spacing),
+}
+
+impl Spaces {
+    /// Those round a plus sign and behind a colon.
+    fn wide(self) -> Spaces
+        ensures { result ≡ widths.wide self }
+    {
+        match self {
+            Spaces::By(Spacing::OneLine) => Spaces::By(Spacing::OneSpace),
+            spaces => spaces,
+        }
+    }
+
+    /// Those in the strings of a stream.
+    fn in_stream(self) -> Spaces
+        ensures { result ≡ widths.in_stream self }
+    {
+        match self {
+            Spaces::By(Spacing::OneLine) => Spaces::By(Spacing::Comments),
+            spaces => spaces,
+        }
+    }
+}
+
+fn s_width(spaces: Spaces, space: &S<'_>) -> usize
+    ensures { result ≡ capped (space_width kind.S spaces (s_bytes space.now)) }
+{
+    match spaces {
+        Spaces::Kept => space.as_str().len(),
+        Spaces::By(spacing) => space.spaced_len(spacing),
+    }
+}
+
+fn ms_width(spaces: Spaces, space: &Ms<'_>) -> usize
+    ensures { result ≡ capped (space_width kind.MS spaces (ms_bytes space.now)) }
+{
+    match spaces {
+        Spaces::Kept => space.as_str().len(),
+        Spaces::By(spacing) => space.spaced_len(spacing),
+    }
+}
+
+fn msc_width(spaces: Spaces, space: &Msc<'_>) -> usize
+    ensures { result ≡ capped (space_width kind.MSC spaces (msc_bytes space.now)) }
+{
+    match spaces {
+        Spaces::Kept => space.as_str().len(),
+        Spaces::By(spacing) => space.spaced_len(spacing),
+    }
+}
+
+fn soc_width(spaces: Spaces, space: &Soc<'_>) -> usize
+    ensures { result ≡ capped (space_width kind.SOC spaces (soc_bytes space.now)) }
+{
+    match spaces {
+        Spaces::Kept => space.as_str().len(),
+        Spaces::By(spacing) => space.spaced_len(spacing),
+    }
+}
+
+fn head_len(spaces: Spaces, head: &Option<(Indicator, Ms<'_>)>) -> usize
+    ensures { result ≡ capped (head_width spaces (view_list_head texts head.now)) }
+{
+    match head {
+        None => 0,
+        Some((indicator, space)) => {
+            ms_width(spaces, space).saturating_add(indicator.as_str().len())
+        }
+    }
+}
+
+fn indicator_len(indicator: Option<Indicator>) -> usize
+    ensures { result ≡ length (indicator_text indicator) }
+{
+    match indicator {
+        None => 0,
+        Some(indicator) => indicator.as_str().len(),
+    }
+}
+
+fn label_len(label: LabelKind) -> usize
+    ensures { result ≡ capped (length (label_text label)) }
+{
+    match label {
+        LabelKind::Tag(number, indicator) => {
+            decimal_len(number).saturating_add(indicator_len(indicator))
+        }
+        LabelKind::Simple => "simple".len(),
+    }
+}
+
+/// How many digits a number has.
+#[tactic(auto, using(crate::proofs::code::Digits::one_digit, crate::proofs::code::Digits::more_digits, crate::proofs::code::Digits::few_digits))]
+fn decimal_len(number: u64) -> usize
+    ensures { result ≡ length (decimal number) }
+{
+    if number < 10 {
+        1
+    } else {
+        decimal_len(number / 10) + 1
+    }
+}
+
+/// Puts a width on the stack where a single line is measured, and answers it.
+#[tactic(auto, using(crate::proofs::layout::Widths::stack_push))]
+fn push(table: &mut Vec<usize>, spaces: Spaces, width: usize) -> Result<usize, AllocError>
+    ensures widths { IfOk result (λ _. stack table.new.items ≡ pushed spaces width (stack table.old.items)) }
+    ensures width { IfOk result (λ n. n ≡ width) }
+{
+    if let Spaces::By(Spacing::OneLine) = spaces {
+        table.push(width)?;
+    }
+    Ok(width)
+}
+
+#[cycle(measure)]
+#[tactic(auto, using(crate::proofs::code::Views::view_sequence_is), unfolding(crate::specs::code::Widths::width, crate::specs::code::Widths::widths_by))]
+fn measure_sequence(
+    table: &mut Vec<usize>,
+    spaces: Spaces,
+    sequence: &Sequence<'_>,
+) -> Result<usize, AllocError>
+    ensures widths { IfOk result (λ _. stack table.new.items ≡ widths_by spaces (sequence_tree sequence.now) (stack table.old.items)) }
+    ensures width { IfOk result (λ n. n ≡ capped (width spaces (sequence_tree sequence.now))) }
+{
+    let before = s_width(spaces, &sequence.before);
+    match &sequence.items {
+        None => Ok(before),
+        Some(items) => {
+            let items = measure_items(table, spaces, items)?;
+            Ok(items.saturating_add(before))
+        }
+    }
+}
+
+#[cycle(measure)]
+#[tactic(auto, unfolding(crate::specs::code::Widths::width, crate::specs::code::Widths::widths_by))]
+fn measure_standalone(
+    table: &mut Vec<usize>,
+    spaces: Spaces,
+    item: &StandaloneItem<'_>,
+) -> Result<usize, AllocError>
+    ensures widths { IfOk result (λ _. stack table.new.items ≡ widths_by spaces (standalone_tree item.now) (stack table.old.items)) }
+    ensures width { IfOk result (λ n. n ≡ capped (width spaces (standalone_tree item.now))) }
+{
+    let width = measure_item(table, spaces, &item.item)?;
+    let before = s_width(spaces, &item.before);
+    let after = s_width(spaces, &item.after);
+    Ok(width.saturating_add(before).saturating_add(after))
+}
+
+#[cycle(measure)]
+#[tactic(auto, using(crate::proofs::code::Views::view_string_is, crate::proofs::code::Views::view_stream_is), unfolding(crate::specs::code::Widths::width, crate::specs::code::Widths::widths_by))]
+fn measure_item(
+    table: &mut Vec<usize>,
+    spaces: Spaces,
+    item: &Item<'_>,
+) -> Result<usize, AllocError>
+    ensures widths { IfOk result (λ _. stack table.new.items ≡ widths_by spaces (item_tree item.now) (stack table.old.items)) }
+    ensures width { IfOk result (λ n. n ≡ capped (width spaces (item_tree item.now))) }
+{
+    match &item.inner {
+        InnerItem::Number(number, indicator) => {
+            Ok(indicator_len(*indicator).saturating_add(number.as_str().len()))
+        }
+        InnerItem::NonFinite(float, indicator) => {
+            Ok(indicator_len(*indicator).saturating_add(float.as_str().len()))
+        }
+        InnerItem::Named(name) => Ok(name.as_str().len()),
+        InnerItem::Enclosed(label, content) => {
+            let content = measure_standalone(table, spaces, content)?;
+            let width = content
+                .saturating_add(label_len(label.kind))
+                .saturating_add(2);
+            push(table, spaces, width)
+        }
+        InnerItem::Array(list) => {
+            let list = measure_list(table, spaces, list)?;
+            push(table, spaces, list.saturating_add(2))
+        }
+        InnerItem::Map(list) => {
+            let list = measure_pair_list(table, spaces, list)?;
+            push(table, spaces, list.saturating_add(2))
+        }
+        InnerItem::String(string) => {
+            let string = measure_string(table, spaces, string)?;
+            push(table, spaces, string)
+        }
+        InnerItem::Stream(stream) => {
+            let stream = measure_stream(table, spaces, stream)?;
+            push(table, spaces, stream)
+        }
+    }
+}
+
+#[cycle(measure)]
+#[tactic(auto, using(crate::proofs::layout::Widths::width_pieces), unfolding(crate::specs::code::Widths::width, crate::specs::code::Widths::widths_by))]
+fn measure_string(
+    table: &mut Vec<usize>,
+    spaces: Spaces,
+    string: &CborString<'_>,
+) -> Result<usize, AllocError>
+    ensures widths { IfOk result (λ _. table.new.items ≡ table.old.items) }
+    ensures width { IfOk result (λ n. n ≡ capped (width spaces (view_string texts string.now))) }
+{
+    let row = measure_piece_row(table, spaces, &string.row)?;
+    let last = measure_piece(table, spaces, &string.last)?;
+    Ok(row.saturating_add(last))
+}
+
+#[cycle(measure)]
+fn measure_piece_row(
+    table: &mut Vec<usize>,
+    spaces: Spaces,
+    row: &[(Piece<'_>, S<'_>, S<'_>)],
+) -> Result<usize, AllocError>
+    ensures widths { IfOk result (λ _. table.new.items ≡ table.old.items) }
+    ensures width { IfOk result (λ n. n ≡ capped (pieces_width spaces (map (seen_piece texts) row.now))) }
+{
+    let mut width: usize = 0;
+    for at in (0..row.len()).rev() {
+        let (piece, before, after) = &row[at];
+        let piece = measure_piece(table, spaces, piece)?;
+        let before = s_width(spaces.wide(), before);
+        let after = s_width(spaces.wide(), after);
+        let plus = before.saturating_add(after).saturating_add(1);
+        width = width.saturating_add(piece).saturating_add(plus);
+    }
+    Ok(width)
+}
+
+#[cycle(measure)]
+#[tactic(auto, using(crate::proofs::layout::Widths::kept_none), unfolding(crate::specs::code::Widths::width, crate::specs::code::Widths::widths_by))]
+fn measure_piece(
+    table: &mut Vec<usize>,
+    spaces: Spaces,
+    piece: &Piece<'_>,
+) -> Result<usize, AllocError>
+    ensures widths { IfOk result (λ _. table.new.items ≡ table.old.items) }
+    ensures width { IfOk result (λ n. n ≡ capped (width spaces (view_piece texts piece.now))) }
+{
+    match piece {
+        Piece::Literal(literal, indicator) => {
+            Ok(indicator_len(*indicator).saturating_add(literal.as_str().len()))
+        }
+        Piece::Dots(dots) => Ok(dots.as_str().len()),
+        Piece::Embedded(sequence, indicator) => {
+            let sequence = measure_sequence(table, Spaces::Kept, sequence)?;
+            Ok(
+                sequence
+                    .saturating_add(indicator_len(*indicator))
+                    .saturating_add(4),
+            )
+        }
+    }
+}
+
+#[cycle(measure)]
+#[tactic(auto, using(crate::proofs::code::Views::view_stream_is), unfolding(crate::specs::code::Widths::width, crate::specs::code::Widths::widths_by))]
+fn measure_stream(
+    table: &mut Vec<usize>,
+    spaces: Spaces,
+    stream: &Stream<'_>,
+) -> Result<usize, AllocError>
+    ensures widths { IfOk result (λ _. table.new.items ≡ table.old.items) }
+    ensures width { IfOk result (λ n. n ≡ capped (width spaces (view_stream texts stream.now))) }
+{
+    let strings = measure_strings(table, spaces, &stream.strings)?;
+    let space = ms_width(spaces, &stream.ms);
+    Ok(strings.saturating_add(space).saturating_add(3))
+}
+
+#[cycle(measure)]
+#[tactic(auto, using(crate::proofs::code::Views::view_strings_is, crate::proofs::layout::Widths::width_entries), unfolding(crate::specs::code::Widths::width, crate::specs::code::Widths::widths_by))]
+fn measure_strings(
+    table: &mut Vec<usize>,
+    spaces: Spaces,
+    strings: &Strings<'_>,
+) -> Result<usize, AllocError>
+    ensures widths { IfOk result (λ _. table.new.items ≡ table.old.items) }
+    ensures width { IfOk result (λ n. n ≡ capped (width spaces (view_strings texts strings.now))) }
+{
+    let row = measure_string_row(table, spaces, &strings.row)?;
+    let last = measure_string(table, spaces.in_stream(), &strings.last)?;
+    let end = soc_width(spaces, &strings.soc);
+    Ok(row.saturating_add(last).saturating_add(end))
+}
+
+#[cycle(measure)]
+#[tactic(auto, unfolding(crate::specs::code::Widths::width, crate::specs::code::Widths::widths_by))]
+fn measure_string_row(
+    table: &mut Vec<usize>,
+    spaces: Spaces,
+    row: &[(CborString<'_>, Msc<'_>)],
+) -> Result<usize, AllocError>
+    ensures widths { IfOk result (λ _. table.new.items ≡ table.old.items) }
+    ensures width { IfOk result (λ n. n ≡ capped (entries_width spaces (map (seen_string texts) row.now))) }
+{
+    let mut width: usize = 0;
+    for at in (0..row.len()).rev() {
+        let (string, separator) = &row[at];
+        let string = measure_string(table, spaces.in_stream(), string)?;
+        let separator = msc_width(spaces, separator);
+        width = width.saturating_add(string).saturating_add(separator);
+    }
+    Ok(width)
+}
+
+#[cycle(measure)]
+#[tactic(auto, unfolding(crate::specs::code::Widths::width, crate::specs::code::Widths::widths_by))]
+fn measure_list(
+    table: &mut Vec<usize>,
+    spaces: Spaces,
+    list: &ItemList<'_>,
+) -> Result<usize, AllocError>
+    ensures widths { IfOk result (λ _. stack table.new.items ≡ widths_by spaces (view_list texts list.now) (stack table.old.items)) }
+    ensures width { IfOk result (λ n. n ≡ capped (width spaces (view_list texts list.now))) }
+{
+    match list {
+        ItemList::Present { head, s, items } => {
+            let items = measure_items(table, spaces, items)?;
+            let head = head_len(spaces, head);
+            let space = s_width(spaces, s);
+            Ok(items.saturating_add(head).saturating_add(space))
+        }
+        ItemList::Absent { indicator, s } => {
+            Ok(indicator_len(*indicator).saturating_add(s_width(spaces, s)))
+        }
+    }
+}
+
+#[cycle(measure)]
+#[tactic(auto, unfolding(crate::specs::code::Widths::width, crate::specs::code::Widths::widths_by))]
+fn measure_pair_list(
+    table: &mut Vec<usize>,
+    spaces: Spaces,
+    list: &PairList<'_>,
+) -> Result<usize, AllocError>
+    ensures widths { IfOk result (λ _. stack table.new.items ≡ widths_by spaces (view_pair_list texts list.now) (stack table.old.items)) }
+    ensures width { IfOk result (λ n. n ≡ capped (width spaces (view_pair_list texts list.now))) }
+{
+    match list {
+        PairList::Present { head, s, pairs } => {
+            let pairs = measure_pairs(table, spaces, pairs)?;
+            let head = head_len(spaces, head);
+            let space = s_width(spaces, s);
+            Ok(pairs.saturating_add(head).saturating_add(space))
+        }
+        PairList::Absent { indicator, s } => {
+            Ok(indicator_len(*indicator).saturating_add(s_width(spaces, s)))
+        }
+    }
+}
+
+#[cycle(measure)]
+#[tactic(auto, using(crate::proofs::code::Views::view_items_is, crate::proofs::layout::Widths::width_entries, crate::proofs::layout::Widths::by_entries), unfolding(crate::specs::code::Widths::width, crate::specs::code::Widths::widths_by))]
+fn measure_items(
+    table: &mut Vec<usize>,
+    spaces: Spaces,
+    items: &Items<'_>,
+) -> Result<usize, AllocError>
+    ensures widths { IfOk result (λ _. stack table.new.items ≡ widths_by spaces (view_items texts items.now) (stack table.old.items)) }
+    ensures width { IfOk result (λ n. n ≡ capped (width spaces (view_items texts items.now))) }
+{
+    let last = measure_item(table, spaces, &items.last)?;
+    let row = measure_row(table, spaces, &items.row)?;
+    let end = soc_width(spaces, &items.soc);
+    Ok(row.saturating_add(last).saturating_add(end))
+}
+
+#[cycle(measure)]
+#[tactic(auto, unfolding(crate::specs::code::Widths::width, crate::specs::code::Widths::widths_by))]
+fn measure_row(
+    table: &mut Vec<usize>,
+    spaces: Spaces,
+    row: &[(Item<'_>, Msc<'_>)],
+) -> Result<usize, AllocError>
+    ensures widths { IfOk result (λ _. stack table.new.items ≡ entries_widths_by spaces (map (seen texts) row.now) (stack table.old.items)) }
+    ensures width { IfOk result (λ n. n ≡ capped (entries_width spaces (map (seen texts) row.now))) }
+{
+    let mut width: usize = 0;
+    for at in (0..row.len()).rev() {
+        let (item, separator) = &row[at];
+        let item = measure_item(table, spaces, item)?;
+        let separator = msc_width(spaces, separator);
+        width = width.saturating_add(item).saturating_add(separator);
+    }
+    Ok(width)
+}
+
+#[cycle(measure)]
+#[tactic(auto, using(crate::proofs::code::Views::view_pairs_is, crate::proofs::layout::Widths::width_entries, crate::proofs::layout::Widths::by_entries), unfolding(crate::specs::code::Widths::width, crate::specs::code::Widths::widths_by))]
+fn measure_pairs(
+    table: &mut Vec<usize>,
+    spaces: Spaces,
+    pairs: &Pairs<'_>,
+) -> Result<usize, AllocError>
+    ensures widths { IfOk result (λ _. stack table.new.items ≡ widths_by spaces (view_pairs texts pairs.now) (stack table.old.items)) }
+    ensures width { IfOk result (λ n. n ≡ capped (width spaces (view_pairs texts pairs.now))) }
+{
+    let last = measure_pair(table, spaces, &pairs.last)?;
+    let row = measure_pair_row(table, spaces, &pairs.row)?;
+    let end = soc_width(spaces, &pairs.soc);
+    Ok(row.saturating_add(last).saturating_add(end))
+}
+
+#[cycle(measure)]
+fn measure_pair_row(
+    table: &mut Vec<usize>,
+    spaces: Spaces,
+    row: &[(Kp<'_>, Msc<'_>)],
+) -> Result<usize, AllocError>
+    ensures widths { IfOk result (λ _. stack table.new.items ≡ entries_widths_by spaces (map (seen_pair texts) row.now) (stack table.old.items)) }
+    ensures width { IfOk result (λ n. n ≡ capped (entries_width spaces (map (seen_pair texts) row.now))) }
+{
+    let mut width: usize = 0;
+    for at in (0..row.len()).rev() {
+        let (pair, separator) = &row[at];
+        let pair = measure_pair(table, spaces, pair)?;
+        let separator = msc_width(spaces, separator);
+        width = width.saturating_add(pair).saturating_add(separator);
+    }
+    Ok(width)
+}
+
+#[cycle(measure)]
+#[tactic(auto, unfolding(crate::specs::code::Widths::width, crate::specs::code::Widths::widths_by))]
+fn measure_pair(table: &mut Vec<usize>, spaces: Spaces, pair: &Kp<'_>) -> Result<usize, AllocError>
+    ensures widths { IfOk result (λ _. stack table.new.items ≡ widths_by spaces (view_pair texts pair.now) (stack table.old.items)) }
+    ensures width { IfOk result (λ n. n ≡ capped (width spaces (view_pair texts pair.now))) }
+{
+    let value = measure_item(table, spaces, &pair.value)?;
+    let key = measure_item(table, spaces, &pair.key)?;
+    let before = s_width(spaces, &pair.before_colon);
+    let after = s_width(spaces.wide(), &pair.after_colon);
+    let colon = before.saturating_add(after).saturating_add(1);
+    Ok(key.saturating_add(value).saturating_add(colon))
+}
