@@ -1,13 +1,16 @@
 //! How wide items are on a single line, measured bottom up before any space is changed.
+//!
+//! The widths come on a stack, so the walk goes from the last item to the first: the first one's width ends on top, and an
+//! item's in front of those of the items in it.
 ghost use Rattle.std.specs.Fmt.{decimal};
-ghost use Rattle.std.specs.Prelude.{◌≡◌, length, map, IfOk};
+ghost use Rattle.std.specs.Prelude.{◌≡◌, [], length, map, IfOk};
 ghost use Rattle.cbor_edn_parts.specs.Indicator.{indicator_text};
 ghost use Rattle.cbor_edn_parts.specs.Leaves.{s_bytes, ms_bytes, msc_bytes, soc_bytes};
 ghost use Rattle.cbor_edn_parts.specs.Spacing as kind;
 ghost use Rattle.cbor_edn_core.specs.Trees.{label_text};
 ghost use Rattle.cbor_edn_core.specs.View.{texts, view_list_head, view_list, view_items, seen, view_pair_list, view_pairs, view_pair, seen_pair, view_string, view_piece, seen_piece, view_stream, view_strings, seen_string, item_tree, standalone_tree, sequence_tree};
 ghost use Rattle.cbor_edn_core.specs.code.Widths as widths;
-ghost use Rattle.cbor_edn_core.specs.code.Widths.{space_width, head_width, width, capped, entries_width, pieces_width, pushed, widths_by, entries_widths_by, stack};
+ghost use Rattle.cbor_edn_core.specs.code.Widths.{space_width, head_width, width, capped, entries_width, pieces_width, pushed, widths_onto, widths_by, entries_widths_by, stack};
 
 use crate::tree::{
     CborString, Indicator, InnerItem, Item, ItemList, Items, Kp, LabelKind, PairList, Pairs, Piece,
@@ -15,11 +18,48 @@ use crate::tree::{
 };
 use cbor_edn_parts::policy::Spacing;
 use cbor_edn_parts::space::{Ms, Msc, S, Soc};
-use std::alloc::AllocError;
+use std::alloc::{AllocError, Global};
+
+/// The widths on a single line of an item and of those in it, where they have a test of their own. Fails where memory runs
+/// out.
+#[tactic(auto, using(crate::proofs::layout::Widths::line_widths))]
+pub(super) fn item_widths(alloc: Global, item: &Item<'_>) -> Result<Vec<usize>, AllocError>
+    ensures { IfOk result (λ table. stack table.items ≡ widths_onto (item_tree item.now) []) }
+{
+    let mut table = Vec::new(alloc);
+    measure_item(&mut table, Spaces::By(Spacing::OneLine), item)?;
+    Ok(table)
+}
+
+/// The same of an item with the spaces round it.
+#[tactic(auto, using(crate::proofs::layout::Widths::line_widths))]
+pub(super) fn standalone_widths(
+    alloc: Global,
+    item: &StandaloneItem<'_>,
+) -> Result<Vec<usize>, AllocError>
+    ensures { IfOk result (λ table. stack table.items ≡ widths_onto (standalone_tree item.now) []) }
+{
+    let mut table = Vec::new(alloc);
+    measure_standalone(&mut table, Spaces::By(Spacing::OneLine), item)?;
+    Ok(table)
+}
+
+/// The same of the items of a sequence.
+#[tactic(auto, using(crate::proofs::layout::Widths::line_widths))]
+pub(super) fn sequence_widths(
+    alloc: Global,
+    sequence: &Sequence<'_>,
+) -> Result<Vec<usize>, AllocError>
+    ensures { IfOk result (λ table. stack table.items ≡ widths_onto (sequence_tree sequence.now) []) }
+{
+    let mut table = Vec::new(alloc);
+    measure_sequence(&mut table, Spaces::By(Spacing::OneLine), sequence)?;
+    Ok(table)
+}
 
 /// Which spaces a width counts.
 #[derive(Clone, Copy)]
-pub(super) enum Spaces {
+enum Spaces {
     /// Those that stand there.
     Kept,
     /// Those by a column of the table.
@@ -48,7 +88,7 @@ impl Spaces {
     }
 }
 
-fn s_width(spaces: Spaces, space: &S<'_>) -> usize
+fn s_len(spaces: Spaces, space: &S<'_>) -> usize
     ensures { result ≡ capped (space_width kind.S spaces (s_bytes space.now)) }
 {
     match spaces {
@@ -57,7 +97,7 @@ fn s_width(spaces: Spaces, space: &S<'_>) -> usize
     }
 }
 
-fn ms_width(spaces: Spaces, space: &Ms<'_>) -> usize
+fn ms_len(spaces: Spaces, space: &Ms<'_>) -> usize
     ensures { result ≡ capped (space_width kind.MS spaces (ms_bytes space.now)) }
 {
     match spaces {
@@ -66,7 +106,7 @@ fn ms_width(spaces: Spaces, space: &Ms<'_>) -> usize
     }
 }
 
-fn msc_width(spaces: Spaces, space: &Msc<'_>) -> usize
+fn msc_len(spaces: Spaces, space: &Msc<'_>) -> usize
     ensures { result ≡ capped (space_width kind.MSC spaces (msc_bytes space.now)) }
 {
     match spaces {
@@ -75,7 +115,7 @@ fn msc_width(spaces: Spaces, space: &Msc<'_>) -> usize
     }
 }
 
-fn soc_width(spaces: Spaces, space: &Soc<'_>) -> usize
+fn soc_len(spaces: Spaces, space: &Soc<'_>) -> usize
     ensures { result ≡ capped (space_width kind.SOC spaces (soc_bytes space.now)) }
 {
     match spaces {
@@ -90,7 +130,7 @@ fn head_len(spaces: Spaces, head: &Option<(Indicator, Ms<'_>)>) -> usize
     match head {
         None => 0,
         Some((indicator, space)) => {
-            ms_width(spaces, space).saturating_add(indicator.as_str().len())
+            ms_len(spaces, space).saturating_add(indicator.as_str().len())
         }
     }
 }
@@ -149,7 +189,7 @@ fn measure_sequence(
     ensures widths { IfOk result (λ _. stack table.new.items ≡ widths_by spaces (sequence_tree sequence.now) (stack table.old.items)) }
     ensures width { IfOk result (λ n. n ≡ capped (width spaces (sequence_tree sequence.now))) }
 {
-    let before = s_width(spaces, &sequence.before);
+    let before = s_len(spaces, &sequence.before);
     match &sequence.items {
         None => Ok(before),
         Some(items) => {
@@ -170,8 +210,8 @@ fn measure_standalone(
     ensures width { IfOk result (λ n. n ≡ capped (width spaces (standalone_tree item.now))) }
 {
     let width = measure_item(table, spaces, &item.item)?;
-    let before = s_width(spaces, &item.before);
-    let after = s_width(spaces, &item.after);
+    let before = s_len(spaces, &item.before);
+    let after = s_len(spaces, &item.after);
     Ok(width.saturating_add(before).saturating_add(after))
 }
 
@@ -247,8 +287,8 @@ fn measure_piece_row(
     for at in (0..row.len()).rev() {
         let (piece, before, after) = &row[at];
         let piece = measure_piece(table, spaces, piece)?;
-        let before = s_width(spaces.wide(), before);
-        let after = s_width(spaces.wide(), after);
+        let before = s_len(spaces.wide(), before);
+        let after = s_len(spaces.wide(), after);
         let plus = before.saturating_add(after).saturating_add(1);
         width = width.saturating_add(piece).saturating_add(plus);
     }
@@ -292,7 +332,7 @@ fn measure_stream(
     ensures width { IfOk result (λ n. n ≡ capped (width spaces (view_stream texts stream.now))) }
 {
     let strings = measure_strings(table, spaces, &stream.strings)?;
-    let space = ms_width(spaces, &stream.ms);
+    let space = ms_len(spaces, &stream.ms);
     Ok(strings.saturating_add(space).saturating_add(3))
 }
 
@@ -308,7 +348,7 @@ fn measure_strings(
 {
     let row = measure_string_row(table, spaces, &strings.row)?;
     let last = measure_string(table, spaces.in_stream(), &strings.last)?;
-    let end = soc_width(spaces, &strings.soc);
+    let end = soc_len(spaces, &strings.soc);
     Ok(row.saturating_add(last).saturating_add(end))
 }
 
@@ -326,7 +366,7 @@ fn measure_string_row(
     for at in (0..row.len()).rev() {
         let (string, separator) = &row[at];
         let string = measure_string(table, spaces.in_stream(), string)?;
-        let separator = msc_width(spaces, separator);
+        let separator = msc_len(spaces, separator);
         width = width.saturating_add(string).saturating_add(separator);
     }
     Ok(width)
@@ -346,11 +386,11 @@ fn measure_list(
         ItemList::Present { head, s, items } => {
             let items = measure_items(table, spaces, items)?;
             let head = head_len(spaces, head);
-            let space = s_width(spaces, s);
+            let space = s_len(spaces, s);
             Ok(items.saturating_add(head).saturating_add(space))
         }
         ItemList::Absent { indicator, s } => {
-            Ok(indicator_len(*indicator).saturating_add(s_width(spaces, s)))
+            Ok(indicator_len(*indicator).saturating_add(s_len(spaces, s)))
         }
     }
 }
@@ -369,11 +409,11 @@ fn measure_pair_list(
         PairList::Present { head, s, pairs } => {
             let pairs = measure_pairs(table, spaces, pairs)?;
             let head = head_len(spaces, head);
-            let space = s_width(spaces, s);
+            let space = s_len(spaces, s);
             Ok(pairs.saturating_add(head).saturating_add(space))
         }
         PairList::Absent { indicator, s } => {
-            Ok(indicator_len(*indicator).saturating_add(s_width(spaces, s)))
+            Ok(indicator_len(*indicator).saturating_add(s_len(spaces, s)))
         }
     }
 }
@@ -390,7 +430,7 @@ fn measure_items(
 {
     let last = measure_item(table, spaces, &items.last)?;
     let row = measure_row(table, spaces, &items.row)?;
-    let end = soc_width(spaces, &items.soc);
+    let end = soc_len(spaces, &items.soc);
     Ok(row.saturating_add(last).saturating_add(end))
 }
 
@@ -408,7 +448,7 @@ fn measure_row(
     for at in (0..row.len()).rev() {
         let (item, separator) = &row[at];
         let item = measure_item(table, spaces, item)?;
-        let separator = msc_width(spaces, separator);
+        let separator = msc_len(spaces, separator);
         width = width.saturating_add(item).saturating_add(separator);
     }
     Ok(width)
@@ -426,7 +466,7 @@ fn measure_pairs(
 {
     let last = measure_pair(table, spaces, &pairs.last)?;
     let row = measure_pair_row(table, spaces, &pairs.row)?;
-    let end = soc_width(spaces, &pairs.soc);
+    let end = soc_len(spaces, &pairs.soc);
     Ok(row.saturating_add(last).saturating_add(end))
 }
 
@@ -443,7 +483,7 @@ fn measure_pair_row(
     for at in (0..row.len()).rev() {
         let (pair, separator) = &row[at];
         let pair = measure_pair(table, spaces, pair)?;
-        let separator = msc_width(spaces, separator);
+        let separator = msc_len(spaces, separator);
         width = width.saturating_add(pair).saturating_add(separator);
     }
     Ok(width)
@@ -457,8 +497,8 @@ fn measure_pair(table: &mut Vec<usize>, spaces: Spaces, pair: &Kp<'_>) -> Result
 {
     let value = measure_item(table, spaces, &pair.value)?;
     let key = measure_item(table, spaces, &pair.key)?;
-    let before = s_width(spaces, &pair.before_colon);
-    let after = s_width(spaces.wide(), &pair.after_colon);
+    let before = s_len(spaces, &pair.before_colon);
+    let after = s_len(spaces.wide(), &pair.after_colon);
     let colon = before.saturating_add(after).saturating_add(1);
     Ok(key.saturating_add(value).saturating_add(colon))
 }
