@@ -3,7 +3,7 @@ use Rattle.std.proofs.Common.{ℕ, ◌+◌, ◌-◌, ◌^◌, ◌≡◌, List, [
 use Rattle.std.specs.Prelude.{min, nat_lt}
 use Rattle.std.proofs.lemmas.List.{reverse-append, reverse-reverse}
 use Rattle.cbor_edn_parts.specs.Indicator.{indicator_text}
-use Rattle.cbor_edn_parts.specs.Spacing.{SpaceKind, S, MS, MSC, SOC, spaced}
+use Rattle.cbor_edn_parts.specs.Spacing.{SpaceKind, S, MS, MSC, SOC}
 use Rattle.cbor_edn_parts.specs.declared.policy.Spacing.{Spacing}
 use Rattle.cbor_edn_parts.specs.declared.policy.Spacing.TheVariants.{Least, Comments, OneLine, NewLine, OneSpace}
 use Rattle.cbor_edn_core.specs.declared.policy.measure.Spaces.{Spaces}
@@ -12,8 +12,8 @@ use Rattle.cbor_edn_core.specs.Items.{Row}
 use Rattle.cbor_edn_core.specs.Spelling.{ending}
 use Rattle.cbor_edn_core.specs.Trees.{Rule, OneItem, OnePiece, OneString, OneEntry, Rest, ListHead, Unmarked, Marked, Tree, NumberTree, FloatTree, NamedTree, EnclosedTree, ListTree, StringTree, StreamTree, LiteralTree, DotsTree, EmbeddedTree, LastPieceTree, PlusTree, ElementTree, PairTree, ChunkTree, EmptyTree, FullTree, LastTree, MoreTree, NothingTree, SequenceTree, StandaloneTree, list_head_text, onto, text}
 use Rattle.cbor_edn_core.specs.View.{entries_onto, pieces_onto}
-use Rattle.cbor_edn_core.specs.Layout.{Inline, First, Between, Last, BeforePlus, AfterPlus, AfterColon, Elsewhere, spacing, respaced, in_chunk, saturating_add, laid_list_head, laid}
-use Rattle.cbor_edn_core.specs.code.Widths.{space_width, wide, in_stream, head_width, width, capped, measured, entries_width, pieces_width, widths_onto, pushed, widths_by, entries_widths_by, stack}
+use Rattle.cbor_edn_core.specs.Layout.{Inline, First, Between, Last, BeforePlus, AfterPlus, AfterColon, Elsewhere, respaced, in_chunk, saturating_add, laid_list_head, laid}
+use Rattle.cbor_edn_core.specs.code.Widths.{space_width, wide, in_stream, head_width, width, measured, entries_width, pieces_width, widths_onto, widths_by, entries_widths_by, stack}
 
 -- A space text of a single column, at any place but round a plus sign and behind a colon.
 at_place : (kind : SpaceKind) (c : Spacing) (x : List ℕ) → (length (respaced kind First (Inline c) x) ≡ space_width kind (By c) x) × (length (respaced kind Between (Inline c) x) ≡ space_width kind (By c) x) × (length (respaced kind Last (Inline c) x) ≡ space_width kind (By c) x) × (length (respaced kind Elsewhere (Inline c) x) ≡ space_width kind (By c) x)

@@ -1,4 +1,4 @@
-use Rattle.std.proofs.Common.{◌≡◌, ◌∙◌}
+use Rattle.std.proofs.Common.{◌∙◌}
 use Rattle.cbor_edn_core.proofs.layout.Widths.{kept_none, stack_same}
 use Rattle.cbor_edn_core.proofs.policy.measure.+measure.Goals as goal
 
