@@ -6,6 +6,7 @@ pub mod CommentedItems
 pub mod Countings
 pub mod Fewer
 pub mod LayoutExamples
+pub mod Laying
 pub mod LayoutRows
 pub mod Layouts
 pub mod Policies

@@ -5,15 +5,13 @@ use Rattle.cbor_edn_parts.specs.declared.policy.DelimiterPolicy.{DelimiterPolicy
 use Rattle.cbor_edn_parts.specs.declared.policy.DelimiterPolicy.TheVariants.{DiscardAll, DiscardAllButComments, SingleLineRegularSpacing, IndentedRegularSpacing, SingleSpace}
 use Rattle.cbor_edn_parts.specs.declared.policy.Spacing.{Spacing}
 use Rattle.cbor_edn_parts.specs.declared.policy.Spacing.TheVariants.{Least, Comments, OneLine, NewLine, OneSpace}
+-- How the spaces of a part of a tree are changed, and the places of space texts: enums of `src/policy/layout.rt`. The numbers of `Lines`
+-- are `base`, `end`, `level` and `width`.
+pub use Rattle.cbor_edn_core.specs.declared.policy.layout.Layout.{Layout}
+pub use Rattle.cbor_edn_core.specs.declared.policy.layout.Layout.TheVariants.{Inline, Lines}
+pub use Rattle.cbor_edn_core.specs.declared.policy.layout.Place.{Place}
+pub use Rattle.cbor_edn_core.specs.declared.policy.layout.Place.TheVariants.{First, Between, Last, BeforePlus, AfterPlus, AfterColon, Elsewhere}
 use Rattle.cbor_edn_core.specs.Trees.{Rule, OneItem, Tree, ListHead, Unmarked, Marked, NumberTree, FloatTree, NamedTree, EnclosedTree, ListTree, StringTree, StreamTree, LiteralTree, DotsTree, EmbeddedTree, LastPieceTree, PlusTree, ElementTree, PairTree, ChunkTree, EmptyTree, FullTree, LastTree, MoreTree, NothingTree, SequenceTree, StandaloneTree, text}
-
--- How the spaces of a part of a tree are changed.
-pub data Layout : Type 0 where
-  -- on a single line, or without regard to lines: one column of the table for all
-  Inline : Spacing → Layout
-  -- On lines of their own: a line begins with `base` spaces, the one behind the last entry with `end` spaces, and an item in it whose
-  -- single line is too long for `width` has lines that begin with `level` more spaces than `base`.
-  Lines : (base end level width : ℕ) → Layout
 
 abbrev pub layout : DelimiterPolicy → Layout
 layout DiscardAll = Inline Least
@@ -21,21 +19,6 @@ layout DiscardAllButComments = Inline Comments
 layout SingleLineRegularSpacing = Inline OneLine
 layout (IndentedRegularSpacing base level width) = Lines base base level width
 layout SingleSpace = Inline OneSpace
-
--- The places of space texts.
-pub data Place : Type 0 where
-  -- in front of the first entry of a list, and behind `(_` in front of the first string
-  First : Place
-  -- behind an entry, in front of the next
-  Between : Place
-  -- behind the last entry
-  Last : Place
-  BeforePlus : Place
-  AfterPlus : Place
-  AfterColon : Place
-  -- before a colon, behind the indicator of a list that has entries, in a list that has none, round an item that stands alone or
-  -- between parentheses, and in front of a sequence
-  Elsewhere : Place
 
 -- The column of the table for a place. Lines begin with the entries of a list or a stream, behind the last of them, and with a plus sign;
 -- elsewhere comments alone stay. On a single line a space stands behind a colon and on both sides of a plus sign.

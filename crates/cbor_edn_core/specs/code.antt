@@ -2,6 +2,7 @@
 pub mod CborReading
 pub mod Encoding
 pub mod RowBuilder
+pub mod Laying
 pub mod LayoutRows
 pub mod LookCosts
 pub mod Lookahead

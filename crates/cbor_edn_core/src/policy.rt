@@ -4,7 +4,9 @@ ghost use Rattle.cbor_edn_core.specs.Commented.{commented};
 ghost use Rattle.cbor_edn_core.specs.Decoded.{alone};
 ghost use Rattle.cbor_edn_core.specs.View.{item_tree, standalone_tree};
 
+mod layout;
 mod measure;
+mod spaces;
 
 use crate::tree::{Item, StandaloneItem};
 use cbor_edn_parts::space::S;
