@@ -14,6 +14,7 @@ ghost use Rattle.cbor_edn_core.specs.View.{texts, view_list_head};
 ghost use Rattle.cbor_edn_parts.specs.declared.error.ParseErrorKind.TheVariants.{Invalid};
 
 use crate::word::{NamedSimple, NonFinite, Word};
+use cbor_edn_parts::bytes::Kind;
 use cbor_edn_parts::error::{Fault, ParseErrorKind, Refusal};
 use cbor_edn_parts::indicator::Indicator;
 use cbor_edn_parts::looks::Looks;
@@ -223,11 +224,10 @@ pub(crate) fn closes(text: &Text<'_>, at: usize, looks: &mut Looks) -> bool
     }
 }
 
-#[tactic(auto, unfolding(cbor_edn_parts::specs::Bytes::kind))]
 fn is_closing(byte: u8) -> bool
     ensures { result ≡ closing (kind byte) }
 {
-    matches!(byte, b']' | b'}' | b')' | b'>')
+    matches!(Kind::of(byte), Kind::Close)
 }
 
 /// Refuses what stands behind a place.
