@@ -8,3 +8,4 @@ pub use cbor_edn_core::from_cbor::CborError;
 pub use cbor_edn_core::tree::{Item, NESTING_LIMIT, Sequence, StandaloneItem};
 pub use cbor_edn_parts::error::{Fault, InconsistentEdn, ParseError};
 pub use cbor_edn_parts::looks::Looks;
+pub use cbor_edn_parts::policy::DelimiterPolicy;

@@ -18,4 +18,5 @@ pub mod TagDigits
 pub mod Texts
 pub mod Turns
 pub mod Views
+pub mod Written
 pub mod Digits

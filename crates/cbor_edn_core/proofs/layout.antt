@@ -2,9 +2,12 @@
 pub mod BareExamples
 pub mod BareItems
 pub mod BareParts
+pub mod Begun
 pub mod CommentedItems
 pub mod Countings
 pub mod Fewer
+pub mod LaidStrings
+pub mod LaidViews
 pub mod LayoutExamples
 pub mod Laying
 pub mod LayoutRows

@@ -1,18 +1,45 @@
-//! Comments in front of items.
-ghost use Rattle.std.specs.Prelude.{◌≡◌, IfOk, IfErr, OnOk};
+//! Delimiter policies, and comments in front of items.
+ghost use Rattle.std.specs.Prelude.{◌≡◌, IfOk, IfErr, IsOk, OnOk};
+ghost use Rattle.cbor_edn_parts.specs.declared.policy.DelimiterPolicy.TheVariants as policies;
 ghost use Rattle.cbor_edn_core.specs.Commented.{commented};
 ghost use Rattle.cbor_edn_core.specs.Decoded.{alone};
-ghost use Rattle.cbor_edn_core.specs.View.{item_tree, standalone_tree};
+ghost use Rattle.cbor_edn_core.specs.Layout.{laid_out};
+ghost use Rattle.cbor_edn_core.specs.Trees.{items};
+ghost use Rattle.cbor_edn_core.specs.View.{item_tree, standalone_tree, sequence_tree};
+ghost use Rattle.cbor_edn_core.specs.code.Laying.{Ready, least};
+ghost use Rattle.cbor_edn_core.specs.code.Widths.{stack};
 
+mod lay;
 mod layout;
 mod measure;
 mod spaces;
+mod strings;
 
-use crate::tree::{Item, StandaloneItem};
+use self::lay::{lay_item, lay_sequence, lay_standalone};
+use self::layout::Layout;
+use self::measure::{item_widths, sequence_widths, standalone_widths};
+use crate::tree::{Item, Sequence, StandaloneItem};
+use cbor_edn_parts::policy::DelimiterPolicy;
 use cbor_edn_parts::space::S;
 use std::alloc::{AllocError, Global};
 
 impl<'a> Item<'a> {
+    /// Gives the item the spaces of a policy, as the same call of a `StandaloneItem` does.
+    #[tactic(auto, using(crate::proofs::layout::Laying::laid_ready))]
+    pub fn set_delimiters(
+        &mut self,
+        alloc: Global,
+        policy: DelimiterPolicy,
+    ) -> Result<(), AllocError>
+        ensures laid { OnOk result (item_tree self.new ≡ laid_out policy (item_tree self.old)) }
+        ensures items { items (item_tree self.new) ≡ items (item_tree self.old) }
+        ensures discarded { policy ≡ policies.DiscardAll → IsOk result }
+    {
+        let layout = Layout::of(policy);
+        let mut table = item_table(alloc, layout, self)?;
+        lay_item(self, alloc, layout, &mut table)
+    }
+
     /// The item with a comment in front of it. Fails where memory runs out; the item is dropped then.
     pub fn with_comment(
         self,
@@ -26,6 +53,24 @@ impl<'a> Item<'a> {
 }
 
 impl<'a> StandaloneItem<'a> {
+    /// Gives the item the spaces of a policy: each space text is a column of the policy's table, cut from the text that
+    /// stood there, and what stands in embedded sequences stays. Fails where memory runs out: the items are the same then,
+    /// and some spaces may be those of the policy already. `DiscardAll` takes no memory.
+    #[tactic(auto, using(crate::proofs::layout::Laying::laid_ready))]
+    pub fn set_delimiters(
+        &mut self,
+        alloc: Global,
+        policy: DelimiterPolicy,
+    ) -> Result<(), AllocError>
+        ensures laid { OnOk result (standalone_tree self.new ≡ laid_out policy (standalone_tree self.old)) }
+        ensures items { items (standalone_tree self.new) ≡ items (standalone_tree self.old) }
+        ensures discarded { policy ≡ policies.DiscardAll → IsOk result }
+    {
+        let layout = Layout::of(policy);
+        let mut table = standalone_table(alloc, layout, self)?;
+        lay_standalone(self, alloc, layout, &mut table)
+    }
+
     /// The item with a comment in place of all space in front of it: `/ comment /`, or lines behind `#` where the comment
     /// has a slash itself. Control characters but tabs and line ends become spaces. Fails where memory runs out; the item
     /// is dropped then.
@@ -47,5 +92,65 @@ impl<'a> StandaloneItem<'a> {
     {
         self.before = S::note(alloc, comment)?;
         Ok(())
+    }
+}
+
+impl<'a> Sequence<'a> {
+    /// Gives the items of the sequence the spaces of a policy, as the same call of a `StandaloneItem` does; under the
+    /// indented policy each of them begins a line.
+    #[tactic(auto, using(crate::proofs::layout::Laying::laid_ready))]
+    pub fn set_delimiters(
+        &mut self,
+        alloc: Global,
+        policy: DelimiterPolicy,
+    ) -> Result<(), AllocError>
+        ensures laid { OnOk result (sequence_tree self.new ≡ laid_out policy (sequence_tree self.old)) }
+        ensures items { items (sequence_tree self.new) ≡ items (sequence_tree self.old) }
+        ensures discarded { policy ≡ policies.DiscardAll → IsOk result }
+    {
+        let layout = Layout::of(policy);
+        let mut table = sequence_table(alloc, layout, self)?;
+        lay_sequence(self, alloc, layout, &mut table)
+    }
+}
+
+/// The widths that a layout asks for: those of the whole item where it has lines, else none.
+fn item_table(alloc: Global, layout: Layout, item: &Item<'_>) -> Result<Vec<usize>, AllocError>
+    ensures ready { IfOk result (λ table. Ready layout (item_tree item.now) (stack table.items)) }
+    ensures least { layout ≡ least → IsOk result }
+{
+    match layout {
+        Layout::Inline(_) => Ok(Vec::new(alloc)),
+        Layout::Lines { .. } => item_widths(alloc, item),
+    }
+}
+
+/// The same of an item with the spaces round it.
+fn standalone_table(
+    alloc: Global,
+    layout: Layout,
+    item: &StandaloneItem<'_>,
+) -> Result<Vec<usize>, AllocError>
+    ensures ready { IfOk result (λ table. Ready layout (standalone_tree item.now) (stack table.items)) }
+    ensures least { layout ≡ least → IsOk result }
+{
+    match layout {
+        Layout::Inline(_) => Ok(Vec::new(alloc)),
+        Layout::Lines { .. } => standalone_widths(alloc, item),
+    }
+}
+
+/// The same of the items of a sequence.
+fn sequence_table(
+    alloc: Global,
+    layout: Layout,
+    sequence: &Sequence<'_>,
+) -> Result<Vec<usize>, AllocError>
+    ensures ready { IfOk result (λ table. Ready layout (sequence_tree sequence.now) (stack table.items)) }
+    ensures least { layout ≡ least → IsOk result }
+{
+    match layout {
+        Layout::Inline(_) => Ok(Vec::new(alloc)),
+        Layout::Lines { .. } => sequence_widths(alloc, sequence),
     }
 }

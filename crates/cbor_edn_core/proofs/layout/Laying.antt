@@ -11,7 +11,7 @@ use Rattle.cbor_edn_core.specs.Trees.{Rule, OneItem, OnePiece, OneString, OneEnt
 use Rattle.cbor_edn_core.specs.View.{entries_onto, pieces_onto}
 use Rattle.cbor_edn_core.specs.Layout.{Layout, Inline, Lines, First, Between, Last, AfterColon, Elsewhere, respaced, saturating_add, fitted, in_chunk, laid_list_head, laid}
 use Rattle.cbor_edn_core.specs.code.Widths.{measured, widths_onto}
-use Rattle.cbor_edn_core.specs.code.Laying.{top, others, of_parts, without, laid_by, entries_without, entries_by}
+use Rattle.cbor_edn_core.specs.code.Laying.{top, others, of_parts, Ready, without, laid_by, entries_without, entries_by}
 use Rattle.cbor_edn_core.specs.code.LayoutRows.{laid_entry, entry_items, laid_piece, piece_items}
 use Rattle.cbor_edn_core.proofs.layout.LayoutRows.{laid_entries, laid_pieces, same_entries, same_pieces}
 use Rattle.cbor_edn_core.proofs.layout.Widths.{test_is}
@@ -125,45 +125,10 @@ unfolding without
 row_without [] m t = refl
 row_without (p ∷ ps) m t = row_without ps m (without p.0 t)
 
--- ---- rows that are laid out in place, entry by entry
-
-from_here : {A : Type 0} (xs os : List A) (i : ℕ) (d : A) → i < length xs → drop i xs ≡ drop i os → drop i os ≡ get_or xs i d ∷ drop (i + 1) os
-from_here xs os i d h same = sym same ∙ drop_more xs i d h ∙ ap (λ a. get_or xs i d ∷ a) (drop_more_same xs os i same)
-
-module _ {A E : Type 0} (f : A → E) where
-  done_one : (xs : List A) (i : ℕ) (y : A) → i < length xs → map f (take (i + 1) (set xs i y)) ≡ map f (take i xs) ++ (f y ∷ [])
-  done_one xs i y h = ap (map f) (take_more_set xs i y h) ∙ map-append f (take i xs) (y ∷ [])
-
-  -- one more entry of a row that is changed entry by entry
-  pub one_more : (g : E → E) (xs os : List A) (i : ℕ) (y d : A) (whole : List E) → i < length xs → f y ≡ g (f (get_or xs i d)) → drop i xs ≡ drop i os
-      → map f (take i xs) ++ map g (map f (drop i os)) ≡ whole
-      → map f (take (i + 1) (set xs i y)) ++ map g (map f (drop (i + 1) os)) ≡ whole
-  one_more g xs os i y d whole h e same is =
-      ap (λ a. a ++ map g (map f (drop (i + 1) os))) (done_one xs i y h)
-      ∙ append_assoc (map f (take i xs)) (f y ∷ []) (map g (map f (drop (i + 1) os)))
-      ∙ ap (λ a. map f (take i xs) ++ (a ∷ map g (map f (drop (i + 1) os)))) e
-      ∙ ap (λ a. map f (take i xs) ++ map g (map f a)) (sym (from_here xs os i d h same))
-      ∙ is
-
-module _ {A : Type 0} where
-  -- entries that are laid out by a table
-  pub one_more_by : {k : Row} (g : A → Tree (OneEntry k) × List ℕ) (l : Layout) (xs os : List A) (i : ℕ) (y d : A) (t u : List ℕ) (whole : List (Tree (OneEntry k) × List ℕ)) → i < length xs
-      → g y ≡ (laid_by l (g (get_or xs i d)).0 t, respaced MSC Between l (g (get_or xs i d)).1) → u ≡ without (g (get_or xs i d)).0 t → drop i xs ≡ drop i os
-      → map g (take i xs) ++ entries_by l (map g (drop i os)) t ≡ whole
-      → map g (take (i + 1) (set xs i y)) ++ entries_by l (map g (drop (i + 1) os)) u ≡ whole
-  one_more_by g l xs os i y d t u whole h e rest same is =
-      ap (λ a. a ++ entries_by l (map g (drop (i + 1) os)) u) (ap (map g) (take_more_set xs i y h) ∙ map-append g (take i xs) (y ∷ []))
-      ∙ append_assoc (map g (take i xs)) (g y ∷ []) (entries_by l (map g (drop (i + 1) os)) u)
-      ∙ ap (λ a. map g (take i xs) ++ (a ∷ entries_by l (map g (drop (i + 1) os)) u)) e
-      ∙ ap (λ a. map g (take i xs) ++ ((laid_by l (g (get_or xs i d)).0 t, respaced MSC Between l (g (get_or xs i d)).1) ∷ entries_by l (map g (drop (i + 1) os)) a)) rest
-      ∙ ap (λ a. map g (take i xs) ++ entries_by l (map g a) t) (sym (from_here xs os i d h same))
-      ∙ is
-
-  pub one_less : {k : Row} (g : A → Tree (OneEntry k) × List ℕ) (xs os : List A) (i : ℕ) (d : A) (t u whole : List ℕ) → i < length xs
-      → u ≡ without (g (get_or xs i d)).0 t → drop i xs ≡ drop i os
-      → entries_without (map g (drop i os)) t ≡ whole → entries_without (map g (drop (i + 1) os)) u ≡ whole
-  one_less g xs os i d t u whole h rest same is =
-      ap (entries_without (map g (drop (i + 1) os))) rest ∙ ap (λ a. entries_without (map g a) t) (sym (from_here xs os i d h same)) ∙ is
+-- by the table that the layout asks for
+pub laid_ready : {s : Rule} (l : Layout) (w : Tree s) (t : List ℕ) → Ready l w t → laid_by l w t ≡ laid l w
+laid_ready (Inline c) w t r = laid_inline c w t
+laid_ready (Lines base end level width) w t r = ap (laid_by (Lines base end level width) w) r ∙ laid_measured (Lines base end level width) w []
 
 -- ---- what is made of parts that are laid out
 

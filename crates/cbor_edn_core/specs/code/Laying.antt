@@ -1,10 +1,11 @@
 -- A tree laid out with a table of widths that were measured before.
-use Rattle.std.specs.Prelude.{ℕ, nat_lt, if◌then◌else◌, List, [], ◌∷◌}
+use Rattle.std.specs.Prelude.{ℕ, nat_lt, if◌then◌else◌, List, [], ◌∷◌, ◌≡◌}
 use Rattle.cbor_edn_parts.specs.Spacing.{S, MS, MSC, SOC}
 use Rattle.cbor_edn_parts.specs.declared.policy.Spacing.TheVariants.{Least, OneLine}
 use Rattle.cbor_edn_core.specs.Items.{Row, Bracketed}
-use Rattle.cbor_edn_core.specs.Trees.{Rule, OneEntry, Inside, Tree, NumberTree, FloatTree, NamedTree, EnclosedTree, ListTree, StringTree, StreamTree, LiteralTree, DotsTree, EmbeddedTree, LastPieceTree, PlusTree, ElementTree, PairTree, ChunkTree, EmptyTree, FullTree, LastTree, MoreTree, NothingTree, SequenceTree, StandaloneTree}
+use Rattle.cbor_edn_core.specs.Trees.{Rule, OneItem, OneEntry, Inside, Tree, NumberTree, FloatTree, NamedTree, EnclosedTree, ListTree, StringTree, StreamTree, LiteralTree, DotsTree, EmbeddedTree, LastPieceTree, PlusTree, ElementTree, PairTree, ChunkTree, EmptyTree, FullTree, LastTree, MoreTree, NothingTree, SequenceTree, StandaloneTree}
 use Rattle.cbor_edn_core.specs.Layout.{Layout, Inline, Lines, First, Between, Last, AfterColon, Elsewhere, respaced, saturating_add, laid_list_head, laid}
+use Rattle.cbor_edn_core.specs.code.Widths.{widths_onto}
 
 -- the first width of a table, and the others
 abbrev pub top : List ℕ → ℕ
@@ -31,6 +32,16 @@ of_parts (Lines base end level width) n =
 abbrev pub opened : {k : Bracketed} → Layout → Tree (Inside k) → Tree (Inside k)
 opened l (EmptyTree i a) = EmptyTree i (respaced S Elsewhere l a)
 opened l (FullTree h a m) = FullTree (laid_list_head l h) (respaced S First l a) m
+
+-- A stream with other spaces, by the layout of its parts.
+abbrev pub laid_stream : Layout → Tree OneItem → Tree OneItem
+laid_stream l (StreamTree ms m) = StreamTree (respaced MS First l ms) (laid l m)
+laid_stream l w = w
+
+-- The table that a layout asks for: the widths of the tree where it has tests of whole lines, else any.
+abbrev pub Ready : {s : Rule} → Layout → Tree s → List ℕ → Type 0
+Ready (Inline column) w t = Unit {0}
+Ready (Lines base end level width) w t = t ≡ widths_onto w []
 
 -- A table without the widths of a tree.
 unfoldable pub without : {s : Rule} → Tree s → List ℕ → List ℕ
