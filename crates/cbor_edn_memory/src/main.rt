@@ -6,7 +6,7 @@
 #![tactic(auto)]
 
 use cbor_edn::engine::{Command, Options, RunError, StdSink, StdSource, run, serve};
-use cbor_edn::{Fault, Sequence, StandaloneItem};
+use cbor_edn::{DelimiterPolicy, Fault, Sequence, StandaloneItem};
 use std::alloc::Global;
 use std::io::Read;
 use std::{fmt, io};
@@ -121,6 +121,32 @@ fn set_comment(alloc: Global) -> Outcome {
     }
 }
 
+// Whatever was refused, the items are left, and to discard their spaces takes no memory.
+fn set_delimiters(alloc: Global) -> Outcome {
+    let mut item = match StandaloneItem::parse(alloc, "[1, (_ 'a'+'b'), {2: [_ 3]}]") {
+        Ok(item) => item,
+        Err(fault) => return Outcome::of_fault(fault),
+    };
+    let indented = DelimiterPolicy::IndentedRegularSpacing {
+        base_indent: 1,
+        indent_level: 2,
+        max_width: 9,
+    };
+    let was_refused = item.set_delimiters(alloc, indented).is_err();
+    if item
+        .set_delimiters(alloc, DelimiterPolicy::DiscardAll)
+        .is_err()
+    {
+        return Outcome::Wrong;
+    }
+    match item.serialize(alloc) {
+        Ok(text) if text.as_str() != "[1,(_ 'a'+'b'),{2:[_ 3]}]" => Outcome::Wrong,
+        Ok(_) if was_refused => Outcome::Refused,
+        Ok(_) => Outcome::Done,
+        Err(_) => Outcome::Refused,
+    }
+}
+
 // Where memory was refused nothing may have been written. The sink takes memory too, and fails where that is refused.
 fn run_once(alloc: Global) -> Outcome {
     let mut sink = StdSink::new(Vec::new(alloc));
@@ -195,6 +221,7 @@ fn main(rt: HostRuntime) -> io::Result<()> {
         ),
         ("from_cbor", from_cbor(rt.alloc())),
         ("set_comment", set_comment(rt.alloc())),
+        ("set_delimiters", set_delimiters(rt.alloc())),
         ("run", run_once(rt.alloc())),
         ("serve", serve_fault(rt.alloc())),
     ] {

@@ -14,6 +14,8 @@ mod leaves;
 #[cfg(test)]
 mod limits;
 #[cfg(test)]
+mod policies;
+#[cfg(test)]
 mod recoding;
 #[cfg(test)]
 mod refusals;
