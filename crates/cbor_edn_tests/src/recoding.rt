@@ -1,6 +1,7 @@
 //! Bytes that are decoded and encoded again.
 use crate::common::digits_of;
-use cbor_edn::laws::recode::{recoded, recoded_by_text};
+use cbor_edn::DelimiterPolicy;
+use cbor_edn::laws::recode::{item, recoded, recoded_by_text};
 use std::test::Fail;
 
 #[test]
@@ -15,8 +16,13 @@ fn recodes_bytes(rt: HostRuntime) -> Result<(), Fail> {
         let bytes = hex::decode(alloc, digits)?;
         let told = digits_of(alloc, recoded(alloc, bytes.as_slice()))?;
         assert_eq!(rt; told.as_str(), wanted);
-        let told = digits_of(alloc, recoded_by_text(alloc, bytes.as_slice()))?;
-        assert_eq!(rt; told.as_str(), wanted);
+        let policies = [DelimiterPolicy::indented(), DelimiterPolicy::SingleSpace];
+        for policies in [policies.as_slice(), &[]] {
+            let told = digits_of(alloc, recoded_by_text(alloc, bytes.as_slice(), policies))?;
+            assert_eq!(rt; told.as_str(), wanted);
+            let told = item::recoded_by_text(alloc, bytes.as_slice(), policies);
+            assert_eq!(rt; digits_of(alloc, told)?.as_str(), wanted);
+        }
     }
     Ok(())
 }

@@ -4,15 +4,19 @@ ghost use Rattle.std.specs.String.{string_bytes};
 ghost use Rattle.cbor_edn_parts.specs.Refusals.{IfTold};
 ghost use Rattle.cbor_edn_core.specs.Trees.{items};
 ghost use Rattle.cbor_edn_core.specs.View.{sequence_tree};
+ghost use Rattle.cbor_edn_core.specs.Spelling.{SpellsSequence};
 ghost use Rattle.cbor_edn_core.specs.Value.{Values, EncAll};
 ghost use Rattle.cbor_edn_core.specs.Meaning.{means};
 ghost use Rattle.cbor_edn_core.specs.Decoded.{NoSequence, IsTooDeepSequence};
-ghost use Rattle.cbor_edn.specs.Recoding.{IsTextOf};
+ghost use Rattle.cbor_edn.specs.Recoding.{IsTextOfItems};
 
 use cbor_edn_core::from_cbor::CborError;
 use cbor_edn_core::tree::{NESTING_LIMIT, Sequence};
 use cbor_edn_parts::error::Fault;
+use cbor_edn_parts::policy::DelimiterPolicy;
 use std::alloc::{AllocError, Global};
+
+pub mod item;
 
 /// The bytes that the items of an encoding are encoded as. Fails as `Sequence::from_cbor` does, and where memory runs out.
 pub fn recoded(alloc: Global, bytes: &[u8]) -> Result<Vec<u8>, Fault<CborError>>
@@ -24,13 +28,17 @@ pub fn recoded(alloc: Global, bytes: &[u8]) -> Result<Vec<u8>, Fault<CborError>>
     Ok(encoded(alloc, &sequence)?)
 }
 
-/// The same by way of the items' text, which is parsed again.
-pub fn recoded_by_text(alloc: Global, bytes: &[u8]) -> Result<Vec<u8>, Fault<CborError>>
+/// The same by way of the items' text, which has the spaces of each policy in turn and is parsed again.
+pub fn recoded_by_text(
+    alloc: Global,
+    bytes: &[u8],
+    policies: &[DelimiterPolicy],
+) -> Result<Vec<u8>, Fault<CborError>>
     ensures same { IfOk result (λ b. b.items ≡ bytes.now) }
     ensures refused { IfTold result (λ e. e ≢ CborError.TooDeep → NoSequence bytes.now) }
     ensures too_deep { IfTold result (λ e. e ≡ CborError.TooDeep → IsTooDeepSequence NESTING_LIMIT bytes.now) }
 {
-    let text = decoded_text(alloc, bytes)?;
+    let text = decoded_text(alloc, bytes, policies)?;
     Ok(read_and_encoded(alloc, text.as_str())?)
 }
 
@@ -46,20 +54,38 @@ fn encoded(alloc: Global, sequence: &Sequence<'_>) -> Result<Vec<u8>, AllocError
     }
 }
 
-/// The text of the items that the bytes encode.
-fn decoded_text(alloc: Global, bytes: &[u8]) -> Result<String, Fault<CborError>>
-    ensures text { IfOk result (λ t. IsTextOf NESTING_LIMIT bytes.now (string_bytes t)) }
+/// The text of the items that the bytes encode, after the policies.
+fn decoded_text(
+    alloc: Global,
+    bytes: &[u8],
+    policies: &[DelimiterPolicy],
+) -> Result<String, Fault<CborError>>
+    ensures text { IfOk result (λ t. IsTextOfItems NESTING_LIMIT bytes.now (string_bytes t)) }
     ensures refused { IfTold result (λ e. e ≢ CborError.TooDeep → NoSequence bytes.now) }
     ensures too_deep { IfTold result (λ e. e ≡ CborError.TooDeep → IsTooDeepSequence NESTING_LIMIT bytes.now) }
 {
-    let sequence: Sequence<'_> = Sequence::from_cbor(alloc, bytes)?;
-    Ok(sequence.serialize(alloc)?)
+    let mut sequence: Sequence<'_> = Sequence::from_cbor(alloc, bytes)?;
+    Ok(laid_out_text(alloc, &mut sequence, policies)?)
+}
+
+/// The text after each policy in turn.
+fn laid_out_text(
+    alloc: Global,
+    sequence: &mut Sequence<'_>,
+    policies: &[DelimiterPolicy],
+) -> Result<String, AllocError>
+    ensures { IfOk result (λ t. SpellsSequence (items (sequence_tree sequence.old)) (string_bytes t)) }
+{
+    for policy in policies {
+        sequence.set_delimiters(alloc, *policy)?;
+    }
+    sequence.serialize(alloc)
 }
 
 /// The bytes that a text is of.
 fn read_and_encoded(alloc: Global, text: &str) -> Result<Vec<u8>, AllocError>
-    requires { (bytes : List ℕ) × IsTextOf NESTING_LIMIT bytes text.now }
-    ensures { IfOk result (λ b. IsTextOf NESTING_LIMIT b.items text.now) }
+    requires { (bytes : List ℕ) × IsTextOfItems NESTING_LIMIT bytes text.now }
+    ensures { IfOk result (λ b. IsTextOfItems NESTING_LIMIT b.items text.now) }
 {
     match Sequence::parse(alloc, text) {
         Ok(sequence) => encoded(alloc, &sequence),
