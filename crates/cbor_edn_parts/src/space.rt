@@ -12,6 +12,7 @@ use std::alloc::AllocError;
 use std::borrow::CowStr;
 
 mod comments;
+mod joined;
 mod note;
 mod read;
 mod spaced;
