@@ -15,5 +15,7 @@ pub mod Layouts
 pub mod Policies
 pub mod RegularLayout
 pub mod RegularTrees
+pub mod UnmarkedViews
+pub mod Unmarking
 pub mod WithoutIndicators
 pub mod Widths

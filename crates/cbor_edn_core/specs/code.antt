@@ -9,4 +9,5 @@ pub mod Lookahead
 pub mod ParserResults
 pub mod Reading
 pub mod Same
+pub mod Unmarking
 pub mod Widths

@@ -9,6 +9,7 @@ ghost use Rattle.cbor_edn_core.specs.View.{item_tree, standalone_tree, sequence_
 ghost use Rattle.cbor_edn_core.specs.code.Laying.{Ready, least};
 ghost use Rattle.cbor_edn_core.specs.code.Widths.{stack};
 
+mod indicators;
 mod lay;
 mod layout;
 mod measure;

@@ -6,7 +6,7 @@ use Rattle.cbor_edn_parts.proofs.SpaceTexts.{s_texts, ms_texts}
 use Rattle.cbor_edn_parts.proofs.Comments.{spaces_append}
 use Rattle.cbor_edn_core.specs.declared.tree.LabelKind.{LabelKind}
 use Rattle.cbor_edn_core.specs.declared.tree.LabelKind.TheVariants as label
-use Rattle.cbor_edn_core.specs.Items.{Listed, String, Stream, LastPiece, Plus, Element, Pair, Chunk, End, Then, Node, Item}
+use Rattle.cbor_edn_core.specs.Items.{Row, Listed, String, Stream, LastPiece, Plus, Element, Pair, Chunk, End, Then, Node, Item}
 use Rattle.cbor_edn_core.specs.Labels.{IsLabel}
 use Rattle.cbor_edn_core.specs.Trees.{Rule, OneItem, OnePiece, OneString, OneEntry, Inside, Rest, Seq, Standalone, Tree, ListHead, Unmarked, Marked, NumberTree, FloatTree, NamedTree, EnclosedTree, ListTree, StringTree, StreamTree, LiteralTree, DotsTree, EmbeddedTree, LastPieceTree, PlusTree, ElementTree, PairTree, ChunkTree, EmptyTree, FullTree, LastTree, MoreTree, NothingTree, SequenceTree, StandaloneTree, Merged, labelled, Of, items}
 use Rattle.cbor_edn_core.proofs.text.Tested.{IsTestedListHead, Tested, tested, valid}
@@ -53,6 +53,9 @@ is_bare (MoreTree e s m) = ap (λ e. Then e (items (without_indicators m))) (is_
 is_bare (NothingTree s) = refl
 is_bare (SequenceTree s m) = is_bare m
 is_bare (StandaloneTree s w t) = is_bare w
+
+pub entry_is_bare : {k : Row} (w : Tree (OneEntry k)) → items (without_indicators w) ≡ bare (items w)
+entry_is_bare w = is_bare w
 
 pub unmarked_is_bare : WithoutIndicatorsIsBare
 unmarked_is_bare = (λ w. is_bare w, λ w. is_bare w, λ w. is_bare w)

@@ -1,0 +1,308 @@
+//! Removal of encoding indicators.
+ghost use Rattle.std.specs.Prelude.{◌≡◌, map, IfOk, IfErr, OnOk};
+ghost use Rattle.cbor_edn_parts.specs.Leaves.{s_bytes, ms_bytes};
+ghost use Rattle.cbor_edn_core.specs.Bare as bare;
+ghost use Rattle.cbor_edn_core.specs.Bare.{without_indicators, first_space, bare_label};
+ghost use Rattle.cbor_edn_core.specs.Fewer.{Fewer};
+ghost use Rattle.cbor_edn_core.specs.Trees as definition;
+ghost use Rattle.cbor_edn_core.specs.Trees.{items};
+ghost use Rattle.cbor_edn_core.specs.View.{texts, view_list_head, view_list, view_items, seen, view_pair_list, view_pairs, view_pair, seen_pair, view_string, view_piece, seen_piece, view_stream, view_strings, seen_string, item_tree, standalone_tree, sequence_tree};
+ghost use Rattle.cbor_edn_core.specs.code.LayoutRows.{entry_without_indicators, piece_without_indicators};
+ghost use Rattle.cbor_edn_core.specs.code.Unmarking.{FewerInside, FewerEntries, headless, label_gone, space_or};
+
+use crate::tree::{
+    CborString, Indicator, InnerItem, Item, ItemList, Items, Kp, Label, LabelKind, PairList, Pairs,
+    Piece, Sequence, StandaloneItem, Stream, Strings,
+};
+use cbor_edn_parts::space::{Ms, Msc, S};
+use std::alloc::{AllocError, Global};
+
+impl<'a> Item<'a> {
+    /// Takes every encoding indicator away but those inside embedded sequences; `(_` of a stream stays. Where the item meant a
+    /// value, it means one that is the same but for its heads, and these are the shortest (`laws::bare_items`). Fails where
+    /// memory runs out; some indicators may be gone then.
+    pub fn discard_encoding_indicators(&mut self, alloc: Global) -> Result<(), AllocError>
+        ensures without_indicators { OnOk result (item_tree self.new ≡ without_indicators (item_tree self.old)) }
+        ensures fewer { Fewer (items (item_tree self.old)) (items (item_tree self.new)) }
+    {
+        unmark_item(self, alloc)
+    }
+}
+
+impl<'a> Sequence<'a> {
+    /// Takes every encoding indicator of the items away, as it is done of one item.
+    pub fn discard_encoding_indicators(&mut self, alloc: Global) -> Result<(), AllocError>
+        ensures without_indicators { OnOk result (sequence_tree self.new ≡ without_indicators (sequence_tree self.old)) }
+        ensures fewer { Fewer (items (sequence_tree self.old)) (items (sequence_tree self.new)) }
+    {
+        unmark_sequence(self, alloc)
+    }
+}
+
+impl Label {
+    fn without_indicator(self) -> Label
+        ensures { result.kind ≡ bare_label self.kind }
+    {
+        match self.kind {
+            LabelKind::Tag(number, _) => Label::tag(number, None),
+            LabelKind::Simple => self,
+        }
+    }
+}
+
+/// Takes the indicator of a tag away.
+fn unmark_label(item: &mut Item<'_>)
+    ensures { item_tree item.new ≡ label_gone (item_tree item.old) }
+{
+    if let InnerItem::Enclosed(label, _) = &mut item.inner {
+        *label = label.without_indicator();
+    }
+}
+
+/// The first space of a list without its indicator, where it is another than before: the space behind the indicator, if it is
+/// more than one space, stands in front of it.
+fn moved_space<'a>(
+    head: &Option<(Indicator, Ms<'a>)>,
+    first: &S<'a>,
+    alloc: Global,
+) -> Result<Option<S<'a>>, AllocError>
+    ensures { IfOk result (λ moved. space_or moved (s_bytes first.now) ≡ first_space (view_list_head texts head.now) (s_bytes first.now)) }
+{
+    if let Some((_, space)) = head {
+        if !is_one_space(space) {
+            return Ok(Some(space.with_space(alloc, first)?));
+        }
+    }
+    Ok(None)
+}
+
+fn is_one_space(space: &Ms<'_>) -> bool
+    ensures { result ≡ bare.is_one_space (ms_bytes space.now) }
+{
+    matches!(space.as_str().as_bytes(), [b' '])
+}
+
+/// Takes the indicator of a piece away.
+#[tactic(auto, unfolding(crate::specs::Bare::without_indicators))]
+fn unmark_piece(piece: &mut Piece<'_>)
+    ensures { view_piece texts piece.new ≡ without_indicators (view_piece texts piece.old) }
+{
+    match piece {
+        Piece::Literal(_, indicator) => *indicator = None,
+        Piece::Dots(_) => {}
+        Piece::Embedded(_, indicator) => *indicator = None,
+    }
+}
+
+fn unmark_string(string: &mut CborString<'_>)
+    ensures { view_string texts string.new ≡ without_indicators (view_string texts string.old) }
+{
+    unmark_piece_row(&mut string.row);
+    unmark_piece(&mut string.last);
+}
+
+fn unmark_piece_row<'a>(row: &mut Vec<(Piece<'a>, S<'a>, S<'a>)>)
+    ensures { map (seen_piece texts) row.new.items ≡ map piece_without_indicators (map (seen_piece texts) row.old.items) }
+{
+    for (piece, _, _) in row.iter_mut() {
+        unmark_piece(piece);
+    }
+}
+
+#[tactic(auto, using(crate::proofs::code::Views::view_stream_is, crate::proofs::code::Views::view_stream_made), unfolding(crate::specs::Bare::without_indicators))]
+fn unmark_stream(stream: &mut Stream<'_>)
+    ensures { view_stream texts stream.new ≡ without_indicators (view_stream texts stream.old) }
+{
+    unmark_strings(&mut stream.strings);
+}
+
+fn unmark_strings(strings: &mut Strings<'_>)
+    ensures { view_strings texts strings.new ≡ without_indicators (view_strings texts strings.old) }
+{
+    unmark_string_row(&mut strings.row);
+    unmark_string(&mut strings.last);
+}
+
+fn unmark_string_row<'a>(row: &mut Vec<(CborString<'a>, Msc<'a>)>)
+    ensures { map (seen_string texts) row.new.items ≡ map entry_without_indicators (map (seen_string texts) row.old.items) }
+{
+    for (string, _) in row.iter_mut() {
+        unmark_string(string);
+    }
+}
+
+/// Takes the indicator of a list away, and moves the space behind it.
+fn unmark_head<'a>(list: &mut ItemList<'a>, alloc: Global) -> Result<(), AllocError>
+    ensures gone { OnOk result (view_list texts list.new ≡ headless (view_list texts list.old)) }
+    ensures refused { IfErr result (λ _. view_list texts list.new ≡ view_list texts list.old) }
+{
+    let moved = match &*list {
+        ItemList::Present { head, s, .. } => moved_space(head, s, alloc)?,
+        ItemList::Absent { .. } => None,
+    };
+    match list {
+        ItemList::Present { s, .. } => {
+            if let Some(space) = moved {
+                *s = space;
+            }
+        }
+        ItemList::Absent { indicator, .. } => *indicator = None,
+    }
+    if let ItemList::Present { head, .. } = list {
+        *head = None;
+    }
+    Ok(())
+}
+
+/// Takes the indicator of a list away, and moves the space behind it.
+fn unmark_pair_head<'a>(list: &mut PairList<'a>, alloc: Global) -> Result<(), AllocError>
+    ensures gone { OnOk result (view_pair_list texts list.new ≡ headless (view_pair_list texts list.old)) }
+    ensures refused { IfErr result (λ _. view_pair_list texts list.new ≡ view_pair_list texts list.old) }
+{
+    let moved = match &*list {
+        PairList::Present { head, s, .. } => moved_space(head, s, alloc)?,
+        PairList::Absent { .. } => None,
+    };
+    match list {
+        PairList::Present { s, .. } => {
+            if let Some(space) = moved {
+                *s = space;
+            }
+        }
+        PairList::Absent { indicator, .. } => *indicator = None,
+    }
+    if let PairList::Present { head, .. } = list {
+        *head = None;
+    }
+    Ok(())
+}
+
+#[cycle(unmark)]
+#[tactic(auto, using(crate::proofs::layout::UnmarkedViews::list_fewer), unfolding(crate::specs::Bare::without_indicators))]
+fn unmark_item(item: &mut Item<'_>, alloc: Global) -> Result<(), AllocError>
+    ensures without_indicators { OnOk result (item_tree item.new ≡ without_indicators (item_tree item.old)) }
+    ensures fewer { Fewer (items (item_tree item.old)) (items (item_tree item.new)) }
+{
+    match &mut item.inner {
+        InnerItem::Number(_, indicator) => {
+            *indicator = None;
+            Ok(())
+        }
+        InnerItem::NonFinite(_, indicator) => {
+            *indicator = None;
+            Ok(())
+        }
+        InnerItem::Named(_) => Ok(()),
+        InnerItem::Enclosed(_, content) => {
+            let result = unmark_standalone(content, alloc);
+            unmark_label(item);
+            result
+        }
+        InnerItem::Array(list) => unmark_list(list, alloc),
+        InnerItem::Map(list) => unmark_pair_list(list, alloc),
+        InnerItem::String(string) => {
+            unmark_string(string);
+            Ok(())
+        }
+        InnerItem::Stream(stream) => {
+            unmark_stream(stream);
+            Ok(())
+        }
+    }
+}
+
+#[cycle(unmark)]
+#[tactic(auto, using(crate::proofs::layout::UnmarkedViews::standalone_fewer), unfolding(crate::specs::Bare::without_indicators))]
+fn unmark_standalone(content: &mut StandaloneItem<'_>, alloc: Global) -> Result<(), AllocError>
+    ensures without_indicators { OnOk result (standalone_tree content.new ≡ without_indicators (standalone_tree content.old)) }
+    ensures fewer { Fewer (items (standalone_tree content.old)) (items (standalone_tree content.new)) }
+{
+    unmark_item(&mut content.item, alloc)
+}
+
+#[cycle(unmark)]
+#[tactic(auto, using(crate::proofs::layout::UnmarkedViews::full_same, crate::proofs::layout::UnmarkedViews::full_gone, crate::proofs::layout::UnmarkedViews::empty_gone, crate::proofs::layout::Fewer::same_fewer), unfolding(crate::specs::Bare::without_indicators))]
+fn unmark_list(list: &mut ItemList<'_>, alloc: Global) -> Result<(), AllocError>
+    ensures without_indicators { OnOk result (view_list texts list.new ≡ without_indicators (view_list texts list.old)) }
+    ensures fewer { FewerInside (view_list texts list.old) (view_list texts list.new) }
+{
+    match list {
+        ItemList::Present { items, .. } => unmark_items(items, alloc)?,
+        ItemList::Absent { .. } => {}
+    }
+    unmark_head(list, alloc)
+}
+
+#[cycle(unmark)]
+fn unmark_items(items: &mut Items<'_>, alloc: Global) -> Result<(), AllocError>
+    ensures without_indicators { OnOk result (view_items texts items.new ≡ without_indicators (view_items texts items.old)) }
+    ensures fewer { Fewer (definition.items (view_items texts items.old)) (definition.items (view_items texts items.new)) }
+{
+    unmark_row(&mut items.row, alloc)?;
+    unmark_item(&mut items.last, alloc)
+}
+
+#[cycle(unmark)]
+fn unmark_row<'a>(row: &mut Vec<(Item<'a>, Msc<'a>)>, alloc: Global) -> Result<(), AllocError>
+    ensures without_indicators { OnOk result (map (seen texts) row.new.items ≡ map entry_without_indicators (map (seen texts) row.old.items)) }
+    ensures fewer { FewerEntries (map (seen texts) row.old.items) (map (seen texts) row.new.items) }
+{
+    for (item, _) in row.iter_mut() {
+        unmark_item(item, alloc)?;
+    }
+    Ok(())
+}
+
+#[cycle(unmark)]
+#[tactic(auto, using(crate::proofs::layout::UnmarkedViews::full_same, crate::proofs::layout::UnmarkedViews::full_gone, crate::proofs::layout::UnmarkedViews::empty_gone, crate::proofs::layout::Fewer::same_fewer), unfolding(crate::specs::Bare::without_indicators))]
+fn unmark_pair_list(list: &mut PairList<'_>, alloc: Global) -> Result<(), AllocError>
+    ensures without_indicators { OnOk result (view_pair_list texts list.new ≡ without_indicators (view_pair_list texts list.old)) }
+    ensures fewer { FewerInside (view_pair_list texts list.old) (view_pair_list texts list.new) }
+{
+    match list {
+        PairList::Present { pairs, .. } => unmark_pairs(pairs, alloc)?,
+        PairList::Absent { .. } => {}
+    }
+    unmark_pair_head(list, alloc)
+}
+
+#[cycle(unmark)]
+fn unmark_pairs(pairs: &mut Pairs<'_>, alloc: Global) -> Result<(), AllocError>
+    ensures without_indicators { OnOk result (view_pairs texts pairs.new ≡ without_indicators (view_pairs texts pairs.old)) }
+    ensures fewer { Fewer (items (view_pairs texts pairs.old)) (items (view_pairs texts pairs.new)) }
+{
+    unmark_pair_row(&mut pairs.row, alloc)?;
+    unmark_pair(&mut pairs.last, alloc)
+}
+
+#[cycle(unmark)]
+fn unmark_pair_row<'a>(row: &mut Vec<(Kp<'a>, Msc<'a>)>, alloc: Global) -> Result<(), AllocError>
+    ensures without_indicators { OnOk result (map (seen_pair texts) row.new.items ≡ map entry_without_indicators (map (seen_pair texts) row.old.items)) }
+    ensures fewer { FewerEntries (map (seen_pair texts) row.old.items) (map (seen_pair texts) row.new.items) }
+{
+    for (pair, _) in row.iter_mut() {
+        unmark_pair(pair, alloc)?;
+    }
+    Ok(())
+}
+
+#[cycle(unmark)]
+#[tactic(auto, using(crate::proofs::layout::UnmarkedViews::pair_fewer, crate::proofs::layout::Fewer::same_fewer), unfolding(crate::specs::Bare::without_indicators))]
+fn unmark_pair(pair: &mut Kp<'_>, alloc: Global) -> Result<(), AllocError>
+    ensures without_indicators { OnOk result (view_pair texts pair.new ≡ without_indicators (view_pair texts pair.old)) }
+    ensures fewer { Fewer (items (view_pair texts pair.old)) (items (view_pair texts pair.new)) }
+{
+    unmark_item(&mut pair.key, alloc)?;
+    unmark_item(&mut pair.value, alloc)
+}
+
+#[tactic(auto, using(crate::proofs::code::Views::view_sequence_is, crate::proofs::code::Views::view_sequence_made, crate::proofs::layout::UnmarkedViews::sequence_fewer, crate::proofs::layout::Fewer::same_fewer), unfolding(crate::specs::Bare::without_indicators))]
+fn unmark_sequence(sequence: &mut Sequence<'_>, alloc: Global) -> Result<(), AllocError>
+    ensures without_indicators { OnOk result (sequence_tree sequence.new ≡ without_indicators (sequence_tree sequence.old)) }
+    ensures fewer { Fewer (items (sequence_tree sequence.old)) (items (sequence_tree sequence.new)) }
+{
+    match &mut sequence.items {
+        None => Ok(()),
+        Some(items) => unmark_items(items, alloc),
+    }
+}
