@@ -10,6 +10,8 @@ mod common;
 #[cfg(test)]
 mod decoding;
 #[cfg(test)]
+mod indicators;
+#[cfg(test)]
 mod leaves;
 #[cfg(test)]
 mod limits;
