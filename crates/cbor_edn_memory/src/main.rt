@@ -147,6 +147,29 @@ fn set_delimiters(alloc: Global) -> Outcome {
     }
 }
 
+// The comment behind an indicator goes in front of the space of a line, for which memory is asked: where it is refused, the
+// indicator stays with it.
+fn discard_encoding_indicators(alloc: Global) -> Outcome {
+    let mut sequence = match Sequence::parse(alloc, "[_ /c/ 1_1]") {
+        Ok(sequence) => sequence,
+        Err(fault) => return Outcome::of_fault(fault),
+    };
+    let indented = DelimiterPolicy::IndentedRegularSpacing {
+        base_indent: 0,
+        indent_level: 1,
+        max_width: 0,
+    };
+    if sequence.set_delimiters(alloc, indented).is_err() {
+        return Outcome::Refused;
+    }
+    let was_refused = sequence.discard_encoding_indicators(alloc).is_err();
+    match sequence.serialize(alloc) {
+        Ok(text) if was_refused && text.as_str() == "[_/c/\n 1\n]\n" => Outcome::Refused,
+        Ok(text) => Outcome::of_answer(!was_refused && text.as_str() == "[/c/\n 1\n]\n"),
+        Err(_) => Outcome::Refused,
+    }
+}
+
 // Where memory was refused nothing may have been written. The sink takes memory too, and fails where that is refused.
 fn run_once(alloc: Global) -> Outcome {
     let mut sink = StdSink::new(Vec::new(alloc));
@@ -222,6 +245,10 @@ fn main(rt: HostRuntime) -> io::Result<()> {
         ("from_cbor", from_cbor(rt.alloc())),
         ("set_comment", set_comment(rt.alloc())),
         ("set_delimiters", set_delimiters(rt.alloc())),
+        (
+            "discard_encoding_indicators",
+            discard_encoding_indicators(rt.alloc()),
+        ),
         ("run", run_once(rt.alloc())),
         ("serve", serve_fault(rt.alloc())),
     ] {

@@ -46,12 +46,20 @@ fn items_are_laid_out(rt: HostRuntime) -> Result<(), Fail> {
     for (text, policy, wanted) in [
         (spaced, DelimiterPolicy::DiscardAll, "[1,2]"),
         (spaced, DelimiterPolicy::DiscardAllButComments, "[1,2/c/]"),
-        (spaced, DelimiterPolicy::SingleLineRegularSpacing, "[1, 2/c/]"),
+        (
+            spaced,
+            DelimiterPolicy::SingleLineRegularSpacing,
+            "[1, 2/c/]",
+        ),
         (spaced, DelimiterPolicy::SingleSpace, " [ 1 ,2 /c/] "),
         (spaced, indented(0, 2, 10), "[1, 2/c/]"),
         (spaced, indented(0, 2, 9), "[\n  1,\n  2\n/c/]"),
         ("'a'+'b'", indented(0, 4, 0), "'a'\n    +'b'"),
-        ("(_ 'a', 'b')", indented(0, 4, 0), "(_\n    'a',\n    'b'\n)"),
+        (
+            "(_ 'a', 'b')",
+            indented(0, 4, 0),
+            "(_\n    'a',\n    'b'\n)",
+        ),
         ("[_ 1]", indented(0, 4, 0), "[_ \n    1\n]"),
         ("{1:2}", indented(0, 4, 0), "{\n    1:2\n}"),
     ] {
@@ -76,7 +84,10 @@ fn lines_are_regular(rt: HostRuntime) -> Result<(), Fail> {
     ] {
         assert_eq!(rt; laid_out(alloc, text, regular)?.as_str(), wanted);
     }
-    assert_eq!(rt; laid_out(alloc, "1 # c\n", DelimiterPolicy::DiscardAll)?.as_str(), "1");
+    assert_eq!(rt;
+        laid_out(alloc, "1 # c\n", DelimiterPolicy::DiscardAll)?.as_str(),
+        "1"
+    );
     assert_eq!(rt;
         laid_out(alloc, "\r/c/\r0", DelimiterPolicy::DiscardAllButComments)?.as_str(),
         "/c/0"
@@ -87,7 +98,10 @@ fn lines_are_regular(rt: HostRuntime) -> Result<(), Fail> {
 #[test]
 fn sequences_are_laid_out(rt: HostRuntime) -> Result<(), Fail> {
     let alloc = rt.alloc();
-    assert_eq!(rt; sequence_laid_out(alloc, " 1 2", indented(2, 4, 80))?.as_str(), "1,\n  2\n  ");
+    assert_eq!(rt;
+        sequence_laid_out(alloc, " 1 2", indented(2, 4, 80))?.as_str(),
+        "1,\n  2\n  "
+    );
     for policy in [DelimiterPolicy::DiscardAll, indented(2, 4, 80)] {
         assert_eq!(rt; sequence_laid_out(alloc, " ", policy)?.as_str(), "");
     }
@@ -150,10 +164,13 @@ fn comments_stay_comments(rt: HostRuntime) -> Result<(), Fail> {
         DelimiterPolicy::SingleSpace,
         DelimiterPolicy::indented(),
     ];
-    let characters = "\0\u{1}\u{2}\u{3}\u{4}\u{5}\u{6}\u{7}\u{8}\t\n\u{b}\u{c}\r\u{e}\u{f}\u{10}\u{11}\u{12}\u{13}\u{14}\u{15}\u{16}\u{17}\u{18}\u{19}\u{1a}\u{1b}\u{1c}\u{1d}\u{1e}\u{1f}/";
+    let characters =
+        "\0\u{1}\u{2}\u{3}\u{4}\u{5}\u{6}\u{7}\u{8}\t\n\u{b}\u{c}\r\u{e}\u{f}\u{10}\u{11}\u{12}\u{13}\u{14}\u{15}\u{16}\u{17}\u{18}\u{19}\u{1a}\u{1b}\u{1c}\u{1d}\u{1e}\u{1f}/";
     for policy in policies {
         for at in 0..=characters.len() {
-            let comment = characters.get(at..(at + 1).min(characters.len())).unwrap_or("");
+            let comment = characters
+                .get(at..(at + 1).min(characters.len()))
+                .unwrap_or("");
             let mut item = StandaloneItem::parse(alloc, "0")?;
             item.set_comment(alloc, comment)?;
             item.set_delimiters(alloc, policy)?;
