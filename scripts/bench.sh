@@ -1,9 +1,10 @@
 #!/usr/bin/env bash
-# Measures the time and the peak memory of `cbor-edn diag2cbor` against an earlier program, both in one run.
+# Measures the time and the peak memory of a command of `cbor-edn` against an earlier program, both in one run.
 #
-# usage: scripts/bench.sh [--runs N] [--scale N] OLD [NEW]
+# usage: scripts/bench.sh [--runs N] [--scale N] [--command WORDS] OLD [NEW]
 #
-# OLD and NEW are paths of the program's binary, or commits. Without NEW it is the working tree's program. A commit's
+# WORDS are the command and its flags, as 'diag2diag --remove-comments', and diag2cbor where none are given. The input of
+# cbor2diag is what NEW encodes of the texts that the other commands read. OLD and NEW are paths of the program's binary, or commits. Without NEW it is the working tree's program. A commit's
 # program is built by the commit's own ./cbor-edn, in a folder outside the repository (`rt ci` refuses a second tree in
 # it), and is kept as out/bench/COMMIT/cbor-edn.
 #
@@ -19,15 +20,21 @@ root=$(dirname "$(dirname "$(readlink -f "$0")")")
 
 refuse() {
   echo "bench: $1" >&2
-  echo "usage: scripts/bench.sh [--runs N] [--scale N] OLD [NEW]" >&2
+  echo "usage: scripts/bench.sh [--runs N] [--scale N] [--command WORDS] OLD [NEW]" >&2
   exit 2
 }
 
 runs=11
 scale=4
+command=diag2cbor
 words=()
 while [ $# != 0 ]; do
   case $1 in
+    --command)
+      [[ ${2-} =~ ^(diag2cbor|cbor2diag|diag2diag)( |$) ]] || refuse "--command takes a command of the program"
+      command=$2
+      shift 2
+      ;;
     --runs | --scale)
       [[ ${2-} =~ ^[1-9][0-9]{0,3}$ ]] || refuse "$1 takes a number from 1 to 9999"
       if [ "$1" = --runs ]; then runs=$2; else scale=$2; fi
@@ -94,8 +101,9 @@ cp "${binaries[0]}" "$work/old"
 cp "${binaries[1]}" "$work/new"
 echo "old: ${names[0]}"
 echo "new: ${names[1]}"
+echo "command: $command"
 
-python3 - "$work" "$runs" "$scale" << 'EOF_PYTHON'
+python3 - "$work" "$runs" "$scale" "$command" << 'EOF_PYTHON'
 import ctypes
 import os
 import signal
@@ -106,6 +114,7 @@ SIDES = ("old", "new")
 SUBREAPER = 36  # prctl's word: orphans below this process become its children
 
 work, runs, scale = sys.argv[1], int(sys.argv[2]), int(sys.argv[3])
+COMMAND = sys.argv[4].split()
 
 
 def fill(begin, units, between, end):
@@ -127,7 +136,7 @@ def sequence(*units):
     return fill("", units, " ", "")
 
 
-# as many arrays in one another as are read
+# as many arrays in one another as are read: laid out on lines of their own they are written as about 1 MB
 DEEP = 512
 WORDS = "true false null undefined simple(0) simple(255) Infinity -Infinity NaN NaN_3".split()
 KINDS = {
@@ -145,14 +154,16 @@ KINDS = {
     "tags": array("1(2)"),
     "embedded": array("<<1, 2>>"),
     "comments": sequence("/ words of a comment /   1 # to the end of the line\n", "2 /c/\t"),
+    "one space": fill("1 ", ["/ words of a comment /", "# a line\n"], " ", ""),
+    "maps, 512 deep": sequence("{1: " * DEEP + "2" + "}" * DEEP),
     "arrays, 512 deep": sequence("[" * DEEP + "]" * DEEP),
     "embedded, 512 deep": sequence("<<" * DEEP + ">>" * DEEP),
     "words": array(*WORDS),
 }
 
 
-def run(side, source, sink):
-    """Runs a program once. Answers whether it succeeded, its seconds of processor time and its peak of memory in bytes."""
+def run(side, source, sink, words=COMMAND):
+    """Runs a program once by the words of a command. Answers whether it succeeded, its seconds of processor time and its peak of memory in bytes."""
     # A peak begins with what the process had before its exec. Started from here it would have had Python's memory:
     # so setsid starts it, which is small, ends at once and leaves it to this process.
     files = [
@@ -160,7 +171,7 @@ def run(side, source, sink):
         (os.POSIX_SPAWN_OPEN, 1, sink, os.O_WRONLY | os.O_CREAT | os.O_TRUNC, 0o600),
         (os.POSIX_SPAWN_OPEN, 2, f"{work}/said", os.O_WRONLY | os.O_CREAT | os.O_TRUNC, 0o600),
     ]
-    command = ["setsid", "--fork", f"{work}/{side}", "diag2cbor"]
+    command = ["setsid", "--fork", f"{work}/{side}", *words]
     starter = os.posix_spawnp("setsid", command, os.environ, file_actions=files)
     ended = {}
     try:
@@ -175,6 +186,13 @@ def run(side, source, sink):
     del ended[starter]
     ((status, seconds, peak),) = ended.values()
     return status == 0, seconds, peak
+
+
+def encode(source):
+    """Puts the encoding of a text in its place."""
+    if not run("new", source, f"{source}.cbor", ["diag2cbor"])[0]:
+        sys.exit(f"bench: new fails: {said()}")
+    os.replace(f"{source}.cbor", source)
 
 
 def said():
@@ -229,6 +247,7 @@ def main():
     processor = max(os.sched_getaffinity(0))
     os.sched_setaffinity(0, {processor})
     sizes = [MB] if scale == 1 else [MB, scale * MB]
+    indents = COMMAND[0] != "diag2cbor" and "--preserve-space" not in COMMAND
     inputs = {"no input": [f"{work}/empty"]}
     open(f"{work}/empty", "wb").close()
     for at, (kind, text) in enumerate(KINDS.items()):
@@ -236,7 +255,9 @@ def main():
         for size in sizes:
             inputs[kind].append(f"{work}/input-{at}-{size}")
             with open(inputs[kind][-1], "wb") as file:
-                file.write(text(size))
+                file.write(text(size // DEEP if indents and "deep" in kind else size))
+            if COMMAND[0] == "cbor2diag":
+                encode(inputs[kind][-1])
 
     wrong = set()
     for kind, sources in inputs.items():
