@@ -1,2 +1,7 @@
+mod CommandLine
+mod Edits
+mod Lines
+mod Loading
 mod Recoding
+mod Returns
 mod Written

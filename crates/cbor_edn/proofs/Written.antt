@@ -6,27 +6,25 @@ use Rattle.std.proofs.KnownBytes.{Appends-nil}
 use Rattle.std.specs.Io.KnownBytes.{Consumes, IsAtEnd, Appends}
 use Rattle.cbor_edn.specs.Devices.{AppendsBeginning}
 use Rattle.cbor_edn.specs.Runs.{IsOutput, IsFaultLine, IsTold, Wrote}
+use Rattle.cbor_edn.specs.declared.engine.Options.{Options}
 use Rattle.cbor_edn.specs.declared.engine.RunError.{RunError}
 use Rattle.cbor_edn.specs.declared.engine.RunError.TheVariants.{Write}
 
 -- what was read to the end is what was known
-of_all : (known left : Option (List ℕ)) (read input out : List ℕ) → Consumes known left read → IsAtEnd left → input ≡ read → IsOutput input out
-    → IfSome known (λ i. IsOutput i out)
-of_all None left read input out gone end is made = tt
-of_all (Some xs) None read input out gone end is made = absurd gone
-of_all (Some xs) (Some ys) read input out gone end is made =
-    let IsFrom : List ℕ → Type 0 = λ i. IsOutput i out in
-    subst IsFrom (is ∙ sym (gone ∙ ap (λ l. read ++ l) end ∙ append-nil read)) made
+of_all : (P : List ℕ → Type 0) (known left : Option (List ℕ)) (read input : List ℕ) → Consumes known left read → IsAtEnd left → input ≡ read → P input → IfSome known P
+of_all P None left read input gone end is made = tt
+of_all P (Some xs) None read input gone end is made = absurd gone
+of_all P (Some xs) (Some ys) read input gone end is made = subst P (is ∙ sym (gone ∙ ap (λ l. read ++ l) end ∙ append-nil read)) made
 
-pub wrote : (r : Result (Unit {0}) RunError) (known left old new : Option (List ℕ)) (bytes out input read : List ℕ)
+pub wrote : (o : Options) (r : Result (Unit {0}) RunError) (known left old new : Option (List ℕ)) (bytes out input read : List ℕ)
     → OnOk r (Appends old new bytes) → IfErr r (λ e. (e ≡ Write) × AppendsBeginning old new bytes)
-    → bytes ≡ out → IsOutput input out → input ≡ read → Consumes known left read → IsAtEnd left
-    → Wrote r known old new
-wrote (Ok _) known left old new bytes out input read all some is made from gone end =
-    (out, of_all known left read input out gone end from made, subst (Appends old new) is all)
-wrote (Err e) known left old new bytes out input read all some is made from gone end =
-    let P : RunError → Type 0 = λ e. Wrote (Err e) known old new in
-    subst P (sym some.0) (out, of_all known left read input out gone end from made, subst (AppendsBeginning old new) is some.1)
+    → bytes ≡ out → IsOutput o input out → input ≡ read → Consumes known left read → IsAtEnd left
+    → Wrote o r known old new
+wrote o (Ok _) known left old new bytes out input read all some is made from gone end =
+    (out, of_all (λ i. IsOutput o i out) known left read input gone end from made, subst (Appends old new) is all)
+wrote o (Err e) known left old new bytes out input read all some is made from gone end =
+    let P : RunError → Type 0 = λ e. Wrote o (Err e) known old new in
+    subst P (sym some.0) (out, of_all (λ i. IsOutput o i out) known left read input gone end from made, subst (AppendsBeginning old new) is some.1)
 
 -- where nothing of a line was written
 pub nothing_told : (known : Option (List ℕ)) → IsTold known known

@@ -1,42 +1,134 @@
 -- What a run writes, what it answers, and what it leaves.
-use Rattle.std.specs.Prelude.{◌≡◌, ◌≢◌, ℕ, ◌<◌, ◌≤◌, ◌++◌, ◌∷◌, [], List, All, codes, Option, Some, None, Result, Ok, Err, IfSome}
+use Rattle.std.specs.Prelude.{◌≡◌, ◌≢◌, ℕ, ◌≤◌, ◌++◌, ◌∷◌, [], List, All, codes, Bool, not, if◌then◌else◌, Option, Some, None, Result, Ok, Err, IfSome, IsErr}
 use Rattle.std.specs.Str.{IsUtf8}
 use Rattle.std.specs.Io.KnownBytes.{Appends, Keeps}
+use Rattle.hex.specs.declared.error.FromHexError.{FromHexError}
 use Rattle.cbor_edn_parts.specs.declared.error.Fault.{Fault}
 use Rattle.cbor_edn_parts.specs.declared.error.Fault.TheVariants as fault
-use Rattle.cbor_edn_core.specs.declared.tree.TheConstants.{NESTING_LIMIT}
-use Rattle.cbor_edn_core.specs.Items.{Items, nesting}
+use Rattle.cbor_edn_parts.specs.declared.policy.DelimiterPolicy.{DelimiterPolicy}
+use Rattle.cbor_edn_parts.specs.declared.policy.DelimiterPolicy.TheVariants.{DiscardAll}
+use Rattle.cbor_edn_parts.specs.Spacing.{indented}
+use Rattle.cbor_edn_core.specs.declared.from_cbor.CborError.{CborError}
+use Rattle.cbor_edn_core.specs.declared.from_cbor.CborError.TheVariants.{TooDeep}
+use Rattle.cbor_edn_core.specs.Items.{nesting}
 use Rattle.cbor_edn_core.specs.Spelling.{SpellsSequence}
+use Rattle.cbor_edn_core.specs.Parsing.{Unparsed}
+use Rattle.cbor_edn_core.specs.Trees.{Tree, Seq, Valid, Merged, items, text}
+use Rattle.cbor_edn_core.specs.Layout.{laid_out}
 use Rattle.cbor_edn_core.specs.Meaning.{means}
 use Rattle.cbor_edn_core.specs.Value.{Values, EncAll}
+use Rattle.cbor_edn_core.specs.Decoded.{items_of, regular_sequence, NoSequence, IsTooDeepSequence}
 use Rattle.cbor_edn.specs.Devices.{AppendsBeginning}
+use Rattle.cbor_edn.specs.Hexadecimal.{hex_bytes, hex_lines}
+use Rattle.cbor_edn.specs.declared.engine.Command.{Command}
+use Rattle.cbor_edn.specs.declared.engine.Command.TheVariants.{Diag2Cbor, Cbor2Diag, Diag2Diag}
+use Rattle.cbor_edn.specs.declared.engine.Options.{Options}
 use Rattle.cbor_edn.specs.declared.engine.RunError.{RunError}
-use Rattle.cbor_edn.specs.declared.engine.RunError.TheVariants.{Read, NotUtf8, Parse, Inconsistent, Write, Memory}
+use Rattle.cbor_edn.specs.declared.engine.RunError.TheVariants.{Read, NotUtf8, Parse, Cbor, Hex, Inconsistent, Write, Memory}
 
--- What is written for an input: the encodings of the values that some items mean which the input spells.
--- `83 01 18 1f 80` for `[1, 0x1f, []]`
-abbrev pub IsOutput : List ℕ → List ℕ → Type 0
-IsOutput input out = IsUtf8 input × ((x : Items) × (v : Values) × SpellsSequence x input × (nesting x ≤ NESTING_LIMIT) × (means x ≡ Some v) × EncAll out v)
+-- ---- what is written
+
+-- The tree that a text is read as, if its items nest within the limit: the only one with this text.
+pub record IsReadAs (limit : ℕ) (input : List ℕ) (w : Tree Seq) : Type 0 where
+  pub utf8 : IsUtf8 input
+  pub prints : text w ≡ input
+  pub valid : Valid w
+  pub merged : Merged w
+  pub within : nesting (items w) ≤ limit
+
+-- The tree that bytes are decoded as, if the items of the values that they encode nest within the limit: these items, with the spaces of
+-- a single line.
+pub record IsDecodedAs (limit : ℕ) (bytes : List ℕ) (w : Tree Seq) : Type 0 where
+  pub values : Values
+  pub encoded : EncAll bytes values
+  pub within : nesting (items_of values) ≤ limit
+  pub same_items : items w ≡ items_of values
+  pub spaced : w ≡ regular_sequence (items_of values)
+  pub meant : means (items w) ≡ Some values
+  pub valid : Valid w
+
+-- the bytes of an input, which may be digits
+abbrev pub input_bytes : Bool → List ℕ → Result (List ℕ) FromHexError
+input_bytes hex input = if hex then hex_bytes input else Ok input
+
+-- The tree that a run works on.
+abbrev pub Loads : Command → Options → List ℕ → Tree Seq → Type 0
+Loads Diag2Cbor o input w = IsReadAs o.limit input w
+Loads Cbor2Diag o input w = (bytes : List ℕ) × (input_bytes o.hex input ≡ Ok bytes) × IsDecodedAs o.limit bytes w
+Loads Diag2Diag o input w = IsReadAs o.limit input w
+
+-- a tree after a policy that may be asked for
+abbrev pub laid_where : Bool → DelimiterPolicy → Tree Seq → Tree Seq
+laid_where asked policy w = if asked then laid_out policy w else w
+
+-- The tree that is written: without comments where that is asked for, then indented unless its spaces are to stay.
+abbrev pub edited : Options → Tree Seq → Tree Seq
+edited o w = laid_where (not o.preserve_space) indented (laid_where o.remove_comments DiscardAll w)
+
+-- the bytes that a tree's items mean, or their digits in lines
+abbrev pub IsEncodedAs : Bool → Tree Seq → List ℕ → Type 0
+IsEncodedAs hex w out = (vs : Values) × (bytes : List ℕ) × (means (items w) ≡ Some vs) × EncAll bytes vs × (out ≡ (if hex then hex_lines bytes else bytes))
+
+-- a tree's text
+abbrev pub IsPrintedAs : Tree Seq → List ℕ → Type 0
+IsPrintedAs w out = IsUtf8 out × (out ≡ text w)
+
+abbrev pub IsWrittenAs : Command → Options → Tree Seq → List ℕ → Type 0
+IsWrittenAs Diag2Cbor o w out = IsEncodedAs o.hex w out
+IsWrittenAs Cbor2Diag o w out = IsPrintedAs w out
+IsWrittenAs Diag2Diag o w out = IsPrintedAs w out
+
+-- What is written for an input: `83 01 18 1f 80` for `[1, 0x1f, []]` by `Diag2Cbor`, and `[1, 31, []]` with a line feed for that by
+-- `Cbor2Diag`.
+abbrev pub IsOutput : Options → List ℕ → List ℕ → Type 0
+IsOutput o input out = (w : Tree Seq) × Loads o.command o input w × IsWrittenAs o.command o (edited o w) out
+
+-- ---- what is refused
+
+-- Why a text is not read: it is no UTF-8, or it spells nothing within the limit.
+abbrev pub IsUnread : ℕ → List ℕ → RunError → Type 0
+IsUnread limit input Read = ⊥
+IsUnread limit input NotUtf8 = ¬ IsUtf8 input
+IsUnread limit input (Parse e) = IsUtf8 input × Unparsed SpellsSequence limit input e
+IsUnread limit input (Cbor _) = ⊥
+IsUnread limit input Hex = ⊥
+IsUnread limit input (Inconsistent _) = ⊥
+IsUnread limit input Write = ⊥
+IsUnread limit input (Memory _) = Unit {0}
+
+-- Why bytes are not decoded: they encode no values, or only such as have items that nest too deep.
+abbrev pub IsUndecoded : ℕ → List ℕ → CborError → Type 0
+IsUndecoded limit bytes e = (e ≢ TooDeep → NoSequence bytes) × (e ≡ TooDeep → IsTooDeepSequence limit bytes)
+
+abbrev pub ReadsText : Command → Type 0
+ReadsText Diag2Cbor = Unit {0}
+ReadsText Cbor2Diag = ⊥
+ReadsText Diag2Diag = Unit {0}
 
 -- Why nothing is written for an input. Devices have no part in it, and memory may run out at any input.
-abbrev pub IsRefused : List ℕ → RunError → Type 0
-IsRefused input Read = ⊥
-IsRefused input NotUtf8 = ¬ IsUtf8 input
--- the input spells nothing, or only what nests too deep
-IsRefused input (Parse _) = IsUtf8 input × ((x : Items) → SpellsSequence x input → NESTING_LIMIT < nesting x)
-IsRefused input (Inconsistent _) = IsUtf8 input × ((x : Items) × SpellsSequence x input × (nesting x ≤ NESTING_LIMIT) × (means x ≡ None))
-IsRefused input Write = ⊥
-IsRefused input (Memory _) = Unit {0}
+abbrev pub IsRefused : Options → List ℕ → RunError → Type 0
+IsRefused o input Read = ⊥
+IsRefused o input NotUtf8 = ReadsText o.command × IsUnread o.limit input NotUtf8
+IsRefused o input (Parse e) = ReadsText o.command × IsUnread o.limit input (Parse e)
+IsRefused o input (Cbor e) = (o.command ≡ Cbor2Diag) × ((bytes : List ℕ) × (input_bytes o.hex input ≡ Ok bytes) × IsUndecoded o.limit bytes e)
+IsRefused o input Hex = (o.command ≡ Cbor2Diag) × IsErr (input_bytes o.hex input)
+IsRefused o input (Inconsistent e) = (o.command ≡ Diag2Cbor) × ((w : Tree Seq) × IsReadAs o.limit input w × (means (items (edited o w)) ≡ None))
+IsRefused o input Write = ⊥
+IsRefused o input (Memory _) = Unit {0}
+
+-- ---- what a run does
 
 -- what a run does to what its sink holds, by its answer, for an input where it is known
-abbrev pub Wrote : Result (Unit {0}) RunError → Option (List ℕ) → Option (List ℕ) → Option (List ℕ) → Type 0
-Wrote (Ok _) input old new = (out : List ℕ) × IfSome input (λ i. IsOutput i out) × Appends old new out
-Wrote (Err Write) input old new = (out : List ℕ) × IfSome input (λ i. IsOutput i out) × AppendsBeginning old new out
-Wrote (Err Read) input old new = Keeps old new
-Wrote (Err NotUtf8) input old new = IfSome input (λ i. IsRefused i NotUtf8) × Keeps old new
-Wrote (Err (Parse e)) input old new = IfSome input (λ i. IsRefused i (Parse e)) × Keeps old new
-Wrote (Err (Inconsistent e)) input old new = IfSome input (λ i. IsRefused i (Inconsistent e)) × Keeps old new
-Wrote (Err (Memory _)) input old new = Keeps old new
+abbrev pub Wrote : Options → Result (Unit {0}) RunError → Option (List ℕ) → Option (List ℕ) → Option (List ℕ) → Type 0
+Wrote o (Ok _) input old new = (out : List ℕ) × IfSome input (λ i. IsOutput o i out) × Appends old new out
+Wrote o (Err Write) input old new = (out : List ℕ) × IfSome input (λ i. IsOutput o i out) × AppendsBeginning old new out
+Wrote o (Err Read) input old new = Keeps old new
+Wrote o (Err NotUtf8) input old new = IfSome input (λ i. IsRefused o i NotUtf8) × Keeps old new
+Wrote o (Err (Parse e)) input old new = IfSome input (λ i. IsRefused o i (Parse e)) × Keeps old new
+Wrote o (Err (Cbor e)) input old new = IfSome input (λ i. IsRefused o i (Cbor e)) × Keeps old new
+Wrote o (Err Hex) input old new = IfSome input (λ i. IsRefused o i Hex) × Keeps old new
+Wrote o (Err (Inconsistent e)) input old new = IfSome input (λ i. IsRefused o i (Inconsistent e)) × Keeps old new
+Wrote o (Err (Memory _)) input old new = Keeps old new
 
 -- whether a run that answers so has read its input to the end
 abbrev pub HasReadAll : {T : Type 0} → Result T RunError → Type 0
@@ -44,6 +136,8 @@ HasReadAll (Ok _) = Unit {0}
 HasReadAll (Err Read) = ⊥
 HasReadAll (Err NotUtf8) = Unit {0}
 HasReadAll (Err (Parse _)) = Unit {0}
+HasReadAll (Err (Cbor _)) = Unit {0}
+HasReadAll (Err Hex) = Unit {0}
 HasReadAll (Err (Inconsistent _)) = Unit {0}
 HasReadAll (Err Write) = Unit {0}
 HasReadAll (Err (Memory _)) = ⊥
@@ -54,6 +148,8 @@ read_faults (Ok _) = 0
 read_faults (Err Read) = 1
 read_faults (Err NotUtf8) = 0
 read_faults (Err (Parse _)) = 0
+read_faults (Err (Cbor _)) = 0
+read_faults (Err Hex) = 0
 read_faults (Err (Inconsistent _)) = 0
 read_faults (Err Write) = 0
 read_faults (Err (Memory _)) = 0
@@ -63,6 +159,8 @@ write_faults (Ok _) = 0
 write_faults (Err Read) = 0
 write_faults (Err NotUtf8) = 0
 write_faults (Err (Parse _)) = 0
+write_faults (Err (Cbor _)) = 0
+write_faults (Err Hex) = 0
 write_faults (Err (Inconsistent _)) = 0
 write_faults (Err Write) = 1
 write_faults (Err (Memory _)) = 0
@@ -73,6 +171,8 @@ EndsReading (Ok _) since = Unit {0}
 EndsReading (Err Read) since = since ≡ 0
 EndsReading (Err NotUtf8) since = Unit {0}
 EndsReading (Err (Parse _)) since = Unit {0}
+EndsReading (Err (Cbor _)) since = Unit {0}
+EndsReading (Err Hex) since = Unit {0}
 EndsReading (Err (Inconsistent _)) since = Unit {0}
 EndsReading (Err Write) since = Unit {0}
 EndsReading (Err (Memory _)) since = Unit {0}
@@ -83,6 +183,8 @@ EndsWriting (Ok _) since = Unit {0}
 EndsWriting (Err Read) since = Unit {0}
 EndsWriting (Err NotUtf8) since = Unit {0}
 EndsWriting (Err (Parse _)) since = Unit {0}
+EndsWriting (Err (Cbor _)) since = Unit {0}
+EndsWriting (Err Hex) since = Unit {0}
 EndsWriting (Err (Inconsistent _)) since = Unit {0}
 EndsWriting (Err Write) since = since ≡ 0
 EndsWriting (Err (Memory _)) since = Unit {0}
@@ -92,6 +194,8 @@ abbrev pub IsReadFault : RunError → Type 0
 IsReadFault Read = Unit {0}
 IsReadFault NotUtf8 = ⊥
 IsReadFault (Parse _) = ⊥
+IsReadFault (Cbor _) = ⊥
+IsReadFault Hex = ⊥
 IsReadFault (Inconsistent _) = ⊥
 IsReadFault Write = ⊥
 IsReadFault (Memory _) = Unit {0}

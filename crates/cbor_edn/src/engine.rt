@@ -1,16 +1,23 @@
-//! A whole run: from a reader, through a text in EDN, to a writer.
-ghost use Rattle.std.specs.Prelude.{◌≡◌, ◌+◌, Result, IfOk, OnOk, IfErr, IfSome, string_bytes};
+//! A whole run: from a reader, through a tree of items, to a writer.
+ghost use Rattle.std.specs.Prelude.{◌≡◌, ℕ, ◌+◌, List, Result, IfOk, OnOk, IfErr, IfSome, string_bytes};
 ghost use Rattle.std.specs.Io.KnownBytes.{IsAtEnd, Appends, Consumes, Keeps};
+ghost use Rattle.cbor_edn_core.specs.Trees.{text};
+ghost use Rattle.cbor_edn_core.specs.View.{sequence_tree};
 ghost use Rattle.cbor_edn.specs.Devices.{AppendsBeginning, FailsAtMostOnce};
 ghost use Rattle.cbor_edn.specs.Runs.{IsOutput, IsRefused, IsReadFault, Wrote, HasReadAll, EndsReading, EndsWriting, IsFaultLine, IsTold, read_faults, write_faults, status, told_as};
+ghost use Rattle.cbor_edn.specs.Runs.{IsReadAs, IsUnread, edited};
+ghost use Rattle.cbor_edn.specs.Steps.{IsEncoded, IsUnencoded, IsDiagnosed, IsUndiagnosed, IsReprinted};
 ghost use Rattle.cbor_edn.specs.declared.engine.RunError.{RunError};
-ghost use Rattle.cbor_edn.specs.declared.engine.RunError.TheVariants.{Memory, Parse, Inconsistent};
+ghost use Rattle.cbor_edn.specs.declared.engine.RunError.TheVariants.{Memory, Parse, Cbor, Inconsistent};
 
 mod count;
 mod devices;
+mod hexadecimal;
 
+use cbor_edn_core::from_cbor::CborError;
 use cbor_edn_core::tree::Sequence;
 use cbor_edn_parts::error::{Fault, InconsistentEdn, ParseError};
+use cbor_edn_parts::policy::DelimiterPolicy;
 pub use count::Count;
 pub use devices::{DeviceFault, Sink, Source, StdSink, StdSource};
 use std::alloc::{AllocError, Global};
@@ -21,12 +28,24 @@ use thiserror::Error;
 pub enum Command {
     /// A sequence of items in EDN into their encodings in CBOR.
     Diag2Cbor,
+    /// Encodings in CBOR into the items in EDN.
+    Cbor2Diag,
+    /// A sequence of items in EDN into the same with other spaces.
+    Diag2Diag,
 }
 
-/// What a run is to do.
+/// What a run is to do. Each option holds for every command, but `hex` says nothing to `Diag2Diag`.
 #[derive(Clone, Copy, Debug, PartialEq, Eq)]
 pub struct Options {
     pub command: Command,
+    /// CBOR stands in hexadecimal digits, in the output of `Diag2Cbor` and in the input of `Cbor2Diag`.
+    pub hex: bool,
+    /// Comments are left out.
+    pub remove_comments: bool,
+    /// Spaces stay as they are, where else items are indented.
+    pub preserve_space: bool,
+    /// How deep items may nest.
+    pub limit: usize,
 }
 
 /// Why a run did not end well. Only at `Write` may anything have been written.
@@ -41,6 +60,12 @@ pub enum RunError {
     /// The input is no sequence in EDN, or nests too deep.
     #[error("Error parsing input data: {0}")]
     Parse(ParseError),
+    /// The input's bytes are no encodings, or nest too deep.
+    #[error("Error decoding input data: {0}")]
+    Cbor(CborError),
+    /// The input has a character that is no hexadecimal digit and no space, or an odd number of digits.
+    #[error("Error decoding hexadecimal input")]
+    Hex,
     /// The input's items have no encoding.
     #[error("Error encoding output data: {0}")]
     Inconsistent(InconsistentEdn),
@@ -67,6 +92,17 @@ impl From<Fault<ParseError>> for RunError {
         match fault {
             Fault::Memory(refused) => RunError::Memory(refused),
             Fault::Told(e) => RunError::Parse(e),
+        }
+    }
+}
+
+impl From<Fault<CborError>> for RunError {
+    ghost from_gives = { λ fault e. e ≡ told_as Cbor fault };
+
+    fn from(fault: Fault<CborError>) -> RunError {
+        match fault {
+            Fault::Memory(refused) => RunError::Memory(refused),
+            Fault::Told(e) => RunError::Cbor(e),
         }
     }
 }
@@ -118,21 +154,92 @@ fn write_all<W: Sink>(sink: &mut W, bytes: &[u8]) -> Result<(), RunError>
     Ok(())
 }
 
-// What is written for an input.
-fn output(alloc: Global, options: &Options, input: &[u8]) -> Result<Vec<u8>, RunError>
-    ensures ok { IfOk result (λ out. IsOutput input.now out.items) }
-    ensures err { IfErr result (IsRefused input.now) }
+// The items of a text.
+fn parsed<'a>(alloc: Global, limit: usize, input: &'a [u8]) -> Result<Sequence<'a>, RunError>
+    ensures ok { IfOk result (λ s. IsReadAs limit input.now (sequence_tree s)) }
+    ensures err { IfErr result (IsUnread limit input.now) }
 {
     let Ok(text) = str::from_utf8(input) else {
         return Err(RunError::NotUtf8);
     };
-    let sequence = Sequence::parse(alloc, text)?;
-    match options.command {
-        Command::Diag2Cbor => Ok(sequence.to_cbor(alloc)?),
+    Ok(Sequence::parse_within(alloc, text, limit)?)
+}
+
+// The encodings of what a text means. Spaces and comments have no part in it.
+#[tactic(auto, using(crate::proofs::Loading::encoded_as, crate::proofs::Loading::unencoded_as))]
+fn encoded(alloc: Global, options: &Options, input: &[u8]) -> Result<Vec<u8>, RunError>
+    ensures ok { IfOk result (λ bytes. IsEncoded options.now input.now bytes.items) }
+    ensures err { IfErr result (IsUnencoded options.now input.now) }
+{
+    let sequence = parsed(alloc, options.limit, input)?;
+    match sequence.to_cbor(alloc) {
+        Ok(bytes) => Ok(bytes),
+        Err(fault) => Err(RunError::from(fault)),
     }
 }
 
-/// Reads the source to its end, and writes what its text turns into.
+// The text of items, with the spaces that are asked for.
+fn printed(
+    alloc: Global,
+    options: &Options,
+    sequence: &mut Sequence<'_>,
+) -> Result<String, AllocError>
+    ensures { IfOk result (λ t. string_bytes t ≡ text (edited options.now (sequence_tree sequence.old))) }
+{
+    if options.remove_comments {
+        sequence.set_delimiters(alloc, DelimiterPolicy::DiscardAll)?;
+    }
+    if !options.preserve_space {
+        sequence.set_delimiters(alloc, DelimiterPolicy::indented())?;
+    }
+    sequence.serialize(alloc)
+}
+
+// The text of the items that bytes encode.
+fn diagnosed(alloc: Global, options: &Options, bytes: &[u8]) -> Result<String, RunError>
+    ensures ok { IfOk result (λ t. IsDiagnosed options.now bytes.now (string_bytes t)) }
+    ensures err { IfErr result (IsUndiagnosed options.now bytes.now) }
+{
+    let mut sequence = Sequence::from_cbor_within(alloc, bytes, options.limit)?;
+    Ok(printed(alloc, options, &mut sequence)?)
+}
+
+// The text of the items of a text.
+fn reprinted(alloc: Global, options: &Options, input: &[u8]) -> Result<String, RunError>
+    ensures ok { IfOk result (λ t. IsReprinted options.now input.now (string_bytes t)) }
+    ensures err { IfErr result (IsUnread options.now.limit input.now) }
+{
+    let mut sequence = parsed(alloc, options.limit, input)?;
+    Ok(printed(alloc, options, &mut sequence)?)
+}
+
+// What is written for an input.
+fn output(alloc: Global, options: &Options, input: &[u8]) -> Result<Vec<u8>, RunError>
+    ensures ok { IfOk result (λ out. IsOutput options.now input.now out.items) }
+    ensures err { IfErr result (IsRefused options.now input.now) }
+{
+    match options.command {
+        Command::Diag2Cbor => {
+            let bytes = encoded(alloc, options, input)?;
+            if options.hex {
+                Ok(hexadecimal::encoded(alloc, &bytes)?)
+            } else {
+                Ok(bytes)
+            }
+        }
+        Command::Cbor2Diag => {
+            if options.hex {
+                let bytes = hexadecimal::decoded(alloc, input)?;
+                Ok(diagnosed(alloc, options, &bytes)?.into_bytes())
+            } else {
+                Ok(diagnosed(alloc, options, input)?.into_bytes())
+            }
+        }
+        Command::Diag2Diag => Ok(reprinted(alloc, options, input)?.into_bytes()),
+    }
+}
+
+/// Reads the source to its end, and writes what its input turns into.
 ///
 /// Nothing is written unless all before succeeded. A call of a device that failed is not repeated: `Read` and `Write`
 /// come exactly there. `Memory` comes where memory runs out, and nothing was written then.
@@ -142,7 +249,7 @@ pub fn run<R: Source, W: Sink>(
     source: &mut R,
     sink: &mut W,
 ) -> Result<(), RunError>
-    ensures writes { Wrote result (R.remaining source.old) (W.contents sink.old) (W.contents sink.new) }
+    ensures writes { Wrote options.now result (R.remaining source.old) (W.contents sink.old) (W.contents sink.new) }
     ensures end { HasReadAll result → IsAtEnd (R.remaining source.new) }
     ensures read { R.failures source.new ≡ R.failures source.old + read_faults result }
     ensures write { W.failures sink.new ≡ W.failures sink.old + write_faults result }
@@ -188,7 +295,7 @@ pub fn serve<R: Source, W: Sink, E: Sink>(
     errors: &mut E,
 ) -> u8
     ensures ran { (r : Result (Unit {0}) RunError) × (result ≡ status r)
-        × Wrote r (R.remaining source.old) (W.contents sink.old) (W.contents sink.new)
+        × Wrote options.now r (R.remaining source.old) (W.contents sink.old) (W.contents sink.new)
         × (HasReadAll r → IsAtEnd (R.remaining source.new))
         × (R.failures source.new ≡ R.failures source.old + read_faults r)
         × (W.failures sink.new ≡ W.failures sink.old + write_faults r)

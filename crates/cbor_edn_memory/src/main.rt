@@ -6,7 +6,9 @@
 #![tactic(auto)]
 
 use cbor_edn::engine::{Command, Options, RunError, StdSink, StdSource, run, serve};
-use cbor_edn::{DelimiterPolicy, Fault, Sequence, StandaloneItem};
+use cbor_edn::words::options;
+use cbor_edn::{DelimiterPolicy, Fault, NESTING_LIMIT, Sequence, StandaloneItem};
+use clap::error::ErrorKind;
 use std::alloc::Global;
 use std::io::Read;
 use std::{fmt, io};
@@ -20,11 +22,26 @@ const BYTES: &[u8] =
 // A text as it is decoded.
 const DECODED: &str = "[_ 1, {2: -4_0}, \"a\", (_ h'62'), 1(simple(32))]";
 
+// The same on a line, as it is indented.
+const LINE: &str = "[_ 1, {2: -4_0}, \"a\", (_ h'62'), 1(simple(32))]\n";
+
 const ENCODED: &[u8] = b"\x9f\x01\xa1\x02\x38\x03\x61a\x5f\x41b\xff\xc1\xf8\x20\xff";
 
-const DIAG_TO_CBOR: Options = Options {
-    command: Command::Diag2Cbor,
-};
+// The same in hexadecimal digits.
+const DIGITS: &str = "9f 01 a1 02 38 03 61 61 5f 41 62 ff c1 f8 20 ff";
+
+const WORDS: &[&str] = &["cbor-edn", "diag2diag", "--max-nesting", "3", "in", "out"];
+
+// A run of a command that leaves comments out and takes CBOR as digits where it reads it.
+fn options_of(command: Command) -> Options {
+    Options {
+        command,
+        hex: command == Command::Cbor2Diag,
+        remove_comments: true,
+        preserve_space: false,
+        limit: NESTING_LIMIT,
+    }
+}
 
 // What came of a call.
 #[derive(Clone, Copy, Debug, PartialEq, Eq)]
@@ -121,29 +138,61 @@ fn set_comment(alloc: Global) -> Outcome {
     }
 }
 
-// Whatever was refused, the items are left, and to discard their spaces takes no memory.
+// Whatever was refused, the text of what is left has the same items, and to discard their spaces takes no memory.
 fn set_delimiters(alloc: Global) -> Outcome {
-    let mut item = match StandaloneItem::parse(alloc, "[1, (_ 'a'+'b'), {2: [_ 3]}]") {
+    let mut came_of_it = Outcome::Done;
+    for policy in [
+        DelimiterPolicy::DiscardAll,
+        DelimiterPolicy::DiscardAllButComments,
+        DelimiterPolicy::SingleLineRegularSpacing,
+        DelimiterPolicy::IndentedRegularSpacing {
+            base_indent: 1,
+            indent_level: 2,
+            max_width: 9,
+        },
+        DelimiterPolicy::SingleSpace,
+    ] {
+        match set_policy(alloc, policy) {
+            Outcome::Done => {}
+            Outcome::Refused => came_of_it = Outcome::Refused,
+            Outcome::Wrong => return Outcome::Wrong,
+        }
+    }
+    came_of_it
+}
+
+fn set_policy(alloc: Global, policy: DelimiterPolicy) -> Outcome {
+    let mut item = match StandaloneItem::parse(alloc, "[_ /c/ 1, (_ 'a'+'b' # d\n), {2: /e/ 3}]") {
         Ok(item) => item,
         Err(fault) => return Outcome::of_fault(fault),
     };
-    let indented = DelimiterPolicy::IndentedRegularSpacing {
-        base_indent: 1,
-        indent_level: 2,
-        max_width: 9,
-    };
-    let was_refused = item.set_delimiters(alloc, indented).is_err();
-    if item
-        .set_delimiters(alloc, DelimiterPolicy::DiscardAll)
-        .is_err()
-    {
+    let was_refused = item.set_delimiters(alloc, policy).is_err();
+    if was_refused && policy == DelimiterPolicy::DiscardAll {
         return Outcome::Wrong;
     }
-    match item.serialize(alloc) {
-        Ok(text) if text.as_str() != "[1,(_ 'a'+'b'),{2:[_ 3]}]" => Outcome::Wrong,
-        Ok(_) if was_refused => Outcome::Refused,
-        Ok(_) => Outcome::Done,
-        Err(_) => Outcome::Refused,
+    match reads_back(
+        alloc,
+        &item,
+        b"\x9f\x01\x5f\x42ab\xff\xa1\x02\x03\xff",
+    ) {
+        Outcome::Done if was_refused => Outcome::Refused,
+        outcome => outcome,
+    }
+}
+
+// Whether the item's text means the bytes.
+fn reads_back(alloc: Global, item: &StandaloneItem<'_>, bytes: &[u8]) -> Outcome {
+    let text = match item.serialize(alloc) {
+        Ok(text) => text,
+        Err(_) => return Outcome::Refused,
+    };
+    let read = match StandaloneItem::parse(alloc, text.as_str()) {
+        Ok(read) => read,
+        Err(fault) => return Outcome::of_fault(fault),
+    };
+    match read.to_cbor(alloc) {
+        Ok(found) => Outcome::of_answer(found.as_slice() == bytes),
+        Err(fault) => Outcome::of_fault(fault),
     }
 }
 
@@ -171,18 +220,28 @@ fn discard_encoding_indicators(alloc: Global) -> Outcome {
 }
 
 // Where memory was refused nothing may have been written. The sink takes memory too, and fails where that is refused.
-fn run_once(alloc: Global) -> Outcome {
+fn run_once(alloc: Global, command: Command, input: &str, output: &[u8]) -> Outcome {
     let mut sink = StdSink::new(Vec::new(alloc));
     let result = run(
         alloc,
-        &DIAG_TO_CBOR,
-        &mut StdSource::new(TEXT.as_bytes()),
+        &options_of(command),
+        &mut StdSource::new(input.as_bytes()),
         &mut sink,
     );
     let written = sink.into_inner();
     match result {
-        Ok(()) => Outcome::of_answer(written.as_slice() == BYTES),
+        Ok(()) => Outcome::of_answer(written.as_slice() == output),
         Err(RunError::Memory(_) | RunError::Write) if written.is_empty() => Outcome::Refused,
+        Err(_) => Outcome::Wrong,
+    }
+}
+
+fn words(alloc: Global) -> Outcome {
+    match options(alloc, WORDS) {
+        Ok((read, input, output)) => {
+            Outcome::of_answer(read.limit == 3 && (input, output) == ("in", "out"))
+        }
+        Err(error) if error.kind() == ErrorKind::OutOfMemory => Outcome::Refused,
         Err(_) => Outcome::Wrong,
     }
 }
@@ -193,7 +252,7 @@ fn serve_fault(alloc: Global) -> Outcome {
     let mut errors = StdSink::new(Vec::new(alloc));
     let status = serve(
         alloc,
-        &DIAG_TO_CBOR,
+        &options_of(Command::Diag2Cbor),
         &mut StdSource::new(b"\xff".as_slice()),
         &mut sink,
         &mut errors,
@@ -249,7 +308,19 @@ fn main(rt: HostRuntime) -> io::Result<()> {
             "discard_encoding_indicators",
             discard_encoding_indicators(rt.alloc()),
         ),
-        ("run", run_once(rt.alloc())),
+        (
+            "run diag2cbor",
+            run_once(rt.alloc(), Command::Diag2Cbor, TEXT, BYTES),
+        ),
+        (
+            "run cbor2diag",
+            run_once(rt.alloc(), Command::Cbor2Diag, DIGITS, LINE.as_bytes()),
+        ),
+        (
+            "run diag2diag",
+            run_once(rt.alloc(), Command::Diag2Diag, LINE, LINE.as_bytes()),
+        ),
+        ("words", words(rt.alloc())),
         ("serve", serve_fault(rt.alloc())),
     ] {
         println!(rt; "{name}: {outcome}")?;

@@ -4,13 +4,17 @@ ghost use Rattle.std.specs.Prelude.{◌≡◌, None};
 use cbor_edn::engine::{
     Command, Count, DeviceFault, Options, RunError, Sink, Source, StdSink, StdSource, run, serve,
 };
-use cbor_edn::{InconsistentEdn, ParseError};
+use cbor_edn::{CborError, InconsistentEdn, NESTING_LIMIT, ParseError};
 use cbor_edn_parts::error::ParseErrorKind;
 use std::alloc::{AllocError, Global};
 use std::test::Fail;
 
 const DIAG_TO_CBOR: Options = Options {
     command: Command::Diag2Cbor,
+    hex: false,
+    remove_comments: false,
+    preserve_space: false,
+    limit: NESTING_LIMIT,
 };
 
 // Gives a text a few bytes a call, and fails at one call.
@@ -238,6 +242,11 @@ fn words_of_faults(rt: HostRuntime) -> Result<(), Fail> {
             RunError::Parse(ParseError::new(ParseErrorKind::Invalid, 7, 2, 3)),
             "Error parsing input data: Invalid EDN in line 2 column 3 (byte 7)",
         ),
+        (
+            RunError::Cbor(CborError::MissingArgument),
+            "Error decoding input data: Missing argument bytes",
+        ),
+        (RunError::Hex, "Error decoding hexadecimal input"),
         (
             RunError::Inconsistent(InconsistentEdn::NumberWithoutEncoding),
             "Error encoding output data: Number has no encoding",

@@ -1,0 +1,69 @@
+-- From what a call of the tree answers to what a run says.
+use Rattle.std.proofs.Common.{◌≡◌, ℕ, List, Some, ap, sym, subst, ◌∙◌}
+use Rattle.std.specs.Str.{IsUtf8}
+use Rattle.cbor_edn_core.specs.Parsing.{ParsedSequence}
+use Rattle.cbor_edn_core.specs.Decoded.{IsDecodedSequence}
+use Rattle.cbor_edn_core.specs.Meaning.{means}
+use Rattle.cbor_edn_core.specs.Trees.{Tree, Seq, items}
+use Rattle.cbor_edn_core.specs.Value.{Values, EncAll}
+use Rattle.cbor_edn_core.specs.View.{Sequence, sequence_tree}
+use Rattle.cbor_edn_core.proofs.code.Printable.{sequence_valid}
+use Rattle.cbor_edn_core.proofs.text.Tested.{valid}
+use Rattle.cbor_edn.proofs.Edits.{edited_items}
+use Rattle.std.specs.Prelude.{false, Err}
+use Rattle.cbor_edn_parts.specs.Refusals.{IfTold}
+use Rattle.cbor_edn_parts.specs.declared.error.Fault.{Fault}
+use Rattle.cbor_edn_parts.specs.declared.error.Fault.TheVariants.{Memory, Told}
+use Rattle.cbor_edn_parts.specs.declared.error.InconsistentEdn.{InconsistentEdn}
+use Rattle.cbor_edn_core.specs.Meaning.{NoEncoding}
+use Rattle.cbor_edn.specs.Runs.{IsReadAs, IsDecodedAs, IsRefused, input_bytes, told_as}
+use Rattle.cbor_edn.specs.Steps.{IsEncoded, IsUnencoded, IsUndiagnosed}
+use Rattle.cbor_edn.specs.declared.engine.Command.TheVariants.{Cbor2Diag}
+use Rattle.cbor_edn.specs.declared.engine.RunError.{RunError}
+use Rattle.cbor_edn.specs.declared.engine.RunError.TheVariants.{Read, NotUtf8, Parse, Cbor, Hex, Inconsistent, Write}
+use Rattle.cbor_edn.specs.declared.engine.RunError.TheVariants as run
+use Rattle.cbor_edn.specs.declared.engine.Options.{Options}
+
+pub read_as : (limit : ℕ) (input t : List ℕ) (x : Sequence) → t ≡ input → IsUtf8 input → ParsedSequence limit t x → IsReadAs limit input (sequence_tree x)
+read_as limit input t x same utf8 parsed = record {
+  utf8 = utf8;
+  prints = parsed.prints ∙ same;
+  valid = valid (sequence_tree x) (sequence_valid x);
+  merged = parsed.merged;
+  within = parsed.accepted.within;
+}
+
+pub decoded_as : (limit : ℕ) (bytes : List ℕ) (x : Sequence) → IsDecodedSequence limit bytes (sequence_tree x) → IsDecodedAs limit bytes (sequence_tree x)
+decoded_as limit bytes x d = record {
+  values = d.values;
+  encoded = d.encoded;
+  within = d.within;
+  same_items = d.same_items;
+  spaced = d.spaced;
+  meant = d.meant;
+  valid = valid (sequence_tree x) (sequence_valid x);
+}
+
+pub encoded_as : (o : Options) (input bytes : List ℕ) (w : Tree Seq) → IsReadAs o.limit input w
+    → (vs : Values) × (means (items w) ≡ Some vs) × EncAll bytes vs → IsEncoded o input bytes
+encoded_as o input bytes w read (vs, meant, enc) = (w, vs, read, ap means (edited_items o w) ∙ meant, enc)
+
+refused_with : (o : Options) (input : List ℕ) (w : Tree Seq) (f : Fault InconsistentEdn) → IsReadAs o.limit input w
+    → IfTold {X = Unit {0}} (Err f) (NoEncoding (means (items w))) → IsUnencoded o input (told_as Inconsistent f)
+refused_with o input w (Memory e) read none = tt
+refused_with o input w (Told e) read none = (w, read, ap means (edited_items o w) ∙ none)
+
+pub unencoded_as : (o : Options) (input : List ℕ) (w : Tree Seq) (f : Fault InconsistentEdn) (e : RunError) → IsReadAs o.limit input w → e ≡ told_as Inconsistent f
+    → IfTold {X = Unit {0}} (Err f) (NoEncoding (means (items w))) → IsUnencoded o input e
+unencoded_as o input w f e read is none = subst (IsUnencoded o input) (sym is) (refused_with o input w f read none)
+
+-- where the input itself is what is decoded
+pub refused_bytes : (o : Options) (input : List ℕ) (e : RunError) → o.command ≡ Cbor2Diag → o.hex ≡ false → IsUndiagnosed o input e → IsRefused o input e
+refused_bytes o input Read is binary refused = refused
+refused_bytes o input NotUtf8 is binary refused = absurd refused
+refused_bytes o input (Parse e) is binary refused = absurd refused
+refused_bytes o input (Cbor e) is binary refused = (is, (input, ap (λ b. input_bytes b input) binary, refused))
+refused_bytes o input Hex is binary refused = absurd refused
+refused_bytes o input (Inconsistent e) is binary refused = absurd refused
+refused_bytes o input Write is binary refused = refused
+refused_bytes o input (run.Memory e) is binary refused = tt
