@@ -1,6 +1,7 @@
 #!/usr/bin/env bash
-# All tests: where a text is read (a look at the sources), each proof, edit that must fail, test and program (`rt ci`), and
-# then the calls of each crate *_memory with each of their allocations refused in turn. The last line is 'N passed, M failed'.
+# All tests: where a text is read (a look at the sources), each proof, edit that must fail, test and program (`rt ci`),
+# then the calls of each crate *_memory with each of their allocations refused in turn, and the encodings of another
+# implementation, where it is installed. The last line is 'N passed, M failed'.
 set -euo pipefail
 
 cd "$(dirname "$(readlink -f "$0")")/.."
@@ -32,5 +33,6 @@ add rt ci
 for crate in crates/*_memory; do
   add scripts/refuse-memory.sh "$(basename "$crate")"
 done
+add scripts/check-outside.sh
 echo "$passed passed, $failed failed"
 [ "$failed" = 0 ]
