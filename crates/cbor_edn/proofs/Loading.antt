@@ -34,15 +34,7 @@ read_as limit input t x same utf8 parsed = record {
 }
 
 pub decoded_as : (limit : ℕ) (bytes : List ℕ) (x : Sequence) → IsDecodedSequence limit bytes (sequence_tree x) → IsDecodedAs limit bytes (sequence_tree x)
-decoded_as limit bytes x d = record {
-  values = d.values;
-  encoded = d.encoded;
-  within = d.within;
-  same_items = d.same_items;
-  spaced = d.spaced;
-  meant = d.meant;
-  valid = valid (sequence_tree x) (sequence_valid x);
-}
+decoded_as limit bytes x d = (d, valid (sequence_tree x) (sequence_valid x))
 
 pub encoded_as : (o : Options) (input bytes : List ℕ) (w : Tree Seq) → IsReadAs o.limit input w
     → (vs : Values) × (means (items w) ≡ Some vs) × EncAll bytes vs → IsEncoded o input bytes

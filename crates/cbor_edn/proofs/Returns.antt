@@ -38,9 +38,9 @@ encodes o limit bytes t w plain same_limit d utf8 spelled =
         prints = tree.4;
         valid = tree.1;
         merged = tree.2;
-        within = omega (arith, ap nesting tree.3, ap nesting d.same_items, d.within, same_limit);
+        within = omega (arith, ap nesting tree.3, ap nesting d.0.same_items, d.0.within, same_limit);
       },
-      (d.values, bytes, ap means (edited_items o tree.0 ∙ tree.3) ∙ d.meant, d.encoded, sym (ap (λ h. if h then hex_lines bytes else bytes) plain)),
+      (d.0.values, bytes, ap means (edited_items o tree.0 ∙ tree.3) ∙ d.0.meant, d.0.encoded, sym (ap (λ h. if h then hex_lines bytes else bytes) plain)),
     )
 
 -- It is encoded as nothing else.
@@ -49,14 +49,14 @@ no_other : (o : Options) (limit : ℕ) (bytes b t : List ℕ) (w v : Tree Seq) �
 no_other o limit bytes b t w v plain d spelled read (vs, e, meant, enc, is) =
     let also : SpellsSequence (items v) t = subst (SpellsSequence (items v)) read.prints (spelled_by_trees.2 v read.valid) in
     let same : items v ≡ items w = unique_items.0 (items v) (items w) t also spelled in
-    let values : vs ≡ d.values = some_same vs d.values (sym meant ∙ ap means (edited_items o v ∙ same) ∙ d.meant) in
-    is ∙ ap (λ h. if h then hex_lines e else e) plain ∙ enc.1 ∙ ap encodings values ∙ sym d.encoded.1
+    let values : vs ≡ d.0.values = some_same vs d.0.values (sym meant ∙ ap means (edited_items o v ∙ same) ∙ d.0.meant) in
+    is ∙ ap (λ h. if h then hex_lines e else e) plain ∙ enc.1 ∙ ap encodings values ∙ sym d.0.encoded.1
 
 pub reads_back : ReadsBack
 reads_back there back bytes out is_there is_back plain plain_back same_limit (w, loaded, written) =
     let d = decoded there bytes w plain (subst (λ (c : Command). Loads c there bytes w) is_there loaded) in
     let printed = subst (λ (c : Command). IsWrittenAs c there (edited there w) out) is_there written in
-    let own : SpellsSequence (items (edited there w)) (text (edited there w)) = spelled_by_trees.2 (edited there w) (edited_valid there w d.valid) in
+    let own : SpellsSequence (items (edited there w)) (text (edited there w)) = spelled_by_trees.2 (edited there w) (edited_valid there w d.1) in
     let spelled : SpellsSequence (items w) out =
     subst (λ x. SpellsSequence x out) (edited_items there w) (subst (SpellsSequence (items (edited there w))) (sym printed.1) own) in
     let made = encodes back there.limit bytes out w plain_back same_limit d printed.0 spelled in (

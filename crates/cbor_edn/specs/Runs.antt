@@ -17,7 +17,7 @@ use Rattle.cbor_edn_core.specs.Trees.{Tree, Seq, Valid, Merged, items, text}
 use Rattle.cbor_edn_core.specs.Layout.{laid_out}
 use Rattle.cbor_edn_core.specs.Meaning.{means}
 use Rattle.cbor_edn_core.specs.Value.{Values, EncAll}
-use Rattle.cbor_edn_core.specs.Decoded.{items_of, regular_sequence, NoSequence, IsTooDeepSequence}
+use Rattle.cbor_edn_core.specs.Decoded.{IsDecodedSequence, NoSequence, IsTooDeepSequence}
 use Rattle.cbor_edn.specs.Devices.{AppendsBeginning}
 use Rattle.cbor_edn.specs.Hexadecimal.{hex_bytes, hex_lines}
 use Rattle.cbor_edn.specs.declared.engine.Command.{Command}
@@ -36,16 +36,9 @@ pub record IsReadAs (limit : ℕ) (input : List ℕ) (w : Tree Seq) : Type 0 whe
   pub merged : Merged w
   pub within : nesting (items w) ≤ limit
 
--- The tree that bytes are decoded as, if the items of the values that they encode nest within the limit: these items, with the spaces of
--- a single line.
-pub record IsDecodedAs (limit : ℕ) (bytes : List ℕ) (w : Tree Seq) : Type 0 where
-  pub values : Values
-  pub encoded : EncAll bytes values
-  pub within : nesting (items_of values) ≤ limit
-  pub same_items : items w ≡ items_of values
-  pub spaced : w ≡ regular_sequence (items_of values)
-  pub meant : means (items w) ≡ Some values
-  pub valid : Valid w
+-- The tree that bytes are decoded as, if the items of the values that they encode nest within the limit.
+abbrev pub IsDecodedAs : ℕ → List ℕ → Tree Seq → Type 0
+IsDecodedAs limit bytes w = IsDecodedSequence limit bytes w × Valid w
 
 -- the bytes of an input, which may be digits
 abbrev pub input_bytes : Bool → List ℕ → Result (List ℕ) FromHexError

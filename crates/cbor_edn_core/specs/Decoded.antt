@@ -1,5 +1,6 @@
 -- The item that a value is decoded as, with the spaces that it is given.
 use Rattle.std.specs.Prelude.{ℕ, pos, negsuc, ◌≡◌, ◌++◌, ◌^◌, ◌≤◌, ◌<◌, nat_lt, nat_le, ◌==◌, if◌then◌else◌, count_by, length, List, [], ◌∷◌, Option, Some, None}
+use Rattle.cbor_edn_parts.specs.declared.policy.DelimiterPolicy.TheVariants.{DiscardAll, SingleLineRegularSpacing}
 use Rattle.std.specs.Fmt.{signed_decimal}
 use Rattle.cbor_edn_parts.specs.declared.indicator.Indicator.{Indicator}
 use Rattle.cbor_edn_parts.specs.declared.indicator.Indicator.TheVariants as indicator
@@ -7,14 +8,14 @@ use Rattle.cbor_edn_parts.specs.Contents.{kind_literal, empty_literal}
 use Rattle.cbor_edn_parts.specs.declared.string.StringKind.{StringKind}
 use Rattle.cbor_edn_core.specs.declared.cbor.Width.{Width}
 use Rattle.cbor_edn_core.specs.declared.cbor.Width.TheVariants.{Immediate, One, Two, Four, Eight}
-use Rattle.cbor_edn_core.specs.declared.tree.LabelKind.TheVariants as label
 use Rattle.cbor_edn_core.specs.declared.word.NamedSimple.TheVariants.{False, True, Null, Undefined}
 use Rattle.cbor_edn_core.specs.Items as kind
-use Rattle.cbor_edn_core.specs.Items.{Row, Elements, Strings, Bracketed, Array, Map, entries_of, Sort, Item, Piece, Pieces, Entry, Entries, Node, Number, Float, Listed, Tagged, Named, Simple, String, Stream, Literal, Dots, Embedded, LastPiece, Plus, Element, Pair, Chunk, End, Then, Items, nesting}
-use Rattle.cbor_edn_core.specs.Trees.{Tree, OneItem, OnePiece, OneString, OneEntry, Inside, Rest, Seq, Standalone, ListHead, Unmarked, Marked, NumberTree, FloatTree, NamedTree, EnclosedTree, ListTree, StringTree, StreamTree, LiteralTree, DotsTree, EmbeddedTree, LastPieceTree, PlusTree, ElementTree, PairTree, ChunkTree, EmptyTree, FullTree, LastTree, MoreTree, NothingTree, SequenceTree, StandaloneTree, items}
+use Rattle.cbor_edn_core.specs.Items.{Strings, Array, Map, Item, Pieces, Entries, Node, Number, Float, Listed, Tagged, Named, Simple, String, Stream, Literal, LastPiece, Element, Pair, Chunk, End, Then, Items, nesting}
+use Rattle.cbor_edn_core.specs.Trees.{Rule, Tree, OneItem, Seq, Standalone, StandaloneTree, items}
 use Rattle.cbor_edn_core.specs.Value as values
 use Rattle.cbor_edn_core.specs.Value.{Value, unsigned, negative, string, chunks, array, object, tag, simple, float, Values, no_values, value, values_len, Pairs, no_pairs, pair, pairs_len, Enc, EncAll}
 use Rattle.cbor_edn_core.specs.Meaning.{means}
+use Rattle.cbor_edn_core.specs.Layout.{laid_out}
 
 -- ---- items
 
@@ -85,79 +86,20 @@ abbrev mutual
   pairs_of no_pairs = End
   pairs_of (pair k v ps) = Then (Pair (item_of k) (item_of v)) (pairs_of ps)
 
--- ---- their spaces
-
--- an entry in front of others: `, ` between two, and nothing behind the last
-abbrev pub in_front : {k : Row} → Tree (OneEntry k) → Option (Tree (Rest k)) → Tree (Rest k)
-in_front e None = LastTree e []
-in_front e (Some m) = MoreTree e (44 ∷ 32 ∷ []) m
-
--- one space behind an indicator
-abbrev pub spaced_list_head : Option Indicator → ListHead
-spaced_list_head None = Unmarked
-spaced_list_head (Some i) = Marked i (32 ∷ [])
-
--- what stands between brackets: `[_]` and `[]` have no space
-abbrev pub list_inside : {k : Bracketed} → Option Indicator → Option (Tree (Rest (entries_of k))) → Tree (Inside k)
-list_inside i None = EmptyTree i []
-list_inside i (Some m) = FullTree (spaced_list_head i) [] m
-
-abbrev pub key_value : Tree OneItem → Tree OneItem → Tree (OneEntry kind.Pairs)
-key_value v w = PairTree v [] (32 ∷ []) w
-
-abbrev pub sequence_tree_of : Option (Tree (Rest Elements)) → Tree Seq
-sequence_tree_of None = NothingTree []
-sequence_tree_of (Some m) = SequenceTree [] m
-
--- A stream: one space behind `(_`. No text spells a stream without strings, and no value has it for its item.
-abbrev pub stream_tree : Option (Tree (Rest Strings)) → Tree OneItem
-stream_tree None = StringTree (LastPieceTree (LiteralTree [] None))
-stream_tree (Some m) = StreamTree (32 ∷ []) m
-
 -- an item without space round it
 abbrev pub alone : Tree OneItem → Tree Standalone
 alone w = StandaloneTree [] w []
-
--- an embedded sequence
-abbrev pub embedded_tree : Option (Tree (Rest Elements)) → Option Indicator → Tree OnePiece
-embedded_tree m i = EmbeddedTree (sequence_tree_of m) i
-
-abbrev pub Regular : Sort → Type 0
-Regular Item = Tree OneItem
-Regular Piece = Tree OnePiece
-Regular Pieces = Tree OneString
-Regular (Entry k) = Tree (OneEntry k)
-Regular (Entries k) = Option (Tree (Rest k))
-
--- An item with the spaces of a single line, as in `[_ 1, {2: 3}]`; of a row what stands behind the first space of its list, if anything.
-unfoldable pub regular : {s : Sort} → Node s → Regular s
-regular (Number x i) = NumberTree x i
-regular (Float f i) = FloatTree f i
-regular (Listed k i m) = ListTree k (list_inside i (regular m))
-regular (Tagged n i w) = EnclosedTree (label.Tag n i) (alone (regular w))
-regular (Named b) = NamedTree b
-regular (Simple w) = EnclosedTree label.Simple (alone (regular w))
-regular (String w) = StringTree (regular w)
-regular (Stream m) = stream_tree (regular m)
-regular (Literal x i) = LiteralTree x i
-regular (Dots x) = DotsTree x
-regular (Embedded m i) = embedded_tree (regular m) i
-regular (LastPiece p) = LastPieceTree (regular p)
-regular (Plus p w) = PlusTree (regular p) (32 ∷ []) (32 ∷ []) (regular w)
-regular (Element w) = ElementTree (regular w)
-regular (Pair v w) = key_value (regular v) (regular w)
-regular (Chunk w) = ChunkTree (regular w)
-regular End = None
-regular (Then e m) = Some (in_front (regular e) (regular m))
-
-abbrev pub regular_sequence : Items → Tree Seq
-regular_sequence m = sequence_tree_of (regular m)
 
 -- ---- what is decoded
 
 -- The bytes are an encoding of the value and what follows it.
 abbrev pub BeginsWith : List ℕ → List ℕ → Value → Type 0
 BeginsWith bytes rest v = (front : List ℕ) × Enc front v × (bytes ≡ front ++ rest)
+
+-- The spaces of a single line, without comments: what single-line spacing makes of a tree whose spaces were all discarded. So trees
+-- with the same items are one, as `[_ 1, {2: 3}]`.
+abbrev pub IsSingleLine : {s : Rule} → Tree s → Type 0
+IsSingleLine w = w ≡ laid_out SingleLineRegularSpacing (laid_out DiscardAll w)
 
 -- The tree is that of a value that is encoded so and whose item nests no deeper than the limit: its items are that item, with
 -- the spaces of a single line, and mean this value.
@@ -166,7 +108,7 @@ pub record IsDecoded (limit : ℕ) (Encoded : Value → Type 0) (w : Tree OneIte
   pub encoded : Encoded value
   pub within : nesting (item_of value) ≤ limit
   pub same_items : items w ≡ item_of value
-  pub spaced : w ≡ regular (item_of value)
+  pub spaced : IsSingleLine w
   pub meant : means (items w) ≡ Some value
 
 -- The same of the values of a sequence, whose encodings are all of the bytes.
@@ -175,7 +117,7 @@ pub record IsDecodedSequence (limit : ℕ) (bytes : List ℕ) (w : Tree Seq) : T
   pub encoded : EncAll bytes values
   pub within : nesting (items_of values) ≤ limit
   pub same_items : items w ≡ items_of values
-  pub spaced : w ≡ regular_sequence (items_of values)
+  pub spaced : IsSingleLine w
   pub meant : means (items w) ≡ Some values
 
 -- ---- refusals

@@ -7,7 +7,7 @@ use Rattle.cbor_edn_core.specs.Spelling.{SpellsOne, SpellsSequence}
 use Rattle.cbor_edn_core.specs.Trees.{Rule, OneItem, Standalone, Seq, Tree, Valid, items, text}
 use Rattle.cbor_edn_core.specs.Value.{Value, Values, Fits, ValuesFit}
 use Rattle.cbor_edn_core.specs.Meaning.{means}
-use Rattle.cbor_edn_core.specs.Decoded.{item_of, items_of, regular, regular_sequence}
+use Rattle.cbor_edn_core.specs.Decoded.{item_of, items_of, IsSingleLine}
 use Rattle.cbor_edn_core.specs.Layout.{laid_out}
 use Rattle.cbor_edn_core.specs.Commented.{commented}
 
@@ -48,17 +48,17 @@ ForgetsLayout = (s : Rule) (policy earlier : DelimiterPolicy) (w : Tree s) → K
 abbrev pub SameTwice : Type 0
 SameTwice = (s : Rule) (policy : DelimiterPolicy) (w : Tree s) → Valid w → laid_out policy (laid_out policy w) ≡ laid_out policy w
 
--- The spaces of decoded items are those of a single line: the tree of a value's item stays as it is, and so does every other tree of this
--- item become it, once its comments are gone.
-abbrev pub DecodedIsRegular : Type 0
-DecodedIsRegular =
-    ((v : Value) → laid_out SingleLineRegularSpacing (regular (item_of v)) ≡ regular (item_of v))
-    × ((vs : Values) → laid_out SingleLineRegularSpacing (regular_sequence (items_of vs)) ≡ regular_sequence (items_of vs))
+-- The policy of a single line leaves the trees of decoded items as they are.
+abbrev pub DecodedStays : Type 0
+DecodedStays =
+    ((v : Value) (w : Tree OneItem) → items w ≡ item_of v → IsSingleLine w → laid_out SingleLineRegularSpacing w ≡ w)
+    × ((vs : Values) (w : Tree Seq) → items w ≡ items_of vs → IsSingleLine w → laid_out SingleLineRegularSpacing w ≡ w)
 
-abbrev pub OneRegularTree : Type 0
-OneRegularTree =
-    ((v : Value) (w : Tree OneItem) → items w ≡ item_of v → laid_out SingleLineRegularSpacing (laid_out DiscardAll w) ≡ regular (item_of v))
-    × ((vs : Values) (w : Tree Seq) → items w ≡ items_of vs → laid_out SingleLineRegularSpacing (laid_out DiscardAll w) ≡ regular_sequence (items_of vs))
+-- The items of a value have one such tree.
+abbrev pub OneSingleLine : Type 0
+OneSingleLine =
+    ((v : Value) (w u : Tree OneItem) → items w ≡ item_of v → items u ≡ item_of v → IsSingleLine w → IsSingleLine u → w ≡ u)
+    × ((vs : Values) (w u : Tree Seq) → items w ≡ items_of vs → items u ≡ items_of vs → IsSingleLine w → IsSingleLine u → w ≡ u)
 
 -- A comment in front of an item leaves its items, and is space itself. (The bytes of a text are below 256.)
 abbrev pub CommentKeepsItems : Type 0

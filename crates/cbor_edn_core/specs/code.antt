@@ -8,6 +8,7 @@ pub mod LookCosts
 pub mod Lookahead
 pub mod ParserResults
 pub mod Reading
+pub mod Regular
 pub mod Same
 pub mod Unmarking
 pub mod Widths

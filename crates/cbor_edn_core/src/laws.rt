@@ -2,7 +2,7 @@
 ghost use Rattle.cbor_edn_core.specs.BareLaws.{WithoutIndicatorsIsBare, WithoutIndicatorsStaysValid, BareMeans};
 ghost use Rattle.cbor_edn_core.specs.CborLaws.{OneEncoding, ItemMeans, SpelledMeans};
 ghost use Rattle.cbor_edn_core.specs.Fewer.{FewerMean};
-ghost use Rattle.cbor_edn_core.specs.LayoutLaws.{KeepsItems, StaysValid, SpellsTheSame, CommentKeepsItems, CommentStaysValid, ForgetsLayout, SameTwice, DecodedIsRegular, OneRegularTree, MeansTheSame};
+ghost use Rattle.cbor_edn_core.specs.LayoutLaws.{KeepsItems, StaysValid, SpellsTheSame, CommentKeepsItems, CommentStaysValid, ForgetsLayout, SameTwice, DecodedStays, OneSingleLine, MeansTheSame};
 ghost use Rattle.cbor_edn_core.specs.Laws.{ItemsAndSpaces, SpelledByTrees, UniqueItems, UniqueSpaces};
 ghost use Rattle.cbor_edn_core.specs.Spelling.{Spells, SpellsOne, SpellsSequence};
 ghost use Rattle.cbor_edn_core.specs.Trees.{items, text};
@@ -87,8 +87,8 @@ pub fn layouts_forget()
 /// Decoded items have the spaces of a single line, and mean their value after any policies.
 pub fn decoded_layout()
     ensures meaning { MeansTheSame }
-    ensures itself { DecodedIsRegular }
-    ensures every_tree { OneRegularTree }
+    ensures itself { DecodedStays }
+    ensures one_tree { OneSingleLine }
 {}
 
 /// Removal of indicators leaves the bare items, and where items meant a value these mean one that is the same but for its heads. So do

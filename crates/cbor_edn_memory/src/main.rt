@@ -170,11 +170,7 @@ fn set_policy(alloc: Global, policy: DelimiterPolicy) -> Outcome {
     if was_refused && policy == DelimiterPolicy::DiscardAll {
         return Outcome::Wrong;
     }
-    match reads_back(
-        alloc,
-        &item,
-        b"\x9f\x01\x5f\x42ab\xff\xa1\x02\x03\xff",
-    ) {
+    match reads_back(alloc, &item, b"\x9f\x01\x5f\x42ab\xff\xa1\x02\x03\xff") {
         Outcome::Done if was_refused => Outcome::Refused,
         outcome => outcome,
     }

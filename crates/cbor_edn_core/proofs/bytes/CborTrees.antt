@@ -16,7 +16,8 @@ use Rattle.cbor_edn_core.specs.Items.{Elements, Array, Map}
 use Rattle.cbor_edn_core.specs.Trees.{Tree, OneItem, OneEntry, Rest, FloatTree, EnclosedTree, ListTree, StringTree, ElementTree, ChunkTree}
 use Rattle.cbor_edn_core.specs.Value.{Value, Chunk, unsigned, negative, string, chunks, array, object, tag, simple, float, Values, no_values, value, values_len, Pairs, no_pairs, pair, pairs_len}
 use Rattle.cbor_edn_core.specs.Decoded as decoded
-use Rattle.cbor_edn_core.specs.Decoded.{item_of, items_of, chunk_items, chunked_item, list_indicator, in_front, list_inside, key_value, stream_tree, float_indicator, alone, regular}
+use Rattle.cbor_edn_core.specs.Decoded.{item_of, items_of, chunk_items, chunked_item, list_indicator, float_indicator, alone}
+use Rattle.cbor_edn_core.specs.code.Regular.{in_front, list_inside, key_value, stream_tree, regular}
 use Rattle.cbor_edn_core.specs.code.CborReading.{◌>>=◌, DecoderResult, Decoder, shown, head_at, many, until, several, past, turn, string_at, chunk_at, string_by, pair_at, item_by, item_at, array_by, map_by, number_by, tag_by, simple_by, float_by, special_by, float_of, simple_tree, number_tree, string_tree, string_row, chunks_tree, argument_indicator, list_tree, row_of, element_row, trees, simple_nesting}
 use Rattle.cbor_edn_core.proofs.bytes.CborHeads.{bind_ok}
 use Rattle.cbor_edn_core.proofs.bytes.CborValues.{values_of, pairs_of, argument_width, makes, value_at, in_front_of}

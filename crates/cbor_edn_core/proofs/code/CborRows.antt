@@ -5,7 +5,7 @@ use Rattle.cbor_edn_parts.specs.declared.space.Msc.{Msc}
 use Rattle.cbor_edn_core.specs.Items.{Row}
 use Rattle.cbor_edn_core.specs.Trees.{Tree, OneEntry, LastTree, MoreTree}
 use Rattle.cbor_edn_core.specs.View.{entries_onto}
-use Rattle.cbor_edn_core.specs.Decoded.{in_front}
+use Rattle.cbor_edn_core.specs.code.Regular.{in_front}
 use Rattle.cbor_edn_core.specs.code.CborReading.{row_of}
 use Rattle.cbor_edn_core.specs.code.RowBuilder.{entries}
 

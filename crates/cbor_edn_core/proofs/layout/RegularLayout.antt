@@ -16,9 +16,9 @@ use Rattle.cbor_edn_core.specs.declared.tree.LabelKind.TheVariants as label
 use Rattle.cbor_edn_core.specs.Value as values
 use Rattle.cbor_edn_core.specs.Value.{Value, unsigned, negative, string, chunks, array, object, tag, simple, float, Values, no_values, value, Pairs, no_pairs, pair}
 use Rattle.cbor_edn_core.specs.Decoded as decoded
-use Rattle.cbor_edn_core.specs.Decoded.{in_front as put, indicator_of, item_of, items_of, pairs_of, chunk_items, simple_item, list_inside, key_value, regular, alone, sequence_tree_of, stream_tree}
+use Rattle.cbor_edn_core.specs.Decoded.{indicator_of, item_of, items_of, pairs_of, chunk_items, simple_item, alone}
+use Rattle.cbor_edn_core.specs.code.Regular.{in_front as put, list_inside, key_value, regular, regular_sequence, sequence_tree_of, stream_tree}
 use Rattle.cbor_edn_core.specs.Layout.{Layout, Inline, laid}
-use Rattle.cbor_edn_core.specs.LayoutLaws.{DecodedIsRegular}
 
 abbrev line : Layout
 line = Inline OneLine
@@ -67,7 +67,7 @@ chunked_fixed k (c ∷ cs) = ap (λ m. stream_tree (Some m)) (chunks_fixed k (c 
 mutual
   unfolding laid regular from_first to_last up_to_comma past_comma
 
-  item_fixed : (v : Value) → IsRegular (item_of v)
+  pub item_fixed : (v : Value) → IsRegular (item_of v)
   item_fixed (unsigned w n) = refl
   item_fixed (negative w n) = refl
   item_fixed (string k w bs) = refl
@@ -91,5 +91,5 @@ unfolding laid from_first to_last up_to_comma past_comma
 sequence_fixed None f = refl
 sequence_fixed (Some m) f = ap (λ m. sequence_tree_of (Some m)) f
 
-pub decoded_is_regular : DecodedIsRegular
-decoded_is_regular = (item_fixed, λ vs. sequence_fixed (regular (items_of vs)) (items_fixed vs))
+pub sequence_stays : (vs : Values) → laid line (regular_sequence (items_of vs)) ≡ regular_sequence (items_of vs)
+sequence_stays vs = sequence_fixed (regular (items_of vs)) (items_fixed vs)

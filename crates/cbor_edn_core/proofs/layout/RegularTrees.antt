@@ -13,9 +13,11 @@ use Rattle.cbor_edn_core.specs.Items.{Sort, Item, Node, Number, Float, Listed, T
 use Rattle.cbor_edn_core.specs.Trees.{Rule, OneItem, OnePiece, OneString, OneEntry, Inside, Rest, Seq, Standalone, Tree, ListHead, Unmarked, Marked, mark, NumberTree, FloatTree, NamedTree, EnclosedTree, ListTree, StringTree, StreamTree, LiteralTree, DotsTree, EmbeddedTree, LastPieceTree, PlusTree, ElementTree, PairTree, ChunkTree, EmptyTree, FullTree, LastTree, MoreTree, NothingTree, SequenceTree, StandaloneTree, labelled, Of, items}
 use Rattle.cbor_edn_core.specs.Value as values
 use Rattle.cbor_edn_core.specs.Value.{Value, unsigned, negative, string, chunks, array, object, tag, simple, float, Values, no_values, value, Pairs, no_pairs, pair}
-use Rattle.cbor_edn_core.specs.Decoded.{item_of, items_of, pairs_of, chunk_items, chunked_item, simple_item, in_front, spaced_list_head, list_inside, key_value, regular, alone, sequence_tree_of, stream_tree}
+use Rattle.cbor_edn_core.specs.Decoded.{item_of, items_of, pairs_of, chunk_items, chunked_item, simple_item, alone}
+use Rattle.cbor_edn_core.specs.code.Regular.{in_front, spaced_list_head, list_inside, key_value, regular, regular_sequence, sequence_tree_of, stream_tree}
 use Rattle.cbor_edn_core.specs.Layout.{Layout, Inline, laid_list_head, laid}
-use Rattle.cbor_edn_core.specs.LayoutLaws.{OneRegularTree}
+use Rattle.cbor_edn_core.specs.LayoutLaws.{DecodedStays, OneSingleLine}
+use Rattle.cbor_edn_core.proofs.layout.RegularLayout.{item_fixed, sequence_stays}
 
 -- ---- items without plus signs and embedded sequences
 
@@ -154,8 +156,21 @@ is_regular (NothingTree t) s = refl
 is_regular (SequenceTree t m) s = ap sequence_tree_of (is_regular m s)
 is_regular (StandaloneTree t w u) s = ap alone (is_regular w s)
 
-pub one_regular_tree : OneRegularTree
-one_regular_tree = (
-  λ v w e. is_regular w (subst (λ (x : Node Item). Single x) (sym e) (item_single v)) ∙ ap (λ (x : Node Item). regular x) e,
-  λ vs w e. is_regular w (subst (λ (x : Of Seq). SingleOf Seq x) (sym e) (items_single vs)) ∙ ap (λ (m : Of Seq). sequence_tree_of (regular m)) e,
+-- the tree of a value's item, and that of the items of values
+pub item_regular : (v : Value) (w : Tree OneItem) → items w ≡ item_of v → laid line (laid least w) ≡ regular (item_of v)
+item_regular v w e = is_regular w (subst (λ (x : Node Item). Single x) (sym e) (item_single v)) ∙ ap (λ (x : Node Item). regular x) e
+
+pub sequence_regular : (vs : Values) (w : Tree Seq) → items w ≡ items_of vs → laid line (laid least w) ≡ regular_sequence (items_of vs)
+sequence_regular vs w e = is_regular w (subst (λ (x : Of Seq). SingleOf Seq x) (sym e) (items_single vs)) ∙ ap (λ (m : Of Seq). regular_sequence m) e
+
+pub decoded_stays : DecodedStays
+decoded_stays = (
+  λ v w e s. let r = s ∙ item_regular v w e in ap (laid line) r ∙ item_fixed v ∙ sym r,
+  λ vs w e s. let r = s ∙ sequence_regular vs w e in ap (laid line) r ∙ sequence_stays vs ∙ sym r,
+)
+
+pub one_single_line : OneSingleLine
+one_single_line = (
+  λ v w u e f s t. s ∙ item_regular v w e ∙ sym (t ∙ item_regular v u f),
+  λ vs w u e f s t. s ∙ sequence_regular vs w e ∙ sym (t ∙ sequence_regular vs u f),
 )

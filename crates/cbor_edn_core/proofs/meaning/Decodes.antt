@@ -23,7 +23,8 @@ use Rattle.cbor_edn_core.specs.Trees.{Tree, OneItem, Rest, Seq, NothingTree, Seq
 use Rattle.cbor_edn_core.specs.Value.{Value, Values, encoding, encodings, Enc, EncAll}
 use Rattle.cbor_edn_core.specs.Meaning.{means}
 use Rattle.cbor_edn_parts.specs.Refusals.{IfTold}
-use Rattle.cbor_edn_core.specs.Decoded.{item_of, items_of, regular, sequence_tree_of, regular_sequence, BeginsWith, IsDecoded, IsDecodedSequence, NoneIs, IsTooDeepEncoding, NoSequence, IsTooDeepSequence}
+use Rattle.cbor_edn_core.specs.Decoded.{item_of, items_of, BeginsWith, IsDecoded, IsDecodedSequence, NoneIs, IsTooDeepEncoding, NoSequence, IsTooDeepSequence}
+use Rattle.cbor_edn_core.specs.code.Regular.{regular, sequence_tree_of, regular_sequence}
 use Rattle.cbor_edn_core.specs.code.CborReading.{◌>>=◌, Decoder, DecoderGives, DecoderFails, shown, item_at, until, past, turn, trees, element_row, sequence_at}
 use Rattle.cbor_edn_core.proofs.bytes.Nestings.{value_nesting, values_nesting, item_nests, items_nest}
 use Rattle.cbor_edn_core.proofs.bytes.CborHeads.{IsBytes, bind_ok}
@@ -35,6 +36,7 @@ use Rattle.cbor_edn_core.proofs.bytes.CborTakes.{Within, item_takes, until_takes
 use Rattle.cbor_edn_core.proofs.bytes.CborDeep.{item_deep, until_deep}
 use Rattle.cbor_edn_core.proofs.bytes.CborTrees.{tree_of, tree_of_item, row_tree_of_items, tree_read, until_shown, values_row}
 use Rattle.cbor_edn_core.proofs.meaning.Decoding.{row_items, items_again, row_again, item_means, items_mean}
+use Rattle.cbor_edn_core.proofs.layout.RegularTrees.{item_regular, sequence_regular}
 
 -- ---- results
 
@@ -107,7 +109,7 @@ module _ (limit : ℕ) (bytes : List ℕ) where
         encoded = (encoding v, (good.0.0, refl), good.1.parts ∙ ap (λ (l : List ℕ). encoding v ++ l) rest_is);
         within = omega (arith, item_nests v, good.0.1);
         same_items = same;
-        spaced = tree;
+        spaced = tree ∙ sym (item_regular v y.0 same);
         meant = ap means same ∙ item_means v good.0.0;
       }
 
@@ -242,7 +244,7 @@ module _ (limit : ℕ) (bytes : List ℕ) where
       let f = sequence_found (ws, rest) fits e in
       let is : w ≡ regular_sequence (items_of f.0) = tree ∙ ap sequence_tree_of (row ∙ f.3) in
       let same : items w ≡ items_of f.0 = ap (λ (t : Tree Seq). items t) is ∙ sequence_items (items_of f.0) (regular (items_of f.0)) (row_again f.0) in
-      record { values = f.0; encoded = f.1; within = f.2; same_items = same; spaced = is; meant = ap means same ∙ f.4 }
+      record { values = f.0; encoded = f.1; within = f.2; same_items = same; spaced = is ∙ sym (sequence_regular f.0 w same); meant = ap means same ∙ f.4 }
 
 pub sequence_view : (s : List ℕ) (o : Option (ItemsOf S Ms Msc Soc Number Literal Dots)) → s ≡ [] → view_some texts s o ≡ sequence_tree_of (option_map (view_items texts) o)
 sequence_view s None e = ap NothingTree e

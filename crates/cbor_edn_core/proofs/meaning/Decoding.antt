@@ -20,7 +20,8 @@ use Rattle.cbor_edn_core.specs.Trees.{Tree, OneEntry, Rest, items}
 use Rattle.cbor_edn_core.specs.Value.{Value, unsigned, negative, Chunk, string, chunks, array, object, tag, simple, float, Values, no_values, value, values_len, Pairs, no_pairs, pair, pairs_len, limit_of, IsSimple, IsFloatWidth, ArgumentFits, LengthFits, ChunkFits, ChunksFit, Fits, ValuesFit, PairsFit}
 use Rattle.cbor_edn_core.specs.Meaning.{shortest, fitting, width_of, length_of, means_integer, bignum, chunk_of, string_of, chunks_of, stream_of, is_simple, simple_number, means, listed}
 use Rattle.cbor_edn_core.specs.Decoded as decoded
-use Rattle.cbor_edn_core.specs.Decoded.{indicator_of, list_indicator, string_item, chunk_items, chunked_item, simple_item, float_indicator, item_of, items_of, in_front, list_inside, regular}
+use Rattle.cbor_edn_core.specs.Decoded.{indicator_of, list_indicator, string_item, chunk_items, chunked_item, simple_item, float_indicator, item_of, items_of}
+use Rattle.cbor_edn_core.specs.code.Regular.{in_front, list_inside, regular}
 use Rattle.cbor_edn_core.proofs.meaning.DecodedLiterals.{literal_again, empty_again}
 use Rattle.cbor_edn_core.proofs.meaning.MeaningSteps.{bind}
 

@@ -4,7 +4,7 @@ use Rattle.cbor_edn_parts.specs.declared.indicator.Indicator.{Indicator}
 use Rattle.cbor_edn_core.specs.declared.tree.LabelKind.TheVariants as label
 use Rattle.cbor_edn_core.specs.Items.{Row, Elements, Strings, Bracketed, entries_of, Sort, Node, Number, Float, Listed, Tagged, Named, Simple, String, Stream, Literal, Dots, Embedded, LastPiece, Plus, Element, Pair, Chunk, End, Then}
 use Rattle.cbor_edn_core.specs.Trees.{Rule, OneItem, OnePiece, OneString, OneEntry, Inside, Rest, Seq, Standalone, Unmarked, Marked, Tree, NumberTree, FloatTree, NamedTree, EnclosedTree, ListTree, StringTree, StreamTree, LiteralTree, DotsTree, EmbeddedTree, LastPieceTree, PlusTree, ElementTree, PairTree, ChunkTree, EmptyTree, FullTree, LastTree, MoreTree, NothingTree, SequenceTree, StandaloneTree, spaces_onto, spaces, Of, items}
-use Rattle.cbor_edn_core.specs.Decoded.{Regular}
+use Rattle.cbor_edn_core.specs.code.Regular.{Regular}
 use Rattle.cbor_edn_core.specs.Laws.{ItemsAndSpaces}
 use Rattle.cbor_edn_core.proofs.meaning.MeaningSteps.{some_is}
 

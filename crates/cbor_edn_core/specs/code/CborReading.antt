@@ -23,7 +23,8 @@ use Rattle.cbor_edn_core.specs.Value.{Chunk, is_content, string_major, break, fl
 use Rattle.cbor_edn_core.specs.declared.tree.LabelKind.TheVariants.{Tag}
 use Rattle.cbor_edn_core.specs.declared.word.NonFinite.{NonFinite}
 use Rattle.cbor_edn_core.specs.declared.word.NonFinite.TheVariants.{Infinity, NegativeInfinity, NaN}
-use Rattle.cbor_edn_core.specs.Decoded.{indicator_of, float_indicator, simple_item, in_front, list_inside, key_value, stream_tree, alone, regular}
+use Rattle.cbor_edn_core.specs.Decoded.{indicator_of, float_indicator, simple_item, alone}
+use Rattle.cbor_edn_core.specs.code.Regular.{in_front, list_inside, key_value, stream_tree, regular}
 
 -- what is read, and the bytes behind it
 abbrev pub DecoderResult : Type 0 → Type 0

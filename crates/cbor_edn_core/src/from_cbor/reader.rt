@@ -5,8 +5,7 @@ ghost use Rattle.cbor_edn_parts.specs.Leaves as leaves;
 ghost use Rattle.cbor_edn_parts.specs.Leaves.{HasMagnitude};
 ghost use Rattle.cbor_edn_core.specs.Trees.{NumberTree};
 ghost use Rattle.cbor_edn_core.specs.View.{texts, view_list, view_pair_list, view_list_head, view_items, view_pairs, view_pair, item_tree};
-ghost use Rattle.cbor_edn_core.specs.Decoded as decoded;
-ghost use Rattle.cbor_edn_core.specs.Decoded.{list_inside};
+ghost use Rattle.cbor_edn_core.specs.code.Regular.{list_inside, spaced_list_head};
 ghost use Rattle.cbor_edn_core.specs.code.CborReading as reading;
 ghost use Rattle.cbor_edn_core.specs.code.CborReading.{DecoderGives, trees, head_at, many, until, several, pair_at, array_by, map_by, tag_by, item_by, item_at, inner, shown, argument_indicator};
 ghost use Rattle.cbor_edn_core.specs.code.RowBuilder.{grown, Pushes};
@@ -59,7 +58,7 @@ fn entries<'a>(argument: Argument, pairs: Option<Pairs<'a>>) -> PairList<'a>
 
 /// One space behind an indicator.
 fn head_space<'a>(indicator: Option<Indicator>) -> Option<(Indicator, Ms<'a>)>
-    ensures { view_list_head texts result ≡ decoded.spaced_list_head indicator }
+    ensures { view_list_head texts result ≡ spaced_list_head indicator }
 {
     match indicator {
         None => None,

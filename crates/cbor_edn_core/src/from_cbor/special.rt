@@ -35,7 +35,7 @@ pub(super) fn special_of<'a>(
 }
 
 /// A simple value by its name, or in `simple(..)`, which nests.
-#[tactic(auto, unfolding(crate::specs::Decoded::regular))]
+#[tactic(auto, unfolding(crate::specs::code::Regular::regular))]
 fn simple_of<'a>(alloc: Global, number: u64, limit: usize) -> Result<Item<'a>, Fault<CborError>>
     ensures { DecoderGives item_tree result (reading.simple_by trees (inner trees limit) number) }
 {
