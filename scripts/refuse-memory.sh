@@ -6,7 +6,8 @@
 # The program reads a number, makes so many allocations, and then its calls. For each call it prints a line, the call's
 # name with `: done`, `: refused` (it answered want of memory, and left what it must) or `: wrong`. The toolchain
 # refuses the same allocation in each run, the last of a window, and the number moves it back from there: so one build
-# serves for all. The window grows until a run in it ends without a refusal.
+# serves for all. A few runs of a large window, which grows until its last run ends without a refusal, tell how large the
+# window of all runs must be.
 #
 # Where one of the calls' allocations is refused, exactly one line must say so, and no line may say `wrong`. Where none
 # is, each line must say `done`. The last line is 'N passed, M failed', over the runs.
@@ -29,25 +30,25 @@ give_up() {
   exit 1
 }
 
-# Runs with each allocation of the window refused in turn, and as run 0 with none of the calls'. Prints a line for each
-# run, with its number and how often each word came.
+# Runs with each allocation of the window refused in turn, or with one in so many, and as run 0 with none of the calls'.
+# Writes a line for each run, with its number and how often each word came.
 sweep() {
-  local window=$1 k
+  local window=$1 step=$2 k
   rm -rf "$work/cases"
   mkdir "$work/cases"
-  for ((k = 0; k <= window; k++)); do
+  for ((k = 0; k <= window; k += step)); do
     echo "$((window - k))" > "$work/cases/$k"
   done
   if ! rt try --fail-alloc "$window" --cases "$work/cases" > "$work/output" 2> "$work/said"; then
     tail -n 20 "$work/said"
     give_up "rt try failed"
   fi
-  awk -v window="$window" '
+  awk -v window="$window" -v step="$step" '
     /^== [0-9]+$/ { run = $2; next }
     /: refused$/ { refused[run]++; next }
     /: done$/ { done[run]++; next }
     { wrong[run]++ }
-    END { for (k = 0; k <= window; k++) print k, done[k] + 0, refused[k] + 0, wrong[k] + 0 }
+    END { for (k = 0; k <= window; k += step) print k, done[k] + 0, refused[k] + 0, wrong[k] + 0 }
   ' "$work/output" > "$work/runs"
 }
 
@@ -56,17 +57,19 @@ show() {
   awk -v run="$1" '/^== /{ on = $2 == run } on' "$work/output"
 }
 
-for ((window = 64; ; window *= 4)); do
-  sweep "$window"
+step=32
+for ((window = 1024; ; window *= 4)); do
+  sweep "$window" "$step"
   read -r _ calls refused wrong < "$work/runs"
   if [ "$calls" = 0 ] || [ "$refused" != 0 ] || [ "$wrong" != 0 ]; then
     show 0
     give_up "a call fails where no memory is refused"
   fi
-  read -r _ _ refused _ < <(tail -n 1 "$work/runs")
-  [ "$refused" != 0 ] || break
+  read -r _ done _ < <(tail -n 1 "$work/runs")
+  [ "$done" != "$calls" ] || break
   [ "$window" -le 16384 ] || give_up "memory is refused in more than $window runs"
 done
+sweep "$(awk -v calls="$calls" -v step="$step" '$2 != calls { last = $1 } END { print last + step }' "$work/runs")" 1
 
 # The runs behind the last refusal are all alike, and are run 0 again.
 awk -v calls="$calls" '

@@ -13,12 +13,28 @@ fi
 passed=0
 failed=0
 log=$(mktemp)
-trap 'rm -f "$log"' EXIT
+times=$(mktemp)
+trap 'rm -f "$log" "$times"' EXIT
+
+# Hands lines on. Those that say that a crate's proof has ended, that its edits begin, or what is wrong, come again at the end, with the
+# minutes since the start.
+stamp() {
+  local line
+  while IFS= read -r line; do
+    printf '%s\n' "$line"
+    case $line in
+      *"refused, as it must be"*) ;;
+      "rt: "*" proved" | "rt: "*"NOT PROVED"* | "rt: "*": trying its must-fail edits"* | *": error"* | "rt: FAILED"* | *"BAD EDIT"* | *"NOT REFUSED"* | *"not proved"*)
+        printf '%4d min  %s\n' $((SECONDS / 60)) "$line" >> "$times" ;;
+    esac
+  done
+}
 
 # Runs a command whose last line is 'N passed, M failed', and adds both. A command that fails in silence counts as one.
 add() {
   local status=0
-  "$@" 2>&1 | tee "$log" || status=$?
+  "$@" 2>&1 | stamp | tee "$log" || status=$?
+  printf '%4d min  end of %s\n' $((SECONDS / 60)) "$*" >> "$times"
   if [[ $(tail -n 1 "$log") =~ ^([0-9]+)\ passed,\ ([0-9]+)\ failed$ ]]; then
     passed=$((passed + BASH_REMATCH[1]))
     failed=$((failed + BASH_REMATCH[2]))
@@ -34,5 +50,6 @@ for crate in crates/*_memory; do
   add scripts/refuse-memory.sh "$(basename "$crate")"
 done
 add scripts/check-outside.sh
+cat "$times"
 echo "$passed passed, $failed failed"
 [ "$failed" = 0 ]

@@ -3,7 +3,7 @@ use Rattle.std.proofs.Common.{◌≡◌, Bool, true, false, not, refl, ◌∙◌
 use Rattle.cbor_edn_parts.specs.declared.policy.DelimiterPolicy.{DelimiterPolicy}
 use Rattle.cbor_edn_parts.specs.declared.policy.DelimiterPolicy.TheVariants.{DiscardAll}
 use Rattle.cbor_edn_parts.specs.Spacing.{indented}
-use Rattle.cbor_edn_core.specs.Trees.{Tree, Seq, Valid, items}
+use Rattle.cbor_edn_model.specs.Trees.{Tree, Seq, Valid, items}
 use Rattle.cbor_edn_core.proofs.layout.Layouts.{keeps_items, stays_valid}
 use Rattle.cbor_edn.specs.Runs.{laid_where, edited}
 use Rattle.cbor_edn.specs.declared.engine.Options.{Options}

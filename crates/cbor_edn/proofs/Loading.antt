@@ -2,20 +2,20 @@
 use Rattle.std.proofs.Common.{◌≡◌, ℕ, List, Some, ap, sym, subst, ◌∙◌}
 use Rattle.std.specs.Str.{IsUtf8}
 use Rattle.cbor_edn_core.specs.Parsing.{ParsedSequence}
-use Rattle.cbor_edn_core.specs.Decoded.{IsDecodedSequence}
-use Rattle.cbor_edn_core.specs.Meaning.{means}
-use Rattle.cbor_edn_core.specs.Trees.{Tree, Seq, items}
-use Rattle.cbor_edn_core.specs.Value.{Values, EncAll}
+use Rattle.cbor_edn_model.specs.Decoded.{IsDecodedSequence}
+use Rattle.cbor_edn_model.specs.Meaning.{means}
+use Rattle.cbor_edn_model.specs.Trees.{Tree, Seq, items}
+use Rattle.cbor_edn_model.specs.Value.{Values, EncAll}
 use Rattle.cbor_edn_core.specs.View.{Sequence, sequence_tree}
 use Rattle.cbor_edn_core.proofs.code.Printable.{sequence_valid}
-use Rattle.cbor_edn_core.proofs.text.Tested.{valid}
+use Rattle.cbor_edn_model.proofs.text.Tested.{valid}
 use Rattle.cbor_edn.proofs.Edits.{edited_items}
 use Rattle.std.specs.Prelude.{false, Err}
 use Rattle.cbor_edn_parts.specs.Refusals.{IfTold}
 use Rattle.cbor_edn_parts.specs.declared.error.Fault.{Fault}
 use Rattle.cbor_edn_parts.specs.declared.error.Fault.TheVariants.{Memory, Told}
 use Rattle.cbor_edn_parts.specs.declared.error.InconsistentEdn.{InconsistentEdn}
-use Rattle.cbor_edn_core.specs.Meaning.{NoEncoding}
+use Rattle.cbor_edn_model.specs.Meaning.{NoEncoding}
 use Rattle.cbor_edn.specs.Runs.{IsReadAs, IsDecodedAs, IsRefused, input_bytes, told_as}
 use Rattle.cbor_edn.specs.Steps.{IsEncoded, IsUnencoded, IsUndiagnosed}
 use Rattle.cbor_edn.specs.declared.engine.Command.TheVariants.{Cbor2Diag}

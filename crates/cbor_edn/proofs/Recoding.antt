@@ -1,11 +1,11 @@
 -- The text of decoded items is one of their bytes, and no text is of other bytes too.
 use Rattle.std.proofs.Common.{ℕ, List, ◌≡◌, ap, sym, subst, ◌∙◌, Some, arith}
-use Rattle.cbor_edn_core.specs.Items.{Sort, Node, Items, Item, nesting}
-use Rattle.cbor_edn_core.specs.Trees.{Tree, OneItem, Seq, Standalone, items}
-use Rattle.cbor_edn_core.specs.Spelling.{SpellsOne, SpellsSequence}
-use Rattle.cbor_edn_core.specs.Value.{Value, Values, Enc, EncAll, encoding, encodings}
-use Rattle.cbor_edn_core.specs.Meaning.{MeaningOf, means}
-use Rattle.cbor_edn_core.specs.Decoded.{IsDecoded, IsDecodedSequence, alone}
+use Rattle.cbor_edn_model.specs.Items.{Sort, Node, Items, Item, nesting}
+use Rattle.cbor_edn_model.specs.Trees.{Tree, OneItem, Seq, Standalone, items}
+use Rattle.cbor_edn_model.specs.Spelling.{SpellsOne, SpellsSequence}
+use Rattle.cbor_edn_model.specs.Value.{Value, Values, Enc, EncAll, encoding, encodings}
+use Rattle.cbor_edn_model.specs.Meaning.{MeaningOf, means}
+use Rattle.cbor_edn_model.specs.Decoded.{IsDecoded, IsDecodedSequence, alone}
 use Rattle.cbor_edn.specs.Recoding.{IsTextOf, IsTextOfItem, IsTextOfItems}
 use Rattle.cbor_edn_core.proofs.text.GrammarLaws.{unique_items}
 

@@ -3,11 +3,11 @@ use Rattle.std.proofs.Common.{◌≡◌, ℕ, List, Some, false, ap, sym, subst,
 use Rattle.std.specs.Prelude.{if◌then◌else◌, Result, Ok}
 use Rattle.std.specs.Str.{IsUtf8}
 use Rattle.hex.specs.declared.error.FromHexError.{FromHexError}
-use Rattle.cbor_edn_core.specs.Items.{nesting}
-use Rattle.cbor_edn_core.specs.Spelling.{SpellsSequence}
-use Rattle.cbor_edn_core.specs.Trees.{Tree, Seq, items, text}
-use Rattle.cbor_edn_core.specs.Meaning.{means}
-use Rattle.cbor_edn_core.specs.Value.{Values, encodings}
+use Rattle.cbor_edn_model.specs.Items.{nesting}
+use Rattle.cbor_edn_model.specs.Spelling.{SpellsSequence}
+use Rattle.cbor_edn_model.specs.Trees.{Tree, Seq, items, text}
+use Rattle.cbor_edn_model.specs.Meaning.{means}
+use Rattle.cbor_edn_model.specs.Value.{Values, encodings}
 use Rattle.cbor_edn_core.proofs.text.GrammarLaws.{unique_items, spelled_by_trees}
 use Rattle.cbor_edn.specs.Hexadecimal.{hex_lines}
 use Rattle.cbor_edn.specs.RunLaws.{ReadsBack}

@@ -8,16 +8,16 @@ use Rattle.cbor_edn_parts.specs.declared.error.Fault.TheVariants as fault
 use Rattle.cbor_edn_parts.specs.declared.policy.DelimiterPolicy.{DelimiterPolicy}
 use Rattle.cbor_edn_parts.specs.declared.policy.DelimiterPolicy.TheVariants.{DiscardAll}
 use Rattle.cbor_edn_parts.specs.Spacing.{indented}
-use Rattle.cbor_edn_core.specs.declared.from_cbor.CborError.{CborError}
-use Rattle.cbor_edn_core.specs.declared.from_cbor.CborError.TheVariants.{TooDeep}
-use Rattle.cbor_edn_core.specs.Items.{nesting}
-use Rattle.cbor_edn_core.specs.Spelling.{SpellsSequence}
+use Rattle.cbor_edn_model.specs.declared.from_cbor.CborError.{CborError}
+use Rattle.cbor_edn_model.specs.declared.from_cbor.CborError.TheVariants.{TooDeep}
+use Rattle.cbor_edn_model.specs.Items.{nesting}
+use Rattle.cbor_edn_model.specs.Spelling.{SpellsSequence}
 use Rattle.cbor_edn_core.specs.Parsing.{Unparsed}
-use Rattle.cbor_edn_core.specs.Trees.{Tree, Seq, Valid, Merged, items, text}
-use Rattle.cbor_edn_core.specs.Layout.{laid_out}
-use Rattle.cbor_edn_core.specs.Meaning.{means}
-use Rattle.cbor_edn_core.specs.Value.{Values, EncAll}
-use Rattle.cbor_edn_core.specs.Decoded.{IsDecodedSequence, NoSequence, IsTooDeepSequence}
+use Rattle.cbor_edn_model.specs.Trees.{Tree, Seq, Valid, Merged, items, text}
+use Rattle.cbor_edn_model.specs.Layout.{laid_out}
+use Rattle.cbor_edn_model.specs.Meaning.{means}
+use Rattle.cbor_edn_model.specs.Value.{Values, EncAll}
+use Rattle.cbor_edn_model.specs.Decoded.{IsDecodedSequence, NoSequence, IsTooDeepSequence}
 use Rattle.cbor_edn.specs.Devices.{AppendsBeginning}
 use Rattle.cbor_edn.specs.Hexadecimal.{hex_bytes, hex_lines}
 use Rattle.cbor_edn.specs.declared.engine.Command.{Command}

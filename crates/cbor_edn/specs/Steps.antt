@@ -4,9 +4,9 @@ use Rattle.clap.specs.Words.{App, Rule, app_of, rule_of}
 use Rattle.clap.specs.declared.builder.arg.Arg.{Arg}
 use Rattle.clap.specs.declared.builder.command.Command.{Command}
 use Rattle.clap.specs.declared.builder.command.Command.TheViews.{out-Command}
-use Rattle.cbor_edn_core.specs.Trees.{Tree, Seq, items}
-use Rattle.cbor_edn_core.specs.Meaning.{means}
-use Rattle.cbor_edn_core.specs.Value.{Values, EncAll}
+use Rattle.cbor_edn_model.specs.Trees.{Tree, Seq, items}
+use Rattle.cbor_edn_model.specs.Meaning.{means}
+use Rattle.cbor_edn_model.specs.Value.{Values, EncAll}
 use Rattle.cbor_edn.specs.Hexadecimal.{hex_bytes}
 use Rattle.cbor_edn.specs.Runs.{IsReadAs, IsDecodedAs, IsPrintedAs, IsUnread, IsUndecoded, edited}
 use Rattle.cbor_edn.specs.declared.engine.Options.{Options}

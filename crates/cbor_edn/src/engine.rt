@@ -1,7 +1,7 @@
 //! A whole run: from a reader, through a tree of items, to a writer.
 ghost use Rattle.std.specs.Prelude.{◌≡◌, ℕ, ◌+◌, List, Result, IfOk, OnOk, IfErr, IfSome, string_bytes};
 ghost use Rattle.std.specs.Io.KnownBytes.{IsAtEnd, Appends, Consumes, Keeps};
-ghost use Rattle.cbor_edn_core.specs.Trees.{text};
+ghost use Rattle.cbor_edn_model.specs.Trees.{text};
 ghost use Rattle.cbor_edn_core.specs.View.{sequence_tree};
 ghost use Rattle.cbor_edn.specs.Devices.{AppendsBeginning, FailsAtMostOnce};
 ghost use Rattle.cbor_edn.specs.Runs.{IsOutput, IsRefused, IsReadFault, Wrote, HasReadAll, EndsReading, EndsWriting, IsFaultLine, IsTold, read_faults, write_faults, status, told_as};

@@ -5,6 +5,7 @@ pub mod engine;
 pub mod laws;
 pub mod words;
 
+pub use cbor_edn_core::access::{ArrayItems, MapItems, TypeMismatch};
 pub use cbor_edn_core::from_cbor::CborError;
 pub use cbor_edn_core::tree::{Item, NESTING_LIMIT, Sequence, StandaloneItem};
 pub use cbor_edn_parts::error::{Fault, InconsistentEdn, ParseError};

@@ -1,22 +1,16 @@
 -- What the proofs of functions cite: one lemma for each way in which a function ends, and views of Rust values.
 pub mod Borrows
-pub mod CborEncodes
-pub mod CborIntegers
+pub mod Commas
 pub mod CborRows
 pub mod CborStrings
 pub mod CborTurns
 pub mod EnclosedTurns
 pub mod Forms
+pub mod Iterated
+pub mod Loans
 pub mod Looks
-pub mod Places
 pub mod Printable
-pub mod Rows
-pub mod StringEncodes
-pub mod StringKinds
 pub mod StringTurns
-pub mod TagDigits
-pub mod Texts
 pub mod Turns
 pub mod Views
-pub mod Written
-pub mod Digits
+pub mod Pieces

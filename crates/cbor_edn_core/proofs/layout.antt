@@ -1,21 +1,6 @@
 -- Spaces by a policy, comments, and items without indicators.
-pub mod BareExamples
-pub mod BareItems
-pub mod BareParts
-pub mod Begun
-pub mod CommentedItems
-pub mod Countings
-pub mod Fewer
 pub mod LaidStrings
 pub mod LaidViews
-pub mod LayoutExamples
-pub mod Laying
-pub mod LayoutRows
 pub mod Layouts
 pub mod Policies
-pub mod RegularLayout
-pub mod RegularTrees
 pub mod UnmarkedViews
-pub mod Unmarking
-pub mod WithoutIndicators
-pub mod Widths

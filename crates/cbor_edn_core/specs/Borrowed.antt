@@ -25,12 +25,8 @@ use Rattle.cbor_edn_core.specs.declared.tree.StreamOf.{StreamOf, StreamOf'}
 use Rattle.cbor_edn_core.specs.declared.tree.StringsOf.{StringsOf, StringsOf', Row_of-StringsOf-row-2, end_of-StringsOf-row-2, more_of-StringsOf-row-2}
 use Rattle.cbor_edn_core.specs.declared.tree.SequenceOf.{SequenceOf, SequenceOf', Held-SequenceOf-items}
 use Rattle.cbor_edn_core.specs.declared.tree.SequenceOf as sequence
+use Rattle.cbor_edn_model.specs.ListHeads.{BorrowsListHead}
 use Rattle.cbor_edn_core.specs.View.{Item, StandaloneItem}
-
--- an indicator and the space behind it, if they are there
-abbrev pub BorrowsListHead : Option (Indicator × Ms) → Type 0
-BorrowsListHead None = Unit {0}
-BorrowsListHead (Some h) = BorrowsMs h.1
 
 abbrev mutual
   pub BorrowsInner : InnerItemOf S Ms Msc Soc Number Literal Dots → Type 0

@@ -5,10 +5,10 @@ use Rattle.cbor_edn_parts.specs.declared.error.ParseErrorKind.TheVariants as kin
 use Rattle.cbor_edn_parts.specs.Errors.{error_kind, error_offset, error_line, error_column}
 use Rattle.cbor_edn_parts.specs.Place.{IsPlace}
 use Rattle.cbor_edn_core.specs.Borrowed.{BorrowsSequence, BorrowsStandalone}
-use Rattle.cbor_edn_core.specs.Items.{Sort, Node, nesting}
-use Rattle.cbor_edn_core.specs.Marks.{marks}
-use Rattle.cbor_edn_core.specs.Spelling.{SpellsSequence, SpellsOne}
-use Rattle.cbor_edn_core.specs.Trees.{Rule, Tree, Merged, items, text}
+use Rattle.cbor_edn_model.specs.Items.{Sort, Node, nesting}
+use Rattle.cbor_edn_model.specs.Marks.{marks}
+use Rattle.cbor_edn_model.specs.Spelling.{SpellsSequence, SpellsOne}
+use Rattle.cbor_edn_model.specs.Trees.{Rule, Tree, Merged, items, text}
 use Rattle.cbor_edn_core.specs.View.{Sequence, StandaloneItem, sequence_tree, standalone_tree}
 
 module _ {s : Sort} (Spelled : Node s → List ℕ → Type 0) where

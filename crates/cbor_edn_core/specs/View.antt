@@ -9,7 +9,9 @@ use Rattle.cbor_edn_parts.specs.declared.space.Soc.{Soc}
 use Rattle.cbor_edn_parts.specs.declared.number.Number.{Number}
 use Rattle.cbor_edn_parts.specs.declared.string.Literal.{Literal}
 use Rattle.cbor_edn_parts.specs.declared.string.Dots.{Dots}
-use Rattle.cbor_edn_core.specs.Leaves.{Ghosts}
+use Rattle.cbor_edn_model.specs.Leaves.{Ghosts, texts}
+use Rattle.cbor_edn_model.specs.ListHeads.{view_list_head}
+use Rattle.cbor_edn_model.specs.Rows.{entries_onto, entries_text, pieces_onto, pieces_text}
 use Rattle.cbor_edn_core.specs.declared.tree.InnerItemOf.{InnerItemOf}
 use Rattle.cbor_edn_core.specs.declared.tree.InnerItemOf.TheVariants as inner
 use Rattle.cbor_edn_core.specs.declared.tree.ItemOf.{ItemOf}
@@ -28,36 +30,11 @@ use Rattle.cbor_edn_core.specs.declared.tree.StringsOf.{StringsOf, StringsOf', R
 use Rattle.cbor_edn_core.specs.declared.tree.StandaloneItemOf.{StandaloneItemOf}
 use Rattle.cbor_edn_core.specs.declared.tree.SequenceOf.{SequenceOf, SequenceOf', Held-SequenceOf-items}
 use Rattle.cbor_edn_core.specs.declared.tree.SequenceOf as sequence
-use Rattle.cbor_edn_core.specs.Items as kind
-use Rattle.cbor_edn_core.specs.Items.{Row}
-use Rattle.cbor_edn_core.specs.Trees.{ListHead, Unmarked, Marked, Tree, OneItem, OnePiece, OneString, OneEntry, Inside, Rest, Seq, Standalone, NumberTree, FloatTree, NamedTree, EnclosedTree, ListTree, StringTree, StreamTree, LiteralTree, DotsTree, EmbeddedTree, LastPieceTree, PlusTree, ElementTree, PairTree, ChunkTree, EmptyTree, FullTree, LastTree, MoreTree, NothingTree, SequenceTree, StandaloneTree, text}
-
--- entries, each with the separator behind it, in front of a rest
-abbrev pub entries_onto : {k : Row} → List (Tree (OneEntry k) × List ℕ) → Tree (Rest k) → Tree (Rest k)
-entries_onto [] m = m
-entries_onto (p ∷ ps) m = MoreTree p.0 p.1 (entries_onto ps m)
-
--- the text of such entries
-abbrev pub entries_text : {k : Row} → List (Tree (OneEntry k) × List ℕ) → List ℕ
-entries_text [] = []
-entries_text (p ∷ ps) = text p.0 ++ (p.1 ++ entries_text ps)
-
--- pieces, each with the spaces round the plus sign behind it, in front of others
-abbrev pub pieces_onto : List (Tree OnePiece × List ℕ × List ℕ) → Tree OneString → Tree OneString
-pieces_onto [] w = w
-pieces_onto (p ∷ ps) w = PlusTree p.0 p.1 p.2 (pieces_onto ps w)
-
--- the text of such pieces
-abbrev pub pieces_text : List (Tree OnePiece × List ℕ × List ℕ) → List ℕ
-pieces_text [] = []
-pieces_text (p ∷ ps) = text p.0 ++ (p.1 ++ (43 ∷ (p.2 ++ pieces_text ps)))
+use Rattle.cbor_edn_model.specs.Items as kind
+use Rattle.cbor_edn_model.specs.Items.{Row}
+use Rattle.cbor_edn_model.specs.Trees.{ListHead, Unmarked, Marked, Tree, OneItem, OnePiece, OneString, OneEntry, Inside, Rest, Seq, Standalone, NumberTree, FloatTree, NamedTree, EnclosedTree, ListTree, StringTree, StreamTree, LiteralTree, DotsTree, EmbeddedTree, LastPieceTree, PlusTree, ElementTree, PairTree, ChunkTree, EmptyTree, FullTree, LastTree, MoreTree, NothingTree, SequenceTree, StandaloneTree, text}
 
 module _ {O M C E N L D : Type 0} (leaves : Ghosts O M C E N L D) where
-  -- an indicator and the space behind it, if they are there
-  abbrev pub view_list_head : Option (Indicator × M) → ListHead
-  view_list_head None = Unmarked
-  view_list_head (Some h) = Marked h.0 (leaves.mandatory h.1)
-
   abbrev mutual
     pub view_inner : InnerItemOf O M C E N L D → Tree OneItem
     view_inner (inner.Number n i) = NumberTree (leaves.number n) i
@@ -98,7 +75,7 @@ module _ {O M C E N L D : Type 0} (leaves : Ghosts O M C E N L D) where
     view_string_row (more_of-StringsOf-row-2 m pieces last separator row) rest = MoreTree (ChunkTree (view_pieces pieces (LastPieceTree (view_piece last)))) (leaves.separator separator) (view_string_row row rest)
 
     pub view_list : ItemListOf O M C E N L D → Tree (Inside kind.Array)
-    view_list (item_list.Present head s items) = FullTree (view_list_head head) (leaves.space s) (view_items items)
+    view_list (item_list.Present head s items) = FullTree (view_list_head leaves head) (leaves.space s) (view_items items)
     view_list (item_list.Absent i s) = EmptyTree i (leaves.space s)
 
     pub view_items : ItemsOf O M C E N L D → Tree (Rest kind.Elements)
@@ -109,7 +86,7 @@ module _ {O M C E N L D : Type 0} (leaves : Ghosts O M C E N L D) where
     view_row (more_of-ItemsOf-row-2 item separator row) m = MoreTree (ElementTree (view_inner item)) (leaves.separator separator) (view_row row m)
 
     pub view_pair_list : PairListOf O M C E N L D → Tree (Inside kind.Map)
-    view_pair_list (pair_list.Present head s pairs) = FullTree (view_list_head head) (leaves.space s) (view_pairs pairs)
+    view_pair_list (pair_list.Present head s pairs) = FullTree (view_list_head leaves head) (leaves.space s) (view_pairs pairs)
     view_pair_list (pair_list.Absent i s) = EmptyTree i (leaves.space s)
 
     pub view_pairs : PairsOf O M C E N L D → Tree (Rest kind.Pairs)
@@ -180,10 +157,6 @@ module _ {O M C E N L D : Type 0} (leaves : Ghosts O M C E N L D) where
 
   abbrev pub view_standalone : StandaloneItemOf O M C E N L D → Tree Standalone
   view_standalone x = StandaloneTree (leaves.space x.before) (view_item x.item) (leaves.space x.after)
-
--- the bytes of the leaves of a text
-abbrev pub texts : Ghosts S Ms Msc Soc Number Literal Dots
-texts = record { space = s_bytes; mandatory = ms_bytes; separator = msc_bytes; end = soc_bytes; number = number_bytes; literal = literal_bytes; dots = dots_bytes }
 
 -- the values of a text
 abbrev pub Item : Type 0

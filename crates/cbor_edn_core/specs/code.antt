@@ -1,14 +1,3 @@
 -- What only clauses of private functions cite, and what laws tie to the definitions: nothing of it needs to be believed.
-pub mod CborReading
-pub mod Encoding
 pub mod RowBuilder
-pub mod Laying
-pub mod LayoutRows
-pub mod LookCosts
-pub mod Lookahead
 pub mod ParserResults
-pub mod Reading
-pub mod Regular
-pub mod Same
-pub mod Unmarking
-pub mod Widths

@@ -1,12 +1,16 @@
 //! Copies of trees. Memory comes from the allocator of what is copied.
 ghost use Rattle.std.specs.Prelude.{◌≡◌, map, IfOk};
 ghost use Rattle.cbor_edn_parts.specs.Leaves.{s_bytes};
-ghost use Rattle.cbor_edn_core.specs.View.{texts, view_list_head, view_list, view_items, seen, view_pair_list, view_pairs, view_pair, seen_pair, view_string, view_piece, seen_piece, view_stream, view_strings, seen_string, item_tree, standalone_tree, sequence_tree};
+ghost use Rattle.cbor_edn_core.specs.View.{view_list, view_items, seen, view_pair_list, view_pairs, view_pair, seen_pair, view_string, view_piece, seen_piece, view_stream, view_strings, seen_string, item_tree, standalone_tree, sequence_tree};
+ghost use Rattle.cbor_edn_model.specs.ListHeads.{view_list_head};
+ghost use Rattle.cbor_edn_model.specs.Leaves.{texts};
 
 use crate::tree::{
     CborString, Indicator, InnerItem, Item, ItemList, ItemOf, Items, Kp, PairList, Pairs, Piece,
     Sequence, SequenceOf, StandaloneItem, StandaloneItemOf, Stream, Strings,
 };
+use cbor_edn_model::copy::clone_spaces;
+use cbor_edn_model::list_head::clone_list_head;
 use cbor_edn_parts::space::{Ms, Msc, S};
 use std::alloc::AllocError;
 
@@ -35,28 +39,6 @@ impl<'a> Sequence<'a> {
     {
         clone_sequence(self)
     }
-}
-
-fn clone_list_head<'a>(
-    head: &Option<(Indicator, Ms<'a>)>,
-) -> Result<Option<(Indicator, Ms<'a>)>, AllocError>
-    ensures { IfOk result (λ t. view_list_head texts t ≡ view_list_head texts head.now) }
-{
-    match head {
-        None => Ok(None),
-        Some((indicator, space)) => {
-            let space = space.clone()?;
-            Ok(Some((*indicator, space)))
-        }
-    }
-}
-
-fn clone_spaces<'a>(before: &S<'a>, after: &S<'a>) -> Result<(S<'a>, S<'a>), AllocError>
-    ensures { IfOk result (λ p. (s_bytes p.0 ≡ s_bytes before.now) × (s_bytes p.1 ≡ s_bytes after.now)) }
-{
-    let before = before.clone()?;
-    let after = after.clone()?;
-    Ok((before, after))
 }
 
 #[cycle(copy)]

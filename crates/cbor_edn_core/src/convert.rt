@@ -1,9 +1,10 @@
 //! Items of other trees.
 ghost use Rattle.std.specs.Prelude.{◌≡◌, IfOk, []};
 ghost use Rattle.cbor_edn_core.specs.Borrowed.{BorrowsItem, BorrowsList, BorrowsPairList, BorrowsStandalone, BorrowsStream, BorrowsString};
-ghost use Rattle.cbor_edn_core.specs.Items.{Array, Map};
-ghost use Rattle.cbor_edn_core.specs.Trees.{EnclosedTree, ListTree, StringTree, StandaloneTree};
-ghost use Rattle.cbor_edn_core.specs.View.{texts, view_list, view_pair_list, view_string, view_stream, item_tree, standalone_tree};
+ghost use Rattle.cbor_edn_model.specs.Items.{Array, Map};
+ghost use Rattle.cbor_edn_model.specs.Trees.{EnclosedTree, ListTree, StringTree, StandaloneTree};
+ghost use Rattle.cbor_edn_core.specs.View.{view_list, view_pair_list, view_string, view_stream, item_tree, standalone_tree};
+ghost use Rattle.cbor_edn_model.specs.Leaves.{texts};
 
 use crate::tree::{
     CborString, InnerItem, Item, ItemList, ItemOf, Label, PairList, StandaloneItem,

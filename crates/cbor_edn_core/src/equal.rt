@@ -1,13 +1,17 @@
 //! Whether two trees are written the same, spaces included.
 ghost use Rattle.std.specs.Prelude.{◌≡◌, ◌↔◌, IsTrue, map};
-ghost use Rattle.cbor_edn_core.specs.code.Same.{same, same_indicator, same_word, same_named, same_float, same_label, same_head, same_entries, same_pieces, same_laws};
-ghost use Rattle.cbor_edn_core.specs.View.{texts, view_list_head, view_list, view_items, seen, view_pair_list, view_pairs, view_pair, seen_pair, view_string, view_piece, seen_piece, view_stream, view_strings, seen_string, item_tree, standalone_tree, sequence_tree};
+ghost use Rattle.cbor_edn_model.specs.code.Same.{same, same_indicator, same_word, same_named, same_float, same_label, same_head, same_entries, same_pieces, same_laws};
+ghost use Rattle.cbor_edn_core.specs.View.{view_list, view_items, seen, view_pair_list, view_pairs, view_pair, seen_pair, view_string, view_piece, seen_piece, view_stream, view_strings, seen_string, item_tree, standalone_tree, sequence_tree};
+ghost use Rattle.cbor_edn_model.specs.ListHeads.{view_list_head};
+ghost use Rattle.cbor_edn_model.specs.Leaves.{texts};
 
 use crate::tree::{
     CborString, Indicator, InnerItem, Item, ItemList, Items, Kp, LabelKind, PairList, Pairs, Piece,
     Sequence, StandaloneItem, Stream, Strings,
 };
-use crate::word::{NamedSimple, NonFinite};
+use cbor_edn_model::list_head::have_same_head;
+use cbor_edn_model::same::{have_same_float, have_same_indicator, have_same_label, have_same_name};
+use cbor_edn_model::word::{NamedSimple, NonFinite};
 use cbor_edn_parts::space::{Ms, Msc, S};
 
 impl PartialEq for Item<'_> {
@@ -37,73 +41,6 @@ impl PartialEq for Sequence<'_> {
 
     fn eq(&self, other: &Self) -> bool {
         same_sequence(self, other)
-    }
-}
-
-fn have_same_word(a: Indicator, b: Indicator) -> bool
-    ensures { result ≡ same_word a b }
-{
-    match (a, b) {
-        (Indicator::Indefinite, Indicator::Indefinite) => true,
-        (Indicator::Immediate, Indicator::Immediate) => true,
-        (Indicator::One, Indicator::One) => true,
-        (Indicator::Two, Indicator::Two) => true,
-        (Indicator::Four, Indicator::Four) => true,
-        (Indicator::Eight, Indicator::Eight) => true,
-        _ => false,
-    }
-}
-
-fn have_same_name(a: NamedSimple, b: NamedSimple) -> bool
-    ensures { result ≡ same_named a b }
-{
-    match (a, b) {
-        (NamedSimple::False, NamedSimple::False) => true,
-        (NamedSimple::True, NamedSimple::True) => true,
-        (NamedSimple::Null, NamedSimple::Null) => true,
-        (NamedSimple::Undefined, NamedSimple::Undefined) => true,
-        _ => false,
-    }
-}
-
-fn have_same_float(a: NonFinite, b: NonFinite) -> bool
-    ensures { result ≡ same_float a b }
-{
-    match (a, b) {
-        (NonFinite::Infinity, NonFinite::Infinity) => true,
-        (NonFinite::NegativeInfinity, NonFinite::NegativeInfinity) => true,
-        (NonFinite::NaN, NonFinite::NaN) => true,
-        _ => false,
-    }
-}
-
-fn have_same_indicator(a: Option<Indicator>, b: Option<Indicator>) -> bool
-    ensures { result ≡ same_indicator a b }
-{
-    match (a, b) {
-        (None, None) => true,
-        (Some(i), Some(j)) => have_same_word(i, j),
-        _ => false,
-    }
-}
-
-fn have_same_label(a: LabelKind, b: LabelKind) -> bool
-    ensures { result ≡ same_label a b }
-{
-    match (a, b) {
-        (LabelKind::Tag(n, i), LabelKind::Tag(m, j)) => n == m && have_same_indicator(i, j),
-        (LabelKind::Simple, LabelKind::Simple) => true,
-        _ => false,
-    }
-}
-
-fn have_same_head(a: &Option<(Indicator, Ms<'_>)>, b: &Option<(Indicator, Ms<'_>)>) -> bool
-    ensures { result ≡ same_head (view_list_head texts a.now) (view_list_head texts b.now) }
-{
-    match (a, b) {
-        (None, None) => true,
-        (Some((i, s)), Some((j, t))) => have_same_word(*i, *j) && *s == *t,
-        _ => false,
     }
 }
 
@@ -138,7 +75,7 @@ fn same_standalone(a: &StandaloneItem<'_>, b: &StandaloneItem<'_>) -> bool
 }
 
 #[cycle(same)]
-#[tactic(auto, using(crate::proofs::code::Rows::same_strings))]
+#[tactic(auto, using(cbor_edn_model::proofs::code::Rows::same_strings))]
 fn same_string(a: &CborString<'_>, b: &CborString<'_>) -> bool
     ensures { result ≡ same (view_string texts a.now) (view_string texts b.now) }
 {
@@ -146,7 +83,7 @@ fn same_string(a: &CborString<'_>, b: &CborString<'_>) -> bool
 }
 
 #[cycle(same)]
-#[tactic(auto, using(crate::proofs::code::Rows::pieces_as_long))]
+#[tactic(auto, using(cbor_edn_model::proofs::code::Rows::pieces_as_long))]
 fn same_piece_row(a: &[(Piece<'_>, S<'_>, S<'_>)], b: &[(Piece<'_>, S<'_>, S<'_>)]) -> bool
     ensures { result ≡ same_pieces (map (seen_piece texts) a.now) (map (seen_piece texts) b.now) }
 {
@@ -198,7 +135,7 @@ fn same_stream(a: &Stream<'_>, b: &Stream<'_>) -> bool
 }
 
 #[cycle(same)]
-#[tactic(auto, using(crate::proofs::code::Views::view_strings_is, crate::proofs::code::Rows::same_lists))]
+#[tactic(auto, using(crate::proofs::code::Views::view_strings_is, cbor_edn_model::proofs::code::Rows::same_lists))]
 fn same_strings(a: &Strings<'_>, b: &Strings<'_>) -> bool
     ensures { result ≡ same (view_strings texts a.now) (view_strings texts b.now) }
 {
@@ -206,7 +143,7 @@ fn same_strings(a: &Strings<'_>, b: &Strings<'_>) -> bool
 }
 
 #[cycle(same)]
-#[tactic(auto, using(crate::proofs::code::Rows::rows_as_long))]
+#[tactic(auto, using(cbor_edn_model::proofs::code::Rows::rows_as_long))]
 fn same_string_row(a: &[(CborString<'_>, Msc<'_>)], b: &[(CborString<'_>, Msc<'_>)]) -> bool
     ensures { result ≡ same_entries (map (seen_string texts) a.now) (map (seen_string texts) b.now) }
 {
@@ -248,7 +185,7 @@ fn same_list(a: &ItemList<'_>, b: &ItemList<'_>) -> bool
 }
 
 #[cycle(same)]
-#[tactic(auto, using(crate::proofs::code::Views::view_items_is, crate::proofs::code::Rows::same_lists))]
+#[tactic(auto, using(crate::proofs::code::Views::view_items_is, cbor_edn_model::proofs::code::Rows::same_lists))]
 fn same_items(a: &Items<'_>, b: &Items<'_>) -> bool
     ensures { result ≡ same (view_items texts a.now) (view_items texts b.now) }
 {
@@ -256,7 +193,7 @@ fn same_items(a: &Items<'_>, b: &Items<'_>) -> bool
 }
 
 #[cycle(same)]
-#[tactic(auto, using(crate::proofs::code::Rows::rows_as_long))]
+#[tactic(auto, using(cbor_edn_model::proofs::code::Rows::rows_as_long))]
 fn same_row(a: &[(Item<'_>, Msc<'_>)], b: &[(Item<'_>, Msc<'_>)]) -> bool
     ensures { result ≡ same_entries (map (seen texts) a.now) (map (seen texts) b.now) }
 {
@@ -298,7 +235,7 @@ fn same_pair_list(a: &PairList<'_>, b: &PairList<'_>) -> bool
 }
 
 #[cycle(same)]
-#[tactic(auto, using(crate::proofs::code::Views::view_pairs_is, crate::proofs::code::Rows::same_lists))]
+#[tactic(auto, using(crate::proofs::code::Views::view_pairs_is, cbor_edn_model::proofs::code::Rows::same_lists))]
 fn same_pairs(a: &Pairs<'_>, b: &Pairs<'_>) -> bool
     ensures { result ≡ same (view_pairs texts a.now) (view_pairs texts b.now) }
 {
@@ -306,7 +243,7 @@ fn same_pairs(a: &Pairs<'_>, b: &Pairs<'_>) -> bool
 }
 
 #[cycle(same)]
-#[tactic(auto, using(crate::proofs::code::Rows::rows_as_long))]
+#[tactic(auto, using(cbor_edn_model::proofs::code::Rows::rows_as_long))]
 fn same_pair_row(a: &[(Kp<'_>, Msc<'_>)], b: &[(Kp<'_>, Msc<'_>)]) -> bool
     ensures { result ≡ same_entries (map (seen_pair texts) a.now) (map (seen_pair texts) b.now) }
 {
@@ -335,7 +272,7 @@ fn same_pair(a: &Kp<'_>, b: &Kp<'_>) -> bool
 
 impl<'a> Item<'a> {
     /// Whether the items are the same and are written the same, as `==` tests.
-    #[tactic(auto, using(crate::specs::code::Same::same_are, crate::specs::code::Same::same_if))]
+    #[tactic(auto, using(cbor_edn_model::specs::code::Same::same_are, cbor_edn_model::specs::code::Same::same_if))]
     pub fn is_same(&self, other: &Item<'a>) -> bool
         ensures { IsTrue result ↔ (item_tree self.now ≡ item_tree other.now) }
     {
@@ -354,7 +291,7 @@ impl<'a> StandaloneItem<'a> {
 
 impl<'a> Sequence<'a> {
     /// Whether the items and the spaces round them are written the same, as `==` tests.
-    #[tactic(auto, using(crate::specs::code::Same::same_are, crate::specs::code::Same::same_if))]
+    #[tactic(auto, using(cbor_edn_model::specs::code::Same::same_are, cbor_edn_model::specs::code::Same::same_if))]
     pub fn is_same(&self, other: &Sequence<'a>) -> bool
         ensures { IsTrue result ↔ (sequence_tree self.now ≡ sequence_tree other.now) }
     {

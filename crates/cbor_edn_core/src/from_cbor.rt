@@ -1,66 +1,25 @@
 //! Items from their CBOR encoding.
 ghost use Rattle.std.specs.Prelude.{◌≡◌, ◌≢◌, ◌↔◌, ℕ, List, IfOk, IsTrue};
-ghost use Rattle.cbor_edn_core.specs.Trees.{Tree, OneItem};
+ghost use Rattle.cbor_edn_model.specs.Trees.{Tree, OneItem};
 ghost use Rattle.cbor_edn_core.specs.View.{item_tree, standalone_tree, sequence_tree};
-ghost use Rattle.cbor_edn_core.specs.Value.{Enc};
+ghost use Rattle.cbor_edn_model.specs.Value.{Enc};
 ghost use Rattle.cbor_edn_parts.specs.Refusals.{IfTold};
-ghost use Rattle.cbor_edn_core.specs.Decoded.{BeginsWith, IsDecoded, IsDecodedSequence, NoneIs, IsTooDeepEncoding, NoSequence, IsTooDeepSequence, alone};
+ghost use Rattle.cbor_edn_model.specs.Decoded.{BeginsWith, IsDecoded, IsDecodedSequence, NoneIs, IsTooDeepEncoding, NoSequence, IsTooDeepSequence, alone};
 
 use crate::tree::{Item, NESTING_LIMIT, Sequence, StandaloneItem};
+pub use cbor_edn_model::from_cbor::CborError;
+use cbor_edn_model::from_cbor::head::Stop;
 use cbor_edn_parts::error::Fault;
 use cbor_edn_parts::space::S;
 use finish::finish_items;
-use head::Stop;
 use reader::{item_of, items_until};
 use std::alloc::Global;
-use thiserror::Error;
 
 mod finish;
-mod head;
 mod reader;
 mod row_builder;
 mod special;
 mod strings;
-
-/// Why bytes are refused: told of the first head in byte order, and there the first of these that holds.
-#[derive(Clone, Copy, Debug, PartialEq, Eq, Error)]
-pub enum CborError {
-    #[error("Expected item, out of data")]
-    OutOfData,
-    #[error("Reserved header byte")]
-    Reserved,
-    #[error("Missing argument bytes")]
-    MissingArgument,
-    #[error("Indefinite length strings can only contain matching items")]
-    OtherChunk,
-    #[error("Indefinite length strings can only contain definite lengths")]
-    OpenChunk,
-    #[error("Integer/Tag with indefinite length encoding is not well-formed")]
-    OpenNumber,
-    #[error("Break code only expected at end of indefinite length items")]
-    MisplacedBreak,
-    #[error("Invalid simple value")]
-    InvalidSimple,
-    #[error("Float value out of scope")]
-    FloatOutOfScope,
-    #[error("Announced bytes unavailable")]
-    MissingBytes,
-    #[error("Text string must be valid UTF-8")]
-    InvalidUtf8,
-    #[error("Data after item")]
-    DataAfter,
-    #[error("Nested too deeply")]
-    TooDeep,
-}
-
-impl CborError {
-    /// Whether the bytes were refused for their nesting alone, as far as they were read.
-    pub fn too_deep(&self) -> bool
-        ensures { IsTrue result ↔ (self.now ≡ CborError.TooDeep) }
-    {
-        *self == CborError::TooDeep
-    }
-}
 
 impl<'a> Item<'a> {
     /// The item that the bytes encode, with the spaces of a single line: nested at most [`NESTING_LIMIT`] deep. Fails where the bytes

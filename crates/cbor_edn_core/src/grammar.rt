@@ -3,7 +3,7 @@
 //! Each function reads at a place of the text, and answers what it read with the place behind it. A rule is decided
 //! by one byte or two. Spaces are scanned once: to see whether a plus sign joins another piece to a string, the space behind
 //! a piece is read, and `End` hands it on to where it is used. Each function equals a rule of the plain reader on lists
-//! (`specs/Reading.antt`), and all that is said of the grammar is said of that reader.
+//! (`specs/code/Reading.antt` of the model), and all that is said of the grammar is said of that reader.
 ghost use Rattle.std.specs.Prelude.{◌≡◌, ◌≤◌, ◌+◌, ◌∷◌, ◌<◌, None, true, [], length, drop, OnOk, IfOk, IfErr};
 ghost use Rattle.std.specs.Str.{IsCharBoundary};
 ghost use Rattle.cbor_edn_parts.specs.code.Ends.{IsEnd, reached};
@@ -12,19 +12,21 @@ ghost use Rattle.cbor_edn_parts.specs.Leaves.{soc_bytes, s_bytes, BorrowsS, Borr
 ghost use Rattle.cbor_edn_parts.specs.Refusals.{IfTold};
 ghost use Rattle.cbor_edn_parts.specs.code.Text.{text_bytes};
 ghost use Rattle.cbor_edn_core.specs.Borrowed.{BorrowsItem, BorrowsList, BorrowsItems, BorrowsPair, BorrowsPairList, BorrowsPairs, BorrowsPiece, BorrowsString, BorrowsStream, BorrowsStrings, BorrowsSequence, BorrowsStandalone};
-ghost use Rattle.cbor_edn_core.specs.Items.{Elements, Pairs as Keyed, Strings as Chunks, Array as Bracket, Map as Brace};
-ghost use Rattle.cbor_edn_core.specs.code.LookCosts.{a_byte, extra, refused_extra, word_extra, enclosed_extra, refused_enclosed_extra, list_extra, refused_stream_extra, value_extra, refused_value_extra};
-ghost use Rattle.cbor_edn_core.specs.code.ParserResults.{Reads, Lands, ReadsEnd, LandsEnd, CostsEnd, CostsEndAhead, CostsAhead, IsPushed, IsByteAt, IsUnclosed, behind_colon, ReadsSeparator, LandsSeparator, CostsSeparator};
-ghost use Rattle.cbor_edn_core.specs.code.Reading.{reads, number_item, word_item, enclosed_item, stream_item, starts_string, word_at};
-ghost use Rattle.cbor_edn_core.specs.Trees.{OneItem, OnePiece, OneString, OneEntry, Inside, Rest, Seq, Standalone};
-ghost use Rattle.cbor_edn_core.specs.View.{texts, item_tree, view_list, view_items, view_pair, view_pair_list, view_pairs, view_piece, view_string, view_stream, view_strings, sequence_tree, standalone_tree};
+ghost use Rattle.cbor_edn_model.specs.Items.{Elements, Pairs as Keyed, Strings as Chunks, Array as Bracket, Map as Brace};
+ghost use Rattle.cbor_edn_model.specs.code.LookCosts.{a_byte, extra, refused_extra, word_extra, enclosed_extra, refused_enclosed_extra, list_extra, refused_stream_extra, value_extra, refused_value_extra};
+ghost use Rattle.cbor_edn_core.specs.code.ParserResults.{Reads, Lands, ReadsEnd, LandsEnd, CostsEnd, CostsEndAhead, CostsAhead, IsPushed, IsUnclosed, behind_colon, ReadsSeparator, LandsSeparator, CostsSeparator};
+ghost use Rattle.cbor_edn_model.specs.code.Places.{IsByteAt};
+ghost use Rattle.cbor_edn_model.specs.code.Reading.{reads, number_item, word_item, enclosed_item, stream_item, starts_string, word_at};
+ghost use Rattle.cbor_edn_model.specs.Trees.{OneItem, OnePiece, OneString, OneEntry, Inside, Rest, Seq, Standalone};
+ghost use Rattle.cbor_edn_core.specs.View.{item_tree, view_list, view_items, view_pair, view_pair_list, view_pairs, view_piece, view_string, view_stream, view_strings, sequence_tree, standalone_tree};
+ghost use Rattle.cbor_edn_model.specs.Leaves.{texts};
 
-use crate::lookahead::{Opening, closes, is_at, joins, marked, opening_at, tag_number};
 use crate::tree::{
     CborString, InnerItem, Item, ItemList, Items, Kp, Label, PairList, Pairs, Piece, Sequence,
     StandaloneItem, Stream, Strings,
 };
-use crate::word::Word;
+use cbor_edn_model::lookahead::{Opening, closes, is_at, joins, marked, opening_at, tag_number};
+use cbor_edn_model::word::Word;
 use cbor_edn_parts::error::{Fault, ParseErrorKind, Refusal};
 use cbor_edn_parts::indicator::indicator_at;
 use cbor_edn_parts::looks::Looks;
@@ -61,6 +63,7 @@ fn item<'a>(
 
 /// A number with its indicator, where no other item begins; or the tag whose number it is.
 #[cycle(item)]
+#[inline(never)]
 fn numbered<'a>(
     alloc: Global,
     text: &Text<'a>,
@@ -92,6 +95,7 @@ fn numbered<'a>(
 
 /// What stands behind a word.
 #[cycle(item)]
+#[inline(never)]
 fn worded<'a>(
     alloc: Global,
     text: &Text<'a>,
@@ -128,6 +132,7 @@ fn worded<'a>(
 
 /// An item between parentheses, behind a label.
 #[cycle(item)]
+#[inline(never)]
 fn enclosed<'a>(
     alloc: Global,
     text: &Text<'a>,
@@ -165,6 +170,7 @@ fn unspaced(item: usize) -> End
 
 /// An array with its brackets.
 #[cycle(item)]
+#[inline(never)]
 fn bracketed<'a>(
     alloc: Global,
     text: &Text<'a>,
@@ -192,6 +198,7 @@ fn bracketed<'a>(
 
 /// A map with its braces.
 #[cycle(item)]
+#[inline(never)]
 fn braced<'a>(
     alloc: Global,
     text: &Text<'a>,
@@ -219,6 +226,7 @@ fn braced<'a>(
 
 /// A string of indefinite length with its parentheses.
 #[cycle(item)]
+#[inline(never)]
 fn chunked<'a>(
     alloc: Global,
     text: &Text<'a>,
@@ -240,6 +248,7 @@ fn chunked<'a>(
 
 /// A string.
 #[cycle(item)]
+#[inline(never)]
 fn joined<'a>(
     alloc: Global,
     text: &Text<'a>,

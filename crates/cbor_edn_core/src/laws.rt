@@ -1,11 +1,11 @@
 //! Laws: each function's contract is one, and its body does nothing.
-ghost use Rattle.cbor_edn_core.specs.BareLaws.{WithoutIndicatorsIsBare, WithoutIndicatorsStaysValid, BareMeans};
-ghost use Rattle.cbor_edn_core.specs.CborLaws.{OneEncoding, ItemMeans, SpelledMeans};
-ghost use Rattle.cbor_edn_core.specs.Fewer.{FewerMean};
-ghost use Rattle.cbor_edn_core.specs.LayoutLaws.{KeepsItems, StaysValid, SpellsTheSame, CommentKeepsItems, CommentStaysValid, ForgetsLayout, SameTwice, DecodedStays, OneSingleLine, MeansTheSame};
-ghost use Rattle.cbor_edn_core.specs.Laws.{ItemsAndSpaces, SpelledByTrees, UniqueItems, UniqueSpaces};
-ghost use Rattle.cbor_edn_core.specs.Spelling.{Spells, SpellsOne, SpellsSequence};
-ghost use Rattle.cbor_edn_core.specs.Trees.{items, text};
+ghost use Rattle.cbor_edn_model.specs.BareLaws.{WithoutIndicatorsIsBare, WithoutIndicatorsStaysValid, BareMeans};
+ghost use Rattle.cbor_edn_model.specs.CborLaws.{OneEncoding, ItemMeans, SpelledMeans};
+ghost use Rattle.cbor_edn_model.specs.Fewer.{FewerMean};
+ghost use Rattle.cbor_edn_model.specs.LayoutLaws.{KeepsItems, StaysValid, SpellsTheSame, CommentKeepsItems, CommentStaysValid, ForgetsLayout, SameTwice, DecodedStays, OneSingleLine, MeansTheSame};
+ghost use Rattle.cbor_edn_model.specs.Laws.{ItemsAndSpaces, SpelledByTrees, UniqueItems, UniqueSpaces};
+ghost use Rattle.cbor_edn_model.specs.Spelling.{Spells, SpellsOne, SpellsSequence};
+ghost use Rattle.cbor_edn_model.specs.Trees.{items, text};
 ghost use Rattle.cbor_edn_core.specs.View.{item_tree, standalone_tree, sequence_tree};
 
 use crate::tree::{Item, Sequence, StandaloneItem};
@@ -25,7 +25,7 @@ pub fn spelled_by_trees()
 
 /// Trees are the same exactly where their items are the same and their spaces are: what `==` and `clone` promise of trees, they
 /// promise of these two.
-#[tactic(auto, using(crate::proofs::text::ItemsAndSpaces::items_and_spaces))]
+#[tactic(auto, using(cbor_edn_model::proofs::text::ItemsAndSpaces::items_and_spaces))]
 pub fn items_and_spaces()
     ensures { ItemsAndSpaces }
 {}

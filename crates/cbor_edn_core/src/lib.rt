@@ -2,19 +2,18 @@
 //! decoded from it.
 #![tactic(auto)]
 
-pub mod cbor;
+pub mod access;
 mod clone;
+mod construct;
 mod convert;
 mod debug;
 mod equal;
 pub mod from_cbor;
 mod grammar;
 pub mod laws;
-mod location;
-mod lookahead;
+mod lend;
 mod parse;
 mod policy;
 mod serialize;
 mod to_cbor;
 pub mod tree;
-pub mod word;

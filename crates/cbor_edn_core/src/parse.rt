@@ -2,20 +2,20 @@
 ghost use Rattle.std.specs.Prelude.{◌≤◌, ◌+◌, ◌*◌, length, IfOk, IfErr, OnOk};
 ghost use Rattle.cbor_edn_core.specs.Borrowed.{BorrowsSequence, BorrowsStandalone};
 ghost use Rattle.cbor_edn_parts.specs.code.Text.{text_bytes};
-ghost use Rattle.cbor_edn_core.specs.code.LookCosts.{a_byte, text_extra};
+ghost use Rattle.cbor_edn_model.specs.code.LookCosts.{a_byte, text_extra};
 ghost use Rattle.cbor_edn_core.specs.code.ParserResults.{Gives, IsPlaced};
-ghost use Rattle.cbor_edn_core.specs.code.Reading.{reads_all};
+ghost use Rattle.cbor_edn_model.specs.code.Reading.{reads_all};
 ghost use Rattle.cbor_edn_core.specs.Parsing.{ParsedSequence, ParsedStandalone, Unparsed};
 ghost use Rattle.cbor_edn_parts.specs.Refusals.{IfTold};
-ghost use Rattle.cbor_edn_core.specs.Spelling.{SpellsOne, SpellsSequence};
-ghost use Rattle.cbor_edn_core.specs.Trees.{Seq, Standalone};
+ghost use Rattle.cbor_edn_model.specs.Spelling.{SpellsOne, SpellsSequence};
+ghost use Rattle.cbor_edn_model.specs.Trees.{Seq, Standalone};
 ghost use Rattle.cbor_edn_core.specs.View.{sequence_tree, standalone_tree};
 
 use crate::grammar::{sequence, standalone};
-use crate::location::located;
-use crate::lookahead::ends;
 use crate::tree::{NESTING_LIMIT, Sequence, StandaloneItem};
+use cbor_edn_model::lookahead::ends;
 use cbor_edn_parts::error::{Fault, ParseError, Refusal};
+use cbor_edn_parts::location::located;
 use cbor_edn_parts::looks::Looks;
 use cbor_edn_parts::text::Text;
 use std::alloc::Global;

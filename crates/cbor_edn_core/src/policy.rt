@@ -1,32 +1,31 @@
 //! Delimiter policies, and comments in front of items.
 ghost use Rattle.std.specs.Prelude.{◌≡◌, IfOk, IfErr, IsOk, OnOk};
 ghost use Rattle.cbor_edn_parts.specs.declared.policy.DelimiterPolicy.TheVariants as policies;
-ghost use Rattle.cbor_edn_core.specs.Commented.{commented};
-ghost use Rattle.cbor_edn_core.specs.Decoded.{alone};
-ghost use Rattle.cbor_edn_core.specs.Layout.{laid_out};
-ghost use Rattle.cbor_edn_core.specs.Trees.{items};
+ghost use Rattle.cbor_edn_parts.specs.LayoutColumns.{least};
+ghost use Rattle.cbor_edn_model.specs.Commented.{commented};
+ghost use Rattle.cbor_edn_model.specs.Decoded.{alone};
+ghost use Rattle.cbor_edn_model.specs.Layout.{laid_out};
+ghost use Rattle.cbor_edn_model.specs.Trees.{items};
 ghost use Rattle.cbor_edn_core.specs.View.{item_tree, standalone_tree, sequence_tree};
-ghost use Rattle.cbor_edn_core.specs.code.Laying.{Ready, least};
-ghost use Rattle.cbor_edn_core.specs.code.Widths.{stack};
+ghost use Rattle.cbor_edn_model.specs.code.Laying.{Ready};
+ghost use Rattle.cbor_edn_model.specs.code.Widths.{stack};
 
 mod indicators;
 mod lay;
-mod layout;
 mod measure;
-mod spaces;
 mod strings;
 
 use self::lay::{lay_item, lay_sequence, lay_standalone};
-use self::layout::Layout;
 use self::measure::{item_widths, sequence_widths, standalone_widths};
 use crate::tree::{Item, Sequence, StandaloneItem};
+use cbor_edn_parts::layout::Layout;
 use cbor_edn_parts::policy::DelimiterPolicy;
 use cbor_edn_parts::space::S;
 use std::alloc::{AllocError, Global};
 
 impl<'a> Item<'a> {
     /// Gives the item the spaces of a policy, as the same call of a `StandaloneItem` does.
-    #[tactic(auto, using(crate::proofs::layout::Laying::laid_ready))]
+    #[tactic(auto, using(cbor_edn_model::proofs::layout::Laying::laid_ready))]
     pub fn set_delimiters(
         &mut self,
         alloc: Global,
@@ -57,7 +56,7 @@ impl<'a> StandaloneItem<'a> {
     /// Gives the item the spaces of a policy: each space text is a column of the policy's table, cut from the text that
     /// stood there, and what stands in embedded sequences stays. Fails where memory runs out: the items are the same then,
     /// and some spaces may be those of the policy already. `DiscardAll` takes no memory.
-    #[tactic(auto, using(crate::proofs::layout::Laying::laid_ready))]
+    #[tactic(auto, using(cbor_edn_model::proofs::layout::Laying::laid_ready))]
     pub fn set_delimiters(
         &mut self,
         alloc: Global,
@@ -99,7 +98,7 @@ impl<'a> StandaloneItem<'a> {
 impl<'a> Sequence<'a> {
     /// Gives the items of the sequence the spaces of a policy, as the same call of a `StandaloneItem` does; under the
     /// indented policy each of them begins a line.
-    #[tactic(auto, using(crate::proofs::layout::Laying::laid_ready))]
+    #[tactic(auto, using(cbor_edn_model::proofs::layout::Laying::laid_ready))]
     pub fn set_delimiters(
         &mut self,
         alloc: Global,

@@ -2,14 +2,18 @@
 ghost use Rattle.std.specs.Prelude.{◌≡◌, ◌++◌, OnOk, IfOk};
 ghost use Rattle.std.specs.String.{string_bytes};
 ghost use Rattle.cbor_edn_parts.specs.Indicator.{indicator_text};
-ghost use Rattle.cbor_edn_core.specs.Trees.{text, label_text, list_head_text, items};
-ghost use Rattle.cbor_edn_core.specs.Spelling.{Spells, SpellsSequence, SpellsOne};
-ghost use Rattle.cbor_edn_core.specs.View.{texts, view_list_head, view_list, view_items, row_text, view_pair_list, view_pairs, view_pair, pair_row_text, view_string, view_piece, piece_row_text, view_stream, view_strings, string_row_text, item_tree, standalone_tree, sequence_tree};
+ghost use Rattle.cbor_edn_model.specs.Trees.{text, label_text, list_head_text, items};
+ghost use Rattle.cbor_edn_model.specs.Spelling.{Spells, SpellsSequence, SpellsOne};
+ghost use Rattle.cbor_edn_core.specs.View.{view_list, view_items, row_text, view_pair_list, view_pairs, view_pair, pair_row_text, view_string, view_piece, piece_row_text, view_stream, view_strings, string_row_text, item_tree, standalone_tree, sequence_tree};
+ghost use Rattle.cbor_edn_model.specs.ListHeads.{view_list_head};
+ghost use Rattle.cbor_edn_model.specs.Leaves.{texts};
 
 use crate::tree::{
     CborString, Indicator, InnerItem, Item, ItemList, Items, Kp, LabelKind, PairList, Pairs, Piece,
     Sequence, StandaloneItem, Stream, Strings,
 };
+use cbor_edn_model::list_head::push_list_head;
+use cbor_edn_model::write::{push_indicator, push_label};
 use cbor_edn_parts::space::{Ms, Msc, S};
 use std::alloc::{AllocError, Global};
 
@@ -50,7 +54,7 @@ impl Sequence<'_> {
 }
 
 #[cycle(push)]
-#[tactic(auto, using(crate::proofs::code::Views::view_sequence_is, crate::proofs::code::Texts::text_nothing, crate::proofs::code::Texts::text_sequence, std::proofs::Common::append_assoc))]
+#[tactic(auto, using(crate::proofs::code::Views::view_sequence_is, cbor_edn_model::proofs::code::Texts::text_nothing, cbor_edn_model::proofs::code::Texts::text_sequence, std::proofs::Common::append_assoc))]
 fn push_sequence(out: &mut String, sequence: &Sequence<'_>) -> Result<(), AllocError>
     ensures { OnOk result (string_bytes out.new ≡ string_bytes out.old ++ text (sequence_tree sequence.now)) }
 {
@@ -62,7 +66,7 @@ fn push_sequence(out: &mut String, sequence: &Sequence<'_>) -> Result<(), AllocE
 }
 
 #[cycle(push)]
-#[tactic(auto, using(crate::proofs::code::Texts::text_standalone, std::proofs::Common::append_assoc))]
+#[tactic(auto, using(cbor_edn_model::proofs::code::Texts::text_standalone, std::proofs::Common::append_assoc))]
 fn push_standalone(out: &mut String, item: &StandaloneItem<'_>) -> Result<(), AllocError>
     ensures { OnOk result (string_bytes out.new ≡ string_bytes out.old ++ text (standalone_tree item.now)) }
 {
@@ -71,41 +75,8 @@ fn push_standalone(out: &mut String, item: &StandaloneItem<'_>) -> Result<(), Al
     out.push_str(item.after.as_str())
 }
 
-fn push_indicator(out: &mut String, indicator: Option<Indicator>) -> Result<(), AllocError>
-    ensures { OnOk result (string_bytes out.new ≡ string_bytes out.old ++ indicator_text indicator) }
-{
-    match indicator {
-        None => Ok(()),
-        Some(indicator) => out.push_str(indicator.as_str()),
-    }
-}
-
-fn push_label(out: &mut String, label: LabelKind) -> Result<(), AllocError>
-    ensures { OnOk result (string_bytes out.new ≡ string_bytes out.old ++ label_text label) }
-{
-    match label {
-        LabelKind::Tag(number, indicator) => {
-            write!(out, "{number}")?;
-            push_indicator(out, indicator)
-        }
-        LabelKind::Simple => out.push_str("simple"),
-    }
-}
-
-fn push_list_head(out: &mut String, head: &Option<(Indicator, Ms<'_>)>) -> Result<(), AllocError>
-    ensures { OnOk result (string_bytes out.new ≡ string_bytes out.old ++ list_head_text (view_list_head texts head.now)) }
-{
-    match head {
-        None => Ok(()),
-        Some((indicator, space)) => {
-            out.push_str(indicator.as_str())?;
-            out.push_str(space.as_str())
-        }
-    }
-}
-
 #[cycle(push)]
-#[tactic(auto, using(crate::proofs::code::Views::view_string_is, crate::proofs::code::Texts::text_number, crate::proofs::code::Texts::text_float, crate::proofs::code::Texts::text_named, crate::proofs::code::Texts::text_enclosed, crate::proofs::code::Texts::text_list, crate::proofs::code::Texts::text_string, std::proofs::Common::append_assoc))]
+#[tactic(auto, using(crate::proofs::code::Views::view_string_is, cbor_edn_model::proofs::code::Texts::text_number, cbor_edn_model::proofs::code::Texts::text_float, cbor_edn_model::proofs::code::Texts::text_named, cbor_edn_model::proofs::code::Texts::text_enclosed, cbor_edn_model::proofs::code::Texts::text_list, cbor_edn_model::proofs::code::Texts::text_string, std::proofs::Common::append_assoc))]
 fn push_item(out: &mut String, item: &Item<'_>) -> Result<(), AllocError>
     ensures { OnOk result (string_bytes out.new ≡ string_bytes out.old ++ text (item_tree item.now)) }
 {
@@ -141,7 +112,7 @@ fn push_item(out: &mut String, item: &Item<'_>) -> Result<(), AllocError>
 }
 
 #[cycle(push)]
-#[tactic(auto, using(crate::proofs::code::Texts::text_pieces, crate::proofs::code::Texts::text_last_piece, std::proofs::Common::append_assoc))]
+#[tactic(auto, using(cbor_edn_model::proofs::code::Texts::text_pieces, cbor_edn_model::proofs::code::Texts::text_last_piece, std::proofs::Common::append_assoc))]
 fn push_string(out: &mut String, string: &CborString<'_>) -> Result<(), AllocError>
     ensures { OnOk result (string_bytes out.new ≡ string_bytes out.old ++ text (view_string texts string.now)) }
 {
@@ -163,7 +134,7 @@ fn push_piece_row(out: &mut String, row: &[(Piece<'_>, S<'_>, S<'_>)]) -> Result
 }
 
 #[cycle(push)]
-#[tactic(auto, using(crate::proofs::code::Texts::text_literal, crate::proofs::code::Texts::text_dots, crate::proofs::code::Texts::text_embedded, std::proofs::Common::append_assoc))]
+#[tactic(auto, using(cbor_edn_model::proofs::code::Texts::text_literal, cbor_edn_model::proofs::code::Texts::text_dots, cbor_edn_model::proofs::code::Texts::text_embedded, std::proofs::Common::append_assoc))]
 fn push_piece(out: &mut String, piece: &Piece<'_>) -> Result<(), AllocError>
     ensures { OnOk result (string_bytes out.new ≡ string_bytes out.old ++ text (view_piece texts piece.now)) }
 {
@@ -183,7 +154,7 @@ fn push_piece(out: &mut String, piece: &Piece<'_>) -> Result<(), AllocError>
 }
 
 #[cycle(push)]
-#[tactic(auto, using(crate::proofs::code::Views::view_stream_is, crate::proofs::code::Texts::text_stream, std::proofs::Common::append_assoc))]
+#[tactic(auto, using(crate::proofs::code::Views::view_stream_is, cbor_edn_model::proofs::code::Texts::text_stream, std::proofs::Common::append_assoc))]
 fn push_stream(out: &mut String, stream: &Stream<'_>) -> Result<(), AllocError>
     ensures { OnOk result (string_bytes out.new ≡ string_bytes out.old ++ text (view_stream texts stream.now)) }
 {
@@ -194,7 +165,7 @@ fn push_stream(out: &mut String, stream: &Stream<'_>) -> Result<(), AllocError>
 }
 
 #[cycle(push)]
-#[tactic(auto, using(crate::proofs::code::Views::view_strings_is, crate::proofs::code::Texts::text_entries, crate::proofs::code::Texts::text_last, crate::proofs::code::Texts::text_chunk, std::proofs::Common::append_assoc))]
+#[tactic(auto, using(crate::proofs::code::Views::view_strings_is, cbor_edn_model::proofs::code::Texts::text_entries, cbor_edn_model::proofs::code::Texts::text_last, cbor_edn_model::proofs::code::Texts::text_chunk, std::proofs::Common::append_assoc))]
 fn push_strings(out: &mut String, strings: &Strings<'_>) -> Result<(), AllocError>
     ensures { OnOk result (string_bytes out.new ≡ string_bytes out.old ++ text (view_strings texts strings.now)) }
 {
@@ -204,7 +175,7 @@ fn push_strings(out: &mut String, strings: &Strings<'_>) -> Result<(), AllocErro
 }
 
 #[cycle(push)]
-#[tactic(auto, unfolding(crate::specs::Trees::onto))]
+#[tactic(auto, unfolding(cbor_edn_model::specs::Trees::onto))]
 fn push_string_row(out: &mut String, row: &[(CborString<'_>, Msc<'_>)]) -> Result<(), AllocError>
     ensures { OnOk result (string_bytes out.new ≡ string_bytes out.old ++ string_row_text texts row.now) }
 {
@@ -216,7 +187,7 @@ fn push_string_row(out: &mut String, row: &[(CborString<'_>, Msc<'_>)]) -> Resul
 }
 
 #[cycle(push)]
-#[tactic(auto, using(crate::proofs::code::Texts::text_empty, crate::proofs::code::Texts::text_full, std::proofs::Common::append_assoc))]
+#[tactic(auto, using(cbor_edn_model::proofs::code::Texts::text_empty, cbor_edn_model::proofs::code::Texts::text_full, std::proofs::Common::append_assoc))]
 fn push_list(out: &mut String, list: &ItemList<'_>) -> Result<(), AllocError>
     ensures { OnOk result (string_bytes out.new ≡ string_bytes out.old ++ text (view_list texts list.now)) }
 {
@@ -234,7 +205,7 @@ fn push_list(out: &mut String, list: &ItemList<'_>) -> Result<(), AllocError>
 }
 
 #[cycle(push)]
-#[tactic(auto, using(crate::proofs::code::Views::view_items_is, crate::proofs::code::Texts::text_entries, crate::proofs::code::Texts::text_last, crate::proofs::code::Texts::text_element, std::proofs::Common::append_assoc))]
+#[tactic(auto, using(crate::proofs::code::Views::view_items_is, cbor_edn_model::proofs::code::Texts::text_entries, cbor_edn_model::proofs::code::Texts::text_last, cbor_edn_model::proofs::code::Texts::text_element, std::proofs::Common::append_assoc))]
 fn push_items(out: &mut String, items: &Items<'_>) -> Result<(), AllocError>
     ensures { OnOk result (string_bytes out.new ≡ string_bytes out.old ++ text (view_items texts items.now)) }
 {
@@ -244,7 +215,7 @@ fn push_items(out: &mut String, items: &Items<'_>) -> Result<(), AllocError>
 }
 
 #[cycle(push)]
-#[tactic(auto, unfolding(crate::specs::Trees::onto))]
+#[tactic(auto, unfolding(cbor_edn_model::specs::Trees::onto))]
 fn push_row(out: &mut String, row: &[(Item<'_>, Msc<'_>)]) -> Result<(), AllocError>
     ensures { OnOk result (string_bytes out.new ≡ string_bytes out.old ++ row_text texts row.now) }
 {
@@ -256,7 +227,7 @@ fn push_row(out: &mut String, row: &[(Item<'_>, Msc<'_>)]) -> Result<(), AllocEr
 }
 
 #[cycle(push)]
-#[tactic(auto, using(crate::proofs::code::Texts::text_empty, crate::proofs::code::Texts::text_full, std::proofs::Common::append_assoc))]
+#[tactic(auto, using(cbor_edn_model::proofs::code::Texts::text_empty, cbor_edn_model::proofs::code::Texts::text_full, std::proofs::Common::append_assoc))]
 fn push_pair_list(out: &mut String, list: &PairList<'_>) -> Result<(), AllocError>
     ensures { OnOk result (string_bytes out.new ≡ string_bytes out.old ++ text (view_pair_list texts list.now)) }
 {
@@ -274,7 +245,7 @@ fn push_pair_list(out: &mut String, list: &PairList<'_>) -> Result<(), AllocErro
 }
 
 #[cycle(push)]
-#[tactic(auto, using(crate::proofs::code::Views::view_pairs_is, crate::proofs::code::Texts::text_entries, crate::proofs::code::Texts::text_last, std::proofs::Common::append_assoc))]
+#[tactic(auto, using(crate::proofs::code::Views::view_pairs_is, cbor_edn_model::proofs::code::Texts::text_entries, cbor_edn_model::proofs::code::Texts::text_last, std::proofs::Common::append_assoc))]
 fn push_pairs(out: &mut String, pairs: &Pairs<'_>) -> Result<(), AllocError>
     ensures { OnOk result (string_bytes out.new ≡ string_bytes out.old ++ text (view_pairs texts pairs.now)) }
 {
@@ -295,7 +266,7 @@ fn push_pair_row(out: &mut String, row: &[(Kp<'_>, Msc<'_>)]) -> Result<(), Allo
 }
 
 #[cycle(push)]
-#[tactic(auto, using(crate::proofs::code::Texts::text_pair, std::proofs::Common::append_assoc))]
+#[tactic(auto, using(cbor_edn_model::proofs::code::Texts::text_pair, std::proofs::Common::append_assoc))]
 fn push_pair(out: &mut String, pair: &Kp<'_>) -> Result<(), AllocError>
     ensures { OnOk result (string_bytes out.new ≡ string_bytes out.old ++ text (view_pair texts pair.now)) }
 {

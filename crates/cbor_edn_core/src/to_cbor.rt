@@ -2,24 +2,28 @@
 ghost use Rattle.std.specs.Prelude.{◌≡◌, ◌<◌, ◌++◌, map, IfOk, Some};
 ghost use Rattle.cbor_edn_parts.specs.code.ContentReading.{literal_content};
 ghost use Rattle.cbor_edn_parts.specs.Leaves.{literal_bytes, number_bytes};
-ghost use Rattle.cbor_edn_core.specs.Items as nodes;
-ghost use Rattle.cbor_edn_core.specs.Trees as trees;
-ghost use Rattle.cbor_edn_core.specs.View.{texts, view_list, view_items, view_pair_list, view_pairs, view_pair, view_list_head, view_piece, view_string, view_strings, seen, seen_pair, seen_piece, seen_string, item_tree, standalone_tree, sequence_tree};
-ghost use Rattle.cbor_edn_core.specs.Value.{AreBytes, Value, Values, encoding, encodings, pair_encodings, Enc, EncAll};
-ghost use Rattle.cbor_edn_core.specs.Meaning as meaning;
-ghost use Rattle.cbor_edn_core.specs.Meaning.{NoEncoding, means, length_of};
+ghost use Rattle.cbor_edn_model.specs.Items as nodes;
+ghost use Rattle.cbor_edn_model.specs.Trees as trees;
+ghost use Rattle.cbor_edn_core.specs.View.{view_list, view_items, view_pair_list, view_pairs, view_pair, view_piece, view_string, view_strings, seen, seen_pair, seen_piece, seen_string, item_tree, standalone_tree, sequence_tree};
+ghost use Rattle.cbor_edn_model.specs.ListHeads.{view_list_head};
+ghost use Rattle.cbor_edn_model.specs.Leaves.{texts};
+ghost use Rattle.cbor_edn_model.specs.Value.{AreBytes, Value, Values, encoding, encodings, pair_encodings, Enc, EncAll};
+ghost use Rattle.cbor_edn_model.specs.Meaning as meaning;
+ghost use Rattle.cbor_edn_model.specs.Meaning.{NoEncoding, means, length_of};
 ghost use Rattle.cbor_edn_parts.specs.Refusals.{IfTold};
-ghost use Rattle.cbor_edn_core.specs.code.Encoding as calls;
-ghost use Rattle.cbor_edn_core.specs.code.Encoding.{Encodes, Finds, Gathers, entry_encoding, string_encodings, row_items, list_head, list_end};
+ghost use Rattle.cbor_edn_model.specs.code.Encoding as calls;
+ghost use Rattle.cbor_edn_model.specs.code.Encoding.{Encodes, Finds, Gathers, entry_encoding, string_encodings, row_items, list_head, list_end};
 
-use crate::cbor::{
-    length_of, push_chunk, push_float, push_integer, push_list_end, push_list_head,
-    push_marked_head, push_simple, push_string, same_kind, simple_number, string_major,
-};
 use crate::tree::{
     CborString, InnerItem, Item, ItemList, Items, Kp, LabelKind, PairList, Pairs, Piece, Sequence,
     StandaloneItem, Strings,
 };
+use cbor_edn_model::cbor::{
+    length_of, push_chunk, push_float, push_integer, push_list_end, push_list_head,
+    push_marked_head, push_simple, push_string, same_kind, simple_number, string_major,
+};
+use cbor_edn_model::list_head::mark_of;
+use cbor_edn_model::to_cbor::{push_empty, push_literal, push_number, simple_of};
 use cbor_edn_parts::error::{Fault, InconsistentEdn};
 use cbor_edn_parts::indicator::Indicator;
 use cbor_edn_parts::number::{Integer, Number};
@@ -29,7 +33,7 @@ use std::alloc::Global;
 
 impl StandaloneItem<'_> {
     /// The encoding of the value that the item means. Fails where it means none, and where memory runs out.
-    #[tactic(auto, unfolding(crate::specs::Trees::items))]
+    #[tactic(auto, unfolding(cbor_edn_model::specs::Trees::items))]
     pub fn to_cbor(&self, alloc: Global) -> Result<Vec<u8>, Fault<InconsistentEdn>>
         ensures bytes { IfOk result (λ b. (v : Value) × (means (trees.items (standalone_tree self.now)) ≡ Some v) × Enc b.items v) }
         ensures refused { IfTold result (NoEncoding (means (trees.items (standalone_tree self.now)))) }
@@ -44,7 +48,7 @@ impl StandaloneItem<'_> {
 impl Sequence<'_> {
     /// The encodings of the values that the items mean, one behind the other. Fails where an item means none, and where
     /// memory runs out.
-    #[tactic(auto, unfolding(crate::specs::Trees::items))]
+    #[tactic(auto, unfolding(cbor_edn_model::specs::Trees::items))]
     pub fn to_cbor(&self, alloc: Global) -> Result<Vec<u8>, Fault<InconsistentEdn>>
         ensures bytes { IfOk result (λ b. (v : Values) × (means (trees.items (sequence_tree self.now)) ≡ Some v) × EncAll b.items v) }
         ensures refused { IfTold result (NoEncoding (means (trees.items (sequence_tree self.now)))) }
@@ -64,7 +68,7 @@ fn are_bytes(bytes: &[u8])
 }
 
 #[cycle(encode)]
-#[tactic(auto, unfolding(crate::specs::Trees::items))]
+#[tactic(auto, unfolding(cbor_edn_model::specs::Trees::items))]
 fn push_item(out: &mut Vec<u8>, item: &Item<'_>) -> Result<(), Fault<InconsistentEdn>>
     ensures { Encodes encoding (means (trees.items (item_tree item.now))) out.old.items out.new.items result }
 {
@@ -81,7 +85,7 @@ fn push_item(out: &mut Vec<u8>, item: &Item<'_>) -> Result<(), Fault<Inconsisten
 }
 
 #[cycle(encode)]
-#[tactic(auto, unfolding(crate::specs::Trees::items))]
+#[tactic(auto, unfolding(cbor_edn_model::specs::Trees::items))]
 fn push_enclosed(
     out: &mut Vec<u8>,
     label: LabelKind,
@@ -99,7 +103,7 @@ fn push_enclosed(
 }
 
 /// Writes the simple value whose number an item is. Fails where the item is no such number.
-#[tactic(auto, unfolding(crate::specs::Trees::items))]
+#[tactic(auto, unfolding(cbor_edn_model::specs::Trees::items))]
 fn push_numeric(out: &mut Vec<u8>, item: &Item<'_>) -> Result<(), Fault<InconsistentEdn>>
     ensures { Encodes encoding (meaning.means_simple (trees.items (item_tree item.now))) out.old.items out.new.items result }
 {
@@ -111,69 +115,6 @@ fn push_numeric(out: &mut Vec<u8>, item: &Item<'_>) -> Result<(), Fault<Inconsis
         Some(number) => Ok(push_simple(out, number)?),
         None => Err(Fault::Told(InconsistentEdn::InvalidSimple)),
     }
-}
-
-/// The number of a simple value, where it is one, and its indicator the shortest.
-#[tactic(auto, using(cbor_edn_parts::proofs::NumberParts::integer_reads))]
-fn simple_of(number: &Number<'_>, indicator: Option<Indicator>) -> Option<u8>
-    ensures { result ≡ meaning.simple_of (number_bytes number.now) indicator }
-{
-    match number.integer()? {
-        Integer::Positive(n @ (0..=23 | 32..=255)) if is_shortest(indicator, n as u8) => {
-            Some(n as u8)
-        }
-        _ => None,
-    }
-}
-
-/// Whether the indicator, if there is one, is that of the shortest head.
-fn is_shortest(indicator: Option<Indicator>, number: u8) -> bool
-    ensures { result ≡ meaning.is_shortest indicator number }
-{
-    match indicator {
-        None => true,
-        Some(Indicator::Immediate) => number < 24,
-        Some(Indicator::One) => number >= 24,
-        Some(_) => false,
-    }
-}
-
-fn push_number(
-    out: &mut Vec<u8>,
-    number: &Number<'_>,
-    indicator: Option<Indicator>,
-) -> Result<(), Fault<InconsistentEdn>>
-    ensures { Encodes encoding (means (nodes.Number (number_bytes number.now) indicator)) out.old.items out.new.items result }
-{
-    match number.integer() {
-        None => Err(Fault::Told(InconsistentEdn::NumberWithoutEncoding)),
-        Some(integer) => push_integer(out, integer, indicator),
-    }
-}
-
-/// The indicator of a list with entries.
-fn mark_of(head: &Option<(Indicator, Ms<'_>)>) -> Option<Indicator>
-    ensures { result ≡ trees.mark (view_list_head texts head.now) }
-{
-    match head {
-        None => None,
-        Some((indicator, _)) => Some(*indicator),
-    }
-}
-
-/// Writes a list without entries.
-fn push_empty(
-    out: &mut Vec<u8>,
-    major: u8,
-    indicator: Option<Indicator>,
-) -> Result<(), Fault<InconsistentEdn>>
-    requires { major < 8 }
-    ensures { Encodes (λ w. list_head major w 0 ++ list_end w) (length_of indicator 0) out.old.items out.new.items result }
-{
-    let width = length_of(indicator, 0)?;
-    push_list_head(out, major, width, 0)?;
-    push_list_end(out, width)?;
-    Ok(())
 }
 
 #[cycle(encode)]
@@ -255,7 +196,7 @@ fn push_pair(out: &mut Vec<u8>, pair: &Kp<'_>) -> Result<(), Fault<InconsistentE
 }
 
 #[cycle(encode)]
-#[tactic(auto, unfolding(crate::specs::Trees::items))]
+#[tactic(auto, unfolding(cbor_edn_model::specs::Trees::items))]
 fn push_sequence(out: &mut Vec<u8>, sequence: &Sequence<'_>) -> Result<(), Fault<InconsistentEdn>>
     ensures { Encodes encodings (means (trees.items (sequence_tree sequence.now))) out.old.items out.new.items result }
 {
@@ -299,7 +240,7 @@ fn string_mark(string: &CborString<'_>) -> Result<Option<Indicator>, Fault<Incon
     }
 }
 
-#[tactic(auto, unfolding(crate::specs::Trees::items))]
+#[tactic(auto, unfolding(cbor_edn_model::specs::Trees::items))]
 fn piece_mark(piece: &Piece<'_>) -> Option<Indicator>
     ensures { result ≡ meaning.piece_mark (trees.items (view_piece texts piece.now)) }
 {
@@ -351,8 +292,12 @@ fn gather(out: &mut Vec<u8>, string: &CborString<'_>) -> Result<StringKind, Faul
     Ok(kind.unwrap_or(last))
 }
 
+/// Writes the bytes of a piece, and answers its kind.
 #[cycle(encode)]
-fn push_piece(out: &mut Vec<u8>, piece: &Piece<'_>) -> Result<StringKind, Fault<InconsistentEdn>>
+pub(crate) fn push_piece(
+    out: &mut Vec<u8>,
+    piece: &Piece<'_>,
+) -> Result<StringKind, Fault<InconsistentEdn>>
     ensures { Gathers (means (trees.items (view_piece texts piece.now))) out.old.items out.new.items result }
 {
     match piece {
@@ -363,18 +308,6 @@ fn push_piece(out: &mut Vec<u8>, piece: &Piece<'_>) -> Result<StringKind, Fault<
             Ok(StringKind::Bytes)
         }
     }
-}
-
-#[tactic(auto, using(cbor_edn_parts::proofs::ContentTexts::content_reads))]
-fn push_literal(
-    out: &mut Vec<u8>,
-    literal: &Literal<'_>,
-) -> Result<StringKind, Fault<InconsistentEdn>>
-    ensures { Gathers (literal_content (literal_bytes literal.now)) out.old.items out.new.items result }
-{
-    let (kind, bytes) = literal.content(*out.allocator())?;
-    out.extend_from_slice(&bytes)?;
-    Ok(kind)
 }
 
 /// What is told of a string without a content: first of pieces that no content is known of, then of the other literals, and then
@@ -529,7 +462,7 @@ fn form_kind(string: &CborString<'_>) -> StringKind
     }
 }
 
-#[tactic(auto, unfolding(crate::specs::Trees::items))]
+#[tactic(auto, unfolding(cbor_edn_model::specs::Trees::items))]
 fn piece_kind(piece: &Piece<'_>) -> StringKind
     ensures { result ≡ calls.piece_kind (trees.items (view_piece texts piece.now)) }
 {

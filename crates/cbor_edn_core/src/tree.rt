@@ -3,10 +3,9 @@
 //! The types are generic in their leaves: optional space `O`, mandatory space `M`, what stands between two entries (a comma,
 //! space or both) `C`, the end of a list `E`, numbers `N`, literals `L` and dots `D`. Nearly all of the crate speaks of
 //! them at the leaves of a text, as `Item`, `Items` and so on.
-ghost use Rattle.std.specs.Prelude.{◌≡◌};
-ghost use Rattle.cbor_edn_core.specs.Labels.{IsLabel, IsLabel-prop};
 
-use crate::word::{NamedSimple, NonFinite};
+pub use cbor_edn_model::label::{Label, LabelKind};
+use cbor_edn_model::word::{NamedSimple, NonFinite};
 pub use cbor_edn_parts::indicator::Indicator;
 use cbor_edn_parts::number::Number;
 use cbor_edn_parts::space::{Ms, Msc, S, Soc};
@@ -124,42 +123,6 @@ pub enum InnerItemOf<O: Drop, M: Drop, C: Drop, E: Drop, N: Drop, L: Drop, D: Dr
     String(Box<CborStringOf<O, M, C, E, N, L, D>>),
     /// A string of indefinite length.
     Stream(Box<StreamOf<O, M, C, E, N, L, D>>),
-}
-
-/// What stands in front of an item between parentheses.
-#[derive(Clone, Copy, Debug, PartialEq, Eq)]
-pub enum LabelKind {
-    /// The number of a tag and its encoding indicator.
-    Tag(u64, Option<Indicator>),
-    /// The word `simple`.
-    Simple,
-}
-
-/// A label whose number is below 2^64, which proofs of the text know.
-#[derive(Clone, Copy, Debug)]
-pub struct Label {
-    pub(crate) kind: LabelKind,
-    ghost fits: { IsLabel kind } by { IsLabel-prop kind },
-}
-
-impl Label {
-    ghost use Rattle.cbor_edn_core.specs.declared.tree.LabelKind.TheVariants.{Tag, Simple};
-
-    pub(crate) fn tag(number: u64, indicator: Option<Indicator>) -> Label
-        ensures { result.kind ≡ Tag number indicator }
-    {
-        Label {
-            kind: LabelKind::Tag(number, indicator),
-        }
-    }
-
-    pub(crate) fn simple() -> Label
-        ensures { result.kind ≡ Simple }
-    {
-        Label {
-            kind: LabelKind::Simple,
-        }
-    }
 }
 
 /// A string: one piece or more, all but the last with the space before and the space behind the plus sign that follows.

@@ -7,9 +7,11 @@
 
 use cbor_edn::engine::{Command, Options, RunError, StdSink, StdSource, run, serve};
 use cbor_edn::words::options;
-use cbor_edn::{DelimiterPolicy, Fault, NESTING_LIMIT, Sequence, StandaloneItem};
+use cbor_edn::{
+    DelimiterPolicy, Fault, InconsistentEdn, Item, NESTING_LIMIT, Sequence, StandaloneItem,
+};
 use clap::error::ErrorKind;
-use std::alloc::Global;
+use std::alloc::{AllocError, Global};
 use std::io::Read;
 use std::{fmt, io};
 
@@ -215,6 +217,89 @@ fn discard_encoding_indicators(alloc: Global) -> Outcome {
     }
 }
 
+// Each constructor once, one in the other.
+fn new_numbers<'a>(alloc: Global) -> Result<Vec<Item<'a>>, AllocError> {
+    let mut items: Vec<Item<'a>> = Vec::new(alloc);
+    items.push(Item::new_integer_decimal(alloc, -5)?)?;
+    items.push(Item::new_integer_hex(alloc, 255)?)?;
+    Ok(items)
+}
+
+fn new_strings<'a>(alloc: Global) -> Result<Vec<Item<'a>>, Fault<InconsistentEdn>> {
+    let mut items: Vec<Item<'a>> = Vec::new(alloc);
+    items.push(Item::new_bytes_hex(alloc, b"\x01")?)?;
+    items.push(Item::new_text(alloc, "a")?)?;
+    items.push(Item::new_application_literal(alloc, "b64", "a'b")?)?;
+    Ok(items)
+}
+
+fn new_tagged<'a>(alloc: Global) -> Result<Item<'a>, AllocError> {
+    Ok(Item::new_integer_decimal(alloc, 2)?.tagged(alloc, 3)?)
+}
+
+fn new_pair<'a>(alloc: Global) -> Result<(Item<'a>, Item<'a>), Fault<InconsistentEdn>> {
+    let key = Item::new_array(alloc, new_strings(alloc)?)?;
+    Ok((key, new_tagged(alloc)?))
+}
+
+fn new_map<'a>(alloc: Global) -> Result<Item<'a>, Fault<InconsistentEdn>> {
+    let mut pairs: Vec<(Item<'a>, Item<'a>)> = Vec::new(alloc);
+    pairs.push(new_pair(alloc)?)?;
+    Ok(Item::new_map(alloc, pairs)?)
+}
+
+fn new_last<'a>(alloc: Global) -> Result<Item<'a>, Fault<InconsistentEdn>> {
+    Ok(StandaloneItem::from(new_map(alloc)?).tagged(alloc, 1)?)
+}
+
+fn new_items<'a>(alloc: Global) -> Result<Vec<Item<'a>>, Fault<InconsistentEdn>> {
+    let array = Item::new_array(alloc, new_numbers(alloc)?)?;
+    let mut items: Vec<Item<'a>> = Vec::new(alloc);
+    items.push(array)?;
+    items.push(new_last(alloc)?)?;
+    Ok(items)
+}
+
+fn constructed(alloc: Global) -> Result<String, Fault<InconsistentEdn>> {
+    let items = new_items(alloc)?;
+    Ok(Sequence::new(alloc, items)?.serialize(alloc)?)
+}
+
+fn construct(alloc: Global) -> Outcome {
+    match constructed(alloc) {
+        Ok(text) => {
+            Outcome::of_answer(text.as_str() == "[-5,0xff],1({[h'01',\"a\",b64'a\\'b']:3(2)})")
+        }
+        Err(fault) => Outcome::of_fault(fault),
+    }
+}
+
+// The bytes of a string of indefinite length.
+fn get_bytes(alloc: Global) -> Outcome {
+    let item: Item<'_> = match Item::from_cbor(alloc, b"\x5f\x41a\x42bc\xff") {
+        Ok(item) => item,
+        Err(fault) => return Outcome::of_fault(fault),
+    };
+    match item.get_bytes(alloc) {
+        Ok(bytes) => Outcome::of_answer(bytes.as_slice() == b"abc".as_slice()),
+        Err(fault) => Outcome::of_fault(fault),
+    }
+}
+
+// The prefix and the text of a literal.
+fn get_application_literal(alloc: Global) -> Outcome {
+    let item: Item<'_> = match Item::new_application_literal(alloc, "b64", "a'b") {
+        Ok(item) => item,
+        Err(fault) => return Outcome::of_fault(fault),
+    };
+    match item.get_application_literal(alloc) {
+        Ok((prefix, text)) => Outcome::of_answer(
+            prefix.as_str() == "b64" && text.as_str() == "a'b",
+        ),
+        Err(fault) => Outcome::of_fault(fault),
+    }
+}
+
 // Where memory was refused nothing may have been written. The sink takes memory too, and fails where that is refused.
 fn run_once(alloc: Global, command: Command, input: &str, output: &[u8]) -> Outcome {
     let mut sink = StdSink::new(Vec::new(alloc));
@@ -303,6 +388,12 @@ fn main(rt: HostRuntime) -> io::Result<()> {
         (
             "discard_encoding_indicators",
             discard_encoding_indicators(rt.alloc()),
+        ),
+        ("construct", construct(rt.alloc())),
+        ("get_bytes", get_bytes(rt.alloc())),
+        (
+            "get_application_literal",
+            get_application_literal(rt.alloc()),
         ),
         (
             "run diag2cbor",

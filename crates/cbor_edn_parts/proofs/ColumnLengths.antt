@@ -1,6 +1,6 @@
 -- How long space texts are by a column, counted from their comments, where sums end at the greatest `usize`.
-use Rattle.std.proofs.Common.{ℕ, ◌+◌, ◌-◌, ◌^◌, ◌≡◌, List, [], ◌∷◌, ◌++◌, length, refl, ap, ◌∙◌, length-append, arith}
-use Rattle.std.specs.Prelude.{min, max, replicate}
+use Rattle.std.proofs.Common.{ℕ, ◌+◌, ◌-◌, ◌^◌, ◌≡◌, List, [], ◌∷◌, ◌++◌, length, refl, length-append, arith}
+use Rattle.std.specs.Prelude.{min, max}
 use Rattle.std.proofs.lemmas.List.{length-replicate}
 use Rattle.cbor_edn_parts.specs.Comments.{comments_of}
 use Rattle.cbor_edn_parts.specs.Spacing.{S, MS, MSC, SOC, Spacing, Least, Comments, OneLine, NewLine, OneSpace, line, or_space, comments_before, comments_after, spaced}

@@ -1,5 +1,8 @@
 pub mod ByteKinds
 pub mod Decimals
+pub mod WrittenNumbers
+pub mod WrittenLiterals
+pub mod PrefixTests
 pub mod DotTexts
 pub mod Indicators
 pub mod LiteralContents
@@ -16,6 +19,7 @@ pub mod Steps
 pub mod Tokens
 mod Walks
 pub mod Decoding
+pub mod Applications
 pub mod Bases
 pub mod Hexadecimals
 pub mod Quoted
@@ -33,3 +37,4 @@ pub mod CommentScans
 pub mod Columns
 pub mod ColumnLengths
 pub mod SpacingExamples
+pub mod Places

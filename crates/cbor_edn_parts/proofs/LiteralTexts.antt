@@ -60,7 +60,7 @@ closes-from q m p (c ∷ t) came a =
 
 -- ---- prefixes
 
-decides_range : (low high c : ℕ) → Decides (nat_le low c && nat_le c high) ((low ≤ c) × (c ≤ high))
+pub decides_range : (low high c : ℕ) → Decides (nat_le low c && nat_le c high) ((low ≤ c) × (c ≤ high))
 decides_range low high c = (
   λ e. let h = and_parts (nat_le low c) _ e in (leb-true low c h.0, leb-true c high h.1),
   λ h. and_from (nat_le low c) _ (le-leb low c h.0) (le-leb c high h.1),
@@ -91,10 +91,10 @@ module _ (m : InLiteral) (test : ℕ → Bool) (P : ℕ → Type 0) (decides : (
       (λ _ e. absurd (cc)))
       (sym (steps c) ∙ a.1)
 
-lower_next : (c : ℕ) → Decides (is_lower c || is_digit c) (IsLower c ⊎ IsDigit c)
+pub lower_next : (c : ℕ) → Decides (is_lower c || is_digit c) (IsLower c ⊎ IsDigit c)
 lower_next c = Decides-or (is_lower c) _ (decides_range 97 122 c) (decides_range 48 57 c)
 
-upper_next : (c : ℕ) → Decides (is_upper c || is_digit c) (IsUpper c ⊎ IsDigit c)
+pub upper_next : (c : ℕ) → Decides (is_upper c || is_digit c) (IsUpper c ⊎ IsDigit c)
 upper_next c = Decides-or (is_upper c) _ (decides_range 65 90 c) (decides_range 48 57 c)
 
 start_lower : (c : ℕ) → IsLower c → literal_step c Start ≡ Some Lower

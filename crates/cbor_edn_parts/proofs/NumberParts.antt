@@ -186,6 +186,19 @@ literal t e =
       spelled = signed_text t ∙ ap (λ u. sign_text (sign_of t) ++ u) p.spelled;
     }
 
+-- What the code splits off is what the reader splits off.
+pub digits_are : (t s rest digits : List ℕ) → s ≡ t → rest ≡ unsigned s → digits ≡ drop (prefix_length (named_base rest)) rest → digits ≡ digits_of t
+digits_are t s rest digits a r d = d ∙ ap (λ u. drop (prefix_length (named_base u)) u) (r ∙ ap unsigned a)
+
+pub base_is : (t s rest : List ℕ) (base : ℕ) → s ≡ t → rest ≡ unsigned s → base ≡ radix (named_base rest) → base ≡ radix (base_of t)
+base_is t s rest base a r b = b ∙ ap (λ u. radix (named_base u)) (r ∙ ap unsigned a)
+
+-- A text is an integer literal exactly where its digits are a numeral.
+pub integer_texts_by : (t digits : List ℕ) (base : ℕ) (r : Bool) → digits ≡ digits_of t → base ≡ radix (base_of t) → r ≡ is_numeral base digits → (IsTrue r → IsInteger t) × (IsInteger t → IsTrue r)
+integer_texts_by t digits base r d b e =
+    let same : r ≡ is_numeral (radix (base_of t)) (digits_of t) = e ∙ (ap (λ n. is_numeral n digits) b ∙ ap (is_numeral (radix (base_of t))) d) in
+    (λ h. literal t (sym same ∙ h), λ h. same ∙ has_numeral t h)
+
 literal_if : (t : List ℕ) (z : ℤ) (b : Bool) → is_numeral (radix (base_of t)) (digits_of t) ≡ b → integer_of t ≡ Some z → IsInteger t
 unfolding integer_of
 literal_if t z true e h = literal t e
@@ -235,7 +248,7 @@ all_digits : (b : Base) (x : List ℕ) → AllDigits (radix b) x → Each (IsDig
 all_digits b [] h = end
 all_digits b (c ∷ x) h = next h.0 (all_digits b x h.1)
 
-some_digits : (b : Base) (x : List ℕ) → IsNumeral (radix b) x → AreDigits b x
+pub some_digits : (b : Base) (x : List ℕ) → IsNumeral (radix b) x → AreDigits b x
 some_digits b [] h = absurd (omega arith)
 some_digits b (c ∷ x) h = (all_digits b (c ∷ x) h.1, λ q. cc)
 

@@ -6,11 +6,13 @@ pub mod Contents
 pub mod Indicator
 pub mod Place
 pub mod Leaves
+pub mod Written
 pub mod Errors
 pub mod Refusals
 pub mod Laws
 pub mod Comments
 pub mod Spacing
+pub mod LayoutColumns
 pub mod Notes
 pub mod SpacingLaws
 pub mod code

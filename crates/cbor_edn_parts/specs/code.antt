@@ -12,3 +12,4 @@ pub mod NumberTokens
 pub mod Scans
 pub mod SpaceTokens
 pub mod Text
+pub mod Prefixes

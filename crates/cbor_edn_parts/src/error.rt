@@ -159,7 +159,7 @@ pub enum InconsistentEdn {
     InvalidUtf8,
     #[error("Chunk of another kind in indefinite length string")]
     OtherChunk,
-    /// The prefix of a literal that is to be built. No literal is built from its parts yet, so nothing tells this one.
+    /// The prefix of a literal that is to be built, where it is none of the grammar.
     #[error("Identifier is not a valid application string identifier")]
     InvalidIdentifier,
     /// A number too large for its type.

@@ -5,6 +5,8 @@ pub mod bytes;
 pub mod error;
 pub mod indicator;
 pub mod laws;
+pub mod layout;
+pub mod location;
 pub mod looks;
 pub mod number;
 pub mod policy;

@@ -14,7 +14,9 @@ pub use read::number_at;
 use std::alloc::{AllocError, Global};
 use std::borrow::CowStr;
 
+mod range;
 mod read;
+mod write;
 
 /// A number as it is written, as `-0x1F`, `07`, `0b101`, `1.5e3` or `0x.8p1`.
 #[derive(Debug, PartialEq, Drop)]

@@ -12,6 +12,7 @@ pub use read::{dots_at, literal_at};
 use std::alloc::AllocError;
 use std::borrow::CowStr;
 
+mod application;
 mod base;
 mod content;
 mod digits;

@@ -1,15 +1,19 @@
 //! Uses of `cbor_edn`, as a caller writes them: each contract follows from those of the calls alone.
 #![tactic(auto)]
 
-ghost use Rattle.std.specs.Prelude.{◌≡◌, ◌≤◌, Some, IfSome};
-ghost use Rattle.std.specs.String.{string_bytes};
-ghost use Rattle.cbor_edn_core.specs.Decoded.{items_of};
-ghost use Rattle.cbor_edn_core.specs.Items.{Items, nesting};
-ghost use Rattle.cbor_edn_core.specs.Meaning.{means};
-ghost use Rattle.cbor_edn_core.specs.Spelling.{SpellsSequence};
-ghost use Rattle.cbor_edn_core.specs.Value.{Values, EncAll};
+pub mod calls;
 
-use cbor_edn::Sequence;
+ghost use Rattle.std.specs.Prelude.{◌≡◌, ◌≤◌, Some, IfSome, IfOk, IsErr};
+ghost use Rattle.std.specs.String.{string_bytes};
+ghost use Rattle.cbor_edn_model.specs.Decoded.{items_of};
+ghost use Rattle.cbor_edn_model.specs.Items.{Items, nesting};
+ghost use Rattle.cbor_edn_core.specs.Lent.{with_tag_content};
+ghost use Rattle.cbor_edn_model.specs.Meaning.{means};
+ghost use Rattle.cbor_edn_model.specs.Spelling.{SpellsSequence};
+ghost use Rattle.cbor_edn_model.specs.Value.{Values, EncAll};
+ghost use Rattle.cbor_edn_core.specs.View.{item_tree, standalone_tree};
+
+use cbor_edn::{Item, Sequence, StandaloneItem, TypeMismatch};
 use std::alloc::Global;
 
 /// The CBOR that a text means, as for a commented configuration that ships as CBOR. None where the text is no EDN, means
@@ -40,4 +44,13 @@ pub fn shown(alloc: Global, bytes: &[u8]) -> Option<String>
         Ok(text) => Some(text),
         Err(_) => None,
     }
+}
+
+/// Puts another content into a tag, as for a token that is wrapped anew. Fails where the item is no tag; it stays then.
+pub fn retagged<'a>(item: &mut Item<'a>, content: StandaloneItem<'a>) -> Result<(), TypeMismatch>
+    ensures replaced { IfOk result (λ _. item_tree item.new ≡ with_tag_content (standalone_tree content.entry) (item_tree item.old)) }
+    ensures refused { IsErr result → item.new ≡ item.old }
+{
+    *item.get_tagged_mut()? = content;
+    Ok(())
 }

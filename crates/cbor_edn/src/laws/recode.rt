@@ -2,12 +2,12 @@
 ghost use Rattle.std.specs.Prelude.{◌≡◌, ◌≢◌, ℕ, List, Some, IfOk};
 ghost use Rattle.std.specs.String.{string_bytes};
 ghost use Rattle.cbor_edn_parts.specs.Refusals.{IfTold};
-ghost use Rattle.cbor_edn_core.specs.Trees.{items};
+ghost use Rattle.cbor_edn_model.specs.Trees.{items};
 ghost use Rattle.cbor_edn_core.specs.View.{sequence_tree};
-ghost use Rattle.cbor_edn_core.specs.Spelling.{SpellsSequence};
-ghost use Rattle.cbor_edn_core.specs.Value.{Values, EncAll};
-ghost use Rattle.cbor_edn_core.specs.Meaning.{means};
-ghost use Rattle.cbor_edn_core.specs.Decoded.{NoSequence, IsTooDeepSequence};
+ghost use Rattle.cbor_edn_model.specs.Spelling.{SpellsSequence};
+ghost use Rattle.cbor_edn_model.specs.Value.{Values, EncAll};
+ghost use Rattle.cbor_edn_model.specs.Meaning.{means};
+ghost use Rattle.cbor_edn_model.specs.Decoded.{NoSequence, IsTooDeepSequence};
 ghost use Rattle.cbor_edn.specs.Recoding.{IsTextOfItems};
 
 use cbor_edn_core::from_cbor::CborError;

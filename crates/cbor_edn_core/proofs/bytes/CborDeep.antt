@@ -6,21 +6,21 @@ use Rattle.std.proofs.lemmas.Bool.{eqb-true, le-leb}
 use Rattle.std.proofs.lemmas.List.Sums.{sum_by-append}
 use Rattle.cbor_edn_parts.specs.declared.string.StringKind.{StringKind}
 use Rattle.cbor_edn_parts.specs.declared.string.StringKind.TheVariants.{Bytes, Text}
-use Rattle.cbor_edn_core.specs.declared.cbor.Width.{Width}
-use Rattle.cbor_edn_core.specs.declared.cbor.Width.TheVariants.{Immediate, One, Two, Four, Eight}
-use Rattle.cbor_edn_core.specs.declared.word.NonFinite.{NonFinite}
-use Rattle.cbor_edn_core.specs.declared.from_cbor.CborError.{CborError}
-use Rattle.cbor_edn_core.specs.declared.from_cbor.CborError.TheVariants.{TooDeep}
-use Rattle.cbor_edn_core.specs.declared.from_cbor.head.Stop.{Stop}
-use Rattle.cbor_edn_core.specs.declared.from_cbor.head.Stop.TheVariants.{Break}
-use Rattle.cbor_edn_core.specs.Value.{Value, unsigned, negative, string, chunks, array, object, tag, head, open_head, string_major, is_content, chunk_encoding, ChunkFits, encoding}
-use Rattle.cbor_edn_core.specs.Decoded.{high_bytes}
-use Rattle.cbor_edn_core.specs.code.CborReading.{◌>>=◌, DecoderResult, Decoder, shown, head_at, head_by, argument_at, many, until, several, past, turn, string_at, chunk_at, chunk_by, string_by, pair_at, item_by, item_at, array_by, map_by, number_by, tag_by, simple_by, float_by, special_by, float_of}
-use Rattle.cbor_edn_core.proofs.bytes.CborHeads.{IsBytes, chosen, Takes, HeadIs, head_takes}
-use Rattle.cbor_edn_core.proofs.bytes.CborSpecials.{last_major}
+use Rattle.cbor_edn_model.specs.declared.cbor.Width.{Width}
+use Rattle.cbor_edn_model.specs.declared.cbor.Width.TheVariants.{Immediate, One, Two, Four, Eight}
+use Rattle.cbor_edn_model.specs.declared.word.NonFinite.{NonFinite}
+use Rattle.cbor_edn_model.specs.declared.from_cbor.CborError.{CborError}
+use Rattle.cbor_edn_model.specs.declared.from_cbor.CborError.TheVariants.{TooDeep}
+use Rattle.cbor_edn_model.specs.declared.from_cbor.head.Stop.{Stop}
+use Rattle.cbor_edn_model.specs.declared.from_cbor.head.Stop.TheVariants.{Break}
+use Rattle.cbor_edn_model.specs.Value.{Value, unsigned, negative, string, chunks, array, object, tag, head, open_head, string_major, is_content, chunk_encoding, ChunkFits, encoding}
+use Rattle.cbor_edn_model.specs.Decoded.{high_bytes}
+use Rattle.cbor_edn_model.specs.code.CborReading.{◌>>=◌, DecoderResult, Decoder, shown, head_at, head_by, argument_at, many, until, several, past, turn, string_at, chunk_at, chunk_by, string_by, pair_at, item_by, item_at, array_by, map_by, number_by, tag_by, simple_by, float_by, special_by, float_of}
+use Rattle.cbor_edn_model.proofs.bytes.CborHeads.{IsBytes, chosen, Takes, HeadIs, head_takes}
+use Rattle.cbor_edn_model.proofs.bytes.CborSpecials.{last_major}
 use Rattle.cbor_edn_core.proofs.code.CborTurns.{shown_err}
-use Rattle.cbor_edn_core.proofs.bytes.CborValues.{values_of, pairs_of, argument_width, makes, value_at, in_front_of}
-use Rattle.cbor_edn_core.proofs.bytes.CborTakes.{Sound, Within, BothWithin, pair_encoding, chunk_takes, pair_takes, item_takes}
+use Rattle.cbor_edn_model.proofs.bytes.CborValues.{values_of, pairs_of, argument_width, makes, value_at, in_front_of}
+use Rattle.cbor_edn_model.proofs.bytes.CborTakes.{Sound, Within, BothWithin, pair_encoding, chunk_takes, pair_takes, item_takes}
 
 high-append : (xs ys : List ℕ) → high_bytes (xs ++ ys) ≡ high_bytes xs + high_bytes ys
 high-append xs ys = sum_by-append (λ b. cond (leb 128 b) 1 0) xs ys

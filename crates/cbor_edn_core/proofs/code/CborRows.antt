@@ -2,11 +2,11 @@
 use Rattle.std.proofs.Common.{◌≡◌, ℕ, List, [], ◌∷◌, map, Option, Some, refl, ap, ◌∙◌}
 use Rattle.cbor_edn_parts.specs.Leaves.{msc_bytes}
 use Rattle.cbor_edn_parts.specs.declared.space.Msc.{Msc}
-use Rattle.cbor_edn_core.specs.Items.{Row}
-use Rattle.cbor_edn_core.specs.Trees.{Tree, OneEntry, LastTree, MoreTree}
-use Rattle.cbor_edn_core.specs.View.{entries_onto}
-use Rattle.cbor_edn_core.specs.code.Regular.{in_front}
-use Rattle.cbor_edn_core.specs.code.CborReading.{row_of}
+use Rattle.cbor_edn_model.specs.Items.{Row}
+use Rattle.cbor_edn_model.specs.Trees.{Tree, OneEntry, LastTree, MoreTree}
+use Rattle.cbor_edn_model.specs.Rows.{entries_onto}
+use Rattle.cbor_edn_model.specs.code.Regular.{in_front}
+use Rattle.cbor_edn_model.specs.code.CborReading.{row_of}
 use Rattle.cbor_edn_core.specs.code.RowBuilder.{entries}
 
 abbrev pub comma : List ℕ

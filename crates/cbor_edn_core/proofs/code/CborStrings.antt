@@ -8,16 +8,16 @@ use Rattle.cbor_edn_parts.specs.Contents.{kind_literal}
 use Rattle.cbor_edn_parts.specs.declared.error.Fault.{Fault}
 use Rattle.cbor_edn_parts.specs.declared.error.Fault.TheVariants.{Memory, Told}
 use Rattle.cbor_edn_parts.specs.declared.string.StringKind.{StringKind}
-use Rattle.cbor_edn_core.specs.declared.cbor.Width.{Width}
-use Rattle.cbor_edn_core.specs.declared.from_cbor.CborError.{CborError}
-use Rattle.cbor_edn_core.specs.declared.from_cbor.CborError.TheVariants.{OtherChunk, OpenChunk, MissingBytes, InvalidUtf8}
-use Rattle.cbor_edn_core.specs.declared.from_cbor.head.Stop.TheVariants.{Break}
-use Rattle.cbor_edn_core.specs.Trees.{Tree, OneString, StringTree, LiteralTree, LastPieceTree}
-use Rattle.cbor_edn_core.specs.Value.{is_content, string_major}
-use Rattle.cbor_edn_core.specs.Decoded.{indicator_of}
-use Rattle.cbor_edn_core.specs.code.CborReading.{Decoder, DecoderFails, shown, head_at, until, string_at, chunk_at, chunk_by, string_by, string_tree, string_row, chunked_tree, chunks_tree, trees}
-use Rattle.cbor_edn_core.proofs.bytes.CborHeads.{chosen}
-use Rattle.cbor_edn_core.proofs.bytes.CborTrees.{until_shown, shown_again}
+use Rattle.cbor_edn_model.specs.declared.cbor.Width.{Width}
+use Rattle.cbor_edn_model.specs.declared.from_cbor.CborError.{CborError}
+use Rattle.cbor_edn_model.specs.declared.from_cbor.CborError.TheVariants.{OtherChunk, OpenChunk, MissingBytes, InvalidUtf8}
+use Rattle.cbor_edn_model.specs.declared.from_cbor.head.Stop.TheVariants.{Break}
+use Rattle.cbor_edn_model.specs.Trees.{Tree, OneString, StringTree, LiteralTree, LastPieceTree}
+use Rattle.cbor_edn_model.specs.Value.{is_content, string_major}
+use Rattle.cbor_edn_model.specs.Decoded.{indicator_of}
+use Rattle.cbor_edn_model.specs.code.CborReading.{Decoder, DecoderFails, shown, head_at, until, string_at, chunk_at, chunk_by, string_by, string_tree, string_row, chunked_tree, chunks_tree, trees}
+use Rattle.cbor_edn_model.proofs.bytes.CborHeads.{chosen}
+use Rattle.cbor_edn_model.proofs.bytes.CborTrees.{until_shown, shown_again}
 use Rattle.cbor_edn_core.proofs.code.CborTurns.{shown_ok, shown_fails, fails_shown}
 
 -- so many bytes are read

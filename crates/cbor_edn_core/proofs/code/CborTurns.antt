@@ -1,13 +1,13 @@
 -- Reading several of a kind, as a loop does.
 use Rattle.std.proofs.Common.{◌≡◌, ℕ, zero, suc, ◌-◌, ◌+◌, ◌≤◌, ◌<◌, List, [], ◌∷◌, ◌++◌, map, Some, None, Result, Ok, Err, refl, sym, ap, subst, ◌∙◌, append_assoc, arith}
 use Rattle.std.proofs.lemmas.List.{append-nil, map_push}
-use Rattle.cbor_edn_core.specs.declared.from_cbor.CborError.{CborError}
-use Rattle.cbor_edn_core.specs.declared.from_cbor.head.Stop.{Stop}
+use Rattle.cbor_edn_model.specs.declared.from_cbor.CborError.{CborError}
+use Rattle.cbor_edn_model.specs.declared.from_cbor.head.Stop.{Stop}
 use Rattle.cbor_edn_parts.specs.declared.error.Fault.{Fault}
 use Rattle.cbor_edn_parts.specs.declared.error.Fault.TheVariants.{Memory, Told}
 use Rattle.cbor_edn_core.specs.declared.from_cbor.row_builder.RowBuilder.{RowBuilder}
 use Rattle.cbor_edn_core.specs.code.RowBuilder.{grown, Pushes}
-use Rattle.cbor_edn_core.specs.code.CborReading.{DecoderResult, Decoder, ◌>>=◌, shown, DecoderGives, DecoderFails, many, until, past, turn, head_at, item_at, Makes}
+use Rattle.cbor_edn_model.specs.code.CborReading.{DecoderResult, Decoder, ◌>>=◌, shown, DecoderGives, DecoderFails, many, until, past, turn, head_at, item_at, Makes}
 
 -- ---- what is seen by a function
 

@@ -12,18 +12,19 @@ use Rattle.cbor_edn_parts.specs.Indicator.{indicator_at}
 use Rattle.cbor_edn_parts.specs.code.Lex as lex
 use Rattle.cbor_edn_parts.specs.code.Lex.{Table}
 use Rattle.cbor_edn_parts.specs.code.NumberTokens.{number}
-use Rattle.cbor_edn_core.specs.declared.tree.LabelKind.{LabelKind}
-use Rattle.cbor_edn_core.specs.declared.tree.LabelKind.TheVariants.{Tag}
-use Rattle.cbor_edn_core.specs.declared.tree.LabelKind.TheVariants as label
-use Rattle.cbor_edn_core.specs.declared.word.NamedSimple.{NamedSimple}
-use Rattle.cbor_edn_core.specs.declared.word.NonFinite.{NonFinite}
-use Rattle.cbor_edn_core.specs.declared.word.Word.{Word}
-use Rattle.cbor_edn_core.specs.declared.word.Word.TheVariants as word
-use Rattle.cbor_edn_core.specs.Trees.{OneItem, Standalone, Tree, NumberTree, FloatTree, NamedTree, EnclosedTree}
-use Rattle.cbor_edn_core.specs.code.Reading.{◌>>=◌, token, byte, or_invalid, starts_with, word_at, tag_number, enclosed_item, tag_item, number_end, number_item, word_item, plain_item, item, reads}
-use Rattle.cbor_edn_core.specs.code.ParserResults.{Fails, IsNotAt}
+use Rattle.cbor_edn_model.specs.declared.label.LabelKind.{LabelKind}
+use Rattle.cbor_edn_model.specs.declared.label.LabelKind.TheVariants.{Tag}
+use Rattle.cbor_edn_model.specs.declared.label.LabelKind.TheVariants as label
+use Rattle.cbor_edn_model.specs.declared.word.NamedSimple.{NamedSimple}
+use Rattle.cbor_edn_model.specs.declared.word.NonFinite.{NonFinite}
+use Rattle.cbor_edn_model.specs.declared.word.Word.{Word}
+use Rattle.cbor_edn_model.specs.declared.word.Word.TheVariants as word
+use Rattle.cbor_edn_model.specs.Trees.{OneItem, Standalone, Tree, NumberTree, FloatTree, NamedTree, EnclosedTree}
+use Rattle.cbor_edn_model.specs.code.Reading.{◌>>=◌, token, byte, or_invalid, starts_with, word_at, tag_number, enclosed_item, tag_item, number_end, number_item, word_item, plain_item, item, reads}
+use Rattle.cbor_edn_core.specs.code.ParserResults.{Fails}
+use Rattle.cbor_edn_model.specs.code.Places.{IsNotAt}
 use Rattle.cbor_edn_parts.proofs.Tokens.{munch-took}
-use Rattle.cbor_edn_core.proofs.text.Steps.{reads-rule}
+use Rattle.cbor_edn_model.proofs.text.Steps.{reads-rule}
 use Rattle.cbor_edn_core.proofs.code.Turns.{bind_fails, bind_ok, fails_at, byte_there, byte_other, token_end}
 
 -- a refusal of which only the kind is of use

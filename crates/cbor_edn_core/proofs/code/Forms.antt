@@ -3,23 +3,23 @@ use Rattle.std.proofs.Common.{◌≡◌, ◌≢◌, Bool, true, false, Option, N
 use Rattle.std.specs.Global.{Box}
 use Rattle.cbor_edn_parts.specs.declared.indicator.Indicator.{Indicator}
 use Rattle.cbor_edn_core.specs.declared.tree.CborStringOf.{CborStringOf}
-use Rattle.cbor_edn_core.specs.declared.tree.Label.{Label}
+use Rattle.cbor_edn_model.specs.declared.label.Label.{Label}
 use Rattle.cbor_edn_core.specs.declared.tree.InnerItemOf.{InnerItemOf, roll-InnerItemOf, roll-out-InnerItemOf}
 use Rattle.cbor_edn_core.specs.declared.tree.InnerItemOf.TheBlock.{shown-the_row-CborStringOf-row-3-0}
 use Rattle.cbor_edn_core.specs.declared.tree.InnerItemOf.TheVariants as inner
 use Rattle.cbor_edn_core.specs.declared.tree.InnerItemOf.TheViews.{outs-String', rolls-String}
 use Rattle.cbor_edn_core.specs.declared.tree.ItemListOf.{ItemListOf}
-use Rattle.cbor_edn_core.specs.declared.tree.LabelKind.TheVariants as label
+use Rattle.cbor_edn_model.specs.declared.label.LabelKind.TheVariants as label
 use Rattle.cbor_edn_core.specs.declared.tree.PairListOf.{PairListOf}
 use Rattle.cbor_edn_core.specs.declared.tree.StandaloneItemOf.{StandaloneItemOf}
 use Rattle.cbor_edn_core.specs.declared.tree.StreamOf.{StreamOf, StreamOf'}
-use Rattle.cbor_edn_core.specs.declared.word.NamedSimple.{NamedSimple}
-use Rattle.cbor_edn_core.specs.declared.word.NonFinite as word
-use Rattle.cbor_edn_core.specs.Items as kind
-use Rattle.cbor_edn_core.specs.Leaves.{Ghosts}
-use Rattle.cbor_edn_core.specs.Meaning.{means_simple}
-use Rattle.cbor_edn_core.specs.code.Same.{same, same_are}
-use Rattle.cbor_edn_core.specs.Trees.{Tree, OneItem, NumberTree, FloatTree, NamedTree, EnclosedTree, ListTree, StringTree, StreamTree, items}
+use Rattle.cbor_edn_model.specs.declared.word.NamedSimple.{NamedSimple}
+use Rattle.cbor_edn_model.specs.declared.word.NonFinite as word
+use Rattle.cbor_edn_model.specs.Items as kind
+use Rattle.cbor_edn_model.specs.Leaves.{Ghosts}
+use Rattle.cbor_edn_model.specs.Meaning.{means_simple}
+use Rattle.cbor_edn_model.specs.code.Same.{same, same_are}
+use Rattle.cbor_edn_model.specs.Trees.{Tree, OneItem, NumberTree, FloatTree, NamedTree, EnclosedTree, ListTree, StringTree, StreamTree, items}
 use Rattle.cbor_edn_core.specs.View.{view_inner}
 
 pub data Form : Type 0 where

@@ -7,8 +7,9 @@ use Rattle.cbor_edn_parts.specs.code.Lex.{Table, Accepts}
 use Rattle.cbor_edn_parts.specs.code.LiteralTokens.{literal, dots, literal_final, dots_final, is_lower, is_upper}
 use Rattle.cbor_edn_parts.specs.declared.space.read.End.{End}
 use Rattle.cbor_edn_parts.proofs.Tokens.{munch-took, Holds, nothing, just}
-use Rattle.cbor_edn_core.specs.code.LookCosts.{a_byte, longest_word, word_extra, enclosed_extra, refused_enclosed_extra}
-use Rattle.cbor_edn_core.specs.code.ParserResults.{CostsEnd, CostsEndAhead, ahead}
+use Rattle.cbor_edn_model.specs.code.LookCosts.{a_byte, longest_word, word_extra, enclosed_extra, refused_enclosed_extra}
+use Rattle.cbor_edn_core.specs.code.ParserResults.{CostsEnd, CostsEndAhead}
+use Rattle.cbor_edn_model.specs.code.Places.{ahead}
 use Rattle.cbor_edn_core.proofs.code.Turns.{token_end}
 
 pub ahead_small : (text : List ℕ) (at : ℕ) → ahead text at ≤ longest_word

@@ -24,12 +24,14 @@ use Rattle.cbor_edn_core.specs.declared.tree.StreamOf.{StreamOf, StreamOf'}
 use Rattle.cbor_edn_core.specs.declared.tree.StringsOf.{StringsOf, StringsOf', Row_of-StringsOf-row-2, end_of-StringsOf-row-2, more_of-StringsOf-row-2}
 use Rattle.cbor_edn_core.specs.declared.tree.SequenceOf.{SequenceOf', Held-SequenceOf-items}
 use Rattle.cbor_edn_core.specs.declared.tree.SequenceOf as sequence
-use Rattle.cbor_edn_core.specs.Items as kind
-use Rattle.cbor_edn_core.specs.Trees.{Tree, OneString, Rest, items, text}
-use Rattle.cbor_edn_core.proofs.text.Tested.{IsTestedListHead, Tested}
-use Rattle.cbor_edn_core.specs.Spelling.{Spells, SpellsSequence, SpellsOne}
-use Rattle.cbor_edn_core.proofs.text.Spelled.{tells}
-use Rattle.cbor_edn_core.specs.View.{texts, view_list_head, view_inner, view_list, view_items, view_row, view_pair_list, view_pairs, view_pair_row, view_pieces, view_piece, view_held, view_stream, view_strings, view_string_row, Item, StandaloneItem, Sequence, item_tree, standalone_tree, sequence_tree}
+use Rattle.cbor_edn_model.specs.Items as kind
+use Rattle.cbor_edn_model.specs.Trees.{Tree, OneString, Rest, items, text}
+use Rattle.cbor_edn_model.proofs.text.Tested.{IsTestedListHead, Tested}
+use Rattle.cbor_edn_model.specs.Spelling.{Spells, SpellsSequence, SpellsOne}
+use Rattle.cbor_edn_model.proofs.text.Spelled.{tells}
+use Rattle.cbor_edn_core.specs.View.{view_inner, view_list, view_items, view_row, view_pair_list, view_pairs, view_pair_row, view_pieces, view_piece, view_held, view_stream, view_strings, view_string_row, Item, StandaloneItem, Sequence, item_tree, standalone_tree, sequence_tree}
+use Rattle.cbor_edn_model.specs.ListHeads.{view_list_head}
+use Rattle.cbor_edn_model.specs.Leaves.{texts}
 
 head_valid : (h : Option (Indicator × Ms)) → IsTestedListHead (view_list_head texts h)
 head_valid None = tt

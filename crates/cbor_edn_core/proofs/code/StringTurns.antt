@@ -12,12 +12,13 @@ use Rattle.cbor_edn_parts.specs.Indicator.{indicator_at}
 use Rattle.cbor_edn_parts.specs.code.Lex.{munch}
 use Rattle.cbor_edn_parts.specs.code.SpaceTokens.{space}
 use Rattle.cbor_edn_parts.specs.code.LiteralTokens.{literal, dots}
-use Rattle.cbor_edn_core.specs.Items.{Strings}
-use Rattle.cbor_edn_core.specs.Trees.{OnePiece, OneString, OneEntry, Rest, Seq, Tree, StreamTree, LiteralTree, DotsTree, EmbeddedTree, LastPieceTree, PlusTree, ChunkTree, joins}
-use Rattle.cbor_edn_core.specs.code.Reading.{◌>>=◌, Read, token, byte, not_empty, stream_item, literal_piece, dots_piece, embedded_piece, piece, plus_string, string, entry, reads}
-use Rattle.cbor_edn_core.specs.code.ParserResults.{Fails, IsNotAt, IsUnclosed}
-use Rattle.cbor_edn_core.specs.View.{pieces_onto}
-use Rattle.cbor_edn_core.proofs.text.Steps.{reads-rule}
+use Rattle.cbor_edn_model.specs.Items.{Strings}
+use Rattle.cbor_edn_model.specs.Trees.{OnePiece, OneString, OneEntry, Rest, Seq, Tree, StreamTree, LiteralTree, DotsTree, EmbeddedTree, LastPieceTree, PlusTree, ChunkTree, joins}
+use Rattle.cbor_edn_model.specs.code.Reading.{◌>>=◌, Read, token, byte, not_empty, stream_item, literal_piece, dots_piece, embedded_piece, piece, plus_string, string, entry, reads}
+use Rattle.cbor_edn_core.specs.code.ParserResults.{Fails, IsUnclosed}
+use Rattle.cbor_edn_model.specs.code.Places.{IsNotAt}
+use Rattle.cbor_edn_model.specs.Rows.{pieces_onto}
+use Rattle.cbor_edn_model.proofs.text.Steps.{reads-rule}
 use Rattle.cbor_edn_core.proofs.code.Turns.{bind_fails, bind_ok, fails_at, byte_there, byte_other}
 
 -- a refusal of which only the kind is of use

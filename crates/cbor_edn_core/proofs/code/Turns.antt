@@ -15,16 +15,17 @@ use Rattle.cbor_edn_parts.specs.code.Lex as lex
 use Rattle.cbor_edn_parts.specs.code.Lex.{Table, Accepts, munch}
 use Rattle.cbor_edn_parts.specs.code.SpaceTokens.{space, separator}
 use Rattle.cbor_edn_parts.specs.code.NumberTokens.{number}
-use Rattle.cbor_edn_core.specs.Items.{Row, Elements, Pairs, Bracketed, Array, Map, entries_of}
-use Rattle.cbor_edn_core.specs.Spelling.{opening, ending}
-use Rattle.cbor_edn_core.specs.Trees.{Rule, OneItem, OneString, OneEntry, Inside, Rest, Seq, Standalone, ListHead, Tree, ListTree, StringTree, ElementTree, PairTree, EmptyTree, FullTree, LastTree, MoreTree, NothingTree, SequenceTree, StandaloneTree}
-use Rattle.cbor_edn_core.specs.code.Reading.{◌>>=◌, Read, token, byte, not_empty, number_item, list_item, string_item, stream_item, starts_string, word_at, plain_item, item, entry, list_head_of, inside, inside_full, more, rest, sequence, standalone, reads, reads_all, at_end}
-use Rattle.cbor_edn_core.specs.code.ParserResults.{Fails, ReadsEnd, IsNotAt, behind_colon, with_separator}
+use Rattle.cbor_edn_model.specs.Items.{Row, Elements, Pairs, Bracketed, Array, Map, entries_of}
+use Rattle.cbor_edn_model.specs.Spelling.{opening, ending}
+use Rattle.cbor_edn_model.specs.Trees.{Rule, OneItem, OneString, OneEntry, Inside, Rest, Seq, Standalone, ListHead, Tree, ListTree, StringTree, ElementTree, PairTree, EmptyTree, FullTree, LastTree, MoreTree, NothingTree, SequenceTree, StandaloneTree}
+use Rattle.cbor_edn_model.specs.code.Reading.{◌>>=◌, Read, token, byte, not_empty, number_item, list_item, string_item, stream_item, starts_string, word_at, plain_item, item, entry, list_head_of, inside, inside_full, more, rest, sequence, standalone, reads, reads_all, at_end}
+use Rattle.cbor_edn_core.specs.code.ParserResults.{Fails, ReadsEnd, behind_colon, with_separator}
+use Rattle.cbor_edn_model.specs.code.Places.{IsNotAt}
 use Rattle.cbor_edn_parts.specs.Refusals.{IfTold}
 use Rattle.cbor_edn_parts.specs.declared.space.read.End.{End}
-use Rattle.cbor_edn_core.specs.View.{entries_onto}
+use Rattle.cbor_edn_model.specs.Rows.{entries_onto}
 use Rattle.cbor_edn_parts.proofs.Tokens.{munch-took}
-use Rattle.cbor_edn_core.proofs.text.Steps.{reads-rule}
+use Rattle.cbor_edn_model.proofs.text.Steps.{reads-rule}
 
 pub bind_fails : {A B : Type 0} (e : Fault Refusal) (r : Result A ParseErrorKind) (f : A → Result B ParseErrorKind) → Fails e r → Fails e (r >>= f)
 unfolding ◌>>=◌

@@ -6,7 +6,7 @@ use Rattle.cbor_edn_core.specs.declared.tree.InnerItemOf.TheVariants as inner
 use Rattle.cbor_edn_core.specs.declared.tree.InnerItemOf.TheBlock.{hidden-the_row-CborStringOf-row-3-0}
 use Rattle.cbor_edn_core.specs.declared.tree.ItemOf.{ItemOf}
 use Rattle.cbor_edn_core.specs.declared.tree.KpOf.{KpOf}
-use Rattle.cbor_edn_core.specs.Leaves.{Ghosts}
+use Rattle.cbor_edn_model.specs.Leaves.{Ghosts}
 use Rattle.cbor_edn_core.specs.declared.tree.ItemsOf.{ItemsOf, ItemsOf', outs-ItemsOf', out-ItemsOf, roll-ItemsOf, out-roll-ItemsOf, Row_of-ItemsOf-row-2, end_of-ItemsOf-row-2, more_of-ItemsOf-row-2, items-the_row-ItemsOf-row-2, items_shown-the_row-ItemsOf-row-2-1}
 use Rattle.cbor_edn_core.specs.declared.tree.PairsOf.{PairsOf, PairsOf', outs-PairsOf', out-PairsOf, roll-PairsOf, out-roll-PairsOf, Row_of-PairsOf-row-2, end_of-PairsOf-row-2, more_of-PairsOf-row-2, items-the_row-PairsOf-row-2, items_shown-the_row-PairsOf-row-2-2}
 use Rattle.cbor_edn_core.specs.declared.tree.CborStringOf.{CborStringOf, Row_of-CborStringOf-row-3, end_of-CborStringOf-row-3, more_of-CborStringOf-row-3, items-the_row-CborStringOf-row-3, items_shown-the_row-CborStringOf-row-3-0, items_hidden-the_row-CborStringOf-row-3-0}
@@ -15,10 +15,11 @@ use Rattle.cbor_edn_core.specs.declared.tree.StreamOf.{StreamOf, StreamOf', outs
 use Rattle.cbor_edn_core.specs.declared.tree.StringsOf.{StringsOf, StringsOf', outs-StringsOf', out-StringsOf, roll-StringsOf, out-roll-StringsOf, Row_of-StringsOf-row-2, end_of-StringsOf-row-2, more_of-StringsOf-row-2, items-the_row-StringsOf-row-2, items_shown-the_row-StringsOf-row-2-3}
 use Rattle.cbor_edn_core.specs.declared.tree.SequenceOf.{SequenceOf, SequenceOf', outs-SequenceOf', out-SequenceOf, roll-SequenceOf, out-roll-SequenceOf, Held-SequenceOf-items, view-SequenceOf-items}
 use Rattle.cbor_edn_core.specs.declared.tree.SequenceOf as sequence
-use Rattle.cbor_edn_core.specs.Items as kind
-use Rattle.cbor_edn_core.specs.Items.{Row}
-use Rattle.cbor_edn_core.specs.Trees.{Tree, OnePiece, OneString, OneEntry, Rest, StringTree, StreamTree, LastPieceTree, PlusTree, ElementTree, PairTree, ChunkTree, LastTree, MoreTree}
-use Rattle.cbor_edn_core.specs.View.{entries_onto, pieces_onto, seen, seen_pair, seen_piece, seen_string, view_item, view_inner, view_items, view_row, row_onto, view_pair, view_pairs, view_pair_row, pair_row_onto, view_piece, view_pieces, piece_row_onto, view_string, view_strings, view_string_row, string_row_onto, view_stream, view_sequence, view_held, view_some}
+use Rattle.cbor_edn_model.specs.Items as kind
+use Rattle.cbor_edn_model.specs.Items.{Row}
+use Rattle.cbor_edn_model.specs.Trees.{Tree, OnePiece, OneString, OneEntry, Rest, StringTree, StreamTree, LastPieceTree, PlusTree, ElementTree, PairTree, ChunkTree, LastTree, MoreTree}
+use Rattle.cbor_edn_core.specs.View.{seen, seen_pair, seen_piece, seen_string, view_item, view_inner, view_items, view_row, row_onto, view_pair, view_pairs, view_pair_row, pair_row_onto, view_piece, view_pieces, piece_row_onto, view_string, view_strings, view_string_row, string_row_onto, view_stream, view_sequence, view_held, view_some}
+use Rattle.cbor_edn_model.specs.Rows.{entries_onto, pieces_onto}
 
 -- a row that grows at its end
 entries_onto-append : {A : Type 0} {k : Row} (f : A → Tree (OneEntry k) × List ℕ) (ps qs : List A) (m : Tree (Rest k)) → entries_onto (map f (ps ++ qs)) m ≡ entries_onto (map f ps) (entries_onto (map f qs) m)

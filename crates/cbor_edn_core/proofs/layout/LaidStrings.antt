@@ -3,13 +3,13 @@ use Rattle.std.proofs.Common.{ℕ, ◌≡◌, List, map, refl, sym, ap, ◌∙�
 use Rattle.cbor_edn_parts.specs.Spacing.{SOC}
 use Rattle.cbor_edn_core.specs.declared.tree.CborStringOf.{CborStringOf, roll-CborStringOf, out-roll-CborStringOf}
 use Rattle.cbor_edn_core.specs.declared.tree.StringsOf.{StringsOf, out-StringsOf, roll-StringsOf}
-use Rattle.cbor_edn_core.specs.Leaves.{Ghosts}
-use Rattle.cbor_edn_core.specs.Trees.{items}
+use Rattle.cbor_edn_model.specs.Leaves.{Ghosts}
+use Rattle.cbor_edn_model.specs.Trees.{items}
 use Rattle.cbor_edn_core.specs.View.{seen_piece, seen_string, view_piece, view_string, view_strings}
-use Rattle.cbor_edn_core.specs.Layout.{Layout, Last, respaced, in_chunk, laid}
-use Rattle.cbor_edn_core.specs.code.LayoutRows.{laid_entry, entry_items, laid_piece, piece_items}
+use Rattle.cbor_edn_model.specs.Layout.{Layout, Last, respaced, in_chunk, laid}
+use Rattle.cbor_edn_model.specs.code.LayoutRows.{laid_entry, entry_items, laid_piece, piece_items}
 use Rattle.cbor_edn_core.proofs.code.Views.{view_strings_is, view_strings_made}
-use Rattle.cbor_edn_core.proofs.layout.Laying as laying
+use Rattle.cbor_edn_model.proofs.layout.Laying as laying
 
 module _ {S P M O N T D : Type 0} (leaves : Ghosts S P M O N T D) where
   pub string_laid : (l : Layout) (x y : CborStringOf S P M O N T D) (f : _) → y ≡ roll-CborStringOf S P M O N T D f → f.last ≡ x.last

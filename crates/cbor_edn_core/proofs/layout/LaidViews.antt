@@ -3,16 +3,17 @@ use Rattle.std.proofs.Common.{ℕ, ◌≡◌, List, map, refl, sym, ap, ◌∙�
 use Rattle.cbor_edn_parts.specs.Spacing.{SOC}
 use Rattle.cbor_edn_core.specs.declared.tree.ItemsOf.{ItemsOf, out-ItemsOf, roll-ItemsOf}
 use Rattle.cbor_edn_core.specs.declared.tree.PairsOf.{PairsOf, out-PairsOf, roll-PairsOf}
-use Rattle.cbor_edn_core.specs.Leaves.{Ghosts}
-use Rattle.cbor_edn_core.specs.Items.{End, Then, Element}
-use Rattle.cbor_edn_core.specs.Trees.{Tree, ElementTree, LastTree, items}
-use Rattle.cbor_edn_core.specs.View.{entries_onto, seen, seen_pair, view_item, view_items, view_pair, view_pairs}
-use Rattle.cbor_edn_core.specs.Layout.{Layout, Last, respaced}
-use Rattle.cbor_edn_core.specs.code.Laying.{without, laid_by, entries_without, entries_by}
-use Rattle.cbor_edn_core.specs.code.LayoutRows.{entry_items}
+use Rattle.cbor_edn_model.specs.Leaves.{Ghosts}
+use Rattle.cbor_edn_model.specs.Items.{End, Then, Element}
+use Rattle.cbor_edn_model.specs.Trees.{Tree, ElementTree, LastTree, items}
+use Rattle.cbor_edn_core.specs.View.{seen, seen_pair, view_item, view_items, view_pair, view_pairs}
+use Rattle.cbor_edn_model.specs.Rows.{entries_onto}
+use Rattle.cbor_edn_model.specs.Layout.{Layout, Last, respaced}
+use Rattle.cbor_edn_model.specs.code.Laying.{without, laid_by, entries_without, entries_by}
+use Rattle.cbor_edn_model.specs.code.LayoutRows.{entry_items}
 use Rattle.cbor_edn_core.proofs.code.Views.{view_items_is, view_items_made, view_pairs_is, view_pairs_made}
-use Rattle.cbor_edn_core.proofs.layout.Laying.{laid_row_by, row_without}
-use Rattle.cbor_edn_core.proofs.layout.LayoutRows.{same_entries}
+use Rattle.cbor_edn_model.proofs.layout.Laying.{laid_row_by, row_without}
+use Rattle.cbor_edn_model.proofs.layout.LayoutRows.{same_entries}
 
 module _ {S P M O N T D : Type 0} (leaves : Ghosts S P M O N T D) where
   pub items_laid : (l : Layout) (x y : ItemsOf S P M O N T D) (f : _) (t : List ℕ) → y ≡ roll-ItemsOf S P M O N T D f

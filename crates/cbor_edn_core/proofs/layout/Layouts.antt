@@ -9,12 +9,12 @@ use Rattle.cbor_edn_parts.specs.declared.policy.DelimiterPolicy.TheVariants.{Dis
 use Rattle.cbor_edn_parts.specs.declared.policy.Spacing.TheVariants.{Least, OneLine}
 use Rattle.cbor_edn_parts.specs.SpacingLaws.{is_of, KeepsComments}
 use Rattle.cbor_edn_parts.proofs.Spacings.{spaced_stays, spaced_forgets, least_forgets}
-use Rattle.cbor_edn_core.specs.Items.{Listed, String, Stream, Plus, Element, Pair, Chunk, End, Then}
-use Rattle.cbor_edn_core.specs.Spelling.{SpellsOne, SpellsSequence}
-use Rattle.cbor_edn_core.specs.Trees.{Rule, OneItem, Seq, Standalone, Tree, ListHead, Unmarked, Marked, mark, NumberTree, FloatTree, NamedTree, EnclosedTree, ListTree, StringTree, StreamTree, LiteralTree, DotsTree, EmbeddedTree, LastPieceTree, PlusTree, ElementTree, PairTree, ChunkTree, EmptyTree, FullTree, LastTree, MoreTree, NothingTree, SequenceTree, StandaloneTree, labelled, items, text}
-use Rattle.cbor_edn_core.proofs.text.Tested.{IsTestedListHead, Tested, tested, valid}
-use Rattle.cbor_edn_core.specs.Layout.{Layout, Inline, Lines, layout, Place, First, Between, Last, BeforePlus, AfterPlus, AfterColon, Elsewhere, spacing, respaced, saturating_add, fitted, in_chunk, laid_list_head, laid, laid_out}
-use Rattle.cbor_edn_core.specs.LayoutLaws.{KeepsItems, StaysValid, SpellsTheSame, KeepsAllComments, ForgetsLayout, SameTwice}
+use Rattle.cbor_edn_model.specs.Items.{Listed, String, Stream, Plus, Element, Pair, Chunk, End, Then}
+use Rattle.cbor_edn_model.specs.Spelling.{SpellsOne, SpellsSequence}
+use Rattle.cbor_edn_model.specs.Trees.{Rule, OneItem, Seq, Standalone, Tree, ListHead, Unmarked, Marked, mark, NumberTree, FloatTree, NamedTree, EnclosedTree, ListTree, StringTree, StreamTree, LiteralTree, DotsTree, EmbeddedTree, LastPieceTree, PlusTree, ElementTree, PairTree, ChunkTree, EmptyTree, FullTree, LastTree, MoreTree, NothingTree, SequenceTree, StandaloneTree, labelled, items, text}
+use Rattle.cbor_edn_model.proofs.text.Tested.{IsTestedListHead, Tested, tested, valid}
+use Rattle.cbor_edn_model.specs.Layout.{Layout, Inline, Lines, layout, Place, First, Between, Last, BeforePlus, AfterPlus, AfterColon, Elsewhere, spacing, respaced, saturating_add, fitted, in_chunk, laid_list_head, laid, laid_out}
+use Rattle.cbor_edn_model.specs.LayoutLaws.{KeepsItems, StaysValid, SpellsTheSame, KeepsAllComments, ForgetsLayout, SameTwice}
 use Rattle.cbor_edn_core.proofs.text.GrammarLaws.{spelled_by_trees}
 
 -- an item whose parts are laid out is one of the items that its parts give

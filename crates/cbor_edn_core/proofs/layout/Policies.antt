@@ -1,13 +1,13 @@
 -- Decoded items mean their value after any policies.
 use Rattle.std.proofs.Common.{◌≡◌, List, [], ◌∷◌, refl, ap, ◌∙◌, subst}
 use Rattle.cbor_edn_parts.specs.declared.policy.DelimiterPolicy.{DelimiterPolicy}
-use Rattle.cbor_edn_core.specs.Spelling.{SpellsOne, SpellsSequence}
-use Rattle.cbor_edn_core.specs.Trees.{Rule, Tree, Valid, items, text}
-use Rattle.cbor_edn_core.specs.Meaning.{means}
-use Rattle.cbor_edn_core.specs.Decoded.{item_of, items_of}
-use Rattle.cbor_edn_core.specs.Layout.{laid_out}
-use Rattle.cbor_edn_core.specs.LayoutLaws.{after, MeansTheSame}
-use Rattle.cbor_edn_core.proofs.meaning.Decoding.{item_means, items_mean}
+use Rattle.cbor_edn_model.specs.Spelling.{SpellsOne, SpellsSequence}
+use Rattle.cbor_edn_model.specs.Trees.{Rule, Tree, Valid, items, text}
+use Rattle.cbor_edn_model.specs.Meaning.{means}
+use Rattle.cbor_edn_model.specs.Decoded.{item_of, items_of}
+use Rattle.cbor_edn_model.specs.Layout.{laid_out}
+use Rattle.cbor_edn_model.specs.LayoutLaws.{after, MeansTheSame}
+use Rattle.cbor_edn_model.proofs.meaning.Decoding.{item_means, items_mean}
 use Rattle.cbor_edn_core.proofs.text.GrammarLaws.{unique_items, spelled_by_trees}
 use Rattle.cbor_edn_core.proofs.layout.Layouts.{keeps_items, stays_valid}
 

@@ -2,9 +2,9 @@
 use Rattle.std.proofs.Common.{ℕ, ◌≡◌, List, map, Option, None, Result, Ok, Err, OnOk, IfErr, refl, sym, ap, ◌∙◌, subst, inl, inr}
 use Rattle.std.specs.Global.{Box}
 use Rattle.cbor_edn_parts.specs.declared.indicator.Indicator.{Indicator}
-use Rattle.cbor_edn_core.specs.declared.word.NonFinite.{NonFinite}
-use Rattle.cbor_edn_core.specs.declared.tree.LabelKind.{LabelKind}
-use Rattle.cbor_edn_core.specs.declared.tree.LabelKind.TheVariants as label
+use Rattle.cbor_edn_model.specs.declared.word.NonFinite.{NonFinite}
+use Rattle.cbor_edn_model.specs.declared.label.LabelKind.{LabelKind}
+use Rattle.cbor_edn_model.specs.declared.label.LabelKind.TheVariants as label
 use Rattle.cbor_edn_core.specs.declared.tree.ItemsOf.{ItemsOf, out-ItemsOf, roll-ItemsOf}
 use Rattle.cbor_edn_core.specs.declared.tree.PairsOf.{PairsOf, out-PairsOf, roll-PairsOf}
 use Rattle.cbor_edn_core.specs.declared.tree.CborStringOf.{CborStringOf, roll-CborStringOf, out-roll-CborStringOf}
@@ -12,20 +12,21 @@ use Rattle.cbor_edn_core.specs.declared.tree.StreamOf.{StreamOf'}
 use Rattle.cbor_edn_core.specs.declared.tree.InnerItemOf.{InnerItemOf}
 use Rattle.cbor_edn_core.specs.declared.tree.InnerItemOf.TheVariants as inner
 use Rattle.cbor_edn_core.specs.declared.tree.StringsOf.{StringsOf, out-StringsOf, roll-StringsOf}
-use Rattle.cbor_edn_core.specs.Leaves.{Ghosts}
-use Rattle.cbor_edn_core.specs.Items as kind
-use Rattle.cbor_edn_core.specs.Items.{Bracketed, entries_of}
-use Rattle.cbor_edn_core.specs.Trees.{OneItem, Inside, Rest, Standalone, Tree, ListHead, Unmarked, NumberTree, FloatTree, StringTree, EnclosedTree, ListTree, LastPieceTree, ElementTree, PairTree, ChunkTree, EmptyTree, FullTree, LastTree, SequenceTree, StandaloneTree, items}
-use Rattle.cbor_edn_core.specs.View.{entries_onto, pieces_onto, seen, seen_pair, seen_piece, seen_string, view_item, view_items, view_pair, view_pairs, view_piece, view_string, view_strings, view_inner}
-use Rattle.cbor_edn_core.specs.Bare.{without_indicators, bare_label}
-use Rattle.cbor_edn_core.specs.Fewer.{Fewer, number, float, listed, tagged, simple, element, pair, end, then}
-use Rattle.cbor_edn_core.specs.code.LayoutRows.{entry_without_indicators, piece_without_indicators}
-use Rattle.cbor_edn_core.specs.code.Unmarking.{FewerInside, FewerEntries, headless, label_gone}
+use Rattle.cbor_edn_model.specs.Leaves.{Ghosts}
+use Rattle.cbor_edn_model.specs.Items as kind
+use Rattle.cbor_edn_model.specs.Items.{Bracketed, entries_of}
+use Rattle.cbor_edn_model.specs.Trees.{OneItem, Inside, Rest, Standalone, Tree, ListHead, Unmarked, NumberTree, FloatTree, StringTree, EnclosedTree, ListTree, LastPieceTree, ElementTree, PairTree, ChunkTree, EmptyTree, FullTree, LastTree, SequenceTree, StandaloneTree, items}
+use Rattle.cbor_edn_core.specs.View.{seen, seen_pair, seen_piece, seen_string, view_item, view_items, view_pair, view_pairs, view_piece, view_string, view_strings, view_inner}
+use Rattle.cbor_edn_model.specs.Rows.{entries_onto, pieces_onto}
+use Rattle.cbor_edn_model.specs.Bare.{without_indicators, bare_label}
+use Rattle.cbor_edn_model.specs.Fewer.{Fewer, number, float, listed, tagged, simple, element, pair, end, then}
+use Rattle.cbor_edn_model.specs.code.LayoutRows.{entry_without_indicators, piece_without_indicators}
+use Rattle.cbor_edn_model.specs.code.Unmarking.{FewerInside, FewerEntries, headless, label_gone}
 use Rattle.cbor_edn_core.proofs.code.Forms.{Enclosed, IsForm}
 use Rattle.cbor_edn_core.proofs.code.Views.{view_items_is, view_items_made, view_string_is, view_string_at, view_pairs_is, view_pairs_made, view_strings_is, view_strings_made}
-use Rattle.cbor_edn_core.proofs.layout.Fewer.{bare_fewer}
-use Rattle.cbor_edn_core.proofs.layout.WithoutIndicators.{unmarked_is_bare}
-use Rattle.cbor_edn_core.proofs.layout.LayoutRows.{entries_without_indicators, pieces_without_indicators}
+use Rattle.cbor_edn_model.proofs.layout.Fewer.{bare_fewer}
+use Rattle.cbor_edn_model.proofs.layout.WithoutIndicators.{unmarked_is_bare}
+use Rattle.cbor_edn_model.proofs.layout.LayoutRows.{entries_without_indicators, pieces_without_indicators}
 
 module _ {S P M O N T D : Type 0} (leaves : Ghosts S P M O N T D) where
   pub string_unmarked : (x y : CborStringOf S P M O N T D) (f : _) → y ≡ roll-CborStringOf S P M O N T D f → map (seen_piece leaves) f.row.items ≡ map piece_without_indicators (map (seen_piece leaves) x.row.items) → view_piece leaves f.last ≡ without_indicators (view_piece leaves x.last) → view_string leaves y ≡ without_indicators (view_string leaves x)

@@ -14,29 +14,30 @@ use Rattle.cbor_edn_parts.specs.declared.space.Ms.{Ms}
 use Rattle.cbor_edn_parts.specs.declared.space.Msc.{Msc}
 use Rattle.cbor_edn_parts.specs.declared.space.Soc.{Soc}
 use Rattle.cbor_edn_core.specs.declared.tree.ItemsOf.{ItemsOf}
-use Rattle.cbor_edn_core.specs.View.{texts, view_items, view_some}
-use Rattle.cbor_edn_core.specs.declared.from_cbor.CborError.{CborError}
-use Rattle.cbor_edn_core.specs.declared.from_cbor.CborError.TheVariants.{TooDeep}
-use Rattle.cbor_edn_core.specs.declared.from_cbor.head.Stop.TheVariants.{EndOfData}
-use Rattle.cbor_edn_core.specs.Items.{Elements, Items, nesting}
-use Rattle.cbor_edn_core.specs.Trees.{Tree, OneItem, Rest, Seq, NothingTree, SequenceTree, items}
-use Rattle.cbor_edn_core.specs.Value.{Value, Values, encoding, encodings, Enc, EncAll}
-use Rattle.cbor_edn_core.specs.Meaning.{means}
+use Rattle.cbor_edn_core.specs.View.{view_items, view_some}
+use Rattle.cbor_edn_model.specs.Leaves.{texts}
+use Rattle.cbor_edn_model.specs.declared.from_cbor.CborError.{CborError}
+use Rattle.cbor_edn_model.specs.declared.from_cbor.CborError.TheVariants.{TooDeep}
+use Rattle.cbor_edn_model.specs.declared.from_cbor.head.Stop.TheVariants.{EndOfData}
+use Rattle.cbor_edn_model.specs.Items.{Elements, Items, nesting}
+use Rattle.cbor_edn_model.specs.Trees.{Tree, OneItem, Rest, Seq, NothingTree, SequenceTree, items}
+use Rattle.cbor_edn_model.specs.Value.{Value, Values, encoding, encodings, Enc, EncAll}
+use Rattle.cbor_edn_model.specs.Meaning.{means}
 use Rattle.cbor_edn_parts.specs.Refusals.{IfTold}
-use Rattle.cbor_edn_core.specs.Decoded.{item_of, items_of, BeginsWith, IsDecoded, IsDecodedSequence, NoneIs, IsTooDeepEncoding, NoSequence, IsTooDeepSequence}
-use Rattle.cbor_edn_core.specs.code.Regular.{regular, sequence_tree_of, regular_sequence}
-use Rattle.cbor_edn_core.specs.code.CborReading.{◌>>=◌, Decoder, DecoderGives, DecoderFails, shown, item_at, until, past, turn, trees, element_row, sequence_at}
-use Rattle.cbor_edn_core.proofs.bytes.Nestings.{value_nesting, values_nesting, item_nests, items_nest}
-use Rattle.cbor_edn_core.proofs.bytes.CborHeads.{IsBytes, bind_ok}
+use Rattle.cbor_edn_model.specs.Decoded.{item_of, items_of, BeginsWith, IsDecoded, IsDecodedSequence, NoneIs, IsTooDeepEncoding, NoSequence, IsTooDeepSequence}
+use Rattle.cbor_edn_model.specs.code.Regular.{regular, sequence_tree_of, regular_sequence}
+use Rattle.cbor_edn_model.specs.code.CborReading.{◌>>=◌, Decoder, DecoderGives, DecoderFails, shown, item_at, until, past, turn, trees, element_row, sequence_at}
+use Rattle.cbor_edn_model.proofs.bytes.Nestings.{value_nesting, values_nesting, item_nests, items_nest}
+use Rattle.cbor_edn_model.proofs.bytes.CborHeads.{IsBytes, bind_ok}
 use Rattle.cbor_edn_core.proofs.code.CborTurns.{shown_ok, shown_err}
-use Rattle.cbor_edn_core.proofs.bytes.CborValues.{values_of, list_of, value_at}
-use Rattle.cbor_edn_core.proofs.bytes.CborOutcomes.{decoder_outcome, within, beyond, values_many}
-use Rattle.cbor_edn_core.proofs.bytes.CborAgain.{item_again, values_until}
-use Rattle.cbor_edn_core.proofs.bytes.CborTakes.{Within, item_takes, until_takes, values_are}
+use Rattle.cbor_edn_model.proofs.bytes.CborValues.{values_of, list_of, value_at}
+use Rattle.cbor_edn_model.proofs.bytes.CborOutcomes.{decoder_outcome, within, beyond, values_many}
+use Rattle.cbor_edn_model.proofs.bytes.CborAgain.{item_again, values_until}
+use Rattle.cbor_edn_model.proofs.bytes.CborTakes.{Within, item_takes, until_takes, values_are}
 use Rattle.cbor_edn_core.proofs.bytes.CborDeep.{item_deep, until_deep}
-use Rattle.cbor_edn_core.proofs.bytes.CborTrees.{tree_of, tree_of_item, row_tree_of_items, tree_read, until_shown, values_row}
-use Rattle.cbor_edn_core.proofs.meaning.Decoding.{row_items, items_again, row_again, item_means, items_mean}
-use Rattle.cbor_edn_core.proofs.layout.RegularTrees.{item_regular, sequence_regular}
+use Rattle.cbor_edn_model.proofs.bytes.CborTrees.{tree_of, tree_of_item, row_tree_of_items, tree_read, until_shown, values_row}
+use Rattle.cbor_edn_model.proofs.meaning.Decoding.{row_items, items_again, row_again, item_means, items_mean}
+use Rattle.cbor_edn_model.proofs.layout.RegularTrees.{item_regular, sequence_regular}
 
 -- ---- results
 

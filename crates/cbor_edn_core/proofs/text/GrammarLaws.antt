@@ -3,13 +3,13 @@ use Rattle.std.proofs.Common.{ℕ, List, [], ◌≡◌, ◌≤◌, ap, sym, arit
 use Rattle.std.specs.Prelude.{Result, Ok, max}
 use Rattle.std.proofs.lemmas.Bool.{le-leb}
 use Rattle.cbor_edn_parts.specs.declared.error.ParseErrorKind.{ParseErrorKind}
-use Rattle.cbor_edn_core.specs.Trees.{Rule, Seq, Standalone, Tree, Merged, FollowOf, Of, onto, text, items, depth}
-use Rattle.cbor_edn_core.proofs.text.Tested.{Tested, tested, valid}
-use Rattle.cbor_edn_core.specs.code.Reading.{reads}
-use Rattle.cbor_edn_core.specs.Laws.{UniqueItems, UniqueSpaces, SpelledByTrees}
-use Rattle.cbor_edn_core.proofs.text.Outcomes.{within}
-use Rattle.cbor_edn_core.proofs.text.Steps.{reads-again}
-use Rattle.cbor_edn_core.proofs.text.Spelled.{HasTree, tells, spelled_sequence, spelled_one}
+use Rattle.cbor_edn_model.specs.Trees.{Rule, Seq, Standalone, Tree, Merged, FollowOf, Of, onto, text, items, depth}
+use Rattle.cbor_edn_model.proofs.text.Tested.{Tested, tested, valid}
+use Rattle.cbor_edn_model.specs.code.Reading.{reads}
+use Rattle.cbor_edn_model.specs.Laws.{UniqueItems, UniqueSpaces, SpelledByTrees}
+use Rattle.cbor_edn_model.proofs.text.Outcomes.{within}
+use Rattle.cbor_edn_model.proofs.text.Steps.{reads-again}
+use Rattle.cbor_edn_model.proofs.text.Spelled.{HasTree, tells, spelled_sequence, spelled_one}
 use Rattle.cbor_edn_core.proofs.text.Whole.{sequence_made, standalone_made}
 
 -- Read with a limit that is deep enough.

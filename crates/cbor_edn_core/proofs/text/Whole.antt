@@ -4,17 +4,17 @@ use Rattle.std.specs.Prelude.{Result, Ok, Err}
 use Rattle.std.proofs.lemmas.List.{append-nil}
 use Rattle.cbor_edn_parts.specs.declared.error.ParseErrorKind.{ParseErrorKind}
 use Rattle.cbor_edn_parts.specs.declared.error.ParseErrorKind.TheVariants.{Invalid, TooDeep}
-use Rattle.cbor_edn_core.specs.Items.{Sort, Item, Node, Items, nesting}
-use Rattle.cbor_edn_core.specs.Spelling.{SpellsSequence, SpellsOne}
-use Rattle.cbor_edn_core.specs.Trees.{Rule, Seq, Standalone, Tree, Merged, FollowOf, text, items, depth}
-use Rattle.cbor_edn_core.proofs.text.Tested.{Tested}
-use Rattle.cbor_edn_core.specs.code.Reading.{reads_all, at_end, outcome}
-use Rattle.cbor_edn_core.specs.Marks.{marks}
+use Rattle.cbor_edn_model.specs.Items.{Sort, Item, Node, Items, nesting}
+use Rattle.cbor_edn_model.specs.Spelling.{SpellsSequence, SpellsOne}
+use Rattle.cbor_edn_model.specs.Trees.{Rule, Seq, Standalone, Tree, Merged, FollowOf, text, items, depth}
+use Rattle.cbor_edn_model.proofs.text.Tested.{Tested}
+use Rattle.cbor_edn_model.specs.code.Reading.{reads_all, at_end, outcome}
+use Rattle.cbor_edn_model.specs.Marks.{marks}
 use Rattle.cbor_edn_core.specs.Parsing.{IsAccepted, IsInvalid, IsTooDeep}
-use Rattle.cbor_edn_core.proofs.text.Outcomes.{then_done, outcome-valid, outcome-deep}
-use Rattle.cbor_edn_core.proofs.text.Found.{Meets, invalid, deep, fine, bound, Sound}
-use Rattle.cbor_edn_core.proofs.text.Steps.{reads-again, reads-found}
-use Rattle.cbor_edn_core.proofs.text.Spelled.{nested, tells, spelled_sequence, spelled_one}
+use Rattle.cbor_edn_model.proofs.text.Outcomes.{then_done, outcome-valid, outcome-deep}
+use Rattle.cbor_edn_model.proofs.text.Found.{Meets, invalid, deep, fine, bound, Sound}
+use Rattle.cbor_edn_model.proofs.text.Steps.{reads-again, reads-found}
+use Rattle.cbor_edn_model.proofs.text.Spelled.{nested, tells, spelled_sequence, spelled_one}
 
 -- A valid tree, merged, with this text, which nests no deeper than the limit.
 abbrev pub SoundAll : {s : Rule} → ℕ → List ℕ → Tree s → Type 0

@@ -1,5 +1,5 @@
 -- How a result of the parser stands to what the reader on lists gives.
-use Rattle.std.specs.Prelude.{ℕ, ◌+◌, ◌*◌, ◌≡◌, ◌≢◌, ◌≤◌, ◌-◌, min, List, [], ◌∷◌, ◌++◌, length, drop, Result, Ok, Err}
+use Rattle.std.specs.Prelude.{ℕ, ◌+◌, ◌*◌, ◌≡◌, ◌≢◌, ◌≤◌, List, [], ◌∷◌, ◌++◌, length, drop, Result, Ok, Err}
 use Rattle.std.specs.Str.{IsCharBoundary}
 use Rattle.cbor_edn_parts.specs.declared.error.ParseErrorKind.{ParseErrorKind}
 use Rattle.cbor_edn_parts.specs.declared.error.Refusal.{Refusal}
@@ -11,17 +11,19 @@ use Rattle.cbor_edn_parts.specs.declared.space.Soc.{Soc}
 use Rattle.cbor_edn_parts.specs.declared.space.read.End.{End}
 use Rattle.cbor_edn_parts.specs.code.Ends.{IsEnd, reached}
 use Rattle.cbor_edn_parts.specs.code.SpaceTokens.{space, separator}
-use Rattle.cbor_edn_core.specs.Items.{Row, Elements, Pairs, Strings}
-use Rattle.cbor_edn_core.specs.Trees.{Tree, OneItem, OneEntry, PairTree, ElementTree, ChunkTree}
-use Rattle.cbor_edn_core.specs.View.{Item, item_tree, texts, view_string}
+use Rattle.cbor_edn_model.specs.Items.{Row, Elements, Pairs, Strings}
+use Rattle.cbor_edn_model.specs.Trees.{Tree, OneItem, OneEntry, PairTree, ElementTree, ChunkTree}
+use Rattle.cbor_edn_core.specs.View.{Item, item_tree, view_string}
+use Rattle.cbor_edn_model.specs.Leaves.{texts}
 use Rattle.cbor_edn_core.specs.declared.tree.CborStringOf.{CborStringOf}
 use Rattle.cbor_edn_parts.specs.declared.space.S.{S}
 use Rattle.cbor_edn_parts.specs.declared.space.Ms.{Ms}
 use Rattle.cbor_edn_parts.specs.declared.number.Number.{Number}
 use Rattle.cbor_edn_parts.specs.declared.string.Literal.{Literal}
 use Rattle.cbor_edn_parts.specs.declared.string.Dots.{Dots}
-use Rattle.cbor_edn_core.specs.code.LookCosts.{longest_word, separator_extra}
-use Rattle.cbor_edn_core.specs.code.Reading.{◌>>=◌, Read, token, reads}
+use Rattle.cbor_edn_model.specs.code.LookCosts.{separator_extra}
+use Rattle.cbor_edn_model.specs.code.Places.{IsNotAt, ahead}
+use Rattle.cbor_edn_model.specs.code.Reading.{◌>>=◌, Read, token, reads}
 
 -- The refusal is the reader's, unless memory ran out.
 abbrev pub Fails : {Y : Type 0} → Fault Refusal → Result Y ParseErrorKind → Type 0
@@ -62,10 +64,6 @@ abbrev pub CostsEnd : {X E : Type 0} → ℕ → ℕ → ℕ → List ℕ → �
 CostsEnd rate k failed text at old new (Ok p) = (new + rate * at + p.1.item ≤ old + rate * p.1.item + reached p.1 + k) × (old + reached p.1 ≤ new + at)
 CostsEnd rate k failed text at old new (Err e) = (new + rate * at ≤ old + rate * length text + failed) × (old ≤ new)
 
--- how many looks a word may take that does not stand there: none is longer
-abbrev pub ahead : List ℕ → ℕ → ℕ
-ahead text at = min longest_word (length text - at)
-
 -- The same of what may have been taken for a word: the looks for that come on top.
 abbrev pub CostsEndAhead : {X E : Type 0} → ℕ → ℕ → ℕ → List ℕ → ℕ → ℕ → ℕ → Result (X × End) E → Type 0
 CostsEndAhead rate k failed text at old new (Ok p) = (new + ahead text at + rate * at + p.1.item ≤ old + rate * p.1.item + reached p.1 + k) × (old + reached p.1 ≤ new + at)
@@ -74,15 +72,6 @@ CostsEndAhead rate k failed text at old new (Err e) = (new + ahead text at + rat
 abbrev pub CostsAhead : {X E : Type 0} → ℕ → ℕ → ℕ → List ℕ → ℕ → ℕ → ℕ → Result (X × ℕ) E → Type 0
 CostsAhead rate k failed text at old new (Ok p) = (new + ahead text at + rate * at ≤ old + rate * p.1 + k) × (old + p.1 ≤ new + at)
 CostsAhead rate k failed text at old new (Err e) = (new + ahead text at + rate * at ≤ old + rate * length text + failed) × (old ≤ new)
-
--- This byte stands there, and a character behind it begins.
-abbrev pub IsByteAt : List ℕ → ℕ → ℕ → Type 0
-IsByteAt text at b = (drop at text ≡ b ∷ drop (at + 1) text) × IsCharBoundary text (at + 1)
-
--- This byte does not stand in front.
-abbrev pub IsNotAt : ℕ → List ℕ → Type 0
-IsNotAt b [] = Unit {0}
-IsNotAt b (c ∷ cs) = c ≢ b
 
 -- An entry was set behind the others, with a separator of this text.
 pub record IsPushed {T : Type 0} (old new : List (T × Msc)) (entry : T) (soc : Soc) : Type 0 where

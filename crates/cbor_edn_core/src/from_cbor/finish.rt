@@ -1,7 +1,8 @@
 //! Rows that were read, with their ends.
 ghost use Rattle.std.specs.Prelude.{◌≡◌, map, option_map};
-ghost use Rattle.cbor_edn_core.specs.View.{texts, item_tree, view_items, view_pair, view_pairs, view_string, view_strings};
-ghost use Rattle.cbor_edn_core.specs.code.CborReading.{row_of, element_row, string_row};
+ghost use Rattle.cbor_edn_core.specs.View.{item_tree, view_items, view_pair, view_pairs, view_string, view_strings};
+ghost use Rattle.cbor_edn_model.specs.Leaves.{texts};
+ghost use Rattle.cbor_edn_model.specs.code.CborReading.{row_of, element_row, string_row};
 ghost use Rattle.cbor_edn_core.specs.code.RowBuilder.{grown};
 
 use super::row_builder::RowBuilder;

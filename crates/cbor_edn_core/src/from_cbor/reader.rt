@@ -3,20 +3,23 @@ ghost use Rattle.std.specs.Prelude.{◌≡◌, ◌<◌, ◌≤◌, ◌++◌, ◌
 ghost use Rattle.std.specs.Fmt.{signed_decimal};
 ghost use Rattle.cbor_edn_parts.specs.Leaves as leaves;
 ghost use Rattle.cbor_edn_parts.specs.Leaves.{HasMagnitude};
-ghost use Rattle.cbor_edn_core.specs.Trees.{NumberTree};
-ghost use Rattle.cbor_edn_core.specs.View.{texts, view_list, view_pair_list, view_list_head, view_items, view_pairs, view_pair, item_tree};
-ghost use Rattle.cbor_edn_core.specs.code.Regular.{list_inside, spaced_list_head};
-ghost use Rattle.cbor_edn_core.specs.code.CborReading as reading;
-ghost use Rattle.cbor_edn_core.specs.code.CborReading.{DecoderGives, trees, head_at, many, until, several, pair_at, array_by, map_by, tag_by, item_by, item_at, inner, shown, argument_indicator};
+ghost use Rattle.cbor_edn_model.specs.Trees.{NumberTree};
+ghost use Rattle.cbor_edn_core.specs.View.{view_list, view_pair_list, view_items, view_pairs, view_pair, item_tree};
+ghost use Rattle.cbor_edn_model.specs.ListHeads.{view_list_head};
+ghost use Rattle.cbor_edn_model.specs.Leaves.{texts};
+ghost use Rattle.cbor_edn_model.specs.code.Regular.{list_inside, spaced_list_head};
+ghost use Rattle.cbor_edn_model.specs.code.CborReading as reading;
+ghost use Rattle.cbor_edn_model.specs.code.CborReading.{DecoderGives, trees, head_at, many, until, several, pair_at, array_by, map_by, tag_by, item_by, item_at, inner, shown, argument_indicator};
 ghost use Rattle.cbor_edn_core.specs.code.RowBuilder.{grown, Pushes};
 
 use super::CborError;
 use super::finish::{finish_items, finish_pairs};
-use super::head::{Argument, Head, Stop, head_of, indicator_of, past_stop};
 use super::row_builder::RowBuilder;
 use super::special::{enclosed, special_of};
 use super::strings::string_of;
 use crate::tree::{InnerItem, Item, ItemList, Items, Kp, Label, PairList, Pairs};
+use cbor_edn_model::from_cbor::head::{Argument, Head, Stop, head_of, indicator_of, past_stop};
+use cbor_edn_model::list_head::head_space;
 use cbor_edn_parts::error::Fault;
 use cbor_edn_parts::indicator::Indicator;
 use cbor_edn_parts::number::{Integer, Number};
@@ -53,16 +56,6 @@ fn entries<'a>(argument: Argument, pairs: Option<Pairs<'a>>) -> PairList<'a>
             s,
             pairs,
         },
-    }
-}
-
-/// One space behind an indicator.
-fn head_space<'a>(indicator: Option<Indicator>) -> Option<(Indicator, Ms<'a>)>
-    ensures { view_list_head texts result ≡ spaced_list_head indicator }
-{
-    match indicator {
-        None => None,
-        Some(indicator) => Some((indicator, Ms::space())),
     }
 }
 
@@ -132,7 +125,7 @@ pub(super) fn items_until<'a, 'b>(
 }
 
 #[cycle(item)]
-#[tactic(auto, unfolding(crate::specs::code::CborReading::pair_at))]
+#[tactic(auto, unfolding(cbor_edn_model::specs::code::CborReading::pair_at))]
 fn pair_of<'a, 'b>(
     alloc: Global,
     bytes: &'b [u8],
@@ -210,7 +203,7 @@ fn pairs_until<'a, 'b>(
 }
 
 #[cycle(item)]
-#[tactic(auto, unfolding(crate::specs::code::CborReading::several))]
+#[tactic(auto, unfolding(cbor_edn_model::specs::code::CborReading::several))]
 fn array_of<'a, 'b>(
     alloc: Global,
     argument: Argument,
@@ -232,7 +225,7 @@ fn array_of<'a, 'b>(
 }
 
 #[cycle(item)]
-#[tactic(auto, unfolding(crate::specs::code::CborReading::several))]
+#[tactic(auto, unfolding(cbor_edn_model::specs::code::CborReading::several))]
 fn map_of<'a, 'b>(
     alloc: Global,
     argument: Argument,
@@ -277,7 +270,7 @@ fn tag_of<'a, 'b>(
 
 /// The item behind a head.
 #[cycle(item)]
-#[tactic(auto, unfolding(crate::specs::code::CborReading::item_by))]
+#[tactic(auto, unfolding(cbor_edn_model::specs::code::CborReading::item_by))]
 fn content_of<'a, 'b>(
     alloc: Global,
     head: Head,

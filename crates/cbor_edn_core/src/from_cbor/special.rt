@@ -1,18 +1,19 @@
 //! Simple values and floating-point numbers from their encoding.
 ghost use Rattle.std.specs.Prelude.{◌≡◌, IfOk, None};
-ghost use Rattle.cbor_edn_core.specs.code.CborReading as reading;
-ghost use Rattle.cbor_edn_core.specs.code.CborReading.{DecoderGives, trees, inner};
-ghost use Rattle.cbor_edn_core.specs.Decoded as decoded;
-ghost use Rattle.cbor_edn_core.specs.Decoded.{alone};
-ghost use Rattle.cbor_edn_core.specs.Trees.{EnclosedTree, NumberTree};
+ghost use Rattle.cbor_edn_model.specs.code.CborReading as reading;
+ghost use Rattle.cbor_edn_model.specs.code.CborReading.{DecoderGives, trees, inner};
+ghost use Rattle.cbor_edn_model.specs.Decoded as decoded;
+ghost use Rattle.cbor_edn_model.specs.Decoded.{alone};
+ghost use Rattle.cbor_edn_model.specs.Trees.{EnclosedTree, NumberTree};
 ghost use Rattle.std.specs.Fmt.{decimal};
 ghost use Rattle.cbor_edn_core.specs.View.{item_tree};
 
 use super::CborError;
-use super::head::Argument;
-use crate::cbor::{Width, float_bits};
 use crate::tree::{Indicator, InnerItem, Item, Label, StandaloneItem};
-use crate::word::{NamedSimple, NonFinite};
+use cbor_edn_model::cbor::Width;
+use cbor_edn_model::from_cbor::float::{float_indicator, non_finite};
+use cbor_edn_model::from_cbor::head::Argument;
+use cbor_edn_model::word::{NamedSimple, NonFinite};
 use cbor_edn_parts::error::Fault;
 use cbor_edn_parts::number::{Integer, Number};
 use std::alloc::{AllocError, Global};
@@ -35,7 +36,7 @@ pub(super) fn special_of<'a>(
 }
 
 /// A simple value by its name, or in `simple(..)`, which nests.
-#[tactic(auto, unfolding(crate::specs::code::Regular::regular))]
+#[tactic(auto, unfolding(cbor_edn_model::specs::code::Regular::regular))]
 fn simple_of<'a>(alloc: Global, number: u64, limit: usize) -> Result<Item<'a>, Fault<CborError>>
     ensures { DecoderGives item_tree result (reading.simple_by trees (inner trees limit) number) }
 {
@@ -80,31 +81,4 @@ fn float_of<'a>(width: Width, bits: u64) -> Result<Item<'a>, Fault<CborError>>
     Ok(Item {
         inner: InnerItem::NonFinite(float, float_indicator(width)),
     })
-}
-
-/// The number with these bits, where it is one of the three.
-fn non_finite(width: Width, bits: u64) -> Option<NonFinite>
-    ensures { result ≡ reading.float_of width bits }
-{
-    if bits == float_bits(width, NonFinite::Infinity) {
-        Some(NonFinite::Infinity)
-    } else if bits == float_bits(width, NonFinite::NegativeInfinity) {
-        Some(NonFinite::NegativeInfinity)
-    } else if bits == float_bits(width, NonFinite::NaN) {
-        Some(NonFinite::NaN)
-    } else {
-        None
-    }
-}
-
-/// The indicator of a floating-point number, which is always printed.
-fn float_indicator(width: Width) -> Option<Indicator>
-    ensures { result ≡ decoded.float_indicator width }
-{
-    match width {
-        Width::Two => Some(Indicator::Two),
-        Width::Four => Some(Indicator::Four),
-        Width::Eight => Some(Indicator::Eight),
-        Width::Immediate | Width::One => None,
-    }
 }

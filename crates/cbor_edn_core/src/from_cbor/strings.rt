@@ -2,16 +2,17 @@
 ghost use Rattle.std.specs.Prelude.{◌≡◌, ◌<◌, ◌≤◌, suc, length, map, option_map, IfOk};
 ghost use Rattle.cbor_edn_parts.specs.Contents.{kind_literal};
 ghost use Rattle.cbor_edn_parts.specs.Leaves.{literal_bytes};
-ghost use Rattle.cbor_edn_core.specs.View.{texts, view_string, view_strings, item_tree};
-ghost use Rattle.cbor_edn_core.specs.code.CborReading.{DecoderGives, trees, until, string_at, chunk_at, string_by, string_tree, chunked_tree, shown};
+ghost use Rattle.cbor_edn_core.specs.View.{view_string, view_strings, item_tree};
+ghost use Rattle.cbor_edn_model.specs.Leaves.{texts};
+ghost use Rattle.cbor_edn_model.specs.code.CborReading.{DecoderGives, trees, until, string_at, chunk_at, string_by, string_tree, chunked_tree, shown};
 ghost use Rattle.cbor_edn_core.specs.code.RowBuilder.{grown};
 
 use super::CborError;
 use super::finish::finish_strings;
-use super::head::{Argument, Stop, head_of, indicator_of, past_stop};
 use super::row_builder::RowBuilder;
-use crate::cbor::{Width, string_major};
 use crate::tree::{CborString, Item, Piece, Stream, Strings};
+use cbor_edn_model::cbor::{Width, string_major};
+use cbor_edn_model::from_cbor::head::{Argument, Stop, head_of, indicator_of, past_stop};
 use cbor_edn_parts::error::Fault;
 use cbor_edn_parts::indicator::Indicator;
 use cbor_edn_parts::space::Ms;

@@ -1,19 +1,22 @@
 //! Removal of encoding indicators.
 ghost use Rattle.std.specs.Prelude.{◌≡◌, map, IfOk, IfErr, OnOk};
 ghost use Rattle.cbor_edn_parts.specs.Leaves.{s_bytes, ms_bytes};
-ghost use Rattle.cbor_edn_core.specs.Bare as bare;
-ghost use Rattle.cbor_edn_core.specs.Bare.{without_indicators, first_space, bare_label};
-ghost use Rattle.cbor_edn_core.specs.Fewer.{Fewer};
-ghost use Rattle.cbor_edn_core.specs.Trees as definition;
-ghost use Rattle.cbor_edn_core.specs.Trees.{items};
-ghost use Rattle.cbor_edn_core.specs.View.{texts, view_list_head, view_list, view_items, seen, view_pair_list, view_pairs, view_pair, seen_pair, view_string, view_piece, seen_piece, view_stream, view_strings, seen_string, item_tree, standalone_tree, sequence_tree};
-ghost use Rattle.cbor_edn_core.specs.code.LayoutRows.{entry_without_indicators, piece_without_indicators};
-ghost use Rattle.cbor_edn_core.specs.code.Unmarking.{FewerInside, FewerEntries, headless, label_gone, space_or};
+ghost use Rattle.cbor_edn_model.specs.Bare as bare;
+ghost use Rattle.cbor_edn_model.specs.Bare.{without_indicators, first_space, bare_label};
+ghost use Rattle.cbor_edn_model.specs.Fewer.{Fewer};
+ghost use Rattle.cbor_edn_model.specs.Trees as definition;
+ghost use Rattle.cbor_edn_model.specs.Trees.{items};
+ghost use Rattle.cbor_edn_core.specs.View.{view_list, view_items, seen, view_pair_list, view_pairs, view_pair, seen_pair, view_string, view_piece, seen_piece, view_stream, view_strings, seen_string, item_tree, standalone_tree, sequence_tree};
+ghost use Rattle.cbor_edn_model.specs.ListHeads.{view_list_head};
+ghost use Rattle.cbor_edn_model.specs.Leaves.{texts};
+ghost use Rattle.cbor_edn_model.specs.code.LayoutRows.{entry_without_indicators, piece_without_indicators};
+ghost use Rattle.cbor_edn_model.specs.code.Unmarking.{FewerInside, FewerEntries, headless, label_gone};
 
 use crate::tree::{
     CborString, Indicator, InnerItem, Item, ItemList, Items, Kp, Label, LabelKind, PairList, Pairs,
     Piece, Sequence, StandaloneItem, Stream, Strings,
 };
+use cbor_edn_model::bare::moved_space;
 use cbor_edn_parts::space::{Ms, Msc, S};
 use std::alloc::{AllocError, Global};
 
@@ -39,17 +42,6 @@ impl<'a> Sequence<'a> {
     }
 }
 
-impl Label {
-    fn without_indicator(self) -> Label
-        ensures { result.kind ≡ bare_label self.kind }
-    {
-        match self.kind {
-            LabelKind::Tag(number, _) => Label::tag(number, None),
-            LabelKind::Simple => self,
-        }
-    }
-}
-
 /// Takes the indicator of a tag away.
 fn unmark_label(item: &mut Item<'_>)
     ensures { item_tree item.new ≡ label_gone (item_tree item.old) }
@@ -59,31 +51,8 @@ fn unmark_label(item: &mut Item<'_>)
     }
 }
 
-/// The first space of a list without its indicator, where it is another than before: the space behind the indicator, if it is
-/// more than one space, stands in front of it.
-fn moved_space<'a>(
-    head: &Option<(Indicator, Ms<'a>)>,
-    first: &S<'a>,
-    alloc: Global,
-) -> Result<Option<S<'a>>, AllocError>
-    ensures { IfOk result (λ moved. space_or moved (s_bytes first.now) ≡ first_space (view_list_head texts head.now) (s_bytes first.now)) }
-{
-    if let Some((_, space)) = head {
-        if !is_one_space(space) {
-            return Ok(Some(space.with_space(alloc, first)?));
-        }
-    }
-    Ok(None)
-}
-
-fn is_one_space(space: &Ms<'_>) -> bool
-    ensures { result ≡ bare.is_one_space (ms_bytes space.now) }
-{
-    matches!(space.as_str().as_bytes(), [b' '])
-}
-
 /// Takes the indicator of a piece away.
-#[tactic(auto, unfolding(crate::specs::Bare::without_indicators))]
+#[tactic(auto, unfolding(cbor_edn_model::specs::Bare::without_indicators))]
 fn unmark_piece(piece: &mut Piece<'_>)
     ensures { view_piece texts piece.new ≡ without_indicators (view_piece texts piece.old) }
 {
@@ -109,7 +78,7 @@ fn unmark_piece_row<'a>(row: &mut Vec<(Piece<'a>, S<'a>, S<'a>)>)
     }
 }
 
-#[tactic(auto, using(crate::proofs::code::Views::view_stream_is, crate::proofs::code::Views::view_stream_made), unfolding(crate::specs::Bare::without_indicators))]
+#[tactic(auto, using(crate::proofs::code::Views::view_stream_is, crate::proofs::code::Views::view_stream_made), unfolding(cbor_edn_model::specs::Bare::without_indicators))]
 fn unmark_stream(stream: &mut Stream<'_>)
     ensures { view_stream texts stream.new ≡ without_indicators (view_stream texts stream.old) }
 {
@@ -178,7 +147,7 @@ fn unmark_pair_head<'a>(list: &mut PairList<'a>, alloc: Global) -> Result<(), Al
 }
 
 #[cycle(unmark)]
-#[tactic(auto, using(crate::proofs::layout::UnmarkedViews::list_fewer), unfolding(crate::specs::Bare::without_indicators))]
+#[tactic(auto, using(crate::proofs::layout::UnmarkedViews::list_fewer), unfolding(cbor_edn_model::specs::Bare::without_indicators))]
 fn unmark_item(item: &mut Item<'_>, alloc: Global) -> Result<(), AllocError>
     ensures without_indicators { OnOk result (item_tree item.new ≡ without_indicators (item_tree item.old)) }
     ensures fewer { Fewer (items (item_tree item.old)) (items (item_tree item.new)) }
@@ -212,7 +181,7 @@ fn unmark_item(item: &mut Item<'_>, alloc: Global) -> Result<(), AllocError>
 }
 
 #[cycle(unmark)]
-#[tactic(auto, using(crate::proofs::layout::UnmarkedViews::standalone_fewer), unfolding(crate::specs::Bare::without_indicators))]
+#[tactic(auto, using(crate::proofs::layout::UnmarkedViews::standalone_fewer), unfolding(cbor_edn_model::specs::Bare::without_indicators))]
 fn unmark_standalone(content: &mut StandaloneItem<'_>, alloc: Global) -> Result<(), AllocError>
     ensures without_indicators { OnOk result (standalone_tree content.new ≡ without_indicators (standalone_tree content.old)) }
     ensures fewer { Fewer (items (standalone_tree content.old)) (items (standalone_tree content.new)) }
@@ -221,7 +190,7 @@ fn unmark_standalone(content: &mut StandaloneItem<'_>, alloc: Global) -> Result<
 }
 
 #[cycle(unmark)]
-#[tactic(auto, using(crate::proofs::layout::UnmarkedViews::full_same, crate::proofs::layout::UnmarkedViews::full_gone, crate::proofs::layout::UnmarkedViews::empty_gone, crate::proofs::layout::Fewer::same_fewer), unfolding(crate::specs::Bare::without_indicators))]
+#[tactic(auto, using(crate::proofs::layout::UnmarkedViews::full_same, crate::proofs::layout::UnmarkedViews::full_gone, crate::proofs::layout::UnmarkedViews::empty_gone, cbor_edn_model::proofs::layout::Fewer::same_fewer), unfolding(cbor_edn_model::specs::Bare::without_indicators))]
 fn unmark_list(list: &mut ItemList<'_>, alloc: Global) -> Result<(), AllocError>
     ensures without_indicators { OnOk result (view_list texts list.new ≡ without_indicators (view_list texts list.old)) }
     ensures fewer { FewerInside (view_list texts list.old) (view_list texts list.new) }
@@ -254,7 +223,7 @@ fn unmark_row<'a>(row: &mut Vec<(Item<'a>, Msc<'a>)>, alloc: Global) -> Result<(
 }
 
 #[cycle(unmark)]
-#[tactic(auto, using(crate::proofs::layout::UnmarkedViews::full_same, crate::proofs::layout::UnmarkedViews::full_gone, crate::proofs::layout::UnmarkedViews::empty_gone, crate::proofs::layout::Fewer::same_fewer), unfolding(crate::specs::Bare::without_indicators))]
+#[tactic(auto, using(crate::proofs::layout::UnmarkedViews::full_same, crate::proofs::layout::UnmarkedViews::full_gone, crate::proofs::layout::UnmarkedViews::empty_gone, cbor_edn_model::proofs::layout::Fewer::same_fewer), unfolding(cbor_edn_model::specs::Bare::without_indicators))]
 fn unmark_pair_list(list: &mut PairList<'_>, alloc: Global) -> Result<(), AllocError>
     ensures without_indicators { OnOk result (view_pair_list texts list.new ≡ without_indicators (view_pair_list texts list.old)) }
     ensures fewer { FewerInside (view_pair_list texts list.old) (view_pair_list texts list.new) }
@@ -287,7 +256,7 @@ fn unmark_pair_row<'a>(row: &mut Vec<(Kp<'a>, Msc<'a>)>, alloc: Global) -> Resul
 }
 
 #[cycle(unmark)]
-#[tactic(auto, using(crate::proofs::layout::UnmarkedViews::pair_fewer, crate::proofs::layout::Fewer::same_fewer), unfolding(crate::specs::Bare::without_indicators))]
+#[tactic(auto, using(crate::proofs::layout::UnmarkedViews::pair_fewer, cbor_edn_model::proofs::layout::Fewer::same_fewer), unfolding(cbor_edn_model::specs::Bare::without_indicators))]
 fn unmark_pair(pair: &mut Kp<'_>, alloc: Global) -> Result<(), AllocError>
     ensures without_indicators { OnOk result (view_pair texts pair.new ≡ without_indicators (view_pair texts pair.old)) }
     ensures fewer { Fewer (items (view_pair texts pair.old)) (items (view_pair texts pair.new)) }
@@ -296,7 +265,7 @@ fn unmark_pair(pair: &mut Kp<'_>, alloc: Global) -> Result<(), AllocError>
     unmark_item(&mut pair.value, alloc)
 }
 
-#[tactic(auto, using(crate::proofs::code::Views::view_sequence_is, crate::proofs::code::Views::view_sequence_made, crate::proofs::layout::UnmarkedViews::sequence_fewer, crate::proofs::layout::Fewer::same_fewer), unfolding(crate::specs::Bare::without_indicators))]
+#[tactic(auto, using(crate::proofs::code::Views::view_sequence_is, crate::proofs::code::Views::view_sequence_made, crate::proofs::layout::UnmarkedViews::sequence_fewer, cbor_edn_model::proofs::layout::Fewer::same_fewer), unfolding(cbor_edn_model::specs::Bare::without_indicators))]
 fn unmark_sequence(sequence: &mut Sequence<'_>, alloc: Global) -> Result<(), AllocError>
     ensures without_indicators { OnOk result (sequence_tree sequence.new ≡ without_indicators (sequence_tree sequence.old)) }
     ensures fewer { Fewer (items (sequence_tree sequence.old)) (items (sequence_tree sequence.new)) }

@@ -1,23 +1,28 @@
 //! Trees laid out in place: one walk in the order of the text, with the widths of a table in this order.
 ghost use Rattle.std.specs.Prelude.{◌≡◌, map, IsOk, OnOk};
-ghost use Rattle.cbor_edn_core.specs.Trees as definition;
-ghost use Rattle.cbor_edn_core.specs.Trees.{items};
-ghost use Rattle.cbor_edn_core.specs.View.{texts, view_list, view_items, seen, view_pair_list, view_pairs, view_pair, seen_pair, item_tree, standalone_tree, sequence_tree};
-ghost use Rattle.cbor_edn_core.specs.code.Laying.{least, opened, without, laid_by, entries_without, entries_by};
-ghost use Rattle.cbor_edn_core.specs.code.LayoutRows.{entry_items};
-ghost use Rattle.cbor_edn_core.specs.code.Widths.{stack};
+ghost use Rattle.cbor_edn_parts.specs.LayoutColumns.{least};
+ghost use Rattle.cbor_edn_model.specs.Layout.{laid_list_head};
+ghost use Rattle.cbor_edn_model.specs.Trees as definition;
+ghost use Rattle.cbor_edn_model.specs.Trees.{items, mark};
+ghost use Rattle.cbor_edn_core.specs.View.{view_list, view_items, seen, view_pair_list, view_pairs, view_pair, seen_pair, item_tree, standalone_tree, sequence_tree};
+ghost use Rattle.cbor_edn_model.specs.ListHeads.{view_list_head};
+ghost use Rattle.cbor_edn_model.specs.Leaves.{texts};
+ghost use Rattle.cbor_edn_model.specs.code.Laying.{top, others, opened, without, laid_by, entries_without, entries_by};
+ghost use Rattle.cbor_edn_model.specs.code.LayoutRows.{entry_items};
+ghost use Rattle.cbor_edn_model.specs.code.Widths.{stack};
 
-use super::layout::{Layout, Place};
-use super::spaces::{lay_end, lay_head, lay_separator, lay_space, pop_width};
 use super::strings::{lay_boxed_string, lay_stream};
 use crate::tree::{
-    InnerItem, Item, ItemList, Items, Kp, PairList, Pairs, Sequence, StandaloneItem,
+    Indicator, InnerItem, Item, ItemList, Items, Kp, PairList, Pairs, Sequence, StandaloneItem,
 };
-use cbor_edn_parts::space::Msc;
+use cbor_edn_model::list_head::lay_head;
+use cbor_edn_model::width::pop_width;
+use cbor_edn_parts::layout::{Layout, Place, lay_end, lay_mandatory, lay_separator, lay_space};
+use cbor_edn_parts::space::{Ms, Msc};
 use std::alloc::{AllocError, Global};
 
 #[cycle(lay)]
-#[tactic(auto, unfolding(crate::specs::code::Laying::laid_by, crate::specs::code::Laying::without, crate::specs::Trees::items))]
+#[tactic(auto, unfolding(cbor_edn_model::specs::code::Laying::laid_by, cbor_edn_model::specs::code::Laying::without, cbor_edn_model::specs::Trees::items))]
 pub(super) fn lay_item(
     item: &mut Item<'_>,
     alloc: Global,
@@ -57,7 +62,7 @@ pub(super) fn lay_item(
 }
 
 #[cycle(lay)]
-#[tactic(auto, unfolding(crate::specs::code::Laying::laid_by, crate::specs::code::Laying::without, crate::specs::Trees::items))]
+#[tactic(auto, unfolding(cbor_edn_model::specs::code::Laying::laid_by, cbor_edn_model::specs::code::Laying::without, cbor_edn_model::specs::Trees::items))]
 pub(super) fn lay_standalone(
     content: &mut StandaloneItem<'_>,
     alloc: Global,
@@ -74,7 +79,7 @@ pub(super) fn lay_standalone(
     lay_space(&mut content.after, alloc, layout, Place::Elsewhere)
 }
 
-#[tactic(auto, using(crate::proofs::code::Views::view_sequence_is, crate::proofs::code::Views::view_sequence_made), unfolding(crate::specs::code::Laying::laid_by, crate::specs::code::Laying::without, crate::specs::Trees::items))]
+#[tactic(auto, using(crate::proofs::code::Views::view_sequence_is, crate::proofs::code::Views::view_sequence_made), unfolding(cbor_edn_model::specs::code::Laying::laid_by, cbor_edn_model::specs::code::Laying::without, cbor_edn_model::specs::Trees::items))]
 pub(super) fn lay_sequence(
     sequence: &mut Sequence<'_>,
     alloc: Global,
@@ -93,7 +98,7 @@ pub(super) fn lay_sequence(
 }
 
 /// Lays out the spaces in front of the entries of a list.
-#[tactic(auto, unfolding(crate::specs::Trees::items))]
+#[tactic(auto, unfolding(cbor_edn_model::specs::Trees::items))]
 fn lay_opening<'a>(list: &mut ItemList<'a>, alloc: Global, layout: Layout) -> Result<(), AllocError>
     ensures laid { OnOk result (view_list texts list.new ≡ opened layout (view_list texts list.old)) }
     ensures items { items (view_list texts list.new) ≡ items (view_list texts list.old) }
@@ -109,7 +114,7 @@ fn lay_opening<'a>(list: &mut ItemList<'a>, alloc: Global, layout: Layout) -> Re
 }
 
 /// The same of a map.
-#[tactic(auto, unfolding(crate::specs::Trees::items))]
+#[tactic(auto, unfolding(cbor_edn_model::specs::Trees::items))]
 fn lay_pair_opening<'a>(
     list: &mut PairList<'a>,
     alloc: Global,
@@ -129,7 +134,7 @@ fn lay_pair_opening<'a>(
 }
 
 #[cycle(lay)]
-#[tactic(auto, unfolding(crate::specs::code::Laying::laid_by, crate::specs::code::Laying::without, crate::specs::Trees::items))]
+#[tactic(auto, unfolding(cbor_edn_model::specs::code::Laying::laid_by, cbor_edn_model::specs::code::Laying::without, cbor_edn_model::specs::Trees::items))]
 fn lay_list(
     list: &mut ItemList<'_>,
     alloc: Global,
@@ -185,7 +190,7 @@ fn lay_row<'a>(
 }
 
 #[cycle(lay)]
-#[tactic(auto, unfolding(crate::specs::code::Laying::laid_by, crate::specs::code::Laying::without, crate::specs::Trees::items))]
+#[tactic(auto, unfolding(cbor_edn_model::specs::code::Laying::laid_by, cbor_edn_model::specs::code::Laying::without, cbor_edn_model::specs::Trees::items))]
 fn lay_pair_list(
     list: &mut PairList<'_>,
     alloc: Global,
@@ -241,7 +246,7 @@ fn lay_pair_row<'a>(
 }
 
 #[cycle(lay)]
-#[tactic(auto, unfolding(crate::specs::code::Laying::laid_by, crate::specs::code::Laying::without, crate::specs::Trees::items))]
+#[tactic(auto, unfolding(cbor_edn_model::specs::code::Laying::laid_by, cbor_edn_model::specs::code::Laying::without, cbor_edn_model::specs::Trees::items))]
 fn lay_pair(
     pair: &mut Kp<'_>,
     alloc: Global,

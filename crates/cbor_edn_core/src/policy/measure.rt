@@ -7,22 +7,27 @@ ghost use Rattle.std.specs.Prelude.{◌≡◌, [], length, map, IfOk};
 ghost use Rattle.cbor_edn_parts.specs.Indicator.{indicator_text};
 ghost use Rattle.cbor_edn_parts.specs.Leaves.{s_bytes, ms_bytes, msc_bytes, soc_bytes};
 ghost use Rattle.cbor_edn_parts.specs.Spacing as kind;
-ghost use Rattle.cbor_edn_core.specs.Trees.{label_text};
-ghost use Rattle.cbor_edn_core.specs.View.{texts, view_list_head, view_list, view_items, seen, view_pair_list, view_pairs, view_pair, seen_pair, view_string, view_piece, seen_piece, view_stream, view_strings, seen_string, item_tree, standalone_tree, sequence_tree};
-ghost use Rattle.cbor_edn_core.specs.code.Widths as widths;
-ghost use Rattle.cbor_edn_core.specs.code.Widths.{space_width, head_width, width, capped, entries_width, pieces_width, pushed, widths_onto, widths_by, entries_widths_by, stack};
+ghost use Rattle.cbor_edn_model.specs.Trees.{label_text};
+ghost use Rattle.cbor_edn_core.specs.View.{view_list, view_items, seen, view_pair_list, view_pairs, view_pair, seen_pair, view_string, view_piece, seen_piece, view_stream, view_strings, seen_string, item_tree, standalone_tree, sequence_tree};
+ghost use Rattle.cbor_edn_model.specs.ListHeads.{view_list_head};
+ghost use Rattle.cbor_edn_model.specs.Leaves.{texts};
+ghost use Rattle.cbor_edn_model.specs.code.Widths as widths;
+ghost use Rattle.cbor_edn_model.specs.code.Widths.{space_width, head_width, width, capped, entries_width, pieces_width, pushed, widths_onto, widths_by, entries_widths_by, stack};
 
 use crate::tree::{
     CborString, Indicator, InnerItem, Item, ItemList, Items, Kp, LabelKind, PairList, Pairs, Piece,
     Sequence, StandaloneItem, Stream, Strings,
 };
+use cbor_edn_model::width::{
+    Spaces, head_len, indicator_len, label_len, ms_len, msc_len, push_width, s_len, soc_len,
+};
 use cbor_edn_parts::policy::Spacing;
-use cbor_edn_parts::space::{Ms, Msc, S, Soc};
+use cbor_edn_parts::space::{Msc, S};
 use std::alloc::{AllocError, Global};
 
 /// The widths on a single line of an item and of those in it, where they have a test of their own. Fails where memory runs
 /// out.
-#[tactic(auto, using(crate::proofs::layout::Widths::line_widths))]
+#[tactic(auto, using(cbor_edn_model::proofs::layout::Widths::line_widths))]
 pub(super) fn item_widths(alloc: Global, item: &Item<'_>) -> Result<Vec<usize>, AllocError>
     ensures { IfOk result (λ table. stack table.items ≡ widths_onto (item_tree item.now) []) }
 {
@@ -32,7 +37,7 @@ pub(super) fn item_widths(alloc: Global, item: &Item<'_>) -> Result<Vec<usize>, 
 }
 
 /// The same of an item with the spaces round it.
-#[tactic(auto, using(crate::proofs::layout::Widths::line_widths))]
+#[tactic(auto, using(cbor_edn_model::proofs::layout::Widths::line_widths))]
 pub(super) fn standalone_widths(
     alloc: Global,
     item: &StandaloneItem<'_>,
@@ -45,7 +50,7 @@ pub(super) fn standalone_widths(
 }
 
 /// The same of the items of a sequence.
-#[tactic(auto, using(crate::proofs::layout::Widths::line_widths))]
+#[tactic(auto, using(cbor_edn_model::proofs::layout::Widths::line_widths))]
 pub(super) fn sequence_widths(
     alloc: Global,
     sequence: &Sequence<'_>,
@@ -57,130 +62,8 @@ pub(super) fn sequence_widths(
     Ok(table)
 }
 
-/// Which spaces a width counts.
-#[derive(Clone, Copy)]
-enum Spaces {
-    /// Those that stand there.
-    Kept,
-    /// Those by a column of the table.
-    By(Spacing),
-}
-
-impl Spaces {
-    /// Those round a plus sign and behind a colon.
-    fn wide(self) -> Spaces
-        ensures { result ≡ widths.wide self }
-    {
-        match self {
-            Spaces::By(Spacing::OneLine) => Spaces::By(Spacing::OneSpace),
-            spaces => spaces,
-        }
-    }
-
-    /// Those in the strings of a stream.
-    fn in_stream(self) -> Spaces
-        ensures { result ≡ widths.in_stream self }
-    {
-        match self {
-            Spaces::By(Spacing::OneLine) => Spaces::By(Spacing::Comments),
-            spaces => spaces,
-        }
-    }
-}
-
-fn s_len(spaces: Spaces, space: &S<'_>) -> usize
-    ensures { result ≡ capped (space_width kind.S spaces (s_bytes space.now)) }
-{
-    match spaces {
-        Spaces::Kept => space.as_str().len(),
-        Spaces::By(spacing) => space.spaced_len(spacing),
-    }
-}
-
-fn ms_len(spaces: Spaces, space: &Ms<'_>) -> usize
-    ensures { result ≡ capped (space_width kind.MS spaces (ms_bytes space.now)) }
-{
-    match spaces {
-        Spaces::Kept => space.as_str().len(),
-        Spaces::By(spacing) => space.spaced_len(spacing),
-    }
-}
-
-fn msc_len(spaces: Spaces, space: &Msc<'_>) -> usize
-    ensures { result ≡ capped (space_width kind.MSC spaces (msc_bytes space.now)) }
-{
-    match spaces {
-        Spaces::Kept => space.as_str().len(),
-        Spaces::By(spacing) => space.spaced_len(spacing),
-    }
-}
-
-fn soc_len(spaces: Spaces, space: &Soc<'_>) -> usize
-    ensures { result ≡ capped (space_width kind.SOC spaces (soc_bytes space.now)) }
-{
-    match spaces {
-        Spaces::Kept => space.as_str().len(),
-        Spaces::By(spacing) => space.spaced_len(spacing),
-    }
-}
-
-fn head_len(spaces: Spaces, head: &Option<(Indicator, Ms<'_>)>) -> usize
-    ensures { result ≡ capped (head_width spaces (view_list_head texts head.now)) }
-{
-    match head {
-        None => 0,
-        Some((indicator, space)) => {
-            ms_len(spaces, space).saturating_add(indicator.as_str().len())
-        }
-    }
-}
-
-fn indicator_len(indicator: Option<Indicator>) -> usize
-    ensures { result ≡ length (indicator_text indicator) }
-{
-    match indicator {
-        None => 0,
-        Some(indicator) => indicator.as_str().len(),
-    }
-}
-
-fn label_len(label: LabelKind) -> usize
-    ensures { result ≡ capped (length (label_text label)) }
-{
-    match label {
-        LabelKind::Tag(number, indicator) => {
-            decimal_len(number).saturating_add(indicator_len(indicator))
-        }
-        LabelKind::Simple => "simple".len(),
-    }
-}
-
-/// How many digits a number has.
-#[tactic(auto, using(crate::proofs::code::Digits::one_digit, crate::proofs::code::Digits::more_digits, crate::proofs::code::Digits::few_digits))]
-fn decimal_len(number: u64) -> usize
-    ensures { result ≡ length (decimal number) }
-{
-    if number < 10 {
-        1
-    } else {
-        decimal_len(number / 10) + 1
-    }
-}
-
-/// Puts a width on the stack where a single line is measured, and answers it.
-#[tactic(auto, using(crate::proofs::layout::Widths::stack_push))]
-fn push(table: &mut Vec<usize>, spaces: Spaces, width: usize) -> Result<usize, AllocError>
-    ensures widths { IfOk result (λ _. stack table.new.items ≡ pushed spaces width (stack table.old.items)) }
-    ensures width { IfOk result (λ n. n ≡ width) }
-{
-    if let Spaces::By(Spacing::OneLine) = spaces {
-        table.push(width)?;
-    }
-    Ok(width)
-}
-
 #[cycle(measure)]
-#[tactic(auto, using(crate::proofs::code::Views::view_sequence_is), unfolding(crate::specs::code::Widths::width, crate::specs::code::Widths::widths_by))]
+#[tactic(auto, using(crate::proofs::code::Views::view_sequence_is), unfolding(cbor_edn_model::specs::code::Widths::width, cbor_edn_model::specs::code::Widths::widths_by))]
 fn measure_sequence(
     table: &mut Vec<usize>,
     spaces: Spaces,
@@ -200,7 +83,7 @@ fn measure_sequence(
 }
 
 #[cycle(measure)]
-#[tactic(auto, unfolding(crate::specs::code::Widths::width, crate::specs::code::Widths::widths_by))]
+#[tactic(auto, unfolding(cbor_edn_model::specs::code::Widths::width, cbor_edn_model::specs::code::Widths::widths_by))]
 fn measure_standalone(
     table: &mut Vec<usize>,
     spaces: Spaces,
@@ -216,7 +99,7 @@ fn measure_standalone(
 }
 
 #[cycle(measure)]
-#[tactic(auto, using(crate::proofs::code::Views::view_string_is, crate::proofs::code::Views::view_stream_is), unfolding(crate::specs::code::Widths::width, crate::specs::code::Widths::widths_by))]
+#[tactic(auto, using(crate::proofs::code::Views::view_string_is, crate::proofs::code::Views::view_stream_is), unfolding(cbor_edn_model::specs::code::Widths::width, cbor_edn_model::specs::code::Widths::widths_by))]
 fn measure_item(
     table: &mut Vec<usize>,
     spaces: Spaces,
@@ -238,29 +121,29 @@ fn measure_item(
             let width = content
                 .saturating_add(label_len(label.kind))
                 .saturating_add(2);
-            push(table, spaces, width)
+            push_width(table, spaces, width)
         }
         InnerItem::Array(list) => {
             let list = measure_list(table, spaces, list)?;
-            push(table, spaces, list.saturating_add(2))
+            push_width(table, spaces, list.saturating_add(2))
         }
         InnerItem::Map(list) => {
             let list = measure_pair_list(table, spaces, list)?;
-            push(table, spaces, list.saturating_add(2))
+            push_width(table, spaces, list.saturating_add(2))
         }
         InnerItem::String(string) => {
             let string = measure_string(table, spaces, string)?;
-            push(table, spaces, string)
+            push_width(table, spaces, string)
         }
         InnerItem::Stream(stream) => {
             let stream = measure_stream(table, spaces, stream)?;
-            push(table, spaces, stream)
+            push_width(table, spaces, stream)
         }
     }
 }
 
 #[cycle(measure)]
-#[tactic(auto, using(crate::proofs::layout::Widths::width_pieces), unfolding(crate::specs::code::Widths::width, crate::specs::code::Widths::widths_by))]
+#[tactic(auto, using(cbor_edn_model::proofs::layout::Widths::width_pieces), unfolding(cbor_edn_model::specs::code::Widths::width, cbor_edn_model::specs::code::Widths::widths_by))]
 fn measure_string(
     table: &mut Vec<usize>,
     spaces: Spaces,
@@ -296,7 +179,7 @@ fn measure_piece_row(
 }
 
 #[cycle(measure)]
-#[tactic(auto, using(crate::proofs::layout::Widths::kept_none), unfolding(crate::specs::code::Widths::width, crate::specs::code::Widths::widths_by))]
+#[tactic(auto, using(cbor_edn_model::proofs::layout::Widths::kept_none), unfolding(cbor_edn_model::specs::code::Widths::width, cbor_edn_model::specs::code::Widths::widths_by))]
 fn measure_piece(
     table: &mut Vec<usize>,
     spaces: Spaces,
@@ -322,7 +205,7 @@ fn measure_piece(
 }
 
 #[cycle(measure)]
-#[tactic(auto, using(crate::proofs::code::Views::view_stream_is), unfolding(crate::specs::code::Widths::width, crate::specs::code::Widths::widths_by))]
+#[tactic(auto, using(crate::proofs::code::Views::view_stream_is), unfolding(cbor_edn_model::specs::code::Widths::width, cbor_edn_model::specs::code::Widths::widths_by))]
 fn measure_stream(
     table: &mut Vec<usize>,
     spaces: Spaces,
@@ -337,7 +220,7 @@ fn measure_stream(
 }
 
 #[cycle(measure)]
-#[tactic(auto, using(crate::proofs::code::Views::view_strings_is, crate::proofs::layout::Widths::width_entries), unfolding(crate::specs::code::Widths::width, crate::specs::code::Widths::widths_by))]
+#[tactic(auto, using(crate::proofs::code::Views::view_strings_is, cbor_edn_model::proofs::layout::Widths::width_entries), unfolding(cbor_edn_model::specs::code::Widths::width, cbor_edn_model::specs::code::Widths::widths_by))]
 fn measure_strings(
     table: &mut Vec<usize>,
     spaces: Spaces,
@@ -353,7 +236,7 @@ fn measure_strings(
 }
 
 #[cycle(measure)]
-#[tactic(auto, unfolding(crate::specs::code::Widths::width, crate::specs::code::Widths::widths_by))]
+#[tactic(auto, unfolding(cbor_edn_model::specs::code::Widths::width, cbor_edn_model::specs::code::Widths::widths_by))]
 fn measure_string_row(
     table: &mut Vec<usize>,
     spaces: Spaces,
@@ -373,7 +256,7 @@ fn measure_string_row(
 }
 
 #[cycle(measure)]
-#[tactic(auto, unfolding(crate::specs::code::Widths::width, crate::specs::code::Widths::widths_by))]
+#[tactic(auto, unfolding(cbor_edn_model::specs::code::Widths::width, cbor_edn_model::specs::code::Widths::widths_by))]
 fn measure_list(
     table: &mut Vec<usize>,
     spaces: Spaces,
@@ -396,7 +279,7 @@ fn measure_list(
 }
 
 #[cycle(measure)]
-#[tactic(auto, unfolding(crate::specs::code::Widths::width, crate::specs::code::Widths::widths_by))]
+#[tactic(auto, unfolding(cbor_edn_model::specs::code::Widths::width, cbor_edn_model::specs::code::Widths::widths_by))]
 fn measure_pair_list(
     table: &mut Vec<usize>,
     spaces: Spaces,
@@ -419,7 +302,7 @@ fn measure_pair_list(
 }
 
 #[cycle(measure)]
-#[tactic(auto, using(crate::proofs::code::Views::view_items_is, crate::proofs::layout::Widths::width_entries, crate::proofs::layout::Widths::by_entries), unfolding(crate::specs::code::Widths::width, crate::specs::code::Widths::widths_by))]
+#[tactic(auto, using(crate::proofs::code::Views::view_items_is, cbor_edn_model::proofs::layout::Widths::width_entries, cbor_edn_model::proofs::layout::Widths::by_entries), unfolding(cbor_edn_model::specs::code::Widths::width, cbor_edn_model::specs::code::Widths::widths_by))]
 fn measure_items(
     table: &mut Vec<usize>,
     spaces: Spaces,
@@ -435,7 +318,7 @@ fn measure_items(
 }
 
 #[cycle(measure)]
-#[tactic(auto, unfolding(crate::specs::code::Widths::width, crate::specs::code::Widths::widths_by))]
+#[tactic(auto, unfolding(cbor_edn_model::specs::code::Widths::width, cbor_edn_model::specs::code::Widths::widths_by))]
 fn measure_row(
     table: &mut Vec<usize>,
     spaces: Spaces,
@@ -455,7 +338,7 @@ fn measure_row(
 }
 
 #[cycle(measure)]
-#[tactic(auto, using(crate::proofs::code::Views::view_pairs_is, crate::proofs::layout::Widths::width_entries, crate::proofs::layout::Widths::by_entries), unfolding(crate::specs::code::Widths::width, crate::specs::code::Widths::widths_by))]
+#[tactic(auto, using(crate::proofs::code::Views::view_pairs_is, cbor_edn_model::proofs::layout::Widths::width_entries, cbor_edn_model::proofs::layout::Widths::by_entries), unfolding(cbor_edn_model::specs::code::Widths::width, cbor_edn_model::specs::code::Widths::widths_by))]
 fn measure_pairs(
     table: &mut Vec<usize>,
     spaces: Spaces,
@@ -490,7 +373,7 @@ fn measure_pair_row(
 }
 
 #[cycle(measure)]
-#[tactic(auto, unfolding(crate::specs::code::Widths::width, crate::specs::code::Widths::widths_by))]
+#[tactic(auto, unfolding(cbor_edn_model::specs::code::Widths::width, cbor_edn_model::specs::code::Widths::widths_by))]
 fn measure_pair(table: &mut Vec<usize>, spaces: Spaces, pair: &Kp<'_>) -> Result<usize, AllocError>
     ensures widths { IfOk result (λ _. stack table.new.items ≡ widths_by spaces (view_pair texts pair.now) (stack table.old.items)) }
     ensures width { IfOk result (λ n. n ≡ capped (width spaces (view_pair texts pair.now))) }

@@ -1,14 +1,15 @@
 //! Strings laid out in place. No string in them has a test of its own, so no width is asked for.
 ghost use Rattle.std.specs.Prelude.{◌≡◌, map, IsOk, OnOk};
-ghost use Rattle.cbor_edn_core.specs.Layout.{in_chunk, laid, respaced, First};
-ghost use Rattle.cbor_edn_core.specs.Trees.{StreamTree, StringTree, items};
-ghost use Rattle.cbor_edn_core.specs.View.{texts, view_string, seen_piece, view_stream, view_strings, seen_string};
-ghost use Rattle.cbor_edn_core.specs.code.Laying.{least, laid_stream};
-ghost use Rattle.cbor_edn_core.specs.code.LayoutRows.{laid_entry, entry_items, laid_piece, piece_items};
+ghost use Rattle.cbor_edn_parts.specs.LayoutColumns.{least};
+ghost use Rattle.cbor_edn_model.specs.Layout.{in_chunk, laid, respaced, First};
+ghost use Rattle.cbor_edn_model.specs.Trees.{StreamTree, StringTree, items};
+ghost use Rattle.cbor_edn_core.specs.View.{view_string, seen_piece, view_stream, view_strings, seen_string};
+ghost use Rattle.cbor_edn_model.specs.Leaves.{texts};
+ghost use Rattle.cbor_edn_model.specs.code.Laying.{laid_stream};
+ghost use Rattle.cbor_edn_model.specs.code.LayoutRows.{laid_entry, entry_items, laid_piece, piece_items};
 
-use super::layout::{Layout, Place};
-use super::spaces::{lay_end, lay_mandatory, lay_separator, lay_space};
 use crate::tree::{CborString, Piece, Stream, Strings};
+use cbor_edn_parts::layout::{Layout, Place, lay_end, lay_mandatory, lay_separator, lay_space};
 use cbor_edn_parts::space::{Msc, S};
 use std::alloc::{AllocError, Global};
 
@@ -48,7 +49,7 @@ fn lay_piece_row<'a>(
     Ok(())
 }
 
-#[tactic(auto, using(crate::proofs::code::Views::view_stream_is, crate::proofs::code::Views::view_stream_made), unfolding(crate::specs::Trees::items))]
+#[tactic(auto, using(crate::proofs::code::Views::view_stream_is, crate::proofs::code::Views::view_stream_made), unfolding(cbor_edn_model::specs::Trees::items))]
 pub(super) fn lay_stream(
     stream: &mut Stream<'_>,
     alloc: Global,

@@ -1,6 +1,7 @@
 //! Space texts by a column of the table of spaces.
 ghost use Rattle.std.specs.Prelude.{◌≡◌, ◌∷◌, ◌++◌, IfOk, IsOk, OnOk, string_bytes};
 ghost use Rattle.std.specs.Cow.{cow_str_bytes};
+ghost use Rattle.cbor_edn_parts.specs.Comments.{comments_of};
 ghost use Rattle.cbor_edn_parts.specs.Leaves.{s_bytes, ms_bytes, msc_bytes, soc_bytes};
 ghost use Rattle.cbor_edn_parts.specs.Spacing as table;
 ghost use Rattle.cbor_edn_parts.specs.Spacing.{line};
@@ -13,23 +14,25 @@ use std::alloc::{AllocError, Global};
 use std::borrow::CowStr;
 
 impl<'a> S<'a> {
-    /// The text by a column of the table. Fails where memory runs out; no memory is taken for no space and for one space.
+    /// The text by a column of the table. Fails where memory runs out; no memory is taken for no space and for one space, nor
+    /// for the comments alone of a text that is borrowed.
     pub fn spaced(&self, alloc: Global, spacing: Spacing) -> Result<S<'a>, AllocError>
         ensures bytes { IfOk result (λ t. s_bytes t ≡ table.spaced table.S spacing (s_bytes self.now)) }
         ensures least { spacing ≡ table.Least → IsOk result }
     {
-        let text = in_column(alloc, spacing, comments(self.as_str()), "")?;
+        let text = comments_in_column(alloc, spacing, &self.text)?;
         Ok(S { text })
     }
 }
 
 impl<'a> Ms<'a> {
-    /// The text by a column of the table. Fails where memory runs out; no memory is taken for one space.
+    /// The text by a column of the table. Fails where memory runs out; no memory is taken for one space, nor for the comments
+    /// alone of a text that is borrowed.
     pub fn spaced(&self, alloc: Global, spacing: Spacing) -> Result<Ms<'a>, AllocError>
         ensures bytes { IfOk result (λ t. ms_bytes t ≡ table.spaced table.MS spacing (ms_bytes self.now)) }
         ensures least { spacing ≡ table.Least → IsOk result }
     {
-        let text = or_space(in_column(alloc, spacing, comments(self.as_str()), "")?);
+        let text = or_space(comments_in_column(alloc, spacing, &self.text)?);
         Ok(Ms { text })
     }
 }
@@ -55,6 +58,23 @@ impl<'a> Soc<'a> {
         let (before, after) = cut_at_comma(self.as_str());
         let text = in_column(alloc, spacing, comments(before), comments(after))?;
         Ok(Soc { text })
+    }
+}
+
+/// The comments of a text behind the blanks of a column: a part of the text where it is borrowed and the column adds nothing.
+fn comments_in_column<'a>(
+    alloc: Global,
+    spacing: Spacing,
+    text: &CowStr<'a>,
+) -> Result<CowStr<'a>, AllocError>
+    ensures bytes { IfOk result (λ t. cow_str_bytes t ≡ in_column spacing (comments_of (cow_str_bytes text.now))) }
+    ensures least { spacing ≡ table.Least → IsOk result }
+{
+    match (text, spacing) {
+        (CowStr::Borrowed(text), Spacing::Comments | Spacing::OneLine) => {
+            Ok(CowStr::Borrowed(comments(text)))
+        }
+        _ => in_column(alloc, spacing, comments(text.as_str()), ""),
     }
 }
 

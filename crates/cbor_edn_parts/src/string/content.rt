@@ -31,7 +31,7 @@ impl Literal<'_> {
     }
 
     /// What stands before the first quote.
-    fn prefix(&self) -> &str
+    pub(super) fn prefix(&self) -> &str
         ensures { result.now ≡ tokens.prefix_of (literal_bytes self.now) }
     {
         let text = self.as_str();
@@ -42,7 +42,7 @@ impl Literal<'_> {
     }
 
     /// What stands behind the first quote.
-    fn quoted(&self) -> &[u8]
+    pub(super) fn quoted(&self) -> &[u8]
         ensures { result.now ≡ reading.behind_quote (literal_bytes self.now) }
     {
         let at = self.prefix().len() + 1;
@@ -109,7 +109,7 @@ impl StringKind {
 
 impl Quote {
     /// The bytes that the text behind an opening quote stands for, up to the quote that ends it.
-    fn decode(self, alloc: Global, text: &[u8]) -> Result<Vec<u8>, AllocError>
+    pub(super) fn decode(self, alloc: Global, text: &[u8]) -> Result<Vec<u8>, AllocError>
         ensures { IfOk result (λ v. v.items ≡ tokens.decoded self Part.Between text.now) }
     {
         let mut bytes = Vec::new(alloc);

@@ -45,7 +45,7 @@ impl<'a> Literal<'a> {
 }
 
 /// Appends a character as it stands between double quotes.
-fn push_escaped(text: &mut String, character: char) -> Result<(), AllocError>
+pub(super) fn push_escaped(text: &mut String, character: char) -> Result<(), AllocError>
     ensures { OnOk result (string_bytes text.new ≡ string_bytes text.old ++ all_escaped (encode_utf8 character)) }
 {
     match character {

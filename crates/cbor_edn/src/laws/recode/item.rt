@@ -2,12 +2,12 @@
 ghost use Rattle.std.specs.Prelude.{◌≡◌, ◌≢◌, ℕ, List, Some, IfOk};
 ghost use Rattle.std.specs.String.{string_bytes};
 ghost use Rattle.cbor_edn_parts.specs.Refusals.{IfTold};
-ghost use Rattle.cbor_edn_core.specs.Trees.{items};
+ghost use Rattle.cbor_edn_model.specs.Trees.{items};
 ghost use Rattle.cbor_edn_core.specs.View.{standalone_tree};
-ghost use Rattle.cbor_edn_core.specs.Spelling.{SpellsOne};
-ghost use Rattle.cbor_edn_core.specs.Value.{Value, Enc};
-ghost use Rattle.cbor_edn_core.specs.Meaning.{means};
-ghost use Rattle.cbor_edn_core.specs.Decoded.{NoneIs, IsTooDeepEncoding};
+ghost use Rattle.cbor_edn_model.specs.Spelling.{SpellsOne};
+ghost use Rattle.cbor_edn_model.specs.Value.{Value, Enc};
+ghost use Rattle.cbor_edn_model.specs.Meaning.{means};
+ghost use Rattle.cbor_edn_model.specs.Decoded.{NoneIs, IsTooDeepEncoding};
 ghost use Rattle.cbor_edn.specs.Recoding.{IsTextOfItem};
 
 use cbor_edn_core::from_cbor::CborError;

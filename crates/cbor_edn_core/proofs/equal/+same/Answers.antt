@@ -1,6 +1,6 @@
 use Rattle.std.proofs.Common.{refl, sym, ◌∙◌}
-use Rattle.cbor_edn_core.specs.code.Same.{same}
-use Rattle.cbor_edn_core.specs.View.{texts}
+use Rattle.cbor_edn_model.specs.code.Same.{same}
+use Rattle.cbor_edn_model.specs.Leaves.{texts}
 use Rattle.cbor_edn_core.proofs.code.Forms.{Number, NonFinite, Named, Enclosed, Array, Map, String, Stream, no_other}
 use Rattle.cbor_edn_core.proofs.code.Views.{view_string_at, view_stream_is}
 use Rattle.cbor_edn_core.proofs.equal.+same.Goals as goal

@@ -1,6 +1,7 @@
 use Rattle.std.proofs.Common.{◌≡◌, length, drop, map}
-use Rattle.cbor_edn_core.specs.code.Same.{same_entries, same_pieces}
-use Rattle.cbor_edn_core.specs.View.{texts, seen, seen_pair, seen_piece, seen_string}
+use Rattle.cbor_edn_model.specs.code.Same.{same_entries, same_pieces}
+use Rattle.cbor_edn_core.specs.View.{seen, seen_pair, seen_piece, seen_string}
+use Rattle.cbor_edn_model.specs.Leaves.{texts}
 use Rattle.cbor_edn_core.proofs.equal.+same.Given as goal
 
 -- the lists are the same exactly where what is left of them is

@@ -9,15 +9,16 @@ use Rattle.cbor_edn_parts.specs.Leaves.{soc_bytes}
 use Rattle.cbor_edn_parts.specs.code.Text.{text_bytes}
 use Rattle.cbor_edn_parts.proofs.SeparatorTokens.{spaced_of}
 use Rattle.cbor_edn_core.specs.Borrowed.{BorrowsItem, BorrowsPair, BorrowsString}
-use Rattle.cbor_edn_core.specs.Items.{Elements, Pairs, Strings, Array, Map}
+use Rattle.cbor_edn_model.specs.Items.{Elements, Pairs, Strings, Array, Map}
 use Rattle.cbor_edn_core.specs.code.ParserResults.{element_tree, chunk_tree}
-use Rattle.cbor_edn_core.specs.View.{texts, seen, seen_pair, seen_string, seen_piece, view_pair}
+use Rattle.cbor_edn_core.specs.View.{seen, seen_pair, seen_string, seen_piece, view_pair}
+use Rattle.cbor_edn_model.specs.Leaves.{texts}
 use Rattle.cbor_edn_core.proofs.code.Turns.{ends_same, fails_at, scan_fails, scan_read, number_at, number_fails, string_item_fails, string_item_read, stream_at, list_too_deep, list_fails, list_open, list_read, standalone_fails, standalone_fails_item, standalone_fails_after, standalone_read, inside_fails, inside_empty, inside_unparted, inside_rest_fails, inside_read, element_read, element_fails, with_separator_fails, with_separator_fails_behind, with_separator_entry, pair_fails, pair_fails_before, pair_no_colon, pair_behind_colon, value_fails_before, value_fails, value_read, turn_fails, turn_last, turn_refused, turn_more, with_more, some_length, token_behind, sequence_fails, sequence_empty, sequence_rest_fails, sequence_full}
 use Rattle.cbor_edn_core.proofs.code.EnclosedTurns.{enclosed_shut, enclosed_too_deep, enclosed_fails, enclosed_open, enclosed_read, number_read, no_tag, tag_at, word_here, named_read, float_read, simple_at}
 use Rattle.cbor_edn_core.proofs.code.Looks.{ahead_small, token_two, literal_open, dots_open, spared_push, pushed_some, spared_first, costs_ahead}
 use Rattle.cbor_edn_core.proofs.code.StringTurns.{stream_unmarked, stream_fails, stream_unspaced, stream_rest_fails, stream_open, stream_read, chunk_fails, chunk_read, dots_fail, dots_read, literal_fails, literal_read, embedded_single, embedded_too_deep, embedded_fails, embedded_unclosed, embedded_read, with_more_pieces, pieces_turn_fails, pieces_turn_fails_before, pieces_turn_last, pieces_turn_fails_after, pieces_turn_more}
-use Rattle.cbor_edn_core.proofs.code.Views.{view_items_made, view_pairs_made, view_string_is, view_strings_made, view_stream_made, view_sequence_made}
-use Rattle.cbor_edn_core.proofs.code.Borrows.{borrows_made, borrows_pairs_made, borrows_strings_made, borrows_push, borrows_pair_push, borrows_string_made, borrows_string_push, borrows_piece_push}
+use Rattle.cbor_edn_core.proofs.code.Views.{view_items_made, view_pairs_made, view_strings_made, view_stream_made, view_sequence_made}
+use Rattle.cbor_edn_core.proofs.code.Borrows.{borrows_made, borrows_pairs_made, borrows_strings_made, borrows_push, borrows_pair_push, borrows_string_push, borrows_piece_push}
 use Rattle.cbor_edn_core.proofs.grammar.+item.Goals as goal
 
 pub item-returns-in-Number-clause-value : goal.item-returns-in-Number-clause-value

@@ -1,12 +1,13 @@
 use Rattle.std.proofs.Common.{◌≡◌, ◌+◌, ◌-◌, ◌*◌, ◌≤◌, [], length, drop, map}
 use Rattle.std.specs.Str.{IsCharBoundary}
 use Rattle.cbor_edn_core.specs.Borrowed.{BorrowsEach, BorrowsEachPair, BorrowsEachString, BorrowsEachPiece}
-use Rattle.cbor_edn_core.specs.Items.{Elements, Pairs, Strings}
-use Rattle.cbor_edn_core.specs.code.LookCosts.{a_byte}
-use Rattle.cbor_edn_core.specs.code.ParserResults.{ahead}
-use Rattle.cbor_edn_core.specs.code.Reading.{reads}
-use Rattle.cbor_edn_core.specs.Trees.{Rest, OneString}
-use Rattle.cbor_edn_core.specs.View.{texts, seen, seen_pair, seen_string, seen_piece}
+use Rattle.cbor_edn_model.specs.Items.{Elements, Pairs, Strings}
+use Rattle.cbor_edn_model.specs.code.LookCosts.{a_byte}
+use Rattle.cbor_edn_model.specs.code.Places.{ahead}
+use Rattle.cbor_edn_model.specs.code.Reading.{reads}
+use Rattle.cbor_edn_model.specs.Trees.{Rest, OneString}
+use Rattle.cbor_edn_core.specs.View.{seen, seen_pair, seen_string, seen_piece}
+use Rattle.cbor_edn_model.specs.Leaves.{texts}
 use Rattle.cbor_edn_core.proofs.code.Turns.{with_row}
 use Rattle.cbor_edn_core.proofs.code.StringTurns.{with_pieces}
 use Rattle.cbor_edn_core.proofs.code.Looks.{spared}

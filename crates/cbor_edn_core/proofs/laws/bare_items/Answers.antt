@@ -1,5 +1,5 @@
-use Rattle.cbor_edn_core.proofs.layout.WithoutIndicators.{unmarked_is_bare, without_indicators_stays_valid}
-use Rattle.cbor_edn_core.proofs.layout.BareItems.{bare_items_mean, fewer_mean}
+use Rattle.cbor_edn_model.proofs.layout.WithoutIndicators.{unmarked_is_bare, without_indicators_stays_valid}
+use Rattle.cbor_edn_model.proofs.layout.BareItems.{bare_items_mean, fewer_mean}
 use Rattle.cbor_edn_core.proofs.laws.bare_items.Goals as goal
 
 pub returns : goal.returns

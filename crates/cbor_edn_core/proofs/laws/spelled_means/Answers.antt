@@ -1,7 +1,7 @@
 use Rattle.std.proofs.Common.{ap, ◌∙◌}
-use Rattle.cbor_edn_core.specs.Decoded.{item_of, items_of}
-use Rattle.cbor_edn_core.specs.Meaning.{means}
-use Rattle.cbor_edn_core.proofs.meaning.Decoding.{item_means, items_mean}
+use Rattle.cbor_edn_model.specs.Decoded.{item_of, items_of}
+use Rattle.cbor_edn_model.specs.Meaning.{means}
+use Rattle.cbor_edn_model.proofs.meaning.Decoding.{item_means, items_mean}
 use Rattle.cbor_edn_core.proofs.text.GrammarLaws.{unique_items}
 use Rattle.cbor_edn_core.proofs.laws.spelled_means.Goals as goal
 

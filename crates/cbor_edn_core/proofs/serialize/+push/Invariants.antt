@@ -1,6 +1,7 @@
 use Rattle.std.proofs.Common.{◌≡◌, ◌++◌, drop}
 use Rattle.std.specs.String.{string_bytes}
-use Rattle.cbor_edn_core.specs.View.{texts, row_text, pair_row_text, piece_row_text, string_row_text}
+use Rattle.cbor_edn_core.specs.View.{row_text, pair_row_text, piece_row_text, string_row_text}
+use Rattle.cbor_edn_model.specs.Leaves.{texts}
 use Rattle.cbor_edn_core.proofs.serialize.+push.Given as goal
 
 -- what is pushed so far and the text of what is left are the text of all

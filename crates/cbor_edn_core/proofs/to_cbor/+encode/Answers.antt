@@ -1,10 +1,12 @@
 use Rattle.std.proofs.Common.{◌≡◌, ℕ, ◌+◌, ◌++◌, length, None, refl, map, drop, ap, sym, subst, ◌∙◌, arith, Some, Ok, Err}
-use Rattle.cbor_edn_core.specs.Items.{Elements, Pairs, Strings, Array, Map}
-use Rattle.cbor_edn_core.specs.Trees.{ElementTree, ChunkTree, LastPieceTree, items, mark}
-use Rattle.cbor_edn_core.specs.Meaning.{length_of, named_number, means}
-use Rattle.cbor_edn_core.specs.code.Encoding.{Encodes, Finds, list_head}
-use Rattle.cbor_edn_core.specs.View.{texts, seen, seen_pair, seen_piece, seen_string, item_tree, view_piece, view_sequence, view_string, view_strings, view_list_head, view_items, view_pairs, view_pair}
-use Rattle.cbor_edn_core.proofs.code.CborEncodes.{empty_encoded, full_encoded, full_stops, full_unfit, row_then_last, row_stops, element_encoded, pair_encoded, pair_stops, next_pushed, next_stops, all_pushed, rest_at, tag_pushed, tag_stops, PushesRest}
+use Rattle.cbor_edn_model.specs.Items.{Elements, Pairs, Strings, Array, Map}
+use Rattle.cbor_edn_model.specs.Trees.{ElementTree, ChunkTree, LastPieceTree, items, mark}
+use Rattle.cbor_edn_model.specs.Meaning.{length_of, named_number, means}
+use Rattle.cbor_edn_model.specs.code.Encoding.{Encodes, Finds, list_head}
+use Rattle.cbor_edn_core.specs.View.{seen, seen_pair, seen_piece, seen_string, item_tree, view_piece, view_sequence, view_string, view_strings, view_items, view_pairs, view_pair}
+use Rattle.cbor_edn_model.specs.ListHeads.{view_list_head}
+use Rattle.cbor_edn_model.specs.Leaves.{texts}
+use Rattle.cbor_edn_model.proofs.code.CborEncodes.{empty_encoded, full_encoded, full_stops, full_unfit, row_then_last, row_stops, element_encoded, pair_encoded, pair_stops, next_pushed, next_stops, all_pushed, rest_at, tag_pushed, tag_stops, PushesRest}
 use Rattle.std.proofs.lemmas.Result.{err_from_is_err_and}
 use Rattle.std.proofs.lemmas.List.{drop_all, length-map}
 use Rattle.cbor_edn_parts.specs.Leaves.{s_bytes, soc_bytes}
@@ -12,9 +14,9 @@ use Rattle.cbor_edn_core.specs.declared.tree.ItemsOf.{out-ItemsOf}
 use Rattle.cbor_edn_core.specs.declared.tree.PairsOf.{out-PairsOf}
 use Rattle.cbor_edn_core.specs.declared.tree.SequenceOf.{out-SequenceOf}
 use Rattle.cbor_edn_core.specs.declared.tree.StringsOf.{out-StringsOf}
-use Rattle.cbor_edn_core.specs.Value.{encoding, simple}
+use Rattle.cbor_edn_model.specs.Value.{encoding, simple}
 use Rattle.cbor_edn_core.proofs.code.Views.{view_items_is, view_pairs_is, view_sequence_is, view_stream_is, view_string_at, view_strings_is}
-use Rattle.cbor_edn_core.proofs.code.StringEncodes.{GathersRest, none_gathered, next_gathered, next_ungathered, all_gathered, embedded_gathered, embedded_stops, stream_pushed, stream_stops, stream_mixed, has_first, string_pushed, string_marked, string_lacks, part_pushed, part_marked, part_lacks, part_is, refused_so, content_is, sequence_pushed, nothing_pushed}
+use Rattle.cbor_edn_model.proofs.code.StringEncodes.{GathersRest, none_gathered, next_gathered, next_ungathered, all_gathered, embedded_gathered, embedded_stops, stream_pushed, stream_stops, stream_mixed, has_first, string_pushed, string_marked, string_lacks, part_pushed, part_marked, part_lacks, part_is, refused_so, content_is, sequence_pushed, nothing_pushed}
 use Rattle.cbor_edn_core.proofs.to_cbor.+encode.Goals as goal
 
 pub push_items-returns-in_err-push_row : goal.push_items-returns-in_err-push_row

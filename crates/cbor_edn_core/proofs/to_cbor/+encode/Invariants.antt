@@ -1,7 +1,8 @@
 use Rattle.std.proofs.Common.{map, drop}
-use Rattle.cbor_edn_core.specs.View.{texts, seen, seen_pair, seen_piece, seen_string}
-use Rattle.cbor_edn_core.proofs.code.CborEncodes.{PushesRest}
-use Rattle.cbor_edn_core.proofs.code.StringEncodes.{GathersRest}
+use Rattle.cbor_edn_core.specs.View.{seen, seen_pair, seen_piece, seen_string}
+use Rattle.cbor_edn_model.specs.Leaves.{texts}
+use Rattle.cbor_edn_model.proofs.code.CborEncodes.{PushesRest}
+use Rattle.cbor_edn_model.proofs.code.StringEncodes.{GathersRest}
 use Rattle.cbor_edn_core.proofs.to_cbor.+encode.Given as goal
 
 abbrev pub invariant-push_row-loop-item : goal.invariant-push_row-loop-item

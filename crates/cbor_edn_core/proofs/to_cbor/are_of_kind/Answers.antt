@@ -1,9 +1,10 @@
 use Rattle.std.proofs.Common.{◌≡◌, ◌+◌, ◌&&◌, true, false, map, drop, sym, ap, ◌∙◌}
-use Rattle.cbor_edn_core.specs.Trees.{items}
-use Rattle.cbor_edn_core.specs.View.{texts, view_string, seen_string}
-use Rattle.cbor_edn_core.specs.Meaning.{same_kind}
-use Rattle.cbor_edn_core.specs.code.Encoding.{form_kind, kinds_are, row_items}
-use Rattle.cbor_edn_core.proofs.code.CborEncodes.{rest_at}
+use Rattle.cbor_edn_model.specs.Trees.{items}
+use Rattle.cbor_edn_core.specs.View.{view_string, seen_string}
+use Rattle.cbor_edn_model.specs.Leaves.{texts}
+use Rattle.cbor_edn_model.specs.Meaning.{same_kind}
+use Rattle.cbor_edn_model.specs.code.Encoding.{form_kind, kinds_are, row_items}
+use Rattle.cbor_edn_model.proofs.code.CborEncodes.{rest_at}
 use Rattle.cbor_edn_core.proofs.to_cbor.are_of_kind.Goals as goal
 
 pub returns-then-not-same_kind : goal.returns-then-not-same_kind

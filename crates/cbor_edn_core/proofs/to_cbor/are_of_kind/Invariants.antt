@@ -1,6 +1,7 @@
 use Rattle.std.proofs.Common.{◌≡◌, map, drop}
-use Rattle.cbor_edn_core.specs.View.{texts, seen_string}
-use Rattle.cbor_edn_core.specs.code.Encoding.{kinds_are, row_items}
+use Rattle.cbor_edn_core.specs.View.{seen_string}
+use Rattle.cbor_edn_model.specs.Leaves.{texts}
+use Rattle.cbor_edn_model.specs.code.Encoding.{kinds_are, row_items}
 use Rattle.cbor_edn_core.proofs.to_cbor.are_of_kind.Given as goal
 
 abbrev pub invariant-loop-string : goal.invariant-loop-string

@@ -2,10 +2,11 @@ use Rattle.std.proofs.Common.{◌≡◌, ◌<◌, ◌≤◌, length, map, get_or
 use Rattle.std.proofs.lemmas.List.{length-map}
 use Rattle.cbor_edn_parts.specs.Leaves.{msc_bytes, soc_bytes}
 use Rattle.cbor_edn_core.specs.declared.tree.StringsOf.{out-StringsOf}
-use Rattle.cbor_edn_core.specs.Trees.{items, ChunkTree, LastTree}
-use Rattle.cbor_edn_core.specs.View.{texts, view_string, seen_string}
-use Rattle.cbor_edn_core.specs.code.Encoding.{form_kind}
-use Rattle.cbor_edn_core.proofs.code.StringEncodes.{first_of_none, first_of_some}
+use Rattle.cbor_edn_model.specs.Trees.{items, ChunkTree, LastTree}
+use Rattle.cbor_edn_core.specs.View.{view_string, seen_string}
+use Rattle.cbor_edn_model.specs.Leaves.{texts}
+use Rattle.cbor_edn_model.specs.code.Encoding.{form_kind}
+use Rattle.cbor_edn_model.proofs.code.StringEncodes.{first_of_none, first_of_some}
 use Rattle.cbor_edn_core.proofs.code.Views.{view_strings_is}
 use Rattle.cbor_edn_core.proofs.to_cbor.first_kind.Goals as goal
 

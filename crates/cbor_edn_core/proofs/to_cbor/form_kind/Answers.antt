@@ -1,10 +1,11 @@
 use Rattle.std.proofs.Common.{◌≡◌, ◌<◌, ◌≤◌, length, map, get_or, subst, ap, ◌∙◌, sym}
 use Rattle.std.proofs.lemmas.List.{length-map}
 use Rattle.cbor_edn_parts.specs.Leaves.{s_bytes}
-use Rattle.cbor_edn_core.specs.View.{texts, view_piece, seen_piece}
-use Rattle.cbor_edn_core.specs.Trees.{items, LastPieceTree}
-use Rattle.cbor_edn_core.specs.code.Encoding.{piece_kind}
-use Rattle.cbor_edn_core.proofs.code.StringEncodes.{form_of_none, form_of_some}
+use Rattle.cbor_edn_core.specs.View.{view_piece, seen_piece}
+use Rattle.cbor_edn_model.specs.Leaves.{texts}
+use Rattle.cbor_edn_model.specs.Trees.{items, LastPieceTree}
+use Rattle.cbor_edn_model.specs.code.Encoding.{piece_kind}
+use Rattle.cbor_edn_model.proofs.code.StringEncodes.{form_of_none, form_of_some}
 use Rattle.cbor_edn_core.proofs.to_cbor.form_kind.Goals as goal
 
 pub returns-in-empty : goal.returns-in-empty

@@ -1,9 +1,9 @@
 use Rattle.std.proofs.Common.{◌≡◌, None, Some, ap}
 use Rattle.cbor_edn_parts.specs.Leaves.{number_bytes}
-use Rattle.cbor_edn_core.specs.Trees.{items}
-use Rattle.cbor_edn_core.specs.Value.{simple}
-use Rattle.cbor_edn_core.specs.Meaning.{◌>>=◌, simple_of}
-use Rattle.cbor_edn_core.specs.View.{texts}
+use Rattle.cbor_edn_model.specs.Trees.{items}
+use Rattle.cbor_edn_model.specs.Value.{simple}
+use Rattle.cbor_edn_model.specs.Meaning.{◌>>=◌, simple_of}
+use Rattle.cbor_edn_model.specs.Leaves.{texts}
 use Rattle.cbor_edn_core.proofs.code.Forms.{no_number}
 use Rattle.cbor_edn_core.proofs.to_cbor.push_numeric.Goals as goal
 use Rattle.cbor_edn_core.proofs.to_cbor.push_numeric.Goals.{in-Number, in_default}

@@ -1,11 +1,12 @@
 use Rattle.std.proofs.Common.{◌≡◌, ◌&&◌, true, false, map, sym, ap, ◌∙◌}
 use Rattle.cbor_edn_parts.specs.Leaves.{soc_bytes}
 use Rattle.cbor_edn_core.specs.declared.tree.StringsOf.{out-StringsOf}
-use Rattle.cbor_edn_core.specs.Trees.{items}
-use Rattle.cbor_edn_core.specs.View.{texts, view_string, seen_string}
-use Rattle.cbor_edn_core.specs.Meaning.{same_kind}
-use Rattle.cbor_edn_core.specs.code.Encoding.{first_kind, form_kind, kinds_are, row_items}
-use Rattle.cbor_edn_core.proofs.code.StringEncodes.{kind_told, both_are}
+use Rattle.cbor_edn_model.specs.Trees.{items}
+use Rattle.cbor_edn_core.specs.View.{view_string, seen_string}
+use Rattle.cbor_edn_model.specs.Leaves.{texts}
+use Rattle.cbor_edn_model.specs.Meaning.{same_kind}
+use Rattle.cbor_edn_model.specs.code.Encoding.{first_kind, form_kind, kinds_are, row_items}
+use Rattle.cbor_edn_model.proofs.code.StringEncodes.{kind_told, both_are}
 use Rattle.cbor_edn_core.proofs.code.Views.{view_strings_is}
 use Rattle.cbor_edn_core.proofs.to_cbor.stream_kind.Goals as goal
 use Rattle.cbor_edn_core.proofs.to_cbor.stream_kind.Goals.{else-are_of_kind-via-then-are_of_kind+else-same_kind, else-are_of_kind-via-else-are_of_kind}

@@ -1,12 +1,13 @@
 use Rattle.std.proofs.Common.{◌≡◌, ◌&&◌, true, false, length, map, vec_len, is_none, sym, ap, ◌∙◌}
 use Rattle.std.proofs.lemmas.Bool.{eqb-true, eq-eqb}
 use Rattle.std.proofs.lemmas.List.{length-map}
-use Rattle.cbor_edn_core.specs.Trees.{items}
-use Rattle.cbor_edn_core.specs.View.{texts, view_piece, seen_piece}
-use Rattle.cbor_edn_core.specs.Meaning.{piece_mark}
-use Rattle.cbor_edn_core.specs.code.Encoding.{no_marks}
-use Rattle.cbor_edn_core.proofs.meaning.MeaningSteps.{given}
-use Rattle.cbor_edn_core.proofs.code.StringEncodes.{one_mark, marks_told, none_is, both_are, second_is_not}
+use Rattle.cbor_edn_model.specs.Trees.{items}
+use Rattle.cbor_edn_core.specs.View.{view_piece, seen_piece}
+use Rattle.cbor_edn_model.specs.Leaves.{texts}
+use Rattle.cbor_edn_model.specs.Meaning.{piece_mark}
+use Rattle.cbor_edn_model.specs.code.Encoding.{no_marks}
+use Rattle.cbor_edn_model.proofs.meaning.MeaningSteps.{given}
+use Rattle.cbor_edn_model.proofs.code.StringEncodes.{one_mark, marks_told, none_is, both_are, second_is_not}
 use Rattle.cbor_edn_core.proofs.to_cbor.string_mark.Goals as goal
 use Rattle.cbor_edn_core.proofs.to_cbor.string_mark.Goals.{else-is_none-via-then-is_none+else-are_unmarked, else-is_none-via-else-is_none}
 

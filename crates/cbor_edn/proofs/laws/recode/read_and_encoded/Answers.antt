@@ -1,4 +1,4 @@
-use Rattle.cbor_edn_core.specs.Trees.{items}
+use Rattle.cbor_edn_model.specs.Trees.{items}
 use Rattle.cbor_edn_core.specs.View.{sequence_tree}
 use Rattle.cbor_edn_core.specs.declared.tree.TheConstants.{NESTING_LIMIT}
 use Rattle.cbor_edn.proofs.Recoding.{meant_by_text}

@@ -1,4 +1,4 @@
-use Rattle.cbor_edn_core.specs.code.Same.{same_exactly}
+use Rattle.cbor_edn_model.specs.code.Same.{same_exactly}
 use Rattle.cbor_edn_core.proofs.equal.StandaloneItem.is_same.Goals as goal
 
 pub returns : goal.returns

@@ -2,7 +2,8 @@ use Rattle.std.proofs.Common.{arith, map, ◌∙◌}
 use Rattle.std.specs.Prelude.{option_map}
 use Rattle.std.proofs.lemmas.Result.{err_from_is_err_and}
 use Rattle.cbor_edn_parts.specs.Leaves.{s_bytes}
-use Rattle.cbor_edn_core.specs.View.{Sequence, texts, item_tree, view_items}
+use Rattle.cbor_edn_core.specs.View.{Sequence, item_tree, view_items}
+use Rattle.cbor_edn_model.specs.Leaves.{texts}
 use Rattle.cbor_edn_core.specs.code.RowBuilder.{grown}
 use Rattle.cbor_edn_core.proofs.code.Views.{view_sequence_made}
 use Rattle.cbor_edn_core.proofs.meaning.Decodes.{sequence_fails_refused, sequence_fails_deep, sequence_decoded, sequence_view}

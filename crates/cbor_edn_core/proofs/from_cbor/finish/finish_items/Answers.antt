@@ -1,7 +1,8 @@
 use Rattle.std.proofs.Common.{Some, ap, sym, ◌∙◌}
-use Rattle.cbor_edn_core.specs.Trees.{ElementTree}
-use Rattle.cbor_edn_core.specs.View.{texts, item_tree}
-use Rattle.cbor_edn_core.specs.code.CborReading.{row_of}
+use Rattle.cbor_edn_model.specs.Trees.{ElementTree}
+use Rattle.cbor_edn_core.specs.View.{item_tree}
+use Rattle.cbor_edn_model.specs.Leaves.{texts}
+use Rattle.cbor_edn_model.specs.code.CborReading.{row_of}
 use Rattle.cbor_edn_core.specs.code.RowBuilder.{grown}
 use Rattle.cbor_edn_core.proofs.code.CborRows.{row_finished, map-map}
 use Rattle.cbor_edn_core.proofs.code.Views.{view_items_made}

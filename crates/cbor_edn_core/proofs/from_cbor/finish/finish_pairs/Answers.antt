@@ -1,5 +1,6 @@
 use Rattle.std.proofs.Common.{Some, ap, ◌∙◌}
-use Rattle.cbor_edn_core.specs.View.{texts, view_pair}
+use Rattle.cbor_edn_core.specs.View.{view_pair}
+use Rattle.cbor_edn_model.specs.Leaves.{texts}
 use Rattle.cbor_edn_core.proofs.code.CborRows.{row_finished}
 use Rattle.cbor_edn_core.proofs.code.Views.{view_pairs_made}
 use Rattle.cbor_edn_core.proofs.from_cbor.finish.finish_pairs.Goals as goal

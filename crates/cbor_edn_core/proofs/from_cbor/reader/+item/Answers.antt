@@ -1,11 +1,12 @@
 use Rattle.std.proofs.Common.{◌≡◌, ◌-◌, ◌++◌, ◌∷◌, [], map, arith, Some, None}
 use Rattle.std.proofs.lemmas.Result.{err_from_is_err_and}
 use Rattle.std.proofs.lemmas.List.{map_push}
-use Rattle.cbor_edn_core.specs.declared.from_cbor.head.Stop.TheVariants.{Break}
-use Rattle.cbor_edn_core.specs.View.{texts, item_tree, view_pair}
+use Rattle.cbor_edn_model.specs.declared.from_cbor.head.Stop.TheVariants.{Break}
+use Rattle.cbor_edn_core.specs.View.{item_tree, view_pair}
+use Rattle.cbor_edn_model.specs.Leaves.{texts}
 use Rattle.cbor_edn_core.specs.code.RowBuilder.{grown}
-use Rattle.cbor_edn_core.specs.code.CborReading.{past, item_at, pair_at, trees}
-use Rattle.cbor_edn_core.proofs.bytes.CborAgain.{item_at_ok}
+use Rattle.cbor_edn_model.specs.code.CborReading.{past, item_at, pair_at, trees}
+use Rattle.cbor_edn_model.proofs.bytes.CborAgain.{item_at_ok}
 use Rattle.cbor_edn_core.proofs.code.CborTurns.{pushed_shown, fails_shown, goes_on, goes_on_with, fails, is_done, until_more, until_more_with, until_fails, until_done, item_fails}
 use Rattle.cbor_edn_core.proofs.from_cbor.reader.+item.Goals as goal
 

@@ -1,8 +1,9 @@
 use Rattle.std.proofs.Common.{◌≡◌, ℕ, suc, ◌+◌, ◌-◌, ◌*◌, ◌≤◌, ◌<◌, length, map}
-use Rattle.cbor_edn_core.specs.declared.from_cbor.head.Stop.TheVariants.{Break}
-use Rattle.cbor_edn_core.specs.View.{texts, item_tree, view_pair}
+use Rattle.cbor_edn_model.specs.declared.from_cbor.head.Stop.TheVariants.{Break}
+use Rattle.cbor_edn_core.specs.View.{item_tree, view_pair}
+use Rattle.cbor_edn_model.specs.Leaves.{texts}
 use Rattle.cbor_edn_core.specs.code.RowBuilder.{grown}
-use Rattle.cbor_edn_core.specs.code.CborReading.{many, until, item_at, pair_at, trees}
+use Rattle.cbor_edn_model.specs.code.CborReading.{many, until, item_at, pair_at, trees}
 use Rattle.cbor_edn_core.proofs.code.CborTurns.{with_front}
 use Rattle.cbor_edn_core.proofs.from_cbor.reader.+item.Given as goal
 

@@ -1,6 +1,6 @@
 use Rattle.std.proofs.Common.{◌≡◌, true, false, eqb, arith}
 use Rattle.std.proofs.lemmas.Result.{err_from_is_err_and}
-use Rattle.cbor_edn_core.specs.Value.{string_major}
+use Rattle.cbor_edn_model.specs.Value.{string_major}
 use Rattle.cbor_edn_core.proofs.code.CborStrings.{chunk_fails, other_chunk, open_chunk, chunk_found}
 use Rattle.cbor_edn_core.proofs.from_cbor.strings.chunk_of.Goals as goal
 

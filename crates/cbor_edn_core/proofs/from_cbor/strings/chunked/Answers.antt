@@ -1,8 +1,9 @@
 use Rattle.std.proofs.Common.{ℕ, List, Some, IfOk, ◌≡◌, refl, ap, subst, ◌∙◌}
 use Rattle.cbor_edn_parts.specs.Leaves.{literal_bytes}
 use Rattle.cbor_edn_parts.specs.declared.indicator.Indicator.TheVariants.{Indefinite}
-use Rattle.cbor_edn_core.specs.Trees.{Tree, OneItem, StringTree, LastPieceTree, LiteralTree}
-use Rattle.cbor_edn_core.specs.View.{texts, piece_row_onto, item_tree}
+use Rattle.cbor_edn_model.specs.Trees.{Tree, OneItem, StringTree, LastPieceTree, LiteralTree}
+use Rattle.cbor_edn_core.specs.View.{piece_row_onto, item_tree}
+use Rattle.cbor_edn_model.specs.Leaves.{texts}
 use Rattle.cbor_edn_core.proofs.code.Views.{view_stream_made}
 use Rattle.cbor_edn_core.proofs.from_cbor.strings.chunked.Goals as goal
 

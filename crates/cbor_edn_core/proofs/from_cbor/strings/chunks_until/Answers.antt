@@ -1,10 +1,11 @@
 use Rattle.std.proofs.Common.{◌≡◌, ◌-◌, ◌++◌, ◌∷◌, [], map, arith, Some, None}
 use Rattle.std.proofs.lemmas.Result.{err_from_is_err_and}
 use Rattle.std.proofs.lemmas.List.{map_push}
-use Rattle.cbor_edn_core.specs.declared.from_cbor.head.Stop.TheVariants.{Break}
-use Rattle.cbor_edn_core.specs.View.{texts, view_string}
+use Rattle.cbor_edn_model.specs.declared.from_cbor.head.Stop.TheVariants.{Break}
+use Rattle.cbor_edn_core.specs.View.{view_string}
+use Rattle.cbor_edn_model.specs.Leaves.{texts}
 use Rattle.cbor_edn_core.specs.code.RowBuilder.{grown}
-use Rattle.cbor_edn_core.specs.code.CborReading.{past}
+use Rattle.cbor_edn_model.specs.code.CborReading.{past}
 use Rattle.cbor_edn_core.proofs.code.CborStrings.{one}
 use Rattle.cbor_edn_core.proofs.code.CborTurns.{until_more, until_fails, until_done}
 use Rattle.cbor_edn_core.proofs.from_cbor.strings.chunks_until.Goals as goal

@@ -1,8 +1,9 @@
 use Rattle.std.proofs.Common.{◌≡◌, ℕ, suc, ◌≤◌, ◌<◌, length, map}
-use Rattle.cbor_edn_core.specs.declared.from_cbor.head.Stop.TheVariants.{Break}
-use Rattle.cbor_edn_core.specs.View.{texts, view_string}
+use Rattle.cbor_edn_model.specs.declared.from_cbor.head.Stop.TheVariants.{Break}
+use Rattle.cbor_edn_core.specs.View.{view_string}
+use Rattle.cbor_edn_model.specs.Leaves.{texts}
 use Rattle.cbor_edn_core.specs.code.RowBuilder.{grown}
-use Rattle.cbor_edn_core.specs.code.CborReading.{until}
+use Rattle.cbor_edn_model.specs.code.CborReading.{until}
 use Rattle.cbor_edn_core.proofs.code.CborStrings.{one}
 use Rattle.cbor_edn_core.proofs.code.CborTurns.{with_front}
 use Rattle.cbor_edn_core.proofs.from_cbor.strings.chunks_until.Given as goal

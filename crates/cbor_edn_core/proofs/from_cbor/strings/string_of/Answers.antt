@@ -1,10 +1,9 @@
-use Rattle.std.proofs.Common.{suc, length, map, Ok, ap, sym, ◌∙◌}
+use Rattle.std.proofs.Common.{suc, length, map}
 use Rattle.std.proofs.lemmas.Result.{err_from_is_err_and}
-use Rattle.cbor_edn_core.specs.Trees.{Tree, OneItem}
-use Rattle.cbor_edn_core.specs.View.{texts, view_string}
+use Rattle.cbor_edn_core.specs.View.{view_string}
+use Rattle.cbor_edn_model.specs.Leaves.{texts}
 use Rattle.cbor_edn_core.specs.code.RowBuilder.{grown}
 use Rattle.cbor_edn_core.proofs.code.CborStrings.{alone_read, chunks_read, chunks_fail}
-use Rattle.cbor_edn_core.proofs.code.Views.{view_string_is}
 use Rattle.cbor_edn_core.proofs.from_cbor.strings.string_of.Goals as goal
 
 pub returns-in_err-found-in-None-clause-exact : goal.returns-in_err-found-in-None-clause-exact

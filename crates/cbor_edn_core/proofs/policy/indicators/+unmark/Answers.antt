@@ -15,17 +15,19 @@ use Rattle.cbor_edn_core.specs.declared.tree.InnerItemOf.TheViews.{out-InnerItem
 use Rattle.cbor_edn_core.specs.declared.tree.ItemsOf.{out-ItemsOf, roll-ItemsOf, out-roll-ItemsOf}
 use Rattle.cbor_edn_core.specs.declared.tree.PairsOf.{out-PairsOf, roll-PairsOf, out-roll-PairsOf}
 use Rattle.cbor_edn_parts.specs.Leaves.{s_bytes}
-use Rattle.cbor_edn_core.specs.Items as kind
-use Rattle.cbor_edn_core.specs.Trees.{ElementTree, FullTree, items}
-use Rattle.cbor_edn_core.specs.View.{texts, seen, seen_pair, view_item, view_inner, view_pair, view_items, view_pairs, view_list, view_pair_list, view_list_head, item_tree, standalone_tree}
-use Rattle.cbor_edn_core.specs.Bare.{without_indicators}
-use Rattle.cbor_edn_core.specs.Fewer.{Fewer, element}
-use Rattle.cbor_edn_core.specs.code.LayoutRows.{entry_without_indicators}
-use Rattle.cbor_edn_core.specs.code.Unmarking.{FewerInside, FewerEntries}
-use Rattle.cbor_edn_core.proofs.layout.Fewer.{same_fewer}
-use Rattle.cbor_edn_core.proofs.code.Written.{two_written}
-use Rattle.cbor_edn_core.proofs.layout.Begun.{on_ok, kept, same_here, one_more, all_done}
-use Rattle.cbor_edn_core.proofs.layout.Unmarking.{all_fewer, stopped}
+use Rattle.cbor_edn_model.specs.Items as kind
+use Rattle.cbor_edn_model.specs.Trees.{ElementTree, FullTree, items}
+use Rattle.cbor_edn_core.specs.View.{seen, seen_pair, view_item, view_inner, view_pair, view_items, view_pairs, view_list, view_pair_list, item_tree, standalone_tree}
+use Rattle.cbor_edn_model.specs.ListHeads.{view_list_head}
+use Rattle.cbor_edn_model.specs.Leaves.{texts}
+use Rattle.cbor_edn_model.specs.Bare.{without_indicators}
+use Rattle.cbor_edn_model.specs.Fewer.{Fewer, element}
+use Rattle.cbor_edn_model.specs.code.LayoutRows.{entry_without_indicators}
+use Rattle.cbor_edn_model.specs.code.Unmarking.{FewerInside, FewerEntries}
+use Rattle.cbor_edn_model.proofs.layout.Fewer.{same_fewer}
+use Rattle.cbor_edn_model.proofs.code.Written.{two_written}
+use Rattle.cbor_edn_model.proofs.layout.Begun.{on_ok, kept, same_here, one_more, all_done}
+use Rattle.cbor_edn_model.proofs.layout.Unmarking.{all_fewer, stopped}
 use Rattle.cbor_edn_core.proofs.layout.UnmarkedViews.{list_left, items_unmarked, items_fewer, pairs_unmarked, pairs_fewer, full_same, item_fewer, number_fewer, float_fewer, relabelled_fewer, string_item}
 use Rattle.cbor_edn_core.proofs.policy.indicators.+unmark.Goals as goal
 use Rattle.cbor_edn_core.proofs.policy.indicators.+unmark.Goals.{unmark_list-in-Present+in_ok-unmark_items-in-Present, unmark_list-in-Absent, unmark_pair_list-in-Present+in_ok-unmark_pairs-in-Present, unmark_pair_list-in-Absent}

@@ -1,7 +1,8 @@
 use Rattle.std.proofs.Common.{◌≡◌, map, drop}
-use Rattle.cbor_edn_core.specs.View.{texts, seen, seen_pair}
-use Rattle.cbor_edn_core.specs.code.LayoutRows.{entry_without_indicators}
-use Rattle.cbor_edn_core.proofs.layout.Begun.{begun}
+use Rattle.cbor_edn_core.specs.View.{seen, seen_pair}
+use Rattle.cbor_edn_model.specs.Leaves.{texts}
+use Rattle.cbor_edn_model.specs.code.LayoutRows.{entry_without_indicators}
+use Rattle.cbor_edn_model.proofs.layout.Begun.{begun}
 use Rattle.cbor_edn_core.proofs.policy.indicators.+unmark.Given as goal
 
 abbrev pub invariant-unmark_row-loop-item : goal.invariant-unmark_row-loop-item

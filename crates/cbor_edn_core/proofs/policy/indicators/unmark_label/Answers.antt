@@ -1,4 +1,4 @@
-use Rattle.cbor_edn_core.specs.View.{texts}
+use Rattle.cbor_edn_model.specs.Leaves.{texts}
 use Rattle.cbor_edn_core.proofs.layout.UnmarkedViews.{no_label}
 use Rattle.cbor_edn_core.proofs.policy.indicators.unmark_label.Goals as goal
 

@@ -1,7 +1,8 @@
 use Rattle.std.proofs.Common.{◌∙◌, ap, map, arith, rules}
-use Rattle.cbor_edn_core.specs.View.{texts, seen_piece}
-use Rattle.cbor_edn_core.specs.code.LayoutRows.{piece_without_indicators}
-use Rattle.cbor_edn_core.proofs.layout.Begun.{kept, one_more, all_done}
+use Rattle.cbor_edn_core.specs.View.{seen_piece}
+use Rattle.cbor_edn_model.specs.Leaves.{texts}
+use Rattle.cbor_edn_model.specs.code.LayoutRows.{piece_without_indicators}
+use Rattle.cbor_edn_model.proofs.layout.Begun.{kept, one_more, all_done}
 use Rattle.cbor_edn_core.proofs.policy.indicators.unmark_piece_row.Goals as goal
 
 pub loop-piece-preserved : goal.loop-piece-preserved

@@ -1,5 +1,5 @@
 use Rattle.std.proofs.Common.{refl}
-use Rattle.cbor_edn_core.specs.View.{texts}
+use Rattle.cbor_edn_model.specs.Leaves.{texts}
 use Rattle.cbor_edn_core.proofs.layout.UnmarkedViews.{string_unmarked}
 use Rattle.cbor_edn_core.proofs.policy.indicators.unmark_string.Goals as goal
 

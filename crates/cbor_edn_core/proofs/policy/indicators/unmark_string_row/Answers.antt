@@ -1,8 +1,9 @@
 use Rattle.std.proofs.Common.{◌∙◌, ap, map, arith, rules}
-use Rattle.cbor_edn_core.specs.View.{texts, seen_string}
-use Rattle.cbor_edn_core.specs.Bare.{without_indicators}
-use Rattle.cbor_edn_core.specs.code.LayoutRows.{entry_without_indicators}
-use Rattle.cbor_edn_core.proofs.layout.Begun.{kept, one_more, all_done}
+use Rattle.cbor_edn_core.specs.View.{seen_string}
+use Rattle.cbor_edn_model.specs.Leaves.{texts}
+use Rattle.cbor_edn_model.specs.Bare.{without_indicators}
+use Rattle.cbor_edn_model.specs.code.LayoutRows.{entry_without_indicators}
+use Rattle.cbor_edn_model.proofs.layout.Begun.{kept, one_more, all_done}
 use Rattle.cbor_edn_core.proofs.policy.indicators.unmark_string_row.Goals as goal
 
 pub loop-string-preserved : goal.loop-string-preserved

@@ -7,9 +7,10 @@ use Rattle.cbor_edn_parts.specs.declared.space.Soc.{Soc}
 use Rattle.cbor_edn_parts.specs.declared.number.Number.{Number}
 use Rattle.cbor_edn_parts.specs.declared.string.Literal.{Literal}
 use Rattle.cbor_edn_parts.specs.declared.string.Dots.{Dots}
-use Rattle.cbor_edn_core.specs.Bare.{without_indicators}
-use Rattle.cbor_edn_core.specs.View.{texts, view_string}
-use Rattle.cbor_edn_core.proofs.code.Written.{two_written}
+use Rattle.cbor_edn_model.specs.Bare.{without_indicators}
+use Rattle.cbor_edn_core.specs.View.{view_string}
+use Rattle.cbor_edn_model.specs.Leaves.{texts}
+use Rattle.cbor_edn_model.proofs.code.Written.{two_written}
 use Rattle.cbor_edn_core.proofs.layout.UnmarkedViews.{strings_unmarked}
 use Rattle.cbor_edn_core.proofs.policy.indicators.unmark_strings.Goals as goal
 

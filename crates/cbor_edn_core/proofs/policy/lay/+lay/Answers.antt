@@ -1,4 +1,4 @@
-use Rattle.std.proofs.Common.{rules, ◌≡◌, ◌<◌, length, map, set, get_or, ◌+◌, arith, refl, sym, ap, ◌∙◌}
+use Rattle.std.proofs.Common.{rules, ◌≡◌, ◌<◌, length, map, set, get_or, ◌+◌, arith, refl, ap, ◌∙◌}
 use Rattle.std.proofs.lemmas.List.{drop-set-lt}
 use Rattle.std.proofs.lemmas.Grind.{drop_more_same}
 use denote.Param.Weighed.{at_most}
@@ -15,16 +15,17 @@ use Rattle.cbor_edn_core.specs.declared.tree.ItemOf.{ItemOf}
 use Rattle.cbor_edn_core.specs.declared.tree.KpOf.{KpOf}
 use Rattle.cbor_edn_core.specs.declared.tree.ItemsOf.{out-ItemsOf, roll-ItemsOf, out-roll-ItemsOf}
 use Rattle.cbor_edn_core.specs.declared.tree.PairsOf.{out-PairsOf, roll-PairsOf, out-roll-PairsOf}
-use Rattle.cbor_edn_core.specs.Items.{Element}
-use Rattle.cbor_edn_core.specs.Layout.{Last, respaced, laid}
-use Rattle.cbor_edn_core.specs.Trees.{ElementTree, items}
-use Rattle.cbor_edn_core.specs.View.{texts, seen, seen_pair, view_pair, item_tree}
-use Rattle.cbor_edn_core.specs.code.Laying.{without, laid_by}
-use Rattle.cbor_edn_core.specs.code.LayoutRows.{entry_items}
-use Rattle.cbor_edn_core.specs.code.Widths.{stack}
+use Rattle.cbor_edn_model.specs.Items.{Element}
+use Rattle.cbor_edn_model.specs.Layout.{Last, respaced}
+use Rattle.cbor_edn_model.specs.Trees.{ElementTree, items}
+use Rattle.cbor_edn_core.specs.View.{seen, seen_pair, view_pair, item_tree}
+use Rattle.cbor_edn_model.specs.Leaves.{texts}
+use Rattle.cbor_edn_model.specs.code.Laying.{without, laid_by}
+use Rattle.cbor_edn_model.specs.code.LayoutRows.{entry_items}
+use Rattle.cbor_edn_model.specs.code.Widths.{stack}
 use Rattle.cbor_edn_core.proofs.code.Views.{view_string_is}
-use Rattle.cbor_edn_core.proofs.code.Written.{two_written, after_two, three_written}
-use Rattle.cbor_edn_core.proofs.layout.Begun.{on_ok, always, kept, same_here, one_same, one_more_by, all_by, left_more, left_all}
+use Rattle.cbor_edn_model.proofs.code.Written.{two_written, after_two, three_written}
+use Rattle.cbor_edn_model.proofs.layout.Begun.{on_ok, always, kept, same_here, one_same, one_more_by, all_by, left_more, left_all}
 use Rattle.cbor_edn_core.proofs.layout.LaidViews.{items_laid, items_rest, items_same, pairs_laid, pairs_rest, pairs_same}
 use Rattle.cbor_edn_core.proofs.policy.lay.+lay.Goals as goal
 

@@ -1,8 +1,9 @@
 use Rattle.std.proofs.Common.{◌≡◌, map, drop}
-use Rattle.cbor_edn_core.specs.View.{texts, seen, seen_pair}
-use Rattle.cbor_edn_core.specs.code.LayoutRows.{entry_items}
-use Rattle.cbor_edn_core.specs.code.Widths.{stack}
-use Rattle.cbor_edn_core.proofs.layout.Begun.{begun_by, left}
+use Rattle.cbor_edn_core.specs.View.{seen, seen_pair}
+use Rattle.cbor_edn_model.specs.Leaves.{texts}
+use Rattle.cbor_edn_model.specs.code.LayoutRows.{entry_items}
+use Rattle.cbor_edn_model.specs.code.Widths.{stack}
+use Rattle.cbor_edn_model.proofs.layout.Begun.{begun_by, left}
 use Rattle.cbor_edn_core.proofs.policy.lay.+lay.Given as goal
 
 abbrev pub invariant-lay_row-loop-entry : goal.invariant-lay_row-loop-entry

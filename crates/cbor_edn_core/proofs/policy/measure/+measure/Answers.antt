@@ -1,5 +1,5 @@
 use Rattle.std.proofs.Common.{◌∙◌}
-use Rattle.cbor_edn_core.proofs.layout.Widths.{kept_none, stack_same}
+use Rattle.cbor_edn_model.proofs.layout.Widths.{kept_none, stack_same}
 use Rattle.cbor_edn_core.proofs.policy.measure.+measure.Goals as goal
 
 pub measure_piece-returns-in_ok-sequence-in-Embedded-clause-widths : goal.measure_piece-returns-in_ok-sequence-in-Embedded-clause-widths

@@ -1,6 +1,7 @@
 use Rattle.std.proofs.Common.{◌≡◌, drop, map}
-use Rattle.cbor_edn_core.specs.code.Widths.{capped, entries_width, pieces_width, entries_widths_by, stack}
-use Rattle.cbor_edn_core.specs.View.{texts, seen, seen_pair, seen_piece, seen_string}
+use Rattle.cbor_edn_model.specs.code.Widths.{capped, entries_width, pieces_width, entries_widths_by, stack}
+use Rattle.cbor_edn_core.specs.View.{seen, seen_pair, seen_piece, seen_string}
+use Rattle.cbor_edn_model.specs.Leaves.{texts}
 use Rattle.cbor_edn_core.proofs.policy.measure.+measure.Given as goal
 
 -- the widths in what is measured so far, and its width

@@ -7,9 +7,10 @@ use Rattle.cbor_edn_parts.specs.declared.number.Number.{Number}
 use Rattle.cbor_edn_parts.specs.declared.string.Literal.{Literal}
 use Rattle.cbor_edn_parts.specs.declared.string.Dots.{Dots}
 use Rattle.cbor_edn_core.specs.declared.tree.PieceOf.{PieceOf}
-use Rattle.cbor_edn_core.specs.View.{texts, seen_piece}
-use Rattle.cbor_edn_core.specs.code.LayoutRows.{laid_piece, piece_items}
-use Rattle.cbor_edn_core.proofs.layout.Begun.{kept, one_more, all_done, one_same}
+use Rattle.cbor_edn_core.specs.View.{seen_piece}
+use Rattle.cbor_edn_model.specs.Leaves.{texts}
+use Rattle.cbor_edn_model.specs.code.LayoutRows.{laid_piece, piece_items}
+use Rattle.cbor_edn_model.proofs.layout.Begun.{kept, one_more, all_done, one_same}
 use Rattle.cbor_edn_core.proofs.policy.strings.lay_piece_row.Goals as goal
 
 pub returns-in_err-lay_space-clause-items : goal.returns-in_err-lay_space-clause-items

@@ -1,7 +1,6 @@
 use Rattle.std.proofs.Common.{refl}
-use Rattle.std.specs.Prelude.{OnOk}
-use Rattle.cbor_edn_core.specs.View.{texts}
-use Rattle.cbor_edn_core.proofs.layout.Begun.{on_ok}
+use Rattle.cbor_edn_model.specs.Leaves.{texts}
+use Rattle.cbor_edn_model.proofs.layout.Begun.{on_ok}
 use Rattle.cbor_edn_core.proofs.layout.LaidStrings.{string_laid, string_same}
 use Rattle.cbor_edn_core.proofs.policy.strings.lay_string.Goals as goal
 

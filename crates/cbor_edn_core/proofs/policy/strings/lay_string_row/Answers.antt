@@ -7,12 +7,13 @@ use Rattle.cbor_edn_parts.specs.declared.number.Number.{Number}
 use Rattle.cbor_edn_parts.specs.declared.string.Literal.{Literal}
 use Rattle.cbor_edn_parts.specs.declared.string.Dots.{Dots}
 use Rattle.cbor_edn_core.specs.declared.tree.CborStringOf.{CborStringOf}
-use Rattle.cbor_edn_core.specs.Items.{Chunk}
-use Rattle.cbor_edn_core.specs.Layout.{laid}
-use Rattle.cbor_edn_core.specs.Trees.{ChunkTree, items}
-use Rattle.cbor_edn_core.specs.View.{texts, seen_string, view_string}
-use Rattle.cbor_edn_core.specs.code.LayoutRows.{laid_entry, entry_items}
-use Rattle.cbor_edn_core.proofs.layout.Begun.{kept, one_more, all_done, one_same}
+use Rattle.cbor_edn_model.specs.Items.{Chunk}
+use Rattle.cbor_edn_model.specs.Layout.{laid}
+use Rattle.cbor_edn_model.specs.Trees.{ChunkTree, items}
+use Rattle.cbor_edn_core.specs.View.{seen_string, view_string}
+use Rattle.cbor_edn_model.specs.Leaves.{texts}
+use Rattle.cbor_edn_model.specs.code.LayoutRows.{laid_entry, entry_items}
+use Rattle.cbor_edn_model.proofs.layout.Begun.{kept, one_more, all_done, one_same}
 use Rattle.cbor_edn_core.proofs.policy.strings.lay_string_row.Goals as goal
 
 pub returns-in_err-lay_string-clause-items : goal.returns-in_err-lay_string-clause-items

@@ -1,7 +1,8 @@
 use Rattle.std.proofs.Common.{◌≡◌, map}
-use Rattle.cbor_edn_core.specs.View.{texts, seen_string}
-use Rattle.cbor_edn_core.specs.code.LayoutRows.{laid_entry, entry_items}
-use Rattle.cbor_edn_core.proofs.layout.Begun.{begun}
+use Rattle.cbor_edn_core.specs.View.{seen_string}
+use Rattle.cbor_edn_model.specs.Leaves.{texts}
+use Rattle.cbor_edn_model.specs.code.LayoutRows.{laid_entry, entry_items}
+use Rattle.cbor_edn_model.proofs.layout.Begun.{begun}
 use Rattle.cbor_edn_core.proofs.policy.strings.lay_string_row.Given as goal
 
 abbrev pub invariant-loop-entry : goal.invariant-loop-entry

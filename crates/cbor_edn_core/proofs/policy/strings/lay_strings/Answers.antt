@@ -1,4 +1,4 @@
-use Rattle.std.proofs.Common.{refl, sym, ap, ◌∙◌}
+use Rattle.std.proofs.Common.{refl, ap, ◌∙◌}
 use Rattle.cbor_edn_parts.specs.declared.space.S.{S}
 use Rattle.cbor_edn_parts.specs.declared.space.Ms.{Ms}
 use Rattle.cbor_edn_parts.specs.declared.space.Msc.{Msc}
@@ -9,11 +9,12 @@ use Rattle.cbor_edn_parts.specs.declared.string.Dots.{Dots}
 use Rattle.cbor_edn_parts.specs.Leaves.{soc_bytes}
 use Rattle.cbor_edn_parts.specs.Spacing.{SOC}
 use Rattle.cbor_edn_core.specs.declared.tree.StringsOf.{out-StringsOf, roll-StringsOf, out-roll-StringsOf}
-use Rattle.cbor_edn_core.specs.Layout.{Last, in_chunk, laid, respaced}
-use Rattle.cbor_edn_core.specs.Trees.{items}
-use Rattle.cbor_edn_core.specs.View.{texts, view_string}
-use Rattle.cbor_edn_core.proofs.code.Written.{two_written, after_two, three_written}
-use Rattle.cbor_edn_core.proofs.layout.Begun.{on_ok}
+use Rattle.cbor_edn_model.specs.Layout.{Last, in_chunk, laid, respaced}
+use Rattle.cbor_edn_model.specs.Trees.{items}
+use Rattle.cbor_edn_core.specs.View.{view_string}
+use Rattle.cbor_edn_model.specs.Leaves.{texts}
+use Rattle.cbor_edn_model.proofs.code.Written.{two_written, after_two, three_written}
+use Rattle.cbor_edn_model.proofs.layout.Begun.{on_ok}
 use Rattle.cbor_edn_core.proofs.layout.LaidStrings.{strings_laid, strings_same}
 use Rattle.cbor_edn_core.proofs.policy.strings.lay_strings.Goals as goal
 

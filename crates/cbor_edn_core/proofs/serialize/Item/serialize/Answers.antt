@@ -1,7 +1,7 @@
 use Rattle.std.proofs.Common.{arith, ◌≡◌}
 use Rattle.std.proofs.lemmas.Grind.{common_steps}
 use Rattle.std.specs.String.{string_bytes}
-use Rattle.cbor_edn_core.specs.Trees.{text}
+use Rattle.cbor_edn_model.specs.Trees.{text}
 use Rattle.cbor_edn_core.specs.View.{item_tree}
 use Rattle.cbor_edn_core.proofs.code.Printable.{item_spelled}
 use Rattle.cbor_edn_core.proofs.serialize.Item.serialize.Goals as goal

@@ -1,8 +1,8 @@
 use Rattle.std.proofs.Common.{subst}
-use Rattle.cbor_edn_core.specs.Trees.{items}
-use Rattle.cbor_edn_core.specs.Value.{AreBytes}
+use Rattle.cbor_edn_model.specs.Trees.{items}
+use Rattle.cbor_edn_model.specs.Value.{AreBytes}
 use Rattle.cbor_edn_core.specs.View.{sequence_tree}
-use Rattle.cbor_edn_core.proofs.code.CborEncodes.{items_encoded}
+use Rattle.cbor_edn_model.proofs.code.CborEncodes.{items_encoded}
 use Rattle.cbor_edn_core.proofs.to_cbor.Sequence.to_cbor.Goals as goal
 
 pub returns-clause-bytes : goal.returns-clause-bytes

@@ -5,17 +5,11 @@ use Rattle.cbor_edn_parts.specs.Number.{IsNumber, MinusSign, radix}
 use Rattle.cbor_edn_parts.specs.code.NumberReading.{prefix_length, sign_of, unsigned, named_base, base_of, digits_of}
 use Rattle.cbor_edn_parts.specs.code.NumberTokens.{is_number}
 use Rattle.cbor_edn_parts.proofs.NumberTexts.{number_texts}
-use Rattle.cbor_edn_parts.proofs.NumberParts.{too_large, integer_by}
+use Rattle.cbor_edn_parts.proofs.NumberParts.{digits_are, base_is, too_large, integer_by}
 use Rattle.cbor_edn_parts.proofs.number.Number.integer.Goals as goal
 
 is : (t : List ℕ) → IsTrue (is_number t) → IsNumber t
 is t e = (number_texts t).1 e
-
-digits_are : (t s rest digits : List ℕ) → s ≡ t → rest ≡ unsigned s → digits ≡ drop (prefix_length (named_base rest)) rest → digits ≡ digits_of t
-digits_are t s rest digits a r d = d ∙ ap (λ u. drop (prefix_length (named_base u)) u) (r ∙ ap unsigned a)
-
-base_is : (t s rest : List ℕ) (base : ℕ) → s ≡ t → rest ≡ unsigned s → base ≡ radix (named_base rest) → base ≡ radix (base_of t)
-base_is t s rest base a r b = b ∙ ap (λ u. radix (named_base u)) (r ∙ ap unsigned a)
 
 sign_is : (t s : List ℕ) (negative : Bool) → s ≡ t → ((sign_of s ≡ MinusSign) ↔ IsTrue negative) → (sign_of t ≡ MinusSign) ↔ IsTrue negative
 sign_is t s negative a h = rw a at h

@@ -1,9 +1,7 @@
-use Rattle.std.proofs.Common.{◌≡◌, ◌++◌, [], true, sym, ap, ◌∙◌, subst}
+use Rattle.std.proofs.Common.{◌≡◌, true, sym, ap, ◌∙◌, subst}
 use Rattle.std.specs.Cow.{cow_str_bytes}
-use Rattle.cbor_edn_parts.specs.Comments.{comments_of}
 use Rattle.cbor_edn_parts.specs.Leaves.{ms_bytes}
 use Rattle.cbor_edn_parts.specs.Spacing as table
-use Rattle.cbor_edn_parts.specs.code.Columns.{in_column}
 use Rattle.cbor_edn_parts.specs.code.SpaceTokens.{is_ms}
 use Rattle.cbor_edn_parts.proofs.Columns.{ms_column}
 use Rattle.cbor_edn_parts.proofs.Spacings.{spaced_stays}
@@ -13,7 +11,7 @@ use Rattle.cbor_edn_parts.proofs.space.Ms.spaced.Goals.{After-or_space-text}
 bytes : (c : goal.After-or_space-text) → cow_str_bytes c.or_space-text.result ≡ table.spaced table.MS c.args.spacing (ms_bytes c.args.self.now)
 bytes c =
     c.or_space-text.ensures
-    ∙ ap table.or_space (c.in_ok-in_column.ensures.bytes ∙ ap (λ t. in_column c.args.spacing (t ++ [])) (c.comments.ensures ∙ ap comments_of c.as_str.ensures))
+    ∙ ap table.or_space c.in_ok-comments_in_column.ensures.bytes
     ∙ ms_column c.args.spacing (ms_bytes c.args.self.now)
 
 pub invariant_of-result : goal.invariant_of-result

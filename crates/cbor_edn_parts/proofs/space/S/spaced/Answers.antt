@@ -1,16 +1,14 @@
-use Rattle.std.proofs.Common.{◌≡◌, ◌++◌, [], true, sym, ap, ◌∙◌, subst}
+use Rattle.std.proofs.Common.{◌≡◌, true, sym, ◌∙◌, subst}
 use Rattle.std.specs.Cow.{cow_str_bytes}
-use Rattle.cbor_edn_parts.specs.Comments.{comments_of}
 use Rattle.cbor_edn_parts.specs.Leaves.{s_bytes}
 use Rattle.cbor_edn_parts.specs.Spacing as table
-use Rattle.cbor_edn_parts.specs.code.Columns.{in_column}
 use Rattle.cbor_edn_parts.specs.code.SpaceTokens.{is_s}
 use Rattle.cbor_edn_parts.proofs.Columns.{s_column}
 use Rattle.cbor_edn_parts.proofs.Spacings.{spaced_stays}
 use Rattle.cbor_edn_parts.proofs.space.S.spaced.Goals as goal
 
 bytes : (c : goal.In_ok-text) → cow_str_bytes c.in_ok-text.text ≡ table.spaced table.S c.args.spacing (s_bytes c.args.self.now)
-bytes c = c.in_ok-text.ensures.bytes ∙ ap (λ t. in_column c.args.spacing (t ++ [])) (c.comments.ensures ∙ ap comments_of c.as_str.ensures) ∙ s_column c.args.spacing (s_bytes c.args.self.now)
+bytes c = c.in_ok-text.ensures.bytes ∙ s_column c.args.spacing (s_bytes c.args.self.now)
 
 pub invariant_of-result : goal.invariant_of-result
 invariant_of-result c = record { spelled = subst (λ t. is_s t ≡ true) (sym (bytes c)) (spaced_stays table.S c.args.spacing (s_bytes c.args.self.now) c.args.self.now.spelled) }

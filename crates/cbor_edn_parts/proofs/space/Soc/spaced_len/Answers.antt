@@ -1,4 +1,4 @@
-use Rattle.std.proofs.Common.{◌≡◌, length, ap, ◌∙◌, ◌+◌, ◌-◌, ◌^◌}
+use Rattle.std.proofs.Common.{length, ap, ◌∙◌, ◌+◌, ◌-◌, ◌^◌}
 use Rattle.std.specs.Prelude.{min}
 use Rattle.cbor_edn_parts.specs.Comments.{comments_of, before_comma, after_comma}
 use Rattle.cbor_edn_parts.specs.Leaves.{soc_bytes}

@@ -1,0 +1,21 @@
+use Rattle.std.proofs.Common.{◌≡◌, Some, refl, sym, ap, ◌∙◌}
+use Rattle.cbor_edn_model.specs.Accessed.{string_tree}
+use Rattle.cbor_edn_model.specs.Leaves.{texts}
+use Rattle.cbor_edn_model.specs.Trees.{LastPieceTree}
+use Rattle.cbor_edn_core.specs.View.{item_tree, seen_piece, view_piece, view_string}
+use Rattle.cbor_edn_core.proofs.code.Pieces.{alone_is, no_other}
+use Rattle.cbor_edn_core.proofs.access.application.Item.get_application_literal.Goals as goal
+
+pub returns-in-Some-2-clause-found : goal.returns-in-Some-2-clause-found
+returns-in-Some-2-clause-found c =
+    let string = c.in-Some.string.now in
+    let alone = alone_is (seen_piece texts) string.row.items (view_piece texts string.last) c.if-has_several_pieces.ensures in
+    (view_piece texts string.last, sym c.in-Some.ensures ∙ ap Some alone, rw c.in-Some-2.is at c.in_ok-parts.ensures.found)
+
+pub returns-in-None-clause-refused : goal.returns-in-None-clause-refused
+returns-in-None-clause-refused c =
+    let string = c.in-Some.string.now in
+    let l = view_piece texts string.last in
+    let alone = alone_is (seen_piece texts) string.row.items l c.if-has_several_pieces.ensures in
+    let only : string_tree (item_tree c.args.self.now) ≡ Some (LastPieceTree l) = sym c.in-Some.ensures ∙ ap Some alone in
+    (rw only refl, λ p v (m, is, h). c.in_ok-parts.ensures.none c.in-None.is p v (no_other (string_tree (item_tree c.args.self.now)) l m p v only is h))

@@ -1,0 +1,4 @@
+use Rattle.cbor_edn_core.proofs.access.application.parts_of.Goals as goal
+
+pub returns-in-Literal-clause-none : goal.returns-in-Literal-clause-none
+returns-in-Literal-clause-none c = rw c.in-Literal.is c.application_parts.ensures.none

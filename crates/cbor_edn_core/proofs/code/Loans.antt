@@ -1,0 +1,22 @@
+-- What has no part to lend.
+use Rattle.std.proofs.Common.{◌≡◌, None, refl}
+use Rattle.std.specs.Global.{Box}
+use Rattle.cbor_edn_model.specs.Accessed.{tag_content}
+use Rattle.cbor_edn_model.specs.Leaves.{Ghosts}
+use Rattle.cbor_edn_core.specs.View.{view_inner}
+use Rattle.cbor_edn_core.specs.declared.tree.InnerItemOf.{InnerItemOf}
+use Rattle.cbor_edn_core.specs.declared.tree.InnerItemOf.TheVariants as inner
+use Rattle.cbor_edn_model.specs.declared.label.Label.{Label}
+use Rattle.cbor_edn_core.specs.declared.tree.StandaloneItemOf.{StandaloneItemOf}
+use Rattle.cbor_edn_core.specs.declared.tree.StreamOf.{StreamOf'}
+
+module _ {O M C E N L D : Type 0} (leaves : Ghosts O M C E N L D) where
+  pub no_tag : (x : InnerItemOf O M C E N L D) → ((l : Label) (b : Box (StandaloneItemOf O M C E N L D)) → x ≡ inner.Enclosed l b → ⊥) → None ≡ tag_content (view_inner leaves x)
+  no_tag (inner.Number n i) differs = refl
+  no_tag (inner.NonFinite f i) differs = refl
+  no_tag (inner.Named b) differs = refl
+  no_tag (inner.Enclosed' l p before item after) differs = absurd (differs l (record { ptr = p.ptr; alloc = p.alloc; value = record { before = before; item = record { inner = item }; after = after } }) refl)
+  no_tag (inner.Array' p list) differs = refl
+  no_tag (inner.Map' p list) differs = refl
+  no_tag (inner.String' p n row last) differs = refl
+  no_tag (inner.Stream' p (StreamOf' ms strings)) differs = refl

@@ -1,0 +1,31 @@
+-- Strings of one piece and of several.
+use Rattle.std.proofs.Common.{◌≡◌, ℕ, List, [], ◌∷◌, Bool, true, false, length, map, Option, Some, None, refl, sym, ap, subst, ◌∙◌, arith}
+use Rattle.std.proofs.lemmas.Bool.{false≢true, ne_eqb}
+use Rattle.std.specs.Prelude.{◌==◌}
+use mathlib.Core.Bool.{not}
+use Rattle.cbor_edn_model.specs.Accessed.{are_several, IsApplicationPiece}
+use Rattle.cbor_edn_model.specs.Rows.{pieces_onto}
+use Rattle.cbor_edn_model.specs.Trees.{Tree, OnePiece, OneString, LastPieceTree}
+
+module _ {X : Type 0} (seen : X → Tree OnePiece × List ℕ × List ℕ) where
+  pub several_is : (row : List X) (p : Tree OnePiece) → not (length row == 0) ≡ are_several (pieces_onto (map seen row) (LastPieceTree p))
+  several_is [] p = refl
+  several_is (x ∷ row) p = ap not (ne_eqb (length (x ∷ row)) 0 suc-ne-zero-of)
+    where
+      suc-ne-zero-of : length (x ∷ row) ≡ 0 → ⊥
+      suc-ne-zero-of e = omega (arith, e)
+
+  pub alone_is : (row : List X) (p : Tree OnePiece) → false ≡ are_several (pieces_onto (map seen row) (LastPieceTree p)) → pieces_onto (map seen row) (LastPieceTree p) ≡ LastPieceTree p
+  alone_is [] p e = refl
+  alone_is (x ∷ row) p e = absurd (false≢true e)
+
+-- what is no application-oriented literal alone
+pub no_other : (w : Option (Tree OneString)) (l m : Tree OnePiece) (p v : List ℕ) → w ≡ Some (LastPieceTree l) → w ≡ Some (LastPieceTree m) → IsApplicationPiece m p v → IsApplicationPiece l p v
+no_other w l m p v is other h = subst (λ k. IsApplicationPiece k p v) (same (sym other ∙ is)) h
+  where
+    last : Option (Tree OneString) → Tree OnePiece
+    last (Some (LastPieceTree k)) = k
+    last _ = l
+
+    same : Some (LastPieceTree m) ≡ Some (LastPieceTree l) → m ≡ l
+    same e = ap last e

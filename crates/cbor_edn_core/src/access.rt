@@ -1,0 +1,184 @@
+//! Parts of items.
+ghost use Rattle.std.specs.Prelude.{◌≡◌, ℤ, FitsSigned, IfOk, IfErr, Some, None, map, option_map};
+ghost use Rattle.std.specs.Int.{w128};
+ghost use Rattle.cbor_edn_parts.specs.Leaves.{number_bytes};
+ghost use Rattle.cbor_edn_parts.specs.Number.{IsInteger};
+ghost use Rattle.cbor_edn_model.specs.Accessed.{tag_number, tag_content, number_text, IsIntegerItem, IsLiteralItem, array_items, map_items, element, key_and_value, entries_inside};
+ghost use Rattle.cbor_edn_model.specs.Leaves.{texts};
+ghost use Rattle.cbor_edn_core.specs.Mismatch.{IsIntegerMismatch};
+ghost use Rattle.cbor_edn_core.specs.Iterated.{items_left, pairs_left, both_trees};
+ghost use Rattle.cbor_edn_core.specs.View.{item_tree, standalone_tree, view_list, view_pair_list};
+
+use crate::tree::{InnerItem, Item, ItemList, LabelKind, PairList, StandaloneItem};
+use cbor_edn_parts::number::Number;
+pub use iterators::{ArrayItems, MapItems};
+use thiserror::Error;
+
+mod application;
+mod bytes;
+mod iterators;
+
+/// What an item was expected to be, and is not.
+#[derive(Clone, Copy, Debug, PartialEq, Eq, Error)]
+pub enum TypeMismatch {
+    #[error("Expected application-oriented literal")]
+    ApplicationLiteral,
+    #[error("Expected single application-oriented literal")]
+    SingleApplicationLiteral,
+    #[error("Expected byte literal")]
+    Bytes,
+    #[error("Expected tagged item")]
+    TaggedItem,
+    #[error("Expected integer")]
+    Integer,
+    #[error("Expected integer in i128 range")]
+    IntegerInRange,
+    #[error("Expected array")]
+    Array,
+    #[error("Expected map")]
+    Map,
+}
+
+impl<'a> Item<'a> {
+    /// The number of a tag. Fails with `TaggedItem` where the item is none.
+    pub fn get_tag(&self) -> Result<u64, TypeMismatch>
+        ensures found { IfOk result (λ n. tag_number (item_tree self.now) ≡ Some n) }
+        ensures refused { IfErr result (λ e. (e ≡ TypeMismatch.TaggedItem) × (tag_number (item_tree self.now) ≡ None)) }
+    {
+        match tag_of(self) {
+            Some((number, _)) => Ok(number),
+            None => Err(TypeMismatch::TaggedItem),
+        }
+    }
+
+    /// What stands between the parentheses of a tag. Fails with `TaggedItem` where the item is none.
+    pub fn get_tagged(&self) -> Result<&StandaloneItem<'a>, TypeMismatch>
+        ensures found { IfOk result (λ w. tag_content (item_tree self.now) ≡ Some (standalone_tree w.now)) }
+        ensures refused { IfErr result (λ e. (e ≡ TypeMismatch.TaggedItem) × (tag_content (item_tree self.now) ≡ None)) }
+    {
+        match tag_of(self) {
+            Some((_, content)) => Ok(content),
+            None => Err(TypeMismatch::TaggedItem),
+        }
+    }
+
+    /// The integer of an integer literal, whatever its encoding indicator. Fails with `Integer` where the item is none, and with
+    /// `IntegerInRange` where its integer is not in the range of `i128`.
+    pub fn get_integer(&self) -> Result<i128, TypeMismatch>
+        ensures found { IfOk result (λ z. IsIntegerItem (item_tree self.now) z) }
+        ensures refused { IfErr result (λ _. (z : ℤ) → FitsSigned w128 z → IsIntegerItem (item_tree self.now) z → ⊥) }
+        ensures words { IfErr result (IsIntegerMismatch (IsLiteralItem (item_tree self.now))) }
+    {
+        match number_of(self) {
+            Some(number) => match number.to_i128() {
+                Some(integer) => Ok(integer),
+                None => Err(mismatch_of(number)),
+            },
+            None => Err(TypeMismatch::Integer),
+        }
+    }
+
+    /// The items of an array, in text order. Fails with `Array` where the item is none.
+    pub fn get_array_items(&self) -> Result<ArrayItems<'_, 'a>, TypeMismatch>
+        ensures found { IfOk result (λ it. array_items (item_tree self.now) ≡ Some (map item_tree (items_left it))) }
+        ensures refused { IfErr result (λ e. (e ≡ TypeMismatch.Array) × (array_items (item_tree self.now) ≡ None)) }
+    {
+        match list_of(self) {
+            Some(ItemList::Present { items, .. }) => Ok(ArrayItems::new(items)),
+            Some(ItemList::Absent { .. }) => Ok(ArrayItems::empty()),
+            None => Err(TypeMismatch::Array),
+        }
+    }
+
+    /// The keys of a map with their values, in text order. Fails with `Map` where the item is none.
+    pub fn get_map_items(&self) -> Result<MapItems<'_, 'a>, TypeMismatch>
+        ensures found { IfOk result (λ it. map_items (item_tree self.now) ≡ Some (map both_trees (pairs_left it))) }
+        ensures refused { IfErr result (λ e. (e ≡ TypeMismatch.Map) × (map_items (item_tree self.now) ≡ None)) }
+    {
+        match pair_list_of(self) {
+            Some(PairList::Present { pairs, .. }) => Ok(MapItems::new(pairs)),
+            Some(PairList::Absent { .. }) => Ok(MapItems::empty()),
+            None => Err(TypeMismatch::Map),
+        }
+    }
+}
+
+/// The number of a tag, and what stands between its parentheses.
+#[tactic(auto, using(crate::proofs::code::Views::view_string_is, crate::proofs::code::Views::view_stream_is))]
+fn tag_of<'t, 'a>(item: &'t Item<'a>) -> Option<(u64, &'t StandaloneItem<'a>)>
+    ensures number { option_map (λ p. p.0) result ≡ tag_number (item_tree item.now) }
+    ensures content { option_map (λ p. standalone_tree p.1.now) result ≡ tag_content (item_tree item.now) }
+{
+    match &item.inner {
+        InnerItem::Enclosed(label, content) => match label.kind {
+            LabelKind::Tag(number, _) => Some((number, content)),
+            LabelKind::Simple => None,
+        },
+        InnerItem::Number(..)
+        | InnerItem::NonFinite(..)
+        | InnerItem::Named(_)
+        | InnerItem::Array(_)
+        | InnerItem::Map(_)
+        | InnerItem::String(_)
+        | InnerItem::Stream(_) => None,
+    }
+}
+
+#[tactic(auto, using(crate::proofs::code::Views::view_string_is, crate::proofs::code::Views::view_stream_is))]
+fn number_of<'t, 'a>(item: &'t Item<'a>) -> Option<&'t Number<'a>>
+    ensures { option_map (λ n. number_bytes n.now) result ≡ number_text (item_tree item.now) }
+{
+    match &item.inner {
+        InnerItem::Number(number, _) => Some(number),
+        InnerItem::NonFinite(..)
+        | InnerItem::Named(_)
+        | InnerItem::Enclosed(..)
+        | InnerItem::Array(_)
+        | InnerItem::Map(_)
+        | InnerItem::String(_)
+        | InnerItem::Stream(_) => None,
+    }
+}
+
+#[tactic(auto, using(crate::proofs::code::Views::view_string_is, crate::proofs::code::Views::view_stream_is))]
+fn list_of<'t, 'a>(item: &'t Item<'a>) -> Option<&'t ItemList<'a>>
+    ensures { option_map (λ l. map element (entries_inside (view_list texts l.now))) result ≡ array_items (item_tree item.now) }
+{
+    match &item.inner {
+        InnerItem::Array(list) => Some(list),
+        InnerItem::Number(..)
+        | InnerItem::NonFinite(..)
+        | InnerItem::Named(_)
+        | InnerItem::Enclosed(..)
+        | InnerItem::Map(_)
+        | InnerItem::String(_)
+        | InnerItem::Stream(_) => None,
+    }
+}
+
+#[tactic(auto, using(crate::proofs::code::Views::view_string_is, crate::proofs::code::Views::view_stream_is))]
+fn pair_list_of<'t, 'a>(item: &'t Item<'a>) -> Option<&'t PairList<'a>>
+    ensures { option_map (λ l. map key_and_value (entries_inside (view_pair_list texts l.now))) result ≡ map_items (item_tree item.now) }
+{
+    match &item.inner {
+        InnerItem::Map(list) => Some(list),
+        InnerItem::Number(..)
+        | InnerItem::NonFinite(..)
+        | InnerItem::Named(_)
+        | InnerItem::Enclosed(..)
+        | InnerItem::Array(_)
+        | InnerItem::String(_)
+        | InnerItem::Stream(_) => None,
+    }
+}
+
+/// What is told of a number that is no integer of `i128`.
+fn mismatch_of(number: &Number<'_>) -> TypeMismatch
+    ensures { IsIntegerMismatch (IsInteger (number_bytes number.now)) result }
+{
+    if number.is_integer() {
+        TypeMismatch::IntegerInRange
+    } else {
+        TypeMismatch::Integer
+    }
+}

@@ -1,0 +1,118 @@
+-- What the accessors of an item answer.
+use Rattle.std.specs.Prelude.{ℕ, ℤ, List, [], ◌∷◌, ◌++◌, ◌≡◌, map, Bool, true, false, Option, Some, None}
+use Rattle.cbor_edn_parts.specs.Literal.{Prefixed, IsLiteral}
+use Rattle.cbor_edn_parts.specs.Number.{HasInteger, IsInteger}
+use Rattle.cbor_edn_parts.specs.Contents.{Content}
+use Rattle.cbor_edn_parts.specs.declared.string.StringKind.TheVariants.{Bytes}
+use Rattle.cbor_edn_model.specs.Meaning.{means}
+use Rattle.cbor_edn_model.specs.declared.label.LabelKind.TheVariants as label
+use Rattle.cbor_edn_model.specs.Items.{Row, Elements, Pairs, Strings, Bracketed, Array, Map, entries_of}
+use Rattle.cbor_edn_model.specs.Trees.{Tree, OneItem, OnePiece, OneString, OneEntry, Inside, Rest, Standalone, NumberTree, EnclosedTree, ListTree, StringTree, StreamTree, LiteralTree, LastPieceTree, PlusTree, EmptyTree, FullTree, LastTree, MoreTree, ElementTree, PairTree, ChunkTree, items}
+
+-- the number of a tag: 1 of `1( 2 )`
+abbrev pub tag_number : Tree OneItem → Option ℕ
+tag_number (EnclosedTree (label.Tag n i) w) = Some n
+tag_number _ = None
+
+-- what stands between the parentheses of a tag, with its spaces: ` 2 ` of `1( 2 )`
+abbrev pub tag_content : Tree OneItem → Option (Tree Standalone)
+tag_content (EnclosedTree (label.Tag n i) w) = Some w
+tag_content _ = None
+
+-- the text of a number: `0x1f` of `0x1f_1`
+abbrev pub number_text : Tree OneItem → Option (List ℕ)
+number_text (NumberTree x i) = Some x
+number_text _ = None
+
+-- The item is an integer literal, with or without an encoding indicator, and z is its integer.
+abbrev pub IsIntegerItem : Tree OneItem → ℤ → Type 0
+IsIntegerItem w z = (x : List ℕ) × (number_text w ≡ Some x) × HasInteger x z
+
+-- the same, whatever its integer
+abbrev pub IsLiteralItem : Tree OneItem → Type 0
+IsLiteralItem w = (x : List ℕ) × (number_text w ≡ Some x) × IsInteger x
+
+-- entries in text order, without the spaces behind them
+abbrev pub entries : {k : Row} → Tree (Rest k) → List (Tree (OneEntry k))
+entries (LastTree e s) = e ∷ []
+entries (MoreTree e s m) = e ∷ entries m
+
+-- the entries of a list
+abbrev pub entries_inside : {k : Bracketed} → Tree (Inside k) → List (Tree (OneEntry (entries_of k)))
+entries_inside (EmptyTree i s) = []
+entries_inside (FullTree h s m) = entries m
+
+abbrev pub element : Tree (OneEntry Elements) → Tree OneItem
+element (ElementTree w) = w
+
+abbrev pub key_and_value : Tree (OneEntry Pairs) → Tree OneItem × Tree OneItem
+key_and_value (PairTree v s t w) = (v, w)
+
+-- the items of an array, in text order: 1 and 2 of `[1, 2]`
+abbrev pub array_items : Tree OneItem → Option (List (Tree OneItem))
+array_items (ListTree Array w) = Some (map element (entries_inside w))
+array_items _ = None
+
+-- the keys of a map with their values, in text order: 1 with 2, and 3 with 4, of `{1: 2, 3: 4}`
+abbrev pub map_items : Tree OneItem → Option (List (Tree OneItem × Tree OneItem))
+map_items (ListTree Map w) = Some (map key_and_value (entries_inside w))
+map_items _ = None
+
+-- byte strings one behind the other, where each is one
+abbrev pub joined : Option (List ℕ) → Option (List ℕ) → Option (List ℕ)
+joined (Some x) (Some y) = Some (x ++ y)
+joined (Some x) None = None
+joined None o = None
+
+abbrev pub all_joined : List (Option (List ℕ)) → Option (List ℕ)
+all_joined [] = Some []
+all_joined (o ∷ os) = joined o (all_joined os)
+
+-- the bytes of a content that is a byte string
+abbrev pub only_bytes : Option Content → Option (List ℕ)
+only_bytes (Some (Bytes, bs)) = Some bs
+only_bytes _ = None
+
+-- the bytes that a piece of a string means, whatever its encoding indicator
+abbrev pub piece_bytes : Tree OnePiece → Option (List ℕ)
+piece_bytes p = only_bytes (means (items p))
+
+-- the pieces of a string, in text order: `'a'` and `h'62'` of `'a' + h'62'`
+abbrev pub pieces : Tree OneString → List (Tree OnePiece)
+pieces (LastPieceTree p) = p ∷ []
+pieces (PlusTree p s t w) = p ∷ pieces w
+
+abbrev pub string_bytes : Tree OneString → Option (List ℕ)
+string_bytes w = all_joined (map piece_bytes (pieces w))
+
+abbrev pub chunk : Tree (OneEntry Strings) → Tree OneString
+chunk (ChunkTree w) = w
+
+-- the bytes of strings, one behind the other
+abbrev pub strings_bytes : Tree (Rest Strings) → Option (List ℕ)
+strings_bytes m = all_joined (map (λ e. string_bytes (chunk e)) (entries m))
+
+-- the bytes of a string, of definite length or not, whose pieces all mean bytes: `616263` of `(_ 'a', h'62' + 'c')`
+abbrev pub item_bytes : Tree OneItem → Option (List ℕ)
+item_bytes (StringTree w) = string_bytes w
+item_bytes (StreamTree s m) = strings_bytes m
+item_bytes _ = None
+
+-- the string that an item is
+abbrev pub string_tree : Tree OneItem → Option (Tree OneString)
+string_tree (StringTree w) = Some w
+string_tree _ = None
+
+abbrev pub are_several : Tree OneString → Bool
+are_several (LastPieceTree p) = false
+are_several (PlusTree p s t w) = true
+
+-- The piece is a literal of the prefix p that stands for the text v, with or without an encoding indicator: `b64` and `Yg` of
+-- `b64'Yg'_1`.
+abbrev pub IsApplicationPiece : Tree OnePiece → List ℕ → List ℕ → Type 0
+IsApplicationPiece (LiteralTree x i) p v = IsLiteral (Prefixed p) v x
+IsApplicationPiece _ p v = ⊥
+
+-- The item is such a piece alone.
+abbrev pub IsApplicationItem : Tree OneItem → List ℕ → List ℕ → Type 0
+IsApplicationItem w p v = (l : Tree OnePiece) × (string_tree w ≡ Some (LastPieceTree l)) × IsApplicationPiece l p v

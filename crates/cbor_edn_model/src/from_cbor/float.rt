@@ -1,0 +1,35 @@
+//! Floating-point numbers from the bits of a head.
+ghost use Rattle.std.specs.Prelude.{◌≡◌};
+ghost use Rattle.cbor_edn_model.specs.code.CborReading as reading;
+ghost use Rattle.cbor_edn_model.specs.Decoded as decoded;
+
+use crate::cbor::{Width, float_bits};
+use crate::word::NonFinite;
+use cbor_edn_parts::indicator::Indicator;
+
+/// The number with these bits, where it is one of the three.
+pub fn non_finite(width: Width, bits: u64) -> Option<NonFinite>
+    ensures { result ≡ reading.float_of width bits }
+{
+    if bits == float_bits(width, NonFinite::Infinity) {
+        Some(NonFinite::Infinity)
+    } else if bits == float_bits(width, NonFinite::NegativeInfinity) {
+        Some(NonFinite::NegativeInfinity)
+    } else if bits == float_bits(width, NonFinite::NaN) {
+        Some(NonFinite::NaN)
+    } else {
+        None
+    }
+}
+
+/// The indicator of a floating-point number, which is always printed.
+pub fn float_indicator(width: Width) -> Option<Indicator>
+    ensures { result ≡ decoded.float_indicator width }
+{
+    match width {
+        Width::Two => Some(Indicator::Two),
+        Width::Four => Some(Indicator::Four),
+        Width::Eight => Some(Indicator::Eight),
+        Width::Immediate | Width::One => None,
+    }
+}

@@ -1,0 +1,109 @@
+//! Heads, what ends a row of entries, and the indicators that heads are shown with.
+ghost use Rattle.std.specs.Prelude.{◌≡◌, ◌<◌, ◌≤◌, length, option_map, IfSome, IfOk};
+ghost use Rattle.cbor_edn_model.specs.Decoded as decoded;
+ghost use Rattle.cbor_edn_model.specs.code.CborReading as reading;
+ghost use Rattle.cbor_edn_model.specs.code.CborReading.{DecoderGives, head_at, argument_indicator};
+
+use super::CborError;
+use crate::cbor::Width;
+use cbor_edn_parts::error::Fault;
+use cbor_edn_parts::indicator::Indicator;
+
+pub type Argument = Option<(Width, u64)>;
+
+pub type Head = (u8, Argument);
+
+/// The head at the front.
+#[tactic(auto, unfolding(crate::specs::code::CborReading::head_at))]
+pub fn head_of(bytes: &[u8]) -> Result<(Head, &[u8]), Fault<CborError>>
+    ensures exact { DecoderGives (λ x. (x.0, x.1.now)) result (head_at bytes.now) }
+    ensures shorter { IfOk result (λ x. length x.1.now < length bytes.now) }
+{
+    let [first, rest @ ..] = bytes else {
+        return Err(Fault::Told(CborError::OutOfData));
+    };
+    let major = *first / 32;
+    let info = *first % 32;
+    if info < 24 {
+        return Ok(((major, Some((Width::Immediate, u64::from(info)))), rest));
+    }
+    if info == 24 {
+        if rest.len() < 1 {
+            return Err(Fault::Told(CborError::MissingArgument));
+        }
+        let (front, rest) = rest.split_at(1);
+        let n = u8::from_be_bytes([front[0]]);
+        return Ok(((major, Some((Width::One, u64::from(n)))), rest));
+    }
+    if info == 25 {
+        if rest.len() < 2 {
+            return Err(Fault::Told(CborError::MissingArgument));
+        }
+        let (front, rest) = rest.split_at(2);
+        let n = u16::from_be_bytes([front[0], front[1]]);
+        return Ok(((major, Some((Width::Two, u64::from(n)))), rest));
+    }
+    if info == 26 {
+        if rest.len() < 4 {
+            return Err(Fault::Told(CborError::MissingArgument));
+        }
+        let (front, rest) = rest.split_at(4);
+        let n = u32::from_be_bytes([front[0], front[1], front[2], front[3]]);
+        return Ok(((major, Some((Width::Four, u64::from(n)))), rest));
+    }
+    if info == 27 {
+        if rest.len() < 8 {
+            return Err(Fault::Told(CborError::MissingArgument));
+        }
+        let (front, rest) = rest.split_at(8);
+        let n = u64::from_be_bytes([
+            front[0], front[1], front[2], front[3], front[4], front[5], front[6], front[7],
+        ]);
+        return Ok(((major, Some((Width::Eight, n))), rest));
+    }
+    if info == 31 {
+        return Ok(((major, None), rest));
+    }
+    Err(Fault::Told(CborError::Reserved))
+}
+
+/// What ends a row of entries.
+#[derive(Clone, Copy, Debug, PartialEq)]
+pub enum Stop {
+    /// The byte that ends a list of indefinite length.
+    Break,
+    /// The end of the bytes, which ends a sequence.
+    EndOfData,
+}
+
+/// What follows the end of a row, where it stands at the front.
+pub fn past_stop(stop: Stop, bytes: &[u8]) -> Option<&[u8]>
+    ensures value { option_map (λ x. x.now) result ≡ reading.past stop bytes.now }
+    ensures shorter { IfSome result (λ x. length x.now ≤ length bytes.now) }
+{
+    match (stop, bytes) {
+        (Stop::Break, [255, after @ ..]) => Some(after),
+        (Stop::EndOfData, []) => Some(bytes),
+        _ => None,
+    }
+}
+
+/// The indicator of a head: none where no narrower one would do.
+pub fn indicator_of(argument: Argument) -> Option<Indicator>
+    ensures { result ≡ argument_indicator argument }
+{
+    match argument {
+        None => Some(Indicator::Indefinite),
+        Some((Width::Immediate, _)) => None,
+        Some((Width::One, n)) => if_below(24, n, Indicator::One),
+        Some((Width::Two, n)) => if_below(0x100, n, Indicator::Two),
+        Some((Width::Four, n)) => if_below(0x1_0000, n, Indicator::Four),
+        Some((Width::Eight, n)) => if_below(0x1_0000_0000, n, Indicator::Eight),
+    }
+}
+
+fn if_below(limit: u64, n: u64, indicator: Indicator) -> Option<Indicator>
+    ensures { result ≡ decoded.if_below limit n indicator }
+{
+    if n < limit { Some(indicator) } else { None }
+}

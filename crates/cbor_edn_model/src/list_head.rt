@@ -1,0 +1,95 @@
+//! What stands in front of the entries of a list: an indicator and the space behind it, if they are there.
+ghost use Rattle.std.specs.Prelude.{◌≡◌, ◌++◌, IfOk, IsOk, OnOk};
+ghost use Rattle.std.specs.String.{string_bytes};
+ghost use Rattle.cbor_edn_parts.specs.LayoutColumns.{least};
+ghost use Rattle.cbor_edn_model.specs.Layout.{laid_list_head};
+ghost use Rattle.cbor_edn_model.specs.Leaves.{texts};
+ghost use Rattle.cbor_edn_model.specs.ListHeads.{view_list_head};
+ghost use Rattle.cbor_edn_model.specs.Trees as trees;
+ghost use Rattle.cbor_edn_model.specs.Trees.{list_head_text, mark};
+ghost use Rattle.cbor_edn_model.specs.code.Same.{same_head};
+ghost use Rattle.cbor_edn_model.specs.code.Regular.{spaced_list_head};
+
+use crate::same::have_same_word;
+use cbor_edn_parts::indicator::Indicator;
+use cbor_edn_parts::layout::{Layout, Place, lay_mandatory};
+use cbor_edn_parts::space::Ms;
+use std::alloc::{AllocError, Global};
+
+/// The same. Fails where memory runs out.
+pub fn clone_list_head<'a>(
+    head: &Option<(Indicator, Ms<'a>)>,
+) -> Result<Option<(Indicator, Ms<'a>)>, AllocError>
+    ensures { IfOk result (λ t. view_list_head texts t ≡ view_list_head texts head.now) }
+{
+    match head {
+        None => Ok(None),
+        Some((indicator, space)) => {
+            let space = space.clone()?;
+            Ok(Some((*indicator, space)))
+        }
+    }
+}
+
+/// Whether they have the same indicator and the same space.
+pub fn have_same_head(a: &Option<(Indicator, Ms<'_>)>, b: &Option<(Indicator, Ms<'_>)>) -> bool
+    ensures { result ≡ same_head (view_list_head texts a.now) (view_list_head texts b.now) }
+{
+    match (a, b) {
+        (None, None) => true,
+        (Some((i, s)), Some((j, t))) => have_same_word(*i, *j) && *s == *t,
+        _ => false,
+    }
+}
+
+/// Writes it at the end of a text. Fails where memory runs out.
+pub fn push_list_head(
+    out: &mut String,
+    head: &Option<(Indicator, Ms<'_>)>,
+) -> Result<(), AllocError>
+    ensures { OnOk result (string_bytes out.new ≡ string_bytes out.old ++ list_head_text (view_list_head texts head.now)) }
+{
+    match head {
+        None => Ok(()),
+        Some((indicator, space)) => {
+            out.push_str(indicator.as_str())?;
+            out.push_str(space.as_str())
+        }
+    }
+}
+
+/// The indicator of a list with entries.
+pub fn mark_of(head: &Option<(Indicator, Ms<'_>)>) -> Option<Indicator>
+    ensures { result ≡ trees.mark (view_list_head texts head.now) }
+{
+    match head {
+        None => None,
+        Some((indicator, _)) => Some(*indicator),
+    }
+}
+
+/// Lays out the space behind the indicator. Fails where memory runs out.
+pub fn lay_head<'a>(
+    head: &mut Option<(Indicator, Ms<'a>)>,
+    alloc: Global,
+    layout: Layout,
+) -> Result<(), AllocError>
+    ensures laid { OnOk result (view_list_head texts head.new ≡ laid_list_head layout (view_list_head texts head.old)) }
+    ensures items { mark (view_list_head texts head.new) ≡ mark (view_list_head texts head.old) }
+    ensures least { layout ≡ least → IsOk result }
+{
+    match head {
+        None => Ok(()),
+        Some((_, space)) => lay_mandatory(space, alloc, layout, Place::Elsewhere),
+    }
+}
+
+/// One space behind an indicator.
+pub fn head_space<'a>(indicator: Option<Indicator>) -> Option<(Indicator, Ms<'a>)>
+    ensures { view_list_head texts result ≡ spaced_list_head indicator }
+{
+    match indicator {
+        None => None,
+        Some(indicator) => Some((indicator, Ms::space())),
+    }
+}

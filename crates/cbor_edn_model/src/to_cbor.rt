@@ -1,0 +1,80 @@
+//! What numbers, literals and empty lists encode.
+ghost use Rattle.std.specs.Prelude.{◌≡◌, ◌<◌, ◌++◌};
+ghost use Rattle.cbor_edn_parts.specs.code.ContentReading.{literal_content};
+ghost use Rattle.cbor_edn_parts.specs.Leaves.{literal_bytes, number_bytes};
+ghost use Rattle.cbor_edn_model.specs.Items as nodes;
+ghost use Rattle.cbor_edn_model.specs.Meaning as meaning;
+ghost use Rattle.cbor_edn_model.specs.Meaning.{means, length_of};
+ghost use Rattle.cbor_edn_model.specs.Value.{encoding};
+ghost use Rattle.cbor_edn_model.specs.code.Encoding.{Encodes, Gathers, list_head, list_end};
+
+use crate::cbor::{length_of, push_integer, push_list_end, push_list_head};
+use cbor_edn_parts::error::{Fault, InconsistentEdn};
+use cbor_edn_parts::indicator::Indicator;
+use cbor_edn_parts::number::{Integer, Number};
+use cbor_edn_parts::string::{Literal, StringKind};
+
+/// The number of a simple value, where it is one, and its indicator the shortest.
+#[tactic(auto, using(cbor_edn_parts::proofs::NumberParts::integer_reads))]
+pub fn simple_of(number: &Number<'_>, indicator: Option<Indicator>) -> Option<u8>
+    ensures { result ≡ meaning.simple_of (number_bytes number.now) indicator }
+{
+    match number.integer()? {
+        Integer::Positive(n @ (0..=23 | 32..=255)) if is_shortest(indicator, n as u8) => {
+            Some(n as u8)
+        }
+        _ => None,
+    }
+}
+
+/// Whether the indicator, if there is one, is that of the shortest head.
+pub fn is_shortest(indicator: Option<Indicator>, number: u8) -> bool
+    ensures { result ≡ meaning.is_shortest indicator number }
+{
+    match indicator {
+        None => true,
+        Some(Indicator::Immediate) => number < 24,
+        Some(Indicator::One) => number >= 24,
+        Some(_) => false,
+    }
+}
+
+pub fn push_number(
+    out: &mut Vec<u8>,
+    number: &Number<'_>,
+    indicator: Option<Indicator>,
+) -> Result<(), Fault<InconsistentEdn>>
+    ensures { Encodes encoding (means (nodes.Number (number_bytes number.now) indicator)) out.old.items out.new.items result }
+{
+    match number.integer() {
+        None => Err(Fault::Told(InconsistentEdn::NumberWithoutEncoding)),
+        Some(integer) => push_integer(out, integer, indicator),
+    }
+}
+
+/// Writes a list without entries.
+pub fn push_empty(
+    out: &mut Vec<u8>,
+    major: u8,
+    indicator: Option<Indicator>,
+) -> Result<(), Fault<InconsistentEdn>>
+    requires { major < 8 }
+    ensures { Encodes (λ w. list_head major w 0 ++ list_end w) (length_of indicator 0) out.old.items out.new.items result }
+{
+    let width = length_of(indicator, 0)?;
+    push_list_head(out, major, width, 0)?;
+    push_list_end(out, width)?;
+    Ok(())
+}
+
+#[tactic(auto, using(cbor_edn_parts::proofs::ContentTexts::content_reads))]
+pub fn push_literal(
+    out: &mut Vec<u8>,
+    literal: &Literal<'_>,
+) -> Result<StringKind, Fault<InconsistentEdn>>
+    ensures { Gathers (literal_content (literal_bytes literal.now)) out.old.items out.new.items result }
+{
+    let (kind, bytes) = literal.content(*out.allocator())?;
+    out.extend_from_slice(&bytes)?;
+    Ok(kind)
+}

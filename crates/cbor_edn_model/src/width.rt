@@ -1,0 +1,148 @@
+//! The widths of what stands in a text beside its items.
+ghost use Rattle.std.specs.Fmt.{decimal};
+ghost use Rattle.std.specs.Prelude.{◌≡◌, length, IfOk};
+ghost use Rattle.cbor_edn_parts.specs.Indicator.{indicator_text};
+ghost use Rattle.cbor_edn_parts.specs.Leaves.{s_bytes, ms_bytes, msc_bytes, soc_bytes};
+ghost use Rattle.cbor_edn_parts.specs.Spacing as kind;
+ghost use Rattle.cbor_edn_model.specs.Leaves.{texts};
+ghost use Rattle.cbor_edn_model.specs.ListHeads.{view_list_head};
+ghost use Rattle.cbor_edn_model.specs.Trees.{label_text};
+ghost use Rattle.cbor_edn_model.specs.code.Widths as widths;
+ghost use Rattle.cbor_edn_model.specs.code.Widths.{space_width, head_width, capped, pushed, stack};
+ghost use Rattle.cbor_edn_model.specs.code.Laying.{top, others};
+
+use crate::label::LabelKind;
+use cbor_edn_parts::indicator::Indicator;
+use cbor_edn_parts::policy::Spacing;
+use cbor_edn_parts::space::{Ms, Msc, S, Soc};
+use std::alloc::AllocError;
+
+/// Which spaces a width counts.
+#[derive(Clone, Copy)]
+pub enum Spaces {
+    /// Those that stand there.
+    Kept,
+    /// Those by a column of the table.
+    By(Spacing),
+}
+
+impl Spaces {
+    /// Those round a plus sign and behind a colon.
+    pub fn wide(self) -> Spaces
+        ensures { result ≡ widths.wide self }
+    {
+        match self {
+            Spaces::By(Spacing::OneLine) => Spaces::By(Spacing::OneSpace),
+            spaces => spaces,
+        }
+    }
+
+    /// Those in the strings of a stream.
+    pub fn in_stream(self) -> Spaces
+        ensures { result ≡ widths.in_stream self }
+    {
+        match self {
+            Spaces::By(Spacing::OneLine) => Spaces::By(Spacing::Comments),
+            spaces => spaces,
+        }
+    }
+}
+
+pub fn s_len(spaces: Spaces, space: &S<'_>) -> usize
+    ensures { result ≡ capped (space_width kind.S spaces (s_bytes space.now)) }
+{
+    match spaces {
+        Spaces::Kept => space.as_str().len(),
+        Spaces::By(spacing) => space.spaced_len(spacing),
+    }
+}
+
+pub fn ms_len(spaces: Spaces, space: &Ms<'_>) -> usize
+    ensures { result ≡ capped (space_width kind.MS spaces (ms_bytes space.now)) }
+{
+    match spaces {
+        Spaces::Kept => space.as_str().len(),
+        Spaces::By(spacing) => space.spaced_len(spacing),
+    }
+}
+
+pub fn msc_len(spaces: Spaces, space: &Msc<'_>) -> usize
+    ensures { result ≡ capped (space_width kind.MSC spaces (msc_bytes space.now)) }
+{
+    match spaces {
+        Spaces::Kept => space.as_str().len(),
+        Spaces::By(spacing) => space.spaced_len(spacing),
+    }
+}
+
+pub fn soc_len(spaces: Spaces, space: &Soc<'_>) -> usize
+    ensures { result ≡ capped (space_width kind.SOC spaces (soc_bytes space.now)) }
+{
+    match spaces {
+        Spaces::Kept => space.as_str().len(),
+        Spaces::By(spacing) => space.spaced_len(spacing),
+    }
+}
+
+pub fn head_len(spaces: Spaces, head: &Option<(Indicator, Ms<'_>)>) -> usize
+    ensures { result ≡ capped (head_width spaces (view_list_head texts head.now)) }
+{
+    match head {
+        None => 0,
+        Some((indicator, space)) => {
+            ms_len(spaces, space).saturating_add(indicator.as_str().len())
+        }
+    }
+}
+
+pub fn indicator_len(indicator: Option<Indicator>) -> usize
+    ensures { result ≡ length (indicator_text indicator) }
+{
+    match indicator {
+        None => 0,
+        Some(indicator) => indicator.as_str().len(),
+    }
+}
+
+pub fn label_len(label: LabelKind) -> usize
+    ensures { result ≡ capped (length (label_text label)) }
+{
+    match label {
+        LabelKind::Tag(number, indicator) => {
+            decimal_len(number).saturating_add(indicator_len(indicator))
+        }
+        LabelKind::Simple => "simple".len(),
+    }
+}
+
+/// How many digits a number has.
+#[tactic(auto, using(crate::proofs::code::Digits::one_digit, crate::proofs::code::Digits::more_digits, crate::proofs::code::Digits::few_digits))]
+pub fn decimal_len(number: u64) -> usize
+    ensures { result ≡ length (decimal number) }
+{
+    if number < 10 {
+        1
+    } else {
+        decimal_len(number / 10) + 1
+    }
+}
+
+/// Puts a width on the stack where a single line is measured, and answers it.
+#[tactic(auto, using(crate::proofs::layout::Widths::stack_push))]
+pub fn push_width(table: &mut Vec<usize>, spaces: Spaces, width: usize) -> Result<usize, AllocError>
+    ensures widths { IfOk result (λ _. stack table.new.items ≡ pushed spaces width (stack table.old.items)) }
+    ensures width { IfOk result (λ n. n ≡ width) }
+{
+    if let Spaces::By(Spacing::OneLine) = spaces {
+        table.push(width)?;
+    }
+    Ok(width)
+}
+
+/// Takes a width from the table. A layout that has no tests needs no widths.
+pub fn pop_width(table: &mut Vec<usize>) -> usize
+    ensures width { result ≡ top (stack table.old.items) }
+    ensures rest { stack table.new.items ≡ others (stack table.old.items) }
+{
+    table.pop().unwrap_or(0)
+}

@@ -1,0 +1,30 @@
+//! Indicators and labels as texts.
+ghost use Rattle.std.specs.Prelude.{◌≡◌, ◌++◌, OnOk};
+ghost use Rattle.std.specs.String.{string_bytes};
+ghost use Rattle.cbor_edn_parts.specs.Indicator.{indicator_text};
+ghost use Rattle.cbor_edn_model.specs.Trees.{label_text};
+
+use crate::label::LabelKind;
+use cbor_edn_parts::indicator::Indicator;
+use std::alloc::AllocError;
+
+pub fn push_indicator(out: &mut String, indicator: Option<Indicator>) -> Result<(), AllocError>
+    ensures { OnOk result (string_bytes out.new ≡ string_bytes out.old ++ indicator_text indicator) }
+{
+    match indicator {
+        None => Ok(()),
+        Some(indicator) => out.push_str(indicator.as_str()),
+    }
+}
+
+pub fn push_label(out: &mut String, label: LabelKind) -> Result<(), AllocError>
+    ensures { OnOk result (string_bytes out.new ≡ string_bytes out.old ++ label_text label) }
+{
+    match label {
+        LabelKind::Tag(number, indicator) => {
+            write!(out, "{number}")?;
+            push_indicator(out, indicator)
+        }
+        LabelKind::Simple => out.push_str("simple"),
+    }
+}

@@ -1,0 +1,58 @@
+-- How the space text at a place of a tree is changed by a delimiter policy.
+use Rattle.std.specs.Prelude.{ℕ, ◌+◌, ◌-◌, ◌^◌, min, nat_lt, if◌then◌else◌, List}
+use Rattle.cbor_edn_parts.specs.Spacing.{SpaceKind, spaced}
+use Rattle.cbor_edn_parts.specs.declared.policy.DelimiterPolicy.{DelimiterPolicy}
+use Rattle.cbor_edn_parts.specs.declared.policy.DelimiterPolicy.TheVariants.{DiscardAll, DiscardAllButComments, SingleLineRegularSpacing, IndentedRegularSpacing, SingleSpace}
+use Rattle.cbor_edn_parts.specs.declared.policy.Spacing.{Spacing}
+use Rattle.cbor_edn_parts.specs.declared.policy.Spacing.TheVariants.{Least, Comments, OneLine, NewLine, OneSpace}
+-- How the spaces of a part of a tree are changed, and the places of space texts: enums of `src/layout.rt`. The numbers of `Lines`
+-- are `base`, `end`, `level` and `width`.
+pub use Rattle.cbor_edn_parts.specs.declared.layout.Layout.{Layout}
+pub use Rattle.cbor_edn_parts.specs.declared.layout.Layout.TheVariants.{Inline, Lines}
+pub use Rattle.cbor_edn_parts.specs.declared.layout.Place.{Place}
+pub use Rattle.cbor_edn_parts.specs.declared.layout.Place.TheVariants.{First, Between, Last, BeforePlus, AfterPlus, AfterColon, Elsewhere}
+
+abbrev pub layout : DelimiterPolicy → Layout
+layout DiscardAll = Inline Least
+layout DiscardAllButComments = Inline Comments
+layout SingleLineRegularSpacing = Inline OneLine
+layout (IndentedRegularSpacing base level width) = Lines base base level width
+layout SingleSpace = Inline OneSpace
+
+-- The column of the table for a place. Lines begin with the entries of a list or a stream, behind the last of them, and with a plus sign;
+-- elsewhere comments alone stay. On a single line a space stands behind a colon and on both sides of a plus sign.
+abbrev pub spacing : Layout → Place → Spacing
+spacing (Inline OneLine) BeforePlus = OneSpace
+spacing (Inline OneLine) AfterPlus = OneSpace
+spacing (Inline OneLine) AfterColon = OneSpace
+spacing (Inline column) place = column
+spacing (Lines base end level width) First = NewLine base
+spacing (Lines base end level width) Between = NewLine base
+spacing (Lines base end level width) Last = NewLine end
+spacing (Lines base end level width) BeforePlus = NewLine base
+spacing (Lines base end level width) place = Comments
+
+-- the space text at a place
+abbrev pub respaced : SpaceKind → Place → Layout → List ℕ → List ℕ
+respaced kind place l x = spaced kind (spacing l place) x
+
+-- The sum of two numbers of spaces: the greatest `usize` where it is more.
+abbrev pub saturating_add : ℕ → ℕ → ℕ
+saturating_add a b = min (a + b) (2 ^ 64 - 1)
+
+-- The strings of a stream have no space round their plus signs on a single line, and no test of their own.
+abbrev pub in_chunk : Layout → Layout
+in_chunk (Inline OneLine) = Inline Comments
+in_chunk l = l
+
+-- the layout that takes no memory
+abbrev pub least : Layout
+least = Inline Least
+
+-- The layout of the parts of an item that is so many bytes wide on a single line.
+abbrev pub of_parts : Layout → ℕ → Layout
+of_parts (Inline column) n = Inline column
+of_parts (Lines base end level width) n =
+    if nat_lt (saturating_add n base) width
+    then Inline OneLine
+    else Lines (saturating_add base level) base level width

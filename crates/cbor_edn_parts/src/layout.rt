@@ -1,0 +1,165 @@
+//! How the spaces of each part of a tree are changed.
+ghost use Rattle.std.specs.Prelude.{◌≡◌, IsOk, OnOk};
+ghost use Rattle.cbor_edn_parts.specs.LayoutColumns as spec;
+ghost use Rattle.cbor_edn_parts.specs.LayoutColumns.{least, respaced};
+ghost use Rattle.cbor_edn_parts.specs.Leaves.{s_bytes, ms_bytes, msc_bytes, soc_bytes};
+ghost use Rattle.cbor_edn_parts.specs.Spacing as kind;
+
+use crate::policy::{DelimiterPolicy, Spacing};
+use crate::space::{Ms, Msc, S, Soc};
+use std::alloc::{AllocError, Global};
+
+/// How the spaces of a part of a tree are changed.
+#[derive(Clone, Copy)]
+pub enum Layout {
+    /// On a single line, or without regard to lines: one column of the table for all.
+    Inline(Spacing),
+    /// On lines of their own: a line begins with `base` spaces, the one behind the last entry with `end` spaces, and an
+    /// item in it whose single line is too long for `width` has lines that begin with `level` more spaces than `base`.
+    Lines {
+        base: usize,
+        end: usize,
+        level: usize,
+        width: usize,
+    },
+}
+
+/// The places of space texts.
+#[derive(Clone, Copy)]
+pub enum Place {
+    /// In front of the first entry of a list, and behind `(_` in front of the first string.
+    First,
+    /// Behind an entry, in front of the next.
+    Between,
+    /// Behind the last entry.
+    Last,
+    BeforePlus,
+    AfterPlus,
+    AfterColon,
+    /// Before a colon, behind the indicator of a list that has entries, in a list that has none, round an item that stands
+    /// alone or between parentheses, and in front of a sequence.
+    Elsewhere,
+}
+
+impl Layout {
+    pub fn of(policy: DelimiterPolicy) -> Layout
+        ensures { result ≡ spec.layout policy }
+    {
+        match policy {
+            DelimiterPolicy::DiscardAll => Layout::Inline(Spacing::Least),
+            DelimiterPolicy::DiscardAllButComments => Layout::Inline(Spacing::Comments),
+            DelimiterPolicy::SingleLineRegularSpacing => Layout::Inline(Spacing::OneLine),
+            DelimiterPolicy::IndentedRegularSpacing {
+                base_indent,
+                indent_level,
+                max_width,
+            } => Layout::Lines {
+                base: base_indent,
+                end: base_indent,
+                level: indent_level,
+                width: max_width,
+            },
+            DelimiterPolicy::SingleSpace => Layout::Inline(Spacing::OneSpace),
+        }
+    }
+
+    /// The column of the table for a place.
+    pub fn spacing(self, place: Place) -> Spacing
+        ensures { result ≡ spec.spacing self place }
+    {
+        match self {
+            Layout::Inline(Spacing::OneLine) => match place {
+                Place::BeforePlus | Place::AfterPlus | Place::AfterColon => Spacing::OneSpace,
+                _ => Spacing::OneLine,
+            },
+            Layout::Inline(column) => column,
+            Layout::Lines { base, end, .. } => match place {
+                Place::First | Place::Between | Place::BeforePlus => Spacing::NewLine(base),
+                Place::Last => Spacing::NewLine(end),
+                _ => Spacing::Comments,
+            },
+        }
+    }
+
+    /// The layout of the parts of an item that is so many bytes wide on a single line.
+    pub fn of_parts(self, measured: usize) -> Layout
+        ensures { result ≡ spec.of_parts self measured }
+    {
+        match self {
+            Layout::Inline(_) => self,
+            Layout::Lines {
+                base,
+                level,
+                width,
+                ..
+            } => {
+                if measured.saturating_add(base) < width {
+                    Layout::Inline(Spacing::OneLine)
+                } else {
+                    Layout::Lines {
+                        base: base.saturating_add(level),
+                        end: base,
+                        level,
+                        width,
+                    }
+                }
+            }
+        }
+    }
+
+    /// The layout of the strings of a stream.
+    pub fn in_chunk(self) -> Layout
+        ensures { result ≡ spec.in_chunk self }
+    {
+        match self {
+            Layout::Inline(Spacing::OneLine) => Layout::Inline(Spacing::Comments),
+            _ => self,
+        }
+    }
+}
+
+pub fn lay_space<'a>(
+    space: &mut S<'a>,
+    alloc: Global,
+    layout: Layout,
+    place: Place,
+) -> Result<(), AllocError>
+    ensures laid { OnOk result (s_bytes space.new ≡ respaced kind.S place layout (s_bytes space.old)) }
+    ensures least { layout ≡ least → IsOk result }
+{
+    *space = space.spaced(alloc, layout.spacing(place))?;
+    Ok(())
+}
+
+pub fn lay_mandatory<'a>(
+    space: &mut Ms<'a>,
+    alloc: Global,
+    layout: Layout,
+    place: Place,
+) -> Result<(), AllocError>
+    ensures laid { OnOk result (ms_bytes space.new ≡ respaced kind.MS place layout (ms_bytes space.old)) }
+    ensures least { layout ≡ least → IsOk result }
+{
+    *space = space.spaced(alloc, layout.spacing(place))?;
+    Ok(())
+}
+
+pub fn lay_separator<'a>(
+    separator: &mut Msc<'a>,
+    alloc: Global,
+    layout: Layout,
+) -> Result<(), AllocError>
+    ensures laid { OnOk result (msc_bytes separator.new ≡ respaced kind.MSC spec.Between layout (msc_bytes separator.old)) }
+    ensures least { layout ≡ least → IsOk result }
+{
+    *separator = separator.spaced(alloc, layout.spacing(Place::Between))?;
+    Ok(())
+}
+
+pub fn lay_end<'a>(end: &mut Soc<'a>, alloc: Global, layout: Layout) -> Result<(), AllocError>
+    ensures laid { OnOk result (soc_bytes end.new ≡ respaced kind.SOC spec.Last layout (soc_bytes end.old)) }
+    ensures least { layout ≡ least → IsOk result }
+{
+    *end = end.spaced(alloc, layout.spacing(Place::Last))?;
+    Ok(())
+}

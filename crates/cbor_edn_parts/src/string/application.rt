@@ -1,0 +1,94 @@
+//! Literals of a prefix and a text.
+ghost use Rattle.std.specs.Prelude.{◌≡◌, ◌++◌, ◌↔◌, IsTrue, IfOk, IfSome, OnOk, None, List, ℕ, encode_utf8, string_bytes};
+ghost use Rattle.cbor_edn_parts.specs.Leaves.{literal_bytes};
+ghost use Rattle.cbor_edn_parts.specs.Literal.{IsPrefix, IsLiteral, Prefixed};
+ghost use Rattle.cbor_edn_parts.specs.code.Prefixes as prefixes;
+ghost use Rattle.cbor_edn_parts.specs.Refusals.{IfTold};
+ghost use Rattle.cbor_edn_parts.specs.Written.{application_literal, all_single_escaped};
+
+use super::write::push_escaped;
+use super::{Literal, Quote};
+use crate::error::{Fault, InconsistentEdn};
+use std::alloc::{AllocError, Global};
+use std::borrow::CowStr;
+
+impl<'a> Literal<'a> {
+    /// A prefix, and a text between single quotes: line feeds and what is from U+0020 upward as they are, but for `'`, `\` and
+    /// `"`. Fails where the prefix is none of the grammar, and where memory runs out.
+    pub fn application(
+        alloc: Global,
+        prefix: &str,
+        text: &str,
+    ) -> Result<Literal<'a>, Fault<InconsistentEdn>>
+        ensures written { IfOk result (λ t. literal_bytes t ≡ application_literal prefix.now text.now) }
+        ensures prefix { IfOk result (λ _. IsPrefix prefix.now) }
+        ensures refused { IfTold result (λ _. IsPrefix prefix.now → ⊥) }
+    {
+        if !is_prefix(prefix) {
+            return Err(Fault::Told(InconsistentEdn::InvalidIdentifier));
+        }
+        let mut literal = String::from_str(alloc, prefix)?;
+        literal.push('\'')?;
+        for character in text.chars() {
+            push_single_escaped(&mut literal, character)?;
+        }
+        literal.push('\'')?;
+        let text = CowStr::Owned(literal);
+        Ok(Literal { text })
+    }
+}
+
+impl Literal<'_> {
+    /// The prefix and the text of a literal with a prefix, as `b64` and `a'b` of `b64'a\'b'`: none where it has no prefix. Fails
+    /// where memory runs out.
+    pub fn application_parts(&self, alloc: Global) -> Result<Option<(String, String)>, AllocError>
+        ensures found { IfOk result (λ o. IfSome o (λ p. IsLiteral (Prefixed (string_bytes p.0)) (string_bytes p.1) (literal_bytes self.now))) }
+        ensures none { IfOk result (λ o. o ≡ None → (p v : List ℕ) → IsLiteral (Prefixed p) v (literal_bytes self.now) → ⊥) }
+    {
+        let prefix = self.prefix();
+        if prefix.is_empty() {
+            return Ok(None);
+        }
+        let _whole = self.as_str();
+        let text = Quote::Single.decode(alloc, self.quoted())?;
+        let text = String::from_utf8(text).unwrap();
+        let prefix = String::from_str(alloc, prefix)?;
+        Ok(Some((prefix, text)))
+    }
+}
+
+/// Whether the text is a prefix of the grammar: a letter, and letters of its case and digits.
+fn is_prefix(text: &str) -> bool
+    ensures { result ≡ prefixes.is_prefix text.now }
+{
+    match text.as_bytes() {
+        [b'a'..=b'z', rest @ ..] => are_small(rest),
+        [b'A'..=b'Z', rest @ ..] => are_large(rest),
+        _ => false,
+    }
+}
+
+fn are_small(text: &[u8]) -> bool
+    ensures { result ≡ prefixes.are_small text.now }
+{
+    text.iter()
+        .all(|byte| matches!(*byte, b'a'..=b'z' | b'0'..=b'9'))
+}
+
+fn are_large(text: &[u8]) -> bool
+    ensures { result ≡ prefixes.are_large text.now }
+{
+    text.iter()
+        .all(|byte| matches!(*byte, b'A'..=b'Z' | b'0'..=b'9'))
+}
+
+/// Appends a character as it stands between single quotes.
+fn push_single_escaped(text: &mut String, character: char) -> Result<(), AllocError>
+    ensures { OnOk result (string_bytes text.new ≡ string_bytes text.old ++ all_single_escaped (encode_utf8 character)) }
+{
+    match character {
+        '\'' => text.push_str("\\'"),
+        '"' => text.push_str("\\u{22}"),
+        _ => push_escaped(text, character),
+    }
+}

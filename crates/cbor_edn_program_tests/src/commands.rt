@@ -1,0 +1,250 @@
+//! The three commands, as their words ask for them: outputs, fault lines, limits and statuses.
+use cbor_edn::engine::{StdSink, StdSource, serve};
+use cbor_edn::words::options;
+use std::alloc::Global;
+use std::test::Fail;
+
+// What a run by these words answers: its status, what it writes and what it tells. Where the words are no run, the status that they
+// have, and nothing else.
+fn served<'a>(
+    alloc: Global,
+    words: &'a [&'a str],
+    input: &[u8],
+) -> Result<(u8, Vec<u8>, Vec<u8>), Fail> {
+    let mut sink = StdSink::new(Vec::new(alloc));
+    let mut errors = StdSink::new(Vec::new(alloc));
+    let status = match options(alloc, words) {
+        Ok((options, _, _)) => serve(
+            alloc,
+            &options,
+            &mut StdSource::new(input),
+            &mut sink,
+            &mut errors,
+        ),
+        Err(error) => u8::try_from(error.exit_code()).unwrap_or(u8::MAX),
+    };
+    Ok((status, sink.into_inner(), errors.into_inner()))
+}
+
+// Whether a run ends well and writes this.
+fn writes<'a>(
+    alloc: Global,
+    words: &'a [&'a str],
+    input: &str,
+    output: &[u8],
+) -> Result<bool, Fail> {
+    let (status, written, told) = served(alloc, words, input.as_bytes())?;
+    Ok(status == 0 && written.as_slice() == output && told.is_empty())
+}
+
+// Whether a run ends with a fault whose line begins so, and writes nothing.
+fn tells<'a>(alloc: Global, words: &'a [&'a str], input: &[u8], line: &str) -> Result<bool, Fail> {
+    let (status, written, told) = served(alloc, words, input)?;
+    Ok(status == 1 && written.is_empty() && told.as_slice().starts_with(line.as_bytes()))
+}
+
+// The status of words that are no run.
+fn refused<'a>(alloc: Global, words: &'a [&'a str]) -> Option<i32> {
+    match options(alloc, words) {
+        Ok(_) => None,
+        Err(error) => Some(error.exit_code()),
+    }
+}
+
+const TO_CBOR: &[&str] = &["cbor-edn", "diag2cbor"];
+
+const TO_HEX: &[&str] = &["cbor-edn", "diag2cbor", "-o", "hex"];
+
+const FROM_CBOR: &[&str] = &["cbor-edn", "cbor2diag"];
+
+const FROM_HEX: &[&str] = &["cbor-edn", "cbor2diag", "-i", "hex"];
+
+const TO_DIAG: &[&str] = &["cbor-edn", "diag2diag"];
+
+#[test]
+fn encodes(rt: HostRuntime) -> Result<(), Fail> {
+    let alloc = rt.alloc();
+    assert!(rt; writes(alloc, TO_CBOR, "[1, 0x1f, []]\n", b"\x83\x01\x18\x1f\x80")?);
+    assert!(rt; writes(alloc, TO_HEX, "", b"")?);
+    assert!(rt; writes(alloc, TO_HEX, "[_ 3]", b"9f03ff\n")?);
+    let long = ["cbor-edn", "diag2cbor", "--output-format", "hex"];
+    assert!(rt; writes(alloc, &long, "[_ 3]", b"9f03ff\n")?);
+    let binary = ["cbor-edn", "diag2cbor", "--output-format=binary"];
+    assert!(rt; writes(alloc, &binary, "[_ 3]", b"\x9f\x03\xff")?);
+    let auto = ["cbor-edn", "diag2cbor", "-oauto"];
+    assert!(rt; writes(alloc, &auto, "[_ 3]", b"\x9f\x03\xff")?);
+    Ok(())
+}
+
+// A line has 64 digits: 31 bytes and their head of two make one that is full, and one more byte.
+#[test]
+fn encodes_in_lines(rt: HostRuntime) -> Result<(), Fail> {
+    let alloc = rt.alloc();
+    let text = "'aaaaaaaaaaaaaaaaaaaaaaaaaaaaaaa'";
+    let line = "581f616161616161616161616161616161616161616161616161616161616161\n61\n";
+    assert!(rt; writes(alloc, TO_HEX, text, line.as_bytes())?);
+    let full = "581e6161616161616161616161616161616161616161616161616161616161\
+61\n";
+    assert!(rt;
+        writes(
+            alloc,
+            TO_HEX,
+            "'aaaaaaaaaaaaaaaaaaaaaaaaaaaaaa'",
+            full.as_bytes()
+        )?
+    );
+    Ok(())
+}
+
+#[test]
+fn decodes(rt: HostRuntime) -> Result<(), Fail> {
+    let alloc = rt.alloc();
+    assert!(rt; writes(alloc, FROM_HEX, "83 0102\n03", b"[1, 2, 3]\n")?);
+    assert!(rt; writes(alloc, FROM_HEX, "9F\t03\r\n fF", b"[_ 3]\n")?);
+    assert!(rt; writes(alloc, FROM_CBOR, "\x01\x02", b"1,\n2\n")?);
+    assert!(rt; writes(alloc, FROM_CBOR, "", b"")?);
+    assert!(rt; writes(alloc, FROM_HEX, " \n", b"")?);
+    Ok(())
+}
+
+#[test]
+fn sets_spaces(rt: HostRuntime) -> Result<(), Fail> {
+    let alloc = rt.alloc();
+    let literal = "[1, 2, 'x', ip'2001:db1::/64']\n";
+    assert!(rt; writes(alloc, TO_DIAG, literal, literal.as_bytes())?);
+    let bare = ["cbor-edn", "diag2diag", "--remove-comments"];
+    assert!(rt; writes(alloc, &bare, "[1 /c/, 2]\n", b"[1, 2]\n")?);
+    let kept = ["cbor-edn", "diag2diag", "--preserve-space"];
+    assert!(rt; writes(alloc, &kept, "[1,2]\n", b"[1,2]\n")?);
+    let both = [
+        "cbor-edn",
+        "diag2diag",
+        "--preserve-space",
+        "--remove-comments",
+    ];
+    assert!(rt; writes(alloc, &both, " [1 /c/ 2]\n", b"[1,2]")?);
+    Ok(())
+}
+
+#[test]
+fn tells_faults(rt: HostRuntime) -> Result<(), Fail> {
+    let alloc = rt.alloc();
+    let inconsistent = "cbor-edn: Error encoding output data: Number has no encoding\n";
+    assert!(rt; tells(alloc, TO_CBOR, b"1.0", inconsistent)?);
+    let unread = "cbor-edn: Error processing input file\n";
+    assert!(rt; tells(alloc, TO_DIAG, b"\xff", unread)?);
+    let unparsed = "cbor-edn: Error parsing input data: Invalid EDN in line 1 column ";
+    assert!(rt; tells(alloc, TO_DIAG, b"[,]", unparsed)?);
+    for digits in [b"123".as_slice(), b"1g".as_slice()] {
+        let line = "cbor-edn: Error decoding hexadecimal input\n";
+        assert!(rt; tells(alloc, FROM_HEX, digits, line)?);
+    }
+    let missing = "cbor-edn: Error decoding input data: Missing argument bytes\n";
+    assert!(rt; tells(alloc, FROM_CBOR, b"\x19\x01", missing)?);
+    Ok(())
+}
+
+const DEEP_TEXT: &str =
+    "cbor-edn: Error parsing input data: EDN nested too deeply in line 1 column ";
+
+const DEEP_BYTES: &str = "cbor-edn: Error decoding input data: Nested too deeply\n";
+
+fn arrays(alloc: Global, depth: usize) -> Result<String, Fail> {
+    let mut text = "[".repeat(alloc, depth)?;
+    text.push_str("]".repeat(alloc, depth)?.as_str())?;
+    Ok(text)
+}
+
+#[test]
+fn limits_texts(rt: HostRuntime) -> Result<(), Fail> {
+    let alloc = rt.alloc();
+    let one = ["cbor-edn", "diag2diag", "--max-nesting", "1"];
+    let two = ["cbor-edn", "diag2cbor", "--max-nesting=2"];
+    assert!(rt; tells(alloc, &one, b"[[]]", DEEP_TEXT)?);
+    assert!(rt; writes(alloc, &two, "[[]]", b"\x81\x80")?);
+    assert!(rt; tells(alloc, &one, b"[simple(20)]", DEEP_TEXT)?);
+    assert!(rt; tells(alloc, &one, b"<<[1]>>", DEEP_TEXT)?);
+    let nested = arrays(alloc, 512)?;
+    let (status, written, _) = served(alloc, TO_CBOR, nested.as_bytes())?;
+    assert_eq!(rt; (status, written.len()), (0, 512));
+    let deeper = arrays(alloc, 513)?;
+    assert!(rt; tells(alloc, TO_CBOR, deeper.as_bytes(), DEEP_TEXT)?);
+    let open = "[".repeat(alloc, 100_000)?;
+    assert!(rt; tells(alloc, TO_DIAG, open.as_bytes(), DEEP_TEXT)?);
+    Ok(())
+}
+
+#[test]
+fn limits_bytes(rt: HostRuntime) -> Result<(), Fail> {
+    let alloc = rt.alloc();
+    let one = [
+        "cbor-edn",
+        "cbor2diag",
+        "--input-format",
+        "hex",
+        "--max-nesting",
+        "1",
+    ];
+    assert!(rt; writes(alloc, &one, "81f4", b"[false]\n")?);
+    assert!(rt; tells(alloc, &one, b"81e4", DEEP_BYTES)?);
+    let none = ["cbor-edn", "cbor2diag", "--max-nesting", "0", "-i", "hex"];
+    assert!(rt; writes(alloc, &none, "01", b"1\n")?);
+    assert!(rt; tells(alloc, &none, b"80", DEEP_BYTES)?);
+    let nested = "81".repeat(alloc, 511)?;
+    let inner = format!(in alloc; "{nested}80")?;
+    let (status, _, told) = served(alloc, FROM_HEX, inner.as_bytes())?;
+    assert_eq!(rt; (status, told.len()), (0, 0));
+    let deeper = format!(in alloc; "81{inner}")?;
+    assert!(rt; tells(alloc, FROM_HEX, deeper.as_bytes(), DEEP_BYTES)?);
+    let open = "81".repeat(alloc, 100_000)?;
+    assert!(rt; tells(alloc, FROM_HEX, open.as_bytes(), DEEP_BYTES)?);
+    Ok(())
+}
+
+#[test]
+fn names_of_files(rt: HostRuntime) {
+    for (words, input, output) in [
+        (["cbor-edn", "diag2cbor", "a", "b"].as_slice(), "a", "b"),
+        (["cbor-edn", "diag2cbor", "a"].as_slice(), "a", "-"),
+        (["cbor-edn", "diag2diag"].as_slice(), "-", "-"),
+        (["cbor-edn", "cbor2diag", "-", "b"].as_slice(), "-", "b"),
+        (["cbor-edn", "cbor2diag", "--", "-i"].as_slice(), "-i", "-"),
+    ] {
+        let names = match options(rt.alloc(), words) {
+            Ok((_, first, second)) => (first, second),
+            Err(_) => ("", ""),
+        };
+        assert!(rt; names == (input, output), "{input} {output}");
+    }
+}
+
+#[test]
+fn refuses_words(rt: HostRuntime) {
+    for words in [
+        ["cbor-edn"].as_slice(),
+        ["cbor-edn", "diag2json"].as_slice(),
+        ["cbor-edn", "diag2cbor", "--preserve-space"].as_slice(),
+        ["cbor-edn", "diag2cbor", "-o"].as_slice(),
+        ["cbor-edn", "diag2cbor", "-o", "octal"].as_slice(),
+        ["cbor-edn", "diag2cbor", "-i", "hex"].as_slice(),
+        ["cbor-edn", "diag2diag", "-o", "hex"].as_slice(),
+        ["cbor-edn", "cbor2diag", "--max-nesting", "513"].as_slice(),
+        ["cbor-edn", "cbor2diag", "--max-nesting", "x"].as_slice(),
+        ["cbor-edn", "cbor2diag", "--max-nesting=-1"].as_slice(),
+        ["cbor-edn", "cbor2diag", "--max-nesting", ""].as_slice(),
+        ["cbor-edn", "cbor2diag", "a", "b", "c"].as_slice(),
+    ] {
+        assert_eq!(rt; refused(rt.alloc(), words), Some(2), "{words:?}");
+    }
+}
+
+#[test]
+fn shows_help(rt: HostRuntime) {
+    for words in [
+        ["cbor-edn", "--help"].as_slice(),
+        ["cbor-edn", "--version"].as_slice(),
+        ["cbor-edn", "diag2cbor", "--help"].as_slice(),
+    ] {
+        assert_eq!(rt; refused(rt.alloc(), words), Some(0), "{words:?}");
+    }
+}

@@ -1,0 +1,11 @@
+//! Tests of the program's calls: the words of a command line, runs over devices, and the callers of `cbor_edn_uses`.
+#![tactic(auto)]
+
+#[cfg(test)]
+mod callers;
+#[cfg(test)]
+mod commands;
+#[cfg(test)]
+mod recoding;
+#[cfg(test)]
+mod runs;

@@ -1,0 +1,105 @@
+//! What the tests compare: texts, bytes in hexadecimal digits, and the names of refusals.
+use cbor_edn_core::tree::{Item, Sequence, StandaloneItem};
+use cbor_edn_parts::error::{Fault, ParseError};
+use std::alloc::Global;
+use std::fmt::Debug;
+use std::test::Fail;
+
+/// Whether a text is accepted, and printed as itself.
+pub(crate) fn prints_itself(alloc: Global, text: &str) -> Result<bool, Fail> {
+    let sequence = Sequence::parse(alloc, text)?;
+    let printed = sequence.serialize(alloc)?;
+    Ok(printed.as_str() == text)
+}
+
+/// The bytes of a text's items in lower case digits, or the name of the refusal: `parse` where the text is refused.
+pub(crate) fn encoded(alloc: Global, text: &str) -> Result<String, Fail> {
+    match Sequence::parse(alloc, text) {
+        Ok(sequence) => digits_of(alloc, sequence.to_cbor(alloc)),
+        Err(fault) => unparsed(alloc, fault),
+    }
+}
+
+/// The same of a standalone item's text.
+pub(crate) fn encoded_alone(alloc: Global, text: &str) -> Result<String, Fail> {
+    match StandaloneItem::parse(alloc, text) {
+        Ok(item) => digits_of(alloc, item.to_cbor(alloc)),
+        Err(fault) => unparsed(alloc, fault),
+    }
+}
+
+/// The text of the items that bytes, given in digits, encode, or the name of the refusal.
+pub(crate) fn decoded(alloc: Global, digits: &str) -> Result<String, Fail> {
+    let bytes = hex::decode(alloc, digits)?;
+    match Sequence::from_cbor(alloc, bytes.as_slice()) {
+        Ok(sequence) => Ok(sequence.serialize(alloc)?),
+        Err(fault) => name_of(alloc, fault),
+    }
+}
+
+/// The text of the one item that bytes encode, which may nest so deep, or the name of the refusal.
+pub(crate) fn decoded_item(alloc: Global, bytes: &[u8], limit: usize) -> Result<String, Fail> {
+    match Item::from_cbor_within(alloc, bytes, limit) {
+        Ok(item) => Ok(item.serialize(alloc)?),
+        Err(fault) => name_of(alloc, fault),
+    }
+}
+
+/// Whether a text prints itself, means the bytes, and is what they are decoded as.
+pub(crate) fn stand_for_each_other(alloc: Global, text: &str, digits: &str) -> Result<bool, Fail> {
+    let there = encoded(alloc, text)?;
+    let back = decoded(alloc, digits)?;
+    let is_same = prints_itself(alloc, text)?;
+    Ok(is_same && there.as_str() == digits && back.as_str() == text)
+}
+
+/// Why a text is refused whose items may nest so deep, or nothing where it is accepted.
+pub(crate) fn refusal(alloc: Global, text: &str, limit: usize) -> Result<Option<ParseError>, Fail> {
+    match Sequence::parse_within(alloc, text, limit) {
+        Ok(_) => Ok(None),
+        Err(Fault::Told(refused)) => Ok(Some(refused)),
+        Err(Fault::Memory(refused)) => Err(Fail::from(refused)),
+    }
+}
+
+/// Bytes in lower case digits, or the name of the refusal.
+pub(crate) fn digits_of<E: Debug + Drop>(
+    alloc: Global,
+    answer: Result<Vec<u8>, Fault<E>>,
+) -> Result<String, Fail> {
+    match answer {
+        Ok(bytes) => Ok(hex::encode(alloc, bytes.as_slice())?),
+        Err(fault) => name_of(alloc, fault),
+    }
+}
+
+fn name_of<E: Debug + Drop>(alloc: Global, fault: Fault<E>) -> Result<String, Fail> {
+    match fault {
+        Fault::Told(refused) => Ok(format!(in alloc; "{refused:?}")?),
+        Fault::Memory(refused) => Err(Fail::from(refused)),
+    }
+}
+
+fn unparsed(alloc: Global, fault: Fault<ParseError>) -> Result<String, Fail> {
+    match fault {
+        Fault::Told(_) => Ok(String::from_str(alloc, "parse")?),
+        Fault::Memory(refused) => Err(Fail::from(refused)),
+    }
+}
+
+/// So many times the one text, then so many times the other.
+pub(crate) fn repeated(
+    alloc: Global,
+    count: usize,
+    first: &str,
+    last: &str,
+) -> Result<String, Fail> {
+    let mut text = String::new(alloc);
+    for _ in 0..count {
+        text.push_str(first)?;
+    }
+    for _ in 0..count {
+        text.push_str(last)?;
+    }
+    Ok(text)
+}

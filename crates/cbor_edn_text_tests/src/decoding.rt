@@ -1,0 +1,293 @@
+//! Bytes, the texts that they are decoded as, and the same bytes back; and bytes that are refused.
+use crate::common::{decoded, decoded_item, digits_of, repeated, stand_for_each_other};
+use cbor_edn_core::tree::{Item, NESTING_LIMIT, StandaloneItem};
+use std::alloc::Global;
+use std::test::Fail;
+
+const ROWS: [(&str, &str); 44] = [
+    ("", ""),
+    ("8301181f80", "[1, 31, []]"),
+    ("00012f", "0, 1, -16"),
+    ("1900ff", "255_1"),
+    ("3800", "-1_0"),
+    ("9900020102", "[_1 1, 2]"),
+    ("b8010102", "{_0 1: 2}"),
+    ("b800", "{_0}"),
+    ("bf0102ff", "{_ 1: 2}"),
+    (
+        "9818000000000000000000000000000000000000000000000000",
+        "[0, 0, 0, 0, 0, 0, 0, 0, 0, 0, 0, 0, 0, 0, 0, 0, 0, 0, 0, 0, 0, 0, 0, 0]",
+    ),
+    ("9f820102ff", "[_ [1, 2]]"),
+    ("190001", "1_1"),
+    ("010203", "1, 2, 3"),
+    ("9b000000000000000103", "[_3 3]"),
+    ("bf01a0ff", "{_ 1: {}}"),
+    ("a201020380", "{1: 2, 3: []}"),
+    // strings
+    ("44deadbeef", "h'deadbeef'"),
+    ("4200ff", "h'00ff'"),
+    ("580161", "h'61'_0"),
+    ("5f4161ff", "(_ h'61')"),
+    ("5f40ff", "(_ h'')"),
+    ("5fff", "''_"),
+    ("7fff", "\"\"_"),
+    ("780161", "\"a\"_0"),
+    ("64f09f9880", "\"\u{1f600}\""),
+    // a text as it is written anew
+    ("6948690a220d095c2708", "\"Hi\n\\\"\\r\\t\\\\\\u{27}\\b\""),
+    (
+        "6e48656c6c6f2022576f726c642200",
+        "\"Hello \\\"World\\\"\\u{0}\"",
+    ),
+    ("6469742773", "\"it\\u{27}s\""),
+    ("615c", "\"\\\\\""),
+    ("6508090a0c0d", "\"\\b\\t\n\\f\\r\""),
+    ("640b101f20", "\"\\u{b}\\u{10}\\u{1f} \""),
+    ("677fc3bcf09f9880", "\"\u{7f}\u{fc}\u{1f600}\""),
+    // tags and words
+    ("d80100", "1_0(0)"),
+    ("c2420100", "2(h'0100')"),
+    ("c24101", "2(h'01')"),
+    ("d80281c100", "2_0([1(0)])"),
+    ("c2c102", "2(1(2))"),
+    ("d818f6", "24(null)"),
+    ("da00000018f6", "24_2(null)"),
+    ("e0", "simple(0)"),
+    ("f3", "simple(19)"),
+    ("f820", "simple(32)"),
+    ("82f4f7", "[false, undefined]"),
+    ("f4f5f6f7", "false, true, null, undefined"),
+];
+
+#[test]
+fn decodes_rows(rt: HostRuntime) -> Result<(), Fail> {
+    for (digits, text) in ROWS {
+        assert!(rt; stand_for_each_other(rt.alloc(), text, digits)?, "{text:?}");
+    }
+    Ok(())
+}
+
+/// Bytes that encode no items, and the name of the refusal.
+const REFUSED: [(&str, &str); 40] = [
+    ("82", "OutOfData"),
+    ("8201", "OutOfData"),
+    ("9f", "OutOfData"),
+    ("5f", "OutOfData"),
+    ("c1", "OutOfData"),
+    ("b80101", "OutOfData"),
+    // a count takes no memory before its items are read
+    ("9bffffffffffffffff", "OutOfData"),
+    ("9bffffffffffffffff00", "OutOfData"),
+    ("bbffffffffffffffff", "OutOfData"),
+    ("1c", "Reserved"),
+    ("fc", "Reserved"),
+    ("18", "MissingArgument"),
+    ("1900", "MissingArgument"),
+    ("1901", "MissingArgument"),
+    ("f97c", "MissingArgument"),
+    ("5f6161ff", "OtherChunk"),
+    ("5f7f", "OtherChunk"),
+    ("5f5f4161ffff", "OpenChunk"),
+    ("1f", "OpenNumber"),
+    ("3f", "OpenNumber"),
+    ("df", "OpenNumber"),
+    ("df00", "OpenNumber"),
+    ("ff", "MisplacedBreak"),
+    ("a1ff", "MisplacedBreak"),
+    ("bf01ff", "MisplacedBreak"),
+    ("9f8201ff", "MisplacedBreak"),
+    ("c1ff", "MisplacedBreak"),
+    ("f800", "InvalidSimple"),
+    ("f818", "InvalidSimple"),
+    ("f81f", "InvalidSimple"),
+    ("f93c00", "FloatOutOfScope"),
+    ("f97c01", "FloatOutOfScope"),
+    ("f97e01", "FloatOutOfScope"),
+    ("fa7f800001", "FloatOutOfScope"),
+    ("fb0000000000000000", "FloatOutOfScope"),
+    ("fb7ff8000000000001", "FloatOutOfScope"),
+    ("5b7fffffffffffffff", "MissingBytes"),
+    ("5bffffffffffffffff00", "MissingBytes"),
+    ("61ff", "InvalidUtf8"),
+    // a character does not go over from one string to the next
+    ("7f61c361a9ff", "InvalidUtf8"),
+];
+
+#[test]
+fn refuses_bytes(rt: HostRuntime) -> Result<(), Fail> {
+    let alloc = rt.alloc();
+    for (digits, name) in REFUSED {
+        assert_eq!(rt; decoded(alloc, digits)?.as_str(), name, "{digits}");
+        let bytes = hex::decode(alloc, digits)?;
+        let told = decoded_item(alloc, bytes.as_slice(), NESTING_LIMIT)?;
+        assert_eq!(rt; told.as_str(), name, "{digits}");
+    }
+    Ok(())
+}
+
+#[test]
+fn refuses_other_than_one_item(rt: HostRuntime) -> Result<(), Fail> {
+    for (bytes, name) in [
+        (b"".as_slice(), "OutOfData"),
+        (b"\0\0".as_slice(), "DataAfter"),
+        (b"\x01\x02\x03".as_slice(), "DataAfter"),
+    ] {
+        let told = decoded_item(rt.alloc(), bytes, NESTING_LIMIT)?;
+        assert_eq!(rt; told.as_str(), name, "{bytes:?}");
+    }
+    Ok(())
+}
+
+/// Bytes of an item no beginning of which is one, and its text.
+const WHOLE: [(&str, &str); 10] = [
+    ("9f820102ff", "[_ [1, 2]]"),
+    ("3bffffffffffffffff", "-18446744073709551616"),
+    (
+        "5f4668656c6c6f2045776f726c64ff",
+        "(_ h'68656c6c6f20', h'776f726c64')",
+    ),
+    ("9f03ff", "[_ 3]"),
+    ("9b000000000000000103", "[_3 3]"),
+    ("5b000000000000000568656c6c6f", "h'68656c6c6f'_3"),
+    ("43019fff", "h'019fff'"),
+    ("f97e00", "NaN_1"),
+    ("f8ff", "simple(255)"),
+    ("d8184100", "24(h'00')"),
+];
+
+/// Whether bytes are refused for want of more, and not for their nesting.
+fn is_cut(alloc: Global, bytes: &[u8]) -> Result<bool, Fail> {
+    let told = decoded_item(alloc, bytes, NESTING_LIMIT)?;
+    Ok(matches!(
+        told.as_str(),
+        "OutOfData" | "MissingArgument" | "MissingBytes"
+    ))
+}
+
+#[test]
+fn refuses_beginnings(rt: HostRuntime) -> Result<(), Fail> {
+    let alloc = rt.alloc();
+    for (digits, text) in WHOLE {
+        let bytes = hex::decode(alloc, digits)?;
+        let whole = decoded_item(alloc, bytes.as_slice(), NESTING_LIMIT)?;
+        assert_eq!(rt; whole.as_str(), text);
+        for length in 0..bytes.len() {
+            assert!(rt;
+                is_cut(alloc, &bytes.as_slice()[..length])?,
+                "{length} of {digits}"
+            );
+        }
+    }
+    Ok(())
+}
+
+/// Bytes, how deep their item nests, and its text. Simple values that have names do not nest.
+const NESTED: [(&str, usize, &str); 12] = [
+    ("f5", 0, "true"),
+    ("80", 1, "[]"),
+    ("c100", 1, "1(0)"),
+    ("c102", 1, "1(2)"),
+    ("f0", 1, "simple(16)"),
+    ("f820", 1, "simple(32)"),
+    ("81f4", 1, "[false]"),
+    ("81f97e00", 1, "[NaN_1]"),
+    ("a101a0", 2, "{1: {}}"),
+    ("81e4", 2, "[simple(4)]"),
+    ("81f820", 2, "[simple(32)]"),
+    ("c1c102", 2, "1(1(2))"),
+];
+
+#[test]
+fn counts_what_nests(rt: HostRuntime) -> Result<(), Fail> {
+    let alloc = rt.alloc();
+    for (digits, depth, text) in NESTED {
+        let bytes = hex::decode(alloc, digits)?;
+        for limit in 0..3 {
+            let wanted = if limit < depth { "TooDeep" } else { text };
+            let told = decoded_item(alloc, bytes.as_slice(), limit)?;
+            assert_eq!(rt; told.as_str(), wanted, "{digits} at {limit}");
+        }
+    }
+    Ok(())
+}
+
+/// Arrays of one entry, so many, the innermost of them empty.
+fn nested(alloc: Global, depth: usize) -> Result<Vec<u8>, Fail> {
+    let mut bytes = Vec::new(alloc);
+    for _ in 1..depth {
+        bytes.push(0x81)?;
+    }
+    bytes.push(0x80)?;
+    Ok(bytes)
+}
+
+#[test]
+fn accepts_the_deepest(rt: HostRuntime) -> Result<(), Fail> {
+    let alloc = rt.alloc();
+    let bytes = nested(alloc, NESTING_LIMIT)?;
+    let text = repeated(alloc, NESTING_LIMIT, "[", "]")?;
+    let told = decoded_item(alloc, bytes.as_slice(), NESTING_LIMIT)?;
+    assert_eq!(rt; told.as_str(), text.as_str());
+    Ok(())
+}
+
+#[test]
+fn refuses_what_is_deeper(rt: HostRuntime) -> Result<(), Fail> {
+    let alloc = rt.alloc();
+    for depth in [NESTING_LIMIT + 1, 100_001] {
+        let bytes = nested(alloc, depth)?;
+        let told = decoded_item(alloc, bytes.as_slice(), NESTING_LIMIT)?;
+        assert_eq!(rt; told.as_str(), "TooDeep");
+    }
+    Ok(())
+}
+
+/// The text of the item that bytes begin with, which may nest so deep, and the bytes behind it.
+fn first_item(alloc: Global, bytes: &[u8], limit: usize) -> Result<(String, &[u8]), Fail> {
+    match Item::from_cbor_with_rest_within(alloc, bytes, limit) {
+        Ok((item, rest)) => Ok((item.serialize(alloc)?, rest)),
+        Err(_) => Err(Fail::from("refused")),
+    }
+}
+
+/// The same of a standalone item, without a limit of its own.
+fn first_standalone(alloc: Global, bytes: &[u8]) -> Result<(String, &[u8]), Fail> {
+    match StandaloneItem::from_cbor_with_rest(alloc, bytes) {
+        Ok((item, rest)) => Ok((item.serialize(alloc)?, rest)),
+        Err(_) => Err(Fail::from("refused")),
+    }
+}
+
+#[test]
+fn answers_the_rest(rt: HostRuntime) -> Result<(), Fail> {
+    let alloc = rt.alloc();
+    for (bytes, depth, text, wanted) in [
+        (b"\x01\x02\x03".as_slice(), 0, "1", b"\x02\x03".as_slice()),
+        (b"\x80\x02".as_slice(), 1, "[]", b"\x02".as_slice()),
+    ] {
+        let (told, rest) = first_item(alloc, bytes, depth)?;
+        assert_eq!(rt; told.as_str(), text);
+        assert_eq!(rt; rest, wanted);
+        let (told, rest) = first_standalone(alloc, bytes)?;
+        assert_eq!(rt; told.as_str(), text);
+        assert_eq!(rt; rest, wanted);
+    }
+    Ok(())
+}
+
+/// The bytes of the standalone item that bytes encode.
+fn encoded_again(alloc: Global, bytes: &[u8]) -> Result<String, Fail> {
+    let item: StandaloneItem<'_> = StandaloneItem::from_cbor(alloc, bytes)?;
+    digits_of(alloc, item.to_cbor(alloc))
+}
+
+#[test]
+fn encodes_standalone_items_again(rt: HostRuntime) -> Result<(), Fail> {
+    let bytes = b"\x9f\x19\x00\xff\xb8\x02\x01\x38\x00\x03\x80\xff";
+    assert_eq!(rt;
+        encoded_again(rt.alloc(), bytes)?.as_str(),
+        "9f1900ffb8020138000380ff"
+    );
+    Ok(())
+}

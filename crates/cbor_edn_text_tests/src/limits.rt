@@ -1,0 +1,114 @@
+//! How deep texts may nest, and how often a text is looked at.
+use crate::common::{encoded, prints_itself, refusal, repeated};
+use cbor_edn_core::tree::{NESTING_LIMIT, Sequence, StandaloneItem};
+use cbor_edn_parts::looks::Looks;
+use std::alloc::Global;
+use std::mem::size_of;
+use std::test::Fail;
+
+#[derive(Debug, Clone, Copy, PartialEq)]
+enum Answer {
+    Accepted,
+    TooDeep,
+    Invalid,
+}
+
+fn answer_of(alloc: Global, text: &str, limit: usize) -> Result<Answer, Fail> {
+    match refusal(alloc, text, limit)? {
+        None => Ok(Answer::Accepted),
+        Some(refused) if refused.too_deep() => Ok(Answer::TooDeep),
+        Some(_) => Ok(Answer::Invalid),
+    }
+}
+
+fn accepts_standalone(alloc: Global, text: &str, limit: usize) -> bool {
+    StandaloneItem::parse_within(alloc, text, limit).is_ok()
+}
+
+/// Texts, and how deep their items nest: each item of a sequence by itself, and words not at all.
+const NESTED: [(&str, usize); 15] = [
+    ("1", 0),
+    ("[]", 1),
+    ("[1], [2], [3]", 1),
+    ("(_ 'a' + <<1>>)", 1),
+    ("[true, NaN]", 1),
+    ("[[]]", 2),
+    ("{1: {}}", 2),
+    ("{{}: 1}", 2),
+    ("{[]: {}, 3: []}", 2),
+    ("<<[1]>>", 2),
+    ("[1(2)]", 2),
+    ("1(2(3))", 2),
+    ("simple([])", 2),
+    ("[simple(20)]", 2),
+    ("[{1: [_ 2]}]", 3),
+];
+
+#[test]
+fn counts_what_nests(rt: HostRuntime) -> Result<(), Fail> {
+    for (text, depth) in NESTED {
+        for limit in 0..4 {
+            let wanted = if limit < depth {
+                Answer::TooDeep
+            } else {
+                Answer::Accepted
+            };
+            assert_eq!(rt;
+                answer_of(rt.alloc(), text, limit)?,
+                wanted,
+                "{text:?} at {limit}"
+            );
+        }
+    }
+    assert_eq!(rt; answer_of(rt.alloc(), ",1", 0)?, Answer::Invalid);
+    Ok(())
+}
+
+#[test]
+fn accepts_the_deepest(rt: HostRuntime) -> Result<(), Fail> {
+    let alloc = rt.alloc();
+    assert_eq!(rt; NESTING_LIMIT, 512);
+    let deepest = repeated(alloc, 512, "[", "]")?;
+    assert!(rt; prints_itself(alloc, deepest.as_str())?);
+    assert_eq!(rt; encoded(alloc, deepest.as_str())?.len(), 1024);
+    Ok(())
+}
+
+#[test]
+fn refuses_what_is_deeper(rt: HostRuntime) -> Result<(), Fail> {
+    let alloc = rt.alloc();
+    let deeper = repeated(alloc, 513, "[", "]")?;
+    assert_eq!(rt;
+        answer_of(alloc, deeper.as_str(), NESTING_LIMIT)?,
+        Answer::TooDeep
+    );
+    assert!(rt; !accepts_standalone(alloc, deeper.as_str(), NESTING_LIMIT));
+    assert!(rt; accepts_standalone(alloc, deeper.as_str(), 513));
+    Ok(())
+}
+
+#[test]
+fn refuses_many_open_arrays(rt: HostRuntime) -> Result<(), Fail> {
+    let open = repeated(rt.alloc(), 100_000, "[", "")?;
+    assert_eq!(rt;
+        answer_of(rt.alloc(), open.as_str(), NESTING_LIMIT)?,
+        Answer::TooDeep
+    );
+    Ok(())
+}
+
+fn counts_sequence(alloc: Global, text: &str) -> bool {
+    Sequence::parse_counted(alloc, text, &mut Looks::new()).is_ok()
+}
+
+fn counts_standalone(alloc: Global, text: &str) -> bool {
+    StandaloneItem::parse_counted(alloc, text, &mut Looks::new()).is_ok()
+}
+
+#[test]
+fn looks_take_no_bytes(rt: HostRuntime) {
+    assert_eq!(rt; size_of::<Looks>(), 0);
+    assert!(rt; counts_sequence(rt.alloc(), "[1, 2]"));
+    assert!(rt; counts_standalone(rt.alloc(), "[1, 2]"));
+    assert!(rt; !counts_sequence(rt.alloc(), "[1, 2"));
+}

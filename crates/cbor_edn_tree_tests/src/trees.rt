@@ -1,0 +1,212 @@
+//! Copies and comparisons of trees, and trees that are made of others.
+use cbor_edn_core::tree::{Item, Sequence, StandaloneItem};
+use std::alloc::Global;
+use std::test::Fail;
+
+fn is_copied(sequence: &Sequence<'_>, alloc: Global, text: &str) -> Result<bool, Fail> {
+    let copy = sequence.clone()?;
+    let printed = copy.serialize(alloc)?;
+    Ok(copy == *sequence && printed.as_str() == text)
+}
+
+/// Whether a text's sequence equals its copy, which prints the text.
+fn is_own_copy(alloc: Global, text: &str) -> Result<bool, Fail> {
+    let sequence = Sequence::parse(alloc, text)?;
+    is_copied(&sequence, alloc, text)
+}
+
+fn is_copy_alone<'a>(
+    item: &StandaloneItem<'a>,
+    copy: &StandaloneItem<'a>,
+    alloc: Global,
+    text: &str,
+) -> Result<bool, Fail> {
+    let printed = copy.serialize(alloc)?;
+    Ok(*copy == *item && printed.as_str() == text)
+}
+
+fn is_copied_alone(item: &StandaloneItem<'_>, alloc: Global, text: &str) -> Result<bool, Fail> {
+    let copy = item.clone()?;
+    is_copy_alone(item, &copy, alloc, text)
+}
+
+/// The same of a standalone item's text.
+fn is_own_copy_alone(alloc: Global, text: &str) -> Result<bool, Fail> {
+    let item = StandaloneItem::parse(alloc, text)?;
+    is_copied_alone(&item, alloc, text)
+}
+
+#[test]
+fn copies_texts(rt: HostRuntime) -> Result<(), Fail> {
+    assert!(rt; is_own_copy(rt.alloc(), " [_ 1, /c/ 2_1 ,] {3 /e/ :4} # d\n")?);
+    assert!(rt; is_own_copy_alone(rt.alloc(), " {_0 1 : /c/ [(_ 'a', <<2>>)] ,} ")?);
+    Ok(())
+}
+
+#[test]
+fn copies_the_deepest(rt: HostRuntime) -> Result<(), Fail> {
+    let alloc = rt.alloc();
+    let open = "[".repeat(alloc, 512)?;
+    let close = "]".repeat(alloc, 512)?;
+    let deepest = format!(in alloc; "{open}{close}")?;
+    assert!(rt; is_own_copy(alloc, deepest.as_str())?);
+    Ok(())
+}
+
+// An item of every form that is decoded.
+const MIXED: &[u8] =
+    b"\xbf\x01\x82\x5f\x41a\xff\x61b\x58\x00\x20\xc1\xf8\x63\x82\xf4\xf9\x7c\x00\xff";
+
+const MIXED_TEXT: &str = "{_ 1: [(_ h'61'), \"b\"], h''_0: -1, 1(simple(99)): [false, Infinity_1]}";
+
+fn is_copied_item(item: &Item<'_>, alloc: Global, text: &str) -> Result<bool, Fail> {
+    let copy = item.clone()?;
+    let printed = copy.serialize(alloc)?;
+    Ok(copy.is_same(item) && printed.as_str() == text)
+}
+
+/// Whether the item that bytes encode equals its copy, which prints the text.
+fn is_own_copy_of_item(alloc: Global, bytes: &[u8], text: &str) -> Result<bool, Fail> {
+    let item: Item<'_> = Item::from_cbor(alloc, bytes)?;
+    is_copied_item(&item, alloc, text)
+}
+
+#[test]
+fn copies_items(rt: HostRuntime) -> Result<(), Fail> {
+    assert!(rt; is_own_copy_of_item(rt.alloc(), MIXED, MIXED_TEXT)?);
+    Ok(())
+}
+
+fn is_decoded(item: &Item<'_>, alloc: Global, bytes: &[u8]) -> Result<bool, Fail> {
+    let other: Item<'_> = Item::from_cbor(alloc, bytes)?;
+    Ok(*item == other)
+}
+
+fn are_equal_items(alloc: Global, one: &[u8], other: &[u8]) -> Result<bool, Fail> {
+    let one: Item<'_> = Item::from_cbor(alloc, one)?;
+    is_decoded(&one, alloc, other)
+}
+
+#[test]
+fn compares_items(rt: HostRuntime) -> Result<(), Fail> {
+    for (one, other, are_equal) in [
+        (MIXED, MIXED, true),
+        (MIXED, b"\xa0".as_slice(), false),
+        (b"\x41a".as_slice(), b"\x61a".as_slice(), false),
+        (b"\x01".as_slice(), b"\x18\x01".as_slice(), false),
+    ] {
+        let told = are_equal_items(rt.alloc(), one, other)?;
+        assert_eq!(rt; told, are_equal, "{one:?} and {other:?}");
+    }
+    Ok(())
+}
+
+fn alone<'a>(alloc: Global, bytes: &[u8]) -> Result<StandaloneItem<'a>, Fail> {
+    let item: Item<'a> = Item::from_cbor(alloc, bytes)?;
+    Ok(StandaloneItem::from(item))
+}
+
+fn printed_alone(alloc: Global, bytes: &[u8]) -> Result<String, Fail> {
+    let item: StandaloneItem<'_> = alone(alloc, bytes)?;
+    Ok(item.serialize(alloc)?)
+}
+
+#[test]
+fn a_standalone_item_has_no_space_at_first(rt: HostRuntime) -> Result<(), Fail> {
+    assert_eq!(rt;
+        printed_alone(rt.alloc(), b"\x82\x02\x03")?.as_str(),
+        "[2, 3]"
+    );
+    Ok(())
+}
+
+fn shown(alloc: Global, text: &str) -> Result<String, Fail> {
+    let tree = Sequence::parse(alloc, text)?;
+    Ok(format!(in alloc; "{tree:?}")?)
+}
+
+#[test]
+fn shows_numbers_words_literals_and_forms(rt: HostRuntime) -> Result<(), Fail> {
+    for (text, outline) in [
+        (" ", ""),
+        ("12_1", "12"),
+        ("NaN_1, true", "NaN, true"),
+        ("[1], {2: 3}, 1(2)", "[..], {..}, (..)"),
+        ("h'00'_0, 'a' + 'b'", "h'00', .. + .."),
+        ("<<1>>, ..., (_ 'a')", "<<..>>, ..., (_ ..)"),
+    ] {
+        assert_eq!(rt; shown(rt.alloc(), text)?.as_str(), outline, "{text:?}");
+    }
+    Ok(())
+}
+
+// A list keeps its items side by side, so that each byte of an item counts.
+#[test]
+fn items_are_small(rt: HostRuntime) {
+    assert!(rt; std::mem::size_of::<Item<'static>>() <= 48);
+}
+
+fn are_equal(alloc: Global, one: &str, other: &str) -> Result<bool, Fail> {
+    let one = Sequence::parse(alloc, one)?;
+    let other = Sequence::parse(alloc, other)?;
+    Ok(one == other)
+}
+
+#[test]
+fn spaces_tell_trees_apart(rt: HostRuntime) -> Result<(), Fail> {
+    let alloc = rt.alloc();
+    let texts = [
+        "[1,2]",
+        "[1 2]",
+        "[ 1,2]",
+        "[1,2 ]",
+        " [1,2]",
+        "[1,2] ",
+        "[1,2,]",
+        "[01,2]",
+        "[1]",
+        "[]",
+        "1,2",
+        "",
+        "[_ 1,2]",
+        "[_1 1,2]",
+        "[_i 1,2]",
+        "1_1,2",
+        "1_2,2",
+        "{1:2}",
+        "{1: 2}",
+        "{1 :2}",
+        "{2:1}",
+        "{_ 1:2}",
+        "{}",
+        "{ }",
+        "{_}",
+        "{_1}",
+        "'a'",
+        "\"a\"",
+        "'a'_0",
+        "'a'+'b'",
+        "'a' +'b'",
+        "'a'+ 'b'",
+        "<<>>",
+        "<< >>",
+        "<<1>>",
+        "<<1>>_1",
+        "(_ 'a')",
+        "(_  'a')",
+        "(_ 'a','b')",
+        "...",
+        "....",
+        "h'a'",
+    ];
+    for (i, one) in texts.iter().enumerate() {
+        for (j, other) in texts.iter().enumerate() {
+            assert_eq!(rt;
+                are_equal(alloc, one, other)?,
+                i == j,
+                "{one:?} and {other:?}"
+            );
+        }
+    }
+    Ok(())
+}
