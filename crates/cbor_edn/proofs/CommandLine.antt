@@ -15,7 +15,7 @@ use Rattle.clap.specs.declared.parser.matches.SubCommand.{SubCommand}
 use Rattle.clap.specs.declared.parser.matches.ArgMatches.TheViews.{out-SubCommand}
 use Rattle.clap.proofs.OnLiterals.{clap_on_literals}
 use Rattle.clap.proofs.WalkLemmas.{first_value-rows, one_text-rows}
-use Rattle.cbor_edn_core.specs.declared.tree.TheConstants.{NESTING_LIMIT}
+use Rattle.cbor_edn_parts.specs.declared.nesting.TheConstants.{NESTING_LIMIT}
 use Rattle.cbor_edn.specs.CommandLine as line
 use Rattle.cbor_edn.specs.Steps.{IsCommandOf}
 

@@ -7,7 +7,7 @@ use Rattle.clap.specs.Words.{App, Row, Rule, Text, first_of, new_app, new_rule, 
 use Rattle.clap.specs.declared.builder.action.ArgAction.TheVariants.{SetTrue}
 use Rattle.clap.specs.declared.builder.value_parser.ValueParser.{ValueParser}
 use Rattle.clap.specs.declared.builder.value_parser.ValueParser.TheVariants.{Names, Unsigned}
-use Rattle.cbor_edn_core.specs.declared.tree.TheConstants.{NESTING_LIMIT}
+use Rattle.cbor_edn_parts.specs.declared.nesting.TheConstants.{NESTING_LIMIT}
 use Rattle.cbor_edn.specs.declared.engine.Command.{Command}
 use Rattle.cbor_edn.specs.declared.engine.Command.TheVariants.{Diag2Cbor, Cbor2Diag, Diag2Diag}
 use Rattle.cbor_edn.specs.declared.engine.Options.{Options}

@@ -7,12 +7,10 @@
 pub use cbor_edn_model::label::{Label, LabelKind};
 use cbor_edn_model::word::{NamedSimple, NonFinite};
 pub use cbor_edn_parts::indicator::Indicator;
+pub use cbor_edn_parts::nesting::NESTING_LIMIT;
 use cbor_edn_parts::number::Number;
 use cbor_edn_parts::space::{Ms, Msc, S, Soc};
 use cbor_edn_parts::string::{Dots, Literal};
-
-/// How deep arrays, maps, tags, `simple(..)` and embedded sequences may nest where no limit is given.
-pub const NESTING_LIMIT: usize = 512;
 
 /// An item.
 pub type Item<'a> = ItemOf<S<'a>, Ms<'a>, Msc<'a>, Soc<'a>, Number<'a>, Literal<'a>, Dots<'a>>;

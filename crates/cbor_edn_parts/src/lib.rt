@@ -8,6 +8,7 @@ pub mod laws;
 pub mod layout;
 pub mod location;
 pub mod looks;
+pub mod nesting;
 pub mod number;
 pub mod policy;
 mod scan;

@@ -1,5 +1,5 @@
 use Rattle.cbor_edn_core.specs.View.{standalone_tree}
-use Rattle.cbor_edn_core.specs.declared.tree.TheConstants.{NESTING_LIMIT}
+use Rattle.cbor_edn_parts.specs.declared.nesting.TheConstants.{NESTING_LIMIT}
 use Rattle.cbor_edn.proofs.Recoding.{text_of_decoded_item}
 use Rattle.cbor_edn.proofs.laws.recode.item.decoded_text.Goals as goal
 

@@ -1,6 +1,6 @@
 use Rattle.cbor_edn_model.specs.Trees.{items}
 use Rattle.cbor_edn_core.specs.View.{standalone_tree}
-use Rattle.cbor_edn_core.specs.declared.tree.TheConstants.{NESTING_LIMIT}
+use Rattle.cbor_edn_parts.specs.declared.nesting.TheConstants.{NESTING_LIMIT}
 use Rattle.cbor_edn.proofs.Recoding.{meant_by_item_text}
 use Rattle.cbor_edn.proofs.laws.recode.item.read_and_encoded.Goals as goal
 
