@@ -14,3 +14,4 @@ pub mod StringTurns
 pub mod Turns
 pub mod Views
 pub mod Pieces
+pub mod Paths

@@ -13,6 +13,7 @@ mod grammar;
 pub mod laws;
 mod lend;
 mod parse;
+mod path;
 mod policy;
 mod serialize;
 mod to_cbor;

@@ -8,4 +8,5 @@ pub mod StringKinds
 pub mod TagDigits
 pub mod Texts
 pub mod Written
+pub mod Counted
 pub mod Digits

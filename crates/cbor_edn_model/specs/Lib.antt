@@ -20,4 +20,5 @@ pub mod Plain
 pub mod BareLaws
 pub mod Fewer
 pub mod Accessed
+pub mod Paths
 pub mod code

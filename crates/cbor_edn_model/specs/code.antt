@@ -1,6 +1,7 @@
 -- What only clauses of private functions cite, and what laws tie to the definitions: nothing of it needs to be believed.
 pub mod Adding
 pub mod CborReading
+pub mod Counted
 pub mod Encoding
 pub mod Laying
 pub mod LayoutRows

@@ -14,6 +14,8 @@ mod indicators;
 #[cfg(test)]
 mod loans;
 #[cfg(test)]
+mod paths;
+#[cfg(test)]
 mod policies;
 #[cfg(test)]
 mod trees;

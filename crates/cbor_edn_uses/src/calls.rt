@@ -1,6 +1,6 @@
 //! Public calls under their own clauses. Bodies that these clauses refuse stand in `must-fail/`: a check here is that of a small crate,
 //! and what a clause refuses here it refuses where the call is written.
-ghost use Rattle.std.specs.Prelude.{◌≡◌, ◌≤◌, ◌+◌, ◌*◌, ◌≢◌, length, map, Some, None, IfOk, IfErr, OnOk};
+ghost use Rattle.std.specs.Prelude.{◌≡◌, option_map, ◌≤◌, ◌+◌, ◌*◌, ◌≢◌, length, map, Some, None, IfOk, IfErr, OnOk};
 ghost use Rattle.std.specs.String.{string_bytes};
 ghost use Rattle.cbor_edn_core.specs.Iterated.{items_left};
 ghost use Rattle.cbor_edn_core.specs.Parsing.{ParsedSequence, Unparsed};
@@ -11,7 +11,8 @@ ghost use Rattle.cbor_edn_model.specs.Commented.{commented};
 ghost use Rattle.cbor_edn_model.specs.Decoded.{IsDecodedSequence, NoSequence};
 ghost use Rattle.cbor_edn_model.specs.Fewer.{Fewer};
 ghost use Rattle.cbor_edn_model.specs.Spelling.{SpellsSequence};
-ghost use Rattle.cbor_edn_model.specs.Trees.{items};
+ghost use Rattle.cbor_edn_model.specs.Paths.{at_sequence};
+ghost use Rattle.cbor_edn_model.specs.Trees.{items, text};
 ghost use Rattle.cbor_edn_parts.specs.Refusals.{IfTold};
 
 use cbor_edn::{
@@ -105,4 +106,18 @@ pub fn get_application_literal(
     ensures found { IfOk result (λ p. IsApplicationItem (item_tree item.now) (string_bytes p.0) (string_bytes p.1)) }
 {
     item.get_application_literal(alloc)
+}
+
+/// The text of the item that `Sequence::at_mut` lends.
+pub fn text_at(
+    sequence: &mut Sequence<'_>,
+    alloc: Global,
+    path: &[usize],
+) -> Result<Option<String>, AllocError>
+    ensures { IfOk result (λ t. option_map string_bytes t ≡ option_map text (at_sequence path.now (sequence_tree sequence.old))) }
+{
+    match sequence.at_mut(path) {
+        Some(item) => Ok(Some(item.serialize(alloc)?)),
+        None => Ok(None),
+    }
 }
