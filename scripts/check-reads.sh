@@ -31,8 +31,8 @@ stands_in 'Text::new(' crates/cbor_edn_core/src/parse.rt
 stands_in '.slice(' crates/cbor_edn_parts/src/scan.rt crates/cbor_edn_parts/src/space/read.rt
 
 by_hand=$(find crates -path '*/out' -prune -o -name Proof.antt -print | sort)
-wanted='crates/cbor_edn/proofs/engine/count/Count/after/Proof.antt
-crates/cbor_edn/proofs/engine/count/Count/new/Proof.antt
+wanted='crates/cbor_edn_command/proofs/count/Count/after/Proof.antt
+crates/cbor_edn_command/proofs/count/Count/new/Proof.antt
 crates/cbor_edn_parts/proofs/looks/Looks/new/Proof.antt
 crates/cbor_edn_parts/proofs/looks/Looks/next/Proof.antt'
 if [ "$by_hand" = "$wanted" ]; then

@@ -6,7 +6,7 @@ use Rattle.cbor_edn_parts.specs.Spacing.{indented}
 use Rattle.cbor_edn_model.specs.Trees.{Tree, Seq, Valid, items}
 use Rattle.cbor_edn_core.proofs.layout.Layouts.{keeps_items, stays_valid}
 use Rattle.cbor_edn.specs.Runs.{laid_where, edited}
-use Rattle.cbor_edn.specs.declared.engine.Options.{Options}
+use Rattle.cbor_edn_command.specs.declared.options.Options.{Options}
 
 same_items : (asked : Bool) (policy : DelimiterPolicy) (w : Tree Seq) → items (laid_where asked policy w) ≡ items w
 same_items true policy w = keeps_items Seq policy w

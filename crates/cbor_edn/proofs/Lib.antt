@@ -1,6 +1,4 @@
-mod CommandLine
 mod Edits
-mod Lines
 mod Loading
 mod Recoding
 mod Returns

@@ -16,13 +16,14 @@ use Rattle.cbor_edn_parts.specs.declared.error.Fault.{Fault}
 use Rattle.cbor_edn_parts.specs.declared.error.Fault.TheVariants.{Memory, Told}
 use Rattle.cbor_edn_parts.specs.declared.error.InconsistentEdn.{InconsistentEdn}
 use Rattle.cbor_edn_model.specs.Meaning.{NoEncoding}
-use Rattle.cbor_edn.specs.Runs.{IsReadAs, IsDecodedAs, IsRefused, input_bytes, told_as}
+use Rattle.cbor_edn_command.specs.Hexadecimal.{input_bytes}
+use Rattle.cbor_edn.specs.Runs.{IsReadAs, IsDecodedAs, IsRefused, told_as}
 use Rattle.cbor_edn.specs.Steps.{IsEncoded, IsUnencoded, IsUndiagnosed}
-use Rattle.cbor_edn.specs.declared.engine.Command.TheVariants.{Cbor2Diag}
+use Rattle.cbor_edn_command.specs.declared.options.Command.TheVariants.{Cbor2Diag}
 use Rattle.cbor_edn.specs.declared.engine.RunError.{RunError}
 use Rattle.cbor_edn.specs.declared.engine.RunError.TheVariants.{Read, NotUtf8, Parse, Cbor, Hex, Inconsistent, Write}
 use Rattle.cbor_edn.specs.declared.engine.RunError.TheVariants as run
-use Rattle.cbor_edn.specs.declared.engine.Options.{Options}
+use Rattle.cbor_edn_command.specs.declared.options.Options.{Options}
 
 pub read_as : (limit : ℕ) (input t : List ℕ) (x : Sequence) → t ≡ input → IsUtf8 input → ParsedSequence limit t x → IsReadAs limit input (sequence_tree x)
 read_as limit input t x same utf8 parsed = record {

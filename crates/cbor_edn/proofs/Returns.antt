@@ -2,22 +2,21 @@
 use Rattle.std.proofs.Common.{◌≡◌, ℕ, List, Some, false, ap, sym, subst, ◌∙◌, arith}
 use Rattle.std.specs.Prelude.{if◌then◌else◌, Result, Ok}
 use Rattle.std.specs.Str.{IsUtf8}
-use Rattle.hex.specs.declared.error.FromHexError.{FromHexError}
 use Rattle.cbor_edn_model.specs.Items.{nesting}
 use Rattle.cbor_edn_model.specs.Spelling.{SpellsSequence}
 use Rattle.cbor_edn_model.specs.Trees.{Tree, Seq, items, text}
 use Rattle.cbor_edn_model.specs.Meaning.{means}
 use Rattle.cbor_edn_model.specs.Value.{Values, encodings}
 use Rattle.cbor_edn_core.proofs.text.GrammarLaws.{unique_items, spelled_by_trees}
-use Rattle.cbor_edn.specs.Hexadecimal.{hex_lines}
+use Rattle.cbor_edn_command.specs.Hexadecimal.{input_bytes, hex_lines}
 use Rattle.cbor_edn.specs.RunLaws.{ReadsBack}
-use Rattle.cbor_edn.specs.Runs.{IsReadAs, IsDecodedAs, IsEncodedAs, IsWrittenAs, Loads, input_bytes, edited}
-use Rattle.cbor_edn.specs.declared.engine.Command.{Command}
-use Rattle.cbor_edn.specs.declared.engine.Command.TheVariants.{Cbor2Diag}
-use Rattle.cbor_edn.specs.declared.engine.Options.{Options}
+use Rattle.cbor_edn.specs.Runs.{IsReadAs, IsDecodedAs, IsEncodedAs, IsWrittenAs, Loads, edited}
+use Rattle.cbor_edn_command.specs.declared.options.Command.{Command}
+use Rattle.cbor_edn_command.specs.declared.options.Command.TheVariants.{Cbor2Diag}
+use Rattle.cbor_edn_command.specs.declared.options.Options.{Options}
 use Rattle.cbor_edn.proofs.Edits.{edited_items, edited_valid}
 
-ok_same : (a b : List ℕ) → ◌≡◌ {A = Result (List ℕ) FromHexError} (Ok a) (Ok b) → a ≡ b
+ok_same : {E : Type 0} (a b : List ℕ) → ◌≡◌ {A = Result (List ℕ) E} (Ok a) (Ok b) → a ≡ b
 ok_same a b e = cc
 
 some_same : (vs ws : Values) → Some vs ≡ Some ws → vs ≡ ws

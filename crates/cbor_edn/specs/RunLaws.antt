@@ -1,8 +1,8 @@
 -- The laws of whole runs, as contracts name them.
 use Rattle.std.specs.Prelude.{◌≡◌, ℕ, List, false}
 use Rattle.cbor_edn.specs.Runs.{IsOutput}
-use Rattle.cbor_edn.specs.declared.engine.Command.TheVariants.{Diag2Cbor, Cbor2Diag}
-use Rattle.cbor_edn.specs.declared.engine.Options.{Options}
+use Rattle.cbor_edn_command.specs.declared.options.Command.TheVariants.{Diag2Cbor, Cbor2Diag}
+use Rattle.cbor_edn_command.specs.declared.options.Options.{Options}
 
 -- What `Cbor2Diag` writes for some bytes, `Diag2Cbor` turns into these bytes again, and into no others: without digits, at one limit,
 -- and whatever either does to spaces.

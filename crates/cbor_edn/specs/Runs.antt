@@ -2,7 +2,6 @@
 use Rattle.std.specs.Prelude.{◌≡◌, ◌≢◌, ℕ, ◌≤◌, ◌++◌, ◌∷◌, [], List, All, codes, Bool, not, if◌then◌else◌, Option, Some, None, Result, Ok, Err, IfSome, IsErr}
 use Rattle.std.specs.Str.{IsUtf8}
 use Rattle.std.specs.Io.KnownBytes.{Appends, Keeps}
-use Rattle.hex.specs.declared.error.FromHexError.{FromHexError}
 use Rattle.cbor_edn_parts.specs.declared.error.Fault.{Fault}
 use Rattle.cbor_edn_parts.specs.declared.error.Fault.TheVariants as fault
 use Rattle.cbor_edn_parts.specs.declared.policy.DelimiterPolicy.{DelimiterPolicy}
@@ -18,11 +17,11 @@ use Rattle.cbor_edn_model.specs.Layout.{laid_out}
 use Rattle.cbor_edn_model.specs.Meaning.{means}
 use Rattle.cbor_edn_model.specs.Value.{Values, EncAll}
 use Rattle.cbor_edn_model.specs.Decoded.{IsDecodedSequence, NoSequence, IsTooDeepSequence}
-use Rattle.cbor_edn.specs.Devices.{AppendsBeginning}
-use Rattle.cbor_edn.specs.Hexadecimal.{hex_bytes, hex_lines}
-use Rattle.cbor_edn.specs.declared.engine.Command.{Command}
-use Rattle.cbor_edn.specs.declared.engine.Command.TheVariants.{Diag2Cbor, Cbor2Diag, Diag2Diag}
-use Rattle.cbor_edn.specs.declared.engine.Options.{Options}
+use Rattle.cbor_edn_command.specs.Devices.{AppendsBeginning}
+use Rattle.cbor_edn_command.specs.Hexadecimal.{input_bytes, hex_lines}
+use Rattle.cbor_edn_command.specs.declared.options.Command.{Command}
+use Rattle.cbor_edn_command.specs.declared.options.Command.TheVariants.{Diag2Cbor, Cbor2Diag, Diag2Diag}
+use Rattle.cbor_edn_command.specs.declared.options.Options.{Options}
 use Rattle.cbor_edn.specs.declared.engine.RunError.{RunError}
 use Rattle.cbor_edn.specs.declared.engine.RunError.TheVariants.{Read, NotUtf8, Parse, Cbor, Hex, Inconsistent, Write, Memory}
 
@@ -39,10 +38,6 @@ pub record IsReadAs (limit : ℕ) (input : List ℕ) (w : Tree Seq) : Type 0 whe
 -- The tree that bytes are decoded as, if the items of the values that they encode nest within the limit.
 abbrev pub IsDecodedAs : ℕ → List ℕ → Tree Seq → Type 0
 IsDecodedAs limit bytes w = IsDecodedSequence limit bytes w × Valid w
-
--- the bytes of an input, which may be digits
-abbrev pub input_bytes : Bool → List ℕ → Result (List ℕ) FromHexError
-input_bytes hex input = if hex then hex_bytes input else Ok input
 
 -- The tree that a run works on.
 abbrev pub Loads : Command → Options → List ℕ → Tree Seq → Type 0
@@ -182,17 +177,6 @@ EndsWriting (Err (Inconsistent _)) since = Unit {0}
 EndsWriting (Err Write) since = since ≡ 0
 EndsWriting (Err (Memory _)) since = Unit {0}
 
--- a fault of reading
-abbrev pub IsReadFault : RunError → Type 0
-IsReadFault Read = Unit {0}
-IsReadFault NotUtf8 = ⊥
-IsReadFault (Parse _) = ⊥
-IsReadFault (Cbor _) = ⊥
-IsReadFault Hex = ⊥
-IsReadFault (Inconsistent _) = ⊥
-IsReadFault Write = ⊥
-IsReadFault (Memory _) = Unit {0}
-
 -- the exit status of a run that answers so
 abbrev pub status : Result (Unit {0}) RunError → ℕ
 status (Ok _) = 0
@@ -206,7 +190,7 @@ IsFaultLine line = (words : List ℕ) × (words ≢ []) × All (λ b. b ≢ 10) 
 abbrev pub IsTold : Option (List ℕ) → Option (List ℕ) → Type 0
 IsTold old new = (line : List ℕ) × IsFaultLine line × AppendsBeginning old new line
 
--- a refusal of a reader or an encoder as a fault of the run
+-- what a call is refused by as a fault of the run
 abbrev pub told_as : {E : Type 0} → (E → RunError) → Fault E → RunError
 told_as kind (fault.Memory e) = Memory e
 told_as kind (fault.Told e) = kind e

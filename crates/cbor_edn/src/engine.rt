@@ -1,52 +1,26 @@
 //! A whole run: from a reader, through a tree of items, to a writer.
-ghost use Rattle.std.specs.Prelude.{◌≡◌, ℕ, ◌+◌, List, Result, IfOk, OnOk, IfErr, IfSome, string_bytes};
-ghost use Rattle.std.specs.Io.KnownBytes.{IsAtEnd, Appends, Consumes, Keeps};
+ghost use Rattle.std.specs.Prelude.{◌≡◌, ◌+◌, Result, IfOk, IfErr, IfSome, string_bytes};
+ghost use Rattle.std.specs.Io.KnownBytes.{IsAtEnd, Keeps};
 ghost use Rattle.cbor_edn_model.specs.Trees.{text};
 ghost use Rattle.cbor_edn_core.specs.View.{sequence_tree};
-ghost use Rattle.cbor_edn.specs.Devices.{AppendsBeginning, FailsAtMostOnce};
-ghost use Rattle.cbor_edn.specs.Runs.{IsOutput, IsRefused, IsReadFault, Wrote, HasReadAll, EndsReading, EndsWriting, IsFaultLine, IsTold, read_faults, write_faults, status, told_as};
+ghost use Rattle.cbor_edn_command.specs.Devices.{FailsAtMostOnce};
+ghost use Rattle.cbor_edn.specs.Runs.{IsOutput, IsRefused, Wrote, HasReadAll, EndsReading, EndsWriting, IsFaultLine, IsTold, read_faults, write_faults, status, told_as};
 ghost use Rattle.cbor_edn.specs.Runs.{IsReadAs, IsUnread, edited};
 ghost use Rattle.cbor_edn.specs.Steps.{IsEncoded, IsUnencoded, IsDiagnosed, IsUndiagnosed, IsReprinted};
 ghost use Rattle.cbor_edn.specs.declared.engine.RunError.{RunError};
-ghost use Rattle.cbor_edn.specs.declared.engine.RunError.TheVariants.{Memory, Parse, Cbor, Inconsistent};
+ghost use Rattle.cbor_edn.specs.declared.engine.RunError.TheVariants.{Memory, Parse, Cbor, Inconsistent, Hex, Read};
 
-mod count;
-mod devices;
-mod hexadecimal;
-
+pub use cbor_edn_command::count::Count;
+pub use cbor_edn_command::devices::{DeviceFault, Sink, Source, StdSink, StdSource};
+use cbor_edn_command::hexadecimal::{self, NotHex};
+pub use cbor_edn_command::options::{Command, Options};
+use cbor_edn_command::transfer::{read_all, write_all};
 use cbor_edn_core::from_cbor::CborError;
 use cbor_edn_core::tree::Sequence;
 use cbor_edn_parts::error::{Fault, InconsistentEdn, ParseError};
 use cbor_edn_parts::policy::DelimiterPolicy;
-pub use count::Count;
-pub use devices::{DeviceFault, Sink, Source, StdSink, StdSource};
 use std::alloc::{AllocError, Global};
 use thiserror::Error;
-
-/// What a run turns into what.
-#[derive(Clone, Copy, Debug, PartialEq, Eq)]
-pub enum Command {
-    /// A sequence of items in EDN into their encodings in CBOR.
-    Diag2Cbor,
-    /// Encodings in CBOR into the items in EDN.
-    Cbor2Diag,
-    /// A sequence of items in EDN into the same with other spaces.
-    Diag2Diag,
-}
-
-/// What a run is to do. Each option holds for every command, but `hex` says nothing to `Diag2Diag`.
-#[derive(Clone, Copy, Debug, PartialEq, Eq)]
-pub struct Options {
-    pub command: Command,
-    /// CBOR stands in hexadecimal digits, in the output of `Diag2Cbor` and in the input of `Cbor2Diag`.
-    pub hex: bool,
-    /// Comments are left out.
-    pub remove_comments: bool,
-    /// Spaces stay as they are, where else items are indented.
-    pub preserve_space: bool,
-    /// How deep items may nest.
-    pub limit: usize,
-}
 
 /// Why a run did not end well. Only at `Write` may anything have been written.
 #[derive(Debug, Drop, Error)]
@@ -118,40 +92,27 @@ impl From<Fault<InconsistentEdn>> for RunError {
     }
 }
 
-// All that the source has left.
-fn read_all<R: Source>(alloc: Global, source: &mut R) -> Result<Vec<u8>, RunError>
-    ensures bytes { IfOk result (λ v. Consumes (R.remaining source.old) (R.remaining source.new) v.items) }
-    ensures end { OnOk result (IsAtEnd (R.remaining source.new)) }
-    ensures kinds { IfErr result IsReadFault }
-    ensures counted { R.failures source.new ≡ R.failures source.old + read_faults result }
-    ensures last { EndsReading result (R.since source.new) }
-{
-    let mut all = Vec::new(alloc);
-    let mut buffer = [0u8; 4096];
-    'turns: loop {
-        match source.read(&mut buffer) {
-            Ok(0) => return Ok(all),
-            Ok(n) => all.extend_from_slice(&buffer[..n])?,
-            Err(_) => return Err(RunError::Read),
+impl From<Fault<NotHex>> for RunError {
+    ghost from_gives = { λ fault e. e ≡ told_as (λ _. Hex) fault };
+
+    fn from(fault: Fault<NotHex>) -> RunError {
+        match fault {
+            Fault::Memory(refused) => RunError::Memory(refused),
+            Fault::Told(_) => RunError::Hex,
         }
     }
 }
 
-// Writes all the bytes, in turns.
-fn write_all<W: Sink>(sink: &mut W, bytes: &[u8]) -> Result<(), RunError>
-    ensures ok { OnOk result (Appends (W.contents sink.old) (W.contents sink.new) bytes.now) }
-    ensures err { IfErr result (λ e. (e ≡ RunError.Write) × AppendsBeginning (W.contents sink.old) (W.contents sink.new) bytes.now) }
-    ensures counted { W.failures sink.new ≡ W.failures sink.old + write_faults result }
-    ensures last { EndsWriting result (W.since sink.new) }
-{
-    let mut rest = bytes;
-    'turns: while !rest.is_empty() {
-        match sink.write(rest) {
-            Ok(n) => rest = rest.split_at(n).1,
-            Err(_) => return Err(RunError::Write),
+// Of a source: a sink that fails answers no `Fault`.
+impl From<Fault<DeviceFault>> for RunError {
+    ghost from_gives = { λ fault e. e ≡ told_as (λ _. Read) fault };
+
+    fn from(fault: Fault<DeviceFault>) -> RunError {
+        match fault {
+            Fault::Memory(refused) => RunError::Memory(refused),
+            Fault::Told(_) => RunError::Read,
         }
     }
-    Ok(())
 }
 
 // The items of a text.
@@ -258,7 +219,10 @@ pub fn run<R: Source, W: Sink>(
 {
     let input = read_all(alloc, source)?;
     let out = output(alloc, options, &input)?;
-    write_all(sink, &out)
+    match write_all(sink, &out) {
+        Ok(()) => Ok(()),
+        Err(DeviceFault) => Err(RunError::Write),
+    }
 }
 
 // The line that tells of a fault, as far as there is memory. What `thiserror` writes is not known to proofs, so the words are

@@ -3,8 +3,8 @@
 
 pub mod engine;
 pub mod laws;
-pub mod words;
 
+pub use cbor_edn_command::words;
 pub use cbor_edn_core::access::{ArrayItems, MapItems, TypeMismatch};
 pub use cbor_edn_core::from_cbor::CborError;
 pub use cbor_edn_core::tree::{Item, NESTING_LIMIT, Sequence, StandaloneItem};
