@@ -7,7 +7,6 @@ use Rattle.std.specs.Io.KnownBytes.{Consumes, IsAtEnd, Appends}
 use Rattle.cbor_edn_command.specs.Devices.{AppendsBeginning}
 use Rattle.cbor_edn.specs.Runs.{IsOutput, IsFaultLine, IsTold, Wrote}
 use Rattle.cbor_edn_command.specs.declared.options.Options.{Options}
-use Rattle.cbor_edn.specs.declared.engine.RunError.TheVariants.{Write}
 
 -- what was read to the end is what was known
 of_all : (P : List ℕ → Type 0) (known left : Option (List ℕ)) (read input : List ℕ) → Consumes known left read → IsAtEnd left → input ≡ read → P input → IfSome known P
@@ -15,13 +14,10 @@ of_all P None left read input gone end is made = tt
 of_all P (Some xs) None read input gone end is made = absurd gone
 of_all P (Some xs) (Some ys) read input gone end is made = subst P (is ∙ sym (gone ∙ ap (λ l. read ++ l) end ∙ append-nil read)) made
 
-module _ (o : Options) (known left old new : Option (List ℕ)) (bytes out input read : List ℕ) (is : bytes ≡ out) (made : IsOutput o input out) (from : input ≡ read)
-    (gone : Consumes known left read) (end : IsAtEnd left) where
-  pub wrote : Appends old new bytes → Wrote o (Ok tt) known old new
-  wrote all = (out, of_all (λ i. IsOutput o i out) known left read input gone end from made, subst (Appends old new) is all)
-
-  pub began : AppendsBeginning old new bytes → Wrote o (Err Write) known old new
-  began some = (out, of_all (λ i. IsOutput o i out) known left read input gone end from made, subst (AppendsBeginning old new) is some)
+pub wrote : (o : Options) (known left old new : Option (List ℕ)) (bytes out input read : List ℕ)
+    → Appends old new bytes → bytes ≡ out → IsOutput o input out → input ≡ read → Consumes known left read → IsAtEnd left → Wrote o (Ok tt) known old new
+wrote o known left old new bytes out input read all is made from gone end =
+    (out, of_all (λ i. IsOutput o i out) known left read input gone end from made, subst (Appends old new) is all)
 
 -- where nothing of a line was written
 pub nothing_told : (known : Option (List ℕ)) → IsTold known known
