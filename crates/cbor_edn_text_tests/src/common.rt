@@ -5,11 +5,45 @@ use std::alloc::Global;
 use std::fmt::Debug;
 use std::test::Fail;
 
-/// Whether a text is accepted, and printed as itself.
-pub(crate) fn prints_itself(alloc: Global, text: &str) -> Result<bool, Fail> {
+/// Fails with the row of which something does not hold.
+pub(crate) fn expect(row: &str, holds: bool) -> Result<(), Fail> {
+    if holds { Ok(()) } else { Err(Fail::new(row)) }
+}
+
+/// Fails with the row whose answer is not the wanted one.
+pub(crate) fn expect_text(alloc: Global, row: &str, told: &str, wanted: &str) -> Result<(), Fail> {
+    if told == wanted {
+        Ok(())
+    } else {
+        Err(Fail::new(format!(in alloc; "{row:?}: {told:?}, and not {wanted:?}")?))
+    }
+}
+
+/// Each text means the bytes, given in digits, or is refused with the name; and each is printed as itself.
+pub(crate) fn all_mean(alloc: Global, rows: &[(&str, &str)]) -> Result<(), Fail> {
+    for &(text, wanted) in rows {
+        expect_text(alloc, text, encoded(alloc, text)?.as_str(), wanted)?;
+        expect_itself(alloc, text)?;
+    }
+    Ok(())
+}
+
+/// Each is no text of items.
+pub(crate) fn all_unparsed(alloc: Global, texts: &[&str]) -> Result<(), Fail> {
+    for &text in texts {
+        expect_text(alloc, text, encoded(alloc, text)?.as_str(), "parse")?;
+    }
+    Ok(())
+}
+
+/// A text is accepted, and printed as itself.
+pub(crate) fn expect_itself(alloc: Global, text: &str) -> Result<(), Fail> {
+    expect_text(alloc, text, printed(alloc, text)?.as_str(), text)
+}
+
+fn printed(alloc: Global, text: &str) -> Result<String, Fail> {
     let sequence = Sequence::parse(alloc, text)?;
-    let printed = sequence.serialize(alloc)?;
-    Ok(printed.as_str() == text)
+    Ok(sequence.serialize(alloc)?)
 }
 
 /// The bytes of a text's items in lower case digits, or the name of the refusal: `parse` where the text is refused.
@@ -45,12 +79,19 @@ pub(crate) fn decoded_item(alloc: Global, bytes: &[u8], limit: usize) -> Result<
     }
 }
 
-/// Whether a text prints itself, means the bytes, and is what they are decoded as.
-pub(crate) fn stand_for_each_other(alloc: Global, text: &str, digits: &str) -> Result<bool, Fail> {
-    let there = encoded(alloc, text)?;
-    let back = decoded(alloc, digits)?;
-    let is_same = prints_itself(alloc, text)?;
-    Ok(is_same && there.as_str() == digits && back.as_str() == text)
+/// A text means the bytes, is what they are decoded as, and prints itself.
+pub(crate) fn stand_for_each_other(alloc: Global, text: &str, digits: &str) -> Result<(), Fail> {
+    expect_text(alloc, text, encoded(alloc, text)?.as_str(), digits)?;
+    expect_text(alloc, digits, decoded(alloc, digits)?.as_str(), text)?;
+    expect_itself(alloc, text)
+}
+
+/// The same of each text and its bytes.
+pub(crate) fn all_stand_for_each_other(alloc: Global, rows: &[(&str, &str)]) -> Result<(), Fail> {
+    for &(text, digits) in rows {
+        stand_for_each_other(alloc, text, digits)?;
+    }
+    Ok(())
 }
 
 /// Why a text is refused whose items may nest so deep, or nothing where it is accepted.

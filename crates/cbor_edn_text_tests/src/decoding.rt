@@ -1,10 +1,12 @@
 //! Bytes, the texts that they are decoded as, and the same bytes back; and bytes that are refused.
-use crate::common::{decoded, decoded_item, digits_of, repeated, stand_for_each_other};
+use crate::common::{
+    decoded, decoded_item, digits_of, expect, expect_text, repeated, stand_for_each_other,
+};
 use cbor_edn_core::tree::{Item, NESTING_LIMIT, StandaloneItem};
 use std::alloc::Global;
 use std::test::Fail;
 
-const ROWS: [(&str, &str); 44] = [
+const ROWS: &[(&str, &str)] = &[
     ("", ""),
     ("8301181f80", "[1, 31, []]"),
     ("00012f", "0, 1, -16"),
@@ -62,14 +64,14 @@ const ROWS: [(&str, &str); 44] = [
 
 #[test]
 fn decodes_rows(rt: HostRuntime) -> Result<(), Fail> {
-    for (digits, text) in ROWS {
-        assert!(rt; stand_for_each_other(rt.alloc(), text, digits)?, "{text:?}");
+    for &(digits, text) in ROWS {
+        stand_for_each_other(rt.alloc(), text, digits)?;
     }
     Ok(())
 }
 
 /// Bytes that encode no items, and the name of the refusal.
-const REFUSED: [(&str, &str); 40] = [
+const REFUSED: &[(&str, &str)] = &[
     ("82", "OutOfData"),
     ("8201", "OutOfData"),
     ("9f", "OutOfData"),
@@ -114,33 +116,46 @@ const REFUSED: [(&str, &str); 40] = [
     ("7f61c361a9ff", "InvalidUtf8"),
 ];
 
+/// The text of the one item that bytes, given in digits, encode, which may nest so deep, or the name of the refusal.
+fn item_of(alloc: Global, digits: &str, limit: usize) -> Result<String, Fail> {
+    let bytes = hex::decode(alloc, digits)?;
+    decoded_item(alloc, bytes.as_slice(), limit)
+}
+
+fn expect_item(alloc: Global, digits: &str, limit: usize, wanted: &str) -> Result<(), Fail> {
+    let told = item_of(alloc, digits, limit)?;
+    expect_text(alloc, digits, told.as_str(), wanted)
+}
+
 #[test]
 fn refuses_bytes(rt: HostRuntime) -> Result<(), Fail> {
     let alloc = rt.alloc();
-    for (digits, name) in REFUSED {
-        assert_eq!(rt; decoded(alloc, digits)?.as_str(), name, "{digits}");
-        let bytes = hex::decode(alloc, digits)?;
-        let told = decoded_item(alloc, bytes.as_slice(), NESTING_LIMIT)?;
-        assert_eq!(rt; told.as_str(), name, "{digits}");
+    for &(digits, name) in REFUSED {
+        expect_text(alloc, digits, decoded(alloc, digits)?.as_str(), name)?;
+        expect_item(alloc, digits, NESTING_LIMIT, name)?;
     }
     Ok(())
 }
 
+/// Bytes that are not one item, and the name of the refusal.
+const NOT_ONE: &[(&[u8], &str)] = &[
+    (b"", "OutOfData"),
+    (b"\0\0", "DataAfter"),
+    (b"\x01\x02\x03", "DataAfter"),
+];
+
 #[test]
 fn refuses_other_than_one_item(rt: HostRuntime) -> Result<(), Fail> {
-    for (bytes, name) in [
-        (b"".as_slice(), "OutOfData"),
-        (b"\0\0".as_slice(), "DataAfter"),
-        (b"\x01\x02\x03".as_slice(), "DataAfter"),
-    ] {
-        let told = decoded_item(rt.alloc(), bytes, NESTING_LIMIT)?;
-        assert_eq!(rt; told.as_str(), name, "{bytes:?}");
+    let alloc = rt.alloc();
+    for &(bytes, name) in NOT_ONE {
+        let told = decoded_item(alloc, bytes, NESTING_LIMIT)?;
+        expect_text(alloc, "not one item", told.as_str(), name)?;
     }
     Ok(())
 }
 
 /// Bytes of an item no beginning of which is one, and its text.
-const WHOLE: [(&str, &str); 10] = [
+const WHOLE: &[(&str, &str)] = &[
     ("9f820102ff", "[_ [1, 2]]"),
     ("3bffffffffffffffff", "-18446744073709551616"),
     (
@@ -165,25 +180,27 @@ fn is_cut(alloc: Global, bytes: &[u8]) -> Result<bool, Fail> {
     ))
 }
 
+/// Each beginning of what is given in digits is refused for want of more.
+fn expect_cut(alloc: Global, digits: &str) -> Result<(), Fail> {
+    let bytes = hex::decode(alloc, digits)?;
+    for length in 0..bytes.len() {
+        expect(digits, is_cut(alloc, &bytes.as_slice()[..length])?)?;
+    }
+    Ok(())
+}
+
 #[test]
 fn refuses_beginnings(rt: HostRuntime) -> Result<(), Fail> {
     let alloc = rt.alloc();
-    for (digits, text) in WHOLE {
-        let bytes = hex::decode(alloc, digits)?;
-        let whole = decoded_item(alloc, bytes.as_slice(), NESTING_LIMIT)?;
-        assert_eq!(rt; whole.as_str(), text);
-        for length in 0..bytes.len() {
-            assert!(rt;
-                is_cut(alloc, &bytes.as_slice()[..length])?,
-                "{length} of {digits}"
-            );
-        }
+    for &(digits, text) in WHOLE {
+        expect_item(alloc, digits, NESTING_LIMIT, text)?;
+        expect_cut(alloc, digits)?;
     }
     Ok(())
 }
 
 /// Bytes, how deep their item nests, and its text. Simple values that have names do not nest.
-const NESTED: [(&str, usize, &str); 12] = [
+const NESTED: &[(&str, usize, &str)] = &[
     ("f5", 0, "true"),
     ("80", 1, "[]"),
     ("c100", 1, "1(0)"),
@@ -200,13 +217,10 @@ const NESTED: [(&str, usize, &str); 12] = [
 
 #[test]
 fn counts_what_nests(rt: HostRuntime) -> Result<(), Fail> {
-    let alloc = rt.alloc();
-    for (digits, depth, text) in NESTED {
-        let bytes = hex::decode(alloc, digits)?;
+    for &(digits, depth, text) in NESTED {
         for limit in 0..3 {
             let wanted = if limit < depth { "TooDeep" } else { text };
-            let told = decoded_item(alloc, bytes.as_slice(), limit)?;
-            assert_eq!(rt; told.as_str(), wanted, "{digits} at {limit}");
+            expect_item(rt.alloc(), digits, limit, wanted)?;
         }
     }
     Ok(())
@@ -228,17 +242,18 @@ fn accepts_the_deepest(rt: HostRuntime) -> Result<(), Fail> {
     let bytes = nested(alloc, NESTING_LIMIT)?;
     let text = repeated(alloc, NESTING_LIMIT, "[", "]")?;
     let told = decoded_item(alloc, bytes.as_slice(), NESTING_LIMIT)?;
-    assert_eq!(rt; told.as_str(), text.as_str());
-    Ok(())
+    expect_text(alloc, "the deepest", told.as_str(), text.as_str())
 }
+
+const DEEPER: &[usize] = &[NESTING_LIMIT + 1, 100_001];
 
 #[test]
 fn refuses_what_is_deeper(rt: HostRuntime) -> Result<(), Fail> {
     let alloc = rt.alloc();
-    for depth in [NESTING_LIMIT + 1, 100_001] {
+    for &depth in DEEPER {
         let bytes = nested(alloc, depth)?;
         let told = decoded_item(alloc, bytes.as_slice(), NESTING_LIMIT)?;
-        assert_eq!(rt; told.as_str(), "TooDeep");
+        expect_text(alloc, "deeper", told.as_str(), "TooDeep")?;
     }
     Ok(())
 }
@@ -259,19 +274,23 @@ fn first_standalone(alloc: Global, bytes: &[u8]) -> Result<(String, &[u8]), Fail
     }
 }
 
+fn expect_first(alloc: Global, told: (String, &[u8]), text: &str, rest: &[u8]) -> Result<(), Fail> {
+    expect_text(alloc, "the first item", told.0.as_str(), text)?;
+    expect("the rest behind it", told.1 == rest)
+}
+
+/// Bytes, how deep the item nests that they begin with, its text, and the rest.
+const BEGUN: &[(&[u8], usize, &str, &[u8])] = &[
+    (b"\x01\x02\x03", 0, "1", b"\x02\x03"),
+    (b"\x80\x02", 1, "[]", b"\x02"),
+];
+
 #[test]
 fn answers_the_rest(rt: HostRuntime) -> Result<(), Fail> {
     let alloc = rt.alloc();
-    for (bytes, depth, text, wanted) in [
-        (b"\x01\x02\x03".as_slice(), 0, "1", b"\x02\x03".as_slice()),
-        (b"\x80\x02".as_slice(), 1, "[]", b"\x02".as_slice()),
-    ] {
-        let (told, rest) = first_item(alloc, bytes, depth)?;
-        assert_eq!(rt; told.as_str(), text);
-        assert_eq!(rt; rest, wanted);
-        let (told, rest) = first_standalone(alloc, bytes)?;
-        assert_eq!(rt; told.as_str(), text);
-        assert_eq!(rt; rest, wanted);
+    for &(bytes, depth, text, rest) in BEGUN {
+        expect_first(alloc, first_item(alloc, bytes, depth)?, text, rest)?;
+        expect_first(alloc, first_standalone(alloc, bytes)?, text, rest)?;
     }
     Ok(())
 }
@@ -284,10 +303,9 @@ fn encoded_again(alloc: Global, bytes: &[u8]) -> Result<String, Fail> {
 
 #[test]
 fn encodes_standalone_items_again(rt: HostRuntime) -> Result<(), Fail> {
+    let alloc = rt.alloc();
     let bytes = b"\x9f\x19\x00\xff\xb8\x02\x01\x38\x00\x03\x80\xff";
-    assert_eq!(rt;
-        encoded_again(rt.alloc(), bytes)?.as_str(),
-        "9f1900ffb8020138000380ff"
-    );
-    Ok(())
+    let wanted = "9f1900ffb8020138000380ff";
+    let told = encoded_again(alloc, bytes)?;
+    expect_text(alloc, wanted, told.as_str(), wanted)
 }

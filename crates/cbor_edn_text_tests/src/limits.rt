@@ -1,12 +1,12 @@
 //! How deep texts may nest, and how often a text is looked at.
-use crate::common::{encoded, prints_itself, refusal, repeated};
+use crate::common::{encoded, expect, expect_itself, refusal, repeated};
 use cbor_edn_core::tree::{NESTING_LIMIT, Sequence, StandaloneItem};
 use cbor_edn_parts::looks::Looks;
 use std::alloc::Global;
 use std::mem::size_of;
 use std::test::Fail;
 
-#[derive(Debug, Clone, Copy, PartialEq)]
+#[derive(Clone, Copy, PartialEq)]
 enum Answer {
     Accepted,
     TooDeep,
@@ -21,12 +21,16 @@ fn answer_of(alloc: Global, text: &str, limit: usize) -> Result<Answer, Fail> {
     }
 }
 
+fn expect_answer(alloc: Global, text: &str, limit: usize, wanted: Answer) -> Result<(), Fail> {
+    expect(text, answer_of(alloc, text, limit)? == wanted)
+}
+
 fn accepts_standalone(alloc: Global, text: &str, limit: usize) -> bool {
     StandaloneItem::parse_within(alloc, text, limit).is_ok()
 }
 
 /// Texts, and how deep their items nest: each item of a sequence by itself, and words not at all.
-const NESTED: [(&str, usize); 15] = [
+const NESTED: &[(&str, usize)] = &[
     ("1", 0),
     ("[]", 1),
     ("[1], [2], [3]", 1),
@@ -46,55 +50,46 @@ const NESTED: [(&str, usize); 15] = [
 
 #[test]
 fn counts_what_nests(rt: HostRuntime) -> Result<(), Fail> {
-    for (text, depth) in NESTED {
+    for &(text, depth) in NESTED {
         for limit in 0..4 {
             let wanted = if limit < depth {
                 Answer::TooDeep
             } else {
                 Answer::Accepted
             };
-            assert_eq!(rt;
-                answer_of(rt.alloc(), text, limit)?,
-                wanted,
-                "{text:?} at {limit}"
-            );
+            expect_answer(rt.alloc(), text, limit, wanted)?;
         }
     }
-    assert_eq!(rt; answer_of(rt.alloc(), ",1", 0)?, Answer::Invalid);
-    Ok(())
+    expect_answer(rt.alloc(), ",1", 0, Answer::Invalid)
 }
 
 #[test]
 fn accepts_the_deepest(rt: HostRuntime) -> Result<(), Fail> {
     let alloc = rt.alloc();
-    assert_eq!(rt; NESTING_LIMIT, 512);
+    expect("the limit", NESTING_LIMIT == 512)?;
     let deepest = repeated(alloc, 512, "[", "]")?;
-    assert!(rt; prints_itself(alloc, deepest.as_str())?);
-    assert_eq!(rt; encoded(alloc, deepest.as_str())?.len(), 1024);
-    Ok(())
+    let digits = encoded(alloc, deepest.as_str())?;
+    expect("512 arrays", digits.len() == 1024)?;
+    expect_itself(alloc, deepest.as_str())
 }
 
 #[test]
 fn refuses_what_is_deeper(rt: HostRuntime) -> Result<(), Fail> {
     let alloc = rt.alloc();
     let deeper = repeated(alloc, 513, "[", "]")?;
-    assert_eq!(rt;
-        answer_of(alloc, deeper.as_str(), NESTING_LIMIT)?,
-        Answer::TooDeep
-    );
-    assert!(rt; !accepts_standalone(alloc, deeper.as_str(), NESTING_LIMIT));
-    assert!(rt; accepts_standalone(alloc, deeper.as_str(), 513));
-    Ok(())
+    let text = deeper.as_str();
+    expect_answer(alloc, text, NESTING_LIMIT, Answer::TooDeep)?;
+    expect(
+        "513 at 512",
+        !accepts_standalone(alloc, text, NESTING_LIMIT),
+    )?;
+    expect("513 at 513", accepts_standalone(alloc, text, 513))
 }
 
 #[test]
 fn refuses_many_open_arrays(rt: HostRuntime) -> Result<(), Fail> {
     let open = repeated(rt.alloc(), 100_000, "[", "")?;
-    assert_eq!(rt;
-        answer_of(rt.alloc(), open.as_str(), NESTING_LIMIT)?,
-        Answer::TooDeep
-    );
-    Ok(())
+    expect_answer(rt.alloc(), open.as_str(), NESTING_LIMIT, Answer::TooDeep)
 }
 
 fn counts_sequence(alloc: Global, text: &str) -> bool {
@@ -106,9 +101,10 @@ fn counts_standalone(alloc: Global, text: &str) -> bool {
 }
 
 #[test]
-fn looks_take_no_bytes(rt: HostRuntime) {
-    assert_eq!(rt; size_of::<Looks>(), 0);
-    assert!(rt; counts_sequence(rt.alloc(), "[1, 2]"));
-    assert!(rt; counts_standalone(rt.alloc(), "[1, 2]"));
-    assert!(rt; !counts_sequence(rt.alloc(), "[1, 2"));
+fn looks_take_no_bytes(rt: HostRuntime) -> Result<(), Fail> {
+    let alloc = rt.alloc();
+    expect("bytes of looks", size_of::<Looks>() == 0)?;
+    expect("a sequence", counts_sequence(alloc, "[1, 2]"))?;
+    expect("an item", counts_standalone(alloc, "[1, 2]"))?;
+    expect("no sequence", !counts_sequence(alloc, "[1, 2"))
 }

@@ -1,8 +1,8 @@
 //! Texts of numbers, arrays and maps, and the bytes that they mean.
-use crate::common::{encoded, encoded_alone, prints_itself};
+use crate::common::{all_mean, all_unparsed, encoded_alone, expect_text};
 use std::test::Fail;
 
-const ENCODED: [(&str, &str); 44] = [
+const ENCODED: &[(&str, &str)] = &[
     ("[1, 0x1f, []]", "8301181f80"),
     ("-0x10", "2f"),
     ("+5", "05"),
@@ -65,31 +65,26 @@ const ENCODED: [(&str, &str); 44] = [
 
 #[test]
 fn encodes_rows(rt: HostRuntime) -> Result<(), Fail> {
-    for (text, digits) in ENCODED {
-        assert_eq!(rt; encoded(rt.alloc(), text)?.as_str(), digits, "{text:?}");
-        assert!(rt; prints_itself(rt.alloc(), text)?, "{text:?}");
-    }
-    Ok(())
+    all_mean(rt.alloc(), ENCODED)
 }
+
+const ALONE: &[(&str, &str)] = &[
+    (" [1, 0x1f, []] # c\n", "8301181f80"),
+    ("", "parse"),
+    ("1 2", "parse"),
+    ("1.0", "NumberWithoutEncoding"),
+];
 
 #[test]
 fn encodes_standalone_items(rt: HostRuntime) -> Result<(), Fail> {
-    for (text, digits) in [
-        (" [1, 0x1f, []] # c\n", "8301181f80"),
-        ("", "parse"),
-        ("1 2", "parse"),
-        ("1.0", "NumberWithoutEncoding"),
-    ] {
-        assert_eq!(rt;
-            encoded_alone(rt.alloc(), text)?.as_str(),
-            digits,
-            "{text:?}"
-        );
+    let alloc = rt.alloc();
+    for &(text, wanted) in ALONE {
+        expect_text(alloc, text, encoded_alone(alloc, text)?.as_str(), wanted)?;
     }
     Ok(())
 }
 
-const REFUSED: [(&str, &str); 27] = [
+const REFUSED: &[(&str, &str)] = &[
     (
         "340282366920938463463374607431768211456",
         "NumberWithoutEncoding",
@@ -134,77 +129,73 @@ const REFUSED: [(&str, &str); 27] = [
 
 #[test]
 fn refuses_what_means_nothing(rt: HostRuntime) -> Result<(), Fail> {
-    for (text, name) in REFUSED {
-        assert_eq!(rt; encoded(rt.alloc(), text)?.as_str(), name, "{text:?}");
-        assert!(rt; prints_itself(rt.alloc(), text)?, "{text:?}");
-    }
-    Ok(())
+    all_mean(rt.alloc(), REFUSED)
 }
 
 #[test]
 fn refuses_texts(rt: HostRuntime) -> Result<(), Fail> {
-    for text in [
-        "[,]",
-        "[1,,2]",
-        ",1",
-        "0x",
-        "1 # c",
-        "/",
-        "#",
-        "\u{a0}1",
-        "\u{feff}1",
-        "\u{0}1",
-        "[1",
-        "1]",
-        "]",
-        "[1}",
-        "1x",
-        "--1",
-        "+",
-        "-",
-        "0x1g",
-        "[1 2",
-        "12[",
-        "[][]",
-        "/\u{1}/1",
-        "1 2,,",
-        "{1}",
-        "{1:2 3:}",
-        "{1:2,,3:4}",
-        "{1 2}",
-        "{:1}",
-        "{1:2]",
-        "[1:2]",
-        "[_11]",
-        "[_1 1 _]",
-        "[_1,]",
-        "{_/",
-        "1_4",
-        "1_33",
-        "1__",
-        "1 _0",
-        "0b",
-        "0b2",
-        "0b1.",
-        "0b1b1",
-        "0o8",
-        "0o1e1",
-        "1e",
-        "1e+",
-        "e1",
-        ".",
-        "1.5.",
-        "1e1.",
-        "0x.8",
-        "0x1.",
-        "0x1.8",
-        "0xp1",
-        "0x1p",
-        "0x1pa",
-        "_",
-        "((",
-    ] {
-        assert_eq!(rt; encoded(rt.alloc(), text)?.as_str(), "parse", "{text:?}");
-    }
-    Ok(())
+    all_unparsed(
+        rt.alloc(),
+        &[
+            "[,]",
+            "[1,,2]",
+            ",1",
+            "0x",
+            "1 # c",
+            "/",
+            "#",
+            "\u{a0}1",
+            "\u{feff}1",
+            "\u{0}1",
+            "[1",
+            "1]",
+            "]",
+            "[1}",
+            "1x",
+            "--1",
+            "+",
+            "-",
+            "0x1g",
+            "[1 2",
+            "12[",
+            "[][]",
+            "/\u{1}/1",
+            "1 2,,",
+            "{1}",
+            "{1:2 3:}",
+            "{1:2,,3:4}",
+            "{1 2}",
+            "{:1}",
+            "{1:2]",
+            "[1:2]",
+            "[_11]",
+            "[_1 1 _]",
+            "[_1,]",
+            "{_/",
+            "1_4",
+            "1_33",
+            "1__",
+            "1 _0",
+            "0b",
+            "0b2",
+            "0b1.",
+            "0b1b1",
+            "0o8",
+            "0o1e1",
+            "1e",
+            "1e+",
+            "e1",
+            ".",
+            "1.5.",
+            "1e1.",
+            "0x.8",
+            "0x1.",
+            "0x1.8",
+            "0xp1",
+            "0x1p",
+            "0x1pa",
+            "_",
+            "((",
+        ],
+    )
 }

@@ -1,9 +1,9 @@
 //! The examples of RFC 8949, appendix A, but for the finite floating-point numbers, each in the text that it is decoded as.
-use crate::common::stand_for_each_other;
+use crate::common::all_stand_for_each_other;
 use std::test::Fail;
 
 /// Numbers, words and tags.
-const SCALARS: [(&str, &str); 38] = [
+const SCALARS: &[(&str, &str)] = &[
     ("0", "00"),
     ("1", "01"),
     ("10", "0a"),
@@ -51,7 +51,7 @@ const SCALARS: [(&str, &str); 38] = [
 ];
 
 /// Strings, arrays and maps.
-const COMPOUNDS: [(&str, &str); 29] = [
+const COMPOUNDS: &[(&str, &str)] = &[
     ("h''", "40"),
     ("h'01020304'", "4401020304"),
     ("\"\"", "60"),
@@ -94,16 +94,10 @@ const COMPOUNDS: [(&str, &str); 29] = [
 
 #[test]
 fn takes_scalars(rt: HostRuntime) -> Result<(), Fail> {
-    for (text, digits) in SCALARS {
-        assert!(rt; stand_for_each_other(rt.alloc(), text, digits)?, "{text:?}");
-    }
-    Ok(())
+    all_stand_for_each_other(rt.alloc(), SCALARS)
 }
 
 #[test]
 fn takes_compounds(rt: HostRuntime) -> Result<(), Fail> {
-    for (text, digits) in COMPOUNDS {
-        assert!(rt; stand_for_each_other(rt.alloc(), text, digits)?, "{text:?}");
-    }
-    Ok(())
+    all_stand_for_each_other(rt.alloc(), COMPOUNDS)
 }

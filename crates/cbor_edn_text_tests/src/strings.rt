@@ -1,8 +1,10 @@
 //! Texts of strings, and the bytes that they mean.
-use crate::common::{encoded, prints_itself, repeated};
+use crate::common::{
+    all_mean, all_unparsed, encoded, expect, expect_itself, expect_text, repeated,
+};
 use std::test::Fail;
 
-const ENCODED: [(&str, &str); 50] = [
+const ENCODED: &[(&str, &str)] = &[
     ("\"a\" + 'b'", "626162"),
     ("'a' + \"b\"", "426162"),
     ("\"\" + h'c3a9'", "62c3a9"),
@@ -63,14 +65,10 @@ const ENCODED: [(&str, &str); 50] = [
 
 #[test]
 fn encodes_strings(rt: HostRuntime) -> Result<(), Fail> {
-    for (text, digits) in ENCODED {
-        assert_eq!(rt; encoded(rt.alloc(), text)?.as_str(), digits, "{text:?}");
-        assert!(rt; prints_itself(rt.alloc(), text)?, "{text:?}");
-    }
-    Ok(())
+    all_mean(rt.alloc(), ENCODED)
 }
 
-const REFUSED: [(&str, &str); 36] = [
+const REFUSED: &[(&str, &str)] = &[
     ("'a'_0 + 'b'", "IndicatorOnPiece"),
     ("e'x'", "UnsupportedLiteral"),
     ("true'x'", "UnsupportedLiteral"),
@@ -115,52 +113,48 @@ const REFUSED: [(&str, &str); 36] = [
 
 #[test]
 fn refuses_strings_without_encoding(rt: HostRuntime) -> Result<(), Fail> {
-    for (text, name) in REFUSED {
-        assert_eq!(rt; encoded(rt.alloc(), text)?.as_str(), name, "{text:?}");
-        assert!(rt; prints_itself(rt.alloc(), text)?, "{text:?}");
-    }
-    Ok(())
+    all_mean(rt.alloc(), REFUSED)
 }
 
 #[test]
 fn refuses_texts_of_strings(rt: HostRuntime) -> Result<(), Fail> {
-    for text in [
-        "(_)",
-        "..",
-        "...x",
-        "1....",
-        "....5",
-        "\"",
-        "\"a",
-        "\"a\"b",
-        "h",
-        "h\"00\"",
-        "hH'0'",
-        "Ab'x'",
-        "1'a'",
-        "\"\\q\"",
-        "\"\\a\"",
-        "\"\\'\"",
-        "'\\\"'",
-        "\"\\u12\"",
-        "\"\\ud800\"",
-        "\"\\uD83D\"",
-        "\"\\uDE00\"",
-        "\"\\ude00\"",
-        "\"\\ud83dx\"",
-        "\"\\uD83D\\u0041\"",
-        "\"\\u{}\"",
-        "\"\\u{d800}\"",
-        "\"\\u{D83D}\"",
-        "\"\\u{110000}\"",
-        "\"\t\"",
-        "[\"a\"+1]",
-        "\"a\" +",
-        "\"a\" + .5",
-    ] {
-        assert_eq!(rt; encoded(rt.alloc(), text)?.as_str(), "parse", "{text:?}");
-    }
-    Ok(())
+    all_unparsed(
+        rt.alloc(),
+        &[
+            "(_)",
+            "..",
+            "...x",
+            "1....",
+            "....5",
+            "\"",
+            "\"a",
+            "\"a\"b",
+            "h",
+            "h\"00\"",
+            "hH'0'",
+            "Ab'x'",
+            "1'a'",
+            "\"\\q\"",
+            "\"\\a\"",
+            "\"\\'\"",
+            "'\\\"'",
+            "\"\\u12\"",
+            "\"\\ud800\"",
+            "\"\\uD83D\"",
+            "\"\\uDE00\"",
+            "\"\\ude00\"",
+            "\"\\ud83dx\"",
+            "\"\\uD83D\\u0041\"",
+            "\"\\u{}\"",
+            "\"\\u{d800}\"",
+            "\"\\u{D83D}\"",
+            "\"\\u{110000}\"",
+            "\"\t\"",
+            "[\"a\"+1]",
+            "\"a\" +",
+            "\"a\" + .5",
+        ],
+    )
 }
 
 #[test]
@@ -168,21 +162,31 @@ fn nests_embedded_sequences(rt: HostRuntime) -> Result<(), Fail> {
     let alloc = rt.alloc();
     let text = repeated(alloc, 64, "<<", ">>")?;
     let digits = encoded(alloc, text.as_str())?;
-    assert_eq!(rt; digits.len(), 208);
-    assert!(rt; digits.as_str().starts_with("58665864"));
-    assert!(rt; prints_itself(alloc, text.as_str())?);
-    let mut open = repeated(alloc, 63, "<<", ">>")?;
-    open.push_str(">")?;
-    let mut unended = String::from_str(alloc, "<<")?;
-    unended.push_str(open.as_str())?;
-    assert_eq!(rt; encoded(alloc, unended.as_str())?.as_str(), "parse");
-    Ok(())
+    expect("length of 64 strings", digits.len() == 208)?;
+    expect(
+        "first of 64 strings",
+        digits.as_str().starts_with("58665864"),
+    )?;
+    expect_itself(alloc, text.as_str())
+}
+
+#[test]
+fn refuses_unended_embedded_sequences(rt: HostRuntime) -> Result<(), Fail> {
+    let alloc = rt.alloc();
+    let open = repeated(alloc, 63, "<<", ">>")?;
+    let unended = format!(in alloc; "<<{open}>")?;
+    expect_text(
+        alloc,
+        unended.as_str(),
+        encoded(alloc, unended.as_str())?.as_str(),
+        "parse",
+    )
 }
 
 #[test]
 fn reads_many_strings(rt: HostRuntime) -> Result<(), Fail> {
     let alloc = rt.alloc();
     let text = repeated(alloc, 4096, "'a'/c/", "")?;
-    assert_eq!(rt; encoded(alloc, text.as_str())?.len(), 16_384);
-    Ok(())
+    let digits = encoded(alloc, text.as_str())?;
+    expect("4096 strings", digits.len() == 16_384)
 }

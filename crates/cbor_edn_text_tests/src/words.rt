@@ -1,8 +1,8 @@
 //! Texts of tags, simple values and the numbers that are not finite, and the bytes that they mean.
-use crate::common::{encoded, prints_itself};
+use crate::common::{all_mean, all_unparsed};
 use std::test::Fail;
 
-const ENCODED: [(&str, &str); 18] = [
+const ENCODED: &[(&str, &str)] = &[
     ("1(2)", "c102"),
     ("1_0(2)", "d80102"),
     ("1_3( 2 )", "db000000000000000102"),
@@ -25,14 +25,10 @@ const ENCODED: [(&str, &str); 18] = [
 
 #[test]
 fn encodes_words(rt: HostRuntime) -> Result<(), Fail> {
-    for (text, digits) in ENCODED {
-        assert_eq!(rt; encoded(rt.alloc(), text)?.as_str(), digits, "{text:?}");
-        assert!(rt; prints_itself(rt.alloc(), text)?, "{text:?}");
-    }
-    Ok(())
+    all_mean(rt.alloc(), ENCODED)
 }
 
-const REFUSED: [(&str, &str); 19] = [
+const REFUSED: &[(&str, &str)] = &[
     ("simple(24)", "InvalidSimple"),
     ("simple(31)", "InvalidSimple"),
     ("simple(256)", "InvalidSimple"),
@@ -56,53 +52,49 @@ const REFUSED: [(&str, &str); 19] = [
 
 #[test]
 fn refuses_words_without_encoding(rt: HostRuntime) -> Result<(), Fail> {
-    for (text, name) in REFUSED {
-        assert_eq!(rt; encoded(rt.alloc(), text)?.as_str(), name, "{text:?}");
-        assert!(rt; prints_itself(rt.alloc(), text)?, "{text:?}");
-    }
-    Ok(())
+    all_mean(rt.alloc(), REFUSED)
 }
 
 #[test]
 fn refuses_texts_of_words(rt: HostRuntime) -> Result<(), Fail> {
-    for text in [
-        "18446744073709551616(1)",
-        "100000000000000000000(1)",
-        "01(2)",
-        "00(2)",
-        "1 (2)",
-        "+1(2)",
-        "-1(2)",
-        "0x1(2)",
-        "1.(2)",
-        "1e1(2)",
-        "1()",
-        "1(2",
-        "1(2,)",
-        "1(2 3)",
-        "true_",
-        "true1",
-        "True",
-        "TRUE",
-        "nul",
-        "nulll",
-        "undefined'",
-        "+Infinity",
-        "- Infinity",
-        "-infinity",
-        "Infinit",
-        "NaN()",
-        "Nan",
-        "simple",
-        "simple ()",
-        "simple()",
-        "simple(1,)",
-        "simple_0(1)",
-        "true(1)",
-        "[true\"a\"]",
-        "truefalse",
-    ] {
-        assert_eq!(rt; encoded(rt.alloc(), text)?.as_str(), "parse", "{text:?}");
-    }
-    Ok(())
+    all_unparsed(
+        rt.alloc(),
+        &[
+            "18446744073709551616(1)",
+            "100000000000000000000(1)",
+            "01(2)",
+            "00(2)",
+            "1 (2)",
+            "+1(2)",
+            "-1(2)",
+            "0x1(2)",
+            "1.(2)",
+            "1e1(2)",
+            "1()",
+            "1(2",
+            "1(2,)",
+            "1(2 3)",
+            "true_",
+            "true1",
+            "True",
+            "TRUE",
+            "nul",
+            "nulll",
+            "undefined'",
+            "+Infinity",
+            "- Infinity",
+            "-infinity",
+            "Infinit",
+            "NaN()",
+            "Nan",
+            "simple",
+            "simple ()",
+            "simple()",
+            "simple(1,)",
+            "simple_0(1)",
+            "true(1)",
+            "[true\"a\"]",
+            "truefalse",
+        ],
+    )
 }
