@@ -1,66 +1,52 @@
 //! Parts of items.
-use crate::common::{one_and_two, pairs};
+use crate::common::{Made, expect, expect_text, make};
 use cbor_edn_core::access::TypeMismatch;
 use cbor_edn_core::tree::{Item, StandaloneItem};
 use cbor_edn_parts::error::Fault;
-use std::alloc::{AllocError, Global};
+use std::alloc::Global;
 use std::test::Fail;
 
-fn integer(item: Result<Item<'_>, AllocError>) -> Result<Result<i128, TypeMismatch>, Fail> {
-    Ok(item?.get_integer())
-}
-
-fn decoded_integer(alloc: Global, bytes: &[u8]) -> Result<Result<i128, TypeMismatch>, Fail> {
-    let item: Item<'_> = Item::from_cbor(alloc, bytes)?;
+fn integer(alloc: Global, made: Made<'_>) -> Result<Result<i128, TypeMismatch>, Fail> {
+    let item: Item<'_> = make(alloc, made)?;
     Ok(item.get_integer())
 }
 
+const INTEGERS: &[(Made<'static>, Result<i128, TypeMismatch>)] = &[
+    (Made::Decimal(i128::MIN), Ok(i128::MIN)),
+    (Made::Hex(255), Ok(255)),
+    (Made::Decoded(b"\x18\x0a"), Ok(10)),
+    (Made::Text("1"), Err(TypeMismatch::Integer)),
+];
+
 #[test]
 fn integers_are_answered(rt: HostRuntime) -> Result<(), Fail> {
-    let alloc = rt.alloc();
-    let least = Item::new_integer_decimal(alloc, i128::MIN);
-    assert_eq!(rt; integer(least)?, Ok(i128::MIN));
-    assert_eq!(rt; integer(Item::new_integer_hex(alloc, 255))?, Ok(255));
-    assert_eq!(rt; decoded_integer(alloc, b"\x18\x0a".as_slice())?, Ok(10));
-    assert_eq!(rt;
-        integer(Item::new_text(alloc, "1"))?,
-        Err(TypeMismatch::Integer)
-    );
+    for &(made, wanted) in INTEGERS {
+        expect("integer", integer(rt.alloc(), made)? == wanted)?;
+    }
     Ok(())
 }
 
-/// The number of a tag round ` 2 `, and the text of what stands between its parentheses.
-fn tag_and_content(alloc: Global) -> Result<(u64, String), Fail> {
-    let item = StandaloneItem::parse(alloc, " 2 ")?.tagged(alloc, 1)?;
+/// The number of a tag round a text, and the text of what stands between its parentheses.
+fn tag_and_content(alloc: Global, text: &str, number: u64) -> Result<(u64, String), Fail> {
+    let item = StandaloneItem::parse(alloc, text)?.tagged(alloc, number)?;
     let number = item.get_tag()?;
     let content = item.get_tagged()?.serialize(alloc)?;
     Ok((number, content))
 }
 
-fn tag(item: Result<Item<'_>, AllocError>) -> Result<Result<u64, TypeMismatch>, Fail> {
-    Ok(item?.get_tag())
+fn tag(alloc: Global, made: Made<'_>) -> Result<Result<u64, TypeMismatch>, Fail> {
+    let item: Item<'_> = make(alloc, made)?;
+    Ok(item.get_tag())
 }
 
 #[test]
 fn tags_are_answered(rt: HostRuntime) -> Result<(), Fail> {
     let alloc = rt.alloc();
-    let (number, content) = tag_and_content(alloc)?;
-    assert_eq!(rt; number, 1);
-    assert_eq!(rt; content.as_str(), " 2 ");
-    assert_eq!(rt;
-        tag(Item::new_integer_decimal(alloc, 7))?,
-        Err(TypeMismatch::TaggedItem)
-    );
-    Ok(())
-}
-
-fn array_items(array: Result<Item<'_>, AllocError>, alloc: Global) -> Result<String, Fail> {
-    let array = array?;
-    let mut texts = String::new(alloc);
-    for item in array.get_array_items()? {
-        push_text(&mut texts, item, alloc)?;
-    }
-    Ok(texts)
+    let (number, content) = tag_and_content(alloc, " 2 ", 1)?;
+    expect("number of the tag", number == 1)?;
+    expect_text(alloc, content.as_str(), " 2 ")?;
+    let no_tag = tag(alloc, Made::Decimal(7))?;
+    expect("no tag", no_tag == Err(TypeMismatch::TaggedItem))
 }
 
 /// Appends the text of an item and a semicolon.
@@ -71,18 +57,26 @@ fn push_text(texts: &mut String, item: &Item<'_>, alloc: Global) -> Result<(), F
     Ok(())
 }
 
+fn array_items(alloc: Global, made: Made<'_>) -> Result<String, Fail> {
+    let array: Item<'_> = make(alloc, made)?;
+    let mut texts = String::new(alloc);
+    for item in array.get_array_items()? {
+        push_text(&mut texts, item, alloc)?;
+    }
+    Ok(texts)
+}
+
 #[test]
 fn items_of_arrays_are_answered(rt: HostRuntime) -> Result<(), Fail> {
     let alloc = rt.alloc();
-    let array = Item::new_array(alloc, one_and_two(alloc)?);
-    assert_eq!(rt; array_items(array, alloc)?.as_str(), "1;2;");
-    let empty = Item::new_array(alloc, Vec::new(alloc));
-    assert_eq!(rt; array_items(empty, alloc)?.as_str(), "");
-    Ok(())
+    let told = array_items(alloc, Made::Array(&[1, 2]))?;
+    expect_text(alloc, told.as_str(), "1;2;")?;
+    let told = array_items(alloc, Made::Array(&[]))?;
+    expect_text(alloc, told.as_str(), "")
 }
 
-fn map_items(map: Result<Item<'_>, AllocError>, alloc: Global) -> Result<String, Fail> {
-    let map = map?;
+fn map_items(alloc: Global, made: Made<'_>) -> Result<String, Fail> {
+    let map: Item<'_> = make(alloc, made)?;
     let mut texts = String::new(alloc);
     for (key, value) in map.get_map_items()? {
         push_text(&mut texts, key, alloc)?;
@@ -94,64 +88,57 @@ fn map_items(map: Result<Item<'_>, AllocError>, alloc: Global) -> Result<String,
 #[test]
 fn items_of_maps_are_answered(rt: HostRuntime) -> Result<(), Fail> {
     let alloc = rt.alloc();
-    let map = Item::new_map(alloc, pairs(alloc)?);
-    assert_eq!(rt; map_items(map, alloc)?.as_str(), "1;2;3;4;");
-    let empty = Item::new_map(alloc, Vec::new(alloc));
-    assert_eq!(rt; map_items(empty, alloc)?.as_str(), "");
-    Ok(())
+    let told = map_items(alloc, Made::Map(&[(1, 2), (3, 4)]))?;
+    expect_text(alloc, told.as_str(), "1;2;3;4;")?;
+    let told = map_items(alloc, Made::Map(&[]))?;
+    expect_text(alloc, told.as_str(), "")
 }
 
-fn bytes_of(item: &Item<'_>, alloc: Global) -> Result<Result<Vec<u8>, TypeMismatch>, Fail> {
+fn bytes_of(alloc: Global, made: Made<'_>) -> Result<Option<Vec<u8>>, Fail> {
+    let item: Item<'_> = make(alloc, made)?;
     match item.get_bytes(alloc) {
-        Ok(bytes) => Ok(Ok(bytes)),
-        Err(Fault::Told(mismatch)) => Ok(Err(mismatch)),
-        Err(Fault::Memory(refused)) => Err(Fail::from(refused)),
+        Ok(bytes) => Ok(Some(bytes)),
+        Err(Fault::Told(TypeMismatch::Bytes)) => Ok(None),
+        Err(refused) => Err(Fail::from(refused)),
     }
 }
 
-fn bytes_of_decoded(alloc: Global, encoding: &[u8]) -> Result<Result<Vec<u8>, TypeMismatch>, Fail> {
-    let item: Item<'_> = Item::from_cbor(alloc, encoding)?;
-    bytes_of(&item, alloc)
-}
-
-fn bytes_of_literal(
-    alloc: Global,
-    prefix: &str,
-    text: &str,
-) -> Result<Result<Vec<u8>, TypeMismatch>, Fail> {
-    let item = Item::new_application_literal(alloc, prefix, text)?;
-    bytes_of(&item, alloc)
-}
+const BYTES: &[(Made<'static>, &[u8])] = &[
+    (Made::Decoded(b"\x43abc"), b"abc"),
+    (Made::Decoded(b"\x5f\x41a\x42bc\xff"), b"abc"),
+    (Made::Literal("b64", "Yg=="), b"b"),
+];
 
 #[test]
 fn bytes_are_answered(rt: HostRuntime) -> Result<(), Fail> {
     let alloc = rt.alloc();
-    let of_bytes = bytes_of_decoded(alloc, b"\x43abc")?.unwrap_or(Vec::new(alloc));
-    assert_eq!(rt; of_bytes.as_slice(), b"abc".as_slice());
-    let of_chunks = bytes_of_decoded(alloc, b"\x5f\x41a\x42bc\xff")?.unwrap_or(Vec::new(alloc));
-    assert_eq!(rt; of_chunks.as_slice(), b"abc".as_slice());
-    let of_base = bytes_of_literal(alloc, "b64", "Yg==")?.unwrap_or(Vec::new(alloc));
-    assert_eq!(rt; of_base.as_slice(), b"b".as_slice());
+    for &(made, wanted) in BYTES {
+        let bytes = bytes_of(alloc, made)?.ok_or("no bytes")?;
+        expect("bytes", bytes.as_slice() == wanted)?;
+    }
     Ok(())
 }
+
+const NO_BYTES: &[Made<'static>] = &[
+    // a text, a string of indefinite length of texts, an array of a byte string
+    Made::Decoded(b"\x61a"),
+    Made::Decoded(b"\x7f\x61a\xff"),
+    Made::Decoded(b"\x81\x41a"),
+    // a literal that stands for no bytes, and one of a prefix that has no meaning here
+    Made::Literal("h", "0"),
+    Made::Literal("dt", "2024"),
+];
 
 #[test]
 fn other_items_have_no_bytes(rt: HostRuntime) -> Result<(), Fail> {
-    let alloc = rt.alloc();
-    // a text, a string of indefinite length of texts, an array of a byte string
-    for encoding in [b"\x61a".as_slice(), b"\x7f\x61a\xff", b"\x81\x41a"] {
-        let answer = bytes_of_decoded(alloc, encoding)?;
-        assert!(rt; matches!(answer, Err(TypeMismatch::Bytes)));
-    }
-    // a literal that stands for no bytes, and one of a prefix that has no meaning here
-    for (prefix, text) in [("h", "0"), ("dt", "2024")] {
-        let answer = bytes_of_literal(alloc, prefix, text)?;
-        assert!(rt; matches!(answer, Err(TypeMismatch::Bytes)));
+    for &made in NO_BYTES {
+        expect("no bytes", bytes_of(rt.alloc(), made)?.is_none())?;
     }
     Ok(())
 }
 
-fn parts_of(item: &Item<'_>, alloc: Global) -> Result<String, Fail> {
+fn parts_of(alloc: Global, made: Made<'_>) -> Result<String, Fail> {
+    let item: Item<'_> = make(alloc, made)?;
     match item.get_application_literal(alloc) {
         Ok((prefix, text)) => Ok(format!(in alloc; "{prefix} {text}")?),
         Err(Fault::Told(mismatch)) => Ok(format!(in alloc; "{mismatch}")?),
@@ -159,85 +146,76 @@ fn parts_of(item: &Item<'_>, alloc: Global) -> Result<String, Fail> {
     }
 }
 
-fn parts_of_literal(alloc: Global, prefix: &str, text: &str) -> Result<String, Fail> {
-    let item = Item::new_application_literal(alloc, prefix, text)?;
-    parts_of(&item, alloc)
-}
-
-fn parts_of_decoded(alloc: Global, encoding: &[u8]) -> Result<String, Fail> {
-    let item: Item<'_> = Item::from_cbor(alloc, encoding)?;
-    parts_of(&item, alloc)
-}
+/// Items, and their prefix and content, or the words of the refusal.
+const PARTS: &[(Made<'static>, &str)] = &[
+    (Made::Literal("b64", "a'b"), "b64 a'b"),
+    (Made::Literal("DT1", "\u{e4}\"\\\n"), "DT1 \u{e4}\"\\\n"),
+    (Made::Literal("h", ""), "h "),
+    // a byte string, a text, an array
+    (Made::Decoded(b"\x41\0"), "h 00"),
+    (
+        Made::Decoded(b"\x61x"),
+        "Expected application-oriented literal",
+    ),
+    (
+        Made::Decoded(b"\x80"),
+        "Expected application-oriented literal",
+    ),
+];
 
 #[test]
 fn application_literals_are_answered(rt: HostRuntime) -> Result<(), Fail> {
     let alloc = rt.alloc();
-    for (prefix, text, wanted) in [
-        ("b64", "a'b", "b64 a'b"),
-        ("DT1", "\u{e4}\"\\\n", "DT1 \u{e4}\"\\\n"),
-        ("h", "", "h "),
-    ] {
-        let parts = parts_of_literal(alloc, prefix, text)?;
-        assert_eq!(rt; parts.as_str(), wanted);
-    }
-    // a byte string, a text, an array
-    for (encoding, wanted) in [
-        (b"\x41\0".as_slice(), "h 00"),
-        (b"\x61x", "Expected application-oriented literal"),
-        (b"\x80", "Expected application-oriented literal"),
-    ] {
-        let parts = parts_of_decoded(alloc, encoding)?;
-        assert_eq!(rt; parts.as_str(), wanted);
+    for &(made, wanted) in PARTS {
+        expect_text(alloc, parts_of(alloc, made)?.as_str(), wanted)?;
     }
     Ok(())
 }
 
-/// What a number is told to be no array, and no map, with.
-fn mismatches(alloc: Global) -> Result<(Option<TypeMismatch>, Option<TypeMismatch>), Fail> {
-    let number = Item::new_integer_decimal(alloc, 1)?;
-    let no_array = match number.get_array_items() {
-        Ok(_) => None,
-        Err(mismatch) => Some(mismatch),
-    };
-    let no_map = match number.get_map_items() {
-        Ok(_) => None,
-        Err(mismatch) => Some(mismatch),
-    };
+/// What an item is told to be no array, and no map, with.
+fn mismatches(
+    alloc: Global,
+    made: Made<'_>,
+) -> Result<(Option<TypeMismatch>, Option<TypeMismatch>), Fail> {
+    let item: Item<'_> = make(alloc, made)?;
+    let no_array = item.get_array_items().err();
+    let no_map = item.get_map_items().err();
     Ok((no_array, no_map))
 }
 
 #[test]
 fn numbers_have_no_items(rt: HostRuntime) -> Result<(), Fail> {
-    let (no_array, no_map) = mismatches(rt.alloc())?;
-    assert_eq!(rt; no_array, Some(TypeMismatch::Array));
-    assert_eq!(rt; no_map, Some(TypeMismatch::Map));
-    Ok(())
+    let (no_array, no_map) = mismatches(rt.alloc(), Made::Decimal(1))?;
+    expect("no array", no_array == Some(TypeMismatch::Array))?;
+    expect("no map", no_map == Some(TypeMismatch::Map))
 }
+
+const WORDS: &[(TypeMismatch, &str)] = &[
+    (
+        TypeMismatch::ApplicationLiteral,
+        "Expected application-oriented literal",
+    ),
+    (
+        TypeMismatch::SingleApplicationLiteral,
+        "Expected single application-oriented literal",
+    ),
+    (TypeMismatch::Bytes, "Expected byte literal"),
+    (TypeMismatch::TaggedItem, "Expected tagged item"),
+    (TypeMismatch::Integer, "Expected integer"),
+    (
+        TypeMismatch::IntegerInRange,
+        "Expected integer in i128 range",
+    ),
+    (TypeMismatch::Array, "Expected array"),
+    (TypeMismatch::Map, "Expected map"),
+];
 
 #[test]
 fn mismatches_have_words(rt: HostRuntime) -> Result<(), Fail> {
     let alloc = rt.alloc();
-    for (mismatch, wanted) in [
-        (
-            TypeMismatch::ApplicationLiteral,
-            "Expected application-oriented literal",
-        ),
-        (
-            TypeMismatch::SingleApplicationLiteral,
-            "Expected single application-oriented literal",
-        ),
-        (TypeMismatch::Bytes, "Expected byte literal"),
-        (TypeMismatch::TaggedItem, "Expected tagged item"),
-        (TypeMismatch::Integer, "Expected integer"),
-        (
-            TypeMismatch::IntegerInRange,
-            "Expected integer in i128 range",
-        ),
-        (TypeMismatch::Array, "Expected array"),
-        (TypeMismatch::Map, "Expected map"),
-    ] {
+    for &(mismatch, wanted) in WORDS {
         let words = format!(in alloc; "{mismatch}")?;
-        assert_eq!(rt; words.as_str(), wanted);
+        expect_text(alloc, words.as_str(), wanted)?;
     }
     Ok(())
 }

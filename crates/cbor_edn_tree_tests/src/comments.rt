@@ -1,4 +1,5 @@
 //! Comments in front of items.
+use crate::common::expect_text;
 use cbor_edn_core::tree::{Item, StandaloneItem};
 use std::alloc::Global;
 use std::test::Fail;
@@ -21,22 +22,22 @@ fn with_decoded(alloc: Global, bytes: &[u8], comment: &str) -> Result<String, Fa
     Ok(item.serialize(alloc)?)
 }
 
+/// Texts, comments, and the texts behind these comments.
+const COMMENTED: &[(&str, &str, &str)] = &[
+    ("0", "a/b\nc", "# a/b\n# c\n0"),
+    ("0", "\u{1}", "/   /0"),
+    ("0", "a\tb\n", "/ a\tb\n /0"),
+    ("0", "", "/  /0"),
+    (" # old\n 1 /kept/", "new", "/ new /1 /kept/"),
+];
+
 #[test]
 fn comments_stand_in_front(rt: HostRuntime) -> Result<(), Fail> {
     let alloc = rt.alloc();
-    for (text, comment, wanted) in [
-        ("0", "a/b\nc", "# a/b\n# c\n0"),
-        ("0", "\u{1}", "/   /0"),
-        ("0", "a\tb\n", "/ a\tb\n /0"),
-        ("0", "", "/  /0"),
-        (" # old\n 1 /kept/", "new", "/ new /1 /kept/"),
-    ] {
-        assert_eq!(rt; with_set(alloc, text, comment)?.as_str(), wanted);
-        assert_eq!(rt; with(alloc, text, comment)?.as_str(), wanted);
+    for &(text, comment, wanted) in COMMENTED {
+        expect_text(alloc, with_set(alloc, text, comment)?.as_str(), wanted)?;
+        expect_text(alloc, with(alloc, text, comment)?.as_str(), wanted)?;
     }
-    assert_eq!(rt;
-        with_decoded(alloc, b"\x01".as_slice(), "one")?.as_str(),
-        "/ one /1"
-    );
-    Ok(())
+    let told = with_decoded(alloc, b"\x01", "one")?;
+    expect_text(alloc, told.as_str(), "/ one /1")
 }

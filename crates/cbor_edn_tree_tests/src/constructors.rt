@@ -1,5 +1,5 @@
 //! Items and sequences that are made from values.
-use crate::common::{one_and_two, pairs, text_of};
+use crate::common::{Made, all_written, expect_text, list, make};
 use cbor_edn_core::tree::{Item, Sequence, StandaloneItem};
 use cbor_edn_parts::error::{Fault, InconsistentEdn};
 use std::alloc::Global;
@@ -7,36 +7,58 @@ use std::test::Fail;
 
 #[test]
 fn numbers_are_written(rt: HostRuntime) -> Result<(), Fail> {
-    let alloc = rt.alloc();
-    for (integer, wanted) in [
-        (-5, "-5"),
-        (0, "0"),
-        (i128::MAX, "170141183460469231731687303715884105727"),
-        (i128::MIN, "-170141183460469231731687303715884105728"),
-    ] {
-        let item = Item::new_integer_decimal(alloc, integer)?;
-        assert_eq!(rt; item.serialize(alloc)?.as_str(), wanted);
-    }
-    for (integer, wanted) in [(0, "0x0"), (255, "0xff"), (u64::MAX, "0xffffffffffffffff")] {
-        let item = Item::new_integer_hex(alloc, integer)?;
-        assert_eq!(rt; item.serialize(alloc)?.as_str(), wanted);
-    }
-    Ok(())
+    all_written(
+        rt.alloc(),
+        &[
+            (Made::Decimal(-5), "-5"),
+            (Made::Decimal(0), "0"),
+            (
+                Made::Decimal(i128::MAX),
+                "170141183460469231731687303715884105727",
+            ),
+            (
+                Made::Decimal(i128::MIN),
+                "-170141183460469231731687303715884105728",
+            ),
+            (Made::Hex(0), "0x0"),
+            (Made::Hex(255), "0xff"),
+            (Made::Hex(u64::MAX), "0xffffffffffffffff"),
+        ],
+    )
 }
 
 #[test]
 fn strings_are_written(rt: HostRuntime) -> Result<(), Fail> {
-    let alloc = rt.alloc();
-    let bytes = Item::new_bytes_hex(alloc, b"\x00\xff".as_slice())?;
-    assert_eq!(rt; bytes.serialize(alloc)?.as_str(), "h'00ff'");
-    for (text, wanted) in [
-        ("Hello \"World\"\0", "\"Hello \\\"World\\\"\\u{0}\""),
-        ("it's", "\"it\\u{27}s\""),
-    ] {
-        let item = Item::new_text(alloc, text)?;
-        assert_eq!(rt; item.serialize(alloc)?.as_str(), wanted);
-    }
-    Ok(())
+    all_written(
+        rt.alloc(),
+        &[
+            (Made::Bytes(b"\x00\xff"), "h'00ff'"),
+            (
+                Made::Text("Hello \"World\"\0"),
+                "\"Hello \\\"World\\\"\\u{0}\"",
+            ),
+            (Made::Text("it's"), "\"it\\u{27}s\""),
+        ],
+    )
+}
+
+#[test]
+fn arrays_are_written(rt: HostRuntime) -> Result<(), Fail> {
+    all_written(
+        rt.alloc(),
+        &[(Made::Array(&[1, 2]), "[1,2]"), (Made::Array(&[]), "[]")],
+    )
+}
+
+#[test]
+fn maps_are_written(rt: HostRuntime) -> Result<(), Fail> {
+    all_written(
+        rt.alloc(),
+        &[
+            (Made::Map(&[(1, 2), (3, 4)]), "{1:2,3:4}"),
+            (Made::Map(&[]), "{}"),
+        ],
+    )
 }
 
 fn literal(alloc: Global, prefix: &str, text: &str) -> Result<String, Fail> {
@@ -50,83 +72,56 @@ fn literal(alloc: Global, prefix: &str, text: &str) -> Result<String, Fail> {
     }
 }
 
+/// Prefixes, contents, and the literals of them.
+const LITERALS: &[(&str, &str, &str)] = &[
+    ("b64", "a'b", "b64'a\\'b'"),
+    ("true", "x", "true'x'"),
+    ("DT", "\"\\\n", "DT'\\u{22}\\\\\n'"),
+    ("Ab", "x", "no prefix"),
+    ("", "x", "no prefix"),
+    ("0a", "x", "no prefix"),
+];
+
 #[test]
 fn literals_are_written_behind_prefixes_alone(rt: HostRuntime) -> Result<(), Fail> {
     let alloc = rt.alloc();
-    for (prefix, text, wanted) in [
-        ("b64", "a'b", "b64'a\\'b'"),
-        ("true", "x", "true'x'"),
-        ("DT", "\"\\\n", "DT'\\u{22}\\\\\n'"),
-        ("Ab", "x", "no prefix"),
-        ("", "x", "no prefix"),
-        ("0a", "x", "no prefix"),
-    ] {
-        assert_eq!(rt; literal(alloc, prefix, text)?.as_str(), wanted);
+    for &(prefix, text, wanted) in LITERALS {
+        expect_text(alloc, literal(alloc, prefix, text)?.as_str(), wanted)?;
     }
     Ok(())
+}
+
+fn tagged_text(alloc: Global, text: &str, number: u64) -> Result<String, Fail> {
+    let item = StandaloneItem::parse(alloc, text)?.tagged(alloc, number)?;
+    Ok(item.serialize(alloc)?)
 }
 
 #[test]
 fn tags_keep_spaces(rt: HostRuntime) -> Result<(), Fail> {
     let alloc = rt.alloc();
-    let item = StandaloneItem::parse(alloc, " 2 ")?.tagged(alloc, 1)?;
-    assert_eq!(rt; item.serialize(alloc)?.as_str(), "1( 2 )");
-    Ok(())
+    expect_text(alloc, tagged_text(alloc, " 2 ", 1)?.as_str(), "1( 2 )")
 }
 
-fn array(alloc: Global) -> Result<String, Fail> {
-    let items = one_and_two(alloc)?;
-    text_of(alloc, Item::new_array(alloc, items))
-}
-
-fn tagged_array(alloc: Global) -> Result<String, Fail> {
-    let items = one_and_two(alloc)?;
-    let array = Item::new_array(alloc, items)?;
-    text_of(alloc, array.tagged(alloc, 24))
+fn tagged(alloc: Global, made: Made<'_>, number: u64) -> Result<String, Fail> {
+    let item: Item<'_> = make(alloc, made)?.tagged(alloc, number)?;
+    Ok(item.serialize(alloc)?)
 }
 
 #[test]
-fn arrays_are_written(rt: HostRuntime) -> Result<(), Fail> {
+fn tags_of_arrays_are_written(rt: HostRuntime) -> Result<(), Fail> {
     let alloc = rt.alloc();
-    assert_eq!(rt; array(alloc)?.as_str(), "[1,2]");
-    assert_eq!(rt; tagged_array(alloc)?.as_str(), "24([1,2])");
-    assert_eq!(rt;
-        text_of(alloc, Item::new_array(alloc, Vec::new(alloc)))?.as_str(),
-        "[]"
-    );
-    Ok(())
+    let told = tagged(alloc, Made::Array(&[1, 2]), 24)?;
+    expect_text(alloc, told.as_str(), "24([1,2])")
 }
 
-fn map(alloc: Global) -> Result<String, Fail> {
-    let entries = pairs(alloc)?;
-    text_of(alloc, Item::new_map(alloc, entries))
-}
-
-#[test]
-fn maps_are_written(rt: HostRuntime) -> Result<(), Fail> {
-    let alloc = rt.alloc();
-    assert_eq!(rt; map(alloc)?.as_str(), "{1:2,3:4}");
-    assert_eq!(rt;
-        text_of(alloc, Item::new_map(alloc, Vec::new(alloc)))?.as_str(),
-        "{}"
-    );
-    Ok(())
-}
-
-fn sequence(alloc: Global) -> Result<String, Fail> {
-    let items = one_and_two(alloc)?;
-    Ok(Sequence::new(alloc, items)?.serialize(alloc)?)
-}
-
-fn empty_sequence(alloc: Global) -> Result<String, Fail> {
-    let sequence = Sequence::new(alloc, Vec::new(alloc))?;
+fn sequence(alloc: Global, numbers: &[i128]) -> Result<String, Fail> {
+    let sequence = Sequence::new(alloc, list(alloc, numbers)?)?;
     Ok(sequence.serialize(alloc)?)
 }
 
 #[test]
 fn sequences_are_written(rt: HostRuntime) -> Result<(), Fail> {
     let alloc = rt.alloc();
-    assert_eq!(rt; sequence(alloc)?.as_str(), "1,2");
-    assert_eq!(rt; empty_sequence(alloc)?.as_str(), "");
-    Ok(())
+    expect_text(alloc, sequence(alloc, &[1, 2])?.as_str(), "1,2")?;
+    expect_text(alloc, sequence(alloc, &[])?.as_str(), "")
 }

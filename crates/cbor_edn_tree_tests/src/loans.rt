@@ -1,4 +1,5 @@
 //! Parts that are lent to be changed.
+use crate::common::{Made, expect, expect_text, make};
 use cbor_edn_core::access::TypeMismatch;
 use cbor_edn_core::tree::{Item, StandaloneItem};
 use std::alloc::Global;
@@ -14,21 +15,25 @@ fn overwritten(alloc: Global, text: &str, content: &str) -> Result<String, Fail>
 #[test]
 fn tags_lend_their_content(rt: HostRuntime) -> Result<(), Fail> {
     let alloc = rt.alloc();
-    assert_eq!(rt; overwritten(alloc, " 2 ", "[3] ")?.as_str(), "1([3] )");
-    assert_eq!(rt; overwritten(alloc, "2", " 1(2)")?.as_str(), "1( 1(2))");
-    Ok(())
+    let told = overwritten(alloc, " 2 ", "[3] ")?;
+    expect_text(alloc, told.as_str(), "1([3] )")?;
+    let told = overwritten(alloc, "2", " 1(2)")?;
+    expect_text(alloc, told.as_str(), "1( 1(2))")
+}
+
+/// The text of an item that is no tag, after its content was asked for.
+fn unlent(alloc: Global, made: Made<'_>) -> Result<String, Fail> {
+    let mut item: Item<'_> = make(alloc, made)?;
+    let refused = item.get_tagged_mut().err();
+    expect("no tag", refused == Some(TypeMismatch::TaggedItem))?;
+    Ok(item.serialize(alloc)?)
 }
 
 #[test]
 fn others_lend_no_content(rt: HostRuntime) -> Result<(), Fail> {
     let alloc = rt.alloc();
-    let mut number = Item::new_integer_decimal(alloc, 7)?;
-    assert_eq!(rt; number.get_tagged_mut().is_err(), true);
-    let mut simple = Item::from_cbor(alloc, b"\xf8\x20".as_slice())?;
-    match simple.get_tagged_mut() {
-        Ok(_) => assert_eq!(rt; true, false),
-        Err(refused) => assert_eq!(rt; refused, TypeMismatch::TaggedItem),
-    }
-    assert_eq!(rt; simple.serialize(alloc)?.as_str(), "simple(32)");
-    Ok(())
+    let told = unlent(alloc, Made::Decimal(7))?;
+    expect_text(alloc, told.as_str(), "7")?;
+    let told = unlent(alloc, Made::Decoded(b"\xf8\x20"))?;
+    expect_text(alloc, told.as_str(), "simple(32)")
 }

@@ -1,4 +1,5 @@
 //! Spaces by delimiter policies.
+use crate::common::{expect, expect_text};
 use cbor_edn_core::tree::{Item, Sequence, StandaloneItem};
 use cbor_edn_parts::policy::DelimiterPolicy;
 use std::alloc::Global;
@@ -39,155 +40,181 @@ fn decoded_laid_out(alloc: Global, bytes: &[u8], policy: DelimiterPolicy) -> Res
     Ok(item.serialize(alloc)?)
 }
 
+const SPACED: &str = " [ 1 , 2 /c/ , ] ";
+
+const LAID_OUT: &[(&str, DelimiterPolicy, &str)] = &[
+    (SPACED, DelimiterPolicy::DiscardAll, "[1,2]"),
+    (SPACED, DelimiterPolicy::DiscardAllButComments, "[1,2/c/]"),
+    (
+        SPACED,
+        DelimiterPolicy::SingleLineRegularSpacing,
+        "[1, 2/c/]",
+    ),
+    (SPACED, DelimiterPolicy::SingleSpace, " [ 1 ,2 /c/] "),
+    ("1 # c\n", DelimiterPolicy::DiscardAll, "1"),
+    ("\r/c/\r0", DelimiterPolicy::DiscardAllButComments, "/c/0"),
+];
+
 #[test]
 fn items_are_laid_out(rt: HostRuntime) -> Result<(), Fail> {
     let alloc = rt.alloc();
-    let spaced = " [ 1 , 2 /c/ , ] ";
-    for (text, policy, wanted) in [
-        (spaced, DelimiterPolicy::DiscardAll, "[1,2]"),
-        (spaced, DelimiterPolicy::DiscardAllButComments, "[1,2/c/]"),
-        (
-            spaced,
-            DelimiterPolicy::SingleLineRegularSpacing,
-            "[1, 2/c/]",
-        ),
-        (spaced, DelimiterPolicy::SingleSpace, " [ 1 ,2 /c/] "),
-        (spaced, indented(0, 2, 10), "[1, 2/c/]"),
-        (spaced, indented(0, 2, 9), "[\n  1,\n  2\n/c/]"),
-        ("'a'+'b'", indented(0, 4, 0), "'a'\n    +'b'"),
-        (
-            "(_ 'a', 'b')",
-            indented(0, 4, 0),
-            "(_\n    'a',\n    'b'\n)",
-        ),
-        ("[_ 1]", indented(0, 4, 0), "[_ \n    1\n]"),
-        ("{1:2}", indented(0, 4, 0), "{\n    1:2\n}"),
-    ] {
-        assert_eq!(rt; laid_out(alloc, text, policy)?.as_str(), wanted);
+    for &(text, policy, wanted) in LAID_OUT {
+        expect_text(alloc, laid_out(alloc, text, policy)?.as_str(), wanted)?;
     }
     Ok(())
 }
 
+/// Texts, an indent, a level and a width, and the texts by these.
+const INDENTED: &[(&str, (usize, usize, usize), &str)] = &[
+    (SPACED, (0, 2, 10), "[1, 2/c/]"),
+    (SPACED, (0, 2, 9), "[\n  1,\n  2\n/c/]"),
+    ("'a'+'b'", (0, 4, 0), "'a'\n    +'b'"),
+    ("(_ 'a', 'b')", (0, 4, 0), "(_\n    'a',\n    'b'\n)"),
+    ("[_ 1]", (0, 4, 0), "[_ \n    1\n]"),
+    ("{1:2}", (0, 4, 0), "{\n    1:2\n}"),
+];
+
+#[test]
+fn items_are_indented(rt: HostRuntime) -> Result<(), Fail> {
+    let alloc = rt.alloc();
+    for &(text, (base, level, width), wanted) in INDENTED {
+        let told = laid_out(alloc, text, indented(base, level, width))?;
+        expect_text(alloc, told.as_str(), wanted)?;
+    }
+    Ok(())
+}
+
+const REGULAR: &[(&str, &str)] = &[
+    ("1 # c\n", "1# c\n"),
+    ("{1:2}", "{1: 2}"),
+    (
+        "{ / x / 1: 4, / y / 2: 3_i, / and diagonal is 5 / }",
+        "{/ x /1: 4, / y /2: 3_i/ and diagonal is 5 /}",
+    ),
+    ("'a'+'b'", "'a' + 'b'"),
+    ("(_ 'a'+'b')", "(_ 'a'+'b')"),
+];
+
 #[test]
 fn lines_are_regular(rt: HostRuntime) -> Result<(), Fail> {
     let alloc = rt.alloc();
-    let regular = DelimiterPolicy::SingleLineRegularSpacing;
-    for (text, wanted) in [
-        ("1 # c\n", "1# c\n"),
-        ("{1:2}", "{1: 2}"),
-        (
-            "{ / x / 1: 4, / y / 2: 3_i, / and diagonal is 5 / }",
-            "{/ x /1: 4, / y /2: 3_i/ and diagonal is 5 /}",
-        ),
-        ("'a'+'b'", "'a' + 'b'"),
-        ("(_ 'a'+'b')", "(_ 'a'+'b')"),
-    ] {
-        assert_eq!(rt; laid_out(alloc, text, regular)?.as_str(), wanted);
+    for &(text, wanted) in REGULAR {
+        let told = laid_out(alloc, text, DelimiterPolicy::SingleLineRegularSpacing)?;
+        expect_text(alloc, told.as_str(), wanted)?;
     }
-    assert_eq!(rt;
-        laid_out(alloc, "1 # c\n", DelimiterPolicy::DiscardAll)?.as_str(),
-        "1"
-    );
-    assert_eq!(rt;
-        laid_out(alloc, "\r/c/\r0", DelimiterPolicy::DiscardAllButComments)?.as_str(),
-        "/c/0"
-    );
     Ok(())
 }
 
 #[test]
 fn sequences_are_laid_out(rt: HostRuntime) -> Result<(), Fail> {
     let alloc = rt.alloc();
-    assert_eq!(rt;
-        sequence_laid_out(alloc, " 1 2", indented(2, 4, 80))?.as_str(),
-        "1,\n  2\n  "
-    );
-    for policy in [DelimiterPolicy::DiscardAll, indented(2, 4, 80)] {
-        assert_eq!(rt; sequence_laid_out(alloc, " ", policy)?.as_str(), "");
-    }
-    Ok(())
+    let lines = indented(2, 4, 80);
+    let told = sequence_laid_out(alloc, " 1 2", lines)?;
+    expect_text(alloc, told.as_str(), "1,\n  2\n  ")?;
+    let told = sequence_laid_out(alloc, " ", DelimiterPolicy::DiscardAll)?;
+    expect_text(alloc, told.as_str(), "")?;
+    let told = sequence_laid_out(alloc, " ", lines)?;
+    expect_text(alloc, told.as_str(), "")
 }
+
+/// Bytes, an indent, a level and a width, and the text of the item by these.
+const DECODED_INDENTED: &[(&[u8], (usize, usize, usize), &str)] = &[
+    (b"\x82\x01\x02", (0, 4, 0), "[\n    1,\n    2\n]"),
+    (
+        b"\xc1\x82\x01\x02",
+        (0, 4, 0),
+        "1([\n        1,\n        2\n    ])",
+    ),
+    (b"\x01", (usize::MAX, 4, 80), "1"),
+];
+
+const DECODED: &[(&[u8], DelimiterPolicy, &str)] = &[
+    (b"\x82\x01\x02", DelimiterPolicy::SingleSpace, "[ 1 ,2 ]"),
+    (
+        b"\x82\x01\xa1\x02\x03",
+        DelimiterPolicy::SingleLineRegularSpacing,
+        "[1, {2: 3}]",
+    ),
+];
 
 #[test]
 fn decoded_items_are_laid_out(rt: HostRuntime) -> Result<(), Fail> {
     let alloc = rt.alloc();
-    let lines = indented(0, 4, 0);
-    for (bytes, policy, wanted) in [
-        (b"\x82\x01\x02".as_slice(), lines, "[\n    1,\n    2\n]"),
-        (
-            b"\xc1\x82\x01\x02".as_slice(),
-            lines,
-            "1([\n        1,\n        2\n    ])",
-        ),
-        (
-            b"\x82\x01\x02".as_slice(),
-            DelimiterPolicy::SingleSpace,
-            "[ 1 ,2 ]",
-        ),
-        (
-            b"\x82\x01\xa1\x02\x03".as_slice(),
-            DelimiterPolicy::SingleLineRegularSpacing,
-            "[1, {2: 3}]",
-        ),
-        (b"\x01".as_slice(), indented(usize::MAX, 4, 80), "1"),
-    ] {
-        assert_eq!(rt; decoded_laid_out(alloc, bytes, policy)?.as_str(), wanted);
+    for &(bytes, policy, wanted) in DECODED {
+        let told = decoded_laid_out(alloc, bytes, policy)?;
+        expect_text(alloc, told.as_str(), wanted)?;
+    }
+    for &(bytes, (base, level, width), wanted) in DECODED_INDENTED {
+        let told = decoded_laid_out(alloc, bytes, indented(base, level, width))?;
+        expect_text(alloc, told.as_str(), wanted)?;
     }
     Ok(())
 }
 
-// No machine has memory for such a line.
-fn encoded(alloc: Global, text: &str) -> Result<Vec<u8>, Fail> {
-    Ok(Sequence::parse(alloc, text)?.to_cbor(alloc)?)
+fn expect_bytes(alloc: Global, text: &str, wanted: &[u8]) -> Result<(), Fail> {
+    let bytes = Sequence::parse(alloc, text)?.to_cbor(alloc)?;
+    expect(text, bytes.as_slice() == wanted)
 }
+
+/// The text of a sequence that a policy is refused for.
+fn refused(alloc: Global, text: &str, policy: DelimiterPolicy) -> Result<String, Fail> {
+    let mut sequence = Sequence::parse(alloc, text)?;
+    expect(text, sequence.set_delimiters(alloc, policy).is_err())?;
+    Ok(sequence.serialize(alloc)?)
+}
+
+/// Texts, an indent, a level and a width of lines that no machine has memory for, and what the texts mean.
+const ENDLESS: &[(&str, (usize, usize, usize), &[u8])] = &[
+    ("[[1]]", (0, usize::MAX, 0), b"\x81\x81\x01"),
+    ("[1]", (usize::MAX, 4, 80), b"\x81\x01"),
+    ("1, 2", (usize::MAX, 4, 80), b"\x01\x02"),
+];
 
 #[test]
 fn greatest_indents_are_refused(rt: HostRuntime) -> Result<(), Fail> {
     let alloc = rt.alloc();
-    for (text, policy, bytes) in [
-        (
-            "[[1]]",
-            indented(0, usize::MAX, 0),
-            b"\x81\x81\x01".as_slice(),
-        ),
-        ("[1]", indented(usize::MAX, 4, 80), b"\x81\x01".as_slice()),
-        ("1, 2", indented(usize::MAX, 4, 80), b"\x01\x02".as_slice()),
-    ] {
-        let mut sequence = Sequence::parse(alloc, text)?;
-        assert!(rt; sequence.set_delimiters(alloc, policy).is_err());
-        let left = sequence.serialize(alloc)?;
-        assert_eq!(rt; encoded(alloc, left.as_str())?.as_slice(), bytes);
+    for &(text, (base, level, width), bytes) in ENDLESS {
+        let left = refused(alloc, text, indented(base, level, width))?;
+        expect_bytes(alloc, left.as_str(), bytes)?;
     }
     Ok(())
 }
 
-// A comment of any character that may need care stays a comment under each policy.
-#[test]
-fn comments_stay_comments(rt: HostRuntime) -> Result<(), Fail> {
-    let alloc = rt.alloc();
-    let policies = [
-        DelimiterPolicy::DiscardAll,
-        DelimiterPolicy::DiscardAllButComments,
-        DelimiterPolicy::SingleLineRegularSpacing,
-        DelimiterPolicy::SingleSpace,
-        DelimiterPolicy::indented(),
-    ];
-    let characters =
-        "\0\u{1}\u{2}\u{3}\u{4}\u{5}\u{6}\u{7}\u{8}\t\n\u{b}\u{c}\r\u{e}\u{f}\u{10}\u{11}\u{12}\u{13}\u{14}\u{15}\u{16}\u{17}\u{18}\u{19}\u{1a}\u{1b}\u{1c}\u{1d}\u{1e}\u{1f}/";
-    for policy in policies {
-        for at in 0..=characters.len() {
-            let comment = characters
-                .get(at..(at + 1).min(characters.len()))
-                .unwrap_or("");
-            let mut item = StandaloneItem::parse(alloc, "0")?;
-            item.set_comment(alloc, comment)?;
-            item.set_delimiters(alloc, policy)?;
-            let text = item.serialize(alloc)?;
-            assert_eq!(rt;
-                encoded(alloc, text.as_str())?.as_slice(),
-                b"\x00".as_slice()
-            );
-        }
+/// The text of the number 0 behind a comment, after a policy.
+fn commented(alloc: Global, comment: &str, policy: DelimiterPolicy) -> Result<String, Fail> {
+    let mut item = StandaloneItem::parse(alloc, "0")?;
+    item.set_comment(alloc, comment)?;
+    item.set_delimiters(alloc, policy)?;
+    Ok(item.serialize(alloc)?)
+}
+
+/// The characters that may need care in a comment.
+const CHARACTERS: &str =
+    "\0\u{1}\u{2}\u{3}\u{4}\u{5}\u{6}\u{7}\u{8}\t\n\u{b}\u{c}\r\u{e}\u{f}\u{10}\u{11}\u{12}\u{13}\u{14}\u{15}\u{16}\u{17}\u{18}\u{19}\u{1a}\u{1b}\u{1c}\u{1d}\u{1e}\u{1f}/";
+
+/// Each of them, and none, stays a comment under the policy.
+fn all_stay_comments(alloc: Global, policy: DelimiterPolicy) -> Result<(), Fail> {
+    for at in 0..=CHARACTERS.len() {
+        let comment = CHARACTERS
+            .get(at..(at + 1).min(CHARACTERS.len()))
+            .unwrap_or("");
+        let text = commented(alloc, comment, policy)?;
+        expect_bytes(alloc, text.as_str(), b"\x00")?;
     }
     Ok(())
+}
+
+const POLICIES: &[DelimiterPolicy] = &[
+    DelimiterPolicy::DiscardAll,
+    DelimiterPolicy::DiscardAllButComments,
+    DelimiterPolicy::SingleLineRegularSpacing,
+    DelimiterPolicy::SingleSpace,
+];
+
+#[test]
+fn comments_stay_comments(rt: HostRuntime) -> Result<(), Fail> {
+    for &policy in POLICIES {
+        all_stay_comments(rt.alloc(), policy)?;
+    }
+    all_stay_comments(rt.alloc(), DelimiterPolicy::indented())
 }

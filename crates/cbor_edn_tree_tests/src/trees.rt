@@ -1,4 +1,5 @@
 //! Copies and comparisons of trees, and trees that are made of others.
+use crate::common::{expect, expect_text};
 use cbor_edn_core::tree::{Item, Sequence, StandaloneItem};
 use std::alloc::Global;
 use std::test::Fail;
@@ -38,9 +39,11 @@ fn is_own_copy_alone(alloc: Global, text: &str) -> Result<bool, Fail> {
 
 #[test]
 fn copies_texts(rt: HostRuntime) -> Result<(), Fail> {
-    assert!(rt; is_own_copy(rt.alloc(), " [_ 1, /c/ 2_1 ,] {3 /e/ :4} # d\n")?);
-    assert!(rt; is_own_copy_alone(rt.alloc(), " {_0 1 : /c/ [(_ 'a', <<2>>)] ,} ")?);
-    Ok(())
+    let alloc = rt.alloc();
+    let text = " [_ 1, /c/ 2_1 ,] {3 /e/ :4} # d\n";
+    expect(text, is_own_copy(alloc, text)?)?;
+    let text = " {_0 1 : /c/ [(_ 'a', <<2>>)] ,} ";
+    expect(text, is_own_copy_alone(alloc, text)?)
 }
 
 #[test]
@@ -49,8 +52,7 @@ fn copies_the_deepest(rt: HostRuntime) -> Result<(), Fail> {
     let open = "[".repeat(alloc, 512)?;
     let close = "]".repeat(alloc, 512)?;
     let deepest = format!(in alloc; "{open}{close}")?;
-    assert!(rt; is_own_copy(alloc, deepest.as_str())?);
-    Ok(())
+    expect("the deepest", is_own_copy(alloc, deepest.as_str())?)
 }
 
 // An item of every form that is decoded.
@@ -73,8 +75,10 @@ fn is_own_copy_of_item(alloc: Global, bytes: &[u8], text: &str) -> Result<bool, 
 
 #[test]
 fn copies_items(rt: HostRuntime) -> Result<(), Fail> {
-    assert!(rt; is_own_copy_of_item(rt.alloc(), MIXED, MIXED_TEXT)?);
-    Ok(())
+    expect(
+        MIXED_TEXT,
+        is_own_copy_of_item(rt.alloc(), MIXED, MIXED_TEXT)?,
+    )
 }
 
 fn is_decoded(item: &Item<'_>, alloc: Global, bytes: &[u8]) -> Result<bool, Fail> {
@@ -87,16 +91,22 @@ fn are_equal_items(alloc: Global, one: &[u8], other: &[u8]) -> Result<bool, Fail
     is_decoded(&one, alloc, other)
 }
 
+const COMPARED: &[(&[u8], &[u8], bool)] = &[
+    (MIXED, MIXED, true),
+    (MIXED, b"\xa0", false),
+    (b"\x41a", b"\x61a", false),
+    (b"\x01", b"\x18\x01", false),
+];
+
 #[test]
 fn compares_items(rt: HostRuntime) -> Result<(), Fail> {
-    for (one, other, are_equal) in [
-        (MIXED, MIXED, true),
-        (MIXED, b"\xa0".as_slice(), false),
-        (b"\x41a".as_slice(), b"\x61a".as_slice(), false),
-        (b"\x01".as_slice(), b"\x18\x01".as_slice(), false),
-    ] {
-        let told = are_equal_items(rt.alloc(), one, other)?;
-        assert_eq!(rt; told, are_equal, "{one:?} and {other:?}");
+    let alloc = rt.alloc();
+    for &(one, other, are_equal) in COMPARED {
+        let row = format!(in alloc; "{one:?} and {other:?}")?;
+        expect(
+            row.as_str(),
+            are_equal_items(alloc, one, other)? == are_equal,
+        )?;
     }
     Ok(())
 }
@@ -113,11 +123,9 @@ fn printed_alone(alloc: Global, bytes: &[u8]) -> Result<String, Fail> {
 
 #[test]
 fn a_standalone_item_has_no_space_at_first(rt: HostRuntime) -> Result<(), Fail> {
-    assert_eq!(rt;
-        printed_alone(rt.alloc(), b"\x82\x02\x03")?.as_str(),
-        "[2, 3]"
-    );
-    Ok(())
+    let alloc = rt.alloc();
+    let told = printed_alone(alloc, b"\x82\x02\x03")?;
+    expect_text(alloc, told.as_str(), "[2, 3]")
 }
 
 fn shown(alloc: Global, text: &str) -> Result<String, Fail> {
@@ -125,87 +133,95 @@ fn shown(alloc: Global, text: &str) -> Result<String, Fail> {
     Ok(format!(in alloc; "{tree:?}")?)
 }
 
+/// Texts, and the outlines of their trees.
+const OUTLINES: &[(&str, &str)] = &[
+    (" ", ""),
+    ("12_1", "12"),
+    ("NaN_1, true", "NaN, true"),
+    ("[1], {2: 3}, 1(2)", "[..], {..}, (..)"),
+    ("h'00'_0, 'a' + 'b'", "h'00', .. + .."),
+    ("<<1>>, ..., (_ 'a')", "<<..>>, ..., (_ ..)"),
+];
+
 #[test]
 fn shows_numbers_words_literals_and_forms(rt: HostRuntime) -> Result<(), Fail> {
-    for (text, outline) in [
-        (" ", ""),
-        ("12_1", "12"),
-        ("NaN_1, true", "NaN, true"),
-        ("[1], {2: 3}, 1(2)", "[..], {..}, (..)"),
-        ("h'00'_0, 'a' + 'b'", "h'00', .. + .."),
-        ("<<1>>, ..., (_ 'a')", "<<..>>, ..., (_ ..)"),
-    ] {
-        assert_eq!(rt; shown(rt.alloc(), text)?.as_str(), outline, "{text:?}");
+    let alloc = rt.alloc();
+    for &(text, outline) in OUTLINES {
+        expect_text(alloc, shown(alloc, text)?.as_str(), outline)?;
     }
     Ok(())
 }
 
 // A list keeps its items side by side, so that each byte of an item counts.
 #[test]
-fn items_are_small(rt: HostRuntime) {
-    assert!(rt; std::mem::size_of::<Item<'static>>() <= 48);
+fn items_are_small(_rt: HostRuntime) -> Result<(), Fail> {
+    expect("bytes", std::mem::size_of::<Item<'static>>() <= 48)
 }
 
+fn is_parsed(sequence: &Sequence<'_>, alloc: Global, text: &str) -> Result<bool, Fail> {
+    let other = Sequence::parse(alloc, text)?;
+    Ok(*sequence == other)
+}
+
+/// Whether the trees of two texts are equal.
 fn are_equal(alloc: Global, one: &str, other: &str) -> Result<bool, Fail> {
     let one = Sequence::parse(alloc, one)?;
-    let other = Sequence::parse(alloc, other)?;
-    Ok(one == other)
+    is_parsed(&one, alloc, other)
 }
+
+/// Texts whose trees differ.
+const APART: &[&str] = &[
+    "[1,2]",
+    "[1 2]",
+    "[ 1,2]",
+    "[1,2 ]",
+    " [1,2]",
+    "[1,2] ",
+    "[1,2,]",
+    "[01,2]",
+    "[1]",
+    "[]",
+    "1,2",
+    "",
+    "[_ 1,2]",
+    "[_1 1,2]",
+    "[_i 1,2]",
+    "1_1,2",
+    "1_2,2",
+    "{1:2}",
+    "{1: 2}",
+    "{1 :2}",
+    "{2:1}",
+    "{_ 1:2}",
+    "{}",
+    "{ }",
+    "{_}",
+    "{_1}",
+    "'a'",
+    "\"a\"",
+    "'a'_0",
+    "'a'+'b'",
+    "'a' +'b'",
+    "'a'+ 'b'",
+    "<<>>",
+    "<< >>",
+    "<<1>>",
+    "<<1>>_1",
+    "(_ 'a')",
+    "(_  'a')",
+    "(_ 'a','b')",
+    "...",
+    "....",
+    "h'a'",
+];
 
 #[test]
 fn spaces_tell_trees_apart(rt: HostRuntime) -> Result<(), Fail> {
     let alloc = rt.alloc();
-    let texts = [
-        "[1,2]",
-        "[1 2]",
-        "[ 1,2]",
-        "[1,2 ]",
-        " [1,2]",
-        "[1,2] ",
-        "[1,2,]",
-        "[01,2]",
-        "[1]",
-        "[]",
-        "1,2",
-        "",
-        "[_ 1,2]",
-        "[_1 1,2]",
-        "[_i 1,2]",
-        "1_1,2",
-        "1_2,2",
-        "{1:2}",
-        "{1: 2}",
-        "{1 :2}",
-        "{2:1}",
-        "{_ 1:2}",
-        "{}",
-        "{ }",
-        "{_}",
-        "{_1}",
-        "'a'",
-        "\"a\"",
-        "'a'_0",
-        "'a'+'b'",
-        "'a' +'b'",
-        "'a'+ 'b'",
-        "<<>>",
-        "<< >>",
-        "<<1>>",
-        "<<1>>_1",
-        "(_ 'a')",
-        "(_  'a')",
-        "(_ 'a','b')",
-        "...",
-        "....",
-        "h'a'",
-    ];
-    for (i, one) in texts.iter().enumerate() {
-        for (j, other) in texts.iter().enumerate() {
-            assert_eq!(rt;
-                are_equal(alloc, one, other)?,
-                i == j,
-                "{one:?} and {other:?}"
-            );
+    for (i, &one) in APART.iter().enumerate() {
+        for (j, &other) in APART.iter().enumerate() {
+            let row = format!(in alloc; "{one:?} and {other:?}")?;
+            expect(row.as_str(), are_equal(alloc, one, other)? == (i == j))?;
         }
     }
     Ok(())
