@@ -1,7 +1,7 @@
 //! Parts of items.
-use crate::common::{Made, expect, expect_text, make};
+use crate::common::{Made, expect, expect_text, make, tag_of};
 use cbor_edn_core::access::TypeMismatch;
-use cbor_edn_core::tree::{Item, StandaloneItem};
+use cbor_edn_core::tree::Item;
 use cbor_edn_parts::error::Fault;
 use std::alloc::Global;
 use std::test::Fail;
@@ -26,12 +26,18 @@ fn integers_are_answered(rt: HostRuntime) -> Result<(), Fail> {
     Ok(())
 }
 
-/// The number of a tag round a text, and the text of what stands between its parentheses.
-fn tag_and_content(alloc: Global, text: &str, number: u64) -> Result<(u64, String), Fail> {
-    let item = StandaloneItem::parse(alloc, text)?.tagged(alloc, number)?;
+/// The number of a tag, and the text of what stands between its parentheses.
+fn number_and_content(item: &Item<'_>, alloc: Global) -> Result<(u64, String), Fail> {
     let number = item.get_tag()?;
     let content = item.get_tagged()?.serialize(alloc)?;
     Ok((number, content))
+}
+
+fn tag_and_content(alloc: Global, number: u64, text: &str) -> Result<(u64, String), Fail> {
+    match tag_of(alloc, number, text) {
+        Ok(item) => number_and_content(&item, alloc),
+        Err(fault) => Err(fault),
+    }
 }
 
 fn tag(alloc: Global, made: Made<'_>) -> Result<Result<u64, TypeMismatch>, Fail> {
@@ -42,7 +48,7 @@ fn tag(alloc: Global, made: Made<'_>) -> Result<Result<u64, TypeMismatch>, Fail>
 #[test]
 fn tags_are_answered(rt: HostRuntime) -> Result<(), Fail> {
     let alloc = rt.alloc();
-    let (number, content) = tag_and_content(alloc, " 2 ", 1)?;
+    let (number, content) = tag_and_content(alloc, 1, " 2 ")?;
     expect("number of the tag", number == 1)?;
     expect_text(alloc, content.as_str(), " 2 ")?;
     let no_tag = tag(alloc, Made::Decimal(7))?;

@@ -1,18 +1,11 @@
 //! Comments in front of items.
-use crate::common::expect_text;
+use crate::common::{edited, expect_text};
 use cbor_edn_core::tree::{Item, StandaloneItem};
 use std::alloc::Global;
 use std::test::Fail;
 
-fn with_set(alloc: Global, text: &str, comment: &str) -> Result<String, Fail> {
-    let mut item = StandaloneItem::parse(alloc, text)?;
-    item.set_comment(alloc, comment)?;
-    Ok(item.serialize(alloc)?)
-}
-
 fn with(alloc: Global, text: &str, comment: &str) -> Result<String, Fail> {
-    let item = StandaloneItem::parse(alloc, text)?;
-    let item = item.with_comment(alloc, comment)?;
+    let item = StandaloneItem::parse(alloc, text)?.with_comment(alloc, comment)?;
     Ok(item.serialize(alloc)?)
 }
 
@@ -35,7 +28,11 @@ const COMMENTED: &[(&str, &str, &str)] = &[
 fn comments_stand_in_front(rt: HostRuntime) -> Result<(), Fail> {
     let alloc = rt.alloc();
     for &(text, comment, wanted) in COMMENTED {
-        expect_text(alloc, with_set(alloc, text, comment)?.as_str(), wanted)?;
+        expect_text(
+            alloc,
+            edited(alloc, text, Some(comment), &[])?.as_str(),
+            wanted,
+        )?;
         expect_text(alloc, with(alloc, text, comment)?.as_str(), wanted)?;
     }
     let told = with_decoded(alloc, b"\x01", "one")?;

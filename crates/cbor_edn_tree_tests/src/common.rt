@@ -1,5 +1,6 @@
 //! How the tests make items, and how they compare texts.
-use cbor_edn_core::tree::Item;
+use cbor_edn_core::tree::{Item, Sequence, StandaloneItem};
+use cbor_edn_parts::policy::DelimiterPolicy;
 use std::alloc::Global;
 use std::test::Fail;
 
@@ -76,5 +77,83 @@ pub(crate) fn all_written(alloc: Global, rows: &[(Made<'_>, &str)]) -> Result<()
 
 fn text_of(alloc: Global, made: Made<'_>) -> Result<String, Fail> {
     let item: Item<'_> = make(alloc, made)?;
+    Ok(item.serialize(alloc)?)
+}
+
+/// The item that is a tag round what a text says.
+pub(crate) fn tag_of<'a>(alloc: Global, number: u64, text: &'a str) -> Result<Item<'a>, Fail> {
+    let content = StandaloneItem::parse(alloc, text)?;
+    Ok(content.tagged(alloc, number)?)
+}
+
+/// The text of a standalone item that got a comment, if any, and then the spaces of each policy.
+pub(crate) fn edited(
+    alloc: Global,
+    text: &str,
+    comment: Option<&str>,
+    policies: &[DelimiterPolicy],
+) -> Result<String, Fail> {
+    match StandaloneItem::parse(alloc, text) {
+        Ok(mut item) => edit(&mut item, alloc, comment, policies),
+        Err(fault) => Err(Fail::from(fault)),
+    }
+}
+
+fn edit(
+    item: &mut StandaloneItem<'_>,
+    alloc: Global,
+    comment: Option<&str>,
+    policies: &[DelimiterPolicy],
+) -> Result<String, Fail> {
+    if let Some(comment) = comment {
+        item.set_comment(alloc, comment)?;
+    }
+    for &policy in policies {
+        item.set_delimiters(alloc, policy)?;
+    }
+    Ok(item.serialize(alloc)?)
+}
+
+/// What is done to a sequence or an item: its indicators go, it gets the spaces of a policy, or there is no memory for these.
+#[derive(Clone, Copy)]
+pub(crate) enum Edit {
+    Bare,
+    LaidOut(DelimiterPolicy),
+    Refused(DelimiterPolicy),
+}
+
+/// The text of a sequence after that.
+pub(crate) fn edited_sequence(alloc: Global, text: &str, edit: Edit) -> Result<String, Fail> {
+    match Sequence::parse(alloc, text) {
+        Ok(mut sequence) => edit_sequence(&mut sequence, alloc, edit),
+        Err(fault) => Err(Fail::from(fault)),
+    }
+}
+
+fn edit_sequence(sequence: &mut Sequence<'_>, alloc: Global, edit: Edit) -> Result<String, Fail> {
+    let (answer, is_done) = match edit {
+        Edit::Bare => (sequence.discard_encoding_indicators(alloc), true),
+        Edit::LaidOut(policy) => (sequence.set_delimiters(alloc, policy), true),
+        Edit::Refused(policy) => (sequence.set_delimiters(alloc, policy), false),
+    };
+    expect("edit of a sequence", answer.is_ok() == is_done)?;
+    Ok(sequence.serialize(alloc)?)
+}
+
+/// The text of an item after that.
+pub(crate) fn edited_item(alloc: Global, made: Made<'_>, edit: Edit) -> Result<String, Fail> {
+    match make(alloc, made) {
+        Ok(mut item) => edit_item(&mut item, alloc, edit),
+        Err(fault) => Err(fault),
+    }
+}
+
+fn edit_item(item: &mut Item<'_>, alloc: Global, edit: Edit) -> Result<String, Fail> {
+    let (answer, is_done) = match edit {
+        Edit::Bare => (item.discard_encoding_indicators(alloc), true),
+        Edit::LaidOut(policy) => (item.set_delimiters(alloc, policy), true),
+        Edit::Refused(policy) => (item.set_delimiters(alloc, policy), false),
+    };
+    expect("edit of an item", answer.is_ok() == is_done)?;
     Ok(item.serialize(alloc)?)
 }

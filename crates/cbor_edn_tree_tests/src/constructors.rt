@@ -1,6 +1,6 @@
 //! Items and sequences that are made from values.
-use crate::common::{Made, all_written, expect_text, list, make};
-use cbor_edn_core::tree::{Item, Sequence, StandaloneItem};
+use crate::common::{Made, all_written, expect_text, list, make, tag_of};
+use cbor_edn_core::tree::{Item, Sequence};
 use cbor_edn_parts::error::{Fault, InconsistentEdn};
 use std::alloc::Global;
 use std::test::Fail;
@@ -92,7 +92,7 @@ fn literals_are_written_behind_prefixes_alone(rt: HostRuntime) -> Result<(), Fai
 }
 
 fn tagged_text(alloc: Global, text: &str, number: u64) -> Result<String, Fail> {
-    let item = StandaloneItem::parse(alloc, text)?.tagged(alloc, number)?;
+    let item: Item<'_> = tag_of(alloc, number, text)?;
     Ok(item.serialize(alloc)?)
 }
 

@@ -1,20 +1,6 @@
 //! Removal of encoding indicators.
-use crate::common::expect_text;
-use cbor_edn_core::tree::{Item, Sequence};
-use std::alloc::Global;
+use crate::common::{Edit, Made, edited_item, edited_sequence, expect_text};
 use std::test::Fail;
-
-fn bare(alloc: Global, text: &str) -> Result<String, Fail> {
-    let mut sequence = Sequence::parse(alloc, text)?;
-    sequence.discard_encoding_indicators(alloc)?;
-    Ok(sequence.serialize(alloc)?)
-}
-
-fn bare_decoded(alloc: Global, bytes: &[u8]) -> Result<String, Fail> {
-    let mut item: Item<'_> = Item::from_cbor(alloc, bytes)?;
-    item.discard_encoding_indicators(alloc)?;
-    Ok(item.serialize(alloc)?)
-}
 
 const BARE: &[(&str, &str)] = &[
     ("[_ 3]", "[3]"),
@@ -31,7 +17,11 @@ const BARE: &[(&str, &str)] = &[
 fn indicators_go(rt: HostRuntime) -> Result<(), Fail> {
     let alloc = rt.alloc();
     for &(text, wanted) in BARE {
-        expect_text(alloc, bare(alloc, text)?.as_str(), wanted)?;
+        expect_text(
+            alloc,
+            edited_sequence(alloc, text, Edit::Bare)?.as_str(),
+            wanted,
+        )?;
     }
     Ok(())
 }
@@ -39,6 +29,6 @@ fn indicators_go(rt: HostRuntime) -> Result<(), Fail> {
 #[test]
 fn indicators_of_decoded_items_go(rt: HostRuntime) -> Result<(), Fail> {
     let alloc = rt.alloc();
-    let told = bare_decoded(alloc, b"\x9f\x03\xff")?;
+    let told = edited_item(alloc, Made::Decoded(b"\x9f\x03\xff"), Edit::Bare)?;
     expect_text(alloc, told.as_str(), "[3]")
 }

@@ -1,15 +1,21 @@
 //! Parts that are lent to be changed.
-use crate::common::{Made, expect, expect_text, make};
+use crate::common::{Made, expect, expect_text, make, tag_of};
 use cbor_edn_core::access::TypeMismatch;
 use cbor_edn_core::tree::{Item, StandaloneItem};
 use std::alloc::Global;
 use std::test::Fail;
 
-/// The text of an item whose tag's content is overwritten.
-fn overwritten(alloc: Global, text: &str, content: &str) -> Result<String, Fail> {
-    let mut item = StandaloneItem::parse(alloc, text)?.tagged(alloc, 1)?;
+fn overwrite<'a>(item: &mut Item<'a>, alloc: Global, content: &'a str) -> Result<String, Fail> {
     *item.get_tagged_mut()? = StandaloneItem::parse(alloc, content)?;
     Ok(item.serialize(alloc)?)
+}
+
+/// The text of a tag whose content is overwritten.
+fn overwritten<'a>(alloc: Global, text: &'a str, content: &'a str) -> Result<String, Fail> {
+    match tag_of(alloc, 1, text) {
+        Ok(mut item) => overwrite(&mut item, alloc, content),
+        Err(fault) => Err(fault),
+    }
 }
 
 #[test]

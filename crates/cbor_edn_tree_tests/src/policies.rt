@@ -1,6 +1,6 @@
 //! Spaces by delimiter policies.
-use crate::common::{expect, expect_text};
-use cbor_edn_core::tree::{Item, Sequence, StandaloneItem};
+use crate::common::{Edit, Made, edited, edited_item, edited_sequence, expect, expect_text};
+use cbor_edn_core::tree::Sequence;
 use cbor_edn_parts::policy::DelimiterPolicy;
 use std::alloc::Global;
 use std::test::Fail;
@@ -15,29 +15,10 @@ fn indented(base_indent: usize, indent_level: usize, max_width: usize) -> Delimi
 
 /// The text of a standalone item after a policy, and after the same once more.
 fn laid_out(alloc: Global, text: &str, policy: DelimiterPolicy) -> Result<String, Fail> {
-    let mut item = StandaloneItem::parse(alloc, text)?;
-    item.set_delimiters(alloc, policy)?;
-    let once = item.serialize(alloc)?;
-    item.set_delimiters(alloc, policy)?;
-    let twice = item.serialize(alloc)?;
-    if once.as_str() == twice.as_str() {
-        Ok(once)
-    } else {
-        Ok(format!(in alloc; "{once} <> {twice}")?)
-    }
-}
-
-fn sequence_laid_out(alloc: Global, text: &str, policy: DelimiterPolicy) -> Result<String, Fail> {
-    let mut sequence = Sequence::parse(alloc, text)?;
-    sequence.set_delimiters(alloc, policy)?;
-    Ok(sequence.serialize(alloc)?)
-}
-
-/// The text of the item that bytes encode, after a policy.
-fn decoded_laid_out(alloc: Global, bytes: &[u8], policy: DelimiterPolicy) -> Result<String, Fail> {
-    let mut item: Item<'_> = Item::from_cbor(alloc, bytes)?;
-    item.set_delimiters(alloc, policy)?;
-    Ok(item.serialize(alloc)?)
+    let once = edited(alloc, text, None, &[policy])?;
+    let twice = edited(alloc, text, None, &[policy, policy])?;
+    expect_text(alloc, twice.as_str(), once.as_str())?;
+    Ok(once)
 }
 
 const SPACED: &str = " [ 1 , 2 /c/ , ] ";
@@ -109,11 +90,11 @@ fn lines_are_regular(rt: HostRuntime) -> Result<(), Fail> {
 fn sequences_are_laid_out(rt: HostRuntime) -> Result<(), Fail> {
     let alloc = rt.alloc();
     let lines = indented(2, 4, 80);
-    let told = sequence_laid_out(alloc, " 1 2", lines)?;
+    let told = edited_sequence(alloc, " 1 2", Edit::LaidOut(lines))?;
     expect_text(alloc, told.as_str(), "1,\n  2\n  ")?;
-    let told = sequence_laid_out(alloc, " ", DelimiterPolicy::DiscardAll)?;
+    let told = edited_sequence(alloc, " ", Edit::LaidOut(DelimiterPolicy::DiscardAll))?;
     expect_text(alloc, told.as_str(), "")?;
-    let told = sequence_laid_out(alloc, " ", lines)?;
+    let told = edited_sequence(alloc, " ", Edit::LaidOut(lines))?;
     expect_text(alloc, told.as_str(), "")
 }
 
@@ -141,26 +122,28 @@ const DECODED: &[(&[u8], DelimiterPolicy, &str)] = &[
 fn decoded_items_are_laid_out(rt: HostRuntime) -> Result<(), Fail> {
     let alloc = rt.alloc();
     for &(bytes, policy, wanted) in DECODED {
-        let told = decoded_laid_out(alloc, bytes, policy)?;
+        let told = edited_item(alloc, Made::Decoded(bytes), Edit::LaidOut(policy))?;
         expect_text(alloc, told.as_str(), wanted)?;
     }
     for &(bytes, (base, level, width), wanted) in DECODED_INDENTED {
-        let told = decoded_laid_out(alloc, bytes, indented(base, level, width))?;
+        let told = edited_item(
+            alloc,
+            Made::Decoded(bytes),
+            Edit::LaidOut(indented(base, level, width)),
+        )?;
         expect_text(alloc, told.as_str(), wanted)?;
     }
     Ok(())
 }
 
 fn expect_bytes(alloc: Global, text: &str, wanted: &[u8]) -> Result<(), Fail> {
-    let bytes = Sequence::parse(alloc, text)?.to_cbor(alloc)?;
-    expect(text, bytes.as_slice() == wanted)
-}
-
-/// The text of a sequence that a policy is refused for.
-fn refused(alloc: Global, text: &str, policy: DelimiterPolicy) -> Result<String, Fail> {
-    let mut sequence = Sequence::parse(alloc, text)?;
-    expect(text, sequence.set_delimiters(alloc, policy).is_err())?;
-    Ok(sequence.serialize(alloc)?)
+    match Sequence::parse(alloc, text) {
+        Ok(sequence) => {
+            let bytes = sequence.to_cbor(alloc).unwrap_or(Vec::new(alloc));
+            expect(text, bytes.as_slice() == wanted)
+        }
+        Err(fault) => Err(Fail::from(fault)),
+    }
 }
 
 /// Texts, an indent, a level and a width of lines that no machine has memory for, and what the texts mean.
@@ -174,18 +157,10 @@ const ENDLESS: &[(&str, (usize, usize, usize), &[u8])] = &[
 fn greatest_indents_are_refused(rt: HostRuntime) -> Result<(), Fail> {
     let alloc = rt.alloc();
     for &(text, (base, level, width), bytes) in ENDLESS {
-        let left = refused(alloc, text, indented(base, level, width))?;
+        let left = edited_sequence(alloc, text, Edit::Refused(indented(base, level, width)))?;
         expect_bytes(alloc, left.as_str(), bytes)?;
     }
     Ok(())
-}
-
-/// The text of the number 0 behind a comment, after a policy.
-fn commented(alloc: Global, comment: &str, policy: DelimiterPolicy) -> Result<String, Fail> {
-    let mut item = StandaloneItem::parse(alloc, "0")?;
-    item.set_comment(alloc, comment)?;
-    item.set_delimiters(alloc, policy)?;
-    Ok(item.serialize(alloc)?)
 }
 
 /// The characters that may need care in a comment.
@@ -198,7 +173,7 @@ fn all_stay_comments(alloc: Global, policy: DelimiterPolicy) -> Result<(), Fail>
         let comment = CHARACTERS
             .get(at..(at + 1).min(CHARACTERS.len()))
             .unwrap_or("");
-        let text = commented(alloc, comment, policy)?;
+        let text = edited(alloc, "0", Some(comment), &[policy])?;
         expect_bytes(alloc, text.as_str(), b"\x00")?;
     }
     Ok(())

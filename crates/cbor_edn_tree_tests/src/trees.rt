@@ -158,13 +158,13 @@ fn items_are_small(_rt: HostRuntime) -> Result<(), Fail> {
     expect("bytes", std::mem::size_of::<Item<'static>>() <= 48)
 }
 
-fn is_parsed(sequence: &Sequence<'_>, alloc: Global, text: &str) -> Result<bool, Fail> {
+fn is_parsed<'a>(sequence: &Sequence<'a>, alloc: Global, text: &'a str) -> Result<bool, Fail> {
     let other = Sequence::parse(alloc, text)?;
     Ok(*sequence == other)
 }
 
 /// Whether the trees of two texts are equal.
-fn are_equal(alloc: Global, one: &str, other: &str) -> Result<bool, Fail> {
+fn are_equal<'a>(alloc: Global, one: &'a str, other: &'a str) -> Result<bool, Fail> {
     let one = Sequence::parse(alloc, one)?;
     is_parsed(&one, alloc, other)
 }
