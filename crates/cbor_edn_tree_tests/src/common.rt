@@ -94,12 +94,12 @@ pub(crate) fn edited(
     policies: &[DelimiterPolicy],
 ) -> Result<String, Fail> {
     match StandaloneItem::parse(alloc, text) {
-        Ok(mut item) => edit(&mut item, alloc, comment, policies),
+        Ok(mut item) => edit_alone(&mut item, alloc, comment, policies),
         Err(fault) => Err(Fail::from(fault)),
     }
 }
 
-fn edit(
+fn edit_alone(
     item: &mut StandaloneItem<'_>,
     alloc: Global,
     comment: Option<&str>,
