@@ -324,6 +324,7 @@ fn map<'a>(
 
 /// Items, one or more, each with the space behind it.
 #[cycle(item)]
+#[inline(always)]
 fn items<'a>(
     alloc: Global,
     text: &Text<'a>,
@@ -635,6 +636,7 @@ fn closed(text: &Text<'_>, at: usize, looks: &mut Looks) -> Result<usize, Refusa
 
 /// Items, or none, and the spaces round them.
 #[cycle(item)]
+#[inline(always)]
 pub(crate) fn sequence<'a>(
     alloc: Global,
     text: &Text<'a>,

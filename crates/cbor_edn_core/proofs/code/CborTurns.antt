@@ -1,13 +1,11 @@
 -- Reading several of a kind, as a loop does.
 use Rattle.std.proofs.Common.{◌≡◌, ℕ, zero, suc, ◌-◌, ◌+◌, ◌≤◌, ◌<◌, List, [], ◌∷◌, ◌++◌, map, Some, None, Result, Ok, Err, refl, sym, ap, subst, ◌∙◌, append_assoc, arith}
-use Rattle.std.proofs.lemmas.List.{append-nil, map_push}
+use Rattle.std.proofs.lemmas.List.{append-nil}
 use Rattle.cbor_edn_model.specs.declared.from_cbor.CborError.{CborError}
 use Rattle.cbor_edn_model.specs.declared.from_cbor.head.Stop.{Stop}
 use Rattle.cbor_edn_parts.specs.declared.error.Fault.{Fault}
 use Rattle.cbor_edn_parts.specs.declared.error.Fault.TheVariants.{Memory, Told}
-use Rattle.cbor_edn_core.specs.declared.from_cbor.row_builder.RowBuilder.{RowBuilder}
-use Rattle.cbor_edn_core.specs.code.RowBuilder.{grown, Pushes}
-use Rattle.cbor_edn_model.specs.code.CborReading.{DecoderResult, Decoder, ◌>>=◌, shown, DecoderGives, DecoderFails, many, until, past, turn, head_at, item_at, Makes}
+use Rattle.cbor_edn_model.specs.code.CborReading.{DecoderResult, Decoder, ◌>>=◌, shown, DecoderFails, many, until, past, turn, head_at, item_at, Makes}
 
 -- ---- what is seen by a function
 
@@ -36,16 +34,6 @@ shown_fails f (Told e) r h = rw h refl
 pub fails_shown : {A B : Type 0} (f : A → B) (e : Fault CborError) (r : DecoderResult A) → DecoderFails e (shown f r) → DecoderFails e r
 fails_shown f (Memory m) r h = tt
 fails_shown f (Told e) r h = shown_err f r e h
-
--- one entry more, of what a call read
-pub pushed_shown : {X R A : Type 0} (view : X → A) (now : R → List ℕ) (found : RowBuilder X) (read : Result (X × R) (Fault CborError)) (result : Result (RowBuilder X × R) (Fault CborError)) (expected : DecoderResult A)
-    → DecoderGives (λ x. (view x.0, now x.1)) read expected → Pushes found read result → DecoderGives (λ x. (map view (grown x.0), now x.1)) result (shown (λ a. map view (grown found) ++ a ∷ []) expected)
-pushed_shown view now found (Err e) result expected given pushes = rw pushes (shown_fails (λ a. map view (grown found) ++ a ∷ []) e expected given)
-pushed_shown {X} view now found (Ok (x, rest)) (Ok p) expected given pushes =
-    let seen : map view (grown p.0) ≡ map view (grown found) ++ view x ∷ [] = ap (map view) pushes.0 ∙ map_push view (grown found) x in
-    rw (given, seen, pushes.1) refl
-pushed_shown view now found (Ok (x, rest)) (Err (Memory e)) expected given pushes = tt
-pushed_shown view now found (Ok (x, rest)) (Err (Told e)) expected given pushes = absurd pushes
 
 -- what was read before, and what is still read
 abbrev pub with_front : {A : Type 0} → List A → DecoderResult (List A) → DecoderResult (List A)
@@ -79,13 +67,6 @@ goes_on one front count i bytes after a total lt h so_far =
     let step : many one (count - i) bytes ≡ (many one (count - (i + 1)) after >>= λ xs. Ok (a ∷ xs.0, xs.1)) = ap (λ n. many one n bytes) k ∙ many_more one (count - (i + 1)) bytes after a h in
     sym (ap (with_front front) step ∙ regroup front a (many one (count - (i + 1)) after)) ∙ so_far
 
--- one more, seen with those in front of it
-pub goes_on_with : {A : Type 0} → (one : Decoder A) (front : List A) (count i : ℕ) (bytes after : List ℕ) (more : List A) (total : DecoderResult (List A)) → i < count → shown (λ a. front ++ a ∷ []) (one bytes) ≡ Ok (more, after)
-    → with_front front (many one (count - i) bytes) ≡ total → with_front more (many one (count - (i + 1)) after) ≡ total
-goes_on_with {A} one front count i bytes after more total lt h so_far =
-    let s = shown_ok (λ a. front ++ a ∷ []) (one bytes) (more, after) h in
-    subst (λ (p : List A × List ℕ). with_front p.0 (many one (count - (i + 1)) p.1) ≡ total) s.2 (goes_on one front count i bytes s.0.1 s.0.0 total lt s.1 so_far)
-
 pub fails : {A : Type 0} → (e : Fault CborError) (one : Decoder A) (front : List A) (count i : ℕ) (bytes : List ℕ) (total : DecoderResult (List A)) → i < count → DecoderFails e (one bytes)
     → with_front front (many one (count - i) bytes) ≡ total → DecoderFails e total
 fails (Memory m) one front count i bytes total lt h so_far = tt
@@ -110,12 +91,6 @@ pub until_more : {A : Type 0} → (stop : Stop) (one : Decoder A) (front : List 
 until_more stop one front n bytes after a total lt going h so_far =
     let step : until stop one n bytes ≡ (until stop one (n - 1) after >>= λ xs. Ok (a ∷ xs.0, xs.1)) = turns stop one n bytes lt ∙ rw (going, h) refl in
     sym (ap (with_front front) step ∙ regroup front a (until stop one (n - 1) after)) ∙ so_far
-
-pub until_more_with : {A : Type 0} → (stop : Stop) (one : Decoder A) (front : List A) (n : ℕ) (bytes after : List ℕ) (more : List A) (total : DecoderResult (List A)) → 0 < n → past stop bytes ≡ None → shown (λ a. front ++ a ∷ []) (one bytes) ≡ Ok (more, after)
-    → with_front front (until stop one n bytes) ≡ total → with_front more (until stop one (n - 1) after) ≡ total
-until_more_with {A} stop one front n bytes after more total lt going h so_far =
-    let s = shown_ok (λ a. front ++ a ∷ []) (one bytes) (more, after) h in
-    subst (λ (p : List A × List ℕ). with_front p.0 (until stop one (n - 1) p.1) ≡ total) s.2 (until_more stop one front n bytes s.0.1 s.0.0 total lt going s.1 so_far)
 
 pub until_fails : {A : Type 0} → (stop : Stop) (e : Fault CborError) (one : Decoder A) (front : List A) (n : ℕ) (bytes : List ℕ) (total : DecoderResult (List A)) → 0 < n → past stop bytes ≡ None → DecoderFails e (one bytes)
     → with_front front (until stop one n bytes) ≡ total → DecoderFails e total

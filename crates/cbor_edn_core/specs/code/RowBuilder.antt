@@ -1,8 +1,5 @@
 -- Rows that grow at their end.
-use Rattle.std.specs.Prelude.{List, [], ◌∷◌, ◌++◌, ◌≡◌, map, Option, Some, None, Result, Ok, Err}
-use Rattle.cbor_edn_parts.specs.declared.error.Fault.{Fault}
-use Rattle.cbor_edn_parts.specs.declared.error.Fault.TheVariants.{Memory}
-use Rattle.cbor_edn_model.specs.declared.from_cbor.CborError.{CborError}
+use Rattle.std.specs.Prelude.{List, [], ◌∷◌, ◌++◌, map, Option, Some, None}
 use Rattle.cbor_edn_parts.specs.declared.space.Msc.{Msc}
 use Rattle.cbor_edn_core.specs.declared.from_cbor.row_builder.RowBuilder.{RowBuilder}
 
@@ -18,10 +15,3 @@ entries row last = map (λ p. p.0) row ++ last_alone last
 -- the entries so far
 abbrev pub grown : {X : Type 0} → RowBuilder X → List X
 grown g = entries g.row.items g.last
-
--- What is read is set behind the others.
-abbrev pub Pushes : {X Y : Type 0} → RowBuilder X → Result (X × Y) (Fault CborError) → Result (RowBuilder X × Y) (Fault CborError) → Type 0
-Pushes found (Err e) result = result ≡ Err e
-Pushes found (Ok (x, rest)) (Ok p) = (grown p.0 ≡ grown found ++ x ∷ []) × (p.1 ≡ rest)
-Pushes found (Ok (x, rest)) (Err (Memory e)) = Unit {0}
-Pushes found (Ok (x, rest)) (Err e) = ⊥

@@ -9,8 +9,8 @@ ghost use Rattle.cbor_edn_model.specs.ListHeads.{view_list_head};
 ghost use Rattle.cbor_edn_model.specs.Leaves.{texts};
 ghost use Rattle.cbor_edn_model.specs.code.Regular.{list_inside, spaced_list_head};
 ghost use Rattle.cbor_edn_model.specs.code.CborReading as reading;
-ghost use Rattle.cbor_edn_model.specs.code.CborReading.{DecoderGives, trees, head_at, many, until, several, pair_at, array_by, map_by, tag_by, item_by, item_at, inner, shown, argument_indicator};
-ghost use Rattle.cbor_edn_core.specs.code.RowBuilder.{grown, Pushes};
+ghost use Rattle.cbor_edn_model.specs.code.CborReading.{DecoderGives, trees, head_at, many, until, several, pair_at, number_by, array_by, map_by, tag_by, item_by, item_at, inner, shown, argument_indicator};
+ghost use Rattle.cbor_edn_core.specs.code.RowBuilder.{grown};
 
 use super::CborError;
 use super::finish::{finish_items, finish_pairs};
@@ -59,6 +59,86 @@ fn entries<'a>(argument: Argument, pairs: Option<Pairs<'a>>) -> PairList<'a>
     }
 }
 
+/// Drops a value. Where that is inlined it takes stack at each level of what nests.
+#[inline(never)]
+fn let_go<T: Drop>(value: T) {
+    drop(value)
+}
+
+/// A decoded array of the items that were read.
+#[inline(never)]
+fn array_item<'a>(
+    alloc: Global,
+    argument: Argument,
+    found: RowBuilder<'a, Item<'a>>,
+) -> Result<Item<'a>, AllocError>
+    ensures { IfOk result (λ t. item_tree t ≡ trees.array argument (map item_tree (grown found.entry))) }
+{
+    Item::array(alloc, elements(argument, finish_items(found)))
+}
+
+/// A decoded map of the pairs that were read.
+#[inline(never)]
+fn map_item<'a>(
+    alloc: Global,
+    argument: Argument,
+    found: RowBuilder<'a, Kp<'a>>,
+) -> Result<Item<'a>, AllocError>
+    ensures { IfOk result (λ t. item_tree t ≡ trees.object argument (map (view_pair texts) (grown found.entry))) }
+{
+    Item::map(alloc, entries(argument, finish_pairs(found)))
+}
+
+/// The integer of a head without a sign, and the bytes behind it.
+#[inline(never)]
+fn unsigned_of<'a, 'b>(
+    alloc: Global,
+    argument: Argument,
+    bytes: &'b [u8],
+) -> Result<(Item<'a>, &'b [u8]), Fault<CborError>>
+    ensures exact { DecoderGives (λ x. (item_tree x.0, x.1.now)) result (number_by trees.unsigned argument bytes.now) }
+    ensures shorter { IfOk result (λ x. length x.1.now ≤ length bytes.now) }
+{
+    let Some((_, n)) = argument else {
+        return Err(Fault::Told(CborError::OpenNumber));
+    };
+    let item = number(alloc, Integer::Positive(u128::from(n)), argument)?;
+    Ok((item, bytes))
+}
+
+/// The integer of a head with a sign, and the bytes behind it.
+#[inline(never)]
+fn negative_of<'a, 'b>(
+    alloc: Global,
+    argument: Argument,
+    bytes: &'b [u8],
+) -> Result<(Item<'a>, &'b [u8]), Fault<CborError>>
+    ensures exact { DecoderGives (λ x. (item_tree x.0, x.1.now)) result (number_by trees.negative argument bytes.now) }
+    ensures shorter { IfOk result (λ x. length x.1.now ≤ length bytes.now) }
+{
+    let Some((_, n)) = argument else {
+        return Err(Fault::Told(CborError::OpenNumber));
+    };
+    let item = number(alloc, Integer::Negative(u128::from(n)), argument)?;
+    Ok((item, bytes))
+}
+
+/// The simple value or the floating-point number of a head, and the bytes behind it.
+#[inline(never)]
+#[tactic(auto, unfolding(cbor_edn_model::specs::code::CborReading::item_by))]
+fn special_at<'a, 'b>(
+    alloc: Global,
+    argument: Argument,
+    bytes: &'b [u8],
+    limit: usize,
+) -> Result<(Item<'a>, &'b [u8]), Fault<CborError>>
+    ensures exact { DecoderGives (λ x. (item_tree x.0, x.1.now)) result (item_by trees (inner trees limit) 7 argument bytes.now) }
+    ensures shorter { IfOk result (λ x. length x.1.now ≤ length bytes.now) }
+{
+    let item = special_of(alloc, argument, limit)?;
+    Ok((item, bytes))
+}
+
 fn number<'a>(alloc: Global, integer: Integer, argument: Argument) -> Result<Item<'a>, AllocError>
     requires { HasMagnitude integer }
     ensures { IfOk result (λ t. item_tree t ≡ NumberTree (signed_decimal (leaves.integer integer)) (argument_indicator argument)) }
@@ -69,18 +149,8 @@ fn number<'a>(alloc: Global, integer: Integer, argument: Argument) -> Result<Ite
     })
 }
 
-/// The entry that is read, behind the others, and the bytes behind it.
-fn pushed<'a, 'b, T: Drop>(
-    found: RowBuilder<'a, T>,
-    read: Result<(T, &'b [u8]), Fault<CborError>>,
-) -> Result<(RowBuilder<'a, T>, &'b [u8]), Fault<CborError>>
-    ensures { Pushes found.entry read.entry result }
-{
-    let (entry, rest) = read?;
-    Ok((found.push(entry)?, rest))
-}
-
 #[cycle(item)]
+#[inline(never)]
 fn items_of<'a, 'b>(
     alloc: Global,
     count: u64,
@@ -94,13 +164,14 @@ fn items_of<'a, 'b>(
     let mut rest = bytes;
     for _ in 0..count {
         let (item, after) = item_of(alloc, rest, limit)?;
-        found = found.push(item)?;
+        found.push(item)?;
         rest = after;
     }
     Ok((found, rest))
 }
 
 #[cycle(item)]
+#[inline(never)]
 pub(super) fn items_until<'a, 'b>(
     alloc: Global,
     bytes: &'b [u8],
@@ -117,7 +188,7 @@ pub(super) fn items_until<'a, 'b>(
             Some(after) => return Ok((found, after)),
             None => {
                 let (item, after) = item_of(alloc, rest, limit)?;
-                found = found.push(item)?;
+                found.push(item)?;
                 rest = after;
             }
         }
@@ -126,6 +197,7 @@ pub(super) fn items_until<'a, 'b>(
 
 #[cycle(item)]
 #[tactic(auto, unfolding(cbor_edn_model::specs::code::CborReading::pair_at))]
+#[inline(never)]
 fn pair_of<'a, 'b>(
     alloc: Global,
     bytes: &'b [u8],
@@ -135,7 +207,13 @@ fn pair_of<'a, 'b>(
     ensures shorter { IfOk result (λ x. length x.1.now < length bytes.now) }
 {
     let (key, rest) = item_of(alloc, bytes, limit)?;
-    let (value, rest) = item_of(alloc, rest, limit)?;
+    let (value, rest) = match item_of(alloc, rest, limit) {
+        Ok(read) => read,
+        Err(fault) => {
+            let_go(key);
+            return Err(fault);
+        }
+    };
     let pair = Kp {
         key,
         before_colon: S::empty(),
@@ -145,21 +223,8 @@ fn pair_of<'a, 'b>(
     Ok((pair, rest))
 }
 
-/// One pair more.
 #[cycle(item)]
-fn with_pair<'a, 'b>(
-    alloc: Global,
-    found: RowBuilder<'a, Kp<'a>>,
-    bytes: &'b [u8],
-    limit: usize,
-) -> Result<(RowBuilder<'a, Kp<'a>>, &'b [u8]), Fault<CborError>>
-    ensures exact { DecoderGives (λ x. (map (view_pair texts) (grown x.0), x.1.now)) result (shown (λ p. map (view_pair texts) (grown found.entry) ++ p ∷ []) (pair_at trees (item_at trees limit) bytes.now)) }
-    ensures shorter { IfOk result (λ x. length x.1.now < length bytes.now) }
-{
-    pushed(found, pair_of(alloc, bytes, limit))
-}
-
-#[cycle(item)]
+#[inline(never)]
 fn pairs_of<'a, 'b>(
     alloc: Global,
     count: u64,
@@ -172,14 +237,24 @@ fn pairs_of<'a, 'b>(
     let mut found: RowBuilder<'a, Kp<'a>> = RowBuilder::new(alloc);
     let mut rest = bytes;
     for _ in 0..count {
-        let (more, after) = with_pair(alloc, found, rest, limit)?;
-        found = more;
+        let (pair, after) = match pair_of(alloc, rest, limit) {
+            Ok(read) => read,
+            Err(fault) => {
+                let_go(found);
+                return Err(fault);
+            }
+        };
+        if let Err(error) = found.push(pair) {
+            let_go(found);
+            return Err(Fault::Memory(error));
+        }
         rest = after;
     }
     Ok((found, rest))
 }
 
 #[cycle(item)]
+#[inline(never)]
 fn pairs_until<'a, 'b>(
     alloc: Global,
     bytes: &'b [u8],
@@ -194,8 +269,17 @@ fn pairs_until<'a, 'b>(
         match past_stop(Stop::Break, rest) {
             Some(after) => return Ok((found, after)),
             None => {
-                let (more, after) = with_pair(alloc, found, rest, limit)?;
-                found = more;
+                let (pair, after) = match pair_of(alloc, rest, limit) {
+                    Ok(read) => read,
+                    Err(fault) => {
+                        let_go(found);
+                        return Err(fault);
+                    }
+                };
+                if let Err(error) = found.push(pair) {
+                    let_go(found);
+                    return Err(Fault::Memory(error));
+                }
                 rest = after;
             }
         }
@@ -204,6 +288,7 @@ fn pairs_until<'a, 'b>(
 
 #[cycle(item)]
 #[tactic(auto, unfolding(cbor_edn_model::specs::code::CborReading::several))]
+#[inline(never)]
 fn array_of<'a, 'b>(
     alloc: Global,
     argument: Argument,
@@ -216,16 +301,18 @@ fn array_of<'a, 'b>(
     if limit == 0 {
         return Err(Fault::Told(CborError::TooDeep));
     }
-    let (found, rest) = match argument {
-        Some((_, n)) => items_of(alloc, n, bytes, limit - 1)?,
-        None => items_until(alloc, bytes, limit - 1, Stop::Break)?,
+    let read = match argument {
+        Some((_, n)) => items_of(alloc, n, bytes, limit - 1),
+        None => items_until(alloc, bytes, limit - 1, Stop::Break),
     };
-    let item = Item::array(alloc, elements(argument, finish_items(found)))?;
+    let (found, rest) = read?;
+    let item = array_item(alloc, argument, found)?;
     Ok((item, rest))
 }
 
 #[cycle(item)]
 #[tactic(auto, unfolding(cbor_edn_model::specs::code::CborReading::several))]
+#[inline(never)]
 fn map_of<'a, 'b>(
     alloc: Global,
     argument: Argument,
@@ -238,16 +325,18 @@ fn map_of<'a, 'b>(
     if limit == 0 {
         return Err(Fault::Told(CborError::TooDeep));
     }
-    let (found, rest) = match argument {
-        Some((_, n)) => pairs_of(alloc, n, bytes, limit - 1)?,
-        None => pairs_until(alloc, bytes, limit - 1)?,
+    let read = match argument {
+        Some((_, n)) => pairs_of(alloc, n, bytes, limit - 1),
+        None => pairs_until(alloc, bytes, limit - 1),
     };
-    let item = Item::map(alloc, entries(argument, finish_pairs(found)))?;
+    let (found, rest) = read?;
+    let item = map_item(alloc, argument, found)?;
     Ok((item, rest))
 }
 
 /// A tag and the item that it holds.
 #[cycle(item)]
+#[inline(never)]
 fn tag_of<'a, 'b>(
     alloc: Global,
     argument: Argument,
@@ -282,26 +371,14 @@ fn content_of<'a, 'b>(
 {
     let (major, argument) = head;
     match major {
-        0 => match argument {
-            Some((_, n)) => Ok((
-                number(alloc, Integer::Positive(u128::from(n)), argument)?,
-                bytes,
-            )),
-            None => Err(Fault::Told(CborError::OpenNumber)),
-        },
-        1 => match argument {
-            Some((_, n)) => Ok((
-                number(alloc, Integer::Negative(u128::from(n)), argument)?,
-                bytes,
-            )),
-            None => Err(Fault::Told(CborError::OpenNumber)),
-        },
+        0 => unsigned_of(alloc, argument, bytes),
+        1 => negative_of(alloc, argument, bytes),
         2 => string_of(alloc, StringKind::Bytes, argument, bytes),
         3 => string_of(alloc, StringKind::Text, argument, bytes),
         4 => array_of(alloc, argument, bytes, limit),
         5 => map_of(alloc, argument, bytes, limit),
         6 => tag_of(alloc, argument, bytes, limit),
-        _ => Ok((special_of(alloc, argument, limit)?, bytes)),
+        _ => special_at(alloc, argument, bytes, limit),
     }
 }
 

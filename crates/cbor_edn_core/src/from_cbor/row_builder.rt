@@ -1,5 +1,5 @@
 //! Rows that grow at their end.
-ghost use Rattle.std.specs.Prelude.{◌≡◌, ◌++◌, ◌∷◌, [], map, IfOk, None};
+ghost use Rattle.std.specs.Prelude.{◌≡◌, ◌++◌, ◌∷◌, [], map, OnOk, None};
 ghost use Rattle.cbor_edn_parts.specs.Leaves.{msc_bytes};
 
 use cbor_edn_parts::space::Msc;
@@ -27,24 +27,14 @@ impl<'a, T: Drop> RowBuilder<'a, T> {
         }
     }
 
-    /// One entry more. Fails where memory runs out.
-    pub(super) fn push(self, entry: T) -> Result<RowBuilder<'a, T>, AllocError>
-        ensures { IfOk result (λ g. grown g ≡ grown self.entry ++ entry ∷ []) }
+    /// One entry more. Fails where memory runs out, and then has it none the less.
+    #[inline(never)]
+    pub(super) fn push(&mut self, entry: T) -> Result<(), AllocError>
+        ensures { OnOk result (grown self.new ≡ grown self.old ++ entry ∷ []) }
     {
-        let mut row = self.row;
-        let last = self.last;
-        match last {
-            None => Ok(RowBuilder {
-                row,
-                last: Some(entry),
-            }),
-            Some(last) => {
-                row.push((last, Msc::comma_space()))?;
-                Ok(RowBuilder {
-                    row,
-                    last: Some(entry),
-                })
-            }
+        match std::mem::replace(&mut self.last, Some(entry)) {
+            None => Ok(()),
+            Some(last) => Ok(self.row.push((last, Msc::comma_space()))?),
         }
     }
 }

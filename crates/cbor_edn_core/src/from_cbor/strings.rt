@@ -95,7 +95,7 @@ fn chunks_until<'a, 'b>(
             Some(after) => return Ok((found, after)),
             None => {
                 let (string, after) = chunk_of(alloc, kind, rest)?;
-                found = found.push(string)?;
+                found.push(string)?;
                 rest = after;
             }
         }
@@ -129,6 +129,7 @@ fn chunked<'a>(
 }
 
 /// The string behind a head.
+#[inline(never)]
 pub(super) fn string_of<'a, 'b>(
     alloc: Global,
     kind: StringKind,

@@ -1,4 +1,4 @@
-use Rattle.std.proofs.Common.{◌≡◌, ◌-◌, ◌++◌, ◌∷◌, [], map, arith, Some, None}
+use Rattle.std.proofs.Common.{◌≡◌, ◌-◌, map, arith, Some, None, ap, ◌∙◌}
 use Rattle.std.proofs.lemmas.Result.{err_from_is_err_and}
 use Rattle.std.proofs.lemmas.List.{map_push}
 use Rattle.cbor_edn_model.specs.declared.from_cbor.head.Stop.TheVariants.{Break}
@@ -7,7 +7,7 @@ use Rattle.cbor_edn_model.specs.Leaves.{texts}
 use Rattle.cbor_edn_core.specs.code.RowBuilder.{grown}
 use Rattle.cbor_edn_model.specs.code.CborReading.{past, item_at, pair_at, trees}
 use Rattle.cbor_edn_model.proofs.bytes.CborAgain.{item_at_ok}
-use Rattle.cbor_edn_core.proofs.code.CborTurns.{pushed_shown, fails_shown, goes_on, goes_on_with, fails, is_done, until_more, until_more_with, until_fails, until_done, item_fails}
+use Rattle.cbor_edn_core.proofs.code.CborTurns.{goes_on, fails, is_done, until_more, until_fails, until_done, item_fails}
 use Rattle.cbor_edn_core.proofs.from_cbor.reader.+item.Goals as goal
 
 pub item_of-returns-in_err-head-clause-exact : goal.item_of-returns-in_err-head-clause-exact
@@ -27,7 +27,7 @@ items_of-returns-in_err-item-clause-exact t c =
 pub items_of-loop-preserved : goal.items_of-loop-preserved
 items_of-loop-preserved t c =
     let x = c.in_ok-item.item in
-    let pushed : map item_tree (grown c.in_ok-found.found) ≡ map item_tree (grown c.loop.found) ++ item_tree x ∷ [] = rw c.in_ok-found.ensures (map_push item_tree (grown c.loop.found) x) in
+    let pushed = ap (map item_tree) c.in_ok-push.ensures ∙ map_push item_tree (grown c.loop.found) x in
     let less = c.in_ok-item.ensures.shorter in
     record {
       read = rw pushed (goes_on (item_at trees c.args.limit) (map item_tree (grown c.loop.found)) c.args.count c.loop.counter c.loop.rest.now c.in_ok-item.after.now (item_tree x) _ c.loop-test.true c.in_ok-item.ensures.exact c.loop.invariant.read);
@@ -55,29 +55,23 @@ items_until-turns-preserved t c =
     let so_far = c.turns.invariant.read in
     let x = c.in_ok-item-in-None.item in
     let going : past c.args.stop c.turns.rest.now ≡ None = grind arith in
-    let pushed : map item_tree (grown c.in_ok-found-in-None.found) ≡ map item_tree (grown c.turns.found) ++ item_tree x ∷ [] = rw c.in_ok-found-in-None.ensures (map_push item_tree (grown c.turns.found) x) in
+    let pushed = ap (map item_tree) c.in_ok-push-in-None.ensures ∙ map_push item_tree (grown c.turns.found) x in
     let less = c.in_ok-item-in-None.ensures.shorter in
     record {
       read = (so_far.0 - 1, omega (arith, so_far.1, less), rw pushed (until_more c.args.stop (item_at trees c.args.limit) (map item_tree (grown c.turns.found)) so_far.0 c.turns.rest.now c.in_ok-item-in-None.after.now (item_tree x) _ (omega (arith, so_far.1)) going c.in_ok-item-in-None.ensures.exact so_far.2));
       shorter = omega (arith, less, c.turns.invariant.shorter);
     }
 
-pub with_pair-returns-clause-exact : goal.with_pair-returns-clause-exact
-with_pair-returns-clause-exact t c = pushed_shown (view_pair texts) (λ r. r.now) c.args.found c.pair_of.result c.pushed.result _ c.pair_of.ensures.exact c.pushed.ensures
-
-pub pairs_of-returns-in_err-more-clause-exact : goal.pairs_of-returns-in_err-more-clause-exact
-pairs_of-returns-in_err-more-clause-exact t c =
-    let p = err_from_is_err_and c.from_residual.result c.from_residual.ensures.1 in
-    let so_far = map (view_pair texts) (grown c.loop.found) in
-    rw (p.1, p.2) (fails c.in_err-more.field-0.0 (pair_at trees (item_at trees c.args.limit)) so_far c.args.count c.loop.counter c.loop.rest.now _ c.loop-test.true (fails_shown (λ x. so_far ++ x ∷ []) c.in_err-more.field-0.0 _ c.in_err-more.ensures.exact) c.loop.invariant.read)
+pub pairs_of-returns-in-Err-clause-exact : goal.pairs_of-returns-in-Err-clause-exact
+pairs_of-returns-in-Err-clause-exact t c = fails c.in-Err.fault (pair_at trees (item_at trees c.args.limit)) (map (view_pair texts) (grown c.loop.found)) c.args.count c.loop.counter c.loop.rest.now _ c.loop-test.true c.in-Err.ensures.exact c.loop.invariant.read
 
 pub pairs_of-loop-preserved : goal.pairs_of-loop-preserved
 pairs_of-loop-preserved t c =
-    let one = pair_at trees (item_at trees c.args.limit) in
-    let so_far = map (view_pair texts) (grown c.loop.found) in
-    let less = c.in_ok-more.ensures.shorter in
+    let x = c.in-Ok.read.0 in
+    let pushed = ap (map (view_pair texts)) c.in_default.ensures ∙ map_push (view_pair texts) (grown c.loop.found) x in
+    let less = c.in-Ok.ensures.shorter in
     record {
-      read = goes_on_with one so_far c.args.count c.loop.counter c.loop.rest.now c.in_ok-more.after.now (map (view_pair texts) (grown c.in_ok-more.more)) _ c.loop-test.true c.in_ok-more.ensures.exact c.loop.invariant.read;
+      read = rw pushed (goes_on (pair_at trees (item_at trees c.args.limit)) (map (view_pair texts) (grown c.loop.found)) c.args.count c.loop.counter c.loop.rest.now c.in-Ok.read.1.now (view_pair texts x) _ c.loop-test.true c.in-Ok.ensures.exact c.loop.invariant.read);
       shorter = omega (arith, less, c.loop.invariant.shorter);
     }
 
@@ -90,20 +84,20 @@ pairs_until-returns-in-Some-clause-exact t c =
     let found : past Break c.turns.rest.now ≡ Some c.in-Some.after.now = grind arith in
     until_done Break (pair_at trees (item_at trees c.args.limit)) (map (view_pair texts) (grown c.turns.found)) so_far.0 c.turns.rest.now c.in-Some.after.now _ (omega (arith, so_far.1)) found so_far.2
 
-pub pairs_until-returns-in_err-more-in-None-clause-exact : goal.pairs_until-returns-in_err-more-in-None-clause-exact
-pairs_until-returns-in_err-more-in-None-clause-exact t c =
+pub pairs_until-returns-in-Err-clause-exact : goal.pairs_until-returns-in-Err-clause-exact
+pairs_until-returns-in-Err-clause-exact t c =
     let so_far = c.turns.invariant.read in
-    let front = map (view_pair texts) (grown c.turns.found) in
     let going : past Break c.turns.rest.now ≡ None = grind arith in
-    let p = err_from_is_err_and c.from_residual.result c.from_residual.ensures.1 in
-    rw (p.1, p.2) (until_fails Break c.in_err-more-in-None.field-0.0 (pair_at trees (item_at trees c.args.limit)) front so_far.0 c.turns.rest.now _ (omega (arith, so_far.1)) going (fails_shown (λ x. front ++ x ∷ []) c.in_err-more-in-None.field-0.0 _ c.in_err-more-in-None.ensures.exact) so_far.2)
+    until_fails Break c.in-Err.fault (pair_at trees (item_at trees c.args.limit)) (map (view_pair texts) (grown c.turns.found)) so_far.0 c.turns.rest.now _ (omega (arith, so_far.1)) going c.in-Err.ensures.exact so_far.2
 
 pub pairs_until-turns-preserved : goal.pairs_until-turns-preserved
 pairs_until-turns-preserved t c =
     let so_far = c.turns.invariant.read in
+    let x = c.in-Ok.read.0 in
     let going : past Break c.turns.rest.now ≡ None = grind arith in
-    let less = c.in_ok-more-in-None.ensures.shorter in
+    let pushed = ap (map (view_pair texts)) c.in_default.ensures ∙ map_push (view_pair texts) (grown c.turns.found) x in
+    let less = c.in-Ok.ensures.shorter in
     record {
-      read = (so_far.0 - 1, omega (arith, so_far.1, less), until_more_with Break (pair_at trees (item_at trees c.args.limit)) (map (view_pair texts) (grown c.turns.found)) so_far.0 c.turns.rest.now c.in_ok-more-in-None.after.now (map (view_pair texts) (grown c.in_ok-more-in-None.more)) _ (omega (arith, so_far.1)) going c.in_ok-more-in-None.ensures.exact so_far.2);
+      read = (so_far.0 - 1, omega (arith, so_far.1, less), rw pushed (until_more Break (pair_at trees (item_at trees c.args.limit)) (map (view_pair texts) (grown c.turns.found)) so_far.0 c.turns.rest.now c.in-Ok.read.1.now (view_pair texts x) _ (omega (arith, so_far.1)) going c.in-Ok.ensures.exact so_far.2));
       shorter = omega (arith, less, c.turns.invariant.shorter);
     }

@@ -37,9 +37,6 @@ decreases-pairs_until l = 6 * l.limit + 8
 abbrev pub decreases-tag_of : goal.decreases-tag_of
 decreases-tag_of l = 6 * l.limit + 3
 
-abbrev pub decreases-with_pair : goal.decreases-with_pair
-decreases-with_pair l = 6 * l.limit + 7
-
 abbrev pub invariant-items_of-loop : goal.invariant-items_of-loop
 invariant-items_of-loop l = record {
   read : with_front (map item_tree (grown l.found)) (many (item_at trees l.limit) (l.count - l.counter) l.rest) ≡ many (item_at trees l.limit) l.count l.bytes;

@@ -1,4 +1,4 @@
-use Rattle.std.proofs.Common.{◌≡◌, ◌-◌, ◌++◌, ◌∷◌, [], map, arith, Some, None}
+use Rattle.std.proofs.Common.{◌≡◌, ◌-◌, map, arith, Some, None, ap, ◌∙◌}
 use Rattle.std.proofs.lemmas.Result.{err_from_is_err_and}
 use Rattle.std.proofs.lemmas.List.{map_push}
 use Rattle.cbor_edn_model.specs.declared.from_cbor.head.Stop.TheVariants.{Break}
@@ -28,7 +28,7 @@ turns-preserved c =
     let so_far = c.turns.invariant.read in
     let x = c.in_ok-string-in-None.string in
     let going : past Break c.turns.rest.now ≡ None = grind arith in
-    let pushed : map (view_string texts) (grown c.in_ok-found-in-None.found) ≡ map (view_string texts) (grown c.turns.found) ++ view_string texts x ∷ [] = rw c.in_ok-found-in-None.ensures (map_push (view_string texts) (grown c.turns.found) x) in
+    let pushed = ap (map (view_string texts)) c.in_ok-push-in-None.ensures ∙ map_push (view_string texts) (grown c.turns.found) x in
     let less = c.in_ok-string-in-None.ensures.shorter in
     record {
       read = (so_far.0 - 1, omega (arith, so_far.1, less), rw pushed (until_more Break (one c.args.kind) (map (view_string texts) (grown c.turns.found)) so_far.0 c.turns.rest.now c.in_ok-string-in-None.after.now (view_string texts x) _ (omega (arith, so_far.1)) going c.in_ok-string-in-None.ensures.exact so_far.2));
