@@ -1,7 +1,7 @@
 #!/usr/bin/env bash
 # All tests: where a text is read (a look at the sources), each proof, edit that must fail, test and program (`rt ci`),
-# then the calls of each crate *_memory with each of their allocations refused in turn, and the encodings of another
-# implementation, where it is installed. The last line is 'N passed, M failed'.
+# then the calls of each crate *_memory with each of their allocations refused in turn, the encodings of another
+# implementation, where it is installed, and the deepest nesting under a stack of 1 MB. The last line is 'N passed, M failed'.
 set -euo pipefail
 
 cd "$(dirname "$(readlink -f "$0")")/.."
@@ -50,6 +50,7 @@ for crate in crates/*_memory; do
   add scripts/refuse-memory.sh "$(basename "$crate")"
 done
 add scripts/check-outside.sh
+add scripts/check-stack.sh
 cat "$times"
 echo "$passed passed, $failed failed"
 [ "$failed" = 0 ]

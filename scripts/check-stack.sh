@@ -1,0 +1,133 @@
+#!/usr/bin/env bash
+# Runs the program under a stack of 1 MB on texts and bytes that nest as deep as its limit, and one level deeper.
+#
+# usage: scripts/check-stack.sh [PROGRAM]
+#
+# Without PROGRAM it is the working tree's. Each input is of one kind of nesting. Of a text at the limit, diag2cbor must
+# write the bytes that stand here, diag2diag --preserve-space the text itself, and the other ways of diag2diag what they
+# write under the largest stack there is. Of the bytes cbor2diag must write what it writes there, which diag2cbor must read back.
+# What nests one level deeper must be refused. The last line is 'N passed, M failed'.
+set -euo pipefail
+
+cd "$(dirname "$(readlink -f "$0")")/.."
+program=${1-}
+if [ -z "$program" ]; then
+  ./cbor-edn --version > /dev/null
+  program=out/cbor-edn
+fi
+program=$(readlink -f "$program")
+SMALL=1024
+LARGE=hard
+LIMIT=512
+
+work=$(mktemp -d)
+trap 'rm -rf "$work"' EXIT
+passed=0
+failed=0
+
+# Runs the program under a stack of so many KB, or `hard` for as many as there may be.
+under() {
+  local size=$1
+  shift
+  (ulimit -S -s "$size" && exec "$program" "$@")
+}
+
+# Adds a run of the words on a file, whose output must be that of another file.
+expect() {
+  local name=$1 input=$2 wanted=$3 status=0
+  shift 3
+  under "$SMALL" "$@" < "$input" > "$work/output" 2> "$work/said" || status=$?
+  if [ "$status" = 0 ] && cmp -s "$work/output" "$wanted"; then
+    passed=$((passed + 1))
+  else
+    failed=$((failed + 1))
+    echo "check-stack: $name: $*: status $status $(head -c 200 "$work/said")"
+  fi
+}
+
+# Adds a run on what nests too deeply, which must be refused for that.
+expect_refusal() {
+  local name=$1 input=$2 status=0
+  shift 2
+  under "$SMALL" "$@" < "$input" > "$work/output" 2> "$work/said" || status=$?
+  if [ "$status" = 1 ] && grep -qi 'nested too deeply' "$work/said"; then
+    passed=$((passed + 1))
+  else
+    failed=$((failed + 1))
+    echo "check-stack: $name, a level too deep: $*: status $status $(head -c 200 "$work/said")"
+  fi
+}
+
+# Writes so many openings, what stands inside, and so many closings. Each is a format of printf.
+nested() {
+  local depth=$1 turns
+  turns=$(seq "$depth")
+  # shellcheck disable=SC2059,SC2086
+  { printf "$2%.0s" $turns; printf "$3"; [ -z "$4" ] || printf "$4%.0s" $turns; }
+}
+
+# The ways of a text: the bytes are in a file, or the text has none.
+check_text() {
+  local name=$1 bytes=$2 open=$3 inside=$4 close=$5 words
+  nested "$LIMIT" "$open" "$inside" "$close" > "$work/text"
+  nested $((LIMIT + 1)) "$open" "$inside" "$close" > "$work/deeper"
+  expect "$name" "$work/text" "$work/text" diag2diag --preserve-space
+  for words in '' --remove-comments; do
+    # shellcheck disable=SC2086
+    under "$LARGE" diag2diag $words < "$work/text" > "$work/wanted"
+    # shellcheck disable=SC2086
+    expect "$name" "$work/text" "$work/wanted" diag2diag $words
+  done
+  expect_refusal "$name" "$work/deeper" diag2diag
+  if [ -n "$bytes" ]; then
+    expect "$name" "$work/text" "$bytes" diag2cbor
+    expect_refusal "$name" "$work/deeper" diag2cbor
+  fi
+}
+
+# The ways of bytes.
+check_bytes() {
+  local name=$1 bytes=$2
+  under "$LARGE" cbor2diag < "$bytes" > "$work/wanted"
+  expect "$name" "$bytes" "$work/wanted" cbor2diag
+  expect "$name" "$work/wanted" "$bytes" diag2cbor
+}
+
+# A kind of nesting: openings, inside and closings as text, and as bytes.
+check() {
+  local name=$1
+  nested "$LIMIT" "$5" "$6" "$7" > "$work/bytes"
+  nested $((LIMIT + 1)) "$5" "$6" "$7" > "$work/deeper-bytes"
+  check_text "$name" "$work/bytes" "$2" "$3" "$4"
+  check_bytes "$name" "$work/bytes"
+  expect_refusal "$name" "$work/deeper-bytes" cbor2diag
+}
+
+check arrays '[' 1 ']' '\x81' '\x01' ''
+check 'arrays between items' '[2, ' 1 ', 3]' '\x83\x02' '\x01' '\x03'
+check 'open arrays' '[_ ' 1 ']' '\x9f' '\x01' '\xff'
+check 'values of maps' '{2: ' 1 '}' '\xa1\x02' '\x01' ''
+check 'keys of maps' '{' 1 ': 2}' '\xa1' '\x01' '\x02'
+check 'values of open maps' '{_ 2: ' 1 '}' '\xbf\x02' '\x01' '\xff'
+check 'keys of open maps' '{_ ' 1 ': 2}' '\xbf' '\x01' '\x02\xff'
+check tags '6(' 1 ')' '\xc6' '\x01' ''
+
+# What `simple(..)` may nest has no bytes.
+check_text simple '' 'simple(' 1 ')'
+
+# The lengths of embedded bytes grow from the inside out: a large stack says what the bytes are.
+check_embedded() {
+  local name=$1
+  nested "$LIMIT" "$2" "$3" "$4" | under "$LARGE" diag2cbor > "$work/bytes"
+  check_text "$name" "$work/bytes" "$2" "$3" "$4"
+  check_bytes "$name" "$work/bytes"
+}
+
+check_embedded 'embedded sequences' '<<' 1 '>>'
+check_embedded 'embedded sequences of more items' '<<2, ' 1 ', 3>>'
+check_embedded 'pieces of strings' "'a' + <<" 1 ">> + 'b'"
+check_embedded 'chunks of streams' '(_ <<' 1 '>>)'
+check_embedded 'pieces of chunks of streams' "(_ 'a', 'b' + <<" 1 ">>, 'c')"
+
+echo "$passed passed, $failed failed"
+[ "$failed" = 0 ]
