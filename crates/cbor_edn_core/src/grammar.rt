@@ -21,6 +21,7 @@ ghost use Rattle.cbor_edn_model.specs.Trees.{OneItem, OnePiece, OneString, OneEn
 ghost use Rattle.cbor_edn_core.specs.View.{item_tree, view_list, view_items, view_pair, view_pair_list, view_pairs, view_piece, view_string, view_stream, view_strings, sequence_tree, standalone_tree};
 ghost use Rattle.cbor_edn_model.specs.Leaves.{texts};
 
+use crate::row::append;
 use crate::tree::{
     CborString, InnerItem, Item, ItemList, Items, Kp, Label, PairList, Pairs, Piece, Sequence,
     StandaloneItem, Stream, Strings,
@@ -442,7 +443,7 @@ fn push_entry<'a, T: Drop>(
     let Some(separator) = soc.into_msc() else {
         return Err(Fault::Told(Refusal::invalid(at)));
     };
-    row.push((entry, separator))?;
+    append(row, (entry, separator))?;
     Ok(())
 }
 
@@ -530,6 +531,7 @@ fn stream<'a>(
 
 /// Pieces, one or more, joined by plus signs. The space behind the last one is read.
 #[cycle(item)]
+#[inline(always)]
 fn string<'a>(
     alloc: Global,
     text: &Text<'a>,
@@ -556,7 +558,7 @@ fn string<'a>(
             return Ok((CborString { row, last: piece }, end));
         }
         let (after, next) = space(text, to + 1, looks)?;
-        row.push((piece, before, after))?;
+        append(&mut row, (piece, before, after))?;
         at = next;
     }
 }

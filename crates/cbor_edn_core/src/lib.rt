@@ -15,6 +15,7 @@ mod lend;
 mod parse;
 mod path;
 mod policy;
+mod row;
 mod serialize;
 mod to_cbor;
 pub mod tree;
