@@ -1,176 +1,217 @@
 //! Items where paths lead, and what they answer of a text's items.
+use crate::common::{expect, expect_text};
 use cbor_edn_core::access::TypeMismatch;
 use cbor_edn_core::tree::{Item, Sequence, StandaloneItem};
 use cbor_edn_parts::error::Fault;
 use std::alloc::Global;
 use std::test::Fail;
 
-/// The text of the item where a path leads in a sequence, or the empty text where it leads nowhere.
-fn text_at(alloc: Global, text: &str, path: &[usize]) -> Result<String, Fail> {
-    let mut sequence = Sequence::parse(alloc, text)?;
-    match sequence.at_mut(path) {
+/// The text of an item, and the empty text of none.
+fn text_of(alloc: Global, found: Option<&mut Item<'_>>) -> Result<String, Fail> {
+    match found {
         Some(item) => Ok(item.serialize(alloc)?),
         None => Ok(String::new(alloc)),
     }
 }
 
-/// The same in one item.
-fn text_in_item(alloc: Global, text: &str, path: &[usize]) -> Result<String, Fail> {
-    let mut item = StandaloneItem::parse(alloc, text)?;
-    match item.at_mut(path) {
-        Some(item) => Ok(item.serialize(alloc)?),
-        None => Ok(String::new(alloc)),
+fn text_at(alloc: Global, text: &str, path: &[usize]) -> Result<String, Fail> {
+    match Sequence::parse(alloc, text) {
+        Ok(mut sequence) => text_of(alloc, sequence.at_mut(path)),
+        Err(refused) => Err(refused.into()),
     }
 }
+
+fn text_in_item(alloc: Global, text: &str, path: &[usize]) -> Result<String, Fail> {
+    match StandaloneItem::parse(alloc, text) {
+        Ok(mut item) => text_of(alloc, item.at_mut(path)),
+        Err(refused) => Err(refused.into()),
+    }
+}
+
+const REACHED: &[(&str, &[usize], &str)] = &[
+    ("1, [2]", &[1, 0], "2"),
+    ("1, [2]", &[], ""),
+    ("1, [2]", &[1], "[2]"),
+    ("1, [2]", &[2], ""),
+    ("{1: 2, 3: [4 /c/]}", &[0, 0], "1"),
+    ("{1: 2, 3: [4 /c/]}", &[0, 1], "2"),
+    ("{1: 2, 3: [4 /c/]}", &[0, 2], "3"),
+    ("{1: 2, 3: [4 /c/]}", &[0, 3], "[4 /c/]"),
+    ("{1: 2, 3: [4 /c/]}", &[0, 3, 0], "4"),
+    ("{1: 2, 3: [4 /c/]}", &[0, 4], ""),
+    ("1( 2 )", &[0, 0], "2"),
+    ("1( 2 )", &[0, 1], ""),
+    ("simple(32)", &[0, 0], ""),
+    ("[<<1, 2>> + 'x' + <<3>>]", &[0, 0, 0], "1"),
+    ("[<<1, 2>> + 'x' + <<3>>]", &[0, 0, 2], "3"),
+    ("[<<1, 2>> + 'x' + <<3>>]", &[0, 0, 3], ""),
+    ("(_ <<1>>, 'x' + <<2, [3]>>)", &[0, 1], "2"),
+    ("(_ <<1>>, 'x' + <<2, [3]>>)", &[0, 2, 0], "3"),
+    ("(_ <<1>>, 'x' + <<2, [3]>>)", &[0, 3], ""),
+];
 
 #[test]
 fn paths_lead_to_items(rt: HostRuntime) -> Result<(), Fail> {
-    for (text, path, expected) in [
-        ("1, [2]", [1, 0].as_slice(), "2"),
-        ("1, [2]", [].as_slice(), ""),
-        ("1, [2]", [1].as_slice(), "[2]"),
-        ("1, [2]", [2].as_slice(), ""),
-        ("{1: 2, 3: [4 /c/]}", [0, 0].as_slice(), "1"),
-        ("{1: 2, 3: [4 /c/]}", [0, 1].as_slice(), "2"),
-        ("{1: 2, 3: [4 /c/]}", [0, 2].as_slice(), "3"),
-        ("{1: 2, 3: [4 /c/]}", [0, 3].as_slice(), "[4 /c/]"),
-        ("{1: 2, 3: [4 /c/]}", [0, 3, 0].as_slice(), "4"),
-        ("{1: 2, 3: [4 /c/]}", [0, 4].as_slice(), ""),
-        ("1( 2 )", [0, 0].as_slice(), "2"),
-        ("1( 2 )", [0, 1].as_slice(), ""),
-        ("simple(32)", [0, 0].as_slice(), ""),
-        ("[<<1, 2>> + 'x' + <<3>>]", [0, 0, 0].as_slice(), "1"),
-        ("[<<1, 2>> + 'x' + <<3>>]", [0, 0, 2].as_slice(), "3"),
-        ("[<<1, 2>> + 'x' + <<3>>]", [0, 0, 3].as_slice(), ""),
-        ("(_ <<1>>, 'x' + <<2, [3]>>)", [0, 1].as_slice(), "2"),
-        ("(_ <<1>>, 'x' + <<2, [3]>>)", [0, 2, 0].as_slice(), "3"),
-        ("(_ <<1>>, 'x' + <<2, [3]>>)", [0, 3].as_slice(), ""),
-    ] {
-        assert_eq!(rt; text_at(rt.alloc(), text, path)?.as_str(), expected);
+    for &(text, path, wanted) in REACHED {
+        expect_text(
+            rt.alloc(),
+            text_at(rt.alloc(), text, path)?.as_str(),
+            wanted,
+        )?;
     }
     Ok(())
 }
+
+const REACHED_IN_ITEM: &[(&[usize], &str)] = &[(&[], "[0, {1: 2}]"), (&[1, 1], "2"), (&[1, 2], "")];
 
 #[test]
 fn paths_lead_from_an_item(rt: HostRuntime) -> Result<(), Fail> {
-    for (path, expected) in [
-        ([].as_slice(), "[0, {1: 2}]"),
-        ([1, 1].as_slice(), "2"),
-        ([1, 2].as_slice(), ""),
-    ] {
-        assert_eq!(rt;
-            text_in_item(rt.alloc(), " [0, {1: 2}] ", path)?.as_str(),
-            expected
-        );
+    for &(path, wanted) in REACHED_IN_ITEM {
+        let told = text_in_item(rt.alloc(), " [0, {1: 2}] ", path)?;
+        expect_text(rt.alloc(), told.as_str(), wanted)?;
     }
     Ok(())
 }
 
-/// A copy of the first item of a text.
-fn first_item<'a>(alloc: Global, text: &'a str) -> Result<Option<Item<'a>>, Fail> {
-    let mut sequence = Sequence::parse(alloc, text)?;
-    match sequence.at_mut(&[0]) {
-        Some(item) => Ok(Some(item.clone()?)),
-        None => Ok(None),
-    }
-}
-
-/// Puts the first item of another text where a path leads.
+/// Puts a copy of an item where a path leads.
 fn put<'a>(
-    alloc: Global,
     sequence: &mut Sequence<'a>,
     path: &[usize],
-    new: &'a str,
+    new: Option<&mut Item<'a>>,
 ) -> Result<(), Fail> {
-    if let Some(new) = first_item(alloc, new)? {
-        if let Some(item) = sequence.at_mut(path) {
-            *item = new;
+    if let Some(new) = new {
+        if let Some(place) = sequence.at_mut(path) {
+            *place = new.clone()?;
         }
     }
     Ok(())
 }
 
-fn replaced(alloc: Global, text: &str, path: &[usize], new: &str) -> Result<String, Fail> {
-    let mut sequence = Sequence::parse(alloc, text)?;
-    put(alloc, &mut sequence, path, new)?;
+/// Puts the first item of a text where a path leads.
+fn put_text<'a>(
+    alloc: Global,
+    sequence: &mut Sequence<'a>,
+    path: &[usize],
+    new: &'a str,
+) -> Result<(), Fail> {
+    match Sequence::parse(alloc, new) {
+        Ok(mut new) => put(sequence, path, new.at_mut(&[0])),
+        Err(refused) => Err(refused.into()),
+    }
+}
+
+/// The text of a sequence with the first item of another text where a path leads.
+fn text_with<'a>(
+    alloc: Global,
+    sequence: &mut Sequence<'a>,
+    path: &[usize],
+    new: &'a str,
+) -> Result<String, Fail> {
+    put_text(alloc, sequence, path, new)?;
     Ok(sequence.serialize(alloc)?)
 }
 
+fn replaced(alloc: Global, text: &str, path: &[usize], new: &str) -> Result<String, Fail> {
+    match Sequence::parse(alloc, text) {
+        Ok(mut sequence) => text_with(alloc, &mut sequence, path, new),
+        Err(refused) => Err(refused.into()),
+    }
+}
+
+const REPLACED: &[(&str, &[usize], &str, &str)] = &[
+    ("[\"a\" 1]", &[0, 1], "+1", "[\"a\" +1]"),
+    ("[1 2]", &[0, 1], "(_ 'x')", "[1 (_ 'x')]"),
+    ("[... 1]", &[0, 1], ".5", "[... .5]"),
+    ("[1 2]", &[0, 2], "9", "[1 2]"),
+    ("{1: 2 , 3 :4}", &[0, 2], "[]", "{1: 2 , [] :4}"),
+    ("1( 2 )", &[0, 0], "{}", "1( {} )"),
+    (
+        "[<<1, 2>> + 'x' + <<3>>]",
+        &[0, 0, 2],
+        "9",
+        "[<<1, 2>> + 'x' + <<9>>]",
+    ),
+    (
+        "(_ <<1>> , 'x' + <<2 3>>)",
+        &[0, 2],
+        "9",
+        "(_ <<1>> , 'x' + <<2 9>>)",
+    ),
+];
+
 #[test]
 fn items_are_replaced(rt: HostRuntime) -> Result<(), Fail> {
-    for (text, path, new, expected) in [
-        ("[\"a\" 1]", [0, 1].as_slice(), "+1", "[\"a\" +1]"),
-        ("[1 2]", [0, 1].as_slice(), "(_ 'x')", "[1 (_ 'x')]"),
-        ("[... 1]", [0, 1].as_slice(), ".5", "[... .5]"),
-        ("[1 2]", [0, 2].as_slice(), "9", "[1 2]"),
-        ("{1: 2 , 3 :4}", [0, 2].as_slice(), "[]", "{1: 2 , [] :4}"),
-        ("1( 2 )", [0, 0].as_slice(), "{}", "1( {} )"),
-        (
-            "[<<1, 2>> + 'x' + <<3>>]",
-            [0, 0, 2].as_slice(),
-            "9",
-            "[<<1, 2>> + 'x' + <<9>>]",
-        ),
-        (
-            "(_ <<1>> , 'x' + <<2 3>>)",
-            [0, 2].as_slice(),
-            "9",
-            "(_ <<1>> , 'x' + <<2 9>>)",
-        ),
-    ] {
-        assert_eq!(rt; replaced(rt.alloc(), text, path, new)?.as_str(), expected);
+    for &(text, path, new, wanted) in REPLACED {
+        let told = replaced(rt.alloc(), text, path, new)?;
+        expect_text(rt.alloc(), told.as_str(), wanted)?;
     }
     Ok(())
+}
+
+/// The integer of an item, and none of no item.
+fn integer_in(found: Option<&mut Item<'_>>) -> Result<i128, TypeMismatch> {
+    match found {
+        Some(item) => item.get_integer(),
+        None => Err(TypeMismatch::Integer),
+    }
 }
 
 fn integer_of(alloc: Global, text: &str) -> Result<Result<i128, TypeMismatch>, Fail> {
-    let mut sequence = Sequence::parse(alloc, text)?;
-    match sequence.at_mut(&[0]) {
-        Some(item) => Ok(item.get_integer()),
-        None => Ok(Err(TypeMismatch::Integer)),
+    match Sequence::parse(alloc, text) {
+        Ok(mut sequence) => Ok(integer_in(sequence.at_mut(&[0]))),
+        Err(refused) => Err(refused.into()),
     }
 }
 
+const INTEGERS: &[(&str, Result<i128, TypeMismatch>)] = &[
+    ("-0x80000000000000000000000000000000", Ok(i128::MIN)),
+    (
+        "0x80000000000000000000000000000000",
+        Err(TypeMismatch::IntegerInRange),
+    ),
+    ("+0b11_1", Ok(3)),
+    ("1.0", Err(TypeMismatch::Integer)),
+];
+
 #[test]
 fn integers_of_texts_are_answered(rt: HostRuntime) -> Result<(), Fail> {
-    for (text, expected) in [
-        ("-0x80000000000000000000000000000000", Ok(i128::MIN)),
-        (
-            "0x80000000000000000000000000000000",
-            Err(TypeMismatch::IntegerInRange),
-        ),
-        ("+0b11_1", Ok(3)),
-        ("1.0", Err(TypeMismatch::Integer)),
-    ] {
-        assert_eq!(rt; integer_of(rt.alloc(), text)?, expected);
+    for &(text, wanted) in INTEGERS {
+        expect(text, integer_of(rt.alloc(), text)? == wanted)?;
     }
     Ok(())
 }
 
-/// The bytes of a text's first item, or none where it has none.
-fn bytes_of(alloc: Global, text: &str) -> Result<Vec<u8>, Fail> {
-    let mut sequence = Sequence::parse(alloc, text)?;
-    match sequence.at_mut(&[0]) {
+/// The bytes of an item, and none of no item.
+fn bytes_in(alloc: Global, found: Option<&mut Item<'_>>) -> Result<Vec<u8>, Fail> {
+    match found {
         Some(item) => Ok(item.get_bytes(alloc)?),
         None => Ok(Vec::new(alloc)),
     }
 }
 
+fn bytes_of(alloc: Global, text: &str) -> Result<Vec<u8>, Fail> {
+    match Sequence::parse(alloc, text) {
+        Ok(mut sequence) => bytes_in(alloc, sequence.at_mut(&[0])),
+        Err(refused) => Err(refused.into()),
+    }
+}
+
+const BYTES: &[(&str, &[u8])] = &[
+    ("(_ 'a', h'62' + 'c')", b"abc"),
+    ("<<1, 2>>_1 + 'x'", b"\x01\x02x"),
+];
+
 #[test]
 fn bytes_of_texts_are_answered(rt: HostRuntime) -> Result<(), Fail> {
-    for (text, expected) in [
-        ("(_ 'a', h'62' + 'c')", b"abc".as_slice()),
-        ("<<1, 2>>_1 + 'x'", b"\x01\x02x".as_slice()),
-    ] {
-        assert_eq!(rt; bytes_of(rt.alloc(), text)?.as_slice(), expected);
+    for &(text, wanted) in BYTES {
+        expect(text, bytes_of(rt.alloc(), text)?.as_slice() == wanted)?;
     }
     Ok(())
 }
 
-/// The prefix and the text of a text's first item, with an equals sign between them, or the word of its refusal.
-fn literal_of(alloc: Global, text: &str) -> Result<String, Fail> {
-    let mut sequence = Sequence::parse(alloc, text)?;
-    let Some(item) = sequence.at_mut(&[0]) else {
+/// The prefix and the text of an item with an equals sign between them, or the word of its refusal.
+fn literal_in(alloc: Global, found: Option<&mut Item<'_>>) -> Result<String, Fail> {
+    let Some(item) = found else {
         return Ok(String::new(alloc));
     };
     match item.get_application_literal(alloc) {
@@ -180,19 +221,28 @@ fn literal_of(alloc: Global, text: &str) -> Result<String, Fail> {
     }
 }
 
+fn literal_of(alloc: Global, text: &str) -> Result<String, Fail> {
+    match Sequence::parse(alloc, text) {
+        Ok(mut sequence) => literal_in(alloc, sequence.at_mut(&[0])),
+        Err(refused) => Err(refused.into()),
+    }
+}
+
+const LITERALS: &[(&str, &str)] = &[
+    ("ip'x'_0", "ip=x"),
+    ("h'00'", "h=00"),
+    ("b64'a\\'b'", "b64=a'b"),
+    ("'x'", "Expected application-oriented literal"),
+    (
+        "h'00' + h'01'",
+        "Expected single application-oriented literal",
+    ),
+];
+
 #[test]
 fn literals_of_texts_are_answered(rt: HostRuntime) -> Result<(), Fail> {
-    for (text, expected) in [
-        ("ip'x'_0", "ip=x"),
-        ("h'00'", "h=00"),
-        ("b64'a\\'b'", "b64=a'b"),
-        ("'x'", "Expected application-oriented literal"),
-        (
-            "h'00' + h'01'",
-            "Expected single application-oriented literal",
-        ),
-    ] {
-        assert_eq!(rt; literal_of(rt.alloc(), text)?.as_str(), expected);
+    for &(text, wanted) in LITERALS {
+        expect_text(rt.alloc(), literal_of(rt.alloc(), text)?.as_str(), wanted)?;
     }
     Ok(())
 }
