@@ -1,4 +1,5 @@
 pub mod ByteKinds
+pub mod KindTable
 pub mod Decimals
 pub mod WrittenNumbers
 pub mod WrittenLiterals
