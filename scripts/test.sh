@@ -50,7 +50,7 @@ for crate in crates/*_memory; do
   add scripts/refuse-memory.sh "$(basename "$crate")"
 done
 add scripts/check-outside.sh
-add scripts/check-stack.sh
+add scripts/check-stack.sh crates/cbor_edn_tool/out/cbor_edn_tool
 cat "$times"
 echo "$passed passed, $failed failed"
 [ "$failed" = 0 ]
