@@ -1,10 +1,12 @@
 #!/usr/bin/env bash
-# Sends the bytes of another implementation's values through cbor2diag and diag2cbor, and compares what comes back.
+# Sends the bytes of another implementation's values through cbor2diag and diag2cbor, and compares what comes back. Then
+# a third one writes the same bytes as diagnostic text, which diag2cbor must read as those bytes.
 #
-# usage: scripts/check-outside.sh
+# usage: scripts/check-outside.sh [PROGRAM]
 #
-# The other implementation is Debian's python3-cbor2. Where it is not installed nothing is compared. Floating-point numbers
-# are left out, since the program reads and writes only those that are not finite. The last line is 'N passed, M failed'.
+# Without PROGRAM it is the working tree's. The values are of Debian's python3-cbor2: where it is not installed nothing is
+# compared. The text is of its node-cbor, where that is installed. Floating-point numbers are left out, since the program
+# reads and writes only those that are not finite. The last line is 'N passed, M failed'.
 set -euo pipefail
 
 cd "$(dirname "$(readlink -f "$0")")/.."
@@ -15,20 +17,29 @@ if ! "$python" -c 'import cbor2' 2> /dev/null; then
   exit 0
 fi
 
-# The program is built before the first run.
-./cbor-edn --version > /dev/null
-exec "$python" - <<'PYTHON'
+program=${1-}
+if [ -z "$program" ]; then
+  ./cbor-edn --version > /dev/null
+  program=out/cbor-edn
+fi
+exec "$python" - "$program" <<'PYTHON'
+import os
 import random
 import subprocess
+import sys
 
 import cbor2
 
+PROGRAM = sys.argv[1]
+# The command of node-cbor, which finds its modules only where it is told to look.
+NODE_CBOR = "/usr/bin/cbor2diag"
+NODE_PATH = "/usr/share/nodejs"
 COUNT = 1000
 BATCH = 50
 
 
 def run(words, data):
-    return subprocess.run(["./cbor-edn", *words], input=data, capture_output=True, check=False)
+    return subprocess.run([PROGRAM, *words], input=data, capture_output=True, check=False)
 
 
 def integer(rng):
@@ -40,7 +51,7 @@ def text(rng):
     return "".join(chr(rng.choice([rng.randrange(0x80), rng.randrange(0xD800), rng.randrange(0x10000, 0x110000)])) for _ in range(rng.randrange(30)))
 
 
-def value(rng, depth):
+def value(rng, depth, tags, words):
     kind = rng.randrange(9 if depth else 6)
     if kind == 0:
         return integer(rng)
@@ -49,16 +60,16 @@ def value(rng, depth):
     if kind == 2:
         return text(rng)
     if kind == 3:
-        return rng.choice([True, False, None, cbor2.undefined])
+        return rng.choice(words)
     if kind == 4:
         return cbor2.CBORSimpleValue(rng.choice([*range(20), *range(32, 256)]))
     if kind == 5:
-        return cbor2.CBORTag(rng.choice([6, 24, 100, 1000, 2**40]), integer(rng))
+        return cbor2.CBORTag(rng.choice(tags), integer(rng))
     if kind == 6:
-        return cbor2.CBORTag(rng.choice([6, 100, 70000]), value(rng, depth - 1))
+        return cbor2.CBORTag(rng.choice([6, 100, 70000]), value(rng, depth - 1, tags, words))
     if kind == 7:
-        return [value(rng, depth - 1) for _ in range(rng.randrange(30))]
-    return {rng.choice([integer, text])(rng): value(rng, depth - 1) for _ in range(rng.randrange(30))}
+        return [value(rng, depth - 1, tags, words) for _ in range(rng.randrange(30))]
+    return {rng.choice([integer, text])(rng): value(rng, depth - 1, tags, words) for _ in range(rng.randrange(30))}
 
 
 def back(data):
@@ -68,21 +79,44 @@ def back(data):
     return run(["diag2cbor"], shown.stdout).stdout
 
 
-rng = random.Random(8949)
-encodings = [cbor2.dumps(value(rng, 3)) for _ in range(COUNT)]
-passed = failed = 0
-for first in range(0, COUNT, BATCH):
-    batch = encodings[first : first + BATCH]
-    if back(b"".join(batch)) == b"".join(batch):
-        passed += len(batch)
-        continue
-    for data in batch:
-        answer = back(data)
-        if answer == data:
-            passed += 1
-        else:
-            failed += 1
-            print(f"check-outside: {data.hex()} came back as {answer.hex()}")
+def by_node(data):
+    environment = {**os.environ, "NODE_PATH": NODE_PATH}
+    shown = subprocess.run([NODE_CBOR, "-"], input=data, env=environment, capture_output=True, check=False)
+    if shown.returncode != 0:
+        return shown.stderr
+    return run(["diag2cbor"], shown.stdout).stdout
+
+
+def compare(name, way, encodings):
+    """Sends encodings some way, many at a time, and one by one where what comes back differs. Returns how many passed."""
+    passed = 0
+    for first in range(0, len(encodings), BATCH):
+        batch = encodings[first : first + BATCH]
+        if way(b"".join(batch)) == b"".join(batch):
+            passed += len(batch)
+            continue
+        for data in batch:
+            answer = way(data)
+            if answer == data:
+                passed += 1
+            else:
+                print(f"check-outside: {name}: {data.hex()} came back as {answer.hex()}")
+    return passed
+
+
+def encodings(tags, words):
+    rng = random.Random(8949)
+    return [cbor2.dumps(value(rng, 3, tags, words)) for _ in range(COUNT)]
+
+
+ways = [("python3-cbor2", back, encodings([6, 24, 100, 1000, 2**40], [True, False, None, cbor2.undefined]))]
+if os.path.exists(NODE_CBOR):
+    # It reads no tag past 31 bits, and fails at null and undefined in a tag.
+    ways.append(("node-cbor", by_node, encodings([6, 24, 100, 1000, 2**31 - 1], [True, False])))
+else:
+    print("check-outside: node-cbor is not installed, so no text of another implementation is read")
+passed = sum(compare(*way) for way in ways)
+failed = len(ways) * COUNT - passed
 print(f"{passed} passed, {failed} failed")
 raise SystemExit(failed != 0)
 PYTHON

@@ -1,6 +1,6 @@
 #!/usr/bin/env bash
 # What no contract can say of the reads of a text, looked up in the sources: a count of reads begins, and a text is taken
-# apart, in few places only, and no proof by hand stands beside those of the two counts.
+# apart, in few places only, and no proof by hand stands beside those of the two counts and of the walk along a path.
 #
 # usage: scripts/check-reads.sh
 #
@@ -33,6 +33,8 @@ stands_in '.slice(' crates/cbor_edn_parts/src/scan.rt crates/cbor_edn_parts/src/
 by_hand=$(find crates -path '*/out' -prune -o -name Proof.antt -print | sort)
 wanted='crates/cbor_edn_command/proofs/count/Count/after/Proof.antt
 crates/cbor_edn_command/proofs/count/Count/new/Proof.antt
+crates/cbor_edn_core/proofs/tree/InnerItemOf/+reach/Proof.antt
+crates/cbor_edn_core/proofs/tree/ItemOf/at_mut/Proof.antt
 crates/cbor_edn_parts/proofs/looks/Looks/new/Proof.antt
 crates/cbor_edn_parts/proofs/looks/Looks/next/Proof.antt'
 if [ "$by_hand" = "$wanted" ]; then

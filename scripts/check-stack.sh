@@ -1,9 +1,11 @@
 #!/usr/bin/env bash
-# Runs the program under a stack of 1 MB on texts and bytes that nest as deep as its limit, and one level deeper.
+# Runs the program under a stack of 1 MB on texts and bytes that nest as deep as its limit, and one level deeper, and
+# tests of the library under 2 MB.
 #
-# usage: scripts/check-stack.sh [PROGRAM]
+# usage: scripts/check-stack.sh [PROGRAM [TESTS..]]
 #
-# Without PROGRAM it is the working tree's. Each input is of one kind of nesting. Of a text at the limit, diag2cbor must
+# Without PROGRAM it is the working tree's. TESTS are programs of tests, as of trees that are copied and compared: all
+# tests of each must pass. Each input is of one kind of nesting. Of a text at the limit, diag2cbor must
 # write the bytes that stand here, diag2diag --preserve-space the text itself, and the other ways of diag2diag what they
 # write under the largest stack there is. Of the bytes cbor2diag must write what it writes there, which diag2cbor must read back.
 # What nests one level deeper must be refused. The last line is 'N passed, M failed'.
@@ -16,7 +18,9 @@ if [ -z "$program" ]; then
   program=out/cbor-edn
 fi
 program=$(readlink -f "$program")
+shift || true
 SMALL=1024
+OF_TESTS=2048
 LARGE=hard
 LIMIT=512
 
@@ -32,12 +36,12 @@ under() {
   (ulimit -S -s "$size" && exec "$program" "$@")
 }
 
-# Adds a run of the words on a file, whose output must be that of another file.
-expect() {
-  local name=$1 input=$2 wanted=$3 status=0
+# Adds a run of the words on a file, and counts it by a test of its status, its output and what it said.
+add_run() {
+  local name=$1 input=$2 is_right=$3 status=0
   shift 3
   under "$SMALL" "$@" < "$input" > "$work/output" 2> "$work/said" || status=$?
-  if [ "$status" = 0 ] && cmp -s "$work/output" "$wanted"; then
+  if "$is_right" "$status"; then
     passed=$((passed + 1))
   else
     failed=$((failed + 1))
@@ -45,17 +49,26 @@ expect() {
   fi
 }
 
-# Adds a run on what nests too deeply, which must be refused for that.
+is_wanted() {
+  [ "$1" = 0 ] && cmp -s "$work/output" "$wanted"
+}
+
+is_refused() {
+  [ "$1" = 1 ] && grep -qi 'nested too deeply' "$work/said"
+}
+
+# The output must be that of another file.
+expect() {
+  local name=$1 input=$2 wanted=$3
+  shift 3
+  add_run "$name" "$input" is_wanted "$@"
+}
+
+# What nests too deeply must be refused for that.
 expect_refusal() {
-  local name=$1 input=$2 status=0
+  local name=$1 input=$2
   shift 2
-  under "$SMALL" "$@" < "$input" > "$work/output" 2> "$work/said" || status=$?
-  if [ "$status" = 1 ] && grep -qi 'nested too deeply' "$work/said"; then
-    passed=$((passed + 1))
-  else
-    failed=$((failed + 1))
-    echo "check-stack: $name, a level too deep: $*: status $status $(head -c 200 "$work/said")"
-  fi
+  add_run "$name, a level too deep" "$input" is_refused "$@"
 }
 
 # Writes so many openings, what stands inside, and so many closings. Each is a format of printf.
@@ -128,6 +141,16 @@ check_embedded 'embedded sequences of more items' '<<2, ' 1 ', 3>>'
 check_embedded 'pieces of strings' "'a' + <<" 1 ">> + 'b'"
 check_embedded 'chunks of streams' '(_ <<' 1 '>>)'
 check_embedded 'pieces of chunks of streams' "(_ 'a', 'b' + <<" 1 ">>, 'c')"
+
+for tests in "$@"; do
+  if (ulimit -S -s "$OF_TESTS" && exec "$(dirname "$(readlink -f "$(command -v rt)")")/rattle-test" --seconds 60 "$tests") > "$work/output" 2>&1; then
+    passed=$((passed + 1))
+  else
+    failed=$((failed + 1))
+    echo "check-stack: $tests"
+    tail -n 20 "$work/output"
+  fi
+done
 
 echo "$passed passed, $failed failed"
 [ "$failed" = 0 ]

@@ -1,7 +1,8 @@
 #!/usr/bin/env bash
 # All tests: where a text is read (a look at the sources), each proof, edit that must fail, test and program (`rt ci`),
-# then the calls of each crate *_memory with each of their allocations refused in turn, the encodings of another
-# implementation, where it is installed, and the deepest nesting under a stack of 1 MB. The last line is 'N passed, M failed'.
+# beside it the calls of each crate *_memory with each of their allocations refused in turn, then the encodings of
+# another implementation, where it is installed, and the deepest nesting under small stacks. The last line is
+# 'N passed, M failed'.
 set -euo pipefail
 
 cd "$(dirname "$(readlink -f "$0")")/.."
@@ -14,7 +15,8 @@ passed=0
 failed=0
 log=$(mktemp)
 times=$(mktemp)
-trap 'rm -f "$log" "$times"' EXIT
+beside=$(mktemp -d)
+trap 'kill $(jobs -p) 2> /dev/null || true; rm -rf "$log" "$times" "$beside"' EXIT
 
 # Hands lines on. Those that say that a crate's proof has ended, that its edits begin, or what is wrong, come again at the end, with the
 # minutes since the start.
@@ -44,13 +46,26 @@ add() {
   fi
 }
 
+# Runs refuse-memory.sh for each crate *_memory of the tree. Each one's output goes to a file of its name beside the tree.
+refuse_memory() {
+  local tree=$1 crate
+  for crate in "$tree"/crates/*_memory; do
+    nice -n 19 "$tree/scripts/refuse-memory.sh" "$(basename "$crate")" > "$tree/../$(basename "$crate")" 2>&1 || true
+  done
+}
+
 add scripts/check-reads.sh
+# Refused memory needs builds, and no proof: in a tree of its own it takes the time that proofs leave.
+mkdir "$beside/tree"
+tar -c --exclude=out --exclude=.git . | tar -x -C "$beside/tree"
+refuse_memory "$beside/tree" &
 add rt ci
+wait
 for crate in crates/*_memory; do
-  add scripts/refuse-memory.sh "$(basename "$crate")"
+  add cat "$beside/$(basename "$crate")"
 done
-add scripts/check-outside.sh
-add scripts/check-stack.sh crates/cbor_edn_tool/out/cbor_edn_tool
+add scripts/check-outside.sh crates/cbor_edn_tool/out/cbor_edn_tool
+add scripts/check-stack.sh crates/cbor_edn_tool/out/cbor_edn_tool crates/cbor_edn_{text,tree}_tests/out/*_tests_tests
 cat "$times"
 echo "$passed passed, $failed failed"
 [ "$failed" = 0 ]

@@ -5,9 +5,12 @@ pub mod engine;
 pub mod laws;
 
 pub use cbor_edn_command::words;
-pub use cbor_edn_core::access::{ArrayItems, MapItems, TypeMismatch};
+pub use cbor_edn_core::access::{
+    ArrayItems, ArrayItemsMut, MapItems, MapItemsMut, SequenceItemsMut, TypeMismatch,
+};
 pub use cbor_edn_core::from_cbor::CborError;
 pub use cbor_edn_core::tree::{Item, NESTING_LIMIT, Sequence, StandaloneItem};
-pub use cbor_edn_parts::error::{Fault, InconsistentEdn, ParseError};
+pub use cbor_edn_core::visitor::MapValueHandler;
+pub use cbor_edn_parts::error::{CallbackError, Fault, InconsistentEdn, ParseError};
 pub use cbor_edn_parts::looks::Looks;
 pub use cbor_edn_parts::policy::DelimiterPolicy;

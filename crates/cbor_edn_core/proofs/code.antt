@@ -13,5 +13,10 @@ pub mod Printable
 pub mod StringTurns
 pub mod Turns
 pub mod Views
+pub mod Visits
 pub mod Pieces
 pub mod Paths
+pub mod Replaced
+pub mod Ties
+pub mod Sought
+pub mod Walks

@@ -1,7 +1,6 @@
 -- Every text of a tree is borrowed, so none was copied.
 use Rattle.std.specs.Prelude.{List, [], ◌∷◌, Option, Some, None}
 use Rattle.cbor_edn_parts.specs.Leaves.{BorrowsS, BorrowsMs, BorrowsMsc, BorrowsSoc, BorrowsNumber, BorrowsLiteral, BorrowsDots}
-use Rattle.cbor_edn_parts.specs.declared.indicator.Indicator.{Indicator}
 use Rattle.cbor_edn_parts.specs.declared.space.S.{S}
 use Rattle.cbor_edn_parts.specs.declared.space.Ms.{Ms}
 use Rattle.cbor_edn_parts.specs.declared.space.Msc.{Msc}

@@ -1,10 +1,19 @@
 -- The trees of items that are made from values.
-use Rattle.std.specs.Prelude.{ℕ, List, [], ◌∷◌, Option, None, Some, map}
+use Rattle.std.specs.Prelude.{ℕ, List, [], ◌∷◌, Option, None, Some}
+use Rattle.std.specs.Iterator.{Count, IsFinite, Drains}
 use Rattle.cbor_edn_model.specs.declared.label.LabelKind.TheVariants as label
 use Rattle.cbor_edn_model.specs.Items.{Elements, Pairs, Row, Bracketed, entries_of}
 use Rattle.cbor_edn_core.specs.View as view
 use Rattle.cbor_edn_core.specs.View.{item_tree}
 use Rattle.cbor_edn_model.specs.Trees.{Tree, OneItem, OneEntry, Inside, Rest, Seq, Standalone, Unmarked, EnclosedTree, StringTree, LastPieceTree, LiteralTree, ElementTree, PairTree, EmptyTree, FullTree, LastTree, MoreTree, NothingTree, SequenceTree}
+
+-- of what a constructor is handed: the iterator that it becomes can be asked for its next item until it ends
+abbrev pub Ends : {U It : Type 0} → (U → It → Type 0) → (It → Type 0) → (It → Count) → U → Type 0
+Ends {U} {It} becomes can_next remaining given = (it : It) → becomes given it → can_next it × IsFinite (remaining it)
+
+-- P holds of all items that come of it, in order
+abbrev pub OfAll : {U It X : Type 0} → (U → It → Type 0) → (It → Option X → It → Type 0) → U → (List X → Type 0) → Type 0
+OfAll {U} {It} {X} becomes steps given P = (it : It) × (xs : List X) × becomes given it × Drains steps it xs × P xs
 
 -- an item as an entry of a list
 abbrev pub element_tree : view.Item → Tree (OneEntry Elements)

@@ -2,7 +2,11 @@ pub mod Borrowed
 pub mod Parsing
 pub mod View
 pub mod Constructed
+pub mod ConstructedLaws
 pub mod Iterated
+pub mod IteratedMut
 pub mod Mismatch
 pub mod Lent
+pub mod Callbacks
+pub mod Sought
 pub mod code

@@ -1,7 +1,5 @@
 -- The tree that a declared value stands for.
-use Rattle.std.specs.Prelude.{ℕ, map, List, [], ◌∷◌, ◌++◌, Option, None, Some}
-use Rattle.cbor_edn_parts.specs.Leaves.{s_bytes, ms_bytes, msc_bytes, soc_bytes, number_bytes, literal_bytes, dots_bytes}
-use Rattle.cbor_edn_parts.specs.declared.indicator.Indicator.{Indicator}
+use Rattle.std.specs.Prelude.{ℕ, map, List, Option, None, Some}
 use Rattle.cbor_edn_parts.specs.declared.space.S.{S}
 use Rattle.cbor_edn_parts.specs.declared.space.Ms.{Ms}
 use Rattle.cbor_edn_parts.specs.declared.space.Msc.{Msc}
@@ -32,7 +30,7 @@ use Rattle.cbor_edn_core.specs.declared.tree.SequenceOf.{SequenceOf, SequenceOf'
 use Rattle.cbor_edn_core.specs.declared.tree.SequenceOf as sequence
 use Rattle.cbor_edn_model.specs.Items as kind
 use Rattle.cbor_edn_model.specs.Items.{Row}
-use Rattle.cbor_edn_model.specs.Trees.{ListHead, Unmarked, Marked, Tree, OneItem, OnePiece, OneString, OneEntry, Inside, Rest, Seq, Standalone, NumberTree, FloatTree, NamedTree, EnclosedTree, ListTree, StringTree, StreamTree, LiteralTree, DotsTree, EmbeddedTree, LastPieceTree, PlusTree, ElementTree, PairTree, ChunkTree, EmptyTree, FullTree, LastTree, MoreTree, NothingTree, SequenceTree, StandaloneTree, text}
+use Rattle.cbor_edn_model.specs.Trees.{Tree, OneItem, OnePiece, OneString, OneEntry, Inside, Rest, Seq, Standalone, NumberTree, FloatTree, NamedTree, EnclosedTree, ListTree, StringTree, StreamTree, LiteralTree, DotsTree, EmbeddedTree, LastPieceTree, PlusTree, ElementTree, PairTree, ChunkTree, EmptyTree, FullTree, LastTree, MoreTree, NothingTree, SequenceTree, StandaloneTree}
 
 module _ {O M C E N L D : Type 0} (leaves : Ghosts O M C E N L D) where
   abbrev mutual
@@ -162,6 +160,9 @@ module _ {O M C E N L D : Type 0} (leaves : Ghosts O M C E N L D) where
 abbrev pub Item : Type 0
 Item = ItemOf S Ms Msc Soc Number Literal Dots
 
+abbrev pub Kp : Type 0
+Kp = KpOf S Ms Msc Soc Number Literal Dots
+
 abbrev pub StandaloneItem : Type 0
 StandaloneItem = StandaloneItemOf S Ms Msc Soc Number Literal Dots
 
@@ -177,3 +178,11 @@ standalone_tree = view_standalone texts
 
 abbrev pub sequence_tree : Sequence → Tree Seq
 sequence_tree = view_sequence texts
+
+-- an item of a row
+abbrev pub row_item : Item × Msc → Tree OneItem
+row_item p = item_tree p.0
+
+-- the key of a row's pair
+abbrev pub row_key : Kp × Msc → Tree OneItem
+row_key p = item_tree p.0.key

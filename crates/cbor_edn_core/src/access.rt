@@ -6,17 +6,21 @@ ghost use Rattle.cbor_edn_parts.specs.Number.{IsInteger};
 ghost use Rattle.cbor_edn_model.specs.Accessed.{tag_number, tag_content, number_text, IsIntegerItem, IsLiteralItem, array_items, map_items, element, key_and_value, entries_inside};
 ghost use Rattle.cbor_edn_model.specs.Leaves.{texts};
 ghost use Rattle.cbor_edn_core.specs.Mismatch.{IsIntegerMismatch};
+ghost use Rattle.cbor_edn_model.specs.Paths.{items_in};
 ghost use Rattle.cbor_edn_core.specs.Iterated.{items_left, pairs_left, both_trees};
-ghost use Rattle.cbor_edn_core.specs.View.{item_tree, standalone_tree, view_list, view_pair_list};
+ghost use Rattle.cbor_edn_core.specs.IteratedMut.{items_to_lend, pairs_to_lend, sequence_items_to_lend};
+ghost use Rattle.cbor_edn_core.specs.View.{item_tree, sequence_tree, standalone_tree, view_list, view_pair_list};
 
-use crate::tree::{InnerItem, Item, ItemList, LabelKind, PairList, StandaloneItem};
+use crate::tree::{InnerItem, Item, ItemList, LabelKind, PairList, Sequence, StandaloneItem};
 use cbor_edn_parts::number::Number;
 pub use iterators::{ArrayItems, MapItems};
+pub use lending::{ArrayItemsMut, MapItemsMut, SequenceItemsMut};
 use thiserror::Error;
 
 mod application;
 mod bytes;
 mod iterators;
+mod lending;
 
 /// What an item was expected to be, and is not.
 #[derive(Clone, Copy, Debug, PartialEq, Eq, Error)]
@@ -90,6 +94,18 @@ impl<'a> Item<'a> {
         }
     }
 
+    /// The items of an array, lent in text order. Fails with `Array` where the item is none.
+    pub fn get_array_items_mut(&mut self) -> Result<ArrayItemsMut<'_, 'a>, TypeMismatch>
+        ensures found { IfOk result (λ it. array_items (item_tree self.old) ≡ Some (map item_tree (items_to_lend it))) }
+        ensures refused { IfErr result (λ e. (e ≡ TypeMismatch.Array) × (array_items (item_tree self.old) ≡ None)) }
+    {
+        match list_to_lend(self) {
+            Some(ItemList::Present { items, .. }) => Ok(ArrayItemsMut::new(items)),
+            Some(ItemList::Absent { .. }) => Ok(ArrayItemsMut::empty()),
+            None => Err(TypeMismatch::Array),
+        }
+    }
+
     /// The keys of a map with their values, in text order. Fails with `Map` where the item is none.
     pub fn get_map_items(&self) -> Result<MapItems<'_, 'a>, TypeMismatch>
         ensures found { IfOk result (λ it. map_items (item_tree self.now) ≡ Some (map both_trees (pairs_left it))) }
@@ -100,6 +116,27 @@ impl<'a> Item<'a> {
             Some(PairList::Absent { .. }) => Ok(MapItems::empty()),
             None => Err(TypeMismatch::Map),
         }
+    }
+
+    /// The keys of a map with their values, lent in text order. Fails with `Map` where the item is none.
+    pub fn get_map_items_mut(&mut self) -> Result<MapItemsMut<'_, 'a>, TypeMismatch>
+        ensures found { IfOk result (λ it. map_items (item_tree self.old) ≡ Some (map both_trees (pairs_to_lend it))) }
+        ensures refused { IfErr result (λ e. (e ≡ TypeMismatch.Map) × (map_items (item_tree self.old) ≡ None)) }
+    {
+        match pair_list_to_lend(self) {
+            Some(PairList::Present { pairs, .. }) => Ok(MapItemsMut::new(pairs)),
+            Some(PairList::Absent { .. }) => Ok(MapItemsMut::empty()),
+            None => Err(TypeMismatch::Map),
+        }
+    }
+}
+
+impl<'a> Sequence<'a> {
+    /// The items of a sequence, lent in text order.
+    pub fn get_items_mut(&mut self) -> SequenceItemsMut<'_, 'a>
+        ensures { map item_tree (sequence_items_to_lend result) ≡ items_in (sequence_tree self.old) }
+    {
+        SequenceItemsMut::new(self)
     }
 }
 
@@ -161,6 +198,38 @@ fn pair_list_of<'t, 'a>(item: &'t Item<'a>) -> Option<&'t PairList<'a>>
     ensures { option_map (λ l. map key_and_value (entries_inside (view_pair_list texts l.now))) result ≡ map_items (item_tree item.now) }
 {
     match &item.inner {
+        InnerItem::Map(list) => Some(list),
+        InnerItem::Number(..)
+        | InnerItem::NonFinite(..)
+        | InnerItem::Named(_)
+        | InnerItem::Enclosed(..)
+        | InnerItem::Array(_)
+        | InnerItem::String(_)
+        | InnerItem::Stream(_) => None,
+    }
+}
+
+#[tactic(auto, using(crate::proofs::code::Views::view_string_is, crate::proofs::code::Views::view_stream_is))]
+fn list_to_lend<'t, 'a>(item: &'t mut Item<'a>) -> Option<&'t mut ItemList<'a>>
+    ensures { option_map (λ l. map element (entries_inside (view_list texts l.now))) result ≡ array_items (item_tree item.old) }
+{
+    match &mut item.inner {
+        InnerItem::Array(list) => Some(list),
+        InnerItem::Number(..)
+        | InnerItem::NonFinite(..)
+        | InnerItem::Named(_)
+        | InnerItem::Enclosed(..)
+        | InnerItem::Map(_)
+        | InnerItem::String(_)
+        | InnerItem::Stream(_) => None,
+    }
+}
+
+#[tactic(auto, using(crate::proofs::code::Views::view_string_is, crate::proofs::code::Views::view_stream_is))]
+fn pair_list_to_lend<'t, 'a>(item: &'t mut Item<'a>) -> Option<&'t mut PairList<'a>>
+    ensures { option_map (λ l. map key_and_value (entries_inside (view_pair_list texts l.now))) result ≡ map_items (item_tree item.old) }
+{
+    match &mut item.inner {
         InnerItem::Map(list) => Some(list),
         InnerItem::Number(..)
         | InnerItem::NonFinite(..)

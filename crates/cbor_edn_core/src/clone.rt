@@ -3,16 +3,18 @@ ghost use Rattle.std.specs.Prelude.{◌≡◌, map, IfOk};
 ghost use Rattle.cbor_edn_parts.specs.Leaves.{s_bytes};
 ghost use Rattle.cbor_edn_core.specs.View.{view_list, view_items, seen, view_pair_list, view_pairs, view_pair, seen_pair, view_string, view_piece, seen_piece, view_stream, view_strings, seen_string, item_tree, standalone_tree, sequence_tree};
 ghost use Rattle.cbor_edn_model.specs.ListHeads.{view_list_head};
+ghost use Rattle.cbor_edn_model.specs.Items.{Array, Map};
 ghost use Rattle.cbor_edn_model.specs.Leaves.{texts};
+ghost use Rattle.cbor_edn_model.specs.Trees.{EnclosedTree, ListTree, StringTree};
 
 use crate::tree::{
-    CborString, Indicator, InnerItem, Item, ItemList, ItemOf, Items, Kp, PairList, Pairs, Piece,
-    Sequence, SequenceOf, StandaloneItem, StandaloneItemOf, Stream, Strings,
+    CborString, Indicator, InnerItem, Item, ItemList, ItemOf, Items, Kp, Label, PairList, Pairs,
+    Piece, Sequence, SequenceOf, StandaloneItem, StandaloneItemOf, Stream, Strings,
 };
 use cbor_edn_model::copy::clone_spaces;
 use cbor_edn_model::list_head::clone_list_head;
 use cbor_edn_parts::space::{Ms, Msc, S};
-use std::alloc::AllocError;
+use std::alloc::{AllocError, Global};
 
 impl<'a> Item<'a> {
     /// The same item. Fails where memory runs out.
@@ -60,29 +62,88 @@ fn clone_item<'a>(item: &Item<'a>) -> Result<Item<'a>, AllocError>
             inner: InnerItem::Named(*name),
         }),
         InnerItem::Enclosed(label, content) => {
-            let copy = clone_standalone(content)?;
-            Item::enclosed(*Box::allocator(content), *label, copy)
+            clone_enclosed(*Box::allocator(content), *label, content)
         }
-        InnerItem::Array(list) => {
-            let copy = clone_list(list)?;
-            Item::array(*Box::allocator(list), copy)
-        }
-        InnerItem::Map(list) => {
-            let copy = clone_pair_list(list)?;
-            Item::map(*Box::allocator(list), copy)
-        }
-        InnerItem::String(string) => {
-            let copy = clone_string(string)?;
-            Item::string(*Box::allocator(string), copy)
-        }
-        InnerItem::Stream(stream) => {
-            let copy = clone_stream(stream)?;
-            Item::stream(*Box::allocator(stream), copy)
-        }
+        InnerItem::Array(list) => clone_array(*Box::allocator(list), list),
+        InnerItem::Map(list) => clone_map(*Box::allocator(list), list),
+        InnerItem::String(string) => clone_joined(*Box::allocator(string), string),
+        InnerItem::Stream(stream) => clone_stream(*Box::allocator(stream), stream),
     }
 }
 
+// A copy nests as deep as its tree, so each form has a frame of its own on the stack, and none another's.
+
 #[cycle(copy)]
+#[inline(never)]
+fn clone_enclosed<'a>(
+    alloc: Global,
+    label: Label,
+    content: &StandaloneItem<'a>,
+) -> Result<Item<'a>, AllocError>
+    ensures { IfOk result (λ t. item_tree t ≡ EnclosedTree label.kind (standalone_tree content.now)) }
+{
+    let copy = clone_standalone(content)?;
+    Item::enclosed(alloc, label, copy)
+}
+
+#[cycle(copy)]
+#[inline(never)]
+fn clone_array<'a>(alloc: Global, list: &ItemList<'a>) -> Result<Item<'a>, AllocError>
+    ensures { IfOk result (λ t. item_tree t ≡ ListTree Array (view_list texts list.now)) }
+{
+    let list = match list {
+        ItemList::Present { head, s, items } => {
+            let head = clone_list_head(head)?;
+            let s = s.clone()?;
+            let items = clone_items(items)?;
+            ItemList::Present { head, s, items }
+        }
+        ItemList::Absent { indicator, s } => {
+            let s = s.clone()?;
+            ItemList::Absent {
+                indicator: *indicator,
+                s,
+            }
+        }
+    };
+    Item::array(alloc, list)
+}
+
+#[cycle(copy)]
+#[inline(never)]
+fn clone_map<'a>(alloc: Global, list: &PairList<'a>) -> Result<Item<'a>, AllocError>
+    ensures { IfOk result (λ t. item_tree t ≡ ListTree Map (view_pair_list texts list.now)) }
+{
+    let list = match list {
+        PairList::Present { head, s, pairs } => {
+            let head = clone_list_head(head)?;
+            let s = s.clone()?;
+            let pairs = clone_pairs(pairs)?;
+            PairList::Present { head, s, pairs }
+        }
+        PairList::Absent { indicator, s } => {
+            let s = s.clone()?;
+            PairList::Absent {
+                indicator: *indicator,
+                s,
+            }
+        }
+    };
+    Item::map(alloc, list)
+}
+
+#[cycle(copy)]
+#[inline(never)]
+#[tactic(auto, using(crate::proofs::code::Views::view_string_is))]
+fn clone_joined<'a>(alloc: Global, string: &CborString<'a>) -> Result<Item<'a>, AllocError>
+    ensures { IfOk result (λ t. item_tree t ≡ StringTree (view_string texts string.now)) }
+{
+    let copy = clone_string(string)?;
+    Item::string(alloc, copy)
+}
+
+#[cycle(copy)]
+#[inline(never)]
 fn clone_standalone<'a>(content: &StandaloneItem<'a>) -> Result<StandaloneItem<'a>, AllocError>
     ensures { IfOk result (λ t. standalone_tree t ≡ standalone_tree content.now) }
 {
@@ -96,6 +157,7 @@ fn clone_standalone<'a>(content: &StandaloneItem<'a>) -> Result<StandaloneItem<'
 }
 
 #[cycle(copy)]
+#[inline(never)]
 fn clone_string<'a>(string: &CborString<'a>) -> Result<CborString<'a>, AllocError>
     ensures { IfOk result (λ t. view_string texts t ≡ view_string texts string.now) }
 {
@@ -105,6 +167,7 @@ fn clone_string<'a>(string: &CborString<'a>) -> Result<CborString<'a>, AllocErro
 }
 
 #[cycle(copy)]
+#[inline(never)]
 fn clone_piece_row<'a>(
     row: &Vec<(Piece<'a>, S<'a>, S<'a>)>,
 ) -> Result<Vec<(Piece<'a>, S<'a>, S<'a>)>, AllocError>
@@ -120,6 +183,7 @@ fn clone_piece_row<'a>(
 }
 
 #[cycle(copy)]
+#[inline(never)]
 fn clone_piece<'a>(piece: &Piece<'a>) -> Result<Piece<'a>, AllocError>
     ensures { IfOk result (λ t. view_piece texts t ≡ view_piece texts piece.now) }
 {
@@ -142,6 +206,7 @@ fn clone_piece<'a>(piece: &Piece<'a>) -> Result<Piece<'a>, AllocError>
 
 #[cycle(copy)]
 #[tactic(auto, using(crate::proofs::code::Views::view_sequence_is, crate::proofs::code::Views::view_sequence_made))]
+#[inline(never)]
 fn clone_sequence<'a>(sequence: &Sequence<'a>) -> Result<Sequence<'a>, AllocError>
     ensures { IfOk result (λ t. sequence_tree t ≡ sequence_tree sequence.now) }
 {
@@ -163,16 +228,18 @@ fn clone_sequence<'a>(sequence: &Sequence<'a>) -> Result<Sequence<'a>, AllocErro
 
 #[cycle(copy)]
 #[tactic(auto, using(crate::proofs::code::Views::view_stream_is, crate::proofs::code::Views::view_stream_made))]
-fn clone_stream<'a>(stream: &Stream<'a>) -> Result<Stream<'a>, AllocError>
-    ensures { IfOk result (λ t. view_stream texts t ≡ view_stream texts stream.now) }
+#[inline(never)]
+fn clone_stream<'a>(alloc: Global, stream: &Stream<'a>) -> Result<Item<'a>, AllocError>
+    ensures { IfOk result (λ t. item_tree t ≡ view_stream texts stream.now) }
 {
     let ms = stream.ms.clone()?;
     let strings = clone_strings(&stream.strings)?;
-    Ok(Stream { ms, strings })
+    Item::stream(alloc, Stream { ms, strings })
 }
 
 #[cycle(copy)]
 #[tactic(auto, using(crate::proofs::code::Views::view_strings_is, crate::proofs::code::Views::view_strings_made))]
+#[inline(never)]
 fn clone_strings<'a>(strings: &Strings<'a>) -> Result<Strings<'a>, AllocError>
     ensures { IfOk result (λ t. view_strings texts t ≡ view_strings texts strings.now) }
 {
@@ -183,6 +250,7 @@ fn clone_strings<'a>(strings: &Strings<'a>) -> Result<Strings<'a>, AllocError>
 }
 
 #[cycle(copy)]
+#[inline(never)]
 fn clone_string_row<'a>(
     row: &Vec<(CborString<'a>, Msc<'a>)>,
 ) -> Result<Vec<(CborString<'a>, Msc<'a>)>, AllocError>
@@ -198,28 +266,8 @@ fn clone_string_row<'a>(
 }
 
 #[cycle(copy)]
-fn clone_list<'a>(list: &ItemList<'a>) -> Result<ItemList<'a>, AllocError>
-    ensures { IfOk result (λ t. view_list texts t ≡ view_list texts list.now) }
-{
-    match list {
-        ItemList::Present { head, s, items } => {
-            let head = clone_list_head(head)?;
-            let s = s.clone()?;
-            let items = clone_items(items)?;
-            Ok(ItemList::Present { head, s, items })
-        }
-        ItemList::Absent { indicator, s } => {
-            let s = s.clone()?;
-            Ok(ItemList::Absent {
-                indicator: *indicator,
-                s,
-            })
-        }
-    }
-}
-
-#[cycle(copy)]
 #[tactic(auto, using(crate::proofs::code::Views::view_items_is, crate::proofs::code::Views::view_items_made))]
+#[inline(never)]
 fn clone_items<'a>(items: &Items<'a>) -> Result<Items<'a>, AllocError>
     ensures { IfOk result (λ t. view_items texts t ≡ view_items texts items.now) }
 {
@@ -230,6 +278,7 @@ fn clone_items<'a>(items: &Items<'a>) -> Result<Items<'a>, AllocError>
 }
 
 #[cycle(copy)]
+#[inline(never)]
 fn clone_row<'a>(row: &Vec<(Item<'a>, Msc<'a>)>) -> Result<Vec<(Item<'a>, Msc<'a>)>, AllocError>
     ensures { IfOk result (λ t. map (seen texts) t.items ≡ map (seen texts) row.now.items) }
 {
@@ -243,28 +292,8 @@ fn clone_row<'a>(row: &Vec<(Item<'a>, Msc<'a>)>) -> Result<Vec<(Item<'a>, Msc<'a
 }
 
 #[cycle(copy)]
-fn clone_pair_list<'a>(list: &PairList<'a>) -> Result<PairList<'a>, AllocError>
-    ensures { IfOk result (λ t. view_pair_list texts t ≡ view_pair_list texts list.now) }
-{
-    match list {
-        PairList::Present { head, s, pairs } => {
-            let head = clone_list_head(head)?;
-            let s = s.clone()?;
-            let pairs = clone_pairs(pairs)?;
-            Ok(PairList::Present { head, s, pairs })
-        }
-        PairList::Absent { indicator, s } => {
-            let s = s.clone()?;
-            Ok(PairList::Absent {
-                indicator: *indicator,
-                s,
-            })
-        }
-    }
-}
-
-#[cycle(copy)]
 #[tactic(auto, using(crate::proofs::code::Views::view_pairs_is, crate::proofs::code::Views::view_pairs_made))]
+#[inline(never)]
 fn clone_pairs<'a>(pairs: &Pairs<'a>) -> Result<Pairs<'a>, AllocError>
     ensures { IfOk result (λ t. view_pairs texts t ≡ view_pairs texts pairs.now) }
 {
@@ -275,6 +304,7 @@ fn clone_pairs<'a>(pairs: &Pairs<'a>) -> Result<Pairs<'a>, AllocError>
 }
 
 #[cycle(copy)]
+#[inline(never)]
 fn clone_pair_row<'a>(row: &Vec<(Kp<'a>, Msc<'a>)>) -> Result<Vec<(Kp<'a>, Msc<'a>)>, AllocError>
     ensures { IfOk result (λ t. map (seen_pair texts) t.items ≡ map (seen_pair texts) row.now.items) }
 {
@@ -288,6 +318,7 @@ fn clone_pair_row<'a>(row: &Vec<(Kp<'a>, Msc<'a>)>) -> Result<Vec<(Kp<'a>, Msc<'
 }
 
 #[cycle(copy)]
+#[inline(never)]
 fn clone_pair<'a>(pair: &Kp<'a>) -> Result<Kp<'a>, AllocError>
     ensures { IfOk result (λ t. view_pair texts t ≡ view_pair texts pair.now) }
 {

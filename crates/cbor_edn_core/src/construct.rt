@@ -6,7 +6,7 @@ ghost use Rattle.cbor_edn_parts.specs.Leaves.{literal_bytes, msc_bytes};
 ghost use Rattle.cbor_edn_parts.specs.Literal.{IsPrefix};
 ghost use Rattle.cbor_edn_parts.specs.Refusals.{IfTold};
 ghost use Rattle.cbor_edn_parts.specs.Written.{hexadecimal_text, application_literal};
-ghost use Rattle.cbor_edn_core.specs.Constructed.{literal_tree, tagged_tree, element_tree, pair_tree, comma_row, comma_inside, comma_sequence};
+ghost use Rattle.cbor_edn_core.specs.Constructed.{literal_tree, tagged_tree, element_tree, pair_tree, comma_row, comma_inside, comma_sequence, Ends, OfAll};
 ghost use Rattle.cbor_edn_model.specs.Decoded.{alone};
 ghost use Rattle.cbor_edn_model.specs.Items.{Array, Map};
 ghost use Rattle.cbor_edn_model.specs.Trees.{NumberTree, ListTree};
@@ -107,7 +107,18 @@ impl<'a> StandaloneItem<'a> {
 impl<'a> Item<'a> {
     /// An array of these items, with `,` between two and no space, as `[1,2]`. Fails where memory runs out; the items are
     /// dropped then.
-    pub fn new_array(alloc: Global, items: Vec<Item<'a>>) -> Result<Item<'a>, AllocError>
+    pub fn new_array<U: IntoIterator<Item = Item<'a>>>(
+        alloc: Global,
+        items: U,
+    ) -> Result<Item<'a>, AllocError>
+        requires { Ends U.into_iter_gives U.IntoIter.can_next U.IntoIter.remaining items }
+        ensures { IfOk result (λ t. OfAll U.into_iter_gives U.IntoIter.next_gives items (λ xs. item_tree t ≡ ListTree Array (comma_inside (map element_tree xs)))) }
+    {
+        let items = Vec::from_iter(alloc, items)?;
+        Item::array_of(alloc, items)
+    }
+
+    fn array_of(alloc: Global, items: Vec<Item<'a>>) -> Result<Item<'a>, AllocError>
         ensures { IfOk result (λ t. item_tree t ≡ ListTree Array (comma_inside (map element_tree items.entry.items))) }
     {
         let list = match comma_items(alloc, items)? {
@@ -126,10 +137,18 @@ impl<'a> Item<'a> {
 
     /// A map of these keys, each with its value, with `,` between two entries and no space, as `{1:2,3:4}`. Fails where memory
     /// runs out; the entries are dropped then.
-    pub fn new_map(
+    pub fn new_map<U: IntoIterator<Item = (Item<'a>, Item<'a>)>>(
         alloc: Global,
-        entries: Vec<(Item<'a>, Item<'a>)>,
+        entries: U,
     ) -> Result<Item<'a>, AllocError>
+        requires { Ends U.into_iter_gives U.IntoIter.can_next U.IntoIter.remaining entries }
+        ensures { IfOk result (λ t. OfAll U.into_iter_gives U.IntoIter.next_gives entries (λ xs. item_tree t ≡ ListTree Map (comma_inside (map pair_tree xs)))) }
+    {
+        let entries = Vec::from_iter(alloc, entries)?;
+        Item::map_of(alloc, entries)
+    }
+
+    fn map_of(alloc: Global, entries: Vec<(Item<'a>, Item<'a>)>) -> Result<Item<'a>, AllocError>
         ensures { IfOk result (λ t. item_tree t ≡ ListTree Map (comma_inside (map pair_tree entries.entry.items))) }
     {
         let list = match comma_pairs(alloc, entries)? {
@@ -150,8 +169,19 @@ impl<'a> Item<'a> {
 impl<'a> Sequence<'a> {
     /// A sequence of these items, with `,` between two and no space, as `1,2`. Fails where memory runs out; the items are
     /// dropped then.
+    pub fn new<U: IntoIterator<Item = Item<'a>>>(
+        alloc: Global,
+        items: U,
+    ) -> Result<Sequence<'a>, AllocError>
+        requires { Ends U.into_iter_gives U.IntoIter.can_next U.IntoIter.remaining items }
+        ensures { IfOk result (λ t. OfAll U.into_iter_gives U.IntoIter.next_gives items (λ xs. sequence_tree t ≡ comma_sequence (map element_tree xs))) }
+    {
+        let items = Vec::from_iter(alloc, items)?;
+        Sequence::of(alloc, items)
+    }
+
     #[tactic(auto, using(crate::proofs::code::Views::view_sequence_made))]
-    pub fn new(alloc: Global, items: Vec<Item<'a>>) -> Result<Sequence<'a>, AllocError>
+    fn of(alloc: Global, items: Vec<Item<'a>>) -> Result<Sequence<'a>, AllocError>
         ensures { IfOk result (λ t. sequence_tree t ≡ comma_sequence (map element_tree items.entry.items)) }
     {
         let items = comma_items(alloc, items)?;

@@ -6,6 +6,7 @@ ghost use Rattle.cbor_edn_model.specs.LayoutLaws.{KeepsItems, StaysValid, Spells
 ghost use Rattle.cbor_edn_model.specs.Laws.{ItemsAndSpaces, SpelledByTrees, UniqueItems, UniqueSpaces};
 ghost use Rattle.cbor_edn_model.specs.Spelling.{Spells, SpellsOne, SpellsSequence};
 ghost use Rattle.cbor_edn_model.specs.Trees.{items, text};
+ghost use Rattle.cbor_edn_core.specs.ConstructedLaws.{LiteralIsAnswered};
 ghost use Rattle.cbor_edn_core.specs.View.{item_tree, standalone_tree, sequence_tree};
 
 use crate::tree::{Item, Sequence, StandaloneItem};
@@ -98,4 +99,9 @@ pub fn bare_items()
     ensures valid { WithoutIndicatorsStaysValid }
     ensures meaning { BareMeans }
     ensures stopped { FewerMean }
+{}
+
+/// Of an item that `new_application_literal` made, `get_application_literal` answers the prefix and the text that it was made of.
+pub fn literal_is_answered()
+    ensures { LiteralIsAnswered }
 {}

@@ -19,3 +19,4 @@ mod row;
 mod serialize;
 mod to_cbor;
 pub mod tree;
+pub mod visitor;

@@ -1,13 +1,16 @@
 //! Items by paths, over any leaves: the items below an item are counted as they stand in the text.
-ghost use Rattle.std.specs.Prelude.{◌≡◌, ◌∷◌, map, option_map, length, slice_get};
+ghost use Rattle.std.specs.Prelude.{◌≡◌, ◌↔◌, ◌<◌, true, Some, suc, drop, map, option_map, length, slice_get};
+ghost use Rattle.std.specs.List.{slice_index};
+ghost use Rattle.std.specs.Option.{IsSome, is_some};
 ghost use Rattle.cbor_edn_model.specs.Leaves.{Ghosts};
 ghost use Rattle.cbor_edn_model.specs.Paths.{items_in, at as at_path, at_standalone, at_sequence};
-ghost use Rattle.cbor_edn_model.specs.Accessed.{entries};
-ghost use Rattle.cbor_edn_model.specs.code.Counted.{past_of, IsCounted};
-ghost use Rattle.cbor_edn_core.specs.View.{view_item, view_inner, view_items, view_list, view_pair, view_pairs, view_pair_list, view_piece, view_string, view_strings, view_stream, view_sequence, view_standalone};
+ghost use Rattle.cbor_edn_model.specs.code.Counted.{past_of, is_simple, IsCounted};
+ghost use Rattle.cbor_edn_core.specs.View.{view_item, view_inner, view_items, view_list, view_pairs, view_pair_list, view_piece, view_string, view_strings, view_stream, view_sequence, view_standalone};
+ghost use Rattle.std.specs.Borrow.{sem};
+ghost use Rattle.cbor_edn_core.specs.Lent.{LendsInner, LendsOfItems, LendsOfPairs, LendsOfList, LendsOfPairList, LendsOfSequence, LendsOfPiece, LendsOfString, LendsOfStrings, LendsOfStream, LendsOfStandalone, LendsOfInner, LendsBelow, LendsAt, LendsAtStandalone, LendsAtSequence};
 
 use crate::tree::{
-    CborStringOf, InnerItemOf, ItemListOf, ItemOf, ItemsOf, KpOf, LabelKind, PairListOf, PairsOf,
+    CborStringOf, InnerItemOf, ItemListOf, ItemOf, ItemsOf, LabelKind, PairListOf, PairsOf,
     PieceOf, SequenceOf, StandaloneItemOf, StreamOf, StringsOf,
 };
 
@@ -16,12 +19,21 @@ impl<O: Drop, M: Drop, C: Drop, E: Drop, N: Drop, L: Drop, D: Drop> ItemOf<O, M,
     /// to the k-th key of a map and its value, 0 to the content of a tag, and k to the k-th item of the sequences that are
     /// embedded in a string, counted over all its pieces and chunks.
     pub fn at_mut(&mut self, path: &[usize]) -> Option<&mut ItemOf<O, M, C, E, N, L, D>>
+        ensures* lent { sem 𝓛 (LendsAt O.row M.row C.row E.row N.row L.row D.row self.entry path.now result) }
         ensures value { (leaves : Ghosts O M C E N L D) → option_map (λ w. view_item leaves w.now) result ≡ at_path path.now (view_item leaves self.old) }
     {
-        let Some((i, rest)) = path.split_first() else {
+        if is_empty(path) {
             return Some(self);
-        };
-        self.inner.below_mut(*i, rest)
+        }
+        let inner = self.inner_mut();
+        inner.below_mut(path, 0)
+    }
+
+    fn inner_mut(&mut self) -> &mut InnerItemOf<O, M, C, E, N, L, D>
+        ensures* lent { sem 𝓛 (LendsInner O.row M.row C.row E.row N.row L.row D.row self.entry result) }
+        ensures value { result.now ≡ self.old.inner }
+    {
+        &mut self.inner
     }
 }
 
@@ -36,9 +48,14 @@ impl<O: Drop, M: Drop, C: Drop, E: Drop, N: Drop, L: Drop, D: Drop> StandaloneIt
 > {
     /// The item where a path leads from the item between the spaces, as by [`ItemOf::at_mut`].
     pub fn at_mut(&mut self, path: &[usize]) -> Option<&mut ItemOf<O, M, C, E, N, L, D>>
+        ensures* lent { sem 𝓛 (LendsAtStandalone O.row M.row C.row E.row N.row L.row D.row self.entry path.now result) }
         ensures value { (leaves : Ghosts O M C E N L D) → option_map (λ w. view_item leaves w.now) result ≡ at_standalone path.now (view_standalone leaves self.old) }
     {
-        self.item.at_mut(path)
+        let item = &mut self.item;
+        if is_empty(path) {
+            return Some(item);
+        }
+        item.inner.below_mut(path, 0)
     }
 }
 
@@ -54,18 +71,23 @@ impl<O: Drop, M: Drop, C: Drop, E: Drop, N: Drop, L: Drop, D: Drop> SequenceOf<
     /// The item where a path leads, of which the first number picks the item, and the others lead on as by [`ItemOf::at_mut`]. An
     /// empty path leads nowhere.
     pub fn at_mut(&mut self, path: &[usize]) -> Option<&mut ItemOf<O, M, C, E, N, L, D>>
+        ensures* lent { sem 𝓛 (LendsAtSequence O.row M.row C.row E.row N.row L.row D.row self.entry path.now result) }
         ensures value { (leaves : Ghosts O M C E N L D) → option_map (λ w. view_item leaves w.now) result ≡ at_sequence path.now (view_sequence leaves self.old) }
     {
-        let Some((i, rest)) = path.split_first() else {
+        if is_empty(path) {
+            return None;
+        }
+        let Some(item) = self.item_mut(path[0]) else {
             return None;
         };
-        let Some(item) = self.item_mut(*i) else {
-            return None;
-        };
-        item.at_mut(rest)
+        if is_last(path, 0) {
+            return Some(item);
+        }
+        item.inner.below_mut(path, 1)
     }
 
-    pub(crate) fn item_mut(&mut self, i: usize) -> Option<&mut ItemOf<O, M, C, E, N, L, D>>
+    fn item_mut(&mut self, i: usize) -> Option<&mut ItemOf<O, M, C, E, N, L, D>>
+        ensures* lent { sem 𝓛 (LendsOfSequence O.row M.row C.row E.row N.row L.row D.row self.entry i result) }
         ensures value { (leaves : Ghosts O M C E N L D) → option_map (λ w. view_item leaves w.now) result ≡ slice_get (items_in (view_sequence leaves self.old)) i }
     {
         match &mut self.items {
@@ -74,7 +96,7 @@ impl<O: Drop, M: Drop, C: Drop, E: Drop, N: Drop, L: Drop, D: Drop> SequenceOf<
         }
     }
 
-    // Where an item's number leads past these, its number behind them.
+    // The number behind these items, unless it is one of theirs.
     fn past(&self, i: usize) -> Option<usize>
         ensures { (leaves : Ghosts O M C E N L D) → result ≡ past_of (length (items_in (view_sequence leaves self.now))) i }
     {
@@ -94,32 +116,84 @@ impl<O: Drop, M: Drop, C: Drop, E: Drop, N: Drop, L: Drop, D: Drop> InnerItemOf<
     L,
     D,
 > {
-    fn below_mut(&mut self, i: usize, path: &[usize]) -> Option<&mut ItemOf<O, M, C, E, N, L, D>>
-        ensures value { (leaves : Ghosts O M C E N L D) → option_map (λ w. view_item leaves w.now) result ≡ at_path (i ∷ path.now) (view_inner leaves self.old) }
+    // The item where the path leads from the number at `at` on.
+    fn below_mut(&mut self, path: &[usize], at: usize) -> Option<&mut ItemOf<O, M, C, E, N, L, D>>
+        requires { at < length path.now }
+        ensures* lent { sem 𝓛 (LendsBelow O.row M.row C.row E.row N.row L.row D.row self.entry (drop at path.now) result) }
+        ensures value { (leaves : Ghosts O M C E N L D) → option_map (λ w. view_item leaves w.now) result ≡ at_path (drop at path.now) (view_inner leaves self.old) }
     {
-        let Some(item) = self.item_mut(i) else {
-            return None;
+        if self.leads(path, at) {
+            self.reach(path, at)
+        } else {
+            None
+        }
+    }
+
+    // Whether it leads to an item. The items on the way are lent and change nothing.
+    fn leads(&mut self, path: &[usize], at: usize) -> bool
+        requires { at < length path.now }
+        ensures there { (leaves : Ghosts O M C E N L D) → result ≡ is_some (at_path (drop at path.now) (view_inner leaves self.old)) }
+        ensures same { (leaves : Ghosts O M C E N L D) → view_inner leaves self.new ≡ view_inner leaves self.old }
+    {
+        let Some(item) = self.item_mut(path[at]) else {
+            return false;
         };
-        let Some((j, rest)) = path.split_first() else {
-            return Some(item);
-        };
-        item.inner.below_mut(*j, rest)
+        if is_last(path, at) {
+            return true;
+        }
+        item.inner.leads(path, at + 1)
+    }
+
+    // The item where it leads, once it is known that it leads to one.
+    fn reach(&mut self, path: &[usize], at: usize) -> Option<&mut ItemOf<O, M, C, E, N, L, D>>
+        requires { ((leaves : Ghosts O M C E N L D) → IsSome (at_path (drop at path.now) (view_inner leaves self.old))) × (at < length path.now) }
+        ensures* lent { sem 𝓛 (LendsBelow O.row M.row C.row E.row N.row L.row D.row self.entry (drop at path.now) result) }
+        ensures value { (leaves : Ghosts O M C E N L D) → option_map (λ w. view_item leaves w.now) result ≡ at_path (drop at path.now) (view_inner leaves self.old) }
+    {
+        let part = self.child_at(path, at);
+        let part = there(part);
+        if is_last(path, at) {
+            return Some(part);
+        }
+        let inner = part.inner_mut();
+        inner.reach(path, at + 1)
+    }
+
+    fn child_at(&mut self, path: &[usize], at: usize) -> Option<&mut ItemOf<O, M, C, E, N, L, D>>
+        requires { at < length path.now }
+        ensures* lent { sem 𝓛 (LendsOfInner O.row M.row C.row E.row N.row L.row D.row self.entry (slice_index path.now at) result) }
+        ensures value { (leaves : Ghosts O M C E N L D) → option_map (λ w. view_item leaves w.now) result ≡ slice_get (items_in (view_inner leaves self.old)) (slice_index path.now at) }
+    {
+        self.item_mut(path[at])
     }
 
     // The item below at a number.
     fn item_mut(&mut self, i: usize) -> Option<&mut ItemOf<O, M, C, E, N, L, D>>
+        ensures* lent { sem 𝓛 (LendsOfInner O.row M.row C.row E.row N.row L.row D.row self.entry i result) }
         ensures value { (leaves : Ghosts O M C E N L D) → option_map (λ w. view_item leaves w.now) result ≡ slice_get (items_in (view_inner leaves self.old)) i }
     {
+        if self.is_simple() {
+            return None;
+        }
         match self {
             InnerItemOf::Number(..) | InnerItemOf::NonFinite(..) | InnerItemOf::Named(_) => None,
-            InnerItemOf::Enclosed(label, content) => match label.kind {
-                LabelKind::Tag(..) => content.item_mut(i),
-                LabelKind::Simple => None,
-            },
+            InnerItemOf::Enclosed(_, content) => content.item_mut(i),
             InnerItemOf::Array(list) => list.item_mut(i),
             InnerItemOf::Map(list) => list.item_mut(i),
             InnerItemOf::String(string) => string.item_mut(i),
             InnerItemOf::Stream(stream) => stream.item_mut(i),
+        }
+    }
+
+    fn is_simple(&self) -> bool
+        ensures { (leaves : Ghosts O M C E N L D) → result ≡ is_simple (view_inner leaves self.now) }
+    {
+        match self {
+            InnerItemOf::Enclosed(label, _) => match label.kind {
+                LabelKind::Tag(..) => false,
+                LabelKind::Simple => true,
+            },
+            _ => false,
         }
     }
 }
@@ -134,6 +208,7 @@ impl<O: Drop, M: Drop, C: Drop, E: Drop, N: Drop, L: Drop, D: Drop> StandaloneIt
     D,
 > {
     fn item_mut(&mut self, i: usize) -> Option<&mut ItemOf<O, M, C, E, N, L, D>>
+        ensures* lent { sem 𝓛 (LendsOfStandalone O.row M.row C.row E.row N.row L.row D.row self.entry i result) }
         ensures value { (leaves : Ghosts O M C E N L D) → option_map (λ w. view_item leaves w.now) result ≡ slice_get (items_in (view_standalone leaves self.old)) i }
     {
         if i == 0 { Some(&mut self.item) } else { None }
@@ -150,6 +225,7 @@ impl<O: Drop, M: Drop, C: Drop, E: Drop, N: Drop, L: Drop, D: Drop> ItemListOf<
     D,
 > {
     fn item_mut(&mut self, i: usize) -> Option<&mut ItemOf<O, M, C, E, N, L, D>>
+        ensures* lent { sem 𝓛 (LendsOfList O.row M.row C.row E.row N.row L.row D.row self.entry i result) }
         ensures value { (leaves : Ghosts O M C E N L D) → option_map (λ w. view_item leaves w.now) result ≡ slice_get (items_in (view_list leaves self.old)) i }
     {
         match self {
@@ -169,6 +245,7 @@ impl<O: Drop, M: Drop, C: Drop, E: Drop, N: Drop, L: Drop, D: Drop> PairListOf<
     D,
 > {
     fn item_mut(&mut self, i: usize) -> Option<&mut ItemOf<O, M, C, E, N, L, D>>
+        ensures* lent { sem 𝓛 (LendsOfPairList O.row M.row C.row E.row N.row L.row D.row self.entry i result) }
         ensures value { (leaves : Ghosts O M C E N L D) → option_map (λ w. view_item leaves w.now) result ≡ slice_get (items_in (view_pair_list leaves self.old)) i }
     {
         match self {
@@ -180,6 +257,7 @@ impl<O: Drop, M: Drop, C: Drop, E: Drop, N: Drop, L: Drop, D: Drop> PairListOf<
 
 impl<O: Drop, M: Drop, C: Drop, E: Drop, N: Drop, L: Drop, D: Drop> ItemsOf<O, M, C, E, N, L, D> {
     fn item_mut(&mut self, i: usize) -> Option<&mut ItemOf<O, M, C, E, N, L, D>>
+        ensures* lent { sem 𝓛 (LendsOfItems O.row M.row C.row E.row N.row L.row D.row self.entry i result) }
         ensures value { (leaves : Ghosts O M C E N L D) → option_map (λ w. view_item leaves w.now) result ≡ slice_get (items_in (view_items leaves self.old)) i }
     {
         if i < self.row.len() {
@@ -205,28 +283,24 @@ impl<O: Drop, M: Drop, C: Drop, E: Drop, N: Drop, L: Drop, D: Drop> ItemsOf<O, M
 
 impl<O: Drop, M: Drop, C: Drop, E: Drop, N: Drop, L: Drop, D: Drop> PairsOf<O, M, C, E, N, L, D> {
     fn item_mut(&mut self, i: usize) -> Option<&mut ItemOf<O, M, C, E, N, L, D>>
+        ensures* lent { sem 𝓛 (LendsOfPairs O.row M.row C.row E.row N.row L.row D.row self.entry i result) }
         ensures value { (leaves : Ghosts O M C E N L D) → option_map (λ w. view_item leaves w.now) result ≡ slice_get (items_in (view_pairs leaves self.old)) i }
     {
-        let Some(pair) = self.pair_mut(i / 2) else {
-            return None;
-        };
-        if i % 2 == 0 {
-            return Some(&mut pair.key);
+        let place = i / 2;
+        if place < self.row.len() {
+            let entry = &mut self.row[place];
+            let pair = &mut entry.0;
+            if i % 2 == 0 {
+                return Some(&mut pair.key);
+            }
+            return Some(&mut pair.value);
         }
-        Some(&mut pair.value)
-    }
-}
-
-impl<O: Drop, M: Drop, C: Drop, E: Drop, N: Drop, L: Drop, D: Drop> PairsOf<O, M, C, E, N, L, D> {
-    fn pair_mut(&mut self, k: usize) -> Option<&mut KpOf<O, M, C, E, N, L, D>>
-        ensures value { (leaves : Ghosts O M C E N L D) → option_map (λ p. view_pair leaves p.now) result ≡ slice_get (entries (view_pairs leaves self.old)) k }
-    {
-        if k < self.row.len() {
-            let entry = &mut self.row[k];
-            return Some(&mut entry.0);
-        }
-        if k == self.row.len() {
-            return Some(&mut self.last);
+        if place == self.row.len() {
+            let pair = &mut self.last;
+            if i % 2 == 0 {
+                return Some(&mut pair.key);
+            }
+            return Some(&mut pair.value);
         }
         None
     }
@@ -234,6 +308,7 @@ impl<O: Drop, M: Drop, C: Drop, E: Drop, N: Drop, L: Drop, D: Drop> PairsOf<O, M
 
 impl<O: Drop, M: Drop, C: Drop, E: Drop, N: Drop, L: Drop, D: Drop> PieceOf<O, M, C, E, N, L, D> {
     fn item_mut(&mut self, i: usize) -> Option<&mut ItemOf<O, M, C, E, N, L, D>>
+        ensures* lent { sem 𝓛 (LendsOfPiece O.row M.row C.row E.row N.row L.row D.row self.entry i result) }
         ensures value { (leaves : Ghosts O M C E N L D) → option_map (λ w. view_item leaves w.now) result ≡ slice_get (items_in (view_piece leaves self.old)) i }
     {
         match self {
@@ -262,6 +337,7 @@ impl<O: Drop, M: Drop, C: Drop, E: Drop, N: Drop, L: Drop, D: Drop> CborStringOf
     D,
 > {
     fn item_mut(&mut self, i: usize) -> Option<&mut ItemOf<O, M, C, E, N, L, D>>
+        ensures* lent { sem 𝓛 (LendsOfString O.row M.row C.row E.row N.row L.row D.row self.entry i result) }
         ensures value { (leaves : Ghosts O M C E N L D) → option_map (λ w. view_item leaves w.now) result ≡ slice_get (items_in (view_string leaves self.old)) i }
     {
         let (place, left) = piece_at(&self.row, i);
@@ -285,6 +361,7 @@ impl<O: Drop, M: Drop, C: Drop, E: Drop, N: Drop, L: Drop, D: Drop> CborStringOf
 
 impl<O: Drop, M: Drop, C: Drop, E: Drop, N: Drop, L: Drop, D: Drop> StringsOf<O, M, C, E, N, L, D> {
     fn item_mut(&mut self, i: usize) -> Option<&mut ItemOf<O, M, C, E, N, L, D>>
+        ensures* lent { sem 𝓛 (LendsOfStrings O.row M.row C.row E.row N.row L.row D.row self.entry i result) }
         ensures value { (leaves : Ghosts O M C E N L D) → option_map (λ w. view_item leaves w.now) result ≡ slice_get (items_in (view_strings leaves self.old)) i }
     {
         let (place, left) = string_at(&self.row, i);
@@ -298,6 +375,7 @@ impl<O: Drop, M: Drop, C: Drop, E: Drop, N: Drop, L: Drop, D: Drop> StringsOf<O,
 
 impl<O: Drop, M: Drop, C: Drop, E: Drop, N: Drop, L: Drop, D: Drop> StreamOf<O, M, C, E, N, L, D> {
     fn item_mut(&mut self, i: usize) -> Option<&mut ItemOf<O, M, C, E, N, L, D>>
+        ensures* lent { sem 𝓛 (LendsOfStream O.row M.row C.row E.row N.row L.row D.row self.entry i result) }
         ensures value { (leaves : Ghosts O M C E N L D) → option_map (λ w. view_item leaves w.now) result ≡ slice_get (items_in (view_stream leaves self.old)) i }
     {
         self.strings.item_mut(i)
@@ -340,4 +418,28 @@ fn string_at<O: Drop, M: Drop, C: Drop, E: Drop, N: Drop, L: Drop, D: Drop>(
         place += 1;
     }
     (place, left)
+}
+
+fn is_empty(path: &[usize]) -> bool
+    ensures { (result ≡ true) ↔ (length path.now ≡ 0) }
+{
+    path.len() == 0
+}
+
+// Whether a number of a path is its last.
+fn is_last(path: &[usize], at: usize) -> bool
+    requires { at < length path.now }
+    ensures { (result ≡ true) ↔ (suc at ≡ length path.now) }
+{
+    at + 1 == path.len()
+}
+
+// The item that is lent, where one is.
+fn there<O: Drop, M: Drop, C: Drop, E: Drop, N: Drop, L: Drop, D: Drop>(
+    part: Option<&mut ItemOf<O, M, C, E, N, L, D>>,
+) -> &mut ItemOf<O, M, C, E, N, L, D>
+    requires { IsSome part }
+    ensures { part.entry ≡ Some result }
+{
+    part.unwrap()
 }

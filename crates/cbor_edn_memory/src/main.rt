@@ -1,19 +1,20 @@
-//! Calls that take memory, one after the other, for a script that has each of their allocations refused in turn.
+//! Calls of trees, one after the other, for a script that has each of their allocations refused in turn.
 //!
 //! Standard input has a number: so many allocations are made before the calls, which moves the one that is refused from
 //! call to call. Each call prints its name and what came of it: `done` where it answered as it must, `refused` where it
 //! answered want of memory, and `wrong` at any other answer.
 #![tactic(auto)]
 
-use cbor_edn::engine::{Command, Options, RunError, StdSink, StdSource, run, serve};
-use cbor_edn::words::options;
-use cbor_edn::{
-    DelimiterPolicy, Fault, InconsistentEdn, Item, NESTING_LIMIT, Sequence, StandaloneItem,
-};
-use clap::error::ErrorKind;
+ghost use Rattle.std.specs.Prelude.{⊤};
+
+use cbor_edn_core::access::TypeMismatch;
+use cbor_edn_core::tree::{Item, Sequence, StandaloneItem};
+use cbor_edn_core::visitor::MapValueHandler;
+use cbor_edn_expect::memory::{Outcome, number, spend};
+use cbor_edn_parts::error::{CallbackError, Fault, InconsistentEdn};
+use cbor_edn_parts::policy::DelimiterPolicy;
 use std::alloc::{AllocError, Global};
-use std::io::Read;
-use std::{fmt, io};
+use std::io;
 
 const TEXT: &str =
     "[1, 0x10000000000000000, {_ 3: []}, 'a' + <<\"b\">>, (_ h'63', b64'Zg'), 1(simple(32))]";
@@ -24,59 +25,7 @@ const BYTES: &[u8] =
 // A text as it is decoded.
 const DECODED: &str = "[_ 1, {2: -4_0}, \"a\", (_ h'62'), 1(simple(32))]";
 
-// The same on a line, as it is indented.
-const LINE: &str = "[_ 1, {2: -4_0}, \"a\", (_ h'62'), 1(simple(32))]\n";
-
 const ENCODED: &[u8] = b"\x9f\x01\xa1\x02\x38\x03\x61a\x5f\x41b\xff\xc1\xf8\x20\xff";
-
-// The same in hexadecimal digits.
-const DIGITS: &str = "9f 01 a1 02 38 03 61 61 5f 41 62 ff c1 f8 20 ff";
-
-const WORDS: &[&str] = &["cbor-edn", "diag2diag", "--max-nesting", "3", "in", "out"];
-
-// A run of a command that leaves comments out and takes CBOR as digits where it reads it.
-fn options_of(command: Command) -> Options {
-    Options {
-        command,
-        hex: command == Command::Cbor2Diag,
-        remove_comments: true,
-        preserve_space: false,
-        limit: NESTING_LIMIT,
-    }
-}
-
-// What came of a call.
-#[derive(Clone, Copy, Debug, PartialEq, Eq)]
-enum Outcome {
-    Done,
-    Refused,
-    Wrong,
-}
-
-impl Outcome {
-    // A call that answers must answer rightly.
-    fn of_answer(right: bool) -> Outcome {
-        if right { Outcome::Done } else { Outcome::Wrong }
-    }
-
-    // The texts here are right, so that only want of memory is an answer beside the right one.
-    fn of_fault<E: Drop>(fault: Fault<E>) -> Outcome {
-        match fault {
-            Fault::Memory(_) => Outcome::Refused,
-            Fault::Told(_) => Outcome::Wrong,
-        }
-    }
-}
-
-impl fmt::Display for Outcome {
-    fn fmt<W: fmt::Write>(&self, f: &mut fmt::Formatter<W>) -> fmt::Result {
-        match self {
-            Outcome::Done => f.write_str("done"),
-            Outcome::Refused => f.write_str("refused"),
-            Outcome::Wrong => f.write_str("wrong"),
-        }
-    }
-}
 
 fn parse(alloc: Global) -> Outcome {
     match Sequence::parse(alloc, TEXT) {
@@ -300,72 +249,210 @@ fn get_application_literal(alloc: Global) -> Outcome {
     }
 }
 
-// Where memory was refused nothing may have been written. The sink takes memory too, and fails where that is refused.
-fn run_once(alloc: Global, command: Command, input: &str, output: &[u8]) -> Outcome {
-    let mut sink = StdSink::new(Vec::new(alloc));
-    let result = run(
-        alloc,
-        &options_of(command),
-        &mut StdSource::new(input.as_bytes()),
-        &mut sink,
-    );
-    let written = sink.into_inner();
-    match result {
-        Ok(()) => Outcome::of_answer(written.as_slice() == output),
-        Err(RunError::Memory(_) | RunError::Write) if written.is_empty() => Outcome::Refused,
-        Err(_) => Outcome::Wrong,
-    }
-}
-
-fn words(alloc: Global) -> Outcome {
-    match options(alloc, WORDS) {
-        Ok((read, input, output)) => {
-            Outcome::of_answer(read.limit == 3 && (input, output) == ("in", "out"))
+// What an array answers, and lends, of its items.
+fn are_items_answered(array: Option<&mut Item<'_>>) -> bool {
+    let Some(array) = array else {
+        return false;
+    };
+    let mut is_answered = false;
+    if let Ok(items) = array.get_array_items() {
+        for item in items {
+            is_answered = item.get_tag().is_ok();
         }
-        Err(error) if error.kind() == ErrorKind::OutOfMemory => Outcome::Refused,
-        Err(_) => Outcome::Wrong,
+    }
+    let mut is_lent = false;
+    if let Ok(items) = array.get_array_items_mut() {
+        for item in items {
+            is_lent = item.get_tagged_mut().is_ok();
+        }
+    }
+    is_answered && is_lent
+}
+
+// The same of a map's pairs.
+fn are_pairs_answered(map: Option<&mut Item<'_>>) -> bool {
+    let Some(map) = map else {
+        return false;
+    };
+    let mut is_answered = false;
+    if let Ok(pairs) = map.get_map_items() {
+        for (key, value) in pairs {
+            is_answered = key.get_integer() == Ok(2) && value.get_integer() == Ok(3);
+        }
+    }
+    let mut is_lent = false;
+    if let Ok(pairs) = map.get_map_items_mut() {
+        for (key, value) in pairs {
+            is_lent = key.get_integer() == Ok(2) && value.get_integer() == Ok(3);
+        }
+    }
+    is_answered && is_lent
+}
+
+// The same of a tag.
+fn is_tag_answered(tag: Option<&mut Item<'_>>) -> bool {
+    let Some(tag) = tag else {
+        return false;
+    };
+    tag.get_tag() == Ok(4) && tag.get_tagged().is_ok() && tag.get_tagged_mut().is_ok()
+}
+
+fn are_lent(sequence: &mut Sequence<'_>) -> bool {
+    let mut is_lent = false;
+    for item in sequence.get_items_mut() {
+        is_lent = item.get_array_items().is_ok();
+    }
+    is_lent
+}
+
+// The parts of the sequence below, which take no memory.
+fn are_parts_answered(sequence: &mut Sequence<'_>) -> bool {
+    are_lent(sequence)
+        && are_items_answered(sequence.at_mut(&[0]))
+        && are_pairs_answered(sequence.at_mut(&[0, 0]))
+        && is_tag_answered(sequence.at_mut(&[0, 1]))
+}
+
+// Accessors and loans take no memory: none of these calls is refused for want of it, whichever allocation is.
+fn without_memory(alloc: Global) -> Outcome {
+    match Sequence::parse(alloc, "[{2: 3}, 4(5)]") {
+        Ok(mut sequence) => Outcome::of_answer(
+            are_parts_answered(&mut sequence)
+                && sequence
+                    .set_delimiters(alloc, DelimiterPolicy::DiscardAll)
+                    .is_ok(),
+        ),
+        Err(fault) => Outcome::of_fault(fault),
     }
 }
 
-// A fault of a run that has no text to its line, where memory for that is refused.
-fn serve_fault(alloc: Global) -> Outcome {
-    let mut sink = StdSink::new(Vec::new(alloc));
-    let mut errors = StdSink::new(Vec::new(alloc));
-    let status = serve(
+// Nor do the place of a refusal, and policies that are made.
+fn place_of_refusal(alloc: Global) -> Outcome {
+    match Sequence::parse(alloc, "1\n,,") {
+        Err(Fault::Told(refused)) => Outcome::of_answer(
+            (refused.line(), refused.column(), refused.offset()) == (2, 2, 3)
+                && DelimiterPolicy::indented() == DelimiterPolicy::indented(),
+        ),
+        Err(Fault::Memory(_)) => Outcome::Refused,
+        Ok(_) => Outcome::Wrong,
+    }
+}
+
+// Nor does an item that becomes a standalone one.
+fn from_item(alloc: Global) -> Outcome {
+    match Item::new_integer_decimal(alloc, 1) {
+        Ok(item) => {
+            let alone = StandaloneItem::from(item);
+            Outcome::of_answer(alone == alone)
+        }
+        Err(_) => Outcome::Refused,
+    }
+}
+
+// What a visit may leave: the text before it first, then one for each comment or value that a call has put.
+const ELEMENTS: &[&str] = &["[1, 2]", "[1/ e /, 2]", "[1/ e /, 2/ e /]"];
+
+const KEYS: &[&str] = &[
+    "{3: 4, 1: 2}",
+    "{3/ k /: 4, 1: 2}",
+    "{3/ k /: 5, 1: 2}",
+    "{3/ k /: 5/ v /, 1: 2}",
+    "{3/ k /: 5/ v /, 1/ k /: 2}",
+    "{3/ k /: 5/ v /, 1/ k /: 5}",
+    "{3/ k /: 5/ v /, 1/ k /: 5/ v /}",
+];
+
+const TAGS: &[&str] = &["1([2(3)])", "1([2(3)])/ t /", "1([2(3)/ t /])/ t /"];
+
+const LITERALS: &[&str] = &[
+    "[h'00', <<x'1'>>]",
+    "[h'00'/ c /, <<x'1'>>]",
+    "[h'00'/ c /, <<x'1'/ c />>]",
+];
+
+// Puts 5 with a comment.
+#[derive(Drop)]
+struct PutFive;
+
+impl<'a> MapValueHandler<'a> for PutFive {
+    ghost handles = { λ _ _ _ _. ⊤ };
+
+    fn handle(self, alloc: Global, value: &mut Item<'a>) -> Result<Option<String>, CallbackError> {
+        *value = Item::new_integer_decimal(alloc, 5)?;
+        Ok(Some(String::from_str(alloc, "v")?))
+    }
+}
+
+fn comment_elements(item: &mut Item<'_>, alloc: Global) -> Result<(), Fault<TypeMismatch>> {
+    item.visit_array_elements(alloc, &mut |_| Ok(Some(String::from_str(alloc, "e")?)))
+}
+
+fn comment_keys(item: &mut Item<'_>, alloc: Global) -> Result<(), Fault<TypeMismatch>> {
+    item.visit_map_elements(
         alloc,
-        &options_of(Command::Diag2Cbor),
-        &mut StdSource::new(b"\xff".as_slice()),
-        &mut sink,
-        &mut errors,
-    );
-    let told = errors.into_inner();
-    if status != 1 || !sink.into_inner().is_empty() {
-        return Outcome::Wrong;
-    }
-    match told.as_slice() {
-        b"" | b"cbor-edn: Out of memory\n" => Outcome::Refused,
-        line => Outcome::of_answer(line == b"cbor-edn: Error processing input file\n".as_slice()),
-    }
-}
-
-// The number that the input begins with, in decimal digits.
-fn number(reader: &mut impl Read) -> io::Result<u32> {
-    let mut bytes = [0u8; 8];
-    let n = reader.read(&mut bytes)?;
-    Ok(
-        bytes[..n]
-            .iter()
-            .take_while(|b| b.is_ascii_digit())
-            .fold(0u32, |sum, b| {
-                sum.wrapping_mul(10).wrapping_add(u32::from(*b & 15))
-            }),
+        &mut |_| Ok((Some(String::from_str(alloc, "k")?), Some(PutFive))),
     )
 }
 
-// Makes so many allocations. The one that is refused may be among them.
-fn spend(alloc: Global, allocations: u32) {
-    for _ in 0..allocations {
-        let _ = Vec::<u8>::with_capacity(alloc, 1);
+fn comment_tags(item: &mut StandaloneItem<'_>, alloc: Global) -> Result<(), AllocError> {
+    item.visit_tag(
+        alloc,
+        &mut |_, _| Err(CallbackError::Comment(String::from_str(alloc, "t")?)),
+    )
+}
+
+fn comment_literals(item: &mut StandaloneItem<'_>, alloc: Global) -> Result<(), AllocError> {
+    item.visit_application_literals(
+        alloc,
+        &mut |_, _, _| Err(CallbackError::Comment(String::from_str(alloc, "c")?)),
+    )
+}
+
+#[derive(Clone, Copy)]
+enum Visit {
+    Elements,
+    Keys,
+    Tags,
+    Literals,
+}
+
+fn visit_alone(
+    item: &mut StandaloneItem<'_>,
+    alloc: Global,
+    visit: Visit,
+) -> Result<(), Fault<TypeMismatch>> {
+    match visit {
+        Visit::Elements => match item.at_mut(&[]) {
+            Some(array) => comment_elements(array, alloc),
+            None => Err(Fault::Told(TypeMismatch::Array)),
+        },
+        Visit::Keys => match item.at_mut(&[]) {
+            Some(map) => comment_keys(map, alloc),
+            None => Err(Fault::Told(TypeMismatch::Map)),
+        },
+        Visit::Tags => Ok(comment_tags(item, alloc)?),
+        Visit::Literals => Ok(comment_literals(item, alloc)?),
+    }
+}
+
+// A visit that is refused memory has made a beginning of its calls, the last one's comment perhaps missing.
+fn visited(alloc: Global, visit: Visit, texts: &[&'static str]) -> Outcome {
+    let Some((&last, before)) = texts.split_last() else {
+        return Outcome::Wrong;
+    };
+    let Some(&first) = before.first() else {
+        return Outcome::Wrong;
+    };
+    let mut item = match StandaloneItem::parse(alloc, first) {
+        Ok(item) => item,
+        Err(fault) => return Outcome::of_fault(fault),
+    };
+    let answer = visit_alone(&mut item, alloc, visit);
+    match (item.serialize(alloc), answer) {
+        (Ok(text), Ok(())) => Outcome::of_answer(text.as_str() == last),
+        (Ok(text), Err(Fault::Memory(_))) if before.contains(&text.as_str()) => Outcome::Refused,
+        (Err(_), Ok(())) => Outcome::Refused,
+        _ => Outcome::Wrong,
     }
 }
 
@@ -395,20 +482,19 @@ fn main(rt: HostRuntime) -> io::Result<()> {
             "get_application_literal",
             get_application_literal(rt.alloc()),
         ),
+        ("without memory", without_memory(rt.alloc())),
+        ("place of a refusal", place_of_refusal(rt.alloc())),
+        ("from an item", from_item(rt.alloc())),
         (
-            "run diag2cbor",
-            run_once(rt.alloc(), Command::Diag2Cbor, TEXT, BYTES),
+            "visit_array_elements",
+            visited(rt.alloc(), Visit::Elements, ELEMENTS),
         ),
+        ("visit_map_elements", visited(rt.alloc(), Visit::Keys, KEYS)),
+        ("visit_tag", visited(rt.alloc(), Visit::Tags, TAGS)),
         (
-            "run cbor2diag",
-            run_once(rt.alloc(), Command::Cbor2Diag, DIGITS, LINE.as_bytes()),
+            "visit_application_literals",
+            visited(rt.alloc(), Visit::Literals, LITERALS),
         ),
-        (
-            "run diag2diag",
-            run_once(rt.alloc(), Command::Diag2Diag, LINE, LINE.as_bytes()),
-        ),
-        ("words", words(rt.alloc())),
-        ("serve", serve_fault(rt.alloc())),
     ] {
         println!(rt; "{name}: {outcome}")?;
     }

@@ -7,6 +7,10 @@ pub mod StringEncodes
 pub mod StringKinds
 pub mod TagDigits
 pub mod Texts
+pub mod Visiting
 pub mod Written
 pub mod Counted
+pub mod Replaced
+pub mod Reaching
+pub mod Depths
 pub mod Digits

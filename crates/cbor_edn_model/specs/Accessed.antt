@@ -45,6 +45,9 @@ entries_inside (FullTree h s m) = entries m
 abbrev pub element : Tree (OneEntry Elements) → Tree OneItem
 element (ElementTree w) = w
 
+abbrev pub key : Tree (OneEntry Pairs) → Tree OneItem
+key (PairTree v s t w) = v
+
 abbrev pub key_and_value : Tree (OneEntry Pairs) → Tree OneItem × Tree OneItem
 key_and_value (PairTree v s t w) = (v, w)
 

@@ -1,5 +1,5 @@
 -- The spaces of a tree after a delimiter policy. Everything that is no space stays.
-use Rattle.std.specs.Prelude.{ℕ, ◌+◌, nat_lt, if◌then◌else◌, List, length}
+use Rattle.std.specs.Prelude.{nat_lt, if◌then◌else◌, length}
 use Rattle.cbor_edn_parts.specs.Spacing.{S, MS, MSC, SOC}
 use Rattle.cbor_edn_parts.specs.declared.policy.DelimiterPolicy.{DelimiterPolicy}
 use Rattle.cbor_edn_parts.specs.declared.policy.Spacing.TheVariants.{OneLine}

@@ -21,4 +21,7 @@ pub mod BareLaws
 pub mod Fewer
 pub mod Accessed
 pub mod Paths
+pub mod Visits
+pub mod Depth
+pub mod Seeking
 pub mod code

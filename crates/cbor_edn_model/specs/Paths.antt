@@ -1,5 +1,5 @@
--- Where paths lead in a tree.
-use Rattle.std.specs.Prelude.{ℕ, slice_get, List, [], ◌∷◌, ◌++◌, Option, Some, None, option_and_then}
+-- Where paths lead in a tree, and what the tree is with another item there.
+use Rattle.std.specs.Prelude.{ℕ, ◌-◌, ◌==◌, ltb, if◌then◌else◌, length, slice_get, List, [], ◌∷◌, ◌++◌, Option, Some, None, option_map, option_and_then, unwrap_or}
 use Rattle.cbor_edn_model.specs.declared.label.LabelKind.TheVariants as label
 use Rattle.cbor_edn_model.specs.Trees.{Rule, Tree, OneItem, Seq, Standalone, NumberTree, FloatTree, NamedTree, EnclosedTree, ListTree, StringTree, StreamTree, LiteralTree, DotsTree, EmbeddedTree, LastPieceTree, PlusTree, ElementTree, PairTree, ChunkTree, EmptyTree, FullTree, LastTree, MoreTree, NothingTree, SequenceTree, StandaloneTree}
 
@@ -45,3 +45,45 @@ at_standalone path (StandaloneTree s w t) = at path w
 abbrev pub at_sequence : List ℕ → Tree Seq → Option (Tree OneItem)
 at_sequence [] w = None
 at_sequence (i ∷ path) w = option_and_then (at path) (slice_get (items_in w) i)
+
+-- A part of a tree with x in place of the item that stands at i in it. Nothing else changes, and where there is no such item
+-- nothing does.
+abbrev pub with_item : {s : Rule} → ℕ → Tree OneItem → Tree s → Tree s
+with_item i x (NumberTree n p) = NumberTree n p
+with_item i x (FloatTree f p) = FloatTree f p
+with_item i x (NamedTree b) = NamedTree b
+with_item i x (EnclosedTree (label.Tag n p) w) = EnclosedTree (label.Tag n p) (with_item i x w)
+with_item i x (EnclosedTree label.Simple w) = EnclosedTree label.Simple w
+with_item i x (ListTree k w) = ListTree k (with_item i x w)
+with_item i x (StringTree w) = StringTree (with_item i x w)
+with_item i x (StreamTree ms m) = StreamTree ms (with_item i x m)
+with_item i x (LiteralTree y p) = LiteralTree y p
+with_item i x (DotsTree y) = DotsTree y
+with_item i x (EmbeddedTree w p) = EmbeddedTree (with_item i x w) p
+with_item i x (LastPieceTree p) = LastPieceTree (with_item i x p)
+with_item i x (PlusTree p s t w) =
+    if ltb i (length (items_in p)) then PlusTree (with_item i x p) s t w else PlusTree p s t (with_item (i - length (items_in p)) x w)
+with_item i x (ElementTree w) = ElementTree (if i == 0 then x else w)
+with_item i x (PairTree v s t w) = PairTree (if i == 0 then x else v) s t (if i == 1 then x else w)
+with_item i x (ChunkTree w) = ChunkTree (with_item i x w)
+with_item i x (EmptyTree p s) = EmptyTree p s
+with_item i x (FullTree h s m) = FullTree h s (with_item i x m)
+with_item i x (LastTree e s) = LastTree (with_item i x e) s
+with_item i x (MoreTree e s m) =
+    if ltb i (length (items_in e)) then MoreTree (with_item i x e) s m else MoreTree e s (with_item (i - length (items_in e)) x m)
+with_item i x (NothingTree s) = NothingTree s
+with_item i x (SequenceTree s m) = SequenceTree s (with_item i x m)
+with_item i x (StandaloneTree s w t) = StandaloneTree s (if i == 0 then x else w) t
+
+-- An item with x in place of the item where a path leads, and the item itself where it leads nowhere.
+abbrev pub with_at : List ℕ → Tree OneItem → Tree OneItem → Tree OneItem
+with_at [] x w = x
+with_at (i ∷ path) x w = unwrap_or (option_map (λ c. with_item i (with_at path x c) w) (slice_get (items_in w) i)) w
+
+-- the same of an item between spaces, and of a sequence
+abbrev pub with_at_standalone : List ℕ → Tree OneItem → Tree Standalone → Tree Standalone
+with_at_standalone path x (StandaloneTree s w t) = StandaloneTree s (with_at path x w) t
+
+abbrev pub with_at_sequence : List ℕ → Tree OneItem → Tree Seq → Tree Seq
+with_at_sequence [] x w = w
+with_at_sequence (i ∷ path) x w = unwrap_or (option_map (λ c. with_item i (with_at path x c) w) (slice_get (items_in w) i)) w

@@ -1,6 +1,6 @@
 -- Items with the space texts between their tokens: one family, indexed by the rule of the grammar.
 use Rattle.std.specs.Fmt.{decimal}
-use Rattle.std.specs.Prelude.{ℕ, codes, suc, max, Bool, true, false, not, eqb, ◌||◌, ◌&&◌, List, [], ◌∷◌, ◌≡◌, ◌++◌, Option, Some, None}
+use Rattle.std.specs.Prelude.{ℕ, codes, suc, max, Bool, false, not, eqb, ◌||◌, ◌&&◌, List, [], ◌∷◌, ◌≡◌, ◌++◌, Option, Some, None}
 use Rattle.cbor_edn_parts.specs.declared.indicator.Indicator.{Indicator}
 use Rattle.cbor_edn_model.specs.declared.label.LabelKind.{LabelKind}
 use Rattle.cbor_edn_model.specs.declared.label.LabelKind.TheVariants as label

@@ -2,6 +2,7 @@
 pub mod Adding
 pub mod CborReading
 pub mod Counted
+pub mod Depths
 pub mod Encoding
 pub mod Laying
 pub mod LayoutRows
@@ -9,8 +10,10 @@ pub mod LookCosts
 pub mod Lookahead
 pub mod Moved
 pub mod Places
+pub mod Reaching
 pub mod Reading
 pub mod Regular
 pub mod Same
 pub mod Unmarking
+pub mod Visiting
 pub mod Widths

@@ -120,6 +120,13 @@ behind_prefix p v t (x, is, d, e) =
     let behind : behind_quote t ≡ x ++ (39 ∷ []) = ap (λ n. drop (length n + 1) t) named ∙ ap (drop (length p + 1)) e ∙ drop-append-add p (39 ∷ (x ++ (39 ∷ []))) 1 in
     (named, ap (decoded Single Between) behind ∙ decoded_is Single d)
 
+-- a literal has one prefix and one text
+pub one_application : (p v q w t : List ℕ) → IsLiteral (Prefixed p) v t → IsLiteral (Prefixed q) w t → (q ≡ p) × (w ≡ v)
+one_application p v q w t h k =
+    let one = behind_prefix p v t h in
+    let other = behind_prefix q w t k in
+    (sym other.0 ∙ one.0, sym other.1 ∙ one.1)
+
 module _ (t : List ℕ) (filled : prefix_of t ≢ []) where
   by_quoting : IsQuoted t → IsLiteral (Prefixed (prefix_of t)) (decoded Single Between (behind_quote t)) t
   unfolding prefix_of

@@ -34,6 +34,25 @@ impl<T: Drop, E> From<AllocFailed<T>> for Fault<E> {
     }
 }
 
+/// What a callback answers in place of its result: a comment all the same, or want of memory, which ends a visit.
+#[derive(Debug, Drop, Error)]
+pub enum CallbackError {
+    #[error("{0}")]
+    Comment(String),
+    #[error("{0}")]
+    Memory(AllocError),
+}
+
+impl From<AllocError> for CallbackError {
+    ghost use Rattle.cbor_edn_parts.specs.declared.error.CallbackError.TheVariants.{Memory};
+
+    ghost from_gives = { λ refused e. e ≡ Memory refused };
+
+    fn from(refused: AllocError) -> CallbackError {
+        CallbackError::Memory(refused)
+    }
+}
+
 /// Why a text is refused.
 #[derive(Clone, Copy, Debug, PartialEq, Eq, Error)]
 pub enum ParseErrorKind {

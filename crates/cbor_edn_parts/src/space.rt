@@ -7,6 +7,7 @@ ghost use Rattle.cbor_edn_parts.specs.code.Inside.{space_stays, space_inside, se
 
 use crate::bytes::Kind;
 use crate::scan::State;
+pub use note::TakesComment;
 pub use read::{End, separator, separator_behind, space, space_behind};
 use std::alloc::AllocError;
 use std::borrow::CowStr;

@@ -1,17 +1,8 @@
 //! Bytes that are decoded and encoded again.
+use cbor_edn::DelimiterPolicy;
 use cbor_edn::laws::recode::{item, recoded, recoded_by_text};
-use cbor_edn::{CborError, DelimiterPolicy, Fault};
-use std::alloc::Global;
+use cbor_edn_expect::digits_of;
 use std::test::Fail;
-
-/// Bytes in lower case digits, or the name of the refusal.
-fn digits_of(alloc: Global, answer: Result<Vec<u8>, Fault<CborError>>) -> Result<String, Fail> {
-    match answer {
-        Ok(bytes) => Ok(hex::encode(alloc, bytes.as_slice())?),
-        Err(Fault::Told(refused)) => Ok(format!(in alloc; "{refused:?}")?),
-        Err(Fault::Memory(refused)) => Err(Fail::from(refused)),
-    }
-}
 
 #[test]
 fn recodes_bytes(rt: HostRuntime) -> Result<(), Fail> {

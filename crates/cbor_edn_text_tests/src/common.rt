@@ -1,28 +1,14 @@
 //! What the tests compare: texts, bytes in hexadecimal digits, and the names of refusals.
 use cbor_edn_core::tree::{Item, Sequence, StandaloneItem};
+use cbor_edn_expect::{digits_of, expect_row, name_of};
 use cbor_edn_parts::error::{Fault, ParseError};
 use std::alloc::Global;
-use std::fmt::Debug;
 use std::test::Fail;
-
-/// Fails with the row of which something does not hold.
-pub(crate) fn expect(row: &str, holds: bool) -> Result<(), Fail> {
-    if holds { Ok(()) } else { Err(Fail::new(row)) }
-}
-
-/// Fails with the row whose answer is not the wanted one.
-pub(crate) fn expect_text(alloc: Global, row: &str, told: &str, wanted: &str) -> Result<(), Fail> {
-    if told == wanted {
-        Ok(())
-    } else {
-        Err(Fail::new(format!(in alloc; "{row:?}: {told:?}, and not {wanted:?}")?))
-    }
-}
 
 /// Each text means the bytes, given in digits, or is refused with the name; and each is printed as itself.
 pub(crate) fn all_mean(alloc: Global, rows: &[(&str, &str)]) -> Result<(), Fail> {
     for &(text, wanted) in rows {
-        expect_text(alloc, text, encoded(alloc, text)?.as_str(), wanted)?;
+        expect_row(alloc, text, encoded(alloc, text)?.as_str(), wanted)?;
         expect_itself(alloc, text)?;
     }
     Ok(())
@@ -31,14 +17,14 @@ pub(crate) fn all_mean(alloc: Global, rows: &[(&str, &str)]) -> Result<(), Fail>
 /// Each is no text of items.
 pub(crate) fn all_unparsed(alloc: Global, texts: &[&str]) -> Result<(), Fail> {
     for &text in texts {
-        expect_text(alloc, text, encoded(alloc, text)?.as_str(), "parse")?;
+        expect_row(alloc, text, encoded(alloc, text)?.as_str(), "parse")?;
     }
     Ok(())
 }
 
 /// A text is accepted, and printed as itself.
 pub(crate) fn expect_itself(alloc: Global, text: &str) -> Result<(), Fail> {
-    expect_text(alloc, text, printed(alloc, text)?.as_str(), text)
+    expect_row(alloc, text, printed(alloc, text)?.as_str(), text)
 }
 
 fn printed(alloc: Global, text: &str) -> Result<String, Fail> {
@@ -81,8 +67,8 @@ pub(crate) fn decoded_item(alloc: Global, bytes: &[u8], limit: usize) -> Result<
 
 /// A text means the bytes, is what they are decoded as, and prints itself.
 pub(crate) fn stand_for_each_other(alloc: Global, text: &str, digits: &str) -> Result<(), Fail> {
-    expect_text(alloc, text, encoded(alloc, text)?.as_str(), digits)?;
-    expect_text(alloc, digits, decoded(alloc, digits)?.as_str(), text)?;
+    expect_row(alloc, text, encoded(alloc, text)?.as_str(), digits)?;
+    expect_row(alloc, digits, decoded(alloc, digits)?.as_str(), text)?;
     expect_itself(alloc, text)
 }
 
@@ -100,24 +86,6 @@ pub(crate) fn refusal(alloc: Global, text: &str, limit: usize) -> Result<Option<
         Ok(_) => Ok(None),
         Err(Fault::Told(refused)) => Ok(Some(refused)),
         Err(Fault::Memory(refused)) => Err(Fail::from(refused)),
-    }
-}
-
-/// Bytes in lower case digits, or the name of the refusal.
-pub(crate) fn digits_of<E: Debug + Drop>(
-    alloc: Global,
-    answer: Result<Vec<u8>, Fault<E>>,
-) -> Result<String, Fail> {
-    match answer {
-        Ok(bytes) => Ok(hex::encode(alloc, bytes.as_slice())?),
-        Err(fault) => name_of(alloc, fault),
-    }
-}
-
-fn name_of<E: Debug + Drop>(alloc: Global, fault: Fault<E>) -> Result<String, Fail> {
-    match fault {
-        Fault::Told(refused) => Ok(format!(in alloc; "{refused:?}")?),
-        Fault::Memory(refused) => Err(Fail::from(refused)),
     }
 }
 

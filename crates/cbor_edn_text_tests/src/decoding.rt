@@ -1,8 +1,7 @@
 //! Bytes, the texts that they are decoded as, and the same bytes back; and bytes that are refused.
-use crate::common::{
-    decoded, decoded_item, digits_of, expect, expect_text, repeated, stand_for_each_other,
-};
+use crate::common::{decoded, decoded_item, repeated, stand_for_each_other};
 use cbor_edn_core::tree::{Item, NESTING_LIMIT, StandaloneItem};
+use cbor_edn_expect::{digits_of, expect, expect_row};
 use std::alloc::Global;
 use std::test::Fail;
 
@@ -124,14 +123,14 @@ fn item_of(alloc: Global, digits: &str, limit: usize) -> Result<String, Fail> {
 
 fn expect_item(alloc: Global, digits: &str, limit: usize, wanted: &str) -> Result<(), Fail> {
     let told = item_of(alloc, digits, limit)?;
-    expect_text(alloc, digits, told.as_str(), wanted)
+    expect_row(alloc, digits, told.as_str(), wanted)
 }
 
 #[test]
 fn refuses_bytes(rt: HostRuntime) -> Result<(), Fail> {
     let alloc = rt.alloc();
     for &(digits, name) in REFUSED {
-        expect_text(alloc, digits, decoded(alloc, digits)?.as_str(), name)?;
+        expect_row(alloc, digits, decoded(alloc, digits)?.as_str(), name)?;
         expect_item(alloc, digits, NESTING_LIMIT, name)?;
     }
     Ok(())
@@ -149,7 +148,7 @@ fn refuses_other_than_one_item(rt: HostRuntime) -> Result<(), Fail> {
     let alloc = rt.alloc();
     for &(bytes, name) in NOT_ONE {
         let told = decoded_item(alloc, bytes, NESTING_LIMIT)?;
-        expect_text(alloc, "not one item", told.as_str(), name)?;
+        expect_row(alloc, "not one item", told.as_str(), name)?;
     }
     Ok(())
 }
@@ -242,7 +241,7 @@ fn accepts_the_deepest(rt: HostRuntime) -> Result<(), Fail> {
     let bytes = nested(alloc, NESTING_LIMIT)?;
     let text = repeated(alloc, NESTING_LIMIT, "[", "]")?;
     let told = decoded_item(alloc, bytes.as_slice(), NESTING_LIMIT)?;
-    expect_text(alloc, "the deepest", told.as_str(), text.as_str())
+    expect_row(alloc, "the deepest", told.as_str(), text.as_str())
 }
 
 const DEEPER: &[usize] = &[NESTING_LIMIT + 1, 100_001];
@@ -253,7 +252,7 @@ fn refuses_what_is_deeper(rt: HostRuntime) -> Result<(), Fail> {
     for &depth in DEEPER {
         let bytes = nested(alloc, depth)?;
         let told = decoded_item(alloc, bytes.as_slice(), NESTING_LIMIT)?;
-        expect_text(alloc, "deeper", told.as_str(), "TooDeep")?;
+        expect_row(alloc, "deeper", told.as_str(), "TooDeep")?;
     }
     Ok(())
 }
@@ -275,7 +274,7 @@ fn first_standalone(alloc: Global, bytes: &[u8]) -> Result<(String, &[u8]), Fail
 }
 
 fn expect_first(alloc: Global, told: (String, &[u8]), text: &str, rest: &[u8]) -> Result<(), Fail> {
-    expect_text(alloc, "the first item", told.0.as_str(), text)?;
+    expect_row(alloc, "the first item", told.0.as_str(), text)?;
     expect("the rest behind it", told.1 == rest)
 }
 
@@ -307,5 +306,5 @@ fn encodes_standalone_items_again(rt: HostRuntime) -> Result<(), Fail> {
     let bytes = b"\x9f\x19\x00\xff\xb8\x02\x01\x38\x00\x03\x80\xff";
     let wanted = "9f1900ffb8020138000380ff";
     let told = encoded_again(alloc, bytes)?;
-    expect_text(alloc, wanted, told.as_str(), wanted)
+    expect_row(alloc, wanted, told.as_str(), wanted)
 }

@@ -1,6 +1,7 @@
 //! How deep texts may nest, and how often a text is looked at.
-use crate::common::{encoded, expect, expect_itself, refusal, repeated};
+use crate::common::{encoded, expect_itself, refusal, repeated};
 use cbor_edn_core::tree::{NESTING_LIMIT, Sequence, StandaloneItem};
+use cbor_edn_expect::expect;
 use cbor_edn_parts::looks::Looks;
 use std::alloc::Global;
 use std::mem::size_of;

@@ -1,6 +1,7 @@
 //! The words and the places of refusals.
-use crate::common::{encoded, expect, expect_text, refusal};
+use crate::common::{encoded, refusal};
 use cbor_edn_core::from_cbor::CborError;
+use cbor_edn_expect::{expect, expect_row};
 use cbor_edn_parts::error::{InconsistentEdn, ParseError, ParseErrorKind};
 use std::alloc::Global;
 use std::test::Fail;
@@ -18,7 +19,7 @@ fn expect_refusal(
     let told: Place = (refused.offset(), refused.line(), refused.column());
     expect(words, told == place)?;
     expect(words, refused.too_deep() == is_deep)?;
-    expect_text(alloc, words, refused.to_string(alloc)?.as_str(), words)
+    expect_row(alloc, words, refused.to_string(alloc)?.as_str(), words)
 }
 
 /// Texts whose items may nest so deep, and where and why they are refused.
@@ -128,7 +129,7 @@ const UNTOLD: &[(InconsistentEdn, &str)] = &[
 ];
 
 fn expect_words(alloc: Global, refused: InconsistentEdn, words: &str) -> Result<(), Fail> {
-    expect_text(alloc, words, refused.to_string(alloc)?.as_str(), words)
+    expect_row(alloc, words, refused.to_string(alloc)?.as_str(), words)
 }
 
 #[test]
@@ -136,7 +137,7 @@ fn words_of_inconsistencies(rt: HostRuntime) -> Result<(), Fail> {
     let alloc = rt.alloc();
     for &(text, refused, words) in INCONSISTENT {
         let name = format!(in alloc; "{refused:?}")?;
-        expect_text(alloc, text, encoded(alloc, text)?.as_str(), name.as_str())?;
+        expect_row(alloc, text, encoded(alloc, text)?.as_str(), name.as_str())?;
         expect_words(alloc, refused, words)?;
     }
     for &(refused, words) in UNTOLD {
@@ -176,7 +177,7 @@ const CBOR_ERRORS: &[(CborError, &str)] = &[
 fn words_of_cbor_errors(rt: HostRuntime) -> Result<(), Fail> {
     let alloc = rt.alloc();
     for &(refused, words) in CBOR_ERRORS {
-        expect_text(alloc, words, refused.to_string(alloc)?.as_str(), words)?;
+        expect_row(alloc, words, refused.to_string(alloc)?.as_str(), words)?;
         expect(words, !refused.too_deep())?;
     }
     expect("too deep", CborError::TooDeep.too_deep())

@@ -1,5 +1,6 @@
 //! Texts of numbers, arrays and maps, and the bytes that they mean.
-use crate::common::{all_mean, all_unparsed, encoded_alone, expect_text};
+use crate::common::{all_mean, all_unparsed, encoded_alone};
+use cbor_edn_expect::expect_row;
 use std::test::Fail;
 
 const ENCODED: &[(&str, &str)] = &[
@@ -79,7 +80,7 @@ const ALONE: &[(&str, &str)] = &[
 fn encodes_standalone_items(rt: HostRuntime) -> Result<(), Fail> {
     let alloc = rt.alloc();
     for &(text, wanted) in ALONE {
-        expect_text(alloc, text, encoded_alone(alloc, text)?.as_str(), wanted)?;
+        expect_row(alloc, text, encoded_alone(alloc, text)?.as_str(), wanted)?;
     }
     Ok(())
 }

@@ -1,7 +1,6 @@
 //! Texts of strings, and the bytes that they mean.
-use crate::common::{
-    all_mean, all_unparsed, encoded, expect, expect_itself, expect_text, repeated,
-};
+use crate::common::{all_mean, all_unparsed, encoded, expect_itself, repeated};
+use cbor_edn_expect::{expect, expect_row};
 use std::test::Fail;
 
 const ENCODED: &[(&str, &str)] = &[
@@ -175,7 +174,7 @@ fn refuses_unended_embedded_sequences(rt: HostRuntime) -> Result<(), Fail> {
     let alloc = rt.alloc();
     let open = repeated(alloc, 63, "<<", ">>")?;
     let unended = format!(in alloc; "<<{open}>")?;
-    expect_text(
+    expect_row(
         alloc,
         unended.as_str(),
         encoded(alloc, unended.as_str())?.as_str(),

@@ -1,13 +1,14 @@
 //! Parts of items.
-use crate::common::{Made, expect, expect_text, make, tag_of};
+use crate::common::{Made, make, tag_of};
 use cbor_edn_core::access::TypeMismatch;
 use cbor_edn_core::tree::Item;
+use cbor_edn_expect::{expect, expect_text};
 use cbor_edn_parts::error::Fault;
 use std::alloc::Global;
 use std::test::Fail;
 
 fn integer(alloc: Global, made: Made<'_>) -> Result<Result<i128, TypeMismatch>, Fail> {
-    let item: Item<'_> = make(alloc, made)?;
+    let item = make(alloc, made)?;
     Ok(item.get_integer())
 }
 
@@ -34,14 +35,12 @@ fn number_and_content(item: &Item<'_>, alloc: Global) -> Result<(u64, String), F
 }
 
 fn tag_and_content(alloc: Global, number: u64, text: &str) -> Result<(u64, String), Fail> {
-    match tag_of(alloc, number, text) {
-        Ok(item) => number_and_content(&item, alloc),
-        Err(fault) => Err(fault),
-    }
+    let item = tag_of(alloc, number, text)?;
+    number_and_content(&item, alloc)
 }
 
 fn tag(alloc: Global, made: Made<'_>) -> Result<Result<u64, TypeMismatch>, Fail> {
-    let item: Item<'_> = make(alloc, made)?;
+    let item = make(alloc, made)?;
     Ok(item.get_tag())
 }
 
@@ -64,7 +63,7 @@ fn push_text(texts: &mut String, item: &Item<'_>, alloc: Global) -> Result<(), F
 }
 
 fn array_items(alloc: Global, made: Made<'_>) -> Result<String, Fail> {
-    let array: Item<'_> = make(alloc, made)?;
+    let array = make(alloc, made)?;
     let mut texts = String::new(alloc);
     for item in array.get_array_items()? {
         push_text(&mut texts, item, alloc)?;
@@ -82,7 +81,7 @@ fn items_of_arrays_are_answered(rt: HostRuntime) -> Result<(), Fail> {
 }
 
 fn map_items(alloc: Global, made: Made<'_>) -> Result<String, Fail> {
-    let map: Item<'_> = make(alloc, made)?;
+    let map = make(alloc, made)?;
     let mut texts = String::new(alloc);
     for (key, value) in map.get_map_items()? {
         push_text(&mut texts, key, alloc)?;
@@ -101,7 +100,7 @@ fn items_of_maps_are_answered(rt: HostRuntime) -> Result<(), Fail> {
 }
 
 fn bytes_of(alloc: Global, made: Made<'_>) -> Result<Option<Vec<u8>>, Fail> {
-    let item: Item<'_> = make(alloc, made)?;
+    let item = make(alloc, made)?;
     match item.get_bytes(alloc) {
         Ok(bytes) => Ok(Some(bytes)),
         Err(Fault::Told(TypeMismatch::Bytes)) => Ok(None),
@@ -144,7 +143,7 @@ fn other_items_have_no_bytes(rt: HostRuntime) -> Result<(), Fail> {
 }
 
 fn parts_of(alloc: Global, made: Made<'_>) -> Result<String, Fail> {
-    let item: Item<'_> = make(alloc, made)?;
+    let item = make(alloc, made)?;
     match item.get_application_literal(alloc) {
         Ok((prefix, text)) => Ok(format!(in alloc; "{prefix} {text}")?),
         Err(Fault::Told(mismatch)) => Ok(format!(in alloc; "{mismatch}")?),
@@ -183,7 +182,7 @@ fn mismatches(
     alloc: Global,
     made: Made<'_>,
 ) -> Result<(Option<TypeMismatch>, Option<TypeMismatch>), Fail> {
-    let item: Item<'_> = make(alloc, made)?;
+    let item = make(alloc, made)?;
     let no_array = item.get_array_items().err();
     let no_map = item.get_map_items().err();
     Ok((no_array, no_map))

@@ -1,6 +1,7 @@
 //! Comments in front of items.
-use crate::common::{edited, expect_text};
+use crate::common::edited;
 use cbor_edn_core::tree::{Item, StandaloneItem};
+use cbor_edn_expect::expect_text;
 use std::alloc::Global;
 use std::test::Fail;
 

@@ -1,22 +1,9 @@
 //! How the tests make items, and how they compare texts.
 use cbor_edn_core::tree::{Item, Sequence, StandaloneItem};
+use cbor_edn_expect::{expect, expect_text};
 use cbor_edn_parts::policy::DelimiterPolicy;
 use std::alloc::Global;
 use std::test::Fail;
-
-/// Fails with the row of which something does not hold.
-pub(crate) fn expect(row: &str, holds: bool) -> Result<(), Fail> {
-    if holds { Ok(()) } else { Err(Fail::new(row)) }
-}
-
-/// Fails where a text is not the wanted one.
-pub(crate) fn expect_text(alloc: Global, told: &str, wanted: &str) -> Result<(), Fail> {
-    if told == wanted {
-        Ok(())
-    } else {
-        Err(Fail::new(format!(in alloc; "{told:?}, and not {wanted:?}")?))
-    }
-}
 
 /// What an item is made of: a value, the numbers of a list, or the bytes that encode it.
 #[derive(Clone, Copy)]
@@ -31,8 +18,27 @@ pub(crate) enum Made<'m> {
     Decoded(&'m [u8]),
 }
 
+// Tests hold trees in boxes: a proof writes out what a function holds, and of a box only that it is one.
+
+/// The tree of a text.
+pub(crate) fn sequence_of<'a>(alloc: Global, text: &'a str) -> Result<Box<Sequence<'a>>, Fail> {
+    Ok(Box::new(alloc, Sequence::parse(alloc, text)?)?)
+}
+
+/// The same of a standalone item's text.
+pub(crate) fn standalone_of<'a>(
+    alloc: Global,
+    text: &'a str,
+) -> Result<Box<StandaloneItem<'a>>, Fail> {
+    Ok(Box::new(alloc, StandaloneItem::parse(alloc, text)?)?)
+}
+
 /// An item that is made by the constructor of its kind.
-pub(crate) fn make<'a>(alloc: Global, made: Made<'_>) -> Result<Item<'a>, Fail> {
+pub(crate) fn make<'a>(alloc: Global, made: Made<'_>) -> Result<Box<Item<'a>>, Fail> {
+    Ok(Box::new(alloc, make_item(alloc, made)?)?)
+}
+
+pub(crate) fn make_item<'a>(alloc: Global, made: Made<'_>) -> Result<Item<'a>, Fail> {
     match made {
         Made::Decimal(integer) => Ok(Item::new_integer_decimal(alloc, integer)?),
         Made::Hex(integer) => Ok(Item::new_integer_hex(alloc, integer)?),
@@ -76,14 +82,14 @@ pub(crate) fn all_written(alloc: Global, rows: &[(Made<'_>, &str)]) -> Result<()
 }
 
 fn text_of(alloc: Global, made: Made<'_>) -> Result<String, Fail> {
-    let item: Item<'_> = make(alloc, made)?;
+    let item = make(alloc, made)?;
     Ok(item.serialize(alloc)?)
 }
 
 /// The item that is a tag round what a text says.
-pub(crate) fn tag_of<'a>(alloc: Global, number: u64, text: &'a str) -> Result<Item<'a>, Fail> {
+pub(crate) fn tag_of<'a>(alloc: Global, number: u64, text: &'a str) -> Result<Box<Item<'a>>, Fail> {
     let content = StandaloneItem::parse(alloc, text)?;
-    Ok(content.tagged(alloc, number)?)
+    Ok(Box::new(alloc, content.tagged(alloc, number)?)?)
 }
 
 /// The text of a standalone item that got a comment, if any, and then the spaces of each policy.
@@ -93,10 +99,8 @@ pub(crate) fn edited(
     comment: Option<&str>,
     policies: &[DelimiterPolicy],
 ) -> Result<String, Fail> {
-    match StandaloneItem::parse(alloc, text) {
-        Ok(mut item) => edit_alone(&mut item, alloc, comment, policies),
-        Err(fault) => Err(Fail::from(fault)),
-    }
+    let mut item = standalone_of(alloc, text)?;
+    edit_alone(&mut item, alloc, comment, policies)
 }
 
 fn edit_alone(
@@ -124,10 +128,8 @@ pub(crate) enum Edit {
 
 /// The text of a sequence after that.
 pub(crate) fn edited_sequence(alloc: Global, text: &str, edit: Edit) -> Result<String, Fail> {
-    match Sequence::parse(alloc, text) {
-        Ok(mut sequence) => edit_sequence(&mut sequence, alloc, edit),
-        Err(fault) => Err(Fail::from(fault)),
-    }
+    let mut sequence = sequence_of(alloc, text)?;
+    edit_sequence(&mut sequence, alloc, edit)
 }
 
 fn edit_sequence(sequence: &mut Sequence<'_>, alloc: Global, edit: Edit) -> Result<String, Fail> {
@@ -142,10 +144,8 @@ fn edit_sequence(sequence: &mut Sequence<'_>, alloc: Global, edit: Edit) -> Resu
 
 /// The text of an item after that.
 pub(crate) fn edited_item(alloc: Global, made: Made<'_>, edit: Edit) -> Result<String, Fail> {
-    match make(alloc, made) {
-        Ok(mut item) => edit_item(&mut item, alloc, edit),
-        Err(fault) => Err(fault),
-    }
+    let mut item = make(alloc, made)?;
+    edit_item(&mut item, alloc, edit)
 }
 
 fn edit_item(item: &mut Item<'_>, alloc: Global, edit: Edit) -> Result<String, Fail> {

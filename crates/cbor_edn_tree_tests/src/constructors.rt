@@ -1,6 +1,7 @@
 //! Items and sequences that are made from values.
-use crate::common::{Made, all_written, expect_text, list, make, tag_of};
+use crate::common::{Made, all_written, list, make_item, tag_of};
 use cbor_edn_core::tree::{Item, Sequence};
+use cbor_edn_expect::expect_text;
 use cbor_edn_parts::error::{Fault, InconsistentEdn};
 use std::alloc::Global;
 use std::test::Fail;
@@ -92,7 +93,7 @@ fn literals_are_written_behind_prefixes_alone(rt: HostRuntime) -> Result<(), Fai
 }
 
 fn tagged_text(alloc: Global, text: &str, number: u64) -> Result<String, Fail> {
-    let item: Item<'_> = tag_of(alloc, number, text)?;
+    let item = tag_of(alloc, number, text)?;
     Ok(item.serialize(alloc)?)
 }
 
@@ -103,7 +104,7 @@ fn tags_keep_spaces(rt: HostRuntime) -> Result<(), Fail> {
 }
 
 fn tagged(alloc: Global, made: Made<'_>, number: u64) -> Result<String, Fail> {
-    let item: Item<'_> = make(alloc, made)?.tagged(alloc, number)?;
+    let item = make_item(alloc, made)?.tagged(alloc, number)?;
     Ok(item.serialize(alloc)?)
 }
 
@@ -124,4 +125,16 @@ fn sequences_are_written(rt: HostRuntime) -> Result<(), Fail> {
     let alloc = rt.alloc();
     expect_text(alloc, sequence(alloc, &[1, 2])?.as_str(), "1,2")?;
     expect_text(alloc, sequence(alloc, &[])?.as_str(), "")
+}
+
+fn reversed(alloc: Global, numbers: &[i128]) -> Result<String, Fail> {
+    let items: Vec<Item<'_>> = list(alloc, numbers)?;
+    let array = Item::new_array(alloc, items.into_iter().rev())?;
+    Ok(array.serialize(alloc)?)
+}
+
+#[test]
+fn arrays_take_iterators(rt: HostRuntime) -> Result<(), Fail> {
+    let alloc = rt.alloc();
+    expect_text(alloc, reversed(alloc, &[1, 2, 3])?.as_str(), "[3,2,1]")
 }

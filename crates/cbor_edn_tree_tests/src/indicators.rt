@@ -1,5 +1,6 @@
 //! Removal of encoding indicators.
-use crate::common::{Edit, Made, edited_item, edited_sequence, expect_text};
+use crate::common::{Edit, Made, edited_item, edited_sequence};
+use cbor_edn_expect::expect_text;
 use std::test::Fail;
 
 const BARE: &[(&str, &str)] = &[

@@ -1,4 +1,4 @@
-//! Tests of trees through their public calls: constructors, accessors, loans, copies, spaces and comments.
+//! Tests of trees through their public calls: constructors, accessors, contents of tags, copies, spaces and comments.
 #![tactic(auto)]
 
 #[cfg(test)]
@@ -10,11 +10,9 @@ mod common;
 #[cfg(test)]
 mod constructors;
 #[cfg(test)]
+mod contents;
+#[cfg(test)]
 mod indicators;
-#[cfg(test)]
-mod loans;
-#[cfg(test)]
-mod paths;
 #[cfg(test)]
 mod policies;
 #[cfg(test)]

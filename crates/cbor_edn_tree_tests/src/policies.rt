@@ -1,6 +1,6 @@
 //! Spaces by delimiter policies.
-use crate::common::{Edit, Made, edited, edited_item, edited_sequence, expect, expect_text};
-use cbor_edn_core::tree::Sequence;
+use crate::common::{Edit, Made, edited, edited_item, edited_sequence, sequence_of};
+use cbor_edn_expect::{expect, expect_text};
 use cbor_edn_parts::policy::DelimiterPolicy;
 use std::alloc::Global;
 use std::test::Fail;
@@ -137,13 +137,10 @@ fn decoded_items_are_laid_out(rt: HostRuntime) -> Result<(), Fail> {
 }
 
 fn expect_bytes(alloc: Global, text: &str, wanted: &[u8]) -> Result<(), Fail> {
-    match Sequence::parse(alloc, text) {
-        Ok(sequence) => {
-            let bytes = sequence.to_cbor(alloc).unwrap_or(Vec::new(alloc));
-            expect(text, bytes.as_slice() == wanted)
-        }
-        Err(fault) => Err(Fail::from(fault)),
-    }
+    let bytes = sequence_of(alloc, text)?
+        .to_cbor(alloc)
+        .unwrap_or(Vec::new(alloc));
+    expect(text, bytes.as_slice() == wanted)
 }
 
 /// Texts, an indent, a level and a width of lines that no machine has memory for, and what the texts mean.

@@ -1,6 +1,7 @@
 //! Copies and comparisons of trees, and trees that are made of others.
-use crate::common::{expect, expect_text};
+use crate::common::{Made, make, make_item, sequence_of, standalone_of};
 use cbor_edn_core::tree::{Item, Sequence, StandaloneItem};
+use cbor_edn_expect::{expect, expect_text};
 use std::alloc::Global;
 use std::test::Fail;
 
@@ -12,7 +13,7 @@ fn is_copied(sequence: &Sequence<'_>, alloc: Global, text: &str) -> Result<bool,
 
 /// Whether a text's sequence equals its copy, which prints the text.
 fn is_own_copy(alloc: Global, text: &str) -> Result<bool, Fail> {
-    let sequence = Sequence::parse(alloc, text)?;
+    let sequence = sequence_of(alloc, text)?;
     is_copied(&sequence, alloc, text)
 }
 
@@ -33,7 +34,7 @@ fn is_copied_alone(item: &StandaloneItem<'_>, alloc: Global, text: &str) -> Resu
 
 /// The same of a standalone item's text.
 fn is_own_copy_alone(alloc: Global, text: &str) -> Result<bool, Fail> {
-    let item = StandaloneItem::parse(alloc, text)?;
+    let item = standalone_of(alloc, text)?;
     is_copied_alone(&item, alloc, text)
 }
 
@@ -46,13 +47,31 @@ fn copies_texts(rt: HostRuntime) -> Result<(), Fail> {
     expect(text, is_own_copy_alone(alloc, text)?)
 }
 
+/// Openings, what stands inside, and closings, of each form that nests.
+const DEEPEST: &[(&str, &str, &str)] = &[
+    ("[", "", "]"),
+    ("[2,", "1", ",3]"),
+    ("{2:", "1", "}"),
+    ("{", "1", ":2}"),
+    ("{4:", "1", ",5:6}"),
+    ("6(", "1", ")"),
+    ("simple(", "1", ")"),
+    ("<<", "1", ">>"),
+    ("'a'+<<", "1", ">>+'b'"),
+    ("(_ <<", "1", ">>)"),
+    ("(_ 'a','b'+<<", "1", ">>,'c')"),
+];
+
+// Under `rt try`, which compiles with checks, this asks for more stack than is common: `ulimit -s hard` gives it.
 #[test]
 fn copies_the_deepest(rt: HostRuntime) -> Result<(), Fail> {
     let alloc = rt.alloc();
-    let open = "[".repeat(alloc, 512)?;
-    let close = "]".repeat(alloc, 512)?;
-    let deepest = format!(in alloc; "{open}{close}")?;
-    expect("the deepest", is_own_copy(alloc, deepest.as_str())?)
+    for &(open, inside, close) in DEEPEST {
+        let (open, close) = (open.repeat(alloc, 512)?, close.repeat(alloc, 512)?);
+        let deepest = format!(in alloc; "{open}{inside}{close}")?;
+        expect(open.as_str(), is_own_copy(alloc, deepest.as_str())?)?;
+    }
+    Ok(())
 }
 
 // An item of every form that is decoded.
@@ -69,7 +88,7 @@ fn is_copied_item(item: &Item<'_>, alloc: Global, text: &str) -> Result<bool, Fa
 
 /// Whether the item that bytes encode equals its copy, which prints the text.
 fn is_own_copy_of_item(alloc: Global, bytes: &[u8], text: &str) -> Result<bool, Fail> {
-    let item: Item<'_> = Item::from_cbor(alloc, bytes)?;
+    let item = make(alloc, Made::Decoded(bytes))?;
     is_copied_item(&item, alloc, text)
 }
 
@@ -81,13 +100,13 @@ fn copies_items(rt: HostRuntime) -> Result<(), Fail> {
     )
 }
 
-fn is_decoded(item: &Item<'_>, alloc: Global, bytes: &[u8]) -> Result<bool, Fail> {
-    let other: Item<'_> = Item::from_cbor(alloc, bytes)?;
-    Ok(*item == other)
+fn is_decoded<'a>(item: &Item<'a>, alloc: Global, bytes: &[u8]) -> Result<bool, Fail> {
+    let other: Box<Item<'a>> = make(alloc, Made::Decoded(bytes))?;
+    Ok(*item == *other)
 }
 
 fn are_equal_items(alloc: Global, one: &[u8], other: &[u8]) -> Result<bool, Fail> {
-    let one: Item<'_> = Item::from_cbor(alloc, one)?;
+    let one = make(alloc, Made::Decoded(one))?;
     is_decoded(&one, alloc, other)
 }
 
@@ -111,13 +130,8 @@ fn compares_items(rt: HostRuntime) -> Result<(), Fail> {
     Ok(())
 }
 
-fn alone<'a>(alloc: Global, bytes: &[u8]) -> Result<StandaloneItem<'a>, Fail> {
-    let item: Item<'a> = Item::from_cbor(alloc, bytes)?;
-    Ok(StandaloneItem::from(item))
-}
-
 fn printed_alone(alloc: Global, bytes: &[u8]) -> Result<String, Fail> {
-    let item: StandaloneItem<'_> = alone(alloc, bytes)?;
+    let item = StandaloneItem::from(make_item(alloc, Made::Decoded(bytes))?);
     Ok(item.serialize(alloc)?)
 }
 
@@ -129,7 +143,7 @@ fn a_standalone_item_has_no_space_at_first(rt: HostRuntime) -> Result<(), Fail> 
 }
 
 fn shown(alloc: Global, text: &str) -> Result<String, Fail> {
-    let tree = Sequence::parse(alloc, text)?;
+    let tree = sequence_of(alloc, text)?;
     Ok(format!(in alloc; "{tree:?}")?)
 }
 
@@ -159,13 +173,13 @@ fn items_are_small(_rt: HostRuntime) -> Result<(), Fail> {
 }
 
 fn is_parsed<'a>(sequence: &Sequence<'a>, alloc: Global, text: &'a str) -> Result<bool, Fail> {
-    let other = Sequence::parse(alloc, text)?;
-    Ok(*sequence == other)
+    let other = sequence_of(alloc, text)?;
+    Ok(*sequence == *other)
 }
 
 /// Whether the trees of two texts are equal.
 fn are_equal<'a>(alloc: Global, one: &'a str, other: &'a str) -> Result<bool, Fail> {
-    let one = Sequence::parse(alloc, one)?;
+    let one = sequence_of(alloc, one)?;
     is_parsed(&one, alloc, other)
 }
 

@@ -9,7 +9,6 @@ use Rattle.cbor_edn_parts.specs.declared.number.Number.{Number}
 use Rattle.cbor_edn_parts.specs.declared.string.Literal.{Literal}
 use Rattle.cbor_edn_parts.specs.declared.string.Dots.{Dots}
 use Rattle.std.specs.Global.{Box}
-use Rattle.cbor_edn_core.specs.declared.tree.InnerItemOf.{InnerItemOf}
 use Rattle.cbor_edn_core.specs.declared.tree.InnerItemOf.TheVariants as inner
 use Rattle.cbor_edn_core.specs.declared.tree.InnerItemOf.TheBlock.{hidden-the_row-CborStringOf-row-3-0}
 use Rattle.cbor_edn_core.specs.declared.tree.ItemsOf.{ItemsOf, ItemsOf', outs-ItemsOf', out-ItemsOf, roll-ItemsOf, out-roll-ItemsOf, Row_of-ItemsOf-row-2, end_of-ItemsOf-row-2, more_of-ItemsOf-row-2, items-the_row-ItemsOf-row-2, items_shown-the_row-ItemsOf-row-2-1}

@@ -1,7 +1,8 @@
 -- The entries of a list are what an iterator over it has left.
 use Rattle.std.proofs.Common.{◌≡◌, ℕ, List, [], ◌∷◌, ◌++◌, length, map, Option, Some, None, refl, sym, ap, ◌∙◌}
-use Rattle.std.specs.Borrow.{Bor}
+use Rattle.std.specs.Borrow.{Bor, MutBor}
 use Rattle.std.specs.declared.slice.Iter.{Iter}
+use Rattle.std.specs.declared.slice.IterMut.{IterMut}
 use Rattle.cbor_edn_parts.specs.declared.space.S.{S}
 use Rattle.cbor_edn_parts.specs.declared.space.Ms.{Ms}
 use Rattle.cbor_edn_parts.specs.declared.space.Msc.{Msc}
@@ -15,7 +16,9 @@ use Rattle.cbor_edn_model.specs.Leaves.{texts}
 use Rattle.cbor_edn_model.specs.Rows.{entries_onto}
 use Rattle.cbor_edn_model.specs.Trees.{Tree, OneEntry, LastTree, ElementTree}
 use Rattle.cbor_edn_core.specs.Iterated.{both_trees, row_left, pairs_left}
+use Rattle.cbor_edn_core.specs.IteratedMut.{row_to_lend, pairs_to_lend}
 use Rattle.cbor_edn_core.specs.declared.access.iterators.MapItems.{MapItems}
+use Rattle.cbor_edn_core.specs.declared.access.lending.MapItemsMut.{MapItemsMut}
 use Rattle.cbor_edn_core.specs.declared.tree.KpOf.{KpOf}
 use Rattle.cbor_edn_core.specs.View.{item_tree, seen, seen_pair, view_items, view_pair, view_pairs}
 use Rattle.cbor_edn_core.specs.declared.tree.ItemsOf.{ItemsOf, out-ItemsOf}
@@ -62,3 +65,8 @@ Pair = KpOf S Ms Msc Soc Number Literal Dots
 pub last_pair : (it : MapItems) (row : Option (Iter (Pair × Msc))) (last : Bor Pair) → row_left it.row ≡ [] → it.last ≡ Some last → row_left row ≡ []
     → pairs_left it ≡ (last.now.key, last.now.value) ∷ pairs_left (record { row = row; last = None })
 last_pair it row last ended is empty = rw (ended, is, empty) refl
+
+-- the same of pairs that are lent
+pub last_lent : (it : MapItemsMut) (row : Option (IterMut (Pair × Msc))) (last : MutBor Pair) (left : Option (MutBor Pair)) → row_to_lend it.row ≡ [] → it.last ≡ Some last → left ≡ None
+    → row_to_lend row ≡ [] → pairs_to_lend it ≡ (last.now.key, last.now.value) ∷ pairs_to_lend (record { row = row; last = left })
+last_lent it row last left ended is gone empty = rw (ended, is, gone, empty) refl

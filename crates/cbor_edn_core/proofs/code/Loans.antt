@@ -1,8 +1,9 @@
 -- What has no part to lend.
-use Rattle.std.proofs.Common.{◌≡◌, None, refl}
+use Rattle.std.proofs.Common.{◌≡◌, None, false, refl}
 use Rattle.std.specs.Global.{Box}
 use Rattle.cbor_edn_model.specs.Accessed.{tag_content}
 use Rattle.cbor_edn_model.specs.Leaves.{Ghosts}
+use Rattle.cbor_edn_model.specs.code.Counted.{is_simple}
 use Rattle.cbor_edn_core.specs.View.{view_inner}
 use Rattle.cbor_edn_core.specs.declared.tree.InnerItemOf.{InnerItemOf}
 use Rattle.cbor_edn_core.specs.declared.tree.InnerItemOf.TheVariants as inner
@@ -20,3 +21,13 @@ module _ {O M C E N L D : Type 0} (leaves : Ghosts O M C E N L D) where
   no_tag (inner.Map' p list) differs = refl
   no_tag (inner.String' p n row last) differs = refl
   no_tag (inner.Stream' p (StreamOf' ms strings)) differs = refl
+
+  pub not_simple : (x : InnerItemOf O M C E N L D) → ((l : Label) (b : Box (StandaloneItemOf O M C E N L D)) → x ≡ inner.Enclosed l b → ⊥) → false ≡ is_simple (view_inner leaves x)
+  not_simple (inner.Number n i) differs = refl
+  not_simple (inner.NonFinite f i) differs = refl
+  not_simple (inner.Named b) differs = refl
+  not_simple (inner.Enclosed' l p before item after) differs = absurd (differs l (record { ptr = p.ptr; alloc = p.alloc; value = record { before = before; item = record { inner = item }; after = after } }) refl)
+  not_simple (inner.Array' p list) differs = refl
+  not_simple (inner.Map' p list) differs = refl
+  not_simple (inner.String' p n row last) differs = refl
+  not_simple (inner.Stream' p (StreamOf' ms strings)) differs = refl

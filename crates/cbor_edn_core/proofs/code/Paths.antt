@@ -1,16 +1,16 @@
 -- The items in a part of a Rust tree, by their numbers.
-use Rattle.std.proofs.Common.{◌≡◌, ℕ, zero, suc, ◌+◌, ◌-◌, ◌*◌, ◌/◌, ◌%◌, ◌<◌, ◌≤◌, List, [], ◌∷◌, ◌++◌, length, map, Option, Some, None, refl, sym, ap, ◌∙◌, subst, arith}
+use Rattle.std.proofs.Common.{◌≡◌, ℕ, zero, suc, ◌*◌, ◌/◌, ◌%◌, ◌<◌, ◌≤◌, List, [], ◌∷◌, ◌++◌, length, map, Some, None, refl, sym, ap, ◌∙◌, arith}
 use Rattle.std.specs.Prelude.{slice_get, get_or, option_map}
 use Rattle.std.specs.List.{flat_map}
 use Rattle.cbor_edn_model.specs.Accessed.{entries, key_and_value}
 use Rattle.cbor_edn_model.specs.Leaves.{Ghosts}
 use Rattle.cbor_edn_model.specs.Paths.{items_in}
-use Rattle.cbor_edn_model.specs.Rows.{entries_onto, pieces_onto}
-use Rattle.cbor_edn_model.specs.Trees.{Tree, OneItem, OneEntry, LastTree, LastPieceTree, ElementTree, PairTree, ChunkTree}
+use Rattle.cbor_edn_model.specs.Rows.{entries_onto}
+use Rattle.cbor_edn_model.specs.Trees.{Tree, OneItem, OneEntry, LastTree, LastPieceTree, ElementTree}
 use Rattle.cbor_edn_model.specs.Items as kind
 use Rattle.cbor_edn_model.specs.code.Counted.{past_of, IsCounted}
-use Rattle.cbor_edn_model.proofs.code.Counted.{element_items, key_items, value_items, row_items, pieces_items, in_part, in_part_less, in_rest, past_rest, got_within, got_last, got_past, one_more, past_within, past_behind}
-use Rattle.cbor_edn_core.specs.View.{seen, seen_pair, seen_piece, seen_string, view_item, view_items, view_pair, view_pairs, view_piece, view_string, view_strings, row_onto}
+use Rattle.cbor_edn_model.proofs.code.Counted.{key_items, value_items, row_items, pieces_items, in_part, in_part_less, in_rest, past_rest, got_within, got_last, got_past, one_more, past_within}
+use Rattle.cbor_edn_core.specs.View.{seen_pair, seen_piece, seen_string, view_item, view_items, view_pair, view_pairs, view_piece, view_string, view_strings, row_onto}
 use Rattle.cbor_edn_core.specs.declared.tree.ItemOf.{ItemOf}
 use Rattle.cbor_edn_core.specs.declared.tree.ItemsOf.{ItemsOf, out-ItemsOf}
 use Rattle.cbor_edn_core.specs.declared.tree.KpOf.{KpOf}

@@ -1,11 +1,16 @@
 -- Strings of one piece and of several.
-use Rattle.std.proofs.Common.{◌≡◌, ℕ, List, [], ◌∷◌, Bool, true, false, length, map, Option, Some, None, refl, sym, ap, subst, ◌∙◌, arith}
+use Rattle.std.proofs.Common.{◌≡◌, ℕ, List, [], ◌∷◌, false, length, map, Option, Some, None, refl, sym, ap, subst, ◌∙◌, arith}
 use Rattle.std.proofs.lemmas.Bool.{false≢true, ne_eqb}
 use Rattle.std.specs.Prelude.{◌==◌}
 use mathlib.Core.Bool.{not}
+use Rattle.cbor_edn_parts.specs.Literal.{IsLiteral, Prefixed}
+use Rattle.cbor_edn_parts.specs.Written.{application_literal}
+use Rattle.cbor_edn_parts.proofs.Applications.{one_application}
+use Rattle.cbor_edn_parts.proofs.WrittenLiterals.{application_is}
 use Rattle.cbor_edn_model.specs.Accessed.{are_several, IsApplicationPiece}
 use Rattle.cbor_edn_model.specs.Rows.{pieces_onto}
-use Rattle.cbor_edn_model.specs.Trees.{Tree, OnePiece, OneString, LastPieceTree}
+use Rattle.cbor_edn_model.specs.Trees.{Tree, OnePiece, OneString, LiteralTree, LastPieceTree}
+use Rattle.cbor_edn_core.specs.ConstructedLaws.{LiteralIsAnswered}
 
 module _ {X : Type 0} (seen : X → Tree OnePiece × List ℕ × List ℕ) where
   pub several_is : (row : List X) (p : Tree OnePiece) → not (length row == 0) ≡ are_several (pieces_onto (map seen row) (LastPieceTree p))
@@ -29,3 +34,11 @@ no_other w l m p v is other h = subst (λ k. IsApplicationPiece k p v) (same (sy
 
     same : Some (LastPieceTree m) ≡ Some (LastPieceTree l) → m ≡ l
     same e = ap last e
+
+pub literal_is_answered : LiteralIsAnswered
+literal_is_answered p v is all q w =
+    let t = application_literal p v in
+    let made = application_is p v is all in (
+      λ (l, e, h). one_application p v q w t made (no_other (Some (LastPieceTree (LiteralTree t None))) (LiteralTree t None) l q w refl e h),
+      λ (e, f). (LiteralTree t None, refl, subst (λ q. IsLiteral (Prefixed q) w t) (sym e) (subst (λ v. IsLiteral (Prefixed p) v t) (sym f) made)),
+    )

@@ -1,11 +1,11 @@
 -- The tree of a list whose parts are laid out one after another.
-use Rattle.std.proofs.Common.{ℕ, ◌≡◌, List, map, refl, sym, ap, ◌∙◌}
+use Rattle.std.proofs.Common.{ℕ, ◌≡◌, List, map, sym, ap, ◌∙◌}
 use Rattle.cbor_edn_parts.specs.Spacing.{SOC}
 use Rattle.cbor_edn_core.specs.declared.tree.ItemsOf.{ItemsOf, out-ItemsOf, roll-ItemsOf}
 use Rattle.cbor_edn_core.specs.declared.tree.PairsOf.{PairsOf, out-PairsOf, roll-PairsOf}
 use Rattle.cbor_edn_model.specs.Leaves.{Ghosts}
 use Rattle.cbor_edn_model.specs.Items.{End, Then, Element}
-use Rattle.cbor_edn_model.specs.Trees.{Tree, ElementTree, LastTree, items}
+use Rattle.cbor_edn_model.specs.Trees.{ElementTree, LastTree, items}
 use Rattle.cbor_edn_core.specs.View.{seen, seen_pair, view_item, view_items, view_pair, view_pairs}
 use Rattle.cbor_edn_model.specs.Rows.{entries_onto}
 use Rattle.cbor_edn_model.specs.Layout.{Layout, Last, respaced}

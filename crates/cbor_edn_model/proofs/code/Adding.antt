@@ -1,9 +1,9 @@
 -- Byte strings that are put one behind the other.
-use Rattle.std.proofs.Common.{◌≡◌, ℕ, List, [], ◌∷◌, ◌++◌, map, Option, Some, None, Result, Ok, Err, refl, sym, ap, ◌∙◌, append_assoc}
+use Rattle.std.proofs.Common.{◌≡◌, ℕ, List, [], ◌∷◌, ◌++◌, Option, Some, Result, Ok, Err, refl, ap, ◌∙◌, append_assoc}
 use Rattle.std.proofs.lemmas.List.{append-nil}
 use Rattle.cbor_edn_parts.specs.declared.error.Fault.{Fault}
 use Rattle.cbor_edn_parts.specs.declared.error.Fault.TheVariants.{Memory, Told}
-use Rattle.cbor_edn_model.specs.Accessed.{joined, all_joined, piece_bytes, pieces, string_bytes, chunk, entries, strings_bytes}
+use Rattle.cbor_edn_model.specs.Accessed.{joined, piece_bytes, string_bytes, chunk, strings_bytes}
 use Rattle.cbor_edn_model.specs.Items.{Strings}
 use Rattle.cbor_edn_model.specs.Rows.{pieces_onto, entries_onto}
 use Rattle.cbor_edn_model.specs.Trees.{Tree, OnePiece, OneEntry, LastPieceTree, LastTree}

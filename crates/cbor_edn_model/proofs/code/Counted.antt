@@ -1,5 +1,5 @@
 -- Where items stand that are counted over parts: over the entries of a row, or over the items of each.
-use Rattle.std.proofs.Common.{◌≡◌, ℕ, zero, suc, ◌+◌, ◌-◌, ◌*◌, ◌<◌, ◌≤◌, List, [], ◌∷◌, ◌++◌, length, map, Option, Some, None, refl, sym, ap, ◌∙◌, subst, arith, append_assoc}
+use Rattle.std.proofs.Common.{◌≡◌, ℕ, zero, suc, ◌+◌, ◌-◌, ◌*◌, ◌<◌, ◌≤◌, List, [], ◌∷◌, ◌++◌, length, map, Some, None, refl, sym, ap, ◌∙◌, subst, arith, append_assoc, mul-suc, mul-zero}
 use Rattle.std.specs.Prelude.{slice_get, option_map, get_or}
 use Rattle.std.specs.List.{flat_map}
 use Rattle.std.proofs.lemmas.Bool.{lt-ltb, le-ltb}
@@ -7,20 +7,20 @@ use Rattle.std.proofs.lemmas.List.{length-append, length-map}
 use Rattle.std.proofs.lemmas.Option.{slice_get-map, slice_get_read}
 use Rattle.cbor_edn_model.specs.Accessed.{entries, element, key_and_value}
 use Rattle.cbor_edn_model.specs.Items.{Row, Elements, Pairs}
-use Rattle.cbor_edn_model.specs.Paths.{items_in}
+use Rattle.cbor_edn_model.specs.Paths.{items_in, with_item}
 use Rattle.cbor_edn_model.specs.Rows.{entries_onto, pieces_onto}
-use Rattle.cbor_edn_model.specs.Trees.{Tree, OneItem, OnePiece, OneString, OneEntry, Rest, LastTree, MoreTree, ElementTree, PairTree}
+use Rattle.cbor_edn_model.specs.Trees.{Tree, OneItem, OnePiece, OneString, OneEntry, Rest, LastTree, MoreTree, PlusTree, ElementTree, PairTree}
 use Rattle.cbor_edn_model.specs.code.Counted.{past_of, first, IsCounted}
 use Rattle.std.proofs.Common.{Bool, true, false}
-use Rattle.std.specs.Prelude.{ltb}
+use Rattle.std.specs.Prelude.{ltb, set, if◌then◌else◌}
 use Rattle.std.proofs.lemmas.Bool.{ltb-true, ltb-false}
 
-get_left : {A : Type 0} (xs ys : List A) (k : ℕ) → k < length xs → slice_get (xs ++ ys) k ≡ slice_get xs k
+pub get_left : {A : Type 0} (xs ys : List A) (k : ℕ) → k < length xs → slice_get (xs ++ ys) k ≡ slice_get xs k
 get_left [] ys k lt = absurd (omega (arith, lt))
 get_left (x ∷ xs) ys zero lt = refl
 get_left (x ∷ xs) ys (suc k) lt = get_left xs ys k (omega (arith, lt))
 
-get_right : {A : Type 0} (xs ys : List A) (k : ℕ) → slice_get (xs ++ ys) (length xs + k) ≡ slice_get ys k
+pub get_right : {A : Type 0} (xs ys : List A) (k : ℕ) → slice_get (xs ++ ys) (length xs + k) ≡ slice_get ys k
 get_right [] ys k = ap (slice_get ys) (omega arith)
 get_right (x ∷ xs) ys k =
     let longer : suc (length xs) + k ≡ suc (length xs + k) = omega arith in
@@ -203,3 +203,89 @@ found_behind count xs i place left le ge number = record {
   number = number;
   inside = λ lt n e. absurd (omega (arith, lt, ge, length-map xs count));
 }
+
+-- ---- one item in place of another
+
+module _ {X : Type 0} {k : Row} (f : X → Tree (OneEntry k) × List ℕ) (w : Tree OneItem) where
+  abbrev number_in : X → ℕ
+  number_in p = length (items_in (f p).0)
+
+  -- passes an entry
+  passes : (q : X) (m n : Tree (Rest k)) (i : ℕ) → with_item (i - number_in q) w m ≡ n → number_in q ≤ i → with_item i w (MoreTree (f q).0 (f q).1 m) ≡ MoreTree (f q).0 (f q).1 n
+  passes q m n i e le =
+      ap (λ b. if b then MoreTree (with_item i w (f q).0) (f q).1 m else MoreTree (f q).0 (f q).1 (with_item (i - number_in q) w m)) (le-ltb i (number_in q) le)
+      ∙ ap (MoreTree (f q).0 (f q).1) e
+
+  pub with_in_part : (ps : List X) (m : Tree (Rest k)) (i place left : ℕ) (p q : X) → IsCounted (map number_in ps) i (place, left) → place < length ps → p ≡ get_or ps place p
+      → f q ≡ (with_item left w (f p).0, (f p).1) → entries_onto (map f (set ps place q)) m ≡ with_item i w (entries_onto (map f ps) m)
+  with_in_part [] m i place left p q c lt is made = absurd (omega (arith, lt))
+  with_in_part (r ∷ ps) m i zero left p q c lt is made =
+      let at : i ≡ left = omega (arith, c.number) in
+      let inside : left < number_in r = c.inside (omega arith) (number_in r) refl in
+      ap (λ e. MoreTree e.0 e.1 (entries_onto (map f ps) m)) (made ∙ ap (λ z. (with_item left w (f z).0, (f z).1)) is)
+      ∙ sym (ap (λ b. if b then MoreTree (with_item left w (f r).0) (f r).1 (entries_onto (map f ps) m) else MoreTree (f r).0 (f r).1 (with_item (left - number_in r) w (entries_onto (map f ps) m))) (lt-ltb left (number_in r) inside))
+      ∙ ap (λ n. with_item n w (entries_onto (map f (r ∷ ps)) m)) (sym at)
+  with_in_part (r ∷ ps) m i (suc place) left p q c lt is made =
+      let rest = with_in_part ps m (i - number_in r) place left p q (later (λ z. items_in (f z).0) r ps i place left c) (omega (arith, lt)) is made in
+      sym (passes r (entries_onto (map f ps) m) (entries_onto (map f (set ps place q)) m) i (sym rest) (omega (arith, from (λ z. items_in (f z).0) r ps i place left c)))
+
+  pub with_in_rest : (ps : List X) (m n : Tree (Rest k)) (i place left : ℕ) → IsCounted (map number_in ps) i (place, left) → length ps ≤ place → n ≡ with_item left w m
+      → entries_onto (map f ps) n ≡ with_item i w (entries_onto (map f ps) m)
+  with_in_rest [] m n i zero left c le e = e ∙ ap (λ j. with_item j w m) (let same : left ≡ i = omega (arith, c.number) in same)
+  with_in_rest [] m n i (suc place) left c le e = absurd (omega (arith, c.within))
+  with_in_rest (r ∷ ps) m n i zero left c le e = absurd (omega (arith, le))
+  with_in_rest (r ∷ ps) m n i (suc place) left c le e =
+      let rest = with_in_rest ps m n (i - number_in r) place left (later (λ z. items_in (f z).0) r ps i place left c) (omega (arith, le)) e in
+      sym (passes r (entries_onto (map f ps) m) (entries_onto (map f ps) n) i (sym rest) (omega (arith, from (λ z. items_in (f z).0) r ps i place left c)))
+
+module _ {X : Type 0} (f : X → Tree OnePiece × List ℕ × List ℕ) (w : Tree OneItem) where
+  abbrev number_in_piece : X → ℕ
+  number_in_piece p = length (items_in (f p).0)
+
+  -- passes a piece
+  passes_piece : (q : X) (m n : Tree OneString) (i : ℕ) → with_item (i - number_in_piece q) w m ≡ n → number_in_piece q ≤ i → with_item i w (PlusTree (f q).0 (f q).1 (f q).2 m) ≡ PlusTree (f q).0 (f q).1 (f q).2 n
+  passes_piece q m n i e le =
+      ap (λ b. if b then PlusTree (with_item i w (f q).0) (f q).1 (f q).2 m else PlusTree (f q).0 (f q).1 (f q).2 (with_item (i - number_in_piece q) w m)) (le-ltb i (number_in_piece q) le)
+      ∙ ap (PlusTree (f q).0 (f q).1 (f q).2) e
+
+  pub with_in_piece : (ps : List X) (m : Tree OneString) (i place left : ℕ) (p q : X) → IsCounted (map number_in_piece ps) i (place, left) → place < length ps → p ≡ get_or ps place p
+      → f q ≡ (with_item left w (f p).0, (f p).1, (f p).2) → pieces_onto (map f (set ps place q)) m ≡ with_item i w (pieces_onto (map f ps) m)
+  with_in_piece [] m i place left p q c lt is made = absurd (omega (arith, lt))
+  with_in_piece (r ∷ ps) m i zero left p q c lt is made =
+      let at : i ≡ left = omega (arith, c.number) in
+      let inside : left < number_in_piece r = c.inside (omega arith) (number_in_piece r) refl in
+      ap (λ e. PlusTree e.0 e.1 e.2 (pieces_onto (map f ps) m)) (made ∙ ap (λ z. (with_item left w (f z).0, (f z).1, (f z).2)) is)
+      ∙ sym (ap (λ b. if b then PlusTree (with_item left w (f r).0) (f r).1 (f r).2 (pieces_onto (map f ps) m) else PlusTree (f r).0 (f r).1 (f r).2 (with_item (left - number_in_piece r) w (pieces_onto (map f ps) m))) (lt-ltb left (number_in_piece r) inside))
+      ∙ ap (λ n. with_item n w (pieces_onto (map f (r ∷ ps)) m)) (sym at)
+  with_in_piece (r ∷ ps) m i (suc place) left p q c lt is made =
+      let rest = with_in_piece ps m (i - number_in_piece r) place left p q (later (λ z. items_in (f z).0) r ps i place left c) (omega (arith, lt)) is made in
+      sym (passes_piece r (pieces_onto (map f ps) m) (pieces_onto (map f (set ps place q)) m) i (sym rest) (omega (arith, from (λ z. items_in (f z).0) r ps i place left c)))
+
+  pub with_in_last : (ps : List X) (m n : Tree OneString) (i place left : ℕ) → IsCounted (map number_in_piece ps) i (place, left) → length ps ≤ place → n ≡ with_item left w m
+      → pieces_onto (map f ps) n ≡ with_item i w (pieces_onto (map f ps) m)
+  with_in_last [] m n i zero left c le e = e ∙ ap (λ j. with_item j w m) (let same : left ≡ i = omega (arith, c.number) in same)
+  with_in_last [] m n i (suc place) left c le e = absurd (omega (arith, c.within))
+  with_in_last (r ∷ ps) m n i zero left c le e = absurd (omega (arith, le))
+  with_in_last (r ∷ ps) m n i (suc place) left c le e =
+      let rest = with_in_last ps m n (i - number_in_piece r) place left (later (λ z. items_in (f z).0) r ps i place left c) (omega (arith, le)) e in
+      sym (passes_piece r (pieces_onto (map f ps) m) (pieces_onto (map f ps) n) i (sym rest) (omega (arith, from (λ z. items_in (f z).0) r ps i place left c)))
+
+-- ---- parts of one number of items each
+
+module _ {X : Type 0} (count : X → ℕ) (n : ℕ) (same : (p : X) → count p ≡ n) where
+  first_alike : (ps : List X) (place : ℕ) → place ≤ length ps → first place (map count ps) ≡ n * place
+  first_alike ps zero le = sym (mul-zero n)
+  first_alike [] (suc place) le = absurd (omega (arith, le))
+  first_alike (p ∷ ps) (suc place) le = omega (arith, same p, first_alike ps place (omega (arith, le)), mul-suc n place)
+
+  alike_at : (ps : List X) (place m : ℕ) → slice_get (map count ps) place ≡ Some m → m ≡ n
+  alike_at [] place m e = let bad : ⊥ = cc in absurd bad
+  alike_at (p ∷ ps) zero m e = (let is : count p ≡ m = cc in sym is ∙ same p)
+  alike_at (p ∷ ps) (suc place) m e = alike_at ps place m e
+
+  pub alike : (ps : List X) (i place left : ℕ) → i ≡ n * place + left → place ≤ length ps → left < n → IsCounted (map count ps) i (place, left)
+  alike ps i place left e le lt = record {
+    within = omega (arith, le, length-map ps count);
+    number = omega (arith, e, first_alike ps place le);
+    inside = λ _ m is. subst (λ k. left < k) (sym (alike_at ps place m is)) lt;
+  }

@@ -1,7 +1,5 @@
 -- A tree laid out by the table of its widths is laid out, and so is one on a single line by any table.
-use Rattle.std.proofs.Common.{ℕ, ◌≡◌, ◌<◌, ◌+◌, Bool, true, false, List, [], ◌∷◌, ◌++◌, map, take, drop, set, get_or, length, refl, sym, ap, ◌∙◌, append_assoc}
-use Rattle.std.proofs.lemmas.List.{take_more_set, map-append, drop_more}
-use Rattle.std.proofs.lemmas.Grind.{drop_more_same}
+use Rattle.std.proofs.Common.{ℕ, ◌≡◌, Bool, true, false, List, [], ◌∷◌, map, length, refl, sym, ap, ◌∙◌}
 use Rattle.std.specs.Prelude.{nat_lt, if◌then◌else◌}
 use Rattle.cbor_edn_parts.specs.Spacing.{S, MS, MSC, SOC}
 use Rattle.cbor_edn_parts.specs.declared.policy.Spacing.{Spacing}
@@ -12,7 +10,7 @@ use Rattle.cbor_edn_model.specs.Trees.{Rule, OneItem, OnePiece, OneString, OneEn
 use Rattle.cbor_edn_model.specs.Rows.{entries_onto, pieces_onto}
 use Rattle.cbor_edn_model.specs.Layout.{Layout, Inline, Lines, First, Between, Last, AfterColon, Elsewhere, respaced, saturating_add, fitted, in_chunk, laid_list_head, laid}
 use Rattle.cbor_edn_model.specs.code.Widths.{measured, widths_onto}
-use Rattle.cbor_edn_model.specs.code.Laying.{top, others, Ready, without, laid_by, entries_without, entries_by}
+use Rattle.cbor_edn_model.specs.code.Laying.{others, Ready, without, laid_by, entries_without, entries_by}
 use Rattle.cbor_edn_model.specs.code.LayoutRows.{laid_entry, entry_items, laid_piece, piece_items}
 use Rattle.cbor_edn_model.proofs.layout.LayoutRows.{laid_entries, laid_pieces, same_entries, same_pieces}
 use Rattle.cbor_edn_model.proofs.layout.Widths.{test_is}

@@ -1,5 +1,7 @@
--- Numbers counted over parts that stand one behind the other.
-use Rattle.std.specs.Prelude.{◌≡◌, ℕ, zero, suc, ◌+◌, ◌-◌, ◌<◌, ◌≤◌, ltb, if◌then◌else◌, length, slice_get, List, [], ◌∷◌, Option, Some, None}
+-- Numbers counted over parts that stand one behind the other, and the one form with an item in it that does not count.
+use Rattle.std.specs.Prelude.{◌≡◌, ℕ, zero, suc, ◌+◌, ◌-◌, ◌<◌, ◌≤◌, ltb, if◌then◌else◌, length, slice_get, Bool, true, false, List, [], ◌∷◌, Option, Some, None}
+use Rattle.cbor_edn_model.specs.declared.label.LabelKind.TheVariants as label
+use Rattle.cbor_edn_model.specs.Trees.{Tree, OneItem, EnclosedTree}
 
 -- what is left of a number behind n parts, or nothing where it is one of these
 abbrev pub past_of : ℕ → ℕ → Option ℕ
@@ -17,3 +19,8 @@ pub record IsCounted (counts : List ℕ) (i : ℕ) (r : ℕ × ℕ) : Type 0 whe
   pub within : r.0 ≤ length counts
   pub number : i ≡ first r.0 counts + r.1
   pub inside : r.0 < length counts → (n : ℕ) → slice_get counts r.0 ≡ Some n → r.1 < n
+
+-- whether an item is `simple(..)`, below which nothing stands
+abbrev pub is_simple : Tree OneItem → Bool
+is_simple (EnclosedTree label.Simple w) = true
+is_simple w = false

@@ -1,11 +1,10 @@
 -- A tree laid out with a table of widths that were measured before.
-use Rattle.std.specs.Prelude.{ℕ, nat_lt, if◌then◌else◌, List, [], ◌∷◌, ◌≡◌}
+use Rattle.std.specs.Prelude.{ℕ, List, [], ◌∷◌, ◌≡◌}
 use Rattle.cbor_edn_parts.specs.LayoutColumns.{of_parts}
 use Rattle.cbor_edn_parts.specs.Spacing.{S, MS, MSC, SOC}
-use Rattle.cbor_edn_parts.specs.declared.policy.Spacing.TheVariants.{Least, OneLine}
 use Rattle.cbor_edn_model.specs.Items.{Row, Bracketed}
 use Rattle.cbor_edn_model.specs.Trees.{Rule, OneItem, OneEntry, Inside, Tree, NumberTree, FloatTree, NamedTree, EnclosedTree, ListTree, StringTree, StreamTree, LiteralTree, DotsTree, EmbeddedTree, LastPieceTree, PlusTree, ElementTree, PairTree, ChunkTree, EmptyTree, FullTree, LastTree, MoreTree, NothingTree, SequenceTree, StandaloneTree}
-use Rattle.cbor_edn_model.specs.Layout.{Layout, Inline, Lines, First, Between, Last, AfterColon, Elsewhere, respaced, saturating_add, laid_list_head, laid}
+use Rattle.cbor_edn_model.specs.Layout.{Layout, Inline, Lines, First, Between, Last, AfterColon, Elsewhere, respaced, laid_list_head, laid}
 use Rattle.cbor_edn_model.specs.code.Widths.{widths_onto}
 
 -- the first width of a table, and the others

@@ -1,5 +1,5 @@
 -- The tree of an item with the spaces of a single line, part by part.
-use Rattle.std.specs.Prelude.{ℕ, List, [], ◌∷◌, Option, Some, None}
+use Rattle.std.specs.Prelude.{[], ◌∷◌, Option, Some, None}
 use Rattle.cbor_edn_parts.specs.declared.indicator.Indicator.{Indicator}
 use Rattle.cbor_edn_model.specs.declared.label.LabelKind.TheVariants as label
 use Rattle.cbor_edn_model.specs.Items as kind

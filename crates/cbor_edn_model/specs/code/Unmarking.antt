@@ -1,7 +1,5 @@
 -- Lists and rows with fewer indicators.
-use Rattle.std.specs.Prelude.{ℕ, List, Option, None, Some}
-use Rattle.cbor_edn_parts.specs.declared.space.S.{S}
-use Rattle.cbor_edn_parts.specs.Leaves.{s_bytes}
+use Rattle.std.specs.Prelude.{ℕ, List, None}
 use Rattle.cbor_edn_model.specs.Items.{Bracketed, Row}
 use Rattle.cbor_edn_model.specs.Trees.{OneItem, OneEntry, Inside, Rest, Tree, Unmarked, EnclosedTree, EmptyTree, FullTree, items}
 use Rattle.cbor_edn_model.specs.Bare.{bare_label, first_space}

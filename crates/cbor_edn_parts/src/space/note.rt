@@ -1,10 +1,10 @@
 //! Comments as space texts.
-ghost use Rattle.std.specs.Prelude.{◌≡◌, ◌∷◌, ◌++◌, [], IfOk, OnOk, map, encode_utf8, string_bytes};
-ghost use Rattle.cbor_edn_parts.specs.Leaves.{s_bytes};
+ghost use Rattle.std.specs.Prelude.{◌≡◌, ◌∷◌, ◌++◌, [], IfOk, OnOk, OnErr, List, ℕ, map, encode_utf8, string_bytes};
+ghost use Rattle.cbor_edn_parts.specs.Leaves.{s_bytes, msc_bytes, soc_bytes};
 ghost use Rattle.cbor_edn_parts.specs.Notes as definition;
 ghost use Rattle.cbor_edn_parts.specs.Notes.{noted, hash_lines};
 
-use super::S;
+use super::{Msc, S, Soc};
 use std::alloc::{AllocError, Global};
 use std::borrow::CowStr;
 
@@ -22,6 +22,54 @@ impl<'a> S<'a> {
         let text = CowStr::Owned(text);
         Ok(S { text })
     }
+}
+
+/// A space text that stands behind an item, and takes comments in front.
+pub trait TakesComment {
+    ghost bytes: { Self → List ℕ };
+
+    /// Puts a comment in front of the text, as [`S::note`] writes it. Fails where memory runs out, and leaves the text then.
+    fn put_comment(&mut self, alloc: Global, comment: &str) -> Result<(), AllocError>
+        ensures put { OnOk result (bytes self.new ≡ noted comment.now ++ bytes self.old) }
+        ensures refused { OnErr result (bytes self.new ≡ bytes self.old) };
+}
+
+impl<'a> TakesComment for S<'a> {
+    ghost bytes = { s_bytes };
+
+    fn put_comment(&mut self, alloc: Global, comment: &str) -> Result<(), AllocError> {
+        let text = note_before(alloc, comment, self.as_str())?;
+        self.text = CowStr::Owned(text);
+        Ok(())
+    }
+}
+
+impl<'a> TakesComment for Msc<'a> {
+    ghost bytes = { msc_bytes };
+
+    fn put_comment(&mut self, alloc: Global, comment: &str) -> Result<(), AllocError> {
+        let text = note_before(alloc, comment, self.as_str())?;
+        self.text = CowStr::Owned(text);
+        Ok(())
+    }
+}
+
+impl<'a> TakesComment for Soc<'a> {
+    ghost bytes = { soc_bytes };
+
+    fn put_comment(&mut self, alloc: Global, comment: &str) -> Result<(), AllocError> {
+        let text = note_before(alloc, comment, self.as_str())?;
+        self.text = CowStr::Owned(text);
+        Ok(())
+    }
+}
+
+/// The comment as space, and the text behind it.
+fn note_before(alloc: Global, comment: &str, text: &str) -> Result<String, AllocError>
+    ensures { IfOk result (λ t. string_bytes t ≡ noted comment.now ++ text.now) }
+{
+    let note = S::note(alloc, comment)?;
+    format!(in alloc; "{}{text}", note.as_str())
 }
 
 fn between_slashes(alloc: Global, comment: &str) -> Result<String, AllocError>

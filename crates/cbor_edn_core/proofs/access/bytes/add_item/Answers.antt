@@ -1,5 +1,4 @@
 use Rattle.std.proofs.Common.{subst, sym}
-use Rattle.cbor_edn_core.specs.View.{item_tree}
 use Rattle.cbor_edn_core.specs.declared.access.TypeMismatch.TheVariants.{Bytes}
 use Rattle.cbor_edn_core.proofs.code.Views.{view_stream_is, view_string_at}
 use Rattle.cbor_edn_model.specs.Accessed.{item_bytes}

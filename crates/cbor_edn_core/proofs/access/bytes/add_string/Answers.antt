@@ -1,4 +1,4 @@
-use Rattle.std.proofs.Common.{ℕ, ◌+◌, List, Option, map, drop, sym, subst, arith, Err}
+use Rattle.std.proofs.Common.{ℕ, ◌+◌, List, Option, map, drop, subst, arith}
 use Rattle.std.proofs.lemmas.List.{drop_all}
 use Rattle.std.proofs.lemmas.Result.{err_from_is_err_and}
 use Rattle.cbor_edn_core.specs.View.{seen_piece, view_piece}

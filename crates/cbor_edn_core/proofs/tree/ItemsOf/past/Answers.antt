@@ -1,4 +1,4 @@
-use Rattle.std.proofs.Common.{◌≡◌, ◌≤◌, ◌<◌, ◌-◌, ◌∙◌, suc, length, Some, ap, arith}
+use Rattle.std.proofs.Common.{◌≡◌, ◌-◌, ◌∙◌, length, Some, ap, arith}
 use Rattle.cbor_edn_model.specs.Paths.{items_in}
 use Rattle.cbor_edn_model.proofs.code.Counted.{past_within, past_behind}
 use Rattle.cbor_edn_core.specs.View.{view_items}

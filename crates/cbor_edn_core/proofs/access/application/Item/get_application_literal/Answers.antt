@@ -2,7 +2,7 @@ use Rattle.std.proofs.Common.{◌≡◌, Some, refl, sym, ap, ◌∙◌}
 use Rattle.cbor_edn_model.specs.Accessed.{string_tree}
 use Rattle.cbor_edn_model.specs.Leaves.{texts}
 use Rattle.cbor_edn_model.specs.Trees.{LastPieceTree}
-use Rattle.cbor_edn_core.specs.View.{item_tree, seen_piece, view_piece, view_string}
+use Rattle.cbor_edn_core.specs.View.{item_tree, seen_piece, view_piece}
 use Rattle.cbor_edn_core.proofs.code.Pieces.{alone_is, no_other}
 use Rattle.cbor_edn_core.proofs.access.application.Item.get_application_literal.Goals as goal
 

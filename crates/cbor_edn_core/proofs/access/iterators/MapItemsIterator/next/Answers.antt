@@ -1,4 +1,4 @@
-use Rattle.std.proofs.Common.{◌≡◌, Some, ap, sym, ◌∙◌}
+use Rattle.std.proofs.Common.{ap, sym, ◌∙◌}
 use Rattle.std.specs.Slice.Iter.{iter_rest}
 use Rattle.cbor_edn_core.specs.Iterated.{row_left}
 use Rattle.cbor_edn_core.proofs.code.Iterated.{no_more, last_pair}

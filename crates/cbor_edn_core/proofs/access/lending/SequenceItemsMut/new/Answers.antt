@@ -1,0 +1,12 @@
+use Rattle.std.proofs.Common.{sym, ap, ◌∙◌}
+use Rattle.cbor_edn_model.specs.Leaves.{texts}
+use Rattle.cbor_edn_model.specs.Paths.{items_in}
+use Rattle.cbor_edn_model.proofs.code.Counted.{element_items}
+use Rattle.cbor_edn_core.specs.View.{view_items, view_some}
+use Rattle.cbor_edn_core.proofs.code.Views.{view_sequence_is}
+use Rattle.cbor_edn_core.proofs.access.lending.SequenceItemsMut.new.Goals as goal
+
+pub returns-in-Some : goal.returns-in-Some
+returns-in-Some c =
+    c.new.ensures ∙ sym (element_items (view_items texts c.in-Some.items))
+    ∙ sym (ap items_in (view_sequence_is texts c.args.sequence.now ∙ ap (view_some texts _) c.in-Some.is))

@@ -1,0 +1,35 @@
+-- Chains of calls at tags and at literals, and what a call leaves of its closure.
+use Rattle.std.proofs.Common.{ℕ, List, ◌∷◌, ◌≡◌, ◌≤◌, ◌<◌, ◌^◌, ◌-◌, Option, Some, None, arith}
+use Rattle.cbor_edn_model.specs.Accessed.{tag_number, IsApplicationItem}
+use Rattle.cbor_edn_model.specs.Seeking.{Told, IsTag, IsApplication, number, prefix_and_text}
+use Rattle.cbor_edn_model.specs.code.Widths.{capped}
+use Rattle.cbor_edn_model.specs.Seeking.{SoughtCall}
+use Rattle.cbor_edn_model.specs.Trees.{Tree, OneItem}
+use Rattle.cbor_edn_model.specs.Visits.{one_call}
+use Rattle.cbor_edn_core.specs.Sought.{TagCallback, LiteralCallback, IsTagCall, IsLiteralCall, MayVisitTags, MayVisitLiterals}
+
+module _ {T F : Type 0} (look : T → Tree OneItem) where
+  pub tags_after : (callback : TagCallback T F) {f g : F} {c : SoughtCall} → MayVisitTags look callback f → IsTagCall look callback f c g → MayVisitTags look callback g
+  tags_after callback m k = record { at = λ cs h j n x i l. m.at (_ ∷ cs) h (one_call k j) n x i l }
+
+  pub literals_after : (callback : LiteralCallback T F) {f g : F} {c : SoughtCall} → MayVisitLiterals look callback f → IsLiteralCall look callback f c g → MayVisitLiterals look callback g
+  literals_after callback m k = record { at = λ cs h j p s x i. m.at (_ ∷ cs) h (one_call k j) p s x i }
+
+some_none : {A : Type 0} {x : A} {o : Option A} → o ≡ Some x → o ≡ None → ⊥
+some_none h k = cc
+
+-- an item without a number is told nothing of
+pub untold : (w : Tree OneItem) → tag_number w ≡ None → (a : Told) → IsTag w a → ⊥
+untold w h (number n) k = some_none k h
+untold w h (prefix_and_text p v) k = k
+
+pub untold_literal : (w : Tree OneItem) → ((p v : List ℕ) → IsApplicationItem w p v → ⊥) → (a : Told) → IsApplication w a → ⊥
+untold_literal w h (number n) k = k
+untold_literal w h (prefix_and_text p v) k = h p v k
+
+-- a count that is not capped says how deep an item nests, and one that is no more than it too
+pub counted_le : {d e x y : ℕ} → x ≡ capped d → (x ≡ 2 ^ 64 - 1 → ⊥) → y ≡ capped e → y ≤ x → e ≤ d
+counted_le h n k l = omega (arith, h, n, k, l)
+
+pub counted_lt : {d e x y : ℕ} → x ≡ capped d → y ≡ capped e → x < y → d < e
+counted_lt h k l = omega (arith, h, k, l)

@@ -1,0 +1,16 @@
+use Rattle.std.proofs.Common.{◌∙◌, refl, ap, drop}
+use Rattle.cbor_edn_model.specs.Paths.{at as at_path, with_at}
+use Rattle.cbor_edn_core.specs.View.{view_item}
+use Rattle.cbor_edn_core.proofs.code.Replaced.{on_some}
+use Rattle.cbor_edn_core.proofs.tree.InnerItemOf.below_mut.Goals as goal
+
+pub returns-then-leads : goal.returns-then-leads
+returns-then-leads g c =
+    let path = drop c.args.at c.args.path.now in (
+      (
+        refl,
+        λ w. on_some c.reach.result (λ h leaves. h leaves ∙ ap (λ t. with_at path (view_item leaves w) t) (c.leads.ensures.same leaves)) (c.reach.follows.holds w),
+        λ leaves. c.reach.follows.holds-at-none leaves ∙ c.leads.ensures.same leaves,
+      ),
+      record { lent = tt; value = λ leaves. c.reach.ensures.value leaves ∙ ap (at_path path) (c.leads.ensures.same leaves) },
+    )

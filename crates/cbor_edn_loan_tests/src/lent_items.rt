@@ -1,0 +1,180 @@
+//! Items that are lent one after the other.
+use crate::common::sequence_of;
+use cbor_edn_core::access::TypeMismatch;
+use cbor_edn_core::tree::{Item, Sequence};
+use cbor_edn_expect::expect_text;
+use std::alloc::Global;
+use std::mem::swap;
+use std::test::Fail;
+
+/// Puts copies of an item in place of all items of an array but the first.
+fn overwrite_array<'a>(array: &mut Item<'a>, new: &Item<'a>) -> Result<(), Fail> {
+    let mut items = array.get_array_items_mut()?;
+    let _ = items.next();
+    for item in items {
+        *item = new.clone()?;
+    }
+    Ok(())
+}
+
+/// The same of a sequence.
+fn overwrite_sequence<'a>(sequence: &mut Sequence<'a>, new: &Item<'a>) -> Result<(), Fail> {
+    let mut items = sequence.get_items_mut();
+    let _ = items.next();
+    for item in items {
+        *item = new.clone()?;
+    }
+    Ok(())
+}
+
+/// What lends its items: an array that is the first item of a text, or the text's sequence.
+#[derive(Clone, Copy)]
+enum Lender {
+    Array,
+    Sequence,
+}
+
+fn overwrite<'a>(
+    sequence: &mut Sequence<'a>,
+    lender: Lender,
+    new: Option<&mut Item<'a>>,
+) -> Result<(), Fail> {
+    let Some(new) = new else {
+        return Ok(());
+    };
+    match lender {
+        Lender::Array => {
+            if let Some(array) = sequence.at_mut(&[0]) {
+                overwrite_array(array, new)?;
+            }
+            Ok(())
+        }
+        Lender::Sequence => overwrite_sequence(sequence, new),
+    }
+}
+
+/// The text of a sequence after that, with the item in `[+1]`.
+fn text_after<'a>(
+    alloc: Global,
+    sequence: &mut Sequence<'a>,
+    lender: Lender,
+) -> Result<String, Fail> {
+    match Sequence::parse(alloc, "[+1]") {
+        Ok(mut new) => overwrite(sequence, lender, new.at_mut(&[0, 0]))?,
+        Err(refused) => return Err(refused.into()),
+    }
+    Ok(sequence.serialize(alloc)?)
+}
+
+fn overwritten(alloc: Global, text: &str, lender: Lender) -> Result<String, Fail> {
+    let mut sequence = sequence_of(alloc, text)?;
+    text_after(alloc, &mut sequence, lender)
+}
+
+const OVERWRITTEN: &[(Lender, &str, &str)] = &[
+    (Lender::Array, "[\"a\" 1]", "[\"a\" +1]"),
+    (
+        Lender::Array,
+        "[_ 1 , {} /c/ [2] ,] 3",
+        "[_ 1 , +1 /c/ +1 ,] 3",
+    ),
+    (Lender::Array, "[[1, 2]]", "[[1, 2]]"),
+    (Lender::Array, "[ /c/ ]", "[ /c/ ]"),
+    (Lender::Sequence, "1 , <<2>> /c/ [3] ,", "1 , +1 /c/ +1 ,"),
+    (Lender::Sequence, " [1, 2] ", " [1, 2] "),
+    (Lender::Sequence, " /c/ ", " /c/ "),
+];
+
+#[test]
+fn items_are_lent_in_turn(rt: HostRuntime) -> Result<(), Fail> {
+    for &(lender, text, wanted) in OVERWRITTEN {
+        let told = overwritten(rt.alloc(), text, lender)?;
+        expect_text(rt.alloc(), told.as_str(), wanted)?;
+    }
+    Ok(())
+}
+
+/// Exchanges each key of a map and its value.
+fn exchange(map: &mut Item<'_>) -> Result<(), TypeMismatch> {
+    for (key, value) in map.get_map_items_mut()? {
+        swap(key, value);
+    }
+    Ok(())
+}
+
+fn text_exchanged(alloc: Global, map: Option<&mut Item<'_>>) -> Result<String, Fail> {
+    let Some(map) = map else {
+        return Ok(String::new(alloc));
+    };
+    exchange(map)?;
+    Ok(map.serialize(alloc)?)
+}
+
+fn exchanged(alloc: Global, text: &str) -> Result<String, Fail> {
+    let mut sequence = sequence_of(alloc, text)?;
+    text_exchanged(alloc, sequence.at_mut(&[0]))
+}
+
+const EXCHANGED: &[(&str, &str)] = &[
+    (
+        "{_ 1: 2 , \"a\" :[3] /c/ {}:4,}",
+        "{_ 2: 1 , [3] :\"a\" /c/ 4:{},}",
+    ),
+    ("{1 : 2}", "{2 : 1}"),
+    ("{ /c/ }", "{ /c/ }"),
+];
+
+#[test]
+fn pairs_are_lent_in_turn(rt: HostRuntime) -> Result<(), Fail> {
+    for &(text, wanted) in EXCHANGED {
+        let told = exchanged(rt.alloc(), text)?;
+        expect_text(rt.alloc(), told.as_str(), wanted)?;
+    }
+    Ok(())
+}
+
+/// What an item is told where it lends no items as an array and as a map, and its text afterwards.
+fn unlent_in(alloc: Global, item: Option<&mut Item<'_>>) -> Result<String, Fail> {
+    let Some(item) = item else {
+        return Ok(String::new(alloc));
+    };
+    let mut told = String::new(alloc);
+    if let Some(no_array) = item.get_array_items_mut().err() {
+        told.push_str(no_array.to_string(alloc)?.as_str())?;
+    }
+    told.push(';')?;
+    if let Some(no_map) = item.get_map_items_mut().err() {
+        told.push_str(no_map.to_string(alloc)?.as_str())?;
+    }
+    told.push(';')?;
+    told.push_str(item.serialize(alloc)?.as_str())?;
+    Ok(told)
+}
+
+fn unlent(alloc: Global, text: &str) -> Result<String, Fail> {
+    let mut sequence = sequence_of(alloc, text)?;
+    unlent_in(alloc, sequence.at_mut(&[0]))
+}
+
+const UNLENT: &[(&str, &str)] = &[
+    ("[1]", ";Expected map;[1]"),
+    ("[ ]", ";Expected map;[ ]"),
+    ("{1: 2}", "Expected array;;{1: 2}"),
+    ("{ }", "Expected array;;{ }"),
+    ("1_1", "Expected array;Expected map;1_1"),
+    ("-Infinity", "Expected array;Expected map;-Infinity"),
+    ("null", "Expected array;Expected map;null"),
+    ("1([2])", "Expected array;Expected map;1([2])"),
+    ("simple(1)", "Expected array;Expected map;simple(1)"),
+    ("\"a\" + 'b'", "Expected array;Expected map;\"a\" + 'b'"),
+    ("<<[1]>>", "Expected array;Expected map;<<[1]>>"),
+    ("(_ <<1>>)", "Expected array;Expected map;(_ <<1>>)"),
+];
+
+#[test]
+fn other_items_lend_none(rt: HostRuntime) -> Result<(), Fail> {
+    for &(text, wanted) in UNLENT {
+        expect_text(rt.alloc(), unlent(rt.alloc(), text)?.as_str(), wanted)?;
+    }
+    Ok(())
+}

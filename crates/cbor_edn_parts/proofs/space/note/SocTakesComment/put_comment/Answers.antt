@@ -1,0 +1,14 @@
+use Rattle.std.proofs.Common.{◌≡◌, ◌++◌, true, sym, ap, ◌∙◌, subst}
+use Rattle.cbor_edn_parts.specs.Leaves.{soc_bytes}
+use Rattle.cbor_edn_parts.specs.Notes.{noted}
+use Rattle.cbor_edn_parts.specs.Spacing.{SOC}
+use Rattle.cbor_edn_parts.specs.code.SpaceTokens.{is_soc}
+use Rattle.cbor_edn_parts.proofs.Literals.{bytes_all}
+use Rattle.cbor_edn_parts.proofs.Notes.{notes_in_front}
+use Rattle.cbor_edn_parts.proofs.space.note.SocTakesComment.put_comment.Goals as goal
+
+pub invariant_of-self : goal.invariant_of-self
+invariant_of-self c =
+    let x = soc_bytes c.args.self.now in
+    let bytes : is_soc (noted c.args.comment.now ++ x) ≡ true = notes_in_front SOC c.args.comment.now x (bytes_all c.args.comment.now c.type_inv.comment) c.args.self.now.spelled in
+    record { spelled = subst (λ t. is_soc t ≡ true) (sym (c.in_ok-text.ensures ∙ ap (λ y. noted c.args.comment.now ++ y) c.as_str.ensures)) bytes }

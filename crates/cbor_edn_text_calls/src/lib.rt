@@ -1,0 +1,81 @@
+//! Public calls that read and write whole texts, under their own clauses. Bodies that these clauses refuse stand in `must-fail/`: a
+//! check here is that of a small crate, and what a clause refuses here it refuses where the call is written.
+#![tactic(auto)]
+
+ghost use Rattle.std.specs.Prelude.{◌≡◌, ◌≤◌, ◌+◌, ◌*◌, ◌≢◌, length, IfOk, OnOk};
+ghost use Rattle.cbor_edn_core.specs.Parsing.{ParsedSequence, Unparsed};
+ghost use Rattle.cbor_edn_core.specs.View.{sequence_tree, standalone_tree};
+ghost use Rattle.cbor_edn_model.specs.Bare.{without_indicators};
+ghost use Rattle.cbor_edn_model.specs.Commented.{commented};
+ghost use Rattle.cbor_edn_model.specs.Decoded.{IsDecodedSequence, NoSequence};
+ghost use Rattle.cbor_edn_model.specs.Fewer.{Fewer};
+ghost use Rattle.cbor_edn_model.specs.Spelling.{SpellsSequence};
+ghost use Rattle.cbor_edn_model.specs.Trees.{items};
+ghost use Rattle.cbor_edn_parts.specs.Refusals.{IfTold};
+
+use cbor_edn_core::from_cbor::CborError;
+use cbor_edn_core::tree::{NESTING_LIMIT, Sequence, StandaloneItem};
+use cbor_edn_parts::error::{Fault, ParseError};
+use cbor_edn_parts::looks::Looks;
+use std::alloc::{AllocError, Global};
+
+/// `Sequence::parse_within`.
+pub fn parse_within<'a>(
+    alloc: Global,
+    input: &'a str,
+    limit: usize,
+) -> Result<Sequence<'a>, Fault<ParseError>>
+    ensures parsed { IfOk result (ParsedSequence limit input.now) }
+    ensures refused { IfTold result (Unparsed SpellsSequence limit input.now) }
+{
+    Sequence::parse_within(alloc, input, limit)
+}
+
+/// `Sequence::parse_counted`.
+pub fn parse_counted<'a>(
+    alloc: Global,
+    input: &'a str,
+    looks: &mut Looks,
+) -> Result<Sequence<'a>, Fault<ParseError>>
+    ensures parsed { IfOk result (ParsedSequence NESTING_LIMIT input.now) }
+    ensures refused { IfTold result (Unparsed SpellsSequence NESTING_LIMIT input.now) }
+    ensures most { looks.new.count ≤ looks.old.count + 16 * length input.now + 16 }
+    ensures least { OnOk result (looks.old.count + length input.now ≤ looks.new.count) }
+    ensures no_fewer { looks.old.count ≤ looks.new.count }
+{
+    Sequence::parse_counted(alloc, input, looks)
+}
+
+/// `Sequence::from_cbor_within`.
+pub fn from_cbor_within<'a>(
+    alloc: Global,
+    bytes: &[u8],
+    limit: usize,
+) -> Result<Sequence<'a>, Fault<CborError>>
+    ensures accepted { IfOk result (λ t. IsDecodedSequence limit bytes.now (sequence_tree t)) }
+    ensures refused { IfTold result (λ e. e ≢ CborError.TooDeep → NoSequence bytes.now) }
+{
+    Sequence::from_cbor_within(alloc, bytes, limit)
+}
+
+/// `Sequence::discard_encoding_indicators`.
+pub fn discard_encoding_indicators(
+    sequence: &mut Sequence<'_>,
+    alloc: Global,
+) -> Result<(), AllocError>
+    ensures without_indicators { OnOk result (sequence_tree sequence.new ≡ without_indicators (sequence_tree sequence.old)) }
+    ensures fewer { Fewer (items (sequence_tree sequence.old)) (items (sequence_tree sequence.new)) }
+{
+    sequence.discard_encoding_indicators(alloc)
+}
+
+/// `StandaloneItem::set_comment`.
+pub fn set_comment(
+    item: &mut StandaloneItem<'_>,
+    alloc: Global,
+    comment: &str,
+) -> Result<(), AllocError>
+    ensures commented { OnOk result (standalone_tree item.new ≡ commented comment.now (standalone_tree item.old)) }
+{
+    item.set_comment(alloc, comment)
+}

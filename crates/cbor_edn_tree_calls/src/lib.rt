@@ -1,0 +1,176 @@
+//! Public calls on the parts of trees, under their own clauses. Bodies that these clauses refuse stand in `must-fail/`: a check
+//! here is that of a small crate, and what a clause refuses here it refuses where the call is written.
+#![tactic(auto)]
+
+ghost use Rattle.std.specs.Prelude.{◌≡◌, option_map, map, List, Some, None, IfOk, IfErr};
+ghost use Rattle.std.specs.String.{string_bytes};
+ghost use Rattle.cbor_edn_core.specs.Callbacks.{IsCall, IsKeyCall, MayVisit, IfVisited, ending};
+ghost use Rattle.cbor_edn_core.specs.Constructed.{tagged_tree};
+ghost use Rattle.cbor_edn_core.specs.Iterated.{items_left, pairs_left, both_trees};
+ghost use Rattle.cbor_edn_core.specs.IteratedMut.{items_to_lend, pairs_to_lend, sequence_items_to_lend};
+ghost use Rattle.cbor_edn_core.specs.Sought.{IsTagCall, IsLiteralCall, MayVisitTags, MayVisitLiterals};
+ghost use Rattle.cbor_edn_core.specs.View.{item_tree, sequence_tree, standalone_tree};
+ghost use Rattle.cbor_edn_model.specs.Accessed.{IsApplicationItem, array_items, item_bytes, map_items, tag_content, tag_number};
+ghost use Rattle.cbor_edn_model.specs.Paths.{at_sequence, items_in};
+ghost use Rattle.cbor_edn_model.specs.Seeking.{SoughtCall, VisitParts, IsTag, IsApplication};
+ghost use Rattle.cbor_edn_model.specs.Trees.{text};
+ghost use Rattle.cbor_edn_model.specs.Visits.{Call, KeyCall, Chain, VisitArray, VisitMap, elements_of, keys_of};
+ghost use Rattle.cbor_edn_parts.specs.Refusals.{IfTold};
+
+use cbor_edn_core::access::{
+    ArrayItems, ArrayItemsMut, MapItems, MapItemsMut, SequenceItemsMut, TypeMismatch,
+};
+use cbor_edn_core::tree::{Item, Sequence, StandaloneItem};
+use cbor_edn_core::visitor::MapValueHandler;
+use cbor_edn_parts::error::{CallbackError, Fault};
+use std::alloc::{AllocError, Global};
+
+/// `Item::get_tag`.
+pub fn get_tag(item: &Item<'_>) -> Result<u64, TypeMismatch>
+    ensures found { IfOk result (λ n. tag_number (item_tree item.now) ≡ Some n) }
+    ensures refused { IfErr result (λ e. (e ≡ TypeMismatch.TaggedItem) × (tag_number (item_tree item.now) ≡ None)) }
+{
+    item.get_tag()
+}
+
+/// `Item::get_tagged`.
+pub fn get_tagged<'t, 'a>(item: &'t Item<'a>) -> Result<&'t StandaloneItem<'a>, TypeMismatch>
+    ensures found { IfOk result (λ w. tag_content (item_tree item.now) ≡ Some (standalone_tree w.now)) }
+    ensures refused { IfErr result (λ e. (e ≡ TypeMismatch.TaggedItem) × (tag_content (item_tree item.now) ≡ None)) }
+{
+    item.get_tagged()
+}
+
+/// `Item::get_array_items`.
+pub fn get_array_items<'t, 'a>(item: &'t Item<'a>) -> Result<ArrayItems<'t, 'a>, TypeMismatch>
+    ensures found { IfOk result (λ it. array_items (item_tree item.now) ≡ Some (map item_tree (items_left it))) }
+    ensures refused { IfErr result (λ e. (e ≡ TypeMismatch.Array) × (array_items (item_tree item.now) ≡ None)) }
+{
+    item.get_array_items()
+}
+
+/// `Item::get_map_items`.
+pub fn get_map_items<'t, 'a>(item: &'t Item<'a>) -> Result<MapItems<'t, 'a>, TypeMismatch>
+    ensures found { IfOk result (λ it. map_items (item_tree item.now) ≡ Some (map both_trees (pairs_left it))) }
+    ensures refused { IfErr result (λ e. (e ≡ TypeMismatch.Map) × (map_items (item_tree item.now) ≡ None)) }
+{
+    item.get_map_items()
+}
+
+/// `Item::get_array_items_mut`.
+pub fn get_array_items_mut<'t, 'a>(
+    item: &'t mut Item<'a>,
+) -> Result<ArrayItemsMut<'t, 'a>, TypeMismatch>
+    ensures found { IfOk result (λ it. array_items (item_tree item.old) ≡ Some (map item_tree (items_to_lend it))) }
+    ensures refused { IfErr result (λ e. (e ≡ TypeMismatch.Array) × (array_items (item_tree item.old) ≡ None)) }
+{
+    item.get_array_items_mut()
+}
+
+/// `Item::get_map_items_mut`.
+pub fn get_map_items_mut<'t, 'a>(
+    item: &'t mut Item<'a>,
+) -> Result<MapItemsMut<'t, 'a>, TypeMismatch>
+    ensures found { IfOk result (λ it. map_items (item_tree item.old) ≡ Some (map both_trees (pairs_to_lend it))) }
+    ensures refused { IfErr result (λ e. (e ≡ TypeMismatch.Map) × (map_items (item_tree item.old) ≡ None)) }
+{
+    item.get_map_items_mut()
+}
+
+/// `Sequence::get_items_mut`.
+pub fn get_items_mut<'t, 'a>(sequence: &'t mut Sequence<'a>) -> SequenceItemsMut<'t, 'a>
+    ensures { map item_tree (sequence_items_to_lend result) ≡ items_in (sequence_tree sequence.old) }
+{
+    sequence.get_items_mut()
+}
+
+/// `Item::get_bytes`.
+pub fn get_bytes(item: &Item<'_>, alloc: Global) -> Result<Vec<u8>, Fault<TypeMismatch>>
+    ensures found { IfOk result (λ b. item_bytes (item_tree item.now) ≡ Some b.items) }
+    ensures refused { IfTold result (λ e. (e ≡ TypeMismatch.Bytes) × (item_bytes (item_tree item.now) ≡ None)) }
+{
+    item.get_bytes(alloc)
+}
+
+/// `Item::get_application_literal`.
+pub fn get_application_literal(
+    item: &Item<'_>,
+    alloc: Global,
+) -> Result<(String, String), Fault<TypeMismatch>>
+    ensures found { IfOk result (λ p. IsApplicationItem (item_tree item.now) (string_bytes p.0) (string_bytes p.1)) }
+{
+    item.get_application_literal(alloc)
+}
+
+/// The text of the item that `Sequence::at_mut` lends.
+pub fn text_at(
+    sequence: &mut Sequence<'_>,
+    alloc: Global,
+    path: &[usize],
+) -> Result<Option<String>, AllocError>
+    ensures { IfOk result (λ t. option_map string_bytes t ≡ option_map text (at_sequence path.now (sequence_tree sequence.old))) }
+{
+    match sequence.at_mut(path) {
+        Some(item) => Ok(Some(item.serialize(alloc)?)),
+        None => Ok(None),
+    }
+}
+
+/// `StandaloneItem::tagged`.
+pub fn tagged<'a>(
+    item: StandaloneItem<'a>,
+    alloc: Global,
+    number: u64,
+) -> Result<Item<'a>, AllocError>
+    ensures { IfOk result (λ t. item_tree t ≡ tagged_tree number (standalone_tree item.entry)) }
+{
+    item.tagged(alloc, number)
+}
+
+/// `Item::visit_array_elements`.
+pub fn visit_array_elements<'a, F: FnMut(&mut Item<'a>) -> Result<Option<String>, CallbackError>>(
+    item: &mut Item<'a>,
+    alloc: Global,
+    f: &mut F,
+) -> Result<(), Fault<TypeMismatch>>
+    requires callable { MayVisit item_tree F.FnMut (IsCall item_tree F.FnMut) (λ c. c.before) (elements_of (item_tree item.old)) f.old }
+    ensures visited { IfVisited result (λ r. (cs : List Call) × Chain (IsCall item_tree F.FnMut) f.old cs f.new × VisitArray (item_tree item.old) cs (item_tree item.new) r) }
+{
+    item.visit_array_elements(alloc, f)
+}
+
+/// `Item::visit_map_elements`.
+pub fn visit_map_elements<
+    'a,
+    H: MapValueHandler<'a>,
+    F: FnMut(&mut Item<'a>) -> Result<(Option<String>, Option<H>), CallbackError>,
+>(item: &mut Item<'a>, alloc: Global, f: &mut F) -> Result<(), Fault<TypeMismatch>>
+    requires callable { MayVisit item_tree F.FnMut (IsKeyCall item_tree F.FnMut H.handles) (λ c. c.at_key.before) (keys_of (item_tree item.old)) f.old }
+    ensures visited { IfVisited result (λ r. (cs : List KeyCall) × Chain (IsKeyCall item_tree F.FnMut H.handles) f.old cs f.new × VisitMap (item_tree item.old) cs (item_tree item.new) r) }
+{
+    item.visit_map_elements(alloc, f)
+}
+
+/// `StandaloneItem::visit_tag`.
+#[tactic(auto, using(crate::proofs::Again::may_visit_again))]
+pub fn visit_tag<'a, F: FnMut(u64, &mut Item<'a>) -> Result<(), CallbackError>>(
+    item: &mut StandaloneItem<'a>,
+    alloc: Global,
+    f: &mut F,
+) -> Result<(), AllocError>
+    requires callable { MayVisitTags item_tree F.FnMut f.old }
+    ensures visited { (cs : List SoughtCall) × Chain (IsTagCall item_tree F.FnMut) f.old cs f.new × VisitParts IsTag _ (standalone_tree item.old) cs (standalone_tree item.new) (ending result) }
+{
+    item.visit_tag(alloc, f)
+}
+
+/// `Sequence::visit_application_literals`.
+pub fn visit_application_literals<
+    'a,
+    F: FnMut(String, String, &mut Item<'a>) -> Result<(), CallbackError>,
+>(sequence: &mut Sequence<'a>, alloc: Global, f: &mut F) -> Result<(), AllocError>
+    requires callable { MayVisitLiterals item_tree F.FnMut f.old }
+    ensures visited { (cs : List SoughtCall) × Chain (IsLiteralCall item_tree F.FnMut) f.old cs f.new × VisitParts IsApplication _ (sequence_tree sequence.old) cs (sequence_tree sequence.new) (ending result) }
+{
+    sequence.visit_application_literals(alloc, f)
+}
