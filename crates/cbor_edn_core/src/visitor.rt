@@ -1,6 +1,6 @@
 //! Visits: callbacks at parts of items.
-ghost use Rattle.std.specs.Prelude.{◌≡◌, ◌≢◌, OnOk, OnErr, IfErr, Option, Result, List, None};
-ghost use Rattle.cbor_edn_core.specs.Callbacks.{answer_of, noted_answer, error_answer, ending};
+ghost use Rattle.std.specs.Prelude.{◌≡◌, ◌≢◌, OnOk, OnErr, Option, Result, List, None};
+ghost use Rattle.cbor_edn_core.specs.Callbacks.{answer_of, ending};
 ghost use Rattle.cbor_edn_core.specs.Sought.{IsTagCall, IsLiteralCall, MayVisitTags, MayVisitLiterals};
 ghost use Rattle.cbor_edn_core.specs.View.{item_tree, standalone_tree, sequence_tree};
 ghost use Rattle.cbor_edn_model.specs.Seeking.{SoughtCall, VisitParts, IsTag, IsApplication};

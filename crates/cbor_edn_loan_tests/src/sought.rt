@@ -6,12 +6,13 @@ use cbor_edn_parts::error::CallbackError;
 use std::alloc::Global;
 use std::test::Fail;
 
-/// What a callback does at an item: it answers a comment, or puts what a text says in its place.
+/// What a callback does at an item: it answers a comment, puts what a text says in its place, or puts what the tag holds there.
 #[derive(Clone, Copy)]
 enum Done {
     Nothing,
     Comment,
     Puts(u64, &'static str),
+    Unwraps,
 }
 
 fn put<'a>(item: &mut Item<'a>, alloc: Global, text: &'a str) -> Result<(), CallbackError> {
@@ -22,6 +23,18 @@ fn put<'a>(item: &mut Item<'a>, alloc: Global, text: &'a str) -> Result<(), Call
         return Ok(());
     };
     std::mem::swap(item, inner);
+    Ok(())
+}
+
+fn unwrap_tag(item: &mut Item<'_>) -> Result<(), CallbackError> {
+    let Ok(content) = item.get_tagged_mut() else {
+        return Ok(());
+    };
+    let Some(inner) = content.at_mut(&[]) else {
+        return Ok(());
+    };
+    let copy = inner.clone()?;
+    *item = copy;
     Ok(())
 }
 
@@ -44,6 +57,7 @@ fn act<'a>(
                 Ok(())
             }
         }
+        Done::Unwraps => unwrap_tag(item),
     }
 }
 
@@ -83,7 +97,7 @@ const TAGS: &[(&str, Done, &str)] = &[
         "1;2;{1(0)/ t / : 2(0)/ t /,}",
     ),
     ("simple(1(0))", Done::Comment, "simple(1(0))"),
-    ("<<1(0)>>", Done::Comment, "1;<<1(0)/ t />>"),
+    ("<<1(2)>>", Done::Comment, "1;<<1(2)/ t />>"),
     (
         "'a' + <<1(0), 2(0)>> + <<3(0)>>",
         Done::Nothing,
@@ -96,6 +110,7 @@ const TAGS: &[(&str, Done, &str)] = &[
     ),
     ("1(0)", Done::Puts(1, "1(<<1(0)>>)"), "1;1(<<1(0)>>)"),
     ("1([])", Done::Puts(1, "[1(0)]"), "1;1;[[1(0)]]"),
+    ("1(2(3(0)))", Done::Unwraps, "1;3;2(0)"),
 ];
 
 #[test]
@@ -107,50 +122,73 @@ fn tags_are_visited_in_order(rt: HostRuntime) -> Result<(), Fail> {
     Ok(())
 }
 
-/// The literals that a visit tells, and the text that it leaves.
-fn literals(alloc: Global, text: &str) -> Result<String, Fail> {
-    let mut sequence = sequence_of(alloc, text)?;
-    literals_of(&mut sequence, alloc)
+/// The call at a literal: it tells what it is given, and puts what a text says in its place, or answers a comment.
+fn at_literal<'a>(
+    words: (String, String),
+    item: &mut Item<'a>,
+    alloc: Global,
+    told: &mut String,
+    puts: Option<&'a str>,
+) -> Result<(), CallbackError> {
+    let (prefix, text) = words;
+    let word = format!(in alloc; "{prefix}:{text};")?;
+    told.push_str(word.as_str())?;
+    match puts {
+        Some(other) => put(item, alloc, other),
+        None => Err(CallbackError::Comment(String::from_str(alloc, "c")?)),
+    }
 }
 
-fn literals_of(sequence: &mut Sequence<'_>, alloc: Global) -> Result<String, Fail> {
+/// The literals that a visit tells, and the text that it leaves.
+fn literals(alloc: Global, text: &'static str, puts: Option<&'static str>) -> Result<String, Fail> {
+    let mut sequence = sequence_of(alloc, text)?;
+    literals_of(&mut sequence, alloc, puts)
+}
+
+fn literals_of(
+    sequence: &mut Sequence<'static>,
+    alloc: Global,
+    puts: Option<&'static str>,
+) -> Result<String, Fail> {
     let mut told = String::new(alloc);
     sequence.visit_application_literals(
         alloc,
-        &mut |prefix, text, _| {
-            told.push_str(prefix.as_str())?;
-            told.push(':')?;
-            told.push_str(text.as_str())?;
-            told.push(';')?;
-            Err(CallbackError::Comment(String::from_str(alloc, "c")?))
-        },
+        &mut |prefix, text, item| at_literal((prefix, text), item, alloc, &mut told, puts),
     )?;
     let text = sequence.serialize(alloc)?;
     told.push_str(text.as_str())?;
     Ok(told)
 }
 
-const LITERALS: &[(&str, &str)] = &[
-    ("h'00'", "h:00;h'00'/ c /"),
-    ("'a'", "'a'"),
+const LITERALS: &[(&str, Option<&str>, &str)] = &[
+    ("h'00'", None, "h:00;h'00'/ c /"),
+    ("'a'", None, "'a'"),
     (
         "[dt'1', \"a\", ip'2' ]",
+        None,
         "dt:1;ip:2;[dt'1'/ c /, \"a\", ip'2'/ c / ]",
     ),
-    ("(_ h'00')", "(_ h'00')"),
-    ("h'00' + h'01'", "h'00' + h'01'"),
-    ("<<h'00'>>", "h:00;<<h'00'/ c />>"),
+    ("(_ h'00')", None, "(_ h'00')"),
+    ("h'00' + h'01'", None, "h'00' + h'01'"),
+    ("<<h'00'>>", None, "h:00;<<h'00'/ c />>"),
     (
         "'a' + <<x'1', [y'2']>>",
+        None,
         "x:1;y:2;'a' + <<x'1'/ c /, [y'2'/ c /]>>",
+    ),
+    ("x'1'", Some("<<x'1'>>"), "x:1;<<x'1'>>"),
+    (
+        "[x'1', x'2']",
+        Some("[x'1', x'1']"),
+        "x:1;x:2;[[x'1', x'1'], [x'1', x'1']]",
     ),
 ];
 
 #[test]
 fn literals_are_visited_in_order(rt: HostRuntime) -> Result<(), Fail> {
     let alloc = rt.alloc();
-    for &(text, wanted) in LITERALS {
-        expect_row(alloc, text, literals(alloc, text)?.as_str(), wanted)?;
+    for &(text, puts, wanted) in LITERALS {
+        expect_row(alloc, text, literals(alloc, text, puts)?.as_str(), wanted)?;
     }
     Ok(())
 }

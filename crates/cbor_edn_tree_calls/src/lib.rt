@@ -152,7 +152,7 @@ pub fn visit_map_elements<
 }
 
 /// `StandaloneItem::visit_tag`.
-#[tactic(auto, using(crate::proofs::Again::may_visit_again))]
+#[tactic(auto, using(cbor_edn_core::proofs::code::Sought::tags_after))]
 pub fn visit_tag<'a, F: FnMut(u64, &mut Item<'a>) -> Result<(), CallbackError>>(
     item: &mut StandaloneItem<'a>,
     alloc: Global,

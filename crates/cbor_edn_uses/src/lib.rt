@@ -77,6 +77,11 @@ pub fn explained(
 pub fn replaced<'a>(sequence: &mut Sequence<'a>, path: &[usize], item: Item<'a>) -> Option<()>
     ensures { OnSome result (sequence_tree sequence.new ≡ with_at_sequence path.now (item_tree item.entry) (sequence_tree sequence.old)) }
 {
-    *sequence.at_mut(path)? = item;
-    Some(())
+    match sequence.at_mut(path) {
+        Some(place) => {
+            *place = item;
+            Some(())
+        }
+        None => None,
+    }
 }

@@ -1,19 +1,21 @@
--- Chains of calls at tags and at literals, and what a call leaves of its closure.
-use Rattle.std.proofs.Common.{ℕ, List, ◌∷◌, ◌≡◌, ◌≤◌, ◌<◌, ◌^◌, ◌-◌, Option, Some, None, arith}
+-- Chains of calls at tags and at literals, and what they leave of their closure.
+use Rattle.std.proofs.Common.{ℕ, List, ◌++◌, ◌≡◌, ◌≤◌, ◌<◌, ◌^◌, ◌-◌, Option, Some, None, arith}
 use Rattle.cbor_edn_model.specs.Accessed.{tag_number, IsApplicationItem}
 use Rattle.cbor_edn_model.specs.Seeking.{Told, IsTag, IsApplication, number, prefix_and_text}
 use Rattle.cbor_edn_model.specs.code.Widths.{capped}
 use Rattle.cbor_edn_model.specs.Seeking.{SoughtCall}
 use Rattle.cbor_edn_model.specs.Trees.{Tree, OneItem}
-use Rattle.cbor_edn_model.specs.Visits.{one_call}
+use Rattle.cbor_edn_model.specs.Visits.{Chain}
+use Rattle.cbor_edn_model.proofs.code.Visiting.{Chain-append}
 use Rattle.cbor_edn_core.specs.Sought.{TagCallback, LiteralCallback, IsTagCall, IsLiteralCall, MayVisitTags, MayVisitLiterals}
 
+-- what may be called may be called behind any calls
 module _ {T F : Type 0} (look : T → Tree OneItem) where
-  pub tags_after : (callback : TagCallback T F) {f g : F} {c : SoughtCall} → MayVisitTags look callback f → IsTagCall look callback f c g → MayVisitTags look callback g
-  tags_after callback m k = record { at = λ cs h j n x i l. m.at (_ ∷ cs) h (one_call k j) n x i l }
+  pub tags_after : (callback : TagCallback T F) {f g : F} {cs : List SoughtCall} → MayVisitTags look callback f → Chain (IsTagCall look callback) f cs g → MayVisitTags look callback g
+  tags_after callback m k = record { at = λ ds h j n x i l. m.at (_ ++ ds) h (Chain-append k j) n x i l }
 
-  pub literals_after : (callback : LiteralCallback T F) {f g : F} {c : SoughtCall} → MayVisitLiterals look callback f → IsLiteralCall look callback f c g → MayVisitLiterals look callback g
-  literals_after callback m k = record { at = λ cs h j p s x i. m.at (_ ∷ cs) h (one_call k j) p s x i }
+  pub literals_after : (callback : LiteralCallback T F) {f g : F} {cs : List SoughtCall} → MayVisitLiterals look callback f → Chain (IsLiteralCall look callback) f cs g → MayVisitLiterals look callback g
+  literals_after callback m k = record { at = λ ds h j p s x i. m.at (_ ++ ds) h (Chain-append k j) p s x i }
 
 some_none : {A : Type 0} {x : A} {o : Option A} → o ≡ Some x → o ≡ None → ⊥
 some_none h k = cc

@@ -1,5 +1,5 @@
 //! What the visits of tags and of application literals look for, and their calls.
-ghost use Rattle.std.specs.Prelude.{◌≡◌, ◌≢◌, OnOk, OnErr, List, Option, Some};
+ghost use Rattle.std.specs.Prelude.{◌≡◌, List, Option, Some};
 ghost use Rattle.std.specs.String.{string_bytes};
 ghost use Rattle.cbor_edn_model.specs.Accessed.{IsApplicationItem, tag_number};
 ghost use Rattle.cbor_edn_model.specs.Leaves.{Ghosts, texts};

@@ -4,7 +4,7 @@ ghost use Rattle.cbor_edn_model.specs.Seeking.{SoughtCall, VisitEntry, VisitPart
 ghost use Rattle.cbor_edn_model.specs.Visits.{Chain};
 ghost use Rattle.cbor_edn_model.specs.code.Reaching.{SoughtFront, SoughtPieces, VisitIf, VisitKey};
 ghost use Rattle.cbor_edn_core.specs.Callbacks.{ending};
-ghost use Rattle.cbor_edn_core.specs.View.{seen, seen_pair, seen_piece, seen_string, view_inner, view_item, view_items, view_list, view_pair, view_pair_list, view_pairs, view_piece, view_sequence, view_standalone, view_stream, view_string, view_strings};
+ghost use Rattle.cbor_edn_core.specs.View.{seen, seen_pair, seen_piece, seen_string, view_inner, view_item, view_items, view_list, view_pair, view_pair_list, view_pairs, view_piece, view_sequence, view_standalone, view_string, view_strings};
 
 use super::seek::Seek;
 use crate::tree::{

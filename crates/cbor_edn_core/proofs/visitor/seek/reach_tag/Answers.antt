@@ -1,5 +1,5 @@
 use Rattle.std.proofs.Common.{◌∙◌, ap}
-use Rattle.cbor_edn_model.specs.Visits.{answered}
+use Rattle.cbor_edn_model.specs.Visits.{answered, one_call, no_calls}
 use Rattle.cbor_edn_model.proofs.code.Reaching.{reached_not, reached_never, reached_err, reached_in, reached_out}
 use Rattle.cbor_edn_core.specs.View.{item_tree}
 use Rattle.cbor_edn_core.proofs.code.Sought.{tags_after, untold, counted_le, counted_lt}
@@ -12,14 +12,14 @@ pub returns-then-before-clause-reached : goal.returns-then-before-clause-reached
 returns-then-before-clause-reached g c = reached_never
 
 pub returns-in_err-put_answer-clause-callable_after : goal.returns-in_err-put_answer-clause-callable_after
-returns-in_err-put_answer-clause-callable_after g c = tags_after item_tree _ c.requires.callable c.call_tag-answer.ensures.called
+returns-in_err-put_answer-clause-callable_after g c = tags_after item_tree _ c.requires.callable (one_call c.call_tag-answer.ensures.called no_calls)
 
 pub returns-in_err-put_answer-clause-reached : goal.returns-in_err-put_answer-clause-reached
 returns-in_err-put_answer-clause-reached g c =
     reached_err (record { told = _; before = _; answer = _; after = _ }) c.from_residual.result c.from_residual.ensures.0 c.in-Ok.ensures.found c.call_tag-answer.ensures.called (λ z. c.in_err-put_answer.ensures.had_comment (c.noted.ensures ∙ z)) c.in_err-put_answer.ensures.refused
 
 pub returns-then-item_depth-before-clause-callable_after : goal.returns-then-item_depth-before-clause-callable_after
-returns-then-item_depth-before-clause-callable_after g c = tags_after item_tree _ c.requires.callable c.call_tag-answer.ensures.called
+returns-then-item_depth-before-clause-callable_after g c = tags_after item_tree _ c.requires.callable (one_call c.call_tag-answer.ensures.called no_calls)
 
 pub returns-then-item_depth-before-clause-reached : goal.returns-then-item_depth-before-clause-reached
 returns-then-item_depth-before-clause-reached g c =
@@ -27,7 +27,7 @@ returns-then-item_depth-before-clause-reached g c =
     (counted_le c.item_depth-before.ensures c.if-before.false c.item_depth.ensures c.if-item_depth-before.true)
 
 pub returns-else-item_depth-before-clause-callable_after : goal.returns-else-item_depth-before-clause-callable_after
-returns-else-item_depth-before-clause-callable_after g c = tags_after item_tree _ c.requires.callable c.call_tag-answer.ensures.called
+returns-else-item_depth-before-clause-callable_after g c = tags_after item_tree _ c.requires.callable (one_call c.call_tag-answer.ensures.called no_calls)
 
 pub returns-else-item_depth-before-clause-reached : goal.returns-else-item_depth-before-clause-reached
 returns-else-item_depth-before-clause-reached g c =
