@@ -2,7 +2,7 @@
 # All tests: where a text is read (a look at the sources), each proof, edit that must fail, test and program (`rt ci`),
 # beside it the calls of each crate *_memory with each of their allocations refused in turn, then the encodings of
 # another implementation, where it is installed, and the deepest nesting under small stacks. The last line is
-# 'N passed, M failed'.
+# 'N passed, M failed'. `ARCHITECTURE.md` ("Measuring") says how the proofs share the processors.
 set -euo pipefail
 
 cd "$(dirname "$(readlink -f "$0")")/.."
@@ -54,12 +54,32 @@ refuse_memory() {
   done
 }
 
+# Proves crates, the lowest first, in a tree that lists no others: so `rt ci` gives each proof all processors that it may have. The
+# whole `rt ci` then takes these proofs, which it knows by what they read, and proves what is not there by itself.
+prove_ahead() {
+  local tree=$1 crate
+  shift
+  mkdir -p "$tree/crates"
+  cp HANDLES "$tree"
+  for crate in "$@"; do
+    grep "^$crate:" crates.txt >> "$tree/crates.txt"
+    mkdir "$tree/crates/$crate"
+    cp -r "crates/$crate/"{src,specs,proofs} "$tree/crates/$crate"
+  done
+  (cd "$tree" && rt ci) 2>&1 | stamp > "$tree.log" || true
+}
+
 add scripts/check-reads.sh
 # Refused memory needs builds, and no proof: in a tree of its own it takes the time that proofs leave.
 mkdir "$beside/tree"
 tar -c --exclude=out --exclude=.git . | tar -x -C "$beside/tree"
 refuse_memory "$beside/tree" &
-add rt ci
+# Nearly all waits for the crate of trees, whose proof takes as long as half of the others together.
+prove_ahead "$beside/ahead" cbor_edn_parts cbor_edn_model cbor_edn_core &
+# it begins with a proof that `rt ci` would begin with too
+sleep 10
+# One check for each processor: by itself, rt holds checks back for memory that they do not need.
+RT_JOBS=$(nproc) add rt ci
 wait
 for crate in crates/*_memory; do
   add cat "$beside/$(basename "$crate")"

@@ -13,7 +13,7 @@ use Rattle.cbor_edn_model.specs.Items as kind
 use Rattle.cbor_edn_model.specs.Items.{Strings, Array, Map, Item, Pieces, Entries, Node, Number, Float, Listed, Tagged, Named, Simple, String, Stream, Literal, LastPiece, Element, Pair, Chunk, End, Then, Items, nesting}
 use Rattle.cbor_edn_model.specs.Trees.{Rule, Tree, OneItem, Seq, Standalone, StandaloneTree, items}
 use Rattle.cbor_edn_model.specs.Value as values
-use Rattle.cbor_edn_model.specs.Value.{Value, unsigned, negative, string, chunks, array, object, tag, simple, float, Values, no_values, value, values_len, Pairs, no_pairs, pair, pairs_len, Enc, EncAll}
+use Rattle.cbor_edn_model.specs.Value.{Value, unsigned, negative, string, chunks, array, cbor_map, tag, simple, float, Values, no_values, value, values_len, Pairs, no_pairs, pair, pairs_len, Enc, EncAll}
 use Rattle.cbor_edn_model.specs.Meaning.{means}
 use Rattle.cbor_edn_model.specs.Layout.{laid_out}
 
@@ -73,7 +73,7 @@ abbrev mutual
   item_of (string k w bs) = String (string_item k (w, bs))
   item_of (chunks k cs) = chunked_item k cs
   item_of (array w vs) = Listed Array (list_indicator w (values_len vs)) (items_of vs)
-  item_of (object w ps) = Listed Map (list_indicator w (pairs_len ps)) (pairs_of ps)
+  item_of (cbor_map w ps) = Listed Map (list_indicator w (pairs_len ps)) (pairs_of ps)
   item_of (tag w n v) = Tagged n (indicator_of w n) (item_of v)
   item_of (simple n) = simple_item n
   item_of (float w f) = Float f (float_indicator w)

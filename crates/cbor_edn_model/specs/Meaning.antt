@@ -16,7 +16,7 @@ use Rattle.cbor_edn_model.specs.declared.cbor.Width.{Width}
 use Rattle.cbor_edn_model.specs.declared.cbor.Width.TheVariants.{Immediate, One, Two, Four, Eight}
 use Rattle.cbor_edn_model.specs.Items.{Row, Elements, Pairs, Strings, Bracketed, Array, Map, entries_of, Sort, Item, Piece, Pieces, Entry, Entries, Node, Number, Float, Listed, Tagged, Named, Simple, String, Stream, Literal, Dots, Embedded, LastPiece, Plus, Element, Pair, Chunk, End, Then}
 use Rattle.cbor_edn_model.specs.Value as values
-use Rattle.cbor_edn_model.specs.Value.{Value, unsigned, negative, string, chunks, is_content, array, object, tag, simple, float, Values, no_values, value, values_len, no_pairs, pair, pairs_len, limit_of, encodings}
+use Rattle.cbor_edn_model.specs.Value.{Value, unsigned, negative, string, chunks, is_content, array, cbor_map, tag, simple, float, Values, no_values, value, values_len, no_pairs, pair, pairs_len, limit_of, encodings}
 
 infixl 10 ◌>>=◌
 abbrev pub ◌>>=◌ : {A B : Type 0} → Option A → (A → Option B) → Option B
@@ -193,7 +193,7 @@ row_len Strings cs = length cs
 -- an array or a map
 abbrev pub list_value : (k : Bracketed) → Option Width → RowOf (entries_of k) → Value
 list_value Array w vs = array w vs
-list_value Map w ps = object w ps
+list_value Map w ps = cbor_map w ps
 
 -- a list of entries with an indicator
 abbrev pub listed : (k : Bracketed) → Option Indicator → RowOf (entries_of k) → Option Value

@@ -14,7 +14,7 @@ mutual
     string : StringKind → List ℕ → Plain
     array : Plains → Plain
     -- a map
-    object : PlainPairs → Plain
+    cbor_map : PlainPairs → Plain
     tag : ℕ → Plain → Plain
     simple : ℕ → Plain
     float : NonFinite → Plain
@@ -40,7 +40,7 @@ abbrev mutual
   plain (values.string k w bs) = string k bs
   plain (values.chunks k cs) = string k (concatenated cs)
   plain (values.array w vs) = array (plain_values vs)
-  plain (values.object w ps) = object (plain_pairs ps)
+  plain (values.cbor_map w ps) = cbor_map (plain_pairs ps)
   plain (values.tag w n v) = tag n (plain v)
   plain (values.simple n) = simple n
   plain (values.float w f) = float f
@@ -65,7 +65,7 @@ abbrev mutual
   IsShort (values.string k w bs) = w ≡ shortest (length bs)
   IsShort (values.chunks k cs) = ChunksAreShort cs
   IsShort (values.array w vs) = (w ≡ Some (shortest (values_len vs))) × AreShort vs
-  IsShort (values.object w ps) = (w ≡ Some (shortest (pairs_len ps))) × PairsAreShort ps
+  IsShort (values.cbor_map w ps) = (w ≡ Some (shortest (pairs_len ps))) × PairsAreShort ps
   IsShort (values.tag w n v) = (w ≡ shortest n) × IsShort v
   IsShort (values.simple n) = Unit {0}
   IsShort (values.float w f) = w ≡ Two

@@ -26,7 +26,7 @@ mutual
     chunks : StringKind → List Chunk → Value
     array : Option Width → Values → Value
     -- a map: `map` is a function on lists
-    object : Option Width → Pairs → Value
+    cbor_map : Option Width → Pairs → Value
     tag : Width → ℕ → Value → Value
     -- a simple value (section 3.3): false is 20, true 21, null 22 and undefined 23
     simple : ℕ → Value
@@ -163,7 +163,7 @@ abbrev mutual
   encoding (string k w bs) = chunk_encoding k (w, bs)
   encoding (chunks k cs) = open_head (string_major k) ∷ chunk_encodings k cs ++ break ∷ []
   encoding (array w vs) = list_encoding 4 w (values_len vs) (encodings vs)
-  encoding (object w ps) = list_encoding 5 w (pairs_len ps) (pair_encodings ps)
+  encoding (cbor_map w ps) = list_encoding 5 w (pairs_len ps) (pair_encodings ps)
   encoding (tag w n v) = head 6 w n ++ encoding v
   encoding (simple n) = head 7 (simple_width n) n
   encoding (float w f) = head 7 w (float_bits w f)
@@ -184,7 +184,7 @@ abbrev mutual
   Fits (string k w bs) = ChunkFits k (w, bs)
   Fits (chunks k cs) = ChunksFit k cs
   Fits (array w vs) = LengthFits w (values_len vs) × ValuesFit vs
-  Fits (object w ps) = LengthFits w (pairs_len ps) × PairsFit ps
+  Fits (cbor_map w ps) = LengthFits w (pairs_len ps) × PairsFit ps
   Fits (tag w n v) = ArgumentFits w n × Fits v
   Fits (simple n) = IsSimple n
   Fits (float w f) = IsFloatWidth w

@@ -13,6 +13,7 @@ pub mod Places
 pub mod Reaching
 pub mod Reading
 pub mod Regular
+pub mod Results
 pub mod Same
 pub mod Unmarking
 pub mod Visiting

@@ -13,9 +13,10 @@ use Rattle.cbor_edn_model.specs.declared.from_cbor.CborError.{CborError}
 use Rattle.cbor_edn_model.specs.declared.from_cbor.CborError.TheVariants.{TooDeep}
 use Rattle.cbor_edn_model.specs.declared.from_cbor.head.Stop.{Stop}
 use Rattle.cbor_edn_model.specs.declared.from_cbor.head.Stop.TheVariants.{Break}
-use Rattle.cbor_edn_model.specs.Value.{Value, unsigned, negative, string, chunks, array, object, tag, head, open_head, string_major, is_content, chunk_encoding, ChunkFits, encoding}
+use Rattle.cbor_edn_model.specs.Value.{Value, unsigned, negative, string, chunks, array, cbor_map, tag, head, open_head, string_major, is_content, chunk_encoding, ChunkFits, encoding}
 use Rattle.cbor_edn_model.specs.Decoded.{high_bytes}
-use Rattle.cbor_edn_model.specs.code.CborReading.{◌>>=◌, DecoderResult, Decoder, shown, head_at, head_by, argument_at, many, until, several, past, turn, string_at, chunk_at, chunk_by, string_by, pair_at, item_by, item_at, array_by, map_by, number_by, tag_by, simple_by, float_by, special_by, float_of}
+use Rattle.cbor_edn_model.specs.code.Results.{◌>>=◌}
+use Rattle.cbor_edn_model.specs.code.CborReading.{DecoderResult, Decoder, shown, head_at, head_by, argument_at, many, until, several, past, turn, string_at, chunk_at, chunk_by, string_by, pair_at, item_by, item_at, array_by, map_by, number_by, tag_by, simple_by, float_by, special_by, float_of}
 use Rattle.cbor_edn_model.proofs.bytes.CborHeads.{IsBytes, chosen, Takes, HeadIs, head_takes}
 use Rattle.cbor_edn_model.proofs.bytes.CborSpecials.{last_major}
 use Rattle.cbor_edn_core.proofs.code.CborTurns.{shown_err}
@@ -167,7 +168,7 @@ array_deep limit (Some one) argument bytes rest inner h e =
 map_deep : (limit : ℕ) (i : Option (Decoder Value)) (argument : Option (Width × ℕ)) (bytes rest : List ℕ) → InnerDeep limit i → HeadIs bytes 5 argument rest → map_by makes i argument rest ≡ Err TooDeep → limit < high_bytes bytes
 map_deep limit None argument bytes rest inner h e = past_head limit 5 argument bytes rest (omega arith) h (omega arith)
 map_deep limit (Some one) argument bytes rest inner h e =
-    elim (bind_err (several (pair_at makes one) argument rest) (λ xs. Ok (object (argument_width argument) (pairs_of xs.0), xs.1)) TooDeep e) [
+    elim (bind_err (several (pair_at makes one) argument rest) (λ xs. Ok (cbor_map (argument_width argument) (pairs_of xs.0), xs.1)) TooDeep e) [
       | inl a ↦ past_head limit 5 argument bytes rest (omega arith) h
           (omega (arith, inner.1, several_deep (BothWithin inner.0) pair_encoding (pair_at makes one) inner.0 (pair_takes inner.0 one inner.2) (pair_deep inner.0 one inner.2 inner.3) argument rest (head_rest 5 argument bytes rest h) a))
       | inr a ↦ absurd (not_given _ TooDeep a.2)

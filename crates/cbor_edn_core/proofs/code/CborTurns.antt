@@ -5,7 +5,8 @@ use Rattle.cbor_edn_model.specs.declared.from_cbor.CborError.{CborError}
 use Rattle.cbor_edn_model.specs.declared.from_cbor.head.Stop.{Stop}
 use Rattle.cbor_edn_parts.specs.declared.error.Fault.{Fault}
 use Rattle.cbor_edn_parts.specs.declared.error.Fault.TheVariants.{Memory, Told}
-use Rattle.cbor_edn_model.specs.code.CborReading.{DecoderResult, Decoder, ◌>>=◌, shown, DecoderFails, many, until, past, turn, head_at, item_at, Makes}
+use Rattle.cbor_edn_model.specs.code.Results.{◌>>=◌}
+use Rattle.cbor_edn_model.specs.code.CborReading.{DecoderResult, Decoder, shown, DecoderFails, many, until, past, turn, head_at, item_at, Makes}
 
 -- ---- what is seen by a function
 

@@ -20,7 +20,8 @@ use Rattle.cbor_edn_model.specs.declared.word.NonFinite.{NonFinite}
 use Rattle.cbor_edn_model.specs.declared.word.Word.{Word}
 use Rattle.cbor_edn_model.specs.declared.word.Word.TheVariants as word
 use Rattle.cbor_edn_model.specs.Trees.{OneItem, Standalone, Tree, NumberTree, FloatTree, NamedTree, EnclosedTree}
-use Rattle.cbor_edn_model.specs.code.Reading.{◌>>=◌, token, byte, or_invalid, starts_with, word_at, tag_number, enclosed_item, tag_item, number_end, number_item, word_item, plain_item, item, reads}
+use Rattle.cbor_edn_model.specs.code.Results.{◌>>=◌}
+use Rattle.cbor_edn_model.specs.code.Reading.{token, byte, or_invalid, starts_with, word_at, tag_number, enclosed_item, tag_item, number_end, number_item, word_item, plain_item, item, reads}
 use Rattle.cbor_edn_core.specs.code.ParserResults.{Fails}
 use Rattle.cbor_edn_model.specs.code.Places.{IsNotAt}
 use Rattle.cbor_edn_parts.proofs.Tokens.{munch-took}

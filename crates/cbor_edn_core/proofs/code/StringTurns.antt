@@ -14,7 +14,8 @@ use Rattle.cbor_edn_parts.specs.code.SpaceTokens.{space}
 use Rattle.cbor_edn_parts.specs.code.LiteralTokens.{literal, dots}
 use Rattle.cbor_edn_model.specs.Items.{Strings}
 use Rattle.cbor_edn_model.specs.Trees.{OnePiece, OneString, OneEntry, Rest, Seq, Tree, StreamTree, LiteralTree, DotsTree, EmbeddedTree, LastPieceTree, PlusTree, ChunkTree, joins}
-use Rattle.cbor_edn_model.specs.code.Reading.{◌>>=◌, Read, token, byte, not_empty, stream_item, literal_piece, dots_piece, embedded_piece, piece, plus_string, string, entry, reads}
+use Rattle.cbor_edn_model.specs.code.Results.{◌>>=◌}
+use Rattle.cbor_edn_model.specs.code.Reading.{Read, token, byte, not_empty, stream_item, literal_piece, dots_piece, embedded_piece, piece, plus_string, string, entry, reads}
 use Rattle.cbor_edn_core.specs.code.ParserResults.{Fails, IsUnclosed}
 use Rattle.cbor_edn_model.specs.code.Places.{IsNotAt}
 use Rattle.cbor_edn_model.specs.Rows.{pieces_onto}
@@ -94,7 +95,7 @@ unfolding munch
 no_literal = refl
 
 piece_literal_at : (limit : ℕ) (xs : List ℕ) → IsNotAt 60 xs → IsNotAt 46 xs → reads limit OnePiece xs ≡ literal_piece reads xs
-unfolding piece literal_piece ◌>>=◌
+unfolding piece literal_piece
 piece_literal_at limit [] n m = reads-rule limit OnePiece [] ∙ rw no_literal refl
 piece_literal_at limit (c ∷ xs) n m = reads-rule limit OnePiece (c ∷ xs) ∙ rw (ne_eqb c 60 n, ne_eqb c 46 m) refl
 
@@ -169,7 +170,6 @@ pieces_push [] p w = refl
 pieces_push (q ∷ ps) p w = ap (PlusTree q.0 q.1 q.2) (pieces_push ps p w)
 
 with_push : (ps : List (Tree OnePiece × List ℕ × List ℕ)) (p : Tree OnePiece × List ℕ × List ℕ) (r : Read (Tree OneString)) → with_pieces ps (r >>= λ w. Ok (PlusTree p.0 p.1 p.2 w.0, w.1)) ≡ with_pieces (ps ++ p ∷ []) r
-unfolding ◌>>=◌
 with_push ps p (Ok w) = ap (λ (t : Tree OneString). Ok (t, w.1)) (pieces_push ps p w.0)
 with_push ps p (Err e) = refl
 

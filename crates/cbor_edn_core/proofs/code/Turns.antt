@@ -18,7 +18,8 @@ use Rattle.cbor_edn_parts.specs.code.NumberTokens.{number}
 use Rattle.cbor_edn_model.specs.Items.{Row, Elements, Pairs, Bracketed, Array, Map, entries_of}
 use Rattle.cbor_edn_model.specs.Spelling.{opening, ending}
 use Rattle.cbor_edn_model.specs.Trees.{Rule, OneItem, OneString, OneEntry, Inside, Rest, Seq, Standalone, ListHead, Tree, ListTree, StringTree, ElementTree, PairTree, EmptyTree, FullTree, LastTree, MoreTree, NothingTree, SequenceTree, StandaloneTree}
-use Rattle.cbor_edn_model.specs.code.Reading.{◌>>=◌, Read, token, byte, not_empty, number_item, list_item, string_item, stream_item, starts_string, word_at, plain_item, item, entry, list_head_of, inside, inside_full, more, rest, sequence, standalone, reads, reads_all, at_end}
+use Rattle.cbor_edn_model.specs.code.Results.{◌>>=◌}
+use Rattle.cbor_edn_model.specs.code.Reading.{Read, token, byte, not_empty, number_item, list_item, string_item, stream_item, starts_string, word_at, plain_item, item, entry, list_head_of, inside, inside_full, more, rest, sequence, standalone, reads, reads_all, at_end}
 use Rattle.cbor_edn_core.specs.code.ParserResults.{Fails, ReadsEnd, behind_colon, with_separator}
 use Rattle.cbor_edn_model.specs.code.Places.{IsNotAt}
 use Rattle.cbor_edn_parts.specs.Refusals.{IfTold}
@@ -28,12 +29,10 @@ use Rattle.cbor_edn_parts.proofs.Tokens.{munch-took}
 use Rattle.cbor_edn_model.proofs.text.Steps.{reads-rule}
 
 pub bind_fails : {A B : Type 0} (e : Fault Refusal) (r : Result A ParseErrorKind) (f : A → Result B ParseErrorKind) → Fails e r → Fails e (r >>= f)
-unfolding ◌>>=◌
 bind_fails (Memory m) r f h = tt
 bind_fails (Told x) r f h = rw h
 
 pub bind_ok : {A B : Type 0} (r : Result A ParseErrorKind) (x : A) (f : A → Result B ParseErrorKind) → r ≡ Ok x → (r >>= f) ≡ f x
-unfolding ◌>>=◌
 bind_ok r x f h = rw h
 
 pub fails_at : {A : Type 0} (e : Fault Refusal) (r s : Result A ParseErrorKind) → s ≡ r → Fails e r → Fails e s
@@ -94,7 +93,7 @@ no_number = refl
 
 -- where nothing else begins
 pub number_at : (limit : ℕ) (xs : List ℕ) → IsNotAt 91 xs → IsNotAt 123 xs → IsNotAt 40 xs → word_at xs ≡ None → starts_string xs ≡ false → reads limit OneItem xs ≡ number_item reads limit xs
-unfolding item number_item ◌>>=◌
+unfolding item number_item
 number_at limit [] a m s w n = reads-rule limit OneItem [] ∙ rw no_number refl
 number_at limit (c ∷ xs) a m s w n = reads-rule limit OneItem (c ∷ xs) ∙ number_next limit c xs a m s w n
 
@@ -249,12 +248,10 @@ abbrev Behind : (limit : ℕ) (k : Row) → (Tree (OneEntry k) × List ℕ) × L
 Behind limit k p = cond (is_closed p.1) (Ok (LastTree p.0.0 p.0.1, p.1)) (more reads limit k p.0.0 p.0.1 p.1)
 
 bind_once : {B C D : Type 0} (r : Result B ParseErrorKind) (g : B → C) (h : C → Result D ParseErrorKind) → (r >>= λ b. h (g b)) ≡ ((r >>= λ b. Ok (g b)) >>= h)
-unfolding ◌>>=◌
 bind_once (Err e) g h = refl
 bind_once (Ok b) g h = refl
 
 bind_twice : {A B C D : Type 0} (r : Result A ParseErrorKind) (f : A → Result B ParseErrorKind) (g : A → B → C) (h : C → Result D ParseErrorKind) → (r >>= λ a. f a >>= λ b. h (g a b)) ≡ ((r >>= λ a. f a >>= λ b. Ok (g a b)) >>= h)
-unfolding ◌>>=◌
 bind_twice (Err e) f g h = refl
 bind_twice (Ok a) f g h = bind_once (f a) (g a) h
 
@@ -275,7 +272,7 @@ rest_open : (limit : ℕ) (k : Row) (xs s q : List ℕ) (w : Tree (OneEntry k)) 
 rest_open limit k xs s q w h c = rest_behind limit k xs s q w h ∙ rw c refl
 
 rest_unparted : (limit : ℕ) (k : Row) (xs s q : List ℕ) (w : Tree (OneEntry k)) → with_separator limit k xs ≡ Ok ((w, s), q) → s ≡ [] → is_closed q ≡ false → reads limit (Rest k) xs ≡ Err Invalid
-unfolding more not_empty ◌>>=◌
+unfolding more not_empty
 rest_unparted limit k xs s q w h none c = rest_open limit k xs s q w h c ∙ rw none refl
 
 more_of : (limit : ℕ) (k : Row) (e : Tree (OneEntry k)) (s q : List ℕ) → s ≢ [] → more reads limit k e s q ≡ (reads limit (Rest k) q >>= λ m. Ok (MoreTree e s m.0, m.1))
@@ -297,7 +294,6 @@ row_push [] p m = refl
 row_push (q ∷ ps) p m = ap (MoreTree q.0 q.1) (row_push ps p m)
 
 with_push : {k : Row} (ps : List (Tree (OneEntry k) × List ℕ)) (p : Tree (OneEntry k) × List ℕ) (r : Read (Tree (Rest k))) → with_row ps (r >>= λ m. Ok (MoreTree p.0 p.1 m.0, m.1)) ≡ with_row (ps ++ p ∷ []) r
-unfolding ◌>>=◌
 with_push {k} ps p (Ok m) = ap (λ (t : Tree (Rest k)). Ok (t, m.1)) (row_push ps p m.0)
 with_push ps p (Err e) = refl
 

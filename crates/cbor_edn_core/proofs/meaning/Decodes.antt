@@ -26,7 +26,8 @@ use Rattle.cbor_edn_model.specs.Meaning.{means}
 use Rattle.cbor_edn_parts.specs.Refusals.{IfTold}
 use Rattle.cbor_edn_model.specs.Decoded.{item_of, items_of, BeginsWith, IsDecoded, IsDecodedSequence, NoneIs, IsTooDeepEncoding, NoSequence, IsTooDeepSequence}
 use Rattle.cbor_edn_model.specs.code.Regular.{regular, sequence_tree_of, regular_sequence}
-use Rattle.cbor_edn_model.specs.code.CborReading.{◌>>=◌, Decoder, DecoderGives, DecoderFails, shown, item_at, until, past, turn, trees, element_row, sequence_at}
+use Rattle.cbor_edn_model.specs.code.Results.{◌>>=◌}
+use Rattle.cbor_edn_model.specs.code.CborReading.{Decoder, DecoderGives, DecoderFails, shown, item_at, until, past, turn, trees, element_row, sequence_at}
 use Rattle.cbor_edn_model.proofs.bytes.Nestings.{value_nesting, values_nesting, item_nests, items_nest}
 use Rattle.cbor_edn_model.proofs.bytes.CborHeads.{IsBytes, bind_ok}
 use Rattle.cbor_edn_core.proofs.code.CborTurns.{shown_ok, shown_err}

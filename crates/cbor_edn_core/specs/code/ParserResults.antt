@@ -23,12 +23,12 @@ use Rattle.cbor_edn_parts.specs.declared.string.Literal.{Literal}
 use Rattle.cbor_edn_parts.specs.declared.string.Dots.{Dots}
 use Rattle.cbor_edn_model.specs.code.LookCosts.{separator_extra}
 use Rattle.cbor_edn_model.specs.code.Places.{IsNotAt, ahead}
-use Rattle.cbor_edn_model.specs.code.Reading.{◌>>=◌, Read, token, reads}
+use Rattle.cbor_edn_model.specs.code.Results.{◌>>=◌, FailsBy, GivesBy}
+use Rattle.cbor_edn_model.specs.code.Reading.{Read, token, reads}
 
 -- The refusal is the reader's, unless memory ran out.
 abbrev pub Fails : {Y : Type 0} → Fault Refusal → Result Y ParseErrorKind → Type 0
-Fails (Memory e) read = Unit {0}
-Fails (Told r) read = read ≡ Err r.kind
+Fails = FailsBy (λ r. r.kind)
 
 -- A value, seen by `view`, and the place behind it are what the reader gives.
 abbrev pub Reads : {X Y : Type 0} → (X → Y) → List ℕ → Result (X × ℕ) (Fault Refusal) → Read Y → Type 0
@@ -37,8 +37,7 @@ Reads view text (Err e) read = Fails e read
 
 -- The same of a value with nothing behind it.
 abbrev pub Gives : {X Y : Type 0} → (X → Y) → Result X (Fault Refusal) → Result Y ParseErrorKind → Type 0
-Gives view (Ok x) read = read ≡ Ok (view x)
-Gives view (Err e) read = Fails e read
+Gives = GivesBy (λ r. r.kind)
 
 -- A refusal names a place where a character begins.
 abbrev pub IsPlaced : List ℕ → Fault Refusal → Type 0

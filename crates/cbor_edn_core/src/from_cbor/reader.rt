@@ -84,7 +84,7 @@ fn map_item<'a>(
     argument: Argument,
     found: RowBuilder<'a, Kp<'a>>,
 ) -> Result<Item<'a>, AllocError>
-    ensures { IfOk result (λ t. item_tree t ≡ trees.object argument (map (view_pair texts) (grown found.entry))) }
+    ensures { IfOk result (λ t. item_tree t ≡ trees.cbor_map argument (map (view_pair texts) (grown found.entry))) }
 {
     Item::map(alloc, entries(argument, finish_pairs(found)))
 }

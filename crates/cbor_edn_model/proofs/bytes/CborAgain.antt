@@ -11,8 +11,9 @@ use Rattle.cbor_edn_model.specs.declared.word.NonFinite.{NonFinite}
 use Rattle.cbor_edn_model.specs.declared.from_cbor.CborError.TheVariants.{TooDeep}
 use Rattle.cbor_edn_model.specs.declared.from_cbor.head.Stop.{Stop}
 use Rattle.cbor_edn_model.specs.declared.from_cbor.head.Stop.TheVariants.{Break}
-use Rattle.cbor_edn_model.specs.Value.{Value, unsigned, negative, string, chunks, array, object, tag, simple, float, Values, no_values, value, Pairs, no_pairs, pair, Chunk, head, ArgumentFits, LengthFits, open_head, break, list_encoding, string_major, chunk_encoding, chunk_encodings, ChunkFits, ChunksFit, encoding, encodings, pair_encodings, values_len, pairs_len, Fits, ValuesFit, PairsFit, float_bits, simple_width, IsSimple, IsFloatWidth}
-use Rattle.cbor_edn_model.specs.code.CborReading.{◌>>=◌, DecoderResult, Decoder, Head, head_at, many, until, several, past, pair_at, string_by, simple_by, float_by, special_by, item_by, item_at, inner, Makes, simple_nesting}
+use Rattle.cbor_edn_model.specs.Value.{Value, unsigned, negative, string, chunks, array, cbor_map, tag, simple, float, Values, no_values, value, Pairs, no_pairs, pair, Chunk, head, ArgumentFits, LengthFits, open_head, break, list_encoding, string_major, chunk_encoding, chunk_encodings, ChunkFits, ChunksFit, encoding, encodings, pair_encodings, values_len, pairs_len, Fits, ValuesFit, PairsFit, float_bits, simple_width, IsSimple, IsFloatWidth}
+use Rattle.cbor_edn_model.specs.code.Results.{◌>>=◌}
+use Rattle.cbor_edn_model.specs.code.CborReading.{DecoderResult, Decoder, Head, head_at, many, until, several, past, pair_at, string_by, simple_by, float_by, special_by, item_by, item_at, inner, Makes, simple_nesting}
 use Rattle.cbor_edn_model.proofs.bytes.Nestings.{value_nesting, values_nesting, pairs_nesting}
 use Rattle.cbor_edn_model.proofs.bytes.CborHeads.{head_again, open_again}
 use Rattle.cbor_edn_model.proofs.bytes.CborSpecials.{one_byte, two_bytes, simple_fits, simple_shallow, float_fits, float_again}
@@ -84,7 +85,7 @@ arrays = record { opened = λ d argument rest. refl; closed = λ argument rest. 
 abbrev pair_reader : ℕ → Decoder (Value × Value)
 pair_reader d = pair_at makes (value_at d)
 
-objects : Lists (Value × Value) 5 pair_reader (λ w ps. object w (pairs_of ps))
+objects : Lists (Value × Value) 5 pair_reader (λ w ps. cbor_map w (pairs_of ps))
 unfolding item_by
 objects = record { opened = λ d argument rest. refl; closed = λ argument rest. refl }
 
@@ -109,11 +110,11 @@ array_again limit w vs rest fits counted ended =
     ∙ ap (λ us. decoder_outcome (values_nesting vs + 1) limit (array w us, rest)) (values_of_list vs)
 
 object_again : (limit : ℕ) (w : Option Width) (ps : Pairs) (rest : List ℕ) → LengthFits w (pairs_len ps) → ManyPairsAgain ps → UntilPairsAgain ps
-    → value_at limit (list_encoding 5 w (pairs_len ps) (pair_encodings ps) ++ rest) ≡ decoder_outcome (pairs_nesting ps + 1) limit (object w ps, rest)
+    → value_at limit (list_encoding 5 w (pairs_len ps) (pair_encodings ps) ++ rest) ≡ decoder_outcome (pairs_nesting ps + 1) limit (cbor_map w ps, rest)
 object_again limit w ps rest fits counted ended =
-    list_again pair_reader (λ w ps. object w (pairs_of ps)) 5 objects w (pairs_len ps) (pairs_nesting ps) (pair_encodings ps) (pair_list_of ps) limit rest
+    list_again pair_reader (λ w ps. cbor_map w (pairs_of ps)) 5 objects w (pairs_len ps) (pairs_nesting ps) (pair_encodings ps) (pair_list_of ps) limit rest
     (record { counted = counted; ended = ended; long = pairs_many ps }) fits
-    ∙ ap (λ us. decoder_outcome (pairs_nesting ps + 1) limit (object w us, rest)) (pairs_of_list ps)
+    ∙ ap (λ us. decoder_outcome (pairs_nesting ps + 1) limit (cbor_map w us, rest)) (pairs_of_list ps)
 
 leaf : (limit : ℕ) (v : Value) (rest : List ℕ) (r : DecoderResult Value) → r ≡ Ok (v, rest) → r ≡ decoder_outcome 0 limit (v, rest)
 leaf limit v rest r e = e ∙ sym (none limit (v, rest))
@@ -206,7 +207,7 @@ mutual
   item_again (string k w bs) limit rest fits = leaf limit (string k w bs) rest _ (text_again limit k w bs rest fits)
   item_again (chunks k cs) limit rest fits = leaf limit (chunks k cs) rest _ (all_chunks_again limit k cs rest fits)
   item_again (array w vs) limit rest fits = array_again limit w vs rest fits.0 (values_again vs fits.1) (values_until vs fits.1)
-  item_again (object w ps) limit rest fits = object_again limit w ps rest fits.0 (pairs_again ps fits.1) (pairs_until ps fits.1)
+  item_again (cbor_map w ps) limit rest fits = object_again limit w ps rest fits.0 (pairs_again ps fits.1) (pairs_until ps fits.1)
   item_again (tag w n v) limit rest fits = tag_again limit w n v rest fits.0 (λ d. item_again v d rest fits.1)
   item_again (simple n) limit rest fits = simple_again limit n rest fits
   item_again (float w f) limit rest fits = leaf limit (float w f) rest _ (float_item_again limit w f rest fits)

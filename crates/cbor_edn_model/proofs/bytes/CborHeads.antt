@@ -10,7 +10,8 @@ use Rattle.cbor_edn_model.specs.declared.cbor.Width.TheVariants.{Immediate, One,
 use Rattle.cbor_edn_model.specs.declared.from_cbor.CborError.{CborError}
 use Rattle.cbor_edn_model.specs.declared.from_cbor.CborError.TheVariants.{MissingArgument}
 use Rattle.cbor_edn_model.specs.Value.{head, ArgumentFits, limit_of, open_head}
-use Rattle.cbor_edn_model.specs.code.CborReading.{◌>>=◌, Head, head_at, head_by, argument_at}
+use Rattle.cbor_edn_model.specs.code.Results.{◌>>=◌}
+use Rattle.cbor_edn_model.specs.code.CborReading.{Head, head_at, head_by, argument_at}
 
 abbrev pub IsBytes : List ℕ → Type 0
 IsBytes bytes = (i : ℕ) → get_or bytes i 0 < 256

@@ -10,8 +10,9 @@ use Rattle.cbor_edn_model.specs.declared.from_cbor.CborError.{CborError}
 use Rattle.cbor_edn_model.specs.declared.from_cbor.CborError.TheVariants.{TooDeep}
 use Rattle.cbor_edn_model.specs.declared.from_cbor.head.Stop.{Stop}
 use Rattle.cbor_edn_model.specs.declared.from_cbor.head.Stop.TheVariants.{Break, EndOfData}
-use Rattle.cbor_edn_model.specs.Value.{Value, unsigned, negative, string, chunks, array, object, tag, simple, float, Values, no_values, value, Pairs, no_pairs, pair, Chunk, head, ArgumentFits, LengthFits, float_bits, simple_width, open_head, break, list_encoding, string_major, is_content, chunk_encoding, chunk_encodings, ChunkFits, ChunksFit, encoding, encodings, pair_encodings, values_len, pairs_len, Fits}
-use Rattle.cbor_edn_model.specs.code.CborReading.{◌>>=◌, Decoder, many, until, past, string_at, chunk_at}
+use Rattle.cbor_edn_model.specs.Value.{Value, unsigned, negative, string, chunks, array, cbor_map, tag, simple, float, Values, no_values, value, Pairs, no_pairs, pair, Chunk, head, ArgumentFits, LengthFits, float_bits, simple_width, open_head, break, list_encoding, string_major, is_content, chunk_encoding, chunk_encodings, ChunkFits, ChunksFit, encoding, encodings, pair_encodings, values_len, pairs_len, Fits}
+use Rattle.cbor_edn_model.specs.code.Results.{◌>>=◌}
+use Rattle.cbor_edn_model.specs.code.CborReading.{Decoder, many, until, past, string_at, chunk_at}
 use Rattle.cbor_edn_model.proofs.bytes.CborHeads.{head_again}
 use Rattle.cbor_edn_model.proofs.bytes.CborSpecials.{simple_fits, float_fits}
 
@@ -161,7 +162,7 @@ break_going (negative w n) rest fits = head_going 1 w n rest (omega arith) fits
 break_going (string k w bs) rest fits = chunk_going k (w, bs) rest fits.0
 break_going (chunks k cs) rest fits = open_going (string_major k) ((chunk_encodings k cs ++ break ∷ []) ++ rest) (string_small k)
 break_going (array w vs) rest fits = list_going 4 w (values_len vs) (encodings vs) rest (omega arith) fits.0
-break_going (object w ps) rest fits = list_going 5 w (pairs_len ps) (pair_encodings ps) rest (omega arith) fits.0
+break_going (cbor_map w ps) rest fits = list_going 5 w (pairs_len ps) (pair_encodings ps) rest (omega arith) fits.0
 break_going (tag w n v) rest fits = ap (past Break) (append_assoc (head 6 w n) (encoding v) rest) ∙ head_going 6 w n (encoding v ++ rest) (omega arith) fits.0
 break_going (simple n) rest fits = head_going 7 (simple_width n) n rest (omega arith) (simple_fits n fits)
 break_going (float w f) rest fits = head_going 7 w (float_bits w f) rest (omega arith) (float_fits w f fits)
@@ -176,7 +177,7 @@ encoding_some (negative w n) = head_some 1 w n
 encoding_some (string k w bs) = chunk_some k (w, bs)
 encoding_some (chunks k cs) = omega arith
 encoding_some (array w vs) = list_some 4 w (values_len vs) (encodings vs)
-encoding_some (object w ps) = list_some 5 w (pairs_len ps) (pair_encodings ps)
+encoding_some (cbor_map w ps) = list_some 5 w (pairs_len ps) (pair_encodings ps)
 encoding_some (tag w n v) = omega (arith, length-append (head 6 w n) (encoding v), head_some 6 w n)
 encoding_some (simple n) = head_some 7 (simple_width n) n
 encoding_some (float w f) = head_some 7 w (float_bits w f)

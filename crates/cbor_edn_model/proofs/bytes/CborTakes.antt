@@ -11,8 +11,9 @@ use Rattle.cbor_edn_model.specs.declared.cbor.Width.TheVariants.{Immediate, One,
 use Rattle.cbor_edn_model.specs.declared.word.NonFinite.{NonFinite}
 use Rattle.cbor_edn_model.specs.declared.from_cbor.head.Stop.{Stop}
 use Rattle.cbor_edn_model.specs.declared.from_cbor.head.Stop.TheVariants.{Break, EndOfData}
-use Rattle.cbor_edn_model.specs.Value.{Value, Chunk, unsigned, negative, string, chunks, array, object, tag, simple, float, head, ArgumentFits, LengthFits, open_head, list_encoding, string_major, chunk_encoding, chunk_encodings, is_content, AreBytes, ChunkFits, ChunksFit, encoding, encodings, pair_encodings, values_len, pairs_len, Fits, ValuesFit, PairsFit, simple_width, IsSimple, IsFloatWidth}
-use Rattle.cbor_edn_model.specs.code.CborReading.{◌>>=◌, Decoder, head_at, many, until, several, past, turn, string_at, chunk_at, chunk_by, string_by, pair_at, item_by, item_at, array_by, map_by, number_by, tag_by, simple_by, float_by, special_by, float_of, simple_nesting}
+use Rattle.cbor_edn_model.specs.Value.{Value, Chunk, unsigned, negative, string, chunks, array, cbor_map, tag, simple, float, head, ArgumentFits, LengthFits, open_head, list_encoding, string_major, chunk_encoding, chunk_encodings, is_content, AreBytes, ChunkFits, ChunksFit, encoding, encodings, pair_encodings, values_len, pairs_len, Fits, ValuesFit, PairsFit, simple_width, IsSimple, IsFloatWidth}
+use Rattle.cbor_edn_model.specs.code.Results.{◌>>=◌}
+use Rattle.cbor_edn_model.specs.code.CborReading.{Decoder, head_at, many, until, several, past, turn, string_at, chunk_at, chunk_by, string_by, pair_at, item_by, item_at, array_by, map_by, number_by, tag_by, simple_by, float_by, special_by, float_of, simple_nesting}
 use Rattle.cbor_edn_model.proofs.bytes.Nestings.{value_nesting, values_nesting, pairs_nesting}
 use Rattle.cbor_edn_model.proofs.bytes.CborHeads.{IsBytes, IsBytes-rest, IsBytes-take, IsBytes-drop, bind_ok, ok_is, chosen, Takes, Takes-then, HeadIs, head_takes}
 use Rattle.cbor_edn_model.proofs.bytes.CborValues.{values_of, pairs_of, argument_width, makes, value_at, in_front_of}
@@ -205,7 +206,7 @@ array_made d vs w all fits =
     let are = values_are d vs all in
     (((fits_len w _ _ are.len fits, are.fit), omega (arith, are.nested)), ap (λ k. list_encoding 4 w k (encodings (values_of vs))) are.len ∙ ap (λ l. list_encoding 4 w (length vs) l) (sym are.spelled))
 
-object_made : (d : ℕ) → Made (BothWithin d) pair_encoding (λ w ps. object w (pairs_of ps)) 5 d
+object_made : (d : ℕ) → Made (BothWithin d) pair_encoding (λ w ps. cbor_map w (pairs_of ps)) 5 d
 object_made d ps w all fits =
     let are = pairs_are d ps all in
     (((fits_len w _ _ are.len fits, are.fit), omega (arith, are.nested)), ap (λ k. list_encoding 5 w k (pair_encodings (pairs_of ps))) are.len ∙ ap (λ l. list_encoding 5 w (length ps) l) (sym are.spelled))
@@ -227,9 +228,9 @@ map_takes : (limit : ℕ) (i : Option (Decoder Value)) (argument : Option (Width
 map_takes limit None argument bytes rest x sound h e = absurd cc
 map_takes limit (Some one) argument bytes rest x sound h e =
     let d = sound.0 in
-    let b = bind_ok (several (pair_at makes one) argument rest) (λ xs. Ok (object (argument_width argument) (pairs_of xs.0), xs.1)) x e in
-    subst (λ (y : Value × List ℕ). Good limit bytes y) (ok_is (object (argument_width argument) (pairs_of b.0.0), b.0.1) x b.2)
-    (subst (λ k. Good k bytes (object (argument_width argument) (pairs_of b.0.0), b.0.1)) (sym sound.1) (list_takes (BothWithin d) pair_encoding (pair_at makes one) (λ w ps. object w (pairs_of ps)) 5 d (pair_takes d one sound.2) (object_made d) argument bytes rest b.0 h b.1))
+    let b = bind_ok (several (pair_at makes one) argument rest) (λ xs. Ok (cbor_map (argument_width argument) (pairs_of xs.0), xs.1)) x e in
+    subst (λ (y : Value × List ℕ). Good limit bytes y) (ok_is (cbor_map (argument_width argument) (pairs_of b.0.0), b.0.1) x b.2)
+    (subst (λ k. Good k bytes (cbor_map (argument_width argument) (pairs_of b.0.0), b.0.1)) (sym sound.1) (list_takes (BothWithin d) pair_encoding (pair_at makes one) (λ w ps. cbor_map w (pairs_of ps)) 5 d (pair_takes d one sound.2) (object_made d) argument bytes rest b.0 h b.1))
 
 unsigned_takes : (limit : ℕ) (argument : Option (Width × ℕ)) (bytes rest : List ℕ) (x : Value × List ℕ) → HeadIs bytes 0 argument rest → number_by unsigned argument rest ≡ Ok x → Good limit bytes x
 unsigned_takes limit None bytes rest x h e = absurd cc

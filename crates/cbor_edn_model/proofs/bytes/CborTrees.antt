@@ -14,11 +14,12 @@ use Rattle.cbor_edn_model.specs.declared.word.NonFinite.{NonFinite}
 use Rattle.cbor_edn_model.specs.Items as kind
 use Rattle.cbor_edn_model.specs.Items.{Elements, Array, Map}
 use Rattle.cbor_edn_model.specs.Trees.{Tree, OneItem, OneEntry, Rest, FloatTree, EnclosedTree, ListTree, StringTree, ElementTree, ChunkTree}
-use Rattle.cbor_edn_model.specs.Value.{Value, Chunk, unsigned, negative, string, chunks, array, object, tag, simple, float, Values, no_values, value, values_len, Pairs, no_pairs, pair, pairs_len}
+use Rattle.cbor_edn_model.specs.Value.{Value, Chunk, unsigned, negative, string, chunks, array, cbor_map, tag, simple, float, Values, no_values, value, values_len, Pairs, no_pairs, pair, pairs_len}
 use Rattle.cbor_edn_model.specs.Decoded as decoded
 use Rattle.cbor_edn_model.specs.Decoded.{item_of, items_of, chunk_items, chunked_item, list_indicator, float_indicator, alone}
 use Rattle.cbor_edn_model.specs.code.Regular.{in_front, list_inside, key_value, stream_tree, regular}
-use Rattle.cbor_edn_model.specs.code.CborReading.{◌>>=◌, DecoderResult, Decoder, shown, head_at, many, until, several, past, turn, string_at, chunk_at, string_by, pair_at, item_by, item_at, array_by, map_by, number_by, tag_by, simple_by, float_by, special_by, float_of, simple_tree, number_tree, string_tree, string_row, chunks_tree, argument_indicator, list_tree, row_of, element_row, trees, simple_nesting}
+use Rattle.cbor_edn_model.specs.code.Results.{◌>>=◌}
+use Rattle.cbor_edn_model.specs.code.CborReading.{DecoderResult, Decoder, shown, head_at, many, until, several, past, turn, string_at, chunk_at, string_by, pair_at, item_by, item_at, array_by, map_by, number_by, tag_by, simple_by, float_by, special_by, float_of, simple_tree, number_tree, string_tree, string_row, chunks_tree, argument_indicator, list_tree, row_of, element_row, trees, simple_nesting}
 use Rattle.cbor_edn_model.proofs.bytes.CborHeads.{bind_ok}
 use Rattle.cbor_edn_model.proofs.bytes.CborValues.{values_of, pairs_of, argument_width, makes, value_at, in_front_of}
 
@@ -30,7 +31,7 @@ abbrev mutual
   tree_of (string k w bs) = StringTree (string_tree k (w, bs))
   tree_of (chunks k cs) = chunks_tree k cs
   tree_of (array w vs) = ListTree Array (list_inside (list_indicator w (values_len vs)) (row_tree vs))
-  tree_of (object w ps) = ListTree Map (list_inside (list_indicator w (pairs_len ps)) (pair_row_tree ps))
+  tree_of (cbor_map w ps) = ListTree Map (list_inside (list_indicator w (pairs_len ps)) (pair_row_tree ps))
   tree_of (tag w n v) = EnclosedTree (Tag n (decoded.indicator_of w n)) (alone (tree_of v))
   tree_of (simple n) = simple_tree n
   tree_of (float w f) = FloatTree f (float_indicator w)
@@ -62,7 +63,7 @@ mutual
   tree_of_item (string k w bs) = refl
   tree_of_item (chunks k cs) = chunks_tree_is k cs
   tree_of_item (array w vs) = ap (λ m. ListTree Array (list_inside (list_indicator w (values_len vs)) m)) (row_tree_of_items vs)
-  tree_of_item (object w ps) = ap (λ m. ListTree Map (list_inside (list_indicator w (pairs_len ps)) m)) (row_tree_of_pairs ps)
+  tree_of_item (cbor_map w ps) = ap (λ m. ListTree Map (list_inside (list_indicator w (pairs_len ps)) m)) (row_tree_of_pairs ps)
   tree_of_item (tag w n v) = ap (λ t. EnclosedTree (Tag n (decoded.indicator_of w n)) (alone t)) (tree_of_item v)
   tree_of_item (simple n) = refl
   tree_of_item (float w f) = refl
@@ -166,7 +167,7 @@ array_shown (Some one) None argument rest shows = absurd shows
 map_shown : (i : Option (Decoder (Tree OneItem))) (j : Option (Decoder Value)) (argument : Option (Width × ℕ)) (rest : List ℕ) → InnerShows i j → map_by trees i argument rest ≡ shown tree_of (map_by makes j argument rest)
 map_shown None None argument rest shows = refl
 map_shown (Some one) (Some other) argument rest shows =
-    shown_step (map pair_tree) tree_of (several (pair_at trees one) argument rest) (several (pair_at makes other) argument rest) (λ xs. Ok (list_tree Map argument (row_of xs.0), xs.1)) (λ xs. Ok (object (argument_width argument) (pairs_of xs.0), xs.1))
+    shown_step (map pair_tree) tree_of (several (pair_at trees one) argument rest) (several (pair_at makes other) argument rest) (λ xs. Ok (list_tree Map argument (row_of xs.0), xs.1)) (λ xs. Ok (cbor_map (argument_width argument) (pairs_of xs.0), xs.1))
     (several_shown pair_tree (pair_at trees one) (pair_at makes other) (pair_shown one other shows) argument rest)
     (λ xs is. let row = pairs_row xs.0 in
     ap (λ i. Ok (ListTree Map (list_inside i (row_of (map pair_tree xs.0))), xs.1)) (indicator_is (pair_at makes other) argument rest xs is ∙ ap (list_indicator (argument_width argument)) (sym row.1))

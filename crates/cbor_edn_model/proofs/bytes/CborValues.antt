@@ -2,7 +2,7 @@
 use Rattle.std.proofs.Common.{◌≡◌, ℕ, List, [], ◌∷◌, Option, Some, None, Ok, refl, ap}
 use Rattle.cbor_edn_model.specs.declared.cbor.Width.{Width}
 use Rattle.cbor_edn_model.specs.Value as cbor
-use Rattle.cbor_edn_model.specs.Value.{Value, array, Values, no_values, value, Pairs, no_pairs, pair, object}
+use Rattle.cbor_edn_model.specs.Value.{Value, array, Values, no_values, value, Pairs, no_pairs, pair, cbor_map}
 use Rattle.cbor_edn_model.specs.code.CborReading.{Argument, DecoderResult, Decoder, Makes, item_at}
 
 abbrev pub values_of : List Value → Values
@@ -41,7 +41,7 @@ makes = record {
   chunks = cbor.chunks;
   array = λ argument vs. array (argument_width argument) (values_of vs);
   pair = λ k v. (k, v);
-  object = λ argument ps. object (argument_width argument) (pairs_of ps);
+  cbor_map = λ argument ps. cbor_map (argument_width argument) (pairs_of ps);
   tag = cbor.tag;
   simple = cbor.simple;
   float = cbor.float;

@@ -4,7 +4,7 @@ use Rattle.std.proofs.lemmas.Bool.{eqb-true}
 use Rattle.std.proofs.lemmas.Bool.Decides.{nat_tests}
 use Rattle.cbor_edn_parts.specs.declared.string.StringKind.{StringKind}
 use Rattle.cbor_edn_model.specs.Items.{Node, Item, nesting}
-use Rattle.cbor_edn_model.specs.Value.{Value, unsigned, negative, Chunk, string, chunks, array, object, tag, simple, float, Values, no_values, value, Pairs, no_pairs, pair}
+use Rattle.cbor_edn_model.specs.Value.{Value, unsigned, negative, Chunk, string, chunks, array, cbor_map, tag, simple, float, Values, no_values, value, Pairs, no_pairs, pair}
 use Rattle.cbor_edn_model.specs.Decoded.{chunk_items, chunked_item, simple_item, item_of, items_of, pairs_of}
 use Rattle.cbor_edn_model.specs.code.CborReading.{simple_nesting}
 
@@ -15,7 +15,7 @@ abbrev mutual
   value_nesting (string k w bs) = 0
   value_nesting (chunks k cs) = 0
   value_nesting (array w vs) = values_nesting vs + 1
-  value_nesting (object w ps) = pairs_nesting ps + 1
+  value_nesting (cbor_map w ps) = pairs_nesting ps + 1
   value_nesting (tag w n v) = value_nesting v + 1
   value_nesting (simple n) = simple_nesting n
   value_nesting (float w f) = 0
@@ -65,7 +65,7 @@ mutual
   item_nests (string k w bs) = refl
   item_nests (chunks k cs) = chunked_nests k cs
   item_nests (array w vs) = omega (arith, items_nest vs)
-  item_nests (object w ps) = omega (arith, pairs_nest ps)
+  item_nests (cbor_map w ps) = omega (arith, pairs_nest ps)
   item_nests (tag w n v) = omega (arith, item_nests v)
   item_nests (simple n) = simple_nests n
   item_nests (float w f) = refl

@@ -10,7 +10,8 @@ use Rattle.cbor_edn_parts.specs.code.Lex.{munch, push}
 use Rattle.cbor_edn_parts.specs.Notes.{hash_lines, noted}
 use Rattle.cbor_edn_model.specs.declared.cbor.Width.TheVariants.{Immediate, One}
 use Rattle.cbor_edn_model.specs.Trees.{Rule, Standalone, Tree, text, onto, joins}
-use Rattle.cbor_edn_model.specs.code.Reading.{reads_all, reads, read, byte, not_empty, list_head_of, starts_string, word_at, enclosed_item, tag_item, number_end, number_item, word_item, plain_item, list_item, stream_item, string_item, item, literal_piece, dots_piece, embedded_piece, piece, plus_string, string, entry, inside_full, inside, more, rest, sequence, standalone, ◌>>=◌}
+use Rattle.cbor_edn_model.specs.code.Results.{◌>>=◌}
+use Rattle.cbor_edn_model.specs.code.Reading.{reads_all, reads, read, byte, not_empty, list_head_of, starts_string, word_at, enclosed_item, tag_item, number_end, number_item, word_item, plain_item, list_item, stream_item, string_item, item, literal_piece, dots_piece, embedded_piece, piece, plus_string, string, entry, inside_full, inside, more, rest, sequence, standalone}
 use Rattle.cbor_edn_model.specs.Value as value
 use Rattle.cbor_edn_model.specs.Bare.{without_indicators}
 use Rattle.cbor_edn_model.specs.Plain.{integer, string as text_or_bytes, array, no_plains, one_plain, plain}
@@ -18,7 +19,7 @@ use Rattle.cbor_edn_model.specs.Commented.{commented}
 
 -- the text of what is read, after a change
 changed : (s : Rule) → (Tree s → Tree s) → List ℕ → Result (List ℕ) ParseErrorKind
-unfolding reads_all reads read byte not_empty list_head_of starts_string joins word_at enclosed_item tag_item number_end number_item word_item plain_item list_item stream_item string_item item literal_piece dots_piece embedded_piece piece plus_string string entry inside_full inside more rest sequence standalone ◌>>=◌ indicator_at indicator_word kind munch push digits onto
+unfolding reads_all reads read byte not_empty list_head_of starts_string joins word_at enclosed_item tag_item number_end number_item word_item plain_item list_item stream_item string_item item literal_piece dots_piece embedded_piece piece plus_string string entry inside_full inside more rest sequence standalone indicator_at indicator_word kind munch push digits onto
 changed s change xs = reads_all 9 s xs >>= λ w. Ok (text (change w))
 
 abbrev Bare : List ℕ → List ℕ → Type 0

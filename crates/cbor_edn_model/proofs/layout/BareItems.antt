@@ -10,7 +10,7 @@ use Rattle.cbor_edn_model.specs.declared.cbor.Width.{Width}
 use Rattle.cbor_edn_model.specs.Items as kind
 use Rattle.cbor_edn_model.specs.Items.{Row, Elements, Pairs, Strings, Bracketed, Array, Map, entries_of, Sort, Item, Piece, Pieces, Entry, Entries, Node}
 use Rattle.cbor_edn_model.specs.Value as values
-use Rattle.cbor_edn_model.specs.Value.{Value, chunks, array, object, tag, values_len, pairs_len}
+use Rattle.cbor_edn_model.specs.Value.{Value, chunks, array, cbor_map, tag, values_len, pairs_len}
 use Rattle.cbor_edn_model.specs.Meaning as meaning
 use Rattle.cbor_edn_model.specs.Meaning.{◌>>=◌, shortest, width_of, length_of, means_integer, means_float, named_number, means_simple, piece_mark, are_unmarked, pieces_mark, chunk_of, string_of, same_kind, chunks_of, stream_of, MeaningOf, EntryOf, RowOf, row_len, list_value, listed, no_entries, one_more, means}
 use Rattle.cbor_edn_model.specs.Fewer as fewer
@@ -163,11 +163,11 @@ module _ (R : Option Indicator → Option Indicator → Type 0) (P : Type 0) (le
         (ap plains.array s.0 ∙ ap plain (some_is (array b.0 vs) v b.2), λ p. (q.2 p, s.1 p)),
       )
   listed_left Map i j ps qs v l s lt e =
-      let b = both_steps (length_of i (pairs_len qs)) (λ w. Some (object w qs)) v e in
+      let b = both_steps (length_of i (pairs_len qs)) (λ w. Some (cbor_map w qs)) v e in
       let q = length_left i j (pairs_len ps) b.0 l (subst (λ n. n < 2 ^ 64) (sym s.2) lt) (ap (length_of i) s.2 ∙ b.1) in (
-        object q.0 ps,
-        ap (λ o. bind o (λ w. Some (object w ps))) q.1,
-        (ap plains.object s.0 ∙ ap plain (some_is (object b.0 qs) v b.2), λ p. (q.2 p, s.1 p)),
+        cbor_map q.0 ps,
+        ap (λ o. bind o (λ w. Some (cbor_map w ps))) q.1,
+        (ap plains.cbor_map s.0 ∙ ap plain (some_is (cbor_map b.0 qs) v b.2), λ p. (q.2 p, s.1 p)),
       )
 
   none_same : (k : Row) → SameRow k (no_entries k) (no_entries k)

@@ -5,7 +5,7 @@ use Rattle.cbor_edn_model.specs.declared.cbor.Width.{Width}
 use Rattle.cbor_edn_model.specs.declared.cbor.Width.TheVariants.{Immediate, One, Two, Four, Eight}
 use Rattle.cbor_edn_model.specs.Items.{Row, Elements, Pairs, Strings, Bracketed, Array, Map, entries_of, Sort, Item, Piece, Pieces, Entry, Entries}
 use Rattle.cbor_edn_model.specs.Value as values
-use Rattle.cbor_edn_model.specs.Value.{Value, Values, unsigned, negative, string, chunks, array, object, tag, simple, float, limit_of, ArgumentFits, is_content, values_len, pairs_len, head, encoding, encodings, pair_encodings, list_encoding}
+use Rattle.cbor_edn_model.specs.Value.{Value, Values, unsigned, negative, string, chunks, array, cbor_map, tag, simple, float, limit_of, ArgumentFits, is_content, values_len, pairs_len, head, encoding, encodings, pair_encodings, list_encoding}
 use Rattle.cbor_edn_model.specs.Meaning.{length_of, MeaningOf, EntryOf, RowOf, row_len, listed, one_more}
 use Rattle.cbor_edn_model.proofs.meaning.MeaningSteps.{both_steps, some_is}
 
@@ -14,7 +14,7 @@ use Rattle.cbor_edn_model.proofs.meaning.MeaningSteps.{both_steps, some_is}
 abbrev mutual
   pub Counted : Value → Type 0
   Counted (array w vs) = (values_len vs < 2 ^ 64) × AllCounted vs
-  Counted (object w ps) = (pairs_len ps < 2 ^ 64) × PairsCounted ps
+  Counted (cbor_map w ps) = (pairs_len ps < 2 ^ 64) × PairsCounted ps
   Counted (tag w n v) = Counted v
   Counted _ = Unit {0}
 
@@ -45,7 +45,7 @@ MeaningCounted (Entries k) r = RowCounted k r
 
 pub listed_counted : (k : Bracketed) (i : Option Indicator) (r : RowOf (entries_of k)) (v : Value) → listed k i r ≡ Some v → Counted v → (row_len (entries_of k) r < 2 ^ 64) × RowCounted (entries_of k) r
 listed_counted Array i vs v e c = let b = both_steps (length_of i (values_len vs)) (λ w. Some (array w vs)) v e in subst Counted (sym (some_is (array b.0 vs) v b.2)) c
-listed_counted Map i ps v e c = let b = both_steps (length_of i (pairs_len ps)) (λ w. Some (object w ps)) v e in subst Counted (sym (some_is (object b.0 ps) v b.2)) c
+listed_counted Map i ps v e c = let b = both_steps (length_of i (pairs_len ps)) (λ w. Some (cbor_map w ps)) v e in subst Counted (sym (some_is (cbor_map b.0 ps) v b.2)) c
 
 pub more_counted : (k : Row) (x : EntryOf k) (r : RowOf k) → RowCounted k (one_more k x r) → EntryCounted k x × RowCounted k r
 more_counted Elements v vs c = c
@@ -75,7 +75,7 @@ some_byte (negative w n) = head_some 1 w n
 some_byte (string k w bs) = front_some (head (values.string_major k) w (length bs)) bs (head_some (values.string_major k) w (length bs))
 some_byte (chunks k cs) = omega arith
 some_byte (array w vs) = let h = list_some 4 w (values_len vs) (encodings vs) in omega (arith, h)
-some_byte (object w ps) = let h = list_some 5 w (pairs_len ps) (pair_encodings ps) in omega (arith, h)
+some_byte (cbor_map w ps) = let h = list_some 5 w (pairs_len ps) (pair_encodings ps) in omega (arith, h)
 some_byte (tag w n v) = front_some (head 6 w n) (encoding v) (head_some 6 w n)
 some_byte (simple n) = head_some 7 (values.simple_width n) n
 some_byte (float w f) = head_some 7 w (values.float_bits w f)
@@ -101,7 +101,7 @@ mutual
       let h = list_some 4 w (values_len vs) (encodings vs) in
       let m = as_many vs in
       (omega (arith, h, m, lt), all_counted vs (omega (arith, h, lt)))
-  counted (object w ps) lt =
+  counted (cbor_map w ps) lt =
       let h = list_some 5 w (pairs_len ps) (pair_encodings ps) in
       let m = as_many_pairs ps in
       (omega (arith, h, m, lt), pairs_counted ps (omega (arith, h, lt)))

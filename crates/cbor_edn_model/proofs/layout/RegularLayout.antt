@@ -14,7 +14,7 @@ use Rattle.cbor_edn_model.specs.Trees.{OneItem, OneEntry, Rest, Tree, EnclosedTr
 use Rattle.cbor_edn_model.specs.declared.label.LabelKind.{LabelKind}
 use Rattle.cbor_edn_model.specs.declared.label.LabelKind.TheVariants as label
 use Rattle.cbor_edn_model.specs.Value as values
-use Rattle.cbor_edn_model.specs.Value.{Value, unsigned, negative, string, chunks, array, object, tag, simple, float, Values, no_values, value, Pairs, no_pairs, pair}
+use Rattle.cbor_edn_model.specs.Value.{Value, unsigned, negative, string, chunks, array, cbor_map, tag, simple, float, Values, no_values, value, Pairs, no_pairs, pair}
 use Rattle.cbor_edn_model.specs.Decoded as decoded
 use Rattle.cbor_edn_model.specs.Decoded.{indicator_of, item_of, items_of, pairs_of, chunk_items, simple_item, alone}
 use Rattle.cbor_edn_model.specs.code.Regular.{in_front as put, list_inside, key_value, regular, regular_sequence, sequence_tree_of, stream_tree}
@@ -73,7 +73,7 @@ mutual
   item_fixed (string k w bs) = refl
   item_fixed (chunks k cs) = chunked_fixed k cs
   item_fixed (array w vs) = ap (ListTree kind.Array) (inside_fixed (decoded.list_indicator w (values.values_len vs)) (regular (items_of vs)) (items_fixed vs))
-  item_fixed (object w ps) = ap (ListTree kind.Map) (inside_fixed (decoded.list_indicator w (values.pairs_len ps)) (regular (pairs_of ps)) (pairs_fixed ps))
+  item_fixed (cbor_map w ps) = ap (ListTree kind.Map) (inside_fixed (decoded.list_indicator w (values.pairs_len ps)) (regular (pairs_of ps)) (pairs_fixed ps))
   item_fixed (tag w n v) = enclosed_fixed (label.Tag n (indicator_of w n)) (regular (item_of v)) (item_fixed v)
   item_fixed (simple n) = simple_fixed n
   item_fixed (float w f) = refl

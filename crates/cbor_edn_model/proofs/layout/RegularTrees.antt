@@ -12,7 +12,7 @@ use Rattle.cbor_edn_model.specs.declared.label.LabelKind.TheVariants as label
 use Rattle.cbor_edn_model.specs.Items.{Sort, Item, Node, Number, Float, Listed, Tagged, Named, Simple, String, Stream, Literal, Dots, Embedded, LastPiece, Plus, Element, Pair, Chunk, End, Then}
 use Rattle.cbor_edn_model.specs.Trees.{Rule, OneItem, OnePiece, OneString, OneEntry, Inside, Rest, Seq, Standalone, Tree, ListHead, Unmarked, Marked, mark, NumberTree, FloatTree, NamedTree, EnclosedTree, ListTree, StringTree, StreamTree, LiteralTree, DotsTree, EmbeddedTree, LastPieceTree, PlusTree, ElementTree, PairTree, ChunkTree, EmptyTree, FullTree, LastTree, MoreTree, NothingTree, SequenceTree, StandaloneTree, labelled, Of, items}
 use Rattle.cbor_edn_model.specs.Value as values
-use Rattle.cbor_edn_model.specs.Value.{Value, unsigned, negative, string, chunks, array, object, tag, simple, float, Values, no_values, value, Pairs, no_pairs, pair}
+use Rattle.cbor_edn_model.specs.Value.{Value, unsigned, negative, string, chunks, array, cbor_map, tag, simple, float, Values, no_values, value, Pairs, no_pairs, pair}
 use Rattle.cbor_edn_model.specs.Decoded.{item_of, items_of, pairs_of, chunk_items, chunked_item, simple_item, alone}
 use Rattle.cbor_edn_model.specs.code.Regular.{in_front, spaced_list_head, list_inside, key_value, regular, regular_sequence, sequence_tree_of, stream_tree}
 use Rattle.cbor_edn_model.specs.Layout.{Layout, Inline, laid_list_head, laid}
@@ -63,7 +63,7 @@ mutual
   item_single (string k w bs) = tt
   item_single (chunks k cs) = chunked_single k cs
   item_single (array w vs) = items_single vs
-  item_single (object w ps) = pairs_single ps
+  item_single (cbor_map w ps) = pairs_single ps
   item_single (tag w n v) = item_single v
   item_single (simple n) = simple_single n
   item_single (float w f) = tt

@@ -17,7 +17,7 @@ use Rattle.cbor_edn_model.specs.declared.word.NonFinite.{NonFinite}
 use Rattle.cbor_edn_model.specs.Items as kind
 use Rattle.cbor_edn_model.specs.Items.{Row, Strings, Bracketed, Array, Map, entries_of, Node, Item, Items, Entry, Entries, Number, Float, Listed, Tagged, Simple, String, Stream, Element, Pair, End, Then}
 use Rattle.cbor_edn_model.specs.Trees.{Tree, OneEntry, Rest, items}
-use Rattle.cbor_edn_model.specs.Value.{Value, unsigned, negative, Chunk, string, chunks, array, object, tag, simple, float, Values, no_values, value, values_len, Pairs, no_pairs, pair, pairs_len, limit_of, IsSimple, IsFloatWidth, ArgumentFits, LengthFits, ChunkFits, ChunksFit, Fits, ValuesFit, PairsFit}
+use Rattle.cbor_edn_model.specs.Value.{Value, unsigned, negative, Chunk, string, chunks, array, cbor_map, tag, simple, float, Values, no_values, value, values_len, Pairs, no_pairs, pair, pairs_len, limit_of, IsSimple, IsFloatWidth, ArgumentFits, LengthFits, ChunkFits, ChunksFit, Fits, ValuesFit, PairsFit}
 use Rattle.cbor_edn_model.specs.Meaning.{shortest, fitting, width_of, length_of, means_integer, bignum, chunk_of, string_of, chunks_of, stream_of, is_simple, simple_number, means, listed}
 use Rattle.cbor_edn_model.specs.Decoded as decoded
 use Rattle.cbor_edn_model.specs.Decoded.{indicator_of, list_indicator, string_item, chunk_items, chunked_item, simple_item, float_indicator, item_of, items_of}
@@ -98,7 +98,7 @@ mutual
   items_again (string k w bs) = refl
   items_again (chunks k cs) = chunked_again k cs
   items_again (array w vs) = listed_again Array (list_indicator w (values_len vs)) (items_of vs) (row_again vs)
-  items_again (object w ps) = listed_again Map (list_indicator w (pairs_len ps)) (decoded.pairs_of ps) (pair_row_again ps)
+  items_again (cbor_map w ps) = listed_again Map (list_indicator w (pairs_len ps)) (decoded.pairs_of ps) (pair_row_again ps)
   items_again (tag w n v) = ap (Tagged n (indicator_of w n)) (items_again v)
   items_again (simple n) = simple_again n
   items_again (float w f) = refl
@@ -310,9 +310,9 @@ mutual
   item_means (array w vs) fit =
       let i = list_indicator w (values_len vs) in
       ap (λ o. bind o (listed Array i)) (items_mean vs fit.1) ∙ ap (λ o. bind o (λ w. Some (array w vs))) (length_again w (values_len vs) fit.0)
-  item_means (object w ps) fit =
+  item_means (cbor_map w ps) fit =
       let i = list_indicator w (pairs_len ps) in
-      ap (λ o. bind o (listed Map i)) (pairs_mean ps fit.1) ∙ ap (λ o. bind o (λ w. Some (object w ps))) (length_again w (pairs_len ps) fit.0)
+      ap (λ o. bind o (listed Map i)) (pairs_mean ps fit.1) ∙ ap (λ o. bind o (λ w. Some (cbor_map w ps))) (length_again w (pairs_len ps) fit.0)
   item_means (tag w n v) fit =
       ap (λ o. bind o (λ d. bind (means (item_of v)) (λ u. Some (tag d n u)))) (width_again w n fit.0).0 ∙ ap (λ o. bind o (λ u. Some (tag w n u))) (item_means v fit.1)
   item_means (simple n) fit = simple_means n fit

@@ -24,7 +24,8 @@ use Rattle.cbor_edn_model.specs.declared.word.NonFinite.TheVariants.{NaN}
 use Rattle.cbor_edn_model.specs.declared.word.Word.{Word}
 use Rattle.cbor_edn_model.specs.declared.word.Word.TheVariants as word
 use Rattle.cbor_edn_model.specs.Words.{named_text, non_finite_text, word_text}
-use Rattle.cbor_edn_model.specs.code.Reading.{◌>>=◌, Reader, or_invalid, token, byte, not_empty, list_head_of, starts_string, is_prefix, word_at, enclosed_item, tag_item, number_end, number_item, word_item, plain_item, list_item, stream_item, string_item, item, literal_piece, dots_piece, embedded_piece, piece, plus_string, string, entry, inside_full, inside, more, rest, sequence, standalone, read, outcome}
+use Rattle.cbor_edn_model.specs.code.Results.{◌>>=◌}
+use Rattle.cbor_edn_model.specs.code.Reading.{Reader, or_invalid, token, byte, not_empty, list_head_of, starts_string, is_prefix, word_at, enclosed_item, tag_item, number_end, number_item, word_item, plain_item, list_item, stream_item, string_item, item, literal_piece, dots_piece, embedded_piece, piece, plus_string, string, entry, inside_full, inside, more, rest, sequence, standalone, read, outcome}
 use Rattle.cbor_edn_parts.proofs.Indicators.{spec-none, spec-some, spec-again}
 use Rattle.cbor_edn_parts.proofs.Tokens.{Halts, munch-again, token_texts}
 use Rattle.cbor_edn_model.proofs.text.Follows.{number_some, Solid, solid_spaceless, halts_space, halts_separator, halts_marked, halts_tag, spec-tag, follow_unopened, halts_literal, halts_dots, closes_solid, closes_closed, closes_follow, begins_solid, begins_open, ending_closes, stream_closes, embedded_closes, space_before, space_follow, space_plain, colon_solid, plus_solid, plus_follow}
@@ -122,7 +123,7 @@ module _ (g : ℕ → (s : Rule) → Reader s) where
   stream-again : (limit : ℕ) (ms : List ℕ) (m : Tree (Rest Strings)) (r : List ℕ) → is_ms ms ≡ true → Tested m → g limit (Rest Strings) (onto m (41 ∷ r)) ≡ outcome (depth m) limit (m, 41 ∷ r) → stream_item g limit (95 ∷ (ms ++ onto m (41 ∷ r))) ≡ outcome (depth m) limit (StreamTree ms m, r)
   unfolding stream_item not_empty
   stream-again limit [] m r v vm e = absurd (cc)
-  stream-again limit (c ∷ ms) m r v vm e = then_ok _ (byte-again 95 _) (then_ok _ (space-again (c ∷ ms) _ v (begins_solid _ (rest_starts m _ vm).0)) (then_ok _ refl (then_done (depth m) limit _ e (then_ok _ (byte-again 41 r) refl))))
+  stream-again limit (c ∷ ms) m r v vm e = then_ok _ (byte-again 95 _) (then_ok _ (space-again (c ∷ ms) _ v (begins_solid _ (rest_starts m _ vm).0)) (then_done (depth m) limit _ e (then_ok _ (byte-again 41 r) refl)))
 
   opened_stream : (limit : ℕ) (xs : List ℕ) → item g limit (40 ∷ xs) ≡ stream_item g limit xs
   unfolding item
@@ -146,7 +147,7 @@ module _ (g : ℕ → (s : Rule) → Reader s) where
   dots-again limit x r v h = let f = dots_begin x v in rw (flat {A = Tree OnePiece × List ℕ} limit (DotsTree x, r)) (ap (λ (y : List ℕ). piece g limit (y ++ r)) f.1 ∙ dots_next limit _ ∙ ap (λ (y : List ℕ). dots_piece g (y ++ r)) (sym f.1) ∙ then_ok _ (taken dots x r v (halts_dots r h)) refl)
 
   opened_embedded : (limit : ℕ) (xs : List ℕ) → piece g limit (60 ∷ 60 ∷ xs) ≡ embedded_piece g limit xs
-  unfolding piece byte ◌>>=◌
+  unfolding piece byte
   opened_embedded limit xs = refl
 
   embedded-again : (limit : ℕ) (w : Tree Seq) (i : Option Indicator) (r : List ℕ) → Follow r → ((limit : ℕ) → g limit Seq (onto w (62 ∷ 62 ∷ (indicator_text i ++ r))) ≡ outcome (depth w) limit (w, 62 ∷ 62 ∷ (indicator_text i ++ r))) → embedded_piece g limit (onto w (62 ∷ 62 ∷ (indicator_text i ++ r))) ≡ outcome (suc (depth w)) limit (EmbeddedTree w i, r)
@@ -207,7 +208,7 @@ module _ (g : ℕ → (s : Rule) → Reader s) where
   more-again : (limit : ℕ) (k : Row) (e : Tree (OneEntry k)) (s : List ℕ) (m : Tree (Rest k)) (r : List ℕ) → is_msc s ≡ true → Tested m → g limit (OneEntry k) (onto e (s ++ onto m r)) ≡ outcome (depth e) limit (e, s ++ onto m r) → g limit (Rest k) (onto m r) ≡ outcome (depth m) limit (m, r) → rest g limit k (onto e (s ++ onto m r)) ≡ outcome (max (depth e) (depth m)) limit (MoreTree e s m, r)
   unfolding rest more not_empty
   more-again limit k e [] m r v vm qe qm = absurd (cc)
-  more-again limit k e (c ∷ s) m r v vm qe qm = let b = (rest_starts m r vm).0 in then_outcome (depth e) (depth m) limit _ _ qe (then_ok _ (separator-again (c ∷ s) _ v (begins_solid _ b)) (rw (begins_open _ b) (then_ok _ refl (then_done (depth m) limit _ qm refl))))
+  more-again limit k e (c ∷ s) m r v vm qe qm = let b = (rest_starts m r vm).0 in then_outcome (depth e) (depth m) limit _ _ qe (then_ok _ (separator-again (c ∷ s) _ v (begins_solid _ b)) (rw (begins_open _ b) (then_done (depth m) limit _ qm refl)))
 
   nothing-again : (limit : ℕ) (s r : List ℕ) → is_s s ≡ true → Closes r → sequence g limit (s ++ r) ≡ outcome 0 limit (NothingTree s, r)
   unfolding sequence

@@ -13,7 +13,7 @@ use Rattle.cbor_edn_model.specs.declared.label.LabelKind.TheVariants as label
 use Rattle.cbor_edn_model.specs.declared.word.NamedSimple.TheVariants.{True}
 use Rattle.cbor_edn_model.specs.declared.word.NonFinite.TheVariants.{NegativeInfinity}
 use Rattle.cbor_edn_model.specs.Marks.{marks}
-use Rattle.cbor_edn_model.specs.code.Reading.{reads_all, reads, read, byte, not_empty, list_head_of, starts_string, word_at, tag_number, enclosed_item, tag_item, number_end, number_item, word_item, plain_item, list_item, stream_item, string_item, item, literal_piece, dots_piece, embedded_piece, piece, plus_string, string, entry, inside_full, inside, more, rest, sequence, standalone, ◌>>=◌}
+use Rattle.cbor_edn_model.specs.code.Reading.{reads_all, reads, read, byte, not_empty, list_head_of, starts_string, word_at, tag_number, enclosed_item, tag_item, number_end, number_item, word_item, plain_item, list_item, stream_item, string_item, item, literal_piece, dots_piece, embedded_piece, piece, plus_string, string, entry, inside_full, inside, more, rest, sequence, standalone}
 
 abbrev Reads : ℕ → List ℕ → Tree Seq → Type 0
 Reads limit xs w = reads_all limit Seq xs ≡ Ok w
@@ -40,7 +40,7 @@ lists :
     × Reads 1 (91 ∷ 95 ∷ 49 ∷ 32 ∷ 49 ∷ 93 ∷ []) (alone (ListTree Array (FullTree (Marked Two (32 ∷ [])) [] (LastTree (ElementTree (NumberTree (49 ∷ []) None)) []))))
     -- {_1}
     × Reads 1 (123 ∷ 95 ∷ 49 ∷ 125 ∷ []) (alone (ListTree Map (EmptyTree (Some Two) [])))
-unfolding reads_all reads read byte not_empty list_head_of starts_string joins word_at enclosed_item tag_item number_end number_item word_item plain_item list_item stream_item string_item item literal_piece dots_piece embedded_piece piece plus_string string entry inside_full inside more rest sequence standalone ◌>>=◌ indicator_at indicator_word kind munch push
+unfolding reads_all reads read byte not_empty list_head_of starts_string joins word_at enclosed_item tag_item number_end number_item word_item plain_item list_item stream_item string_item item literal_piece dots_piece embedded_piece piece plus_string string entry inside_full inside more rest sequence standalone indicator_at indicator_word kind munch push
 lists = (refl, refl, refl, refl, refl)
 
 -- Strings.
@@ -59,7 +59,7 @@ strings :
     × Reads 0 (34 ∷ 97 ∷ 34 ∷ 32 ∷ 43 ∷ 49 ∷ []) (SequenceTree [] (MoreTree (ElementTree (StringTree (LastPieceTree (LiteralTree (34 ∷ 97 ∷ 34 ∷ []) None)))) (32 ∷ []) (LastTree (ElementTree (NumberTree (43 ∷ 49 ∷ []) None)) [])))
     -- ... .5
     × Reads 0 (46 ∷ 46 ∷ 46 ∷ 32 ∷ 46 ∷ 53 ∷ []) (SequenceTree [] (MoreTree (ElementTree (StringTree (LastPieceTree (DotsTree (46 ∷ 46 ∷ 46 ∷ []))))) (32 ∷ []) (LastTree (ElementTree (NumberTree (46 ∷ 53 ∷ []) None)) [])))
-unfolding reads_all reads read byte not_empty list_head_of starts_string joins word_at enclosed_item tag_item number_end number_item word_item plain_item list_item stream_item string_item item literal_piece dots_piece embedded_piece piece plus_string string entry inside_full inside more rest sequence standalone ◌>>=◌ indicator_at indicator_word kind munch push
+unfolding reads_all reads read byte not_empty list_head_of starts_string joins word_at enclosed_item tag_item number_end number_item word_item plain_item list_item stream_item string_item item literal_piece dots_piece embedded_piece piece plus_string string entry inside_full inside more rest sequence standalone indicator_at indicator_word kind munch push
 strings = (refl, refl, refl, refl, refl, refl, refl)
 
 -- Words and tags.
@@ -74,7 +74,7 @@ words :
     × Reads 1 (115 ∷ 105 ∷ 109 ∷ 112 ∷ 108 ∷ 101 ∷ 40 ∷ 32 ∷ 50 ∷ 48 ∷ 41 ∷ []) (alone (EnclosedTree label.Simple (StandaloneTree (32 ∷ []) (NumberTree (50 ∷ 48 ∷ []) None) [])))
     -- 0_i(12(3))
     × Reads 2 (48 ∷ 95 ∷ 105 ∷ 40 ∷ 49 ∷ 50 ∷ 40 ∷ 51 ∷ 41 ∷ 41 ∷ []) (alone (EnclosedTree (label.Tag 0 (Some Immediate)) (StandaloneTree [] (EnclosedTree (label.Tag 12 None) (StandaloneTree [] (NumberTree (51 ∷ []) None) [])) [])))
-unfolding reads_all reads read byte not_empty list_head_of starts_string joins word_at enclosed_item tag_item number_end number_item word_item plain_item list_item stream_item string_item item literal_piece dots_piece embedded_piece piece plus_string string entry inside_full inside more rest sequence standalone ◌>>=◌ indicator_at indicator_word kind munch push digits
+unfolding reads_all reads read byte not_empty list_head_of starts_string joins word_at enclosed_item tag_item number_end number_item word_item plain_item list_item stream_item string_item item literal_piece dots_piece embedded_piece piece plus_string string entry inside_full inside more rest sequence standalone indicator_at indicator_word kind munch push digits
 words = (refl, refl, refl, refl, refl)
 
 -- What is refused.
@@ -99,7 +99,7 @@ refused :
     × Refused (40 ∷ 95 ∷ 32 ∷ 49 ∷ 41 ∷ [])
     -- <<1>: an embedded sequence has two brackets at its end
     × Refused (60 ∷ 60 ∷ 49 ∷ 62 ∷ [])
-unfolding reads_all reads read byte not_empty list_head_of starts_string joins word_at enclosed_item tag_item number_end number_item word_item plain_item list_item stream_item string_item item literal_piece dots_piece embedded_piece piece plus_string string entry inside_full inside more rest sequence standalone ◌>>=◌ indicator_at indicator_word kind munch push
+unfolding reads_all reads read byte not_empty list_head_of starts_string joins word_at enclosed_item tag_item number_end number_item word_item plain_item list_item stream_item string_item item literal_piece dots_piece embedded_piece piece plus_string string entry inside_full inside more rest sequence standalone indicator_at indicator_word kind munch push
 refused = (refl, refl, refl, refl, refl, refl, refl, refl, refl, refl)
 
 -- What is refused of words and tags.
@@ -118,7 +118,7 @@ words_refused :
     × Refused (49 ∷ 32 ∷ 40 ∷ 50 ∷ 41 ∷ [])
     -- 1(2,): one item
     × Refused (49 ∷ 40 ∷ 50 ∷ 44 ∷ 41 ∷ [])
-unfolding reads_all reads read byte not_empty list_head_of starts_string joins word_at enclosed_item tag_item number_end number_item word_item plain_item list_item stream_item string_item item literal_piece dots_piece embedded_piece piece plus_string string entry inside_full inside more rest sequence standalone ◌>>=◌ indicator_at indicator_word kind munch push digits
+unfolding reads_all reads read byte not_empty list_head_of starts_string joins word_at enclosed_item tag_item number_end number_item word_item plain_item list_item stream_item string_item item literal_piece dots_piece embedded_piece piece plus_string string entry inside_full inside more rest sequence standalone indicator_at indicator_word kind munch push digits
 words_refused = (refl, refl, refl, refl, refl, refl, refl)
 
 -- 18446744073709551616 is 2^64: no number of a tag
@@ -140,7 +140,7 @@ too_deep :
     × Deep 1 (49 ∷ 40 ∷ 50 ∷ 40 ∷ 51 ∷ 41 ∷ 41 ∷ [])
     -- simple(1)
     × Deep 0 (115 ∷ 105 ∷ 109 ∷ 112 ∷ 108 ∷ 101 ∷ 40 ∷ 49 ∷ 41 ∷ [])
-unfolding reads_all reads read byte not_empty list_head_of starts_string joins word_at enclosed_item tag_item number_end number_item word_item plain_item list_item stream_item string_item item literal_piece dots_piece embedded_piece piece plus_string string entry inside_full inside more rest sequence standalone ◌>>=◌ indicator_at indicator_word kind munch push digits
+unfolding reads_all reads read byte not_empty list_head_of starts_string joins word_at enclosed_item tag_item number_end number_item word_item plain_item list_item stream_item string_item item literal_piece dots_piece embedded_piece piece plus_string string entry inside_full inside more rest sequence standalone indicator_at indicator_word kind munch push digits
 too_deep = (refl, refl, refl, refl, refl, refl)
 
 -- What stands first decides: `[[` is too deep before it is unfinished, and `1][` is refused before anything is too deep.
@@ -149,7 +149,7 @@ first_decides :
     Deep 1 (91 ∷ 91 ∷ [])
     -- 1][
     × reads_all 0 Seq (49 ∷ 93 ∷ 91 ∷ []) ≡ Err Invalid
-unfolding reads_all reads read byte not_empty list_head_of starts_string joins word_at enclosed_item tag_item number_end number_item word_item plain_item list_item stream_item string_item item literal_piece dots_piece embedded_piece piece plus_string string entry inside_full inside more rest sequence standalone ◌>>=◌ indicator_at indicator_word kind munch push
+unfolding reads_all reads read byte not_empty list_head_of starts_string joins word_at enclosed_item tag_item number_end number_item word_item plain_item list_item stream_item string_item item literal_piece dots_piece embedded_piece piece plus_string string entry inside_full inside more rest sequence standalone indicator_at indicator_word kind munch push
 first_decides = (refl, refl)
 
 -- the items of `1_i {1 : 2}`

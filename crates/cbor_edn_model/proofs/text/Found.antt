@@ -24,7 +24,8 @@ use Rattle.cbor_edn_model.specs.declared.label.LabelKind.TheVariants as label
 use Rattle.cbor_edn_model.specs.declared.word.Word.{Word}
 use Rattle.cbor_edn_model.specs.declared.word.Word.TheVariants.{Named, Simple, NonFinite}
 use Rattle.cbor_edn_model.specs.Words.{non_finite_text, word_text}
-use Rattle.cbor_edn_model.specs.code.Reading.{◌>>=◌, Reader, or_invalid, token, byte, not_empty, list_head_of, starts_with, starts_string, word_at, tag_number, enclosed_item, tag_item, number_end, number_item, word_item, plain_item, list_item, stream_item, string_item, item, literal_piece, dots_piece, embedded_piece, piece, plus_string, string, entry, inside_full, inside, more, rest, sequence, standalone, rule, read}
+use Rattle.cbor_edn_model.specs.code.Results.{◌>>=◌}
+use Rattle.cbor_edn_model.specs.code.Reading.{Reader, or_invalid, token, byte, not_empty, list_head_of, starts_with, starts_string, word_at, tag_number, enclosed_item, tag_item, number_end, number_item, word_item, plain_item, list_item, stream_item, string_item, item, literal_piece, dots_piece, embedded_piece, piece, plus_string, string, entry, inside_full, inside, more, rest, sequence, standalone, rule, read}
 use Rattle.cbor_edn_model.specs.Marks.{marks}
 use Rattle.cbor_edn_parts.proofs.Indicators.{spec-found}
 use Rattle.cbor_edn_parts.proofs.Tokens.{Holds, nothing, just, munch-found, token_texts}
@@ -39,7 +40,6 @@ pub data Meets {A : Type 0} (P : A → Type 0) (Deep : Type 0) : Result A ParseE
   fine : {x : A} → P x → Meets P Deep (Ok x)
 
 pub bound : {A B : Type 0} {P : A → Type 0} {Q : B → Type 0} {Deep : Type 0} {m : Result A ParseErrorKind} (f : A → Result B ParseErrorKind) → Meets P Deep m → ((x : A) → P x → Meets Q Deep (f x)) → Meets Q Deep (m >>= f)
-unfolding ◌>>=◌
 bound f invalid k = invalid
 bound f (deep d) k = deep d
 bound f (fine p) k = k _ p

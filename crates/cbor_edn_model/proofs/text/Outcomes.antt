@@ -6,7 +6,8 @@ use Rattle.std.proofs.lemmas.Bool.{leb-true, leb-false, le-leb, lt-leb, cases_Bo
 use mathlib.Core.Logic.{◌⊎◌, inl, inr}
 use Rattle.cbor_edn_parts.specs.declared.error.ParseErrorKind.{ParseErrorKind}
 use Rattle.cbor_edn_parts.specs.declared.error.ParseErrorKind.TheVariants.{Invalid, TooDeep}
-use Rattle.cbor_edn_model.specs.code.Reading.{◌>>=◌, outcome}
+use Rattle.cbor_edn_model.specs.code.Results.{◌>>=◌}
+use Rattle.cbor_edn_model.specs.code.Reading.{outcome}
 
 pub within : {A : Type 0} (depth limit : ℕ) (x : A) → nat_le depth limit ≡ true → outcome depth limit x ≡ Ok x
 within depth limit x e = rw e
@@ -26,11 +27,9 @@ too_deep depth x = beyond (suc depth) 0 x (lt-leb (suc depth) 0 (omega arith))
 
 -- The first of two reads is within no limit.
 pub then_ok : {A B : Type 0} {m : Result A ParseErrorKind} {x : A} (f : A → Result B ParseErrorKind) {y : Result B ParseErrorKind} → m ≡ Ok x → f x ≡ y → (m >>= f) ≡ y
-unfolding ◌>>=◌
 then_ok f e h = rw e h
 
 then_err : {A B : Type 0} {m : Result A ParseErrorKind} {k : ParseErrorKind} (f : A → Result B ParseErrorKind) → m ≡ Err k → (m >>= f) ≡ Err k
-unfolding ◌>>=◌
 then_err f e = rw e
 
 -- The second of two reads is within no limit.

@@ -19,7 +19,8 @@ use Rattle.cbor_edn_model.specs.declared.label.LabelKind.TheVariants as label
 use Rattle.cbor_edn_model.specs.declared.word.Word.{Word}
 use Rattle.cbor_edn_model.specs.declared.word.Word.TheVariants.{Named, Simple, NonFinite}
 use Rattle.cbor_edn_model.specs.Words.{word_text}
-use Rattle.cbor_edn_model.specs.code.Reading.{◌>>=◌, Reader, or_invalid, token, byte, not_empty, list_head_of, starts_with, word_at, tag_number, enclosed_item, tag_item, number_end, number_item, word_item, plain_item, list_item, stream_item, string_item, item, literal_piece, dots_piece, embedded_piece, piece, plus_string, string, entry, inside_full, inside, more, rest, sequence, standalone, rule, read, reads, outcome}
+use Rattle.cbor_edn_model.specs.code.Results.{◌>>=◌}
+use Rattle.cbor_edn_model.specs.code.Reading.{Reader, or_invalid, token, byte, not_empty, list_head_of, starts_with, word_at, tag_number, enclosed_item, tag_item, number_end, number_item, word_item, plain_item, list_item, stream_item, string_item, item, literal_piece, dots_piece, embedded_piece, piece, plus_string, string, entry, inside_full, inside, more, rest, sequence, standalone, rule, read, reads, outcome}
 use Rattle.cbor_edn_parts.proofs.Indicators.{spec-found}
 use Rattle.cbor_edn_parts.proofs.Tokens.{Holds, nothing, just}
 use Rattle.cbor_edn_model.proofs.text.Follows.{number_some}
@@ -126,7 +127,6 @@ any (Err Invalid) = invalid
 any (Err TooDeep) = deep tt
 
 same_then : {A B : Type 0} {P : A → Type 0} {Deep : Type 0} {m n : Result A ParseErrorKind} (f h : A → Result B ParseErrorKind) → m ≡ n → Meets P Deep m → ((x : A) → P x → f x ≡ h x) → (m >>= f) ≡ (n >>= h)
-unfolding ◌>>=◌
 same_then f h e invalid k = rw (← e)
 same_then f h e (deep d) k = rw (← e)
 same_then f h e (fine p) k = rw (← e) (k _ p)

@@ -4,7 +4,7 @@ use Rattle.std.specs.Int.{w8, w16, w32, w64, byte_len, from_be_bytes}
 use Rattle.std.specs.Int.{Width as Bits}
 use Rattle.std.specs.Fmt.{signed_decimal}
 use Rattle.cbor_edn_parts.specs.declared.error.Fault.{Fault}
-use Rattle.cbor_edn_parts.specs.declared.error.Fault.TheVariants.{Memory, Told}
+use Rattle.cbor_edn_model.specs.code.Results.{◌>>=◌, FailsBy, GivesBy}
 use Rattle.cbor_edn_parts.specs.declared.indicator.Indicator.{Indicator}
 use Rattle.cbor_edn_parts.specs.declared.indicator.Indicator.TheVariants.{Indefinite}
 use Rattle.cbor_edn_parts.specs.Contents.{kind_literal, empty_literal}
@@ -33,23 +33,16 @@ DecoderResult A = Result (A × List ℕ) CborError
 abbrev pub Decoder : Type 0 → Type 0
 Decoder A = List ℕ → DecoderResult A
 
-infixl 10 ◌>>=◌
-abbrev pub ◌>>=◌ : {A B : Type 0} → Result A CborError → (A → Result B CborError) → Result B CborError
-(Ok x) >>= f = f x
-(Err e) >>= f = Err e
-
 -- what is read, seen by a function
 abbrev pub shown : {A B : Type 0} → (A → B) → DecoderResult A → DecoderResult B
 shown f r = r >>= λ x. Ok (f x.0, x.1)
 
 -- What a function returned, seen by a view, is what reading gives, unless memory ran out.
 abbrev pub DecoderFails : {Y : Type 0} → Fault CborError → Result Y CborError → Type 0
-DecoderFails (Memory _) read = Unit {0}
-DecoderFails (Told f) read = read ≡ Err f
+DecoderFails = FailsBy (λ e. e)
 
 abbrev pub DecoderGives : {X Y : Type 0} → (X → Y) → Result X (Fault CborError) → Result Y CborError → Type 0
-DecoderGives view (Ok x) read = read ≡ Ok (view x)
-DecoderGives view (Err e) read = DecoderFails e read
+DecoderGives = GivesBy (λ e. e)
 
 -- the argument of a head and its width, or none
 abbrev pub Argument : Type 0
@@ -135,7 +128,7 @@ pub record Makes (A B : Type 0) : Type 0 where
   pub chunks : StringKind → List Chunk → A
   pub array : Argument → List A → A
   pub pair : A → A → B
-  pub object : Argument → List B → A
+  pub cbor_map : Argument → List B → A
   pub tag : Width → ℕ → A → A
   pub simple : ℕ → A
   pub float : Width → NonFinite → A
@@ -157,7 +150,7 @@ array_by m (Some inner) argument rest = several inner argument rest >>= λ xs. O
 
 abbrev pub map_by : {A B : Type 0} → Makes A B → Option (Decoder A) → Argument → Decoder A
 map_by m None argument rest = Err TooDeep
-map_by m (Some inner) argument rest = several (pair_at m inner) argument rest >>= λ xs. Ok (m.object argument xs.0, xs.1)
+map_by m (Some inner) argument rest = several (pair_at m inner) argument rest >>= λ xs. Ok (m.cbor_map argument xs.0, xs.1)
 
 abbrev pub tag_by : {A B : Type 0} → Makes A B → Option (Decoder A) → Argument → Decoder A
 tag_by m inner None rest = Err OpenNumber
@@ -269,7 +262,7 @@ trees = record {
   chunks = chunks_tree;
   array = λ argument ws. list_tree Array argument (element_row ws);
   pair = key_value;
-  object = λ argument es. list_tree Map argument (row_of es);
+  cbor_map = λ argument es. list_tree Map argument (row_of es);
   tag = λ w n t. EnclosedTree (Tag n (indicator_of w n)) (alone t);
   simple = simple_tree;
   float = λ w f. FloatTree f (float_indicator w);

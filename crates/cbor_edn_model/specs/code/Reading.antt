@@ -23,12 +23,8 @@ use Rattle.cbor_edn_model.specs.declared.word.Word.TheVariants.{Named, Simple, N
 use Rattle.cbor_edn_model.specs.Words.{word_text}
 use Rattle.cbor_edn_model.specs.Items.{Row, Elements, Pairs, Strings, Bracketed, Array, Map, entries_of}
 use Rattle.cbor_edn_model.specs.Spelling.{ending}
+use Rattle.cbor_edn_model.specs.code.Results.{◌>>=◌}
 use Rattle.cbor_edn_model.specs.Trees.{Rule, OneItem, OnePiece, OneString, OneEntry, Inside, Rest, Seq, Standalone, ListHead, Unmarked, Marked, Tree, NumberTree, FloatTree, NamedTree, EnclosedTree, ListTree, StringTree, StreamTree, LiteralTree, DotsTree, EmbeddedTree, LastPieceTree, PlusTree, ElementTree, PairTree, ChunkTree, EmptyTree, FullTree, LastTree, MoreTree, NothingTree, SequenceTree, StandaloneTree, joins}
-
-infixl 10 ◌>>=◌
-unfoldable pub ◌>>=◌ : {A B : Type 0} → Result A ParseErrorKind → (A → Result B ParseErrorKind) → Result B ParseErrorKind
-(Ok x) >>= f = f x
-(Err e) >>= f = Err e
 
 -- what is read, and the text behind it
 abbrev pub Read : Type 0 → Type 0
