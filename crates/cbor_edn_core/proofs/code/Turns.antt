@@ -278,7 +278,7 @@ rest_unparted limit k xs s q w h none c = rest_open limit k xs s q w h c ∙ rw 
 more_of : (limit : ℕ) (k : Row) (e : Tree (OneEntry k)) (s q : List ℕ) → s ≢ [] → more reads limit k e s q ≡ (reads limit (Rest k) q >>= λ m. Ok (MoreTree e s m.0, m.1))
 unfolding more not_empty
 more_of limit k e [] q n = absurd (n refl)
-more_of limit k e (c ∷ s) q n = bind_ok (Ok (c ∷ s)) (c ∷ s) _ refl
+more_of limit k e (c ∷ s) q n = refl
 
 -- entries so far, each with the separator behind it, in front of what is read next
 abbrev pub with_row : {k : Row} → List (Tree (OneEntry k) × List ℕ) → Read (Tree (Rest k)) → Read (Tree (Rest k))

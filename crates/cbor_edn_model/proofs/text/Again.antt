@@ -24,7 +24,6 @@ use Rattle.cbor_edn_model.specs.declared.word.NonFinite.TheVariants.{NaN}
 use Rattle.cbor_edn_model.specs.declared.word.Word.{Word}
 use Rattle.cbor_edn_model.specs.declared.word.Word.TheVariants as word
 use Rattle.cbor_edn_model.specs.Words.{named_text, non_finite_text, word_text}
-use Rattle.cbor_edn_model.specs.code.Results.{◌>>=◌}
 use Rattle.cbor_edn_model.specs.code.Reading.{Reader, or_invalid, token, byte, not_empty, list_head_of, starts_string, is_prefix, word_at, enclosed_item, tag_item, number_end, number_item, word_item, plain_item, list_item, stream_item, string_item, item, literal_piece, dots_piece, embedded_piece, piece, plus_string, string, entry, inside_full, inside, more, rest, sequence, standalone, read, outcome}
 use Rattle.cbor_edn_parts.proofs.Indicators.{spec-none, spec-some, spec-again}
 use Rattle.cbor_edn_parts.proofs.Tokens.{Halts, munch-again, token_texts}
