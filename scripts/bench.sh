@@ -1,7 +1,7 @@
 #!/usr/bin/env bash
 # Measures the time and the peak memory of a command of `cbor-edn` against an earlier program, both in one run.
 #
-# usage: scripts/bench.sh [--runs N] [--scale N] [--command WORDS] OLD [NEW]
+# usage: scripts/bench.sh [--runs N] [--scale N] [--beside] [--command WORDS] OLD [NEW]
 #
 # WORDS are the command and its flags, as 'diag2diag --remove-comments', and diag2cbor where none are given. The input of
 # cbor2diag is what NEW encodes of the texts that the other commands read. OLD and NEW are paths of the program's binary, or commits. Without NEW it is the working tree's program. A commit's
@@ -12,6 +12,9 @@
 # 1 there is no second size). Seconds are of user and system time, in the quickest run. Memory is the peak resident
 # set, the largest of the runs. A program whose time is linear takes the same seconds per MB at both sizes.
 #
+# With --beside it also times what Debian's packages have for the same, each on 1 MB and 3 times: jq and Python's json.tool on the
+# kinds that are JSON, beside diag2diag, and node-cbor on bytes, beside cbor2diag. What is not installed has no column.
+#
 # Status 0: measured, whatever came out. Status 1: the programs wrote different bytes, or one failed; such inputs have
 # no row. Status 2: other words on the command line.
 set -euo pipefail
@@ -20,12 +23,13 @@ root=$(dirname "$(dirname "$(readlink -f "$0")")")
 
 refuse() {
   echo "bench: $1" >&2
-  echo "usage: scripts/bench.sh [--runs N] [--scale N] [--command WORDS] OLD [NEW]" >&2
+  echo "usage: scripts/bench.sh [--runs N] [--scale N] [--beside] [--command WORDS] OLD [NEW]" >&2
   exit 2
 }
 
 runs=11
 scale=4
+beside=
 command=diag2cbor
 words=()
 while [ $# != 0 ]; do
@@ -39,6 +43,10 @@ while [ $# != 0 ]; do
       [[ ${2-} =~ ^[1-9][0-9]{0,3}$ ]] || refuse "$1 takes a number from 1 to 9999"
       if [ "$1" = --runs ]; then runs=$2; else scale=$2; fi
       shift 2
+      ;;
+    --beside)
+      beside=1
+      shift
       ;;
     -*) refuse "no option $1" ;;
     *)
@@ -103,7 +111,7 @@ echo "old: ${names[0]}"
 echo "new: ${names[1]}"
 echo "command: $command"
 
-python3 - "$work" "$runs" "$scale" "$command" << 'EOF_PYTHON'
+python3 - "$work" "$runs" "$scale" "$command" "$beside" << 'EOF_PYTHON'
 import ctypes
 import os
 import signal
@@ -115,6 +123,12 @@ SUBREAPER = 36  # prctl's word: orphans below this process become its children
 
 work, runs, scale = sys.argv[1], int(sys.argv[2]), int(sys.argv[3])
 COMMAND = sys.argv[4].split()
+# Programs of Debian's packages that do the same as a command, and the kinds that they read: all, or those that are JSON.
+BESIDE = {
+    "diag2diag": {"jq": ["/usr/bin/jq", "."], "json.tool": ["/usr/bin/python3", "-m", "json.tool"]},
+    "cbor2diag": {"node-cbor": ["/usr/bin/env", "NODE_PATH=/usr/share/nodejs", "/usr/bin/cbor2diag", "-"]},
+}
+JSON = ("integers", "texts", "one text")
 
 
 def fill(begin, units, between, end):
@@ -163,7 +177,12 @@ KINDS = {
 
 
 def run(side, source, sink, words=COMMAND):
-    """Runs a program once by the words of a command. Answers whether it succeeded, its seconds of processor time and its peak of memory in bytes."""
+    """Runs a side's program once by the words of a command. Answers as `run_words`."""
+    return run_words([f"{work}/{side}", *words], source, sink)
+
+
+def run_words(words, source, sink):
+    """Runs a program once. Answers whether it succeeded, its seconds of processor time and its peak of memory in bytes."""
     # A peak begins with what the process had before its exec. Started from here it would have had Python's memory:
     # so setsid starts it, which is small, ends at once and leaves it to this process.
     files = [
@@ -171,7 +190,7 @@ def run(side, source, sink, words=COMMAND):
         (os.POSIX_SPAWN_OPEN, 1, sink, os.O_WRONLY | os.O_CREAT | os.O_TRUNC, 0o600),
         (os.POSIX_SPAWN_OPEN, 2, f"{work}/said", os.O_WRONLY | os.O_CREAT | os.O_TRUNC, 0o600),
     ]
-    command = ["setsid", "--fork", f"{work}/{side}", *words]
+    command = ["setsid", "--fork", *words]
     starter = os.posix_spawnp("setsid", command, os.environ, file_actions=files)
     ended = {}
     try:
@@ -241,6 +260,21 @@ def ratio(old, new):
     return f"{old / new:.2f}" if new else "-"
 
 
+def measure_beside(inputs):
+    """Prints the seconds that the programs of other packages take, beside those of the new one."""
+    others = {name: words for name, words in BESIDE.get(COMMAND[0], {}).items() if all(os.path.exists(word) for word in words if word.startswith("/usr/bin/"))}
+    if not others:
+        print(f"beside {COMMAND[0]}: no other program is installed")
+        return
+    print(f"\n{'seconds, 1 MB':18}{'new':>10}" + "".join(f"{name:>12}" for name in others))
+    for kind in JSON if COMMAND[0] == "diag2diag" else KINDS:
+        source, row = inputs[kind][0], f"{kind:18}"
+        for at, program in enumerate([[f"{work}/new", *COMMAND], *others.values()]):
+            turns = [run_words(program, source, os.devnull) for _ in range(3)]
+            row += f"{min(took for _, took, _ in turns):{12 if at else 10}.4f}" if all(turn[0] for turn in turns) else f"{'fails':>{12 if at else 10}}"
+        print(row, flush=True)
+
+
 def main():
     if ctypes.CDLL(None).prctl(SUBREAPER, 1, 0, 0, 0) != 0:
         sys.exit("bench: prctl refuses")
@@ -288,6 +322,8 @@ def main():
         row += f"{old_peak / size:8.2f}{new_peak / size:8.2f}{ratio(old_peak, new_peak):>8}"
         row += "".join(f"{sides[side][0] / size * MB:10.4f}" for side in SIDES for size, sides in found)
         print(row, flush=True)
+    if sys.argv[5]:
+        measure_beside(inputs)
     if wrong:
         sys.exit(f"bench: not measured, as the programs differ or fail: {', '.join(sorted(wrong))}")
 

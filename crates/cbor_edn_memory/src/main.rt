@@ -27,17 +27,43 @@ const DECODED: &str = "[_ 1, {2: -4_0}, \"a\", (_ h'62'), 1(simple(32))]";
 
 const ENCODED: &[u8] = b"\x9f\x01\xa1\x02\x38\x03\x61a\x5f\x41b\xff\xc1\xf8\x20\xff";
 
-fn parse(alloc: Global) -> Outcome {
-    match Sequence::parse(alloc, TEXT) {
-        Ok(_) => Outcome::Done,
-        Err(fault) => Outcome::of_fault(fault),
+// Trees stand in boxes: a proof writes out what a function holds, and of a box only that it is one.
+
+// What a call answers, or what came of the call.
+fn boxed<T: Drop, E: Drop>(alloc: Global, answer: Result<T, Fault<E>>) -> Result<Box<T>, Outcome> {
+    match answer {
+        Ok(tree) => match Box::new(alloc, tree) {
+            Ok(tree) => Ok(tree),
+            Err(_) => Err(Outcome::Refused),
+        },
+        Err(fault) => Err(Outcome::of_fault(fault)),
     }
 }
 
-fn serialize(sequence: &Sequence<'_>, alloc: Global) -> Outcome {
-    match sequence.serialize(alloc) {
-        Ok(text) => Outcome::of_answer(text.as_str() == TEXT),
-        Err(_) => Outcome::Refused,
+fn sequence_of<'a>(alloc: Global, text: &'a str) -> Result<Box<Sequence<'a>>, Outcome> {
+    boxed(alloc, Sequence::parse(alloc, text))
+}
+
+fn standalone_of<'a>(alloc: Global, text: &'a str) -> Result<Box<StandaloneItem<'a>>, Outcome> {
+    boxed(alloc, StandaloneItem::parse(alloc, text))
+}
+
+fn decoded<'a>(alloc: Global, bytes: &[u8]) -> Result<Box<Sequence<'a>>, Outcome> {
+    boxed(alloc, Sequence::from_cbor(alloc, bytes))
+}
+
+fn decoded_item<'a>(alloc: Global, bytes: &[u8]) -> Result<Box<Item<'a>>, Outcome> {
+    boxed(alloc, Item::from_cbor(alloc, bytes))
+}
+
+fn literal_of<'a>(alloc: Global, prefix: &str, text: &str) -> Result<Box<Item<'a>>, Outcome> {
+    boxed(alloc, Item::new_application_literal(alloc, prefix, text))
+}
+
+fn parse(alloc: Global) -> Outcome {
+    match sequence_of(alloc, TEXT) {
+        Ok(_) => Outcome::Done,
+        Err(outcome) => outcome,
     }
 }
 
@@ -59,27 +85,34 @@ fn to_cbor(sequence: &Sequence<'_>, alloc: Global) -> Outcome {
 fn on_sequence<Call: Fn(&Sequence<'_>) -> Outcome>(alloc: Global, call: Call) -> Outcome
     requires { Call.IsAlwaysCallable call }
 {
-    match Sequence::parse(alloc, TEXT) {
+    match sequence_of(alloc, TEXT) {
         Ok(sequence) => call(&sequence),
-        Err(fault) => Outcome::of_fault(fault),
+        Err(outcome) => outcome,
+    }
+}
+
+fn is_written(sequence: &Sequence<'_>, alloc: Global, wanted: &str) -> Outcome {
+    match sequence.serialize(alloc) {
+        Ok(text) => Outcome::of_answer(text.as_str() == wanted),
+        Err(_) => Outcome::Refused,
     }
 }
 
 fn from_cbor(alloc: Global) -> Outcome {
-    match Sequence::from_cbor(alloc, ENCODED) {
-        Ok(sequence) => match sequence.serialize(alloc) {
-            Ok(text) => Outcome::of_answer(text.as_str() == DECODED),
-            Err(_) => Outcome::Refused,
-        },
-        Err(fault) => Outcome::of_fault(fault),
+    match decoded(alloc, ENCODED) {
+        Ok(sequence) => is_written(&sequence, alloc, DECODED),
+        Err(outcome) => outcome,
     }
 }
 
 fn set_comment(alloc: Global) -> Outcome {
-    let mut item = match StandaloneItem::parse(alloc, "1 # one\n") {
-        Ok(item) => item,
-        Err(fault) => return Outcome::of_fault(fault),
-    };
+    match standalone_of(alloc, "1 # one\n") {
+        Ok(mut item) => set_comment_of(&mut item, alloc),
+        Err(outcome) => outcome,
+    }
+}
+
+fn set_comment_of(item: &mut StandaloneItem<'_>, alloc: Global) -> Outcome {
     match item.set_comment(alloc, "0 / 1") {
         Ok(()) => match item.serialize(alloc) {
             Ok(text) => Outcome::of_answer(text.as_str() == "# 0 / 1\n1 # one\n"),
@@ -113,15 +146,18 @@ fn set_delimiters(alloc: Global) -> Outcome {
 }
 
 fn set_policy(alloc: Global, policy: DelimiterPolicy) -> Outcome {
-    let mut item = match StandaloneItem::parse(alloc, "[_ /c/ 1, (_ 'a'+'b' # d\n), {2: /e/ 3}]") {
-        Ok(item) => item,
-        Err(fault) => return Outcome::of_fault(fault),
-    };
+    match standalone_of(alloc, "[_ /c/ 1, (_ 'a'+'b' # d\n), {2: /e/ 3}]") {
+        Ok(mut item) => set_policy_of(&mut item, alloc, policy),
+        Err(outcome) => outcome,
+    }
+}
+
+fn set_policy_of(item: &mut StandaloneItem<'_>, alloc: Global, policy: DelimiterPolicy) -> Outcome {
     let was_refused = item.set_delimiters(alloc, policy).is_err();
     if was_refused && policy == DelimiterPolicy::DiscardAll {
         return Outcome::Wrong;
     }
-    match reads_back(alloc, &item, b"\x9f\x01\x5f\x42ab\xff\xa1\x02\x03\xff") {
+    match reads_back(alloc, item, b"\x9f\x01\x5f\x42ab\xff\xa1\x02\x03\xff") {
         Outcome::Done if was_refused => Outcome::Refused,
         outcome => outcome,
     }
@@ -133,11 +169,14 @@ fn reads_back(alloc: Global, item: &StandaloneItem<'_>, bytes: &[u8]) -> Outcome
         Ok(text) => text,
         Err(_) => return Outcome::Refused,
     };
-    let read = match StandaloneItem::parse(alloc, text.as_str()) {
-        Ok(read) => read,
-        Err(fault) => return Outcome::of_fault(fault),
-    };
-    match read.to_cbor(alloc) {
+    match standalone_of(alloc, text.as_str()) {
+        Ok(read) => is_encoded(&read, alloc, bytes),
+        Err(outcome) => outcome,
+    }
+}
+
+fn is_encoded(item: &StandaloneItem<'_>, alloc: Global, bytes: &[u8]) -> Outcome {
+    match item.to_cbor(alloc) {
         Ok(found) => Outcome::of_answer(found.as_slice() == bytes),
         Err(fault) => Outcome::of_fault(fault),
     }
@@ -146,10 +185,13 @@ fn reads_back(alloc: Global, item: &StandaloneItem<'_>, bytes: &[u8]) -> Outcome
 // The comment behind an indicator goes in front of the space of a line, for which memory is asked: where it is refused, the
 // indicator stays with it.
 fn discard_encoding_indicators(alloc: Global) -> Outcome {
-    let mut sequence = match Sequence::parse(alloc, "[_ /c/ 1_1]") {
-        Ok(sequence) => sequence,
-        Err(fault) => return Outcome::of_fault(fault),
-    };
+    match sequence_of(alloc, "[_ /c/ 1_1]") {
+        Ok(mut sequence) => discard_indicators_of(&mut sequence, alloc),
+        Err(outcome) => outcome,
+    }
+}
+
+fn discard_indicators_of(sequence: &mut Sequence<'_>, alloc: Global) -> Outcome {
     let indented = DelimiterPolicy::IndentedRegularSpacing {
         base_indent: 0,
         indent_level: 1,
@@ -225,10 +267,13 @@ fn construct(alloc: Global) -> Outcome {
 
 // The bytes of a string of indefinite length.
 fn get_bytes(alloc: Global) -> Outcome {
-    let item: Item<'_> = match Item::from_cbor(alloc, b"\x5f\x41a\x42bc\xff") {
-        Ok(item) => item,
-        Err(fault) => return Outcome::of_fault(fault),
-    };
+    match decoded_item(alloc, b"\x5f\x41a\x42bc\xff") {
+        Ok(item) => get_bytes_of(&item, alloc),
+        Err(outcome) => outcome,
+    }
+}
+
+fn get_bytes_of(item: &Item<'_>, alloc: Global) -> Outcome {
     match item.get_bytes(alloc) {
         Ok(bytes) => Outcome::of_answer(bytes.as_slice() == b"abc".as_slice()),
         Err(fault) => Outcome::of_fault(fault),
@@ -237,10 +282,13 @@ fn get_bytes(alloc: Global) -> Outcome {
 
 // The prefix and the text of a literal.
 fn get_application_literal(alloc: Global) -> Outcome {
-    let item: Item<'_> = match Item::new_application_literal(alloc, "b64", "a'b") {
-        Ok(item) => item,
-        Err(fault) => return Outcome::of_fault(fault),
-    };
+    match literal_of(alloc, "b64", "a'b") {
+        Ok(item) => get_application_literal_of(&item, alloc),
+        Err(outcome) => outcome,
+    }
+}
+
+fn get_application_literal_of(item: &Item<'_>, alloc: Global) -> Outcome {
     match item.get_application_literal(alloc) {
         Ok((prefix, text)) => Outcome::of_answer(
             prefix.as_str() == "b64" && text.as_str() == "a'b",
@@ -315,26 +363,30 @@ fn are_parts_answered(sequence: &mut Sequence<'_>) -> bool {
 
 // Accessors and loans take no memory: none of these calls is refused for want of it, whichever allocation is.
 fn without_memory(alloc: Global) -> Outcome {
-    match Sequence::parse(alloc, "[{2: 3}, 4(5)]") {
-        Ok(mut sequence) => Outcome::of_answer(
-            are_parts_answered(&mut sequence)
-                && sequence
-                    .set_delimiters(alloc, DelimiterPolicy::DiscardAll)
-                    .is_ok(),
-        ),
-        Err(fault) => Outcome::of_fault(fault),
+    match sequence_of(alloc, "[{2: 3}, 4(5)]") {
+        Ok(mut sequence) => without_memory_of(&mut sequence, alloc),
+        Err(outcome) => outcome,
     }
+}
+
+fn without_memory_of(sequence: &mut Sequence<'_>, alloc: Global) -> Outcome {
+    Outcome::of_answer(
+        are_parts_answered(sequence)
+            && sequence
+                .set_delimiters(alloc, DelimiterPolicy::DiscardAll)
+                .is_ok(),
+    )
 }
 
 // Nor do the place of a refusal, and policies that are made.
 fn place_of_refusal(alloc: Global) -> Outcome {
-    match Sequence::parse(alloc, "1\n,,") {
-        Err(Fault::Told(refused)) => Outcome::of_answer(
+    match Sequence::parse(alloc, "1\n,,").err() {
+        Some(Fault::Told(refused)) => Outcome::of_answer(
             (refused.line(), refused.column(), refused.offset()) == (2, 2, 3)
                 && DelimiterPolicy::indented() == DelimiterPolicy::indented(),
         ),
-        Err(Fault::Memory(_)) => Outcome::Refused,
-        Ok(_) => Outcome::Wrong,
+        Some(Fault::Memory(_)) => Outcome::Refused,
+        None => Outcome::Wrong,
     }
 }
 
@@ -443,14 +495,33 @@ fn visited(alloc: Global, visit: Visit, texts: &[&'static str]) -> Outcome {
     let Some(&first) = before.first() else {
         return Outcome::Wrong;
     };
-    let mut item = match StandaloneItem::parse(alloc, first) {
-        Ok(item) => item,
-        Err(fault) => return Outcome::of_fault(fault),
-    };
-    let answer = visit_alone(&mut item, alloc, visit);
+    match standalone_of(alloc, first) {
+        Ok(mut item) => visited_of(&mut item, alloc, visit, last, before),
+        Err(outcome) => outcome,
+    }
+}
+
+fn is_one_of(texts: &[&'static str], text: &str) -> bool {
+    let mut is_found = false;
+    for &one in texts {
+        if one == text {
+            is_found = true;
+        }
+    }
+    is_found
+}
+
+fn visited_of(
+    item: &mut StandaloneItem<'_>,
+    alloc: Global,
+    visit: Visit,
+    last: &str,
+    before: &[&'static str],
+) -> Outcome {
+    let answer = visit_alone(item, alloc, visit);
     match (item.serialize(alloc), answer) {
         (Ok(text), Ok(())) => Outcome::of_answer(text.as_str() == last),
-        (Ok(text), Err(Fault::Memory(_))) if before.contains(&text.as_str()) => Outcome::Refused,
+        (Ok(text), Err(Fault::Memory(_))) if is_one_of(before, text.as_str()) => Outcome::Refused,
         (Err(_), Ok(())) => Outcome::Refused,
         _ => Outcome::Wrong,
     }
@@ -462,7 +533,7 @@ fn main(rt: HostRuntime) -> io::Result<()> {
         ("parse", parse(rt.alloc())),
         (
             "serialize",
-            on_sequence(rt.alloc(), |s| serialize(s, rt.alloc())),
+            on_sequence(rt.alloc(), |s| is_written(s, rt.alloc(), TEXT)),
         ),
         ("clone", on_sequence(rt.alloc(), clone)),
         (
