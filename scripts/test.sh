@@ -74,7 +74,7 @@ add scripts/check-reads.sh
 mkdir "$beside/tree"
 tar -c --exclude=out --exclude=.git . | tar -x -C "$beside/tree"
 refuse_memory "$beside/tree" &
-# Nearly all waits for the crate of trees, whose proof takes as long as half of the others together.
+# Nearly all waits for the crate of trees, whose proof is by far the longest.
 prove_ahead "$beside/ahead" cbor_edn_parts cbor_edn_model cbor_edn_core &
 # it begins with a proof that `rt ci` would begin with too
 sleep 10
