@@ -79,7 +79,7 @@ prove_ahead "$beside/ahead" cbor_edn_parts cbor_edn_model cbor_edn_core &
 # it begins with a proof that `rt ci` would begin with too
 sleep 10
 # One check for each processor: by itself, rt holds checks back for memory that they do not need. It gives way to the proofs ahead.
-RT_JOBS=$(nproc) add nice -n 5 rt ci
+RT_JOBS=$(nproc) add nice -n 10 rt ci
 wait
 for crate in crates/*_memory; do
   add cat "$beside/$(basename "$crate")"
