@@ -2,6 +2,7 @@
 ghost use Rattle.std.specs.Prelude.{◌≡◌, ◌≤◌, ◌^◌, ◌↔◌, ℤ, pos, neg_ℤ, if◌then◌else◌, IsTrue, IfOk, IfSome, IsNone, drop, true, string_bytes, unsigned_abs};
 ghost use Rattle.std.specs.Cow.{cow_str_bytes};
 ghost use Rattle.std.specs.Fmt.{signed_decimal};
+ghost use Rattle.std.specs.Str.Parse.{ParsesUnsigned};
 ghost use Rattle.cbor_edn_parts.specs.Number.{MinusSign, radix, HasInteger};
 ghost use Rattle.cbor_edn_parts.specs.code.NumberReading.{prefix_length, sign_of, unsigned, named_base};
 ghost use Rattle.cbor_edn_parts.specs.code.NumberTokens as tokens;
@@ -13,6 +14,7 @@ use crate::scan::State;
 pub use read::number_at;
 use std::alloc::{AllocError, Global};
 use std::borrow::CowStr;
+use std::num::ParseIntError;
 
 mod range;
 mod read;
@@ -226,7 +228,17 @@ impl State for Reached {
     ghost table = { tokens.number };
 
     fn step(self, byte: u8) -> Option<Reached> {
-        match Kind::of(byte) {
+        let kind = Kind::of(byte);
+        // most bytes of most numbers
+        if let (
+            Reached::Start | Reached::DecimalDigits,
+            Kind::One | Kind::TwoToSeven | Kind::EightOrNine,
+        )
+        | (Reached::DecimalDigits, Kind::Zero) = (self, kind)
+        {
+            return Some(Reached::DecimalDigits);
+        }
+        match kind {
             Kind::Plus | Kind::Minus => self.sign(),
             Kind::Zero => self.zero(),
             Kind::One => self.binary_digit(),
@@ -299,10 +311,22 @@ impl<'a> Number<'a> {
     {
         let (is_negative, unsigned) = split_sign(self.as_str());
         let (radix, digits) = split_base(unsigned);
-        match u128::from_str_radix(digits, radix) {
+        match parsed(digits, radix) {
             Ok(magnitude) => Some(Integer::signed(is_negative, magnitude)),
             Err(_) => None,
         }
+    }
+}
+
+/// As `u128::from_str_radix`, in 64 bits where they hold the number: digit by digit, 128 bits take several times as long.
+fn parsed(digits: &str, radix: u32) -> Result<u128, ParseIntError>
+    requires lower_bound { 2 ≤ radix }
+    requires upper_bound { radix ≤ 36 }
+    ensures value { ParsesUnsigned 128 radix digits.now result }
+{
+    match u64::from_str_radix(digits, radix) {
+        Ok(magnitude) => Ok(u128::from(magnitude)),
+        Err(_) => u128::from_str_radix(digits, radix),
     }
 }
 

@@ -1,5 +1,5 @@
 //! Space texts by a column of the table of spaces.
-ghost use Rattle.std.specs.Prelude.{◌≡◌, ◌∷◌, ◌++◌, IfOk, IsOk, OnOk, string_bytes};
+ghost use Rattle.std.specs.Prelude.{◌≡◌, ◌≤◌, ◌∷◌, ◌++◌, IfOk, IsOk, OnOk, string_bytes};
 ghost use Rattle.std.specs.Cow.{cow_str_bytes};
 ghost use Rattle.cbor_edn_parts.specs.Comments.{comments_of};
 ghost use Rattle.cbor_edn_parts.specs.Leaves.{s_bytes, ms_bytes, msc_bytes, soc_bytes};
@@ -13,9 +13,15 @@ use crate::policy::Spacing;
 use std::alloc::{AllocError, Global};
 use std::borrow::CowStr;
 
+/// The most spaces of a line that takes no memory.
+const SHORT: usize = 64;
+
+/// A comma, a line feed and so many spaces.
+const COMMA_LINE: &str = ",\n                                                                ";
+
 impl<'a> S<'a> {
-    /// The text by a column of the table. Fails where memory runs out; no memory is taken for no space and for one space, nor
-    /// for the comments alone of a text that is borrowed.
+    /// The text by a column of the table. Fails where memory runs out; no memory is taken for no space, for one space and for a
+    /// short line, nor for the comments alone of a text that is borrowed.
     pub fn spaced(&self, alloc: Global, spacing: Spacing) -> Result<S<'a>, AllocError>
         ensures bytes { IfOk result (λ t. s_bytes t ≡ table.spaced table.S spacing (s_bytes self.now)) }
         ensures least { spacing ≡ table.Least → IsOk result }
@@ -26,8 +32,8 @@ impl<'a> S<'a> {
 }
 
 impl<'a> Ms<'a> {
-    /// The text by a column of the table. Fails where memory runs out; no memory is taken for one space, nor for the comments
-    /// alone of a text that is borrowed.
+    /// The text by a column of the table. Fails where memory runs out; no memory is taken for one space and for a short line, nor
+    /// for the comments alone of a text that is borrowed.
     pub fn spaced(&self, alloc: Global, spacing: Spacing) -> Result<Ms<'a>, AllocError>
         ensures bytes { IfOk result (λ t. ms_bytes t ≡ table.spaced table.MS spacing (ms_bytes self.now)) }
         ensures least { spacing ≡ table.Least → IsOk result }
@@ -39,7 +45,7 @@ impl<'a> Ms<'a> {
 
 impl<'a> Msc<'a> {
     /// The text by a column of the table. Fails where memory runs out; no memory is taken for a comma, nor for a comma and
-    /// one space.
+    /// one space or a short line.
     pub fn spaced(&self, alloc: Global, spacing: Spacing) -> Result<Msc<'a>, AllocError>
         ensures bytes { IfOk result (λ t. msc_bytes t ≡ table.spaced table.MSC spacing (msc_bytes self.now)) }
         ensures least { spacing ≡ table.Least → IsOk result }
@@ -50,7 +56,8 @@ impl<'a> Msc<'a> {
 }
 
 impl<'a> Soc<'a> {
-    /// The text by a column of the table. Fails where memory runs out; no memory is taken for no space and for one space.
+    /// The text by a column of the table. Fails where memory runs out; no memory is taken for no space, for one space and for a
+    /// short line.
     pub fn spaced(&self, alloc: Global, spacing: Spacing) -> Result<Soc<'a>, AllocError>
         ensures bytes { IfOk result (λ t. soc_bytes t ≡ table.spaced table.SOC spacing (soc_bytes self.now)) }
         ensures least { spacing ≡ table.Least → IsOk result }
@@ -92,6 +99,9 @@ fn in_column<'a>(
         Spacing::Least => Ok(CowStr::Borrowed("")),
         Spacing::Comments | Spacing::OneLine => behind(alloc, "", before, after),
         Spacing::OneSpace => behind(alloc, " ", before, after),
+        Spacing::NewLine(indent) if indent <= SHORT => {
+            behind(alloc, short_line(indent), before, after)
+        }
         Spacing::NewLine(indent) => {
             let mut text = String::new(alloc);
             push_line(&mut text, indent)?;
@@ -142,6 +152,9 @@ fn with_comma<'a>(alloc: Global, spacing: Spacing, text: &str) -> Result<CowStr<
         Spacing::Least => return Ok(CowStr::Borrowed(",")),
         Spacing::Comments if is_empty => return Ok(CowStr::Borrowed(",")),
         Spacing::OneLine if is_empty => return Ok(CowStr::Borrowed(", ")),
+        Spacing::NewLine(indent) if is_empty && indent <= SHORT => {
+            return Ok(CowStr::Borrowed(comma_line(indent)));
+        }
         Spacing::Comments => format!(in alloc; "{before},{after}")?,
         Spacing::OneLine => format!(in alloc; "{before}, {after}")?,
         Spacing::OneSpace => format!(in alloc; " {before},{after}")?,
@@ -154,6 +167,22 @@ fn with_comma<'a>(alloc: Global, spacing: Spacing, text: &str) -> Result<CowStr<
         }
     };
     Ok(CowStr::Owned(text))
+}
+
+/// A comma, a line feed and so many spaces.
+fn comma_line(indent: usize) -> &'static str
+    requires { indent ≤ 64 }
+    ensures { result.now ≡ 44 ∷ line indent }
+{
+    &COMMA_LINE[..indent + 2]
+}
+
+/// A line feed and so many spaces.
+fn short_line(indent: usize) -> &'static str
+    requires { indent ≤ 64 }
+    ensures { result.now ≡ line indent }
+{
+    &comma_line(indent)[1..]
 }
 
 /// Appends a line feed and so many spaces. Where there is no memory for these it fails before it writes them.
