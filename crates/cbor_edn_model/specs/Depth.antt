@@ -3,6 +3,10 @@ use Rattle.std.specs.Prelude.{ℕ, suc, max}
 use Rattle.cbor_edn_model.specs.declared.label.LabelKind.TheVariants as label
 use Rattle.cbor_edn_model.specs.Trees.{Rule, Tree, NumberTree, FloatTree, NamedTree, EnclosedTree, ListTree, StringTree, StreamTree, LiteralTree, DotsTree, EmbeddedTree, LastPieceTree, PlusTree, ElementTree, PairTree, ChunkTree, EmptyTree, FullTree, LastTree, MoreTree, NothingTree, SequenceTree, StandaloneTree}
 
+-- how deep a piece `<<..>>` nests whose items nest so deep
+abbrev pub embedded_depth : ℕ → ℕ
+embedded_depth d = suc d
+
 -- How deep arrays, maps, tags and embedded sequences nest: 0 for `1`, 1 for `[]` and `<<>>`, 2 for `1([2])`; of several parts the
 -- deepest. Nothing counts in `simple(..)`.
 unfoldable pub depth : {s : Rule} → Tree s → ℕ
@@ -16,7 +20,7 @@ depth (StringTree w) = depth w
 depth (StreamTree ms m) = depth m
 depth (LiteralTree x i) = 0
 depth (DotsTree x) = 0
-depth (EmbeddedTree w i) = suc (depth w)
+depth (EmbeddedTree w i) = embedded_depth (depth w)
 depth (LastPieceTree p) = depth p
 depth (PlusTree p s t w) = max (depth p) (depth w)
 depth (ElementTree w) = depth w

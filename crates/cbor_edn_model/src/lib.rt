@@ -5,6 +5,7 @@
 pub mod bare;
 pub mod cbor;
 pub mod copy;
+pub mod depth;
 pub mod from_cbor;
 pub mod label;
 pub mod list_head;

@@ -10,6 +10,7 @@ use crate::tree::{
     CborString, InnerItem, Item, ItemList, Items, Kp, LabelKind, PairList, Pairs, Piece, Sequence,
     StandaloneItem, Stream, Strings,
 };
+use cbor_edn_model::depth::depth_of_embedded;
 use cbor_edn_parts::space::{Msc, S};
 
 /// How deep arrays, maps, tags and embedded sequences nest in the item, or the greatest number where it is more.
@@ -147,7 +148,7 @@ fn piece_depth(piece: &Piece<'_>) -> usize
 {
     match piece {
         Piece::Literal(..) | Piece::Dots(_) => 0,
-        Piece::Embedded(sequence, _) => sequence_depth(sequence).saturating_add(1),
+        Piece::Embedded(sequence, _) => depth_of_embedded(sequence_depth(sequence)),
     }
 }
 

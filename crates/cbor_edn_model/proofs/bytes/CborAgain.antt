@@ -85,9 +85,9 @@ arrays = record { opened = λ d argument rest. refl; closed = λ argument rest. 
 abbrev pair_reader : ℕ → Decoder (Value × Value)
 pair_reader d = pair_at makes (value_at d)
 
-objects : Lists (Value × Value) 5 pair_reader (λ w ps. cbor_map w (pairs_of ps))
+maps : Lists (Value × Value) 5 pair_reader (λ w ps. cbor_map w (pairs_of ps))
 unfolding item_by
-objects = record { opened = λ d argument rest. refl; closed = λ argument rest. refl }
+maps = record { opened = λ d argument rest. refl; closed = λ argument rest. refl }
 
 abbrev ManyAgain : Values → Type 0
 ManyAgain vs = (limit : ℕ) (rest : List ℕ) → many (value_at limit) (values_len vs) (encodings vs ++ rest) ≡ decoder_outcome (values_nesting vs) limit (list_of vs, rest)
@@ -109,10 +109,10 @@ array_again limit w vs rest fits counted ended =
     (record { counted = counted; ended = λ d turns rest lt. ended Break d turns (255 ∷ rest) rest refl lt; long = values_many vs }) fits
     ∙ ap (λ us. decoder_outcome (values_nesting vs + 1) limit (array w us, rest)) (values_of_list vs)
 
-object_again : (limit : ℕ) (w : Option Width) (ps : Pairs) (rest : List ℕ) → LengthFits w (pairs_len ps) → ManyPairsAgain ps → UntilPairsAgain ps
+map_again : (limit : ℕ) (w : Option Width) (ps : Pairs) (rest : List ℕ) → LengthFits w (pairs_len ps) → ManyPairsAgain ps → UntilPairsAgain ps
     → value_at limit (list_encoding 5 w (pairs_len ps) (pair_encodings ps) ++ rest) ≡ decoder_outcome (pairs_nesting ps + 1) limit (cbor_map w ps, rest)
-object_again limit w ps rest fits counted ended =
-    list_again pair_reader (λ w ps. cbor_map w (pairs_of ps)) 5 objects w (pairs_len ps) (pairs_nesting ps) (pair_encodings ps) (pair_list_of ps) limit rest
+map_again limit w ps rest fits counted ended =
+    list_again pair_reader (λ w ps. cbor_map w (pairs_of ps)) 5 maps w (pairs_len ps) (pairs_nesting ps) (pair_encodings ps) (pair_list_of ps) limit rest
     (record { counted = counted; ended = ended; long = pairs_many ps }) fits
     ∙ ap (λ us. decoder_outcome (pairs_nesting ps + 1) limit (cbor_map w us, rest)) (pairs_of_list ps)
 
@@ -207,7 +207,7 @@ mutual
   item_again (string k w bs) limit rest fits = leaf limit (string k w bs) rest _ (text_again limit k w bs rest fits)
   item_again (chunks k cs) limit rest fits = leaf limit (chunks k cs) rest _ (all_chunks_again limit k cs rest fits)
   item_again (array w vs) limit rest fits = array_again limit w vs rest fits.0 (values_again vs fits.1) (values_until vs fits.1)
-  item_again (cbor_map w ps) limit rest fits = object_again limit w ps rest fits.0 (pairs_again ps fits.1) (pairs_until ps fits.1)
+  item_again (cbor_map w ps) limit rest fits = map_again limit w ps rest fits.0 (pairs_again ps fits.1) (pairs_until ps fits.1)
   item_again (tag w n v) limit rest fits = tag_again limit w n v rest fits.0 (λ d. item_again v d rest fits.1)
   item_again (simple n) limit rest fits = simple_again limit n rest fits
   item_again (float w f) limit rest fits = leaf limit (float w f) rest _ (float_item_again limit w f rest fits)

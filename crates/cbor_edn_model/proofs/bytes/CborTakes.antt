@@ -206,8 +206,8 @@ array_made d vs w all fits =
     let are = values_are d vs all in
     (((fits_len w _ _ are.len fits, are.fit), omega (arith, are.nested)), ap (λ k. list_encoding 4 w k (encodings (values_of vs))) are.len ∙ ap (λ l. list_encoding 4 w (length vs) l) (sym are.spelled))
 
-object_made : (d : ℕ) → Made (BothWithin d) pair_encoding (λ w ps. cbor_map w (pairs_of ps)) 5 d
-object_made d ps w all fits =
+map_made : (d : ℕ) → Made (BothWithin d) pair_encoding (λ w ps. cbor_map w (pairs_of ps)) 5 d
+map_made d ps w all fits =
     let are = pairs_are d ps all in
     (((fits_len w _ _ are.len fits, are.fit), omega (arith, are.nested)), ap (λ k. list_encoding 5 w k (pair_encodings (pairs_of ps))) are.len ∙ ap (λ l. list_encoding 5 w (length ps) l) (sym are.spelled))
 
@@ -230,7 +230,7 @@ map_takes limit (Some one) argument bytes rest x sound h e =
     let d = sound.0 in
     let b = bind_ok (several (pair_at makes one) argument rest) (λ xs. Ok (cbor_map (argument_width argument) (pairs_of xs.0), xs.1)) x e in
     subst (λ (y : Value × List ℕ). Good limit bytes y) (ok_is (cbor_map (argument_width argument) (pairs_of b.0.0), b.0.1) x b.2)
-    (subst (λ k. Good k bytes (cbor_map (argument_width argument) (pairs_of b.0.0), b.0.1)) (sym sound.1) (list_takes (BothWithin d) pair_encoding (pair_at makes one) (λ w ps. cbor_map w (pairs_of ps)) 5 d (pair_takes d one sound.2) (object_made d) argument bytes rest b.0 h b.1))
+    (subst (λ k. Good k bytes (cbor_map (argument_width argument) (pairs_of b.0.0), b.0.1)) (sym sound.1) (list_takes (BothWithin d) pair_encoding (pair_at makes one) (λ w ps. cbor_map w (pairs_of ps)) 5 d (pair_takes d one sound.2) (map_made d) argument bytes rest b.0 h b.1))
 
 unsigned_takes : (limit : ℕ) (argument : Option (Width × ℕ)) (bytes rest : List ℕ) (x : Value × List ℕ) → HeadIs bytes 0 argument rest → number_by unsigned argument rest ≡ Ok x → Good limit bytes x
 unsigned_takes limit None bytes rest x h e = absurd cc
