@@ -4,7 +4,7 @@
 
 ghost use Rattle.std.specs.Prelude.{◌≡◌, option_map, map, List, Some, None, IfOk, IfErr};
 ghost use Rattle.std.specs.String.{string_bytes};
-ghost use Rattle.cbor_edn_core.specs.Callbacks.{IsCall, IsKeyCall, MayVisit, IfVisited, ending};
+ghost use Rattle.cbor_edn_core.specs.Callbacks.{IsCall, IsKeyCall, IfVisited, ending};
 ghost use Rattle.cbor_edn_core.specs.Constructed.{tagged_tree};
 ghost use Rattle.cbor_edn_core.specs.Iterated.{items_left, pairs_left, both_trees};
 ghost use Rattle.cbor_edn_core.specs.IteratedMut.{items_to_lend, pairs_to_lend, sequence_items_to_lend};
@@ -14,8 +14,9 @@ ghost use Rattle.cbor_edn_model.specs.Accessed.{IsApplicationItem, array_items, 
 ghost use Rattle.cbor_edn_model.specs.Paths.{at_sequence, items_in};
 ghost use Rattle.cbor_edn_model.specs.Seeking.{SoughtCall, VisitParts, IsTag, IsApplication};
 ghost use Rattle.cbor_edn_model.specs.Trees.{text};
-ghost use Rattle.cbor_edn_model.specs.Visits.{Call, KeyCall, Chain, VisitArray, VisitMap, elements_of, keys_of};
+ghost use Rattle.cbor_edn_model.specs.Visits.{Call, KeyCall, Chain, VisitArray, VisitMap};
 ghost use Rattle.cbor_edn_parts.specs.Refusals.{IfTold};
+ghost use Rattle.cbor_edn_tree_calls.specs.Callable.{AlwaysCallable};
 
 use cbor_edn_core::access::{
     ArrayItems, ArrayItemsMut, MapItems, MapItemsMut, SequenceItemsMut, TypeMismatch,
@@ -127,25 +128,27 @@ pub fn tagged<'a>(
     item.tagged(alloc, number)
 }
 
-/// `Item::visit_array_elements`.
+/// `Item::visit_array_elements`, of a callback that may always be called, also by a body that calls it once too often.
+#[tactic(auto, using(crate::proofs::Visited::may_visit))]
 pub fn visit_array_elements<'a, F: FnMut(&mut Item<'a>) -> Result<Option<String>, CallbackError>>(
     item: &mut Item<'a>,
     alloc: Global,
     f: &mut F,
 ) -> Result<(), Fault<TypeMismatch>>
-    requires callable { MayVisit item_tree F.FnMut (IsCall item_tree F.FnMut) (λ c. c.before) (elements_of (item_tree item.old)) f.old }
+    requires callable { AlwaysCallable F.FnMut }
     ensures visited { IfVisited result (λ r. (cs : List Call) × Chain (IsCall item_tree F.FnMut) f.old cs f.new × VisitArray (item_tree item.old) cs (item_tree item.new) r) }
 {
     item.visit_array_elements(alloc, f)
 }
 
-/// `Item::visit_map_elements`.
+/// `Item::visit_map_elements`, of such a callback.
+#[tactic(auto, using(crate::proofs::Visited::may_visit))]
 pub fn visit_map_elements<
     'a,
     H: MapValueHandler<'a>,
     F: FnMut(&mut Item<'a>) -> Result<(Option<String>, Option<H>), CallbackError>,
 >(item: &mut Item<'a>, alloc: Global, f: &mut F) -> Result<(), Fault<TypeMismatch>>
-    requires callable { MayVisit item_tree F.FnMut (IsKeyCall item_tree F.FnMut H.handles) (λ c. c.at_key.before) (keys_of (item_tree item.old)) f.old }
+    requires callable { AlwaysCallable F.FnMut }
     ensures visited { IfVisited result (λ r. (cs : List KeyCall) × Chain (IsKeyCall item_tree F.FnMut H.handles) f.old cs f.new × VisitMap (item_tree item.old) cs (item_tree item.new) r) }
 {
     item.visit_map_elements(alloc, f)
