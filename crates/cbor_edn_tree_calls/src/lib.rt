@@ -2,15 +2,17 @@
 //! here is that of a small crate, and what a clause refuses here it refuses where the call is written.
 #![tactic(auto)]
 
-ghost use Rattle.std.specs.Prelude.{◌≡◌, option_map, map, List, Some, None, IfOk, IfErr};
+ghost use Rattle.std.specs.Prelude.{◌≡◌, option_map, map, List, Some, None, IfOk, IfErr, OnOk};
 ghost use Rattle.std.specs.String.{string_bytes};
 ghost use Rattle.cbor_edn_core.specs.Callbacks.{IsCall, IsKeyCall, IfVisited, ending};
 ghost use Rattle.cbor_edn_core.specs.Constructed.{tagged_tree};
 ghost use Rattle.cbor_edn_core.specs.Iterated.{items_left, pairs_left, both_trees};
 ghost use Rattle.cbor_edn_core.specs.IteratedMut.{items_to_lend, pairs_to_lend, sequence_items_to_lend};
+ghost use Rattle.cbor_edn_core.specs.Lent.{with_tag_content};
 ghost use Rattle.cbor_edn_core.specs.Sought.{IsTagCall, IsLiteralCall, MayVisitTags, MayVisitLiterals};
 ghost use Rattle.cbor_edn_core.specs.View.{item_tree, sequence_tree, standalone_tree};
 ghost use Rattle.cbor_edn_model.specs.Accessed.{IsApplicationItem, array_items, item_bytes, map_items, tag_content, tag_number};
+ghost use Rattle.cbor_edn_model.specs.Commented.{commented};
 ghost use Rattle.cbor_edn_model.specs.Paths.{at_sequence, items_in};
 ghost use Rattle.cbor_edn_model.specs.Seeking.{SoughtCall, VisitParts, IsTag, IsApplication};
 ghost use Rattle.cbor_edn_model.specs.Trees.{text};
@@ -40,6 +42,20 @@ pub fn get_tagged<'t, 'a>(item: &'t Item<'a>) -> Result<&'t StandaloneItem<'a>, 
     ensures refused { IfErr result (λ e. (e ≡ TypeMismatch.TaggedItem) × (tag_content (item_tree item.now) ≡ None)) }
 {
     item.get_tagged()
+}
+
+/// `Item::get_tagged_mut`, for a comment in front of what it lends.
+pub fn set_comment_in_tag(
+    item: &mut Item<'_>,
+    alloc: Global,
+    comment: &str,
+) -> Result<(), Fault<TypeMismatch>>
+    ensures { OnOk result (Some (item_tree item.new) ≡ option_map (λ w. with_tag_content (commented comment.now w) (item_tree item.old)) (tag_content (item_tree item.old))) }
+{
+    match item.get_tagged_mut() {
+        Ok(content) => Ok(content.set_comment(alloc, comment)?),
+        Err(mismatch) => Err(Fault::Told(mismatch)),
+    }
 }
 
 /// `Item::get_array_items`.

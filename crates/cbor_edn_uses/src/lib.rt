@@ -1,11 +1,9 @@
 //! Uses of `cbor_edn`, as a caller writes them: each contract follows from those of the calls alone.
 #![tactic(auto)]
 
-ghost use Rattle.std.specs.Prelude.{◌≡◌, ◌≤◌, Some, IfSome, IfOk, IsErr, OnOk, option_map};
+ghost use Rattle.std.specs.Prelude.{◌≡◌, ◌≤◌, Some, IfSome, IfOk, IsErr};
 ghost use Rattle.std.specs.Option.{OnSome};
 ghost use Rattle.std.specs.String.{string_bytes};
-ghost use Rattle.cbor_edn_model.specs.Accessed.{tag_content};
-ghost use Rattle.cbor_edn_model.specs.Commented.{commented};
 ghost use Rattle.cbor_edn_model.specs.Decoded.{items_of};
 ghost use Rattle.cbor_edn_model.specs.Items.{Items, nesting};
 ghost use Rattle.cbor_edn_core.specs.Lent.{with_tag_content};
@@ -15,7 +13,7 @@ ghost use Rattle.cbor_edn_model.specs.Spelling.{SpellsSequence};
 ghost use Rattle.cbor_edn_model.specs.Value.{Values, EncAll};
 ghost use Rattle.cbor_edn_core.specs.View.{item_tree, sequence_tree, standalone_tree};
 
-use cbor_edn::{Fault, Item, Sequence, StandaloneItem, TypeMismatch};
+use cbor_edn::{Item, Sequence, StandaloneItem, TypeMismatch};
 use std::alloc::Global;
 
 /// The CBOR that a text means, as for a commented configuration that ships as CBOR. None where the text is no EDN, means
@@ -55,21 +53,6 @@ pub fn retagged<'a>(item: &mut Item<'a>, content: StandaloneItem<'a>) -> Result<
 {
     *item.get_tagged_mut()? = content;
     Ok(())
-}
-
-/// Puts a comment in front of what a tag holds, as for a reader who doesn't know its number. Fails where the item is no tag, and
-/// where memory runs out.
-pub fn explained(
-    item: &mut Item<'_>,
-    alloc: Global,
-    comment: &str,
-) -> Result<(), Fault<TypeMismatch>>
-    ensures { OnOk result (Some (item_tree item.new) ≡ option_map (λ w. with_tag_content (commented comment.now w) (item_tree item.old)) (tag_content (item_tree item.old))) }
-{
-    match item.get_tagged_mut() {
-        Ok(content) => Ok(content.set_comment(alloc, comment)?),
-        Err(mismatch) => Err(Fault::Told(mismatch)),
-    }
 }
 
 /// Puts another item where a path leads, as for one value of a configuration. None where the path leads nowhere; the sequence
