@@ -1,8 +1,8 @@
-use Rattle.std.proofs.Common.{ℕ, ◌≡◌, ◌∙◌, List, drop, IsTrue, ap}
+use Rattle.std.proofs.Common.{ℕ, ◌≡◌, List, IsTrue}
 use Rattle.std.specs.Prelude.{Bool, ◌↔◌}
 use Rattle.cbor_edn_parts.specs.Leaves.{number_bytes}
-use Rattle.cbor_edn_parts.specs.Number.{IsNumber, MinusSign, radix}
-use Rattle.cbor_edn_parts.specs.code.NumberReading.{prefix_length, sign_of, unsigned, named_base, base_of, digits_of}
+use Rattle.cbor_edn_parts.specs.Number.{IsNumber, MinusSign}
+use Rattle.cbor_edn_parts.specs.code.NumberReading.{sign_of}
 use Rattle.cbor_edn_parts.specs.code.NumberTokens.{is_number}
 use Rattle.cbor_edn_parts.proofs.NumberTexts.{number_texts}
 use Rattle.cbor_edn_parts.proofs.NumberParts.{digits_are, base_is, too_large, integer_by}

@@ -1,4 +1,4 @@
-use Rattle.std.proofs.Common.{◌≡◌, ◌≢◌, ℕ, List, [], true, false, refl, sym, ap, subst, ◌∙◌, eqb, length, Ok, IsOk, IfOk, Vec, String, Global, string_bytes, arith}
+use Rattle.std.proofs.Common.{◌≡◌, ◌≢◌, ℕ, List, [], true, false, refl, sym, ap, subst, ◌∙◌, eqb, length, Vec, Global, string_bytes, arith}
 use Rattle.std.proofs.lemmas.Bool.Decides.{nat_tests}
 use Rattle.std.proofs.lemmas.List.{nil_from_length}
 use Rattle.cbor_edn_parts.specs.Leaves.{literal_bytes}
