@@ -2,16 +2,17 @@
 //! here is that of a small crate, and what a clause refuses here it refuses where the call is written.
 #![tactic(auto)]
 
-ghost use Rattle.std.specs.Prelude.{◌≡◌, option_map, map, List, Some, None, IfOk, IfErr, OnOk};
+ghost use Rattle.std.specs.Prelude.{◌≡◌, ℕ, option_map, map, List, Some, None, IfOk, IfErr, OnOk};
 ghost use Rattle.std.specs.String.{string_bytes};
 ghost use Rattle.cbor_edn_core.specs.Callbacks.{IsCall, IsKeyCall, IfVisited, ending};
 ghost use Rattle.cbor_edn_core.specs.Constructed.{tagged_tree};
 ghost use Rattle.cbor_edn_core.specs.Iterated.{items_left, pairs_left, both_trees};
 ghost use Rattle.cbor_edn_core.specs.IteratedMut.{items_to_lend, pairs_to_lend, sequence_items_to_lend};
 ghost use Rattle.cbor_edn_core.specs.Lent.{with_tag_content};
+ghost use Rattle.cbor_edn_core.specs.Mismatch.{literal_mismatch};
 ghost use Rattle.cbor_edn_core.specs.Sought.{IsTagCall, IsLiteralCall, MayVisitTags, MayVisitLiterals};
 ghost use Rattle.cbor_edn_core.specs.View.{item_tree, sequence_tree, standalone_tree};
-ghost use Rattle.cbor_edn_model.specs.Accessed.{IsApplicationItem, array_items, item_bytes, map_items, tag_content, tag_number};
+ghost use Rattle.cbor_edn_model.specs.Accessed.{IsApplicationItem, array_items, item_bytes, map_items, string_tree, tag_content, tag_number};
 ghost use Rattle.cbor_edn_model.specs.Commented.{commented};
 ghost use Rattle.cbor_edn_model.specs.Paths.{at_sequence, items_in};
 ghost use Rattle.cbor_edn_model.specs.Seeking.{SoughtCall, VisitParts, IsTag, IsApplication};
@@ -50,7 +51,8 @@ pub fn set_comment_in_tag(
     alloc: Global,
     comment: &str,
 ) -> Result<(), Fault<TypeMismatch>>
-    ensures { OnOk result (Some (item_tree item.new) ≡ option_map (λ w. with_tag_content (commented comment.now w) (item_tree item.old)) (tag_content (item_tree item.old))) }
+    ensures commented { OnOk result (Some (item_tree item.new) ≡ option_map (λ w. with_tag_content (commented comment.now w) (item_tree item.old)) (tag_content (item_tree item.old))) }
+    ensures refused { IfTold result (λ e. (e ≡ TypeMismatch.TaggedItem) × (tag_content (item_tree item.old) ≡ None)) }
 {
     match item.get_tagged_mut() {
         Ok(content) => Ok(content.set_comment(alloc, comment)?),
@@ -115,6 +117,7 @@ pub fn get_application_literal(
     alloc: Global,
 ) -> Result<(String, String), Fault<TypeMismatch>>
     ensures found { IfOk result (λ p. IsApplicationItem (item_tree item.now) (string_bytes p.0) (string_bytes p.1)) }
+    ensures refused { IfTold result (λ e. (e ≡ literal_mismatch (string_tree (item_tree item.now))) × ((p v : List ℕ) → IsApplicationItem (item_tree item.now) p v → ⊥)) }
 {
     item.get_application_literal(alloc)
 }
@@ -153,6 +156,7 @@ pub fn visit_array_elements<'a, F: FnMut(&mut Item<'a>) -> Result<Option<String>
 ) -> Result<(), Fault<TypeMismatch>>
     requires callable { AlwaysCallable F.FnMut }
     ensures visited { IfVisited result (λ r. (cs : List Call) × Chain (IsCall item_tree F.FnMut) f.old cs f.new × VisitArray (item_tree item.old) cs (item_tree item.new) r) }
+    ensures refused { IfTold result (λ e. (e ≡ TypeMismatch.Array) × (array_items (item_tree item.old) ≡ None) × (item.new ≡ item.old) × (f.new ≡ f.old)) }
 {
     item.visit_array_elements(alloc, f)
 }
@@ -166,6 +170,7 @@ pub fn visit_map_elements<
 >(item: &mut Item<'a>, alloc: Global, f: &mut F) -> Result<(), Fault<TypeMismatch>>
     requires callable { AlwaysCallable F.FnMut }
     ensures visited { IfVisited result (λ r. (cs : List KeyCall) × Chain (IsKeyCall item_tree F.FnMut H.handles) f.old cs f.new × VisitMap (item_tree item.old) cs (item_tree item.new) r) }
+    ensures refused { IfTold result (λ e. (e ≡ TypeMismatch.Map) × (map_items (item_tree item.old) ≡ None) × (item.new ≡ item.old) × (f.new ≡ f.old)) }
 {
     item.visit_map_elements(alloc, f)
 }

@@ -1,14 +1,14 @@
 //! Uses of `cbor_edn`, as a caller writes them: each contract follows from those of the calls alone.
 #![tactic(auto)]
 
-ghost use Rattle.std.specs.Prelude.{◌≡◌, ◌≤◌, Some, IfSome, IfOk, IsErr};
+ghost use Rattle.std.specs.Prelude.{◌≡◌, ◌≤◌, Some, None, IfSome, IsNone, IfOk, IsErr};
 ghost use Rattle.std.specs.Option.{OnSome};
 ghost use Rattle.std.specs.String.{string_bytes};
 ghost use Rattle.cbor_edn_model.specs.Decoded.{items_of};
 ghost use Rattle.cbor_edn_model.specs.Items.{Items, nesting};
 ghost use Rattle.cbor_edn_core.specs.Lent.{with_tag_content};
 ghost use Rattle.cbor_edn_model.specs.Meaning.{means};
-ghost use Rattle.cbor_edn_model.specs.Paths.{with_at_sequence};
+ghost use Rattle.cbor_edn_model.specs.Paths.{at_sequence, with_at_sequence};
 ghost use Rattle.cbor_edn_model.specs.Spelling.{SpellsSequence};
 ghost use Rattle.cbor_edn_model.specs.Value.{Values, EncAll};
 ghost use Rattle.cbor_edn_core.specs.View.{item_tree, sequence_tree, standalone_tree};
@@ -58,7 +58,8 @@ pub fn retagged<'a>(item: &mut Item<'a>, content: StandaloneItem<'a>) -> Result<
 /// Puts another item where a path leads, as for one value of a configuration. None where the path leads nowhere; the sequence
 /// stays then.
 pub fn replaced<'a>(sequence: &mut Sequence<'a>, path: &[usize], item: Item<'a>) -> Option<()>
-    ensures { OnSome result (sequence_tree sequence.new ≡ with_at_sequence path.now (item_tree item.entry) (sequence_tree sequence.old)) }
+    ensures placed { OnSome result (sequence_tree sequence.new ≡ with_at_sequence path.now (item_tree item.entry) (sequence_tree sequence.old)) }
+    ensures nowhere { IsNone result → (at_sequence path.now (sequence_tree sequence.old) ≡ None) × (sequence_tree sequence.new ≡ sequence_tree sequence.old) }
 {
     match sequence.at_mut(path) {
         Some(place) => {

@@ -1,5 +1,5 @@
 //! Space texts by a column of the table of spaces.
-ghost use Rattle.std.specs.Prelude.{◌≡◌, ◌≤◌, ◌∷◌, ◌++◌, IfOk, IsOk, OnOk, string_bytes};
+ghost use Rattle.std.specs.Prelude.{◌≡◌, ◌≤◌, [], ◌∷◌, ◌++◌, IfOk, IsOk, OnOk, string_bytes};
 ghost use Rattle.std.specs.Cow.{cow_str_bytes};
 ghost use Rattle.cbor_edn_parts.specs.Comments.{comments_of};
 ghost use Rattle.cbor_edn_parts.specs.Leaves.{s_bytes, ms_bytes, msc_bytes, soc_bytes};
@@ -25,6 +25,7 @@ impl<'a> S<'a> {
     pub fn spaced(&self, alloc: Global, spacing: Spacing) -> Result<S<'a>, AllocError>
         ensures bytes { IfOk result (λ t. s_bytes t ≡ table.spaced table.S spacing (s_bytes self.now)) }
         ensures least { spacing ≡ table.Least → IsOk result }
+        ensures free { table.IsShort spacing → comments_of (s_bytes self.now) ≡ [] → IsOk result }
     {
         let text = comments_in_column(alloc, spacing, &self.text)?;
         Ok(S { text })
@@ -37,6 +38,7 @@ impl<'a> Ms<'a> {
     pub fn spaced(&self, alloc: Global, spacing: Spacing) -> Result<Ms<'a>, AllocError>
         ensures bytes { IfOk result (λ t. ms_bytes t ≡ table.spaced table.MS spacing (ms_bytes self.now)) }
         ensures least { spacing ≡ table.Least → IsOk result }
+        ensures free { table.IsShort spacing → comments_of (ms_bytes self.now) ≡ [] → IsOk result }
     {
         let text = or_space(comments_in_column(alloc, spacing, &self.text)?);
         Ok(Ms { text })
@@ -44,11 +46,12 @@ impl<'a> Ms<'a> {
 }
 
 impl<'a> Msc<'a> {
-    /// The text by a column of the table. Fails where memory runs out; no memory is taken for a comma, nor for a comma and
+    /// The text by a column of the table. Fails where memory runs out; no memory is taken for a comma, nor for a comma with
     /// one space or a short line.
     pub fn spaced(&self, alloc: Global, spacing: Spacing) -> Result<Msc<'a>, AllocError>
         ensures bytes { IfOk result (λ t. msc_bytes t ≡ table.spaced table.MSC spacing (msc_bytes self.now)) }
         ensures least { spacing ≡ table.Least → IsOk result }
+        ensures free { table.IsShort spacing → table.comments_before (msc_bytes self.now) ≡ [] → table.comments_after (msc_bytes self.now) ≡ [] → IsOk result }
     {
         let text = with_comma(alloc, spacing, self.as_str())?;
         Ok(Msc { text })
@@ -61,6 +64,7 @@ impl<'a> Soc<'a> {
     pub fn spaced(&self, alloc: Global, spacing: Spacing) -> Result<Soc<'a>, AllocError>
         ensures bytes { IfOk result (λ t. soc_bytes t ≡ table.spaced table.SOC spacing (soc_bytes self.now)) }
         ensures least { spacing ≡ table.Least → IsOk result }
+        ensures free { table.IsShort spacing → table.comments_before (soc_bytes self.now) ≡ [] → table.comments_after (soc_bytes self.now) ≡ [] → IsOk result }
     {
         let (before, after) = cut_at_comma(self.as_str());
         let text = in_column(alloc, spacing, comments(before), comments(after))?;
@@ -76,6 +80,7 @@ fn comments_in_column<'a>(
 ) -> Result<CowStr<'a>, AllocError>
     ensures bytes { IfOk result (λ t. cow_str_bytes t ≡ in_column spacing (comments_of (cow_str_bytes text.now))) }
     ensures least { spacing ≡ table.Least → IsOk result }
+    ensures free { table.IsShort spacing → comments_of (cow_str_bytes text.now) ≡ [] → IsOk result }
 {
     match (text, spacing) {
         (CowStr::Borrowed(text), Spacing::Comments | Spacing::OneLine) => {
@@ -94,6 +99,7 @@ fn in_column<'a>(
 ) -> Result<CowStr<'a>, AllocError>
     ensures bytes { IfOk result (λ t. cow_str_bytes t ≡ in_column spacing (before.now ++ after.now)) }
     ensures least { spacing ≡ table.Least → IsOk result }
+    ensures free { table.IsShort spacing → before.now ≡ [] → after.now ≡ [] → IsOk result }
 {
     match spacing {
         Spacing::Least => Ok(CowStr::Borrowed("")),
@@ -119,7 +125,8 @@ fn behind<'a>(
     before: &str,
     after: &str,
 ) -> Result<CowStr<'a>, AllocError>
-    ensures { IfOk result (λ t. cow_str_bytes t ≡ blanks.now ++ (before.now ++ after.now)) }
+    ensures bytes { IfOk result (λ t. cow_str_bytes t ≡ blanks.now ++ (before.now ++ after.now)) }
+    ensures free { before.now ≡ [] → after.now ≡ [] → IsOk result }
 {
     if before.is_empty() && after.is_empty() {
         return Ok(CowStr::Borrowed(blanks));
@@ -143,6 +150,7 @@ fn or_space<'a>(text: CowStr<'a>) -> CowStr<'a>
 fn with_comma<'a>(alloc: Global, spacing: Spacing, text: &str) -> Result<CowStr<'a>, AllocError>
     ensures bytes { IfOk result (λ t. cow_str_bytes t ≡ table.spaced table.MSC spacing text.now) }
     ensures least { spacing ≡ table.Least → IsOk result }
+    ensures free { table.IsShort spacing → table.comments_before text.now ≡ [] → table.comments_after text.now ≡ [] → IsOk result }
 {
     let (before, after) = cut_at_comma(text);
     let before = comments(before);
@@ -152,6 +160,7 @@ fn with_comma<'a>(alloc: Global, spacing: Spacing, text: &str) -> Result<CowStr<
         Spacing::Least => return Ok(CowStr::Borrowed(",")),
         Spacing::Comments if is_empty => return Ok(CowStr::Borrowed(",")),
         Spacing::OneLine if is_empty => return Ok(CowStr::Borrowed(", ")),
+        Spacing::OneSpace if is_empty => return Ok(CowStr::Borrowed(" ,")),
         Spacing::NewLine(indent) if is_empty && indent <= SHORT => {
             return Ok(CowStr::Borrowed(comma_line(indent)));
         }
