@@ -1,6 +1,6 @@
 #!/usr/bin/env bash
 # Runs the program under a stack of 1 MB on texts and bytes that nest as deep as its limit, and one level deeper, and
-# tests of the library under 2 MB.
+# tests of the library.
 #
 # usage: scripts/check-stack.sh [PROGRAM [TESTS..]]
 #
@@ -20,7 +20,6 @@ fi
 program=$(readlink -f "$program")
 shift || true
 SMALL=1024
-OF_TESTS=2048
 LARGE=hard
 LIMIT=512
 
@@ -143,7 +142,7 @@ check_embedded 'chunks of streams' '(_ <<' 1 '>>)'
 check_embedded 'pieces of chunks of streams' "(_ 'a', 'b' + <<" 1 ">>, 'c')"
 
 for tests in "$@"; do
-  if (ulimit -S -s "$OF_TESTS" && exec "$(dirname "$(readlink -f "$(command -v rt)")")/rattle-test" --seconds 60 "$tests") > "$work/output" 2>&1; then
+  if (ulimit -S -s "$SMALL" && exec "$(dirname "$(readlink -f "$(command -v rt)")")/rattle-test" --seconds 60 "$tests") > "$work/output" 2>&1; then
     passed=$((passed + 1))
   else
     failed=$((failed + 1))

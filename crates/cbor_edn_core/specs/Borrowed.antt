@@ -29,8 +29,8 @@ use Rattle.cbor_edn_core.specs.View.{Item, StandaloneItem}
 
 abbrev mutual
   pub BorrowsInner : InnerItemOf S Ms Msc Soc Number Literal Dots → Type 0
-  BorrowsInner (inner.Number n i) = BorrowsNumber n
-  BorrowsInner (inner.NonFinite f i) = Unit {0}
+  BorrowsInner (inner.Number i n) = BorrowsNumber n
+  BorrowsInner (inner.NonFinite i f) = Unit {0}
   BorrowsInner (inner.Named b) = Unit {0}
   BorrowsInner (inner.Enclosed' label p before item after) = BorrowsS before × BorrowsInner item × BorrowsS after
   BorrowsInner (inner.Array' p list) = BorrowsList list
@@ -43,9 +43,9 @@ abbrev mutual
   BorrowsPieces (more_of-CborStringOf-row-3 p before after row) = (BorrowsPiece p × BorrowsS before × BorrowsS after) × BorrowsPieces row
 
   pub BorrowsPiece : PieceOf S Ms Msc Soc Number Literal Dots → Type 0
-  BorrowsPiece (piece.Literal literal i) = BorrowsLiteral literal
+  BorrowsPiece (piece.Literal i literal) = BorrowsLiteral literal
   BorrowsPiece (piece.Dots dots) = BorrowsDots dots
-  BorrowsPiece (piece.Embedded' p sequence i) = BorrowsSequence sequence
+  BorrowsPiece (piece.Embedded' i p sequence) = BorrowsSequence sequence
 
   pub BorrowsSequence : SequenceOf S Ms Msc Soc Number Literal Dots → Type 0
   BorrowsSequence (SequenceOf' before items) = BorrowsS before × BorrowsHeld items

@@ -29,7 +29,7 @@ literal_tree t = StringTree (LastPieceTree (LiteralTree t None))
 
 -- an item, with its spaces, in a tag: that of `1( 2 )` from ` 2 ` and 1
 abbrev pub tagged_tree : ℕ → Tree Standalone → Tree OneItem
-tagged_tree n w = EnclosedTree (label.Tag n None) w
+tagged_tree n w = EnclosedTree (label.Tag None n) w
 
 -- entries, a comma between two and nothing behind the last: `1,2`
 abbrev pub comma_rest : {k : Row} → Tree (OneEntry k) → List (Tree (OneEntry k)) → Tree (Rest k)

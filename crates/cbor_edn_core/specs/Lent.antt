@@ -35,7 +35,7 @@ use Rattle.cbor_edn_model.specs.declared.label.LabelKind.TheVariants as label
 
 -- a tag with another content: `1(3 )` of `3 ` and `1( 2 )`; what is no tag stays
 abbrev pub with_tag_content : Tree Standalone → Tree OneItem → Tree OneItem
-with_tag_content c (EnclosedTree (label.Tag n i) w) = EnclosedTree (label.Tag n i) c
+with_tag_content c (EnclosedTree (label.Tag i n) w) = EnclosedTree (label.Tag i n) c
 with_tag_content c w = w
 
 module _ (O M C E N L D : RattleType) where

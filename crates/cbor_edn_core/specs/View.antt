@@ -29,14 +29,13 @@ use Rattle.cbor_edn_core.specs.declared.tree.StandaloneItemOf.{StandaloneItemOf}
 use Rattle.cbor_edn_core.specs.declared.tree.SequenceOf.{SequenceOf, SequenceOf', Held-SequenceOf-items}
 use Rattle.cbor_edn_core.specs.declared.tree.SequenceOf as sequence
 use Rattle.cbor_edn_model.specs.Items as kind
-use Rattle.cbor_edn_model.specs.Items.{Row}
 use Rattle.cbor_edn_model.specs.Trees.{Tree, OneItem, OnePiece, OneString, OneEntry, Inside, Rest, Seq, Standalone, NumberTree, FloatTree, NamedTree, EnclosedTree, ListTree, StringTree, StreamTree, LiteralTree, DotsTree, EmbeddedTree, LastPieceTree, PlusTree, ElementTree, PairTree, ChunkTree, EmptyTree, FullTree, LastTree, MoreTree, NothingTree, SequenceTree, StandaloneTree}
 
 module _ {O M C E N L D : Type 0} (leaves : Ghosts O M C E N L D) where
   abbrev mutual
     pub view_inner : InnerItemOf O M C E N L D → Tree OneItem
-    view_inner (inner.Number n i) = NumberTree (leaves.number n) i
-    view_inner (inner.NonFinite f i) = FloatTree f i
+    view_inner (inner.Number i n) = NumberTree (leaves.number n) i
+    view_inner (inner.NonFinite i f) = FloatTree f i
     view_inner (inner.Named b) = NamedTree b
     view_inner (inner.Enclosed' label p before item after) = EnclosedTree label.kind (StandaloneTree (leaves.space before) (view_inner item) (leaves.space after))
     view_inner (inner.Array' p list) = ListTree kind.Array (view_list list)
@@ -50,9 +49,9 @@ module _ {O M C E N L D : Type 0} (leaves : Ghosts O M C E N L D) where
     view_pieces (more_of-CborStringOf-row-3 p before after row) w = PlusTree (view_piece p) (leaves.space before) (leaves.space after) (view_pieces row w)
 
     pub view_piece : PieceOf O M C E N L D → Tree OnePiece
-    view_piece (piece.Literal literal i) = LiteralTree (leaves.literal literal) i
+    view_piece (piece.Literal i literal) = LiteralTree (leaves.literal literal) i
     view_piece (piece.Dots dots) = DotsTree (leaves.dots dots)
-    view_piece (piece.Embedded' p sequence i) = EmbeddedTree (view_sequence sequence) i
+    view_piece (piece.Embedded' i p sequence) = EmbeddedTree (view_sequence sequence) i
 
     -- a sequence
     pub view_sequence : SequenceOf O M C E N L D → Tree Seq

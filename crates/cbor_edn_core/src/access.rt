@@ -148,7 +148,7 @@ fn tag_of<'t, 'a>(item: &'t Item<'a>) -> Option<(u64, &'t StandaloneItem<'a>)>
 {
     match &item.inner {
         InnerItem::Enclosed(label, content) => match label.kind {
-            LabelKind::Tag(number, _) => Some((number, content)),
+            LabelKind::Tag(_, number) => Some((number, content)),
             LabelKind::Simple => None,
         },
         InnerItem::Number(..)
@@ -166,7 +166,7 @@ fn number_of<'t, 'a>(item: &'t Item<'a>) -> Option<&'t Number<'a>>
     ensures { option_map (λ n. number_bytes n.now) result ≡ number_text (item_tree item.now) }
 {
     match &item.inner {
-        InnerItem::Number(number, _) => Some(number),
+        InnerItem::Number(_, number) => Some(number),
         InnerItem::NonFinite(..)
         | InnerItem::Named(_)
         | InnerItem::Enclosed(..)

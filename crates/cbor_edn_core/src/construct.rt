@@ -30,7 +30,7 @@ impl<'a> Item<'a> {
     {
         let number = Number::signed(alloc, integer)?;
         Ok(ItemOf {
-            inner: InnerItem::Number(number, None),
+            inner: InnerItem::Number(None, number),
         })
     }
 
@@ -40,7 +40,7 @@ impl<'a> Item<'a> {
     {
         let number = Number::hexadecimal(alloc, integer)?;
         Ok(ItemOf {
-            inner: InnerItem::Number(number, None),
+            inner: InnerItem::Number(None, number),
         })
     }
 
@@ -81,7 +81,7 @@ impl<'a> Item<'a> {
         ensures { IfOk result (λ t. item_tree t ≡ literal_tree (literal_bytes literal.entry)) }
     {
         let row = Vec::new(alloc);
-        let last = Piece::Literal(literal, None);
+        let last = Piece::Literal(None, literal);
         Item::string(alloc, CborString { row, last })
     }
 

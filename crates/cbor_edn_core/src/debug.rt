@@ -30,8 +30,8 @@ impl fmt::Debug for Sequence<'_> {
 
 fn outline<'b>(item: &'b Item<'_>) -> &'b str {
     match &item.inner {
-        InnerItem::Number(number, _) => number.as_str(),
-        InnerItem::NonFinite(float, _) => float.as_str(),
+        InnerItem::Number(_, number) => number.as_str(),
+        InnerItem::NonFinite(_, float) => float.as_str(),
         InnerItem::Named(name) => name.as_str(),
         InnerItem::Enclosed(_, _) => "(..)",
         InnerItem::Array(_) => "[..]",
@@ -46,7 +46,7 @@ fn outline_of_string<'b>(string: &'b CborString<'_>) -> &'b str {
         return ".. + ..";
     }
     match &string.last {
-        Piece::Literal(literal, _) => literal.as_str(),
+        Piece::Literal(_, literal) => literal.as_str(),
         Piece::Dots(dots) => dots.as_str(),
         Piece::Embedded(_, _) => "<<..>>",
     }

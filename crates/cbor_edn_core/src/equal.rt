@@ -1,18 +1,17 @@
 //! Whether two trees are written the same, spaces included.
 ghost use Rattle.std.specs.Prelude.{◌≡◌, ◌↔◌, IsTrue, map};
-ghost use Rattle.cbor_edn_model.specs.code.Same.{same, same_indicator, same_word, same_named, same_float, same_label, same_head, same_entries, same_pieces, same_laws};
+ghost use Rattle.cbor_edn_model.specs.code.Same.{same, same_entries, same_pieces, same_laws};
 ghost use Rattle.cbor_edn_core.specs.View.{view_list, view_items, seen, view_pair_list, view_pairs, view_pair, seen_pair, view_string, view_piece, seen_piece, view_stream, view_strings, seen_string, item_tree, standalone_tree, sequence_tree};
-ghost use Rattle.cbor_edn_model.specs.ListHeads.{view_list_head};
 ghost use Rattle.cbor_edn_model.specs.Leaves.{texts};
 
 use crate::tree::{
-    CborString, Indicator, InnerItem, Item, ItemList, Items, Kp, LabelKind, PairList, Pairs, Piece,
-    Sequence, StandaloneItem, Stream, Strings,
+    CborString, InnerItem, Item, ItemList, Items, Kp, PairList, Pairs, Piece, Sequence,
+    StandaloneItem, Stream, Strings,
 };
 use cbor_edn_model::list_head::have_same_head;
 use cbor_edn_model::same::{have_same_float, have_same_indicator, have_same_label, have_same_name};
-use cbor_edn_model::word::{NamedSimple, NonFinite};
-use cbor_edn_parts::space::{Ms, Msc, S};
+use cbor_edn_model::word::NonFinite;
+use cbor_edn_parts::space::{Msc, S};
 
 impl PartialEq for Item<'_> {
     ghost eq = { λ a b. same (item_tree a) (item_tree b) };
@@ -49,10 +48,10 @@ fn same_item(a: &Item<'_>, b: &Item<'_>) -> bool
     ensures { result ≡ same (item_tree a.now) (item_tree b.now) }
 {
     match (&a.inner, &b.inner) {
-        (InnerItem::Number(x, i), InnerItem::Number(y, j)) => {
+        (InnerItem::Number(i, x), InnerItem::Number(j, y)) => {
             *x == *y && have_same_indicator(*i, *j)
         }
-        (InnerItem::NonFinite(x, i), InnerItem::NonFinite(y, j)) => {
+        (InnerItem::NonFinite(i, x), InnerItem::NonFinite(j, y)) => {
             have_same_float(*x, *y) && have_same_indicator(*i, *j)
         }
         (InnerItem::Named(x), InnerItem::Named(y)) => have_same_name(*x, *y),
@@ -105,9 +104,9 @@ fn same_piece(a: &Piece<'_>, b: &Piece<'_>) -> bool
     ensures { result ≡ same (view_piece texts a.now) (view_piece texts b.now) }
 {
     match (a, b) {
-        (Piece::Literal(x, i), Piece::Literal(y, j)) => *x == *y && have_same_indicator(*i, *j),
+        (Piece::Literal(i, x), Piece::Literal(j, y)) => *x == *y && have_same_indicator(*i, *j),
         (Piece::Dots(x), Piece::Dots(y)) => *x == *y,
-        (Piece::Embedded(x, i), Piece::Embedded(y, j)) => {
+        (Piece::Embedded(i, x), Piece::Embedded(j, y)) => {
             same_sequence(x, y) && have_same_indicator(*i, *j)
         }
         _ => false,

@@ -1,5 +1,5 @@
 //! Items from their CBOR encoding.
-ghost use Rattle.std.specs.Prelude.{◌≡◌, ◌≢◌, ◌↔◌, ℕ, List, IfOk, IsTrue};
+ghost use Rattle.std.specs.Prelude.{◌≡◌, ◌≢◌, ℕ, List, IfOk};
 ghost use Rattle.cbor_edn_model.specs.Trees.{Tree, OneItem};
 ghost use Rattle.cbor_edn_core.specs.View.{item_tree, standalone_tree, sequence_tree};
 ghost use Rattle.cbor_edn_model.specs.Value.{Enc};

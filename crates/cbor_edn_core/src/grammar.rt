@@ -88,7 +88,7 @@ fn numbered<'a>(
     }
     Ok((
         Item {
-            inner: InnerItem::Number(number, indicator),
+            inner: InnerItem::Number(indicator, number),
         },
         unspaced(to),
     ))
@@ -122,7 +122,7 @@ fn worded<'a>(
             let (indicator, to) = indicator_at(text, from, looks);
             Ok((
                 Item {
-                    inner: InnerItem::NonFinite(float, indicator),
+                    inner: InnerItem::NonFinite(indicator, float),
                 },
                 unspaced(to),
             ))
@@ -587,7 +587,7 @@ fn piece<'a>(
     }
     let (literal, at) = literal_at(text, from, looks)?;
     let (indicator, to) = indicator_at(text, at, looks);
-    Ok((Piece::Literal(literal, indicator), to))
+    Ok((Piece::Literal(indicator, literal), to))
 }
 
 /// A sequence between `<<` and `>>`, and its indicator.
@@ -616,7 +616,7 @@ fn embedded<'a>(
     let at = closed(text, at, looks)?;
     let (indicator, to) = indicator_at(text, at, looks);
     let sequence = Box::new(alloc, sequence)?;
-    Ok((Piece::Embedded(sequence, indicator), to))
+    Ok((Piece::Embedded(indicator, sequence), to))
 }
 
 /// The place behind `>>`.

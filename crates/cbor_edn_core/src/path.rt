@@ -313,7 +313,7 @@ impl<O: Drop, M: Drop, C: Drop, E: Drop, N: Drop, L: Drop, D: Drop> PieceOf<O, M
     {
         match self {
             PieceOf::Literal(..) | PieceOf::Dots(_) => None,
-            PieceOf::Embedded(sequence, _) => sequence.item_mut(i),
+            PieceOf::Embedded(_, sequence) => sequence.item_mut(i),
         }
     }
 
@@ -322,7 +322,7 @@ impl<O: Drop, M: Drop, C: Drop, E: Drop, N: Drop, L: Drop, D: Drop> PieceOf<O, M
     {
         match self {
             PieceOf::Literal(..) | PieceOf::Dots(_) => Some(i),
-            PieceOf::Embedded(sequence, _) => sequence.past(i),
+            PieceOf::Embedded(_, sequence) => sequence.past(i),
         }
     }
 }

@@ -1,20 +1,15 @@
 //! The text of a tree.
 ghost use Rattle.std.specs.Prelude.{◌≡◌, ◌++◌, OnOk, IfOk};
 ghost use Rattle.std.specs.String.{string_bytes};
-ghost use Rattle.cbor_edn_parts.specs.Indicator.{indicator_text};
-ghost use Rattle.cbor_edn_model.specs.Trees.{text, label_text, list_head_text, items};
+ghost use Rattle.cbor_edn_model.specs.Trees.{text, items};
 ghost use Rattle.cbor_edn_model.specs.Spelling.{Spells, SpellsSequence, SpellsOne};
 ghost use Rattle.cbor_edn_core.specs.View.{view_list, view_items, row_text, view_pair_list, view_pairs, view_pair, pair_row_text, view_string, view_piece, piece_row_text, view_stream, view_strings, string_row_text, item_tree, standalone_tree, sequence_tree};
-ghost use Rattle.cbor_edn_model.specs.ListHeads.{view_list_head};
 ghost use Rattle.cbor_edn_model.specs.Leaves.{texts};
 
-use crate::tree::{
-    CborString, Indicator, InnerItem, Item, ItemList, Items, Kp, LabelKind, PairList, Pairs, Piece,
-    Sequence, StandaloneItem, Stream, Strings,
-};
+use crate::tree::{CborString, InnerItem, Item, ItemList, Items, Kp, PairList, Pairs, Piece, Sequence, StandaloneItem, Stream, Strings};
 use cbor_edn_model::list_head::push_list_head;
 use cbor_edn_model::write::{push_indicator, push_label};
-use cbor_edn_parts::space::{Ms, Msc, S};
+use cbor_edn_parts::space::{Msc, S};
 use std::alloc::{AllocError, Global};
 
 impl Item<'_> {
@@ -81,11 +76,11 @@ fn push_item(out: &mut String, item: &Item<'_>) -> Result<(), AllocError>
     ensures { OnOk result (string_bytes out.new ≡ string_bytes out.old ++ text (item_tree item.now)) }
 {
     match &item.inner {
-        InnerItem::Number(number, indicator) => {
+        InnerItem::Number(indicator, number) => {
             out.push_str(number.as_str())?;
             push_indicator(out, *indicator)
         }
-        InnerItem::NonFinite(float, indicator) => {
+        InnerItem::NonFinite(indicator, float) => {
             out.push_str(float.as_str())?;
             push_indicator(out, *indicator)
         }
@@ -139,12 +134,12 @@ fn push_piece(out: &mut String, piece: &Piece<'_>) -> Result<(), AllocError>
     ensures { OnOk result (string_bytes out.new ≡ string_bytes out.old ++ text (view_piece texts piece.now)) }
 {
     match piece {
-        Piece::Literal(literal, indicator) => {
+        Piece::Literal(indicator, literal) => {
             out.push_str(literal.as_str())?;
             push_indicator(out, *indicator)
         }
         Piece::Dots(dots) => out.push_str(dots.as_str()),
-        Piece::Embedded(sequence, indicator) => {
+        Piece::Embedded(indicator, sequence) => {
             out.push_str("<<")?;
             push_sequence(out, sequence)?;
             out.push_str(">>")?;

@@ -1,33 +1,30 @@
 //! The CBOR that items mean.
-ghost use Rattle.std.specs.Prelude.{◌≡◌, ◌<◌, ◌++◌, map, IfOk, Some};
-ghost use Rattle.cbor_edn_parts.specs.code.ContentReading.{literal_content};
-ghost use Rattle.cbor_edn_parts.specs.Leaves.{literal_bytes, number_bytes};
+ghost use Rattle.std.specs.Prelude.{◌≡◌, ◌<◌, map, IfOk, Some};
 ghost use Rattle.cbor_edn_model.specs.Items as nodes;
 ghost use Rattle.cbor_edn_model.specs.Trees as trees;
 ghost use Rattle.cbor_edn_core.specs.View.{view_list, view_items, view_pair_list, view_pairs, view_pair, view_piece, view_string, view_strings, seen, seen_pair, seen_piece, seen_string, item_tree, standalone_tree, sequence_tree};
-ghost use Rattle.cbor_edn_model.specs.ListHeads.{view_list_head};
 ghost use Rattle.cbor_edn_model.specs.Leaves.{texts};
 ghost use Rattle.cbor_edn_model.specs.Value.{AreBytes, Value, Values, encoding, encodings, pair_encodings, Enc, EncAll};
 ghost use Rattle.cbor_edn_model.specs.Meaning as meaning;
 ghost use Rattle.cbor_edn_model.specs.Meaning.{NoEncoding, means, length_of};
 ghost use Rattle.cbor_edn_parts.specs.Refusals.{IfTold};
 ghost use Rattle.cbor_edn_model.specs.code.Encoding as calls;
-ghost use Rattle.cbor_edn_model.specs.code.Encoding.{Encodes, Finds, Gathers, entry_encoding, string_encodings, row_items, list_head, list_end};
+ghost use Rattle.cbor_edn_model.specs.code.Encoding.{Encodes, Finds, Gathers, entry_encoding, string_encodings, row_items, list_head};
 
 use crate::tree::{
     CborString, InnerItem, Item, ItemList, Items, Kp, LabelKind, PairList, Pairs, Piece, Sequence,
     StandaloneItem, Strings,
 };
 use cbor_edn_model::cbor::{
-    length_of, push_chunk, push_float, push_integer, push_list_end, push_list_head,
-    push_marked_head, push_simple, push_string, same_kind, simple_number, string_major,
+    length_of, push_chunk, push_float, push_list_end, push_list_head, push_marked_head,
+    push_simple, push_string, same_kind, simple_number, string_major,
 };
 use cbor_edn_model::list_head::mark_of;
 use cbor_edn_model::to_cbor::{push_empty, push_literal, push_number, simple_of};
 use cbor_edn_parts::error::{Fault, InconsistentEdn};
 use cbor_edn_parts::indicator::Indicator;
-use cbor_edn_parts::number::{Integer, Number};
-use cbor_edn_parts::space::{Ms, Msc, S};
+use cbor_edn_parts::number::Number;
+use cbor_edn_parts::space::{Msc, S};
 use cbor_edn_parts::string::{Literal, StringKind};
 use std::alloc::Global;
 
@@ -73,8 +70,8 @@ fn push_item(out: &mut Vec<u8>, item: &Item<'_>) -> Result<(), Fault<Inconsisten
     ensures { Encodes encoding (means (trees.items (item_tree item.now))) out.old.items out.new.items result }
 {
     match &item.inner {
-        InnerItem::Number(number, indicator) => push_number(out, number, *indicator),
-        InnerItem::NonFinite(float, indicator) => push_float(out, *float, *indicator),
+        InnerItem::Number(indicator, number) => push_number(out, number, *indicator),
+        InnerItem::NonFinite(indicator, float) => push_float(out, *float, *indicator),
         InnerItem::Named(name) => Ok(push_simple(out, simple_number(*name))?),
         InnerItem::Enclosed(label, content) => push_enclosed(out, label.kind, content),
         InnerItem::Array(list) => push_array(out, list),
@@ -94,7 +91,7 @@ fn push_enclosed(
     ensures { Encodes encoding (means (trees.labelled label (trees.items (standalone_tree content.now)))) out.old.items out.new.items result }
 {
     match label {
-        LabelKind::Tag(number, indicator) => {
+        LabelKind::Tag(indicator, number) => {
             push_marked_head(out, 6, indicator, number)?;
             push_item(out, &content.item)
         }
@@ -108,7 +105,7 @@ fn push_numeric(out: &mut Vec<u8>, item: &Item<'_>) -> Result<(), Fault<Inconsis
     ensures { Encodes encoding (meaning.means_simple (trees.items (item_tree item.now))) out.old.items out.new.items result }
 {
     let simple = match &item.inner {
-        InnerItem::Number(number, indicator) => simple_of(number, *indicator),
+        InnerItem::Number(indicator, number) => simple_of(number, *indicator),
         _ => None,
     };
     match simple {
@@ -245,7 +242,7 @@ fn piece_mark(piece: &Piece<'_>) -> Option<Indicator>
     ensures { result ≡ meaning.piece_mark (trees.items (view_piece texts piece.now)) }
 {
     match piece {
-        Piece::Literal(_, indicator) | Piece::Embedded(_, indicator) => *indicator,
+        Piece::Literal(indicator, _) | Piece::Embedded(indicator, _) => *indicator,
         Piece::Dots(_) => None,
     }
 }
@@ -301,9 +298,9 @@ pub(crate) fn push_piece(
     ensures { Gathers (means (trees.items (view_piece texts piece.now))) out.old.items out.new.items result }
 {
     match piece {
-        Piece::Literal(literal, _) => push_literal(out, literal),
+        Piece::Literal(_, literal) => push_literal(out, literal),
         Piece::Dots(_) => Err(Fault::Told(InconsistentEdn::UnsupportedLiteral)),
-        Piece::Embedded(sequence, _) => {
+        Piece::Embedded(_, sequence) => {
             push_sequence(out, sequence)?;
             Ok(StringKind::Bytes)
         }
@@ -337,7 +334,7 @@ fn has_unsupported(string: &CborString<'_>) -> bool {
 
 fn is_unsupported(piece: &Piece<'_>) -> bool {
     match piece {
-        Piece::Literal(literal, _) => !literal.is_supported(),
+        Piece::Literal(_, literal) => !literal.is_supported(),
         Piece::Dots(_) => true,
         Piece::Embedded(..) => false,
     }
@@ -352,7 +349,7 @@ fn check_literals(alloc: Global, string: &CborString<'_>) -> Result<(), Fault<In
 }
 
 fn check_literal(alloc: Global, piece: &Piece<'_>) -> Result<(), Fault<InconsistentEdn>> {
-    if let Piece::Literal(literal, _) = piece {
+    if let Piece::Literal(_, literal) = piece {
         let _ = literal.content(alloc)?;
     }
     Ok(())
@@ -467,7 +464,7 @@ fn piece_kind(piece: &Piece<'_>) -> StringKind
     ensures { result ≡ calls.piece_kind (trees.items (view_piece texts piece.now)) }
 {
     match piece {
-        Piece::Literal(literal, _) => literal.kind(),
+        Piece::Literal(_, literal) => literal.kind(),
         Piece::Dots(_) | Piece::Embedded(..) => StringKind::Bytes,
     }
 }

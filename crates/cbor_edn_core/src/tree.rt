@@ -104,14 +104,15 @@ pub struct ItemOf<O: Drop, M: Drop, C: Drop, E: Drop, N: Drop, L: Drop, D: Drop>
     pub(crate) inner: InnerItemOf<O, M, C, E, N, L, D>,
 }
 
-/// The forms of items. Numbers and words stand in the item itself, the parts of any other form behind a pointer.
+/// The forms of items. Numbers and words stand in the item itself, the parts of any other form behind a pointer. An encoding indicator
+/// stands first: there it takes no word of its own.
 #[cycle(tree)]
 #[derive(Drop)]
 pub enum InnerItemOf<O: Drop, M: Drop, C: Drop, E: Drop, N: Drop, L: Drop, D: Drop> {
-    /// A number and its encoding indicator.
-    Number(N, Option<Indicator>),
-    /// A floating-point number that is not finite, and its encoding indicator.
-    NonFinite(NonFinite, Option<Indicator>),
+    /// A number with its encoding indicator.
+    Number(Option<Indicator>, N),
+    /// A floating-point number that is not finite, with its encoding indicator.
+    NonFinite(Option<Indicator>, NonFinite),
     /// A simple value by its name.
     Named(NamedSimple),
     /// An item between parentheses, and what stands in front of them.
@@ -135,12 +136,12 @@ pub struct CborStringOf<O: Drop, M: Drop, C: Drop, E: Drop, N: Drop, L: Drop, D:
 #[cycle(tree)]
 #[derive(Drop)]
 pub enum PieceOf<O: Drop, M: Drop, C: Drop, E: Drop, N: Drop, L: Drop, D: Drop> {
-    /// A literal and its encoding indicator.
-    Literal(L, Option<Indicator>),
+    /// A literal with its encoding indicator.
+    Literal(Option<Indicator>, L),
     /// What stands in place of a piece that is left out.
     Dots(D),
-    /// A sequence, whose encoding is the piece, and the piece's encoding indicator.
-    Embedded(Box<SequenceOf<O, M, C, E, N, L, D>>, Option<Indicator>),
+    /// A sequence, whose encoding is the piece, with the piece's encoding indicator.
+    Embedded(Option<Indicator>, Box<SequenceOf<O, M, C, E, N, L, D>>),
 }
 
 /// What stands between the parentheses of a string of indefinite length, behind the underscore.

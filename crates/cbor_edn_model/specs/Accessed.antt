@@ -11,12 +11,12 @@ use Rattle.cbor_edn_model.specs.Trees.{Tree, OneItem, OnePiece, OneString, OneEn
 
 -- the number of a tag: 1 of `1( 2 )`
 abbrev pub tag_number : Tree OneItem → Option ℕ
-tag_number (EnclosedTree (label.Tag n i) w) = Some n
+tag_number (EnclosedTree (label.Tag i n) w) = Some n
 tag_number _ = None
 
 -- what stands between the parentheses of a tag, with its spaces: ` 2 ` of `1( 2 )`
 abbrev pub tag_content : Tree OneItem → Option (Tree Standalone)
-tag_content (EnclosedTree (label.Tag n i) w) = Some w
+tag_content (EnclosedTree (label.Tag i n) w) = Some w
 tag_content _ = None
 
 -- the text of a number: `0x1f` of `0x1f_1`

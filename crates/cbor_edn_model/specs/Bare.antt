@@ -37,7 +37,7 @@ first_space Unmarked s = s
 first_space (Marked i ms) s = cond (is_one_space ms) s (ms ++ s)
 
 abbrev pub bare_label : LabelKind → LabelKind
-bare_label (label.Tag n i) = label.Tag n None
+bare_label (label.Tag i n) = label.Tag None n
 bare_label label.Simple = label.Simple
 
 -- The tree of the bare items, with the spaces that stay: `[_ 1]` becomes `[1]`, and `[_ /c/ 1]` becomes `[ /c/ 1]`.

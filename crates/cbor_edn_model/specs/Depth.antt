@@ -13,7 +13,7 @@ unfoldable pub depth : {s : Rule} → Tree s → ℕ
 depth (NumberTree x i) = 0
 depth (FloatTree f i) = 0
 depth (NamedTree b) = 0
-depth (EnclosedTree (label.Tag n i) w) = suc (depth w)
+depth (EnclosedTree (label.Tag i n) w) = suc (depth w)
 depth (EnclosedTree label.Simple w) = 0
 depth (ListTree k w) = suc (depth w)
 depth (StringTree w) = depth w

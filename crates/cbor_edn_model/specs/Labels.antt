@@ -6,9 +6,9 @@ use Rattle.cbor_edn_model.specs.declared.label.LabelKind.TheVariants.{Tag, Simpl
 
 -- a tag's number is below 2^64
 abbrev pub IsLabel : LabelKind → Type 0
-IsLabel (Tag n i) = n < 2 ^ 64
+IsLabel (Tag i n) = n < 2 ^ 64
 IsLabel Simple = Unit {0}
 
 pub IsLabel-prop : (l : LabelKind) → IsProp (IsLabel l)
-IsLabel-prop (Tag n i) = le_prop
+IsLabel-prop (Tag i n) = le_prop
 IsLabel-prop Simple = Unit-prop

@@ -10,7 +10,7 @@ abbrev pub items_in : {s : Rule} → Tree s → List (Tree OneItem)
 items_in (NumberTree x i) = []
 items_in (FloatTree f i) = []
 items_in (NamedTree b) = []
-items_in (EnclosedTree (label.Tag n i) w) = items_in w
+items_in (EnclosedTree (label.Tag i n) w) = items_in w
 items_in (EnclosedTree label.Simple w) = []
 items_in (ListTree k w) = items_in w
 items_in (StringTree w) = items_in w
@@ -52,7 +52,7 @@ abbrev pub with_item : {s : Rule} → ℕ → Tree OneItem → Tree s → Tree s
 with_item i x (NumberTree n p) = NumberTree n p
 with_item i x (FloatTree f p) = FloatTree f p
 with_item i x (NamedTree b) = NamedTree b
-with_item i x (EnclosedTree (label.Tag n p) w) = EnclosedTree (label.Tag n p) (with_item i x w)
+with_item i x (EnclosedTree (label.Tag p n) w) = EnclosedTree (label.Tag p n) (with_item i x w)
 with_item i x (EnclosedTree label.Simple w) = EnclosedTree label.Simple w
 with_item i x (ListTree k w) = ListTree k (with_item i x w)
 with_item i x (StringTree w) = StringTree (with_item i x w)

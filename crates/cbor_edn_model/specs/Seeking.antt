@@ -57,7 +57,7 @@ module _ (IsSought : Tree OneItem → Told → Type 0) where
       of_float : {f : _} {i : Option Indicator} → VisitParts _ (FloatTree f i) [] (FloatTree f i) whole
       of_name : {b : _} → VisitParts _ (NamedTree b) [] (NamedTree b) whole
       of_tag : {n : ℕ} {i : Option Indicator} {w v : Tree Standalone} {cs : List SoughtCall} {r : Ending}
-          → VisitParts _ w cs v r → VisitParts _ (EnclosedTree (label.Tag n i) w) cs (EnclosedTree (label.Tag n i) v) r
+          → VisitParts _ w cs v r → VisitParts _ (EnclosedTree (label.Tag i n) w) cs (EnclosedTree (label.Tag i n) v) r
       -- `simple(..)` is not entered
       of_simple : {w : Tree Standalone} → VisitParts _ (EnclosedTree label.Simple w) [] (EnclosedTree label.Simple w) whole
       of_list : {k : Bracketed} {w v : Tree (Inside k)} {cs : List SoughtCall} {r : Ending}

@@ -47,11 +47,11 @@ list_head_text (Marked i ms) = indicator_text (Some i) ++ ms
 
 -- what stands in front of an item between parentheses: a tag's number and its indicator, or `simple`
 abbrev pub label_text : LabelKind → List ℕ
-label_text (label.Tag n i) = decimal n ++ indicator_text i
+label_text (label.Tag i n) = decimal n ++ indicator_text i
 label_text label.Simple = simple_text
 
 abbrev pub labelled : LabelKind → Node Item → Node Item
-labelled (label.Tag n i) w = Tagged n i w
+labelled (label.Tag i n) w = Tagged n i w
 labelled label.Simple w = Simple w
 
 -- A use of a rule, with the texts that it leaves open.

@@ -8,8 +8,8 @@ use cbor_edn_parts::indicator::Indicator;
 /// What stands in front of an item between parentheses.
 #[derive(Clone, Copy, Debug, PartialEq, Eq)]
 pub enum LabelKind {
-    /// The number of a tag and its encoding indicator.
-    Tag(u64, Option<Indicator>),
+    /// The encoding indicator and the number of a tag.
+    Tag(Option<Indicator>, u64),
     /// The word `simple`.
     Simple,
 }
@@ -25,10 +25,10 @@ impl Label {
     ghost use Rattle.cbor_edn_model.specs.declared.label.LabelKind.TheVariants.{Tag, Simple};
 
     pub fn tag(number: u64, indicator: Option<Indicator>) -> Label
-        ensures { result.kind ≡ Tag number indicator }
+        ensures { result.kind ≡ Tag indicator number }
     {
         Label {
-            kind: LabelKind::Tag(number, indicator),
+            kind: LabelKind::Tag(indicator, number),
         }
     }
 
@@ -45,7 +45,7 @@ impl Label {
         ensures { result.kind ≡ bare_label self.kind }
     {
         match self.kind {
-            LabelKind::Tag(number, _) => Label::tag(number, None),
+            LabelKind::Tag(_, number) => Label::tag(number, None),
             LabelKind::Simple => self,
         }
     }

@@ -57,7 +57,7 @@ pub fn have_same_label(a: LabelKind, b: LabelKind) -> bool
     ensures { result ≡ same_label a b }
 {
     match (a, b) {
-        (LabelKind::Tag(n, i), LabelKind::Tag(m, j)) => n == m && have_same_indicator(i, j),
+        (LabelKind::Tag(i, n), LabelKind::Tag(j, m)) => n == m && have_same_indicator(i, j),
         (LabelKind::Simple, LabelKind::Simple) => true,
         _ => false,
     }

@@ -108,7 +108,7 @@ pub fn label_len(label: LabelKind) -> usize
     ensures { result ≡ capped (length (label_text label)) }
 {
     match label {
-        LabelKind::Tag(number, indicator) => {
+        LabelKind::Tag(indicator, number) => {
             decimal_len(number).saturating_add(indicator_len(indicator))
         }
         LabelKind::Simple => "simple".len(),

@@ -21,7 +21,7 @@ pub fn push_label(out: &mut String, label: LabelKind) -> Result<(), AllocError>
     ensures { OnOk result (string_bytes out.new ≡ string_bytes out.old ++ label_text label) }
 {
     match label {
-        LabelKind::Tag(number, indicator) => {
+        LabelKind::Tag(indicator, number) => {
             write!(out, "{number}")?;
             push_indicator(out, indicator)
         }

@@ -8,7 +8,7 @@ use Rattle.std.proofs.lemmas.Bool.Decides.{nat_tests}
 use Rattle.std.proofs.lemmas.List.{length-append}
 use Rattle.std.proofs.lemmas.Str.{IsUtf8-nil, IsUtf8-from_ascii, IsUtf8-encode, IsUtf8-append, IsUtf8-take, IsUtf8-drop, IsCharBoundary-before_ascii, IsCharBoundary-after_ascii}
 use Rattle.cbor_edn_parts.specs.Literal as literals
-use Rattle.cbor_edn_parts.specs.Literal.{letter_escape, hex_number, IsUnit, IsPart, raw, line_feed, carriage_return, quote, letter, unit, pair, braced, Decoded, nothing, part, IsPrefix, Prefixed, IsLiteral, IsQuoted}
+use Rattle.cbor_edn_parts.specs.Literal.{letter_escape, hex_number, raw, line_feed, carriage_return, quote, letter, unit, pair, braced, Decoded, nothing, part, IsPrefix, Prefixed, IsLiteral, IsQuoted}
 use Rattle.cbor_edn_parts.specs.code.ContentReading.{behind_quote}
 use Rattle.cbor_edn_parts.specs.code.LiteralTokens.{is_literal, prefix_of, decoded}
 use Rattle.cbor_edn_parts.specs.declared.string.Part.TheVariants.{Between}

@@ -6,7 +6,7 @@ use Rattle.cbor_edn_parts.specs.code.Lex.{Accepts, Is}
 use Rattle.cbor_edn_parts.specs.Space.{Each, end, next}
 use Rattle.cbor_edn_parts.specs.Literal.{AreDots}
 use Rattle.cbor_edn_parts.specs.code.LiteralTokens as tokens
-use Rattle.cbor_edn_parts.specs.code.LiteralTokens.{next_dot, dots_step, are_dots}
+use Rattle.cbor_edn_parts.specs.code.LiteralTokens.{next_dot, are_dots}
 use Rattle.cbor_edn_parts.specs.declared.string.InDots.{InDots}
 use Rattle.cbor_edn_parts.specs.declared.string.InDots.TheVariants.{None as NoDot, One, Two, Enough}
 use Rattle.cbor_edn_parts.proofs.Steps.{some_if}

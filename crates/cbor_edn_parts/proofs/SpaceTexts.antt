@@ -8,7 +8,7 @@ use Rattle.std.specs.Bool.{Decides}
 use Rattle.cbor_edn_parts.specs.Bytes.{Kind, Control, Comma, kind}
 use Rattle.cbor_edn_parts.specs.code.Lex.{Accepts, Is}
 use Rattle.cbor_edn_parts.specs.Space as set
-use Rattle.cbor_edn_parts.specs.Space.{IsBlank, IsPrintable, Each, end, next, IsComment, slashes, hash, IsS, empty, blank, comment, IsMs, IsSoc, IsMsc, space, comma, comma_first, space_alone, space_comma}
+use Rattle.cbor_edn_parts.specs.Space.{IsBlank, IsPrintable, Each, end, next, slashes, hash, IsS, empty, blank, comment, IsMs, IsSoc, IsMsc, space, comma, comma_first, space_alone, space_comma}
 use Rattle.cbor_edn_parts.specs.code.SpaceTokens as tokens
 use Rattle.cbor_edn_parts.specs.code.SpaceTokens.{space_step, separator_step, before, after, is_empty, is_s, is_ms, is_soc, is_msc}
 use Rattle.cbor_edn_parts.specs.declared.space.Within.{Within}

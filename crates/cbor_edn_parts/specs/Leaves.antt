@@ -1,6 +1,6 @@
 -- The bytes of each leaf of a tree, and that they are borrowed from the text.
 use Rattle.std.specs.Prelude.{ℕ, ℤ, pos, negsuc, ◌+◌, ◌<◌, ◌^◌, List}
-use Rattle.std.specs.Cow.{cow_str_bytes, IsBorrowedStr}
+use Rattle.cbor_edn_parts.specs.LeafTexts.{leaf_bytes, IsBorrowed}
 use Rattle.cbor_edn_parts.specs.declared.space.S.{S}
 use Rattle.cbor_edn_parts.specs.declared.space.Ms.{Ms}
 use Rattle.cbor_edn_parts.specs.declared.space.Msc.{Msc}
@@ -12,46 +12,46 @@ use Rattle.cbor_edn_parts.specs.declared.number.Integer.{Integer}
 use Rattle.cbor_edn_parts.specs.declared.number.Integer.TheVariants.{Positive, Negative}
 
 abbrev pub s_bytes : S → List ℕ
-s_bytes s = cow_str_bytes s.text
+s_bytes s = leaf_bytes s.text
 
 abbrev pub ms_bytes : Ms → List ℕ
-ms_bytes s = cow_str_bytes s.text
+ms_bytes s = leaf_bytes s.text
 
 abbrev pub msc_bytes : Msc → List ℕ
-msc_bytes s = cow_str_bytes s.text
+msc_bytes s = leaf_bytes s.text
 
 abbrev pub soc_bytes : Soc → List ℕ
-soc_bytes s = cow_str_bytes s.text
+soc_bytes s = leaf_bytes s.text
 
 abbrev pub number_bytes : Number → List ℕ
-number_bytes n = cow_str_bytes n.text
+number_bytes n = leaf_bytes n.text
 
 abbrev pub literal_bytes : Literal → List ℕ
-literal_bytes l = cow_str_bytes l.text
+literal_bytes l = leaf_bytes l.text
 
 abbrev pub dots_bytes : Dots → List ℕ
-dots_bytes d = cow_str_bytes d.text
+dots_bytes d = leaf_bytes d.text
 
 abbrev pub BorrowsS : S → Type 0
-BorrowsS s = IsBorrowedStr s.text
+BorrowsS s = IsBorrowed s.text
 
 abbrev pub BorrowsMs : Ms → Type 0
-BorrowsMs s = IsBorrowedStr s.text
+BorrowsMs s = IsBorrowed s.text
 
 abbrev pub BorrowsMsc : Msc → Type 0
-BorrowsMsc s = IsBorrowedStr s.text
+BorrowsMsc s = IsBorrowed s.text
 
 abbrev pub BorrowsSoc : Soc → Type 0
-BorrowsSoc s = IsBorrowedStr s.text
+BorrowsSoc s = IsBorrowed s.text
 
 abbrev pub BorrowsNumber : Number → Type 0
-BorrowsNumber n = IsBorrowedStr n.text
+BorrowsNumber n = IsBorrowed n.text
 
 abbrev pub BorrowsLiteral : Literal → Type 0
-BorrowsLiteral l = IsBorrowedStr l.text
+BorrowsLiteral l = IsBorrowed l.text
 
 abbrev pub BorrowsDots : Dots → Type 0
-BorrowsDots d = IsBorrowedStr d.text
+BorrowsDots d = IsBorrowed d.text
 
 -- the integer of a value
 abbrev pub integer : Integer → ℤ

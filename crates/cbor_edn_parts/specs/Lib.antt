@@ -5,6 +5,7 @@ pub mod Literal
 pub mod Contents
 pub mod Indicator
 pub mod Place
+pub mod LeafTexts
 pub mod Leaves
 pub mod Written
 pub mod Errors

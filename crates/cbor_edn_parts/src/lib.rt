@@ -6,6 +6,7 @@ pub mod error;
 pub mod indicator;
 pub mod laws;
 pub mod layout;
+mod leaf_text;
 pub mod location;
 pub mod looks;
 pub mod nesting;

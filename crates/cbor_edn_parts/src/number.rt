@@ -1,6 +1,6 @@
 //! Numbers.
-ghost use Rattle.std.specs.Prelude.{◌≡◌, ◌≤◌, ◌^◌, ◌↔◌, ℤ, pos, neg_ℤ, if◌then◌else◌, IsTrue, IfOk, IfSome, IsNone, drop, true, string_bytes, unsigned_abs};
-ghost use Rattle.std.specs.Cow.{cow_str_bytes};
+ghost use Rattle.std.specs.Prelude.{◌≡◌, ◌≤◌, ◌^◌, ◌↔◌, ℤ, pos, neg_ℤ, if◌then◌else◌, IsTrue, IfOk, IfSome, IsNone, drop, true, unsigned_abs};
+ghost use Rattle.cbor_edn_parts.specs.LeafTexts.{leaf_bytes};
 ghost use Rattle.std.specs.Fmt.{signed_decimal};
 ghost use Rattle.std.specs.Str.Parse.{ParsesUnsigned};
 ghost use Rattle.cbor_edn_parts.specs.Number.{MinusSign, radix, HasInteger};
@@ -10,10 +10,10 @@ ghost use Rattle.cbor_edn_parts.specs.code.NumberTokens.{is_number};
 ghost use Rattle.cbor_edn_parts.specs.code.Inside.{number_stays, number_inside};
 
 use crate::bytes::Kind;
+use crate::leaf_text::LeafText;
 use crate::scan::State;
 pub use read::number_at;
 use std::alloc::{AllocError, Global};
-use std::borrow::CowStr;
 use std::num::ParseIntError;
 
 mod range;
@@ -23,8 +23,8 @@ mod write;
 /// A number as it is written, as `-0x1F`, `07`, `0b101`, `1.5e3` or `0x.8p1`.
 #[derive(Debug, PartialEq, Drop)]
 pub struct Number<'a> {
-    text: CowStr<'a>,
-    pub ghost spelled: { IsTrue (is_number (cow_str_bytes text)) },
+    text: LeafText<'a>,
+    pub ghost spelled: { IsTrue (is_number (leaf_bytes text)) },
 }
 
 /// Where a scan of a number stands.
@@ -66,16 +66,14 @@ pub enum Integer {
 impl Integer {
     ghost use Rattle.cbor_edn_parts.specs.Leaves.{integer, HasMagnitude};
 
-    fn decimal(self, alloc: Global) -> Result<String, AllocError>
+    fn decimal<'a>(self, alloc: Global) -> Result<LeafText<'a>, AllocError>
         requires { HasMagnitude self }
-        ensures { IfOk result (λ s. string_bytes s ≡ signed_decimal (integer self)) }
+        ensures { IfOk result (λ t. leaf_bytes t ≡ signed_decimal (integer self)) }
     {
+        let mut digits = itoa::Buffer::new();
         match self {
-            Integer::Positive(n) => format!(in alloc; "{n}"),
-            Integer::Negative(n) => {
-                let magnitude = n + 1;
-                format!(in alloc; "-{magnitude}")
-            }
+            Integer::Positive(n) => LeafText::joined(alloc, "", digits.format(n)),
+            Integer::Negative(n) => LeafText::joined(alloc, "-", digits.format(n + 1)),
         }
     }
 
@@ -278,6 +276,7 @@ impl<'a> Number<'a> {
     ghost use Rattle.cbor_edn_parts.specs.Leaves.{number_bytes, integer, HasMagnitude};
 
     /// The text as it is written.
+    #[inline]
     pub fn as_str(&self) -> &str
         ensures { result.now ≡ number_bytes self.now }
     {
@@ -298,7 +297,6 @@ impl<'a> Number<'a> {
         ensures { IfOk result (λ t. number_bytes t ≡ signed_decimal (integer number)) }
     {
         let text = number.decimal(alloc)?;
-        let text = CowStr::Owned(text);
         Ok(Number { text })
     }
 

@@ -1,5 +1,5 @@
 //! The longest token at a place of a text.
-ghost use Rattle.std.specs.Prelude.{◌≡◌, ◌≤◌, ◌+◌, ℕ, Bool, cond, Option, Some, None, true, false, drop, length, slice_range, IsTrue};
+ghost use Rattle.std.specs.Prelude.{◌≡◌, ◌≤◌, ◌+◌, ℕ, cond, Option, Some, None, true, drop, slice_range};
 ghost use Rattle.std.specs.Str.{IsCharBoundary};
 ghost use Rattle.cbor_edn_parts.specs.Bytes.{IsLong};
 ghost use Rattle.cbor_edn_parts.specs.code.Lex.{Table, munch};

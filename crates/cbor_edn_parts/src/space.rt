@@ -1,16 +1,16 @@
 //! Space texts: optional space (S), mandatory space (MS), separators (MSC) and the ends of lists (SOC).
-ghost use Rattle.std.specs.Prelude.{◌≡◌, ◌↔◌, IsTrue, [], ◌∷◌, IfOk, IfSome, IsNone, drop, true};
-ghost use Rattle.std.specs.Cow.{cow_str_bytes};
+ghost use Rattle.std.specs.Prelude.{◌≡◌, ◌↔◌, IsTrue, [], ◌∷◌, IfOk, IfSome, IsNone};
+ghost use Rattle.cbor_edn_parts.specs.LeafTexts.{leaf_bytes};
 ghost use Rattle.cbor_edn_parts.specs.code.SpaceTokens as tokens;
 ghost use Rattle.cbor_edn_parts.specs.code.SpaceTokens.{is_s, is_ms, is_msc, is_soc};
 ghost use Rattle.cbor_edn_parts.specs.code.Inside.{space_stays, space_inside, separator_stays, separator_inside};
 
 use crate::bytes::Kind;
+use crate::leaf_text::LeafText;
 use crate::scan::State;
 pub use note::TakesComment;
 pub use read::{End, separator, separator_behind, space, space_behind};
 use std::alloc::AllocError;
-use std::borrow::CowStr;
 
 mod comments;
 mod joined;
@@ -22,29 +22,29 @@ mod width;
 /// Optional space (S): blanks and comments.
 #[derive(Debug, PartialEq, Drop)]
 pub struct S<'a> {
-    text: CowStr<'a>,
-    pub ghost spelled: { IsTrue (is_s (cow_str_bytes text)) },
+    text: LeafText<'a>,
+    pub ghost spelled: { IsTrue (is_s (leaf_bytes text)) },
 }
 
 /// Mandatory space (MS): space that is not empty.
 #[derive(Debug, PartialEq, Drop)]
 pub struct Ms<'a> {
-    text: CowStr<'a>,
-    pub ghost spelled: { IsTrue (is_ms (cow_str_bytes text)) },
+    text: LeafText<'a>,
+    pub ghost spelled: { IsTrue (is_ms (leaf_bytes text)) },
 }
 
 /// A separator (MSC): a comma, space, or both.
 #[derive(Debug, PartialEq, Drop)]
 pub struct Msc<'a> {
-    text: CowStr<'a>,
-    pub ghost spelled: { IsTrue (is_msc (cow_str_bytes text)) },
+    text: LeafText<'a>,
+    pub ghost spelled: { IsTrue (is_msc (leaf_bytes text)) },
 }
 
 /// The end of a list (SOC): space with at most one comma.
 #[derive(Debug, PartialEq, Drop)]
 pub struct Soc<'a> {
-    text: CowStr<'a>,
-    pub ghost spelled: { IsTrue (is_soc (cow_str_bytes text)) },
+    text: LeafText<'a>,
+    pub ghost spelled: { IsTrue (is_soc (leaf_bytes text)) },
 }
 
 impl<'a> S<'a> {
@@ -55,7 +55,7 @@ impl<'a> S<'a> {
         ensures bytes { s_bytes result ≡ [] }
         ensures borrowed { BorrowsS result }
     {
-        let text = CowStr::Borrowed("");
+        let text = LeafText::Borrowed("");
         S { text }
     }
 
@@ -64,11 +64,12 @@ impl<'a> S<'a> {
         ensures bytes { s_bytes result ≡ 32 ∷ [] }
         ensures borrowed { BorrowsS result }
     {
-        let text = CowStr::Borrowed(" ");
+        let text = LeafText::Borrowed(" ");
         S { text }
     }
 
     /// The text as it is written.
+    #[inline]
     pub fn as_str(&self) -> &str
         ensures { result.now ≡ s_bytes self.now }
     {
@@ -111,6 +112,7 @@ impl<'a> Ms<'a> {
     }
 
     /// The text as it is written.
+    #[inline]
     pub fn as_str(&self) -> &str
         ensures { result.now ≡ ms_bytes self.now }
     {
@@ -134,7 +136,7 @@ impl<'a> Msc<'a> {
         ensures bytes { msc_bytes result ≡ 44 ∷ [] }
         ensures borrowed { BorrowsMsc result }
     {
-        let text = CowStr::Borrowed(",");
+        let text = LeafText::Borrowed(",");
         Msc { text }
     }
 
@@ -143,11 +145,12 @@ impl<'a> Msc<'a> {
         ensures bytes { msc_bytes result ≡ 44 ∷ 32 ∷ [] }
         ensures borrowed { BorrowsMsc result }
     {
-        let text = CowStr::Borrowed(", ");
+        let text = LeafText::Borrowed(", ");
         Msc { text }
     }
 
     /// The text as it is written.
+    #[inline]
     pub fn as_str(&self) -> &str
         ensures { result.now ≡ msc_bytes self.now }
     {
@@ -170,11 +173,12 @@ impl<'a> Soc<'a> {
     pub fn empty() -> Soc<'a>
         ensures { soc_bytes result ≡ [] }
     {
-        let text = CowStr::Borrowed("");
+        let text = LeafText::Borrowed("");
         Soc { text }
     }
 
     /// The text as it is written.
+    #[inline]
     pub fn as_str(&self) -> &str
         ensures { result.now ≡ soc_bytes self.now }
     {

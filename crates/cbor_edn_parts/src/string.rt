@@ -1,16 +1,16 @@
 //! Literals: quoted texts, with or without a prefix, and dots.
 ghost use Rattle.std.specs.Prelude.{◌≡◌, ◌==◌, IsTrue, IfOk, Some, None, [], if◌then◌else◌};
-ghost use Rattle.std.specs.Cow.{cow_str_bytes};
+ghost use Rattle.cbor_edn_parts.specs.LeafTexts.{leaf_bytes};
 ghost use Rattle.cbor_edn_parts.specs.code.Ended.{Steps};
 ghost use Rattle.cbor_edn_parts.specs.Literal.{letter_escape};
 ghost use Rattle.cbor_edn_parts.specs.code.LiteralTokens as tokens;
 ghost use Rattle.cbor_edn_parts.specs.code.LiteralTokens.{is_literal, are_dots, quote_byte};
 ghost use Rattle.cbor_edn_parts.specs.code.Inside.{literal_stays, literal_inside, dots_stays, dots_inside};
 
+use crate::leaf_text::LeafText;
 use crate::scan::State;
 pub use read::{dots_at, literal_at};
 use std::alloc::AllocError;
-use std::borrow::CowStr;
 
 mod application;
 mod base;
@@ -23,15 +23,15 @@ mod write;
 /// A quoted text as it is written, with or without a prefix, as `"\n"`, `'a'` or `h'00'`.
 #[derive(Debug, PartialEq, Drop)]
 pub struct Literal<'a> {
-    text: CowStr<'a>,
-    pub ghost spelled: { IsTrue (is_literal (cow_str_bytes text)) },
+    text: LeafText<'a>,
+    pub ghost spelled: { IsTrue (is_literal (leaf_bytes text)) },
 }
 
 /// Dots, three or more, in place of what is left out.
 #[derive(Debug, PartialEq, Drop)]
 pub struct Dots<'a> {
-    text: CowStr<'a>,
-    pub ghost spelled: { IsTrue (are_dots (cow_str_bytes text)) },
+    text: LeafText<'a>,
+    pub ghost spelled: { IsTrue (are_dots (leaf_bytes text)) },
 }
 
 /// The kind of a CBOR string.
@@ -98,6 +98,7 @@ impl<'a> Literal<'a> {
     ghost use Rattle.cbor_edn_parts.specs.Leaves.{literal_bytes};
 
     /// The text as it is written.
+    #[inline]
     pub fn as_str(&self) -> &str
         ensures { result.now ≡ literal_bytes self.now }
     {
@@ -117,6 +118,7 @@ impl<'a> Dots<'a> {
     ghost use Rattle.cbor_edn_parts.specs.Leaves.{dots_bytes};
 
     /// The text as it is written.
+    #[inline]
     pub fn as_str(&self) -> &str
         ensures { result.now ≡ dots_bytes self.now }
     {

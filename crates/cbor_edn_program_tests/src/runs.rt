@@ -1,5 +1,5 @@
 //! Runs over devices that fail, or that move few bytes at a time.
-ghost use Rattle.std.specs.Prelude.{◌≡◌, None};
+ghost use Rattle.std.specs.Prelude.{None};
 
 use cbor_edn::engine::{
     Command, Count, DeviceFault, Options, RunError, Sink, Source, StdSink, StdSource, run, serve,

@@ -54,12 +54,14 @@ const DEEPEST: &[(&str, &str, &str)] = &[
     ("{2:", "1", "}"),
     ("{", "1", ":2}"),
     ("{4:", "1", ",5:6}"),
+    ("{", "1", ":2,3:4}"),
     ("6(", "1", ")"),
     ("simple(", "1", ")"),
     ("<<", "1", ">>"),
     ("'a'+<<", "1", ">>+'b'"),
     ("(_ <<", "1", ">>)"),
     ("(_ 'a','b'+<<", "1", ">>,'c')"),
+    ("(_ 'a','b'+<<2,", "1", ",3>>+'d','c')"),
 ];
 
 // Under `rt try`, which compiles with checks, this asks for more stack than is common: `ulimit -s hard` gives it.

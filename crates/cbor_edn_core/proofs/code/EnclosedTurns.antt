@@ -93,7 +93,7 @@ no_tag limit text x from at i q o h begins ends k e n =
     tag_behind limit (drop from text) x (drop at text) i q o (rw h refl) k e ∙ bind_fails invalid (or_invalid (tag_number x)) _ (ap or_invalid (ap tag_number (sym (taken number text x from at h begins ends)) ∙ sym n))
 
 pub tag_at : (limit : ℕ) (text x : List ℕ) (from at n : ℕ) (i : Option Indicator) (q o : List ℕ) → lex.token number (drop from text) ≡ Some (x, drop at text) → from ≤ length text → at ≤ length text
-    → indicator_at (drop at text) ≡ (i, q) → q ≡ 40 ∷ o → Some n ≡ tag_number (take (at - from) (drop from text)) → number_item reads limit (drop from text) ≡ enclosed_item reads limit (Tag n i) q
+    → indicator_at (drop at text) ≡ (i, q) → q ≡ 40 ∷ o → Some n ≡ tag_number (take (at - from) (drop from text)) → number_item reads limit (drop from text) ≡ enclosed_item reads limit (Tag i n) q
 unfolding tag_item
 tag_at limit text x from at n i q o h begins ends k e s =
     tag_behind limit (drop from text) x (drop at text) i q o (rw h refl) k e ∙ bind_ok (or_invalid (tag_number x)) n _ (ap or_invalid (ap tag_number (sym (taken number text x from at h begins ends)) ∙ sym s))

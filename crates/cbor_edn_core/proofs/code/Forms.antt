@@ -48,7 +48,7 @@ unfolding items
 no_simple (NumberTree x i) differs = absurd (differs refl)
 no_simple (FloatTree f i) differs = refl
 no_simple (NamedTree b) differs = refl
-no_simple (EnclosedTree (label.Tag n i) w) differs = refl
+no_simple (EnclosedTree (label.Tag i n) w) differs = refl
 no_simple (EnclosedTree label.Simple w) differs = refl
 no_simple (ListTree k w) differs = refl
 no_simple (StringTree w) differs = refl
@@ -60,8 +60,8 @@ not_true false differs = refl
 
 module _ {S P M O N T D : Type 0} where
   abbrev pub IsForm : Form → InnerItemOf S P M O N T D → Type 0
-  IsForm Number y = (n : N) × (i : Option Indicator) × (y ≡ inner.Number n i)
-  IsForm NonFinite y = (f : word.NonFinite) × (i : Option Indicator) × (y ≡ inner.NonFinite f i)
+  IsForm Number y = (i : Option Indicator) × (n : N) × (y ≡ inner.Number i n)
+  IsForm NonFinite y = (i : Option Indicator) × (f : word.NonFinite) × (y ≡ inner.NonFinite i f)
   IsForm Named y = (b : NamedSimple) × (y ≡ inner.Named b)
   IsForm Enclosed y = (l : Label) × (b : Box (StandaloneItemOf S P M O N T D)) × (y ≡ inner.Enclosed l b)
   IsForm Array y = (b : Box (ItemListOf S P M O N T D)) × (y ≡ inner.Array b)
@@ -70,8 +70,8 @@ module _ {S P M O N T D : Type 0} where
   IsForm Stream y = (b : Box (StreamOf S P M O N T D)) × (y ≡ inner.Stream b)
 
   has_form : (leaves : Ghosts S P M O N T D) (y : InnerItemOf S P M O N T D) → IsForm (form (view_inner leaves y)) y
-  has_form leaves (inner.Number n i) = (n, i, refl)
-  has_form leaves (inner.NonFinite f i) = (f, i, refl)
+  has_form leaves (inner.Number i n) = (i, n, refl)
+  has_form leaves (inner.NonFinite i f) = (i, f, refl)
   has_form leaves (inner.Named b) = (b, refl)
   has_form leaves (inner.Enclosed' l p before item after) = (l, record { ptr = p.ptr; alloc = p.alloc; value = record { before = before; item = record { inner = item }; after = after } }, refl)
   has_form leaves (inner.Array' p list) = (record { ptr = p.ptr; alloc = p.alloc; value = list }, refl)

@@ -13,8 +13,8 @@ use Rattle.cbor_edn_core.specs.declared.tree.StreamOf.{StreamOf'}
 
 module _ {O M C E N L D : Type 0} (leaves : Ghosts O M C E N L D) where
   pub no_tag : (x : InnerItemOf O M C E N L D) → ((l : Label) (b : Box (StandaloneItemOf O M C E N L D)) → x ≡ inner.Enclosed l b → ⊥) → None ≡ tag_content (view_inner leaves x)
-  no_tag (inner.Number n i) differs = refl
-  no_tag (inner.NonFinite f i) differs = refl
+  no_tag (inner.Number i n) differs = refl
+  no_tag (inner.NonFinite i f) differs = refl
   no_tag (inner.Named b) differs = refl
   no_tag (inner.Enclosed' l p before item after) differs = absurd (differs l (record { ptr = p.ptr; alloc = p.alloc; value = record { before = before; item = record { inner = item }; after = after } }) refl)
   no_tag (inner.Array' p list) differs = refl
@@ -23,8 +23,8 @@ module _ {O M C E N L D : Type 0} (leaves : Ghosts O M C E N L D) where
   no_tag (inner.Stream' p (StreamOf' ms strings)) differs = refl
 
   pub not_simple : (x : InnerItemOf O M C E N L D) → ((l : Label) (b : Box (StandaloneItemOf O M C E N L D)) → x ≡ inner.Enclosed l b → ⊥) → false ≡ is_simple (view_inner leaves x)
-  not_simple (inner.Number n i) differs = refl
-  not_simple (inner.NonFinite f i) differs = refl
+  not_simple (inner.Number i n) differs = refl
+  not_simple (inner.NonFinite i f) differs = refl
   not_simple (inner.Named b) differs = refl
   not_simple (inner.Enclosed' l p before item after) differs = absurd (differs l (record { ptr = p.ptr; alloc = p.alloc; value = record { before = before; item = record { inner = item }; after = after } }) refl)
   not_simple (inner.Array' p list) differs = refl

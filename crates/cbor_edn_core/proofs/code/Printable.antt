@@ -41,8 +41,8 @@ mutual
   unfolding Tested
 
   inner_valid : (x : InnerItemOf S Ms Msc Soc Number Literal Dots) → Tested (view_inner texts x)
-  inner_valid (inner.Number n i) = n.spelled
-  inner_valid (inner.NonFinite f i) = tt
+  inner_valid (inner.Number i n) = n.spelled
+  inner_valid (inner.NonFinite i f) = tt
   inner_valid (inner.Named b) = tt
   inner_valid (inner.Enclosed' label p before item after) = (label.fits, (before.spelled, inner_valid item, after.spelled))
   inner_valid (inner.Array' p list) = list_valid list
@@ -55,9 +55,9 @@ mutual
   pieces_valid (more_of-CborStringOf-row-3 p before after row) w v = (piece_valid p, before.spelled, after.spelled, pieces_valid row w v)
 
   piece_valid : (x : PieceOf S Ms Msc Soc Number Literal Dots) → Tested (view_piece texts x)
-  piece_valid (piece.Literal literal i) = literal.spelled
+  piece_valid (piece.Literal i literal) = literal.spelled
   piece_valid (piece.Dots dots) = dots.spelled
-  piece_valid (piece.Embedded' p sequence i) = sequence_valid sequence
+  piece_valid (piece.Embedded' i p sequence) = sequence_valid sequence
 
   pub sequence_valid : (x : Sequence) → Tested (sequence_tree x)
   sequence_valid (SequenceOf' before items) = held_valid before items

@@ -153,8 +153,8 @@ pair_handled k l v w s u t r q a b (Err e) had put had_too put_too asked kept = 
 
 module _ {O M C E N L D : Type 0} (leaves : Ghosts O M C E N L D) where
   pub no_array : (x : InnerItemOf O M C E N L D) → ((b : Box (ItemListOf O M C E N L D)) → x ≡ inner.Array b → ⊥) → array_items (view_inner leaves x) ≡ None
-  no_array (inner.Number n i) differs = refl
-  no_array (inner.NonFinite f i) differs = refl
+  no_array (inner.Number i n) differs = refl
+  no_array (inner.NonFinite i f) differs = refl
   no_array (inner.Named b) differs = refl
   no_array (inner.Enclosed' l p before item after) differs = refl
   no_array (inner.Array' p list) differs = absurd (differs (record { ptr = p.ptr; alloc = p.alloc; value = list }) refl)
@@ -163,8 +163,8 @@ module _ {O M C E N L D : Type 0} (leaves : Ghosts O M C E N L D) where
   no_array (inner.Stream' p (StreamOf' ms strings)) differs = refl
 
   pub no_map : (x : InnerItemOf O M C E N L D) → ((b : Box (PairListOf O M C E N L D)) → x ≡ inner.Map b → ⊥) → map_items (view_inner leaves x) ≡ None
-  no_map (inner.Number n i) differs = refl
-  no_map (inner.NonFinite f i) differs = refl
+  no_map (inner.Number i n) differs = refl
+  no_map (inner.NonFinite i f) differs = refl
   no_map (inner.Named b) differs = refl
   no_map (inner.Enclosed' l p before item after) differs = refl
   no_map (inner.Array' p list) differs = refl

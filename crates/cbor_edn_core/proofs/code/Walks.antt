@@ -125,7 +125,7 @@ pieces_at look (x ∷ xs) zero d h = omega arith
 pieces_at look (x ∷ xs) (suc i) d h = let a = pieces_at look xs i d (omega arith) in omega (arith, a)
 
 module _ {O M C E N L D : Type 0} (leaves : Ghosts O M C E N L D) where
-  tag_falls : (x : InnerItemOf O M C E N L D) (l : Label) (b : Box (StandaloneItemOf O M C E N L D)) (y : StandaloneItemOf O M C E N L D) (n : ℕ) (i : Option Indicator) → x ≡ inner.Enclosed l b → l.kind ≡ label.Tag n i → y ≡ b.value
+  tag_falls : (x : InnerItemOf O M C E N L D) (l : Label) (b : Box (StandaloneItemOf O M C E N L D)) (y : StandaloneItemOf O M C E N L D) (n : ℕ) (i : Option Indicator) → x ≡ inner.Enclosed l b → l.kind ≡ label.Tag i n → y ≡ b.value
       → depth (view_inner leaves x) ≡ suc (depth (view_standalone leaves y))
   unfolding depth
   tag_falls x l b y n i is tag read = ap (λ x. depth (view_inner leaves x)) is ∙ ap (λ k. depth (EnclosedTree k (view_standalone leaves b.value))) tag ∙ ap (λ y. suc (depth (view_standalone leaves y))) (sym read)
@@ -146,7 +146,7 @@ module _ {O M C E N L D : Type 0} (leaves : Ghosts O M C E N L D) where
   unfolding depth
   stream_falls x b y is read = ap (λ x. depth (view_inner leaves x)) is ∙ ap (λ y. depth (view_stream leaves y)) (sym read) ∙ ap depth (view_stream_is leaves y)
 
-  embedded_falls : (x : PieceOf O M C E N L D) (b : Box (SequenceOf O M C E N L D)) (i : Option Indicator) (y : SequenceOf O M C E N L D) → x ≡ piece.Embedded b i → y ≡ b.value → depth (view_piece leaves x) ≡ suc (depth (view_sequence leaves y))
+  embedded_falls : (x : PieceOf O M C E N L D) (b : Box (SequenceOf O M C E N L D)) (i : Option Indicator) (y : SequenceOf O M C E N L D) → x ≡ piece.Embedded i b → y ≡ b.value → depth (view_piece leaves x) ≡ suc (depth (view_sequence leaves y))
   unfolding depth
   embedded_falls x b i y is read = ap (λ x. depth (view_piece leaves x)) is ∙ ap (λ y. suc (depth (view_sequence leaves y))) (sym read)
 
@@ -286,19 +286,19 @@ module _ {IsSought : Tree OneItem → Told → Type 0} where
   walked e f p = rw (e, f) p
 
   module _ {O M C E N L D : Type 0} (leaves : Ghosts O M C E N L D) where
-    pub number_walked : (x : InnerItemOf O M C E N L D) (n : N) (i : Option Indicator) → x ≡ inner.Number n i → VisitParts IsSought _ (view_inner leaves x) [] (view_inner leaves x) whole
+    pub number_walked : (x : InnerItemOf O M C E N L D) (n : N) (i : Option Indicator) → x ≡ inner.Number i n → VisitParts IsSought _ (view_inner leaves x) [] (view_inner leaves x) whole
     number_walked x n i is = walked (ap (view_inner leaves) is) (ap (view_inner leaves) is) of_number
 
-    pub float_walked : (x : InnerItemOf O M C E N L D) (f : _) (i : Option Indicator) → x ≡ inner.NonFinite f i → VisitParts IsSought _ (view_inner leaves x) [] (view_inner leaves x) whole
+    pub float_walked : (x : InnerItemOf O M C E N L D) (f : _) (i : Option Indicator) → x ≡ inner.NonFinite i f → VisitParts IsSought _ (view_inner leaves x) [] (view_inner leaves x) whole
     float_walked x f i is = walked (ap (view_inner leaves) is) (ap (view_inner leaves) is) of_float
 
     pub name_walked : (x : InnerItemOf O M C E N L D) (b : _) → x ≡ inner.Named b → VisitParts IsSought _ (view_inner leaves x) [] (view_inner leaves x) whole
     name_walked x b is = walked (ap (view_inner leaves) is) (ap (view_inner leaves) is) of_name
 
     pub tag_walked : (x : InnerItemOf O M C E N L D) (l : Label) (b : Box (StandaloneItemOf O M C E N L D)) (y : StandaloneItemOf O M C E N L D) (n : ℕ) (i : Option Indicator) (k : LabelKind) (v : Tree Standalone) (cs : List SoughtCall) (r : Ending)
-        → x ≡ inner.Enclosed l b → l.kind ≡ label.Tag n i → y ≡ b.value → k ≡ l.kind
+        → x ≡ inner.Enclosed l b → l.kind ≡ label.Tag i n → y ≡ b.value → k ≡ l.kind
         → VisitParts IsSought _ (view_standalone leaves y) cs v r → VisitParts IsSought _ (view_inner leaves x) cs (EnclosedTree k v) r
-    tag_walked x l b y n i k v cs r is tag read same p = walked (ap (view_inner leaves) is ∙ ap (λ k. EnclosedTree k (view_standalone leaves b.value)) tag ∙ ap (λ y. EnclosedTree (label.Tag n i) (view_standalone leaves y)) (sym read)) (ap (λ k. EnclosedTree k v) (same ∙ tag)) (of_tag p)
+    tag_walked x l b y n i k v cs r is tag read same p = walked (ap (view_inner leaves) is ∙ ap (λ k. EnclosedTree k (view_standalone leaves b.value)) tag ∙ ap (λ y. EnclosedTree (label.Tag i n) (view_standalone leaves y)) (sym read)) (ap (λ k. EnclosedTree k v) (same ∙ tag)) (of_tag p)
 
     pub simple_walked : (x : InnerItemOf O M C E N L D) (l : Label) (b : Box (StandaloneItemOf O M C E N L D)) (k : LabelKind) (v : Tree Standalone) → x ≡ inner.Enclosed l b → l.kind ≡ label.Simple → k ≡ l.kind → v ≡ view_standalone leaves b.value
         → VisitParts IsSought _ (view_inner leaves x) [] (EnclosedTree k v) whole
@@ -321,13 +321,13 @@ module _ {IsSought : Tree OneItem → Told → Type 0} where
         → VisitParts IsSought _ (view_strings leaves (out-StreamOf O M C E N L D y).strings) cs (view_strings leaves m) r → VisitParts IsSought _ (view_inner leaves x) cs (view_inner leaves z) r
     stream_walked x z b d y m cs r is read put made p = walked (ap (view_inner leaves) is ∙ ap (view_stream leaves) (sym read) ∙ view_stream_is leaves y) (ap (view_inner leaves) put ∙ ap (view_stream leaves) made ∙ view_stream_made leaves (record (out-StreamOf O M C E N L D y) { strings = m })) (of_stream p)
 
-    pub literal_walked : (x : PieceOf O M C E N L D) (l : L) (i : Option Indicator) → x ≡ piece.Literal l i → VisitParts IsSought _ (view_piece leaves x) [] (view_piece leaves x) whole
+    pub literal_walked : (x : PieceOf O M C E N L D) (l : L) (i : Option Indicator) → x ≡ piece.Literal i l → VisitParts IsSought _ (view_piece leaves x) [] (view_piece leaves x) whole
     literal_walked x l i is = walked (ap (view_piece leaves) is) (ap (view_piece leaves) is) of_literal
 
     pub dots_walked : (x : PieceOf O M C E N L D) (d : D) → x ≡ piece.Dots d → VisitParts IsSought _ (view_piece leaves x) [] (view_piece leaves x) whole
     dots_walked x d is = walked (ap (view_piece leaves) is) (ap (view_piece leaves) is) of_dots
 
-    pub embedded_walked : (x : PieceOf O M C E N L D) (b : Box (SequenceOf O M C E N L D)) (i j : Option Indicator) (y : SequenceOf O M C E N L D) (v : Tree Seq) (cs : List SoughtCall) (r : Ending) → x ≡ piece.Embedded b i → y ≡ b.value → j ≡ i
+    pub embedded_walked : (x : PieceOf O M C E N L D) (b : Box (SequenceOf O M C E N L D)) (i j : Option Indicator) (y : SequenceOf O M C E N L D) (v : Tree Seq) (cs : List SoughtCall) (r : Ending) → x ≡ piece.Embedded i b → y ≡ b.value → j ≡ i
         → VisitParts IsSought _ (view_sequence leaves y) cs v r → VisitParts IsSought _ (view_piece leaves x) cs (EmbeddedTree v j) r
     embedded_walked x b i j y v cs r is read same p = walked (ap (view_piece leaves) is ∙ ap (λ y. EmbeddedTree (view_sequence leaves y) i) (sym read)) (ap (EmbeddedTree v) same) (of_embedded p)
 
@@ -461,7 +461,7 @@ module _ {IsSought : Tree OneItem → Told → Type 0} where
 
 module _ {O M C E N L D : Type 0} (leaves : Ghosts O M C E N L D) where
   module _ (t : ℕ) where
-    pub tag_less : (x : InnerItemOf O M C E N L D) (l : Label) (b : Box (StandaloneItemOf O M C E N L D)) (y : StandaloneItemOf O M C E N L D) (n : ℕ) (i : Option Indicator) → x ≡ inner.Enclosed l b → l.kind ≡ label.Tag n i → y ≡ b.value
+    pub tag_less : (x : InnerItemOf O M C E N L D) (l : Label) (b : Box (StandaloneItemOf O M C E N L D)) (y : StandaloneItemOf O M C E N L D) (n : ℕ) (i : Option Indicator) → x ≡ inner.Enclosed l b → l.kind ≡ label.Tag i n → y ≡ b.value
         → 16 * depth (view_inner leaves x) + 5 ≡ t → 16 * depth (view_standalone leaves y) + 7 < t
     tag_less x l b y n i is tag read d = let f = tag_falls leaves x l b y n i is tag read in omega (arith, d, f)
 
@@ -477,7 +477,7 @@ module _ {O M C E N L D : Type 0} (leaves : Ghosts O M C E N L D) where
     pub stream_less : (x : InnerItemOf O M C E N L D) (b : Box (StreamOf O M C E N L D)) (y : StreamOf O M C E N L D) → x ≡ inner.Stream b → y ≡ b.value → 16 * depth (view_inner leaves x) + 5 ≡ t → 16 * depth (view_strings leaves (out-StreamOf O M C E N L D y).strings) + 4 < t
     stream_less x b y is read d = let f = stream_falls leaves x b y is read in omega (arith, d, f)
 
-    pub embedded_less : (x : PieceOf O M C E N L D) (b : Box (SequenceOf O M C E N L D)) (i : Option Indicator) (y : SequenceOf O M C E N L D) → x ≡ piece.Embedded b i → y ≡ b.value → 16 * depth (view_piece leaves x) + 0 ≡ t → 16 * depth (view_sequence leaves y) + 9 < t
+    pub embedded_less : (x : PieceOf O M C E N L D) (b : Box (SequenceOf O M C E N L D)) (i : Option Indicator) (y : SequenceOf O M C E N L D) → x ≡ piece.Embedded i b → y ≡ b.value → 16 * depth (view_piece leaves x) + 0 ≡ t → 16 * depth (view_sequence leaves y) + 9 < t
     embedded_less x b i y is read d = let f = embedded_falls leaves x b i y is read in omega (arith, d, f)
 
     pub sequence_less : (x : SequenceOf O M C E N L D) (m : ItemsOf O M C E N L D) → (out-SequenceOf O M C E N L D x).items ≡ Some m → 16 * depth (view_sequence leaves x) + 9 ≡ t → 16 * depth (view_items leaves m) + 8 < t

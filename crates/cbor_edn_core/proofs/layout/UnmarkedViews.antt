@@ -82,8 +82,8 @@ module _ {S P M O N T D : Type 0} (leaves : Ghosts S P M O N T D) where
 
   -- what is no item between parentheses
   pub no_label : (y : InnerItemOf S P M O N T D) → (IsForm Enclosed y → ⊥) → view_inner leaves y ≡ label_gone (view_inner leaves y)
-  no_label (inner.Number n i) differs = refl
-  no_label (inner.NonFinite f i) differs = refl
+  no_label (inner.Number i n) differs = refl
+  no_label (inner.NonFinite i f) differs = refl
   no_label (inner.Named b) differs = refl
   no_label (inner.Enclosed' l p before item after) differs =
       absurd (differs (l, record { ptr = p.ptr; alloc = p.alloc; value = record { before = before; item = record { inner = item }; after = after } }, refl))
@@ -127,7 +127,7 @@ list_fewer w v r = listed r.0 r.1
 
 pub enclosed_fewer : (l : LabelKind) (w v : Tree Standalone) → Fewer (items w) (items v) → Fewer (items (EnclosedTree l w)) (items (EnclosedTree (bare_label l) v))
 unfolding items
-enclosed_fewer (label.Tag n i) w v r = tagged (inr refl) r
+enclosed_fewer (label.Tag i n) w v r = tagged (inr refl) r
 enclosed_fewer label.Simple w v r = simple r
 
 pub relabelled_fewer : (l : LabelKind) (a b : Tree Standalone) (w v : Tree OneItem) → w ≡ EnclosedTree l a → v ≡ label_gone (EnclosedTree l b) → Fewer (items a) (items b) → Fewer (items w) (items v)

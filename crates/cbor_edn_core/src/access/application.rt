@@ -63,7 +63,7 @@ fn parts_of(alloc: Global, piece: &Piece<'_>) -> Result<Option<(String, String)>
     ensures none { IfOk result (λ o. o ≡ None → (p v : List ℕ) → IsApplicationPiece (view_piece texts piece.now) p v → ⊥) }
 {
     match piece {
-        Piece::Literal(literal, _) => literal.application_parts(alloc),
+        Piece::Literal(_, literal) => literal.application_parts(alloc),
         Piece::Dots(_) | Piece::Embedded(..) => Ok(None),
     }
 }

@@ -1,15 +1,14 @@
 //! The reader of bytes: each function reads what stands at the front, and answers it with the bytes behind it.
-ghost use Rattle.std.specs.Prelude.{◌≡◌, ◌<◌, ◌≤◌, ◌++◌, ◌∷◌, [], suc, length, map, option_map, Ok, IfSome, IfOk};
+ghost use Rattle.std.specs.Prelude.{◌≡◌, ◌<◌, ◌≤◌, suc, length, map, option_map, Ok, IfOk};
 ghost use Rattle.std.specs.Fmt.{signed_decimal};
 ghost use Rattle.cbor_edn_parts.specs.Leaves as leaves;
 ghost use Rattle.cbor_edn_parts.specs.Leaves.{HasMagnitude};
 ghost use Rattle.cbor_edn_model.specs.Trees.{NumberTree};
 ghost use Rattle.cbor_edn_core.specs.View.{view_list, view_pair_list, view_items, view_pairs, view_pair, item_tree};
-ghost use Rattle.cbor_edn_model.specs.ListHeads.{view_list_head};
 ghost use Rattle.cbor_edn_model.specs.Leaves.{texts};
-ghost use Rattle.cbor_edn_model.specs.code.Regular.{list_inside, spaced_list_head};
+ghost use Rattle.cbor_edn_model.specs.code.Regular.{list_inside};
 ghost use Rattle.cbor_edn_model.specs.code.CborReading as reading;
-ghost use Rattle.cbor_edn_model.specs.code.CborReading.{DecoderGives, trees, head_at, many, until, several, pair_at, number_by, array_by, map_by, tag_by, item_by, item_at, inner, shown, argument_indicator};
+ghost use Rattle.cbor_edn_model.specs.code.CborReading.{DecoderGives, trees, many, until, several, pair_at, number_by, array_by, map_by, tag_by, item_by, item_at, inner, argument_indicator};
 ghost use Rattle.cbor_edn_core.specs.code.RowBuilder.{grown};
 
 use super::CborError;
@@ -23,7 +22,7 @@ use cbor_edn_model::list_head::head_space;
 use cbor_edn_parts::error::Fault;
 use cbor_edn_parts::indicator::Indicator;
 use cbor_edn_parts::number::{Integer, Number};
-use cbor_edn_parts::space::{Ms, S};
+use cbor_edn_parts::space::S;
 use cbor_edn_parts::string::StringKind;
 use std::alloc::{AllocError, Global};
 
@@ -145,7 +144,7 @@ fn number<'a>(alloc: Global, integer: Integer, argument: Argument) -> Result<Ite
 {
     let number = Number::decimal(alloc, integer)?;
     Ok(Item {
-        inner: InnerItem::Number(number, indicator_of(argument)),
+        inner: InnerItem::Number(indicator_of(argument), number),
     })
 }
 

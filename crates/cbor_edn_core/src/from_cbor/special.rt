@@ -9,7 +9,7 @@ ghost use Rattle.std.specs.Fmt.{decimal};
 ghost use Rattle.cbor_edn_core.specs.View.{item_tree};
 
 use super::CborError;
-use crate::tree::{Indicator, InnerItem, Item, Label, StandaloneItem};
+use crate::tree::{InnerItem, Item, Label, StandaloneItem};
 use cbor_edn_model::cbor::Width;
 use cbor_edn_model::from_cbor::float::{float_indicator, non_finite};
 use cbor_edn_model::from_cbor::head::Argument;
@@ -56,7 +56,7 @@ fn numeral<'a>(alloc: Global, number: u64) -> Result<Item<'a>, AllocError>
 {
     let number = Number::decimal(alloc, Integer::Positive(u128::from(number)))?;
     Ok(Item {
-        inner: InnerItem::Number(number, None),
+        inner: InnerItem::Number(None, number),
     })
 }
 
@@ -79,6 +79,6 @@ fn float_of<'a>(width: Width, bits: u64) -> Result<Item<'a>, Fault<CborError>>
         return Err(Fault::Told(CborError::FloatOutOfScope));
     };
     Ok(Item {
-        inner: InnerItem::NonFinite(float, float_indicator(width)),
+        inner: InnerItem::NonFinite(float_indicator(width), float),
     })
 }

@@ -56,7 +56,7 @@ fn definite<'a, 'b>(
     ensures shorter { IfOk result (λ x. length x.1.now ≤ length bytes.now) }
 {
     let (literal, rest) = literal_of(alloc, kind, count, bytes)?;
-    let last = Piece::Literal(literal, indicator_of(Some((width, count))));
+    let last = Piece::Literal(indicator_of(Some((width, count))), literal);
     let row = Vec::new(alloc);
     Ok((CborString { row, last }, rest))
 }
@@ -122,7 +122,7 @@ fn chunked<'a>(
             alloc,
             CborString {
                 row: Vec::new(alloc),
-                last: Piece::Literal(Literal::empty(kind), Some(Indicator::Indefinite)),
+                last: Piece::Literal(Some(Indicator::Indefinite), Literal::empty(kind)),
             },
         ),
     }

@@ -1,23 +1,21 @@
 //! Removal of encoding indicators.
-ghost use Rattle.std.specs.Prelude.{◌≡◌, map, IfOk, IfErr, OnOk};
-ghost use Rattle.cbor_edn_parts.specs.Leaves.{s_bytes, ms_bytes};
+ghost use Rattle.std.specs.Prelude.{◌≡◌, map, IfErr, OnOk};
 ghost use Rattle.cbor_edn_model.specs.Bare as bare;
-ghost use Rattle.cbor_edn_model.specs.Bare.{without_indicators, first_space, bare_label};
+ghost use Rattle.cbor_edn_model.specs.Bare.{without_indicators};
 ghost use Rattle.cbor_edn_model.specs.Fewer.{Fewer};
 ghost use Rattle.cbor_edn_model.specs.Trees as definition;
 ghost use Rattle.cbor_edn_model.specs.Trees.{items};
 ghost use Rattle.cbor_edn_core.specs.View.{view_list, view_items, seen, view_pair_list, view_pairs, view_pair, seen_pair, view_string, view_piece, seen_piece, view_stream, view_strings, seen_string, item_tree, standalone_tree, sequence_tree};
-ghost use Rattle.cbor_edn_model.specs.ListHeads.{view_list_head};
 ghost use Rattle.cbor_edn_model.specs.Leaves.{texts};
 ghost use Rattle.cbor_edn_model.specs.code.LayoutRows.{entry_without_indicators, piece_without_indicators};
 ghost use Rattle.cbor_edn_model.specs.code.Unmarking.{FewerInside, FewerEntries, headless, label_gone};
 
 use crate::tree::{
-    CborString, Indicator, InnerItem, Item, ItemList, Items, Kp, Label, LabelKind, PairList, Pairs,
-    Piece, Sequence, StandaloneItem, Stream, Strings,
+    CborString, InnerItem, Item, ItemList, Items, Kp, PairList, Pairs, Piece, Sequence,
+    StandaloneItem, Stream, Strings,
 };
 use cbor_edn_model::bare::moved_space;
-use cbor_edn_parts::space::{Ms, Msc, S};
+use cbor_edn_parts::space::{Msc, S};
 use std::alloc::{AllocError, Global};
 
 impl<'a> Item<'a> {
@@ -57,9 +55,9 @@ fn unmark_piece(piece: &mut Piece<'_>)
     ensures { view_piece texts piece.new ≡ without_indicators (view_piece texts piece.old) }
 {
     match piece {
-        Piece::Literal(_, indicator) => *indicator = None,
+        Piece::Literal(indicator, _) => *indicator = None,
         Piece::Dots(_) => {}
-        Piece::Embedded(_, indicator) => *indicator = None,
+        Piece::Embedded(indicator, _) => *indicator = None,
     }
 }
 
@@ -153,11 +151,11 @@ fn unmark_item(item: &mut Item<'_>, alloc: Global) -> Result<(), AllocError>
     ensures fewer { Fewer (items (item_tree item.old)) (items (item_tree item.new)) }
 {
     match &mut item.inner {
-        InnerItem::Number(_, indicator) => {
+        InnerItem::Number(indicator, _) => {
             *indicator = None;
             Ok(())
         }
-        InnerItem::NonFinite(_, indicator) => {
+        InnerItem::NonFinite(indicator, _) => {
             *indicator = None;
             Ok(())
         }

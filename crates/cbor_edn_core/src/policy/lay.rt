@@ -1,24 +1,22 @@
 //! Trees laid out in place: one walk in the order of the text, with the widths of a table in this order.
 ghost use Rattle.std.specs.Prelude.{◌≡◌, map, IsOk, OnOk};
 ghost use Rattle.cbor_edn_parts.specs.LayoutColumns.{least};
-ghost use Rattle.cbor_edn_model.specs.Layout.{laid_list_head};
 ghost use Rattle.cbor_edn_model.specs.Trees as definition;
-ghost use Rattle.cbor_edn_model.specs.Trees.{items, mark};
+ghost use Rattle.cbor_edn_model.specs.Trees.{items};
 ghost use Rattle.cbor_edn_core.specs.View.{view_list, view_items, seen, view_pair_list, view_pairs, view_pair, seen_pair, item_tree, standalone_tree, sequence_tree};
-ghost use Rattle.cbor_edn_model.specs.ListHeads.{view_list_head};
 ghost use Rattle.cbor_edn_model.specs.Leaves.{texts};
-ghost use Rattle.cbor_edn_model.specs.code.Laying.{top, others, opened, without, laid_by, entries_without, entries_by};
+ghost use Rattle.cbor_edn_model.specs.code.Laying.{opened, without, laid_by, entries_without, entries_by};
 ghost use Rattle.cbor_edn_model.specs.code.LayoutRows.{entry_items};
 ghost use Rattle.cbor_edn_model.specs.code.Widths.{stack};
 
 use super::strings::{lay_boxed_string, lay_stream};
 use crate::tree::{
-    Indicator, InnerItem, Item, ItemList, Items, Kp, PairList, Pairs, Sequence, StandaloneItem,
+    InnerItem, Item, ItemList, Items, Kp, PairList, Pairs, Sequence, StandaloneItem,
 };
 use cbor_edn_model::list_head::lay_head;
 use cbor_edn_model::width::pop_width;
-use cbor_edn_parts::layout::{Layout, Place, lay_end, lay_mandatory, lay_separator, lay_space};
-use cbor_edn_parts::space::{Ms, Msc};
+use cbor_edn_parts::layout::{Layout, Place, lay_end, lay_separator, lay_space};
+use cbor_edn_parts::space::Msc;
 use std::alloc::{AllocError, Global};
 
 #[cycle(lay)]

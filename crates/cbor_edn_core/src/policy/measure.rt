@@ -2,22 +2,15 @@
 //!
 //! The widths come on a stack, so the walk goes from the last item to the first: the first one's width ends on top, and an
 //! item's in front of those of the items in it.
-ghost use Rattle.std.specs.Fmt.{decimal};
-ghost use Rattle.std.specs.Prelude.{◌≡◌, [], length, map, IfOk};
-ghost use Rattle.cbor_edn_parts.specs.Indicator.{indicator_text};
-ghost use Rattle.cbor_edn_parts.specs.Leaves.{s_bytes, ms_bytes, msc_bytes, soc_bytes};
+
+ghost use Rattle.std.specs.Prelude.{◌≡◌, [], map, IfOk};
 ghost use Rattle.cbor_edn_parts.specs.Spacing as kind;
-ghost use Rattle.cbor_edn_model.specs.Trees.{label_text};
 ghost use Rattle.cbor_edn_core.specs.View.{view_list, view_items, seen, view_pair_list, view_pairs, view_pair, seen_pair, view_string, view_piece, seen_piece, view_stream, view_strings, seen_string, item_tree, standalone_tree, sequence_tree};
-ghost use Rattle.cbor_edn_model.specs.ListHeads.{view_list_head};
 ghost use Rattle.cbor_edn_model.specs.Leaves.{texts};
 ghost use Rattle.cbor_edn_model.specs.code.Widths as widths;
-ghost use Rattle.cbor_edn_model.specs.code.Widths.{space_width, head_width, width, capped, entries_width, pieces_width, pushed, widths_onto, widths_by, entries_widths_by, stack};
+ghost use Rattle.cbor_edn_model.specs.code.Widths.{width, capped, entries_width, pieces_width, widths_onto, widths_by, entries_widths_by, stack};
 
-use crate::tree::{
-    CborString, Indicator, InnerItem, Item, ItemList, Items, Kp, LabelKind, PairList, Pairs, Piece,
-    Sequence, StandaloneItem, Stream, Strings,
-};
+use crate::tree::{CborString, InnerItem, Item, ItemList, Items, Kp, PairList, Pairs, Piece, Sequence, StandaloneItem, Stream, Strings};
 use cbor_edn_model::width::{
     Spaces, head_len, indicator_len, label_len, ms_len, msc_len, push_width, s_len, soc_len,
 };
@@ -109,10 +102,10 @@ fn measure_item(
     ensures width { IfOk result (λ n. n ≡ capped (width spaces (item_tree item.now))) }
 {
     match &item.inner {
-        InnerItem::Number(number, indicator) => {
+        InnerItem::Number(indicator, number) => {
             Ok(indicator_len(*indicator).saturating_add(number.as_str().len()))
         }
-        InnerItem::NonFinite(float, indicator) => {
+        InnerItem::NonFinite(indicator, float) => {
             Ok(indicator_len(*indicator).saturating_add(float.as_str().len()))
         }
         InnerItem::Named(name) => Ok(name.as_str().len()),
@@ -189,11 +182,11 @@ fn measure_piece(
     ensures width { IfOk result (λ n. n ≡ capped (width spaces (view_piece texts piece.now))) }
 {
     match piece {
-        Piece::Literal(literal, indicator) => {
+        Piece::Literal(indicator, literal) => {
             Ok(indicator_len(*indicator).saturating_add(literal.as_str().len()))
         }
         Piece::Dots(dots) => Ok(dots.as_str().len()),
-        Piece::Embedded(sequence, indicator) => {
+        Piece::Embedded(indicator, sequence) => {
             let sequence = measure_sequence(table, Spaces::Kept, sequence)?;
             Ok(
                 sequence

@@ -1,8 +1,8 @@
 //! Strings laid out in place. No string in them has a test of its own, so no width is asked for.
 ghost use Rattle.std.specs.Prelude.{◌≡◌, map, IsOk, OnOk};
 ghost use Rattle.cbor_edn_parts.specs.LayoutColumns.{least};
-ghost use Rattle.cbor_edn_model.specs.Layout.{in_chunk, laid, respaced, First};
-ghost use Rattle.cbor_edn_model.specs.Trees.{StreamTree, StringTree, items};
+ghost use Rattle.cbor_edn_model.specs.Layout.{in_chunk, laid, First};
+ghost use Rattle.cbor_edn_model.specs.Trees.{items};
 ghost use Rattle.cbor_edn_core.specs.View.{view_string, seen_piece, view_stream, view_strings, seen_string};
 ghost use Rattle.cbor_edn_model.specs.Leaves.{texts};
 ghost use Rattle.cbor_edn_model.specs.code.Laying.{laid_stream};

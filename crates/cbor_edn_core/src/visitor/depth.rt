@@ -148,7 +148,7 @@ fn piece_depth(piece: &Piece<'_>) -> usize
 {
     match piece {
         Piece::Literal(..) | Piece::Dots(_) => 0,
-        Piece::Embedded(sequence, _) => depth_of_embedded(sequence_depth(sequence)),
+        Piece::Embedded(_, sequence) => depth_of_embedded(sequence_depth(sequence)),
     }
 }
 

@@ -9,7 +9,7 @@ ghost use Rattle.cbor_edn_core.specs.View.{seen, seen_pair, seen_piece, seen_str
 use super::seek::Seek;
 use crate::tree::{
     CborStringOf, InnerItemOf, ItemListOf, ItemOf, ItemsOf, KpOf, LabelKind, PairListOf, PairsOf,
-    PieceOf, SequenceOf, StandaloneItemOf, StreamOf, StringsOf,
+    PieceOf, SequenceOf, StandaloneItemOf, StringsOf,
 };
 use std::alloc::{AllocError, Global};
 
@@ -396,7 +396,7 @@ fn visit_piece<
     match piece {
         PieceOf::Literal(..) => Ok(()),
         PieceOf::Dots(_) => Ok(()),
-        PieceOf::Embedded(sequence, _) => visit_sequence::<O, M, C, E, N, L, D, F, K>(
+        PieceOf::Embedded(_, sequence) => visit_sequence::<O, M, C, E, N, L, D, F, K>(
             sequence, alloc, f,
         ),
     }

@@ -32,7 +32,7 @@ abbrev mutual
   tree_of (chunks k cs) = chunks_tree k cs
   tree_of (array w vs) = ListTree Array (list_inside (list_indicator w (values_len vs)) (row_tree vs))
   tree_of (cbor_map w ps) = ListTree Map (list_inside (list_indicator w (pairs_len ps)) (pair_row_tree ps))
-  tree_of (tag w n v) = EnclosedTree (Tag n (decoded.indicator_of w n)) (alone (tree_of v))
+  tree_of (tag w n v) = EnclosedTree (Tag (decoded.indicator_of w n) n) (alone (tree_of v))
   tree_of (simple n) = simple_tree n
   tree_of (float w f) = FloatTree f (float_indicator w)
 
@@ -64,7 +64,7 @@ mutual
   tree_of_item (chunks k cs) = chunks_tree_is k cs
   tree_of_item (array w vs) = ap (λ m. ListTree Array (list_inside (list_indicator w (values_len vs)) m)) (row_tree_of_items vs)
   tree_of_item (cbor_map w ps) = ap (λ m. ListTree Map (list_inside (list_indicator w (pairs_len ps)) m)) (row_tree_of_pairs ps)
-  tree_of_item (tag w n v) = ap (λ t. EnclosedTree (Tag n (decoded.indicator_of w n)) (alone t)) (tree_of_item v)
+  tree_of_item (tag w n v) = ap (λ t. EnclosedTree (Tag (decoded.indicator_of w n) n) (alone t)) (tree_of_item v)
   tree_of_item (simple n) = refl
   tree_of_item (float w f) = refl
 
@@ -195,7 +195,7 @@ tag_shown : (i : Option (Decoder (Tree OneItem))) (j : Option (Decoder Value)) (
 tag_shown i j None rest shows = refl
 tag_shown None None (Some (w, n)) rest shows = refl
 tag_shown (Some one) (Some other) (Some (w, n)) rest shows =
-    shown_step tree_of tree_of (one rest) (other rest) (λ x. Ok (EnclosedTree (Tag n (decoded.indicator_of w n)) (alone x.0), x.1)) (λ x. Ok (tag w n x.0, x.1)) (shows rest) (λ x _. refl)
+    shown_step tree_of tree_of (one rest) (other rest) (λ x. Ok (EnclosedTree (Tag (decoded.indicator_of w n) n) (alone x.0), x.1)) (λ x. Ok (tag w n x.0, x.1)) (shows rest) (λ x _. refl)
 tag_shown None (Some other) (Some (w, n)) rest shows = absurd shows
 tag_shown (Some one) None (Some (w, n)) rest shows = absurd shows
 

@@ -29,7 +29,7 @@ pub put_back : {s : Rule} (i : ℕ) (c : Tree OneItem) (t : Tree s) → slice_ge
 put_back i c (NumberTree x p) e = refl
 put_back i c (FloatTree f p) e = refl
 put_back i c (NamedTree b) e = refl
-put_back i c (EnclosedTree (label.Tag n p) w) e = ap (EnclosedTree (label.Tag n p)) (put_back i c w e)
+put_back i c (EnclosedTree (label.Tag p n) w) e = ap (EnclosedTree (label.Tag p n)) (put_back i c w e)
 put_back i c (EnclosedTree label.Simple w) e = refl
 put_back i c (ListTree k w) e = ap (ListTree k) (put_back i c w e)
 put_back i c (StringTree w) e = ap StringTree (put_back i c w e)
@@ -62,18 +62,18 @@ pub nothing_below : (t : Tree OneItem) (i : ℕ) → is_simple t ≡ true → No
 nothing_below (NumberTree x p) i e = refl
 nothing_below (FloatTree f p) i e = refl
 nothing_below (NamedTree b) i e = refl
-nothing_below (EnclosedTree (label.Tag n p) w) i e = absurd (false≢true e)
+nothing_below (EnclosedTree (label.Tag p n) w) i e = absurd (false≢true e)
 nothing_below (EnclosedTree label.Simple w) i e = refl
 nothing_below (ListTree k w) i e = absurd (false≢true e)
 nothing_below (StringTree w) i e = absurd (false≢true e)
 nothing_below (StreamTree ms m) i e = absurd (false≢true e)
 
 pub tag_items : (k : LabelKind) (w : Tree Standalone) → (is_simple (EnclosedTree k w) ≡ true → ⊥) → items_in (EnclosedTree k w) ≡ items_in w
-tag_items (label.Tag n p) w differs = refl
+tag_items (label.Tag p n) w differs = refl
 tag_items label.Simple w differs = absurd (differs refl)
 
 pub tag_with : (k : LabelKind) (w : Tree Standalone) → (is_simple (EnclosedTree k w) ≡ true → ⊥) → (i : ℕ) (x : Tree OneItem) → with_item i x (EnclosedTree k w) ≡ EnclosedTree k (with_item i x w)
-tag_with (label.Tag n p) w differs i x = refl
+tag_with (label.Tag p n) w differs i x = refl
 tag_with label.Simple w differs i x = absurd (differs refl)
 
 -- ---- paths

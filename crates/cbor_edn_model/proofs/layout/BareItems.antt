@@ -12,7 +12,7 @@ use Rattle.cbor_edn_model.specs.Items.{Row, Elements, Pairs, Strings, Bracketed,
 use Rattle.cbor_edn_model.specs.Value as values
 use Rattle.cbor_edn_model.specs.Value.{Value, chunks, array, cbor_map, tag, values_len, pairs_len}
 use Rattle.cbor_edn_model.specs.Meaning as meaning
-use Rattle.cbor_edn_model.specs.Meaning.{◌>>=◌, shortest, width_of, length_of, means_integer, means_float, named_number, means_simple, piece_mark, are_unmarked, pieces_mark, chunk_of, string_of, same_kind, chunks_of, stream_of, MeaningOf, EntryOf, RowOf, row_len, list_value, listed, no_entries, one_more, means}
+use Rattle.cbor_edn_model.specs.Meaning.{◌>>=◌, shortest, width_of, length_of, means_integer, means_float, named_number, means_simple, piece_mark, are_unmarked, pieces_mark, chunk_of, string_of, same_kind, chunks_of, stream_of, MeaningOf, EntryOf, RowOf, row_len, listed, no_entries, one_more, means}
 use Rattle.cbor_edn_model.specs.Fewer as fewer
 use Rattle.cbor_edn_model.specs.Fewer.{Remarked, number, float, named, simple, string, stream, literal, dots, embedded, last_piece, plus, element, pair, chunk, end, then, StaysOrGoes, FewerMean}
 use Rattle.cbor_edn_model.specs.Plain.{concatenated, plain, plain_values, plain_pairs, ChunksAreShort, IsShort, AreShort, PairsAreShort}

@@ -14,9 +14,9 @@ use Rattle.cbor_edn_model.specs.declared.cbor.Width.TheVariants.{Immediate, One,
 use Rattle.cbor_edn_model.specs.declared.word.NonFinite.{NonFinite}
 use Rattle.cbor_edn_model.specs.Items.{Number}
 use Rattle.cbor_edn_model.specs.Value as values
-use Rattle.cbor_edn_model.specs.Value.{Value, Values, unsigned, negative, string, chunks, array, cbor_map, tag, simple, float, limit_of, ArgumentFits, is_content, values_len, pairs_len, head, encoding, encodings, pair_encodings, list_encoding}
+use Rattle.cbor_edn_model.specs.Value.{Value, unsigned, negative, string, chunks, simple, float, limit_of, is_content, head}
 use Rattle.cbor_edn_model.specs.Meaning.{◌>>=◌, shortest, width_of, length_of, magnitude_bytes, tagged, no_indicator, bignum, means_integer, float_width, means_float, is_simple, is_shortest, simple_number, simple_of, means_simple, chunk_of, string_of}
-use Rattle.cbor_edn_model.specs.Plain.{concatenated, plain, plain_values, plain_pairs, integer, ChunksAreShort, IsShort, AreShort, PairsAreShort}
+use Rattle.cbor_edn_model.specs.Plain.{plain, IsShort}
 use Rattle.cbor_edn_model.specs.Plain as plains
 use Rattle.cbor_edn_model.proofs.meaning.MeaningSteps.{bind, both_steps, some_is}
 use Rattle.cbor_edn_model.proofs.meaning.Meanings.{shortest_fits, width_fits, if_content, given_chunk, string_value}

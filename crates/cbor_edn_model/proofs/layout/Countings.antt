@@ -5,7 +5,7 @@ use Rattle.cbor_edn_model.specs.declared.cbor.Width.{Width}
 use Rattle.cbor_edn_model.specs.declared.cbor.Width.TheVariants.{Immediate, One, Two, Four, Eight}
 use Rattle.cbor_edn_model.specs.Items.{Row, Elements, Pairs, Strings, Bracketed, Array, Map, entries_of, Sort, Item, Piece, Pieces, Entry, Entries}
 use Rattle.cbor_edn_model.specs.Value as values
-use Rattle.cbor_edn_model.specs.Value.{Value, Values, unsigned, negative, string, chunks, array, cbor_map, tag, simple, float, limit_of, ArgumentFits, is_content, values_len, pairs_len, head, encoding, encodings, pair_encodings, list_encoding}
+use Rattle.cbor_edn_model.specs.Value.{Value, Values, unsigned, negative, string, chunks, array, cbor_map, tag, simple, float, values_len, pairs_len, head, encoding, encodings, pair_encodings, list_encoding}
 use Rattle.cbor_edn_model.specs.Meaning.{length_of, MeaningOf, EntryOf, RowOf, row_len, listed, one_more}
 use Rattle.cbor_edn_model.proofs.meaning.MeaningSteps.{both_steps, some_is}
 

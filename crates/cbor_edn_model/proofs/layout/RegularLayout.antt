@@ -74,7 +74,7 @@ mutual
   item_fixed (chunks k cs) = chunked_fixed k cs
   item_fixed (array w vs) = ap (ListTree kind.Array) (inside_fixed (decoded.list_indicator w (values.values_len vs)) (regular (items_of vs)) (items_fixed vs))
   item_fixed (cbor_map w ps) = ap (ListTree kind.Map) (inside_fixed (decoded.list_indicator w (values.pairs_len ps)) (regular (pairs_of ps)) (pairs_fixed ps))
-  item_fixed (tag w n v) = enclosed_fixed (label.Tag n (indicator_of w n)) (regular (item_of v)) (item_fixed v)
+  item_fixed (tag w n v) = enclosed_fixed (label.Tag (indicator_of w n) n) (regular (item_of v)) (item_fixed v)
   item_fixed (simple n) = simple_fixed n
   item_fixed (float w f) = refl
 

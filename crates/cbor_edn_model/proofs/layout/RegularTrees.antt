@@ -107,11 +107,11 @@ least = Inline Least
 
 label_regular : (l : LabelKind) (x : Node Item) → regular (labelled l x) ≡ EnclosedTree l (alone (regular x))
 unfolding regular
-label_regular (label.Tag n i) x = refl
+label_regular (label.Tag i n) x = refl
 label_regular label.Simple x = refl
 
 label_single : (l : LabelKind) (x : Node Item) → Single (labelled l x) → Single x
-label_single (label.Tag n i) x s = s
+label_single (label.Tag i n) x s = s
 label_single label.Simple x s = s
 
 piece_regular : (p : Tree OnePiece) → Single (items p) → p ≡ regular (items p)

@@ -26,7 +26,7 @@ bare_of Standalone x = bare x
 
 label_bare : (l : LabelKind) (x : Node Item) → labelled (bare_label l) (bare x) ≡ bare (labelled l x)
 unfolding bare
-label_bare (label.Tag n i) x = refl
+label_bare (label.Tag i n) x = refl
 label_bare label.Simple x = refl
 
 is_bare : {s : Rule} (w : Tree s) → items (without_indicators w) ≡ bare_of s (items w)
@@ -61,7 +61,7 @@ pub unmarked_is_bare : WithoutIndicatorsIsBare
 unmarked_is_bare = (λ w. is_bare w, λ w. is_bare w, λ w. is_bare w)
 
 label_fits : (l : LabelKind) → IsLabel l → IsLabel (bare_label l)
-label_fits (label.Tag n i) v = v
+label_fits (label.Tag i n) v = v
 label_fits label.Simple v = tt
 
 first_is_space : (h : ListHead) (s : List ℕ) → IsTestedListHead h → is_s s ≡ true → is_s (first_space h s) ≡ true

@@ -106,7 +106,7 @@ module _ (g : ℕ → (s : Rule) → Reader s) where
 
   label_next : (limit : ℕ) (l : LabelKind) (xs : List ℕ) → IsLabel l → item g limit (label_text l ++ (40 ∷ xs)) ≡ enclosed_item g limit l (40 ∷ xs)
   unfolding word_item number_end tag_item
-  label_next limit (label.Tag n i) xs v = rw append_assoc (number_next limit (decimal n) i (40 ∷ xs) (tag_digits n v) (halts_tag i xs) (spec-tag i xs) ∙ then_ok _ (ap or_invalid (tag_number-again n v)) refl)
+  label_next limit (label.Tag i n) xs v = rw append_assoc (number_next limit (decimal n) i (40 ∷ xs) (tag_digits n v) (halts_tag i xs) (spec-tag i xs) ∙ then_ok _ (ap or_invalid (tag_number-again n v)) refl)
   label_next limit label.Simple xs v = word_next limit word.Simple (40 ∷ xs) refl
 
   enclosed-again : (limit : ℕ) (l : LabelKind) (w : Tree Standalone) (r : List ℕ) → ((limit : ℕ) → g limit Standalone (onto w (41 ∷ r)) ≡ outcome (depth w) limit (w, 41 ∷ r)) → enclosed_item g limit l (40 ∷ onto w (41 ∷ r)) ≡ outcome (suc (depth w)) limit (EnclosedTree l w, r)

@@ -73,7 +73,7 @@ words :
     -- simple( 20)
     × Reads 1 (115 ∷ 105 ∷ 109 ∷ 112 ∷ 108 ∷ 101 ∷ 40 ∷ 32 ∷ 50 ∷ 48 ∷ 41 ∷ []) (alone (EnclosedTree label.Simple (StandaloneTree (32 ∷ []) (NumberTree (50 ∷ 48 ∷ []) None) [])))
     -- 0_i(12(3))
-    × Reads 2 (48 ∷ 95 ∷ 105 ∷ 40 ∷ 49 ∷ 50 ∷ 40 ∷ 51 ∷ 41 ∷ 41 ∷ []) (alone (EnclosedTree (label.Tag 0 (Some Immediate)) (StandaloneTree [] (EnclosedTree (label.Tag 12 None) (StandaloneTree [] (NumberTree (51 ∷ []) None) [])) [])))
+    × Reads 2 (48 ∷ 95 ∷ 105 ∷ 40 ∷ 49 ∷ 50 ∷ 40 ∷ 51 ∷ 41 ∷ 41 ∷ []) (alone (EnclosedTree (label.Tag (Some Immediate) 0) (StandaloneTree [] (EnclosedTree (label.Tag None 12) (StandaloneTree [] (NumberTree (51 ∷ []) None) [])) [])))
 unfolding reads_all reads read byte not_empty list_head_of starts_string joins word_at enclosed_item tag_item number_end number_item word_item plain_item list_item stream_item string_item item literal_piece dots_piece embedded_piece piece plus_string string entry inside_full inside more rest sequence standalone indicator_at indicator_word kind munch push digits
 words = (refl, refl, refl, refl, refl)
 

@@ -106,7 +106,7 @@ module _ (g : ℕ → (s : Rule) → Reader s) (gs : (limit : ℕ) (s : Rule) (x
 
   number_end-found : (limit : ℕ) (x : List ℕ) (i : Option Indicator) (xs ys : List ℕ) → is_number x ≡ true → xs ≡ x ++ (indicator_text i ++ ys) → IsSound limit OneItem xs (number_end g limit x i ys)
   unfolding number_end tag_item onto Tested Merged
-  number_end-found limit x i xs ys v e = chosen (starts_with 40 ys) _ _ (λ t. bound _ (told (tag_number x) (λ n h. h) (tag_number-found x)) (λ n h. enclosed-found limit (label.Tag n i) xs ys h.1 (rw (e, h.0) (sym (append_assoc (decimal n) (indicator_text i) ys))))) (λ t. fine (v, tt, e, omega arith))
+  number_end-found limit x i xs ys v e = chosen (starts_with 40 ys) _ _ (λ t. bound _ (told (tag_number x) (λ n h. h) (tag_number-found x)) (λ n h. enclosed-found limit (label.Tag i n) xs ys h.1 (rw (e, h.0) (sym (append_assoc (decimal n) (indicator_text i) ys))))) (λ t. fine (v, tt, e, omega arith))
 
   number-found : (limit : ℕ) (xs : List ℕ) → IsSound limit OneItem xs (number_item g limit xs)
   unfolding number_item

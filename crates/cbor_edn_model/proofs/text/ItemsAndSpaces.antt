@@ -60,7 +60,7 @@ fill : {s : Sort} → Node s → Spaces → Filled (Regular s)
 fill (Number x i) ss = (NumberTree x i, ss)
 fill (Float f i) ss = (FloatTree f i, ss)
 fill (Listed k i m) ss = changed (ListTree k) (inside i (fill m) ss)
-fill (Tagged n i w) ss = changed (EnclosedTree (label.Tag n i)) (standalone (fill w) ss)
+fill (Tagged n i w) ss = changed (EnclosedTree (label.Tag i n)) (standalone (fill w) ss)
 fill (Named b) ss = (NamedTree b, ss)
 fill (Simple w) ss = changed (EnclosedTree label.Simple) (standalone (fill w) ss)
 fill (String w) ss = changed StringTree (fill w ss)
@@ -95,7 +95,7 @@ unfolding items spaces_onto fill IsFilled
 filled (NumberTree x i) r = refl
 filled (FloatTree f i) r = refl
 filled (NamedTree b) r = refl
-filled (EnclosedTree (label.Tag n i) w) r = ap (changed (EnclosedTree (label.Tag n i))) (filled w r)
+filled (EnclosedTree (label.Tag i n) w) r = ap (changed (EnclosedTree (label.Tag i n))) (filled w r)
 filled (EnclosedTree label.Simple w) r = ap (changed (EnclosedTree label.Simple)) (filled w r)
 filled (ListTree k w) r = ap (changed (ListTree k)) (filled w r)
 filled (StringTree w) r = ap (changed StringTree) (filled w r)

@@ -37,7 +37,7 @@ unfolding items
 nested (NumberTree x i) = refl
 nested (FloatTree f i) = refl
 nested (NamedTree b) = refl
-nested (EnclosedTree (label.Tag n i) w) = ap suc (nested w)
+nested (EnclosedTree (label.Tag i n) w) = ap suc (nested w)
 nested (EnclosedTree label.Simple w) = ap suc (nested w)
 nested (ListTree k w) = ap suc (nested w)
 nested (StringTree w) = nested w
@@ -224,7 +224,7 @@ pub spelled : {s : Sort} (x : Node s) (t : List ℕ) → Spells x t → Given s 
 unfolding Spells SpellsSequence onto Tested Merged items
 spelled (Number x i) t h = record { tree = NumberTree x i; valid = (number_texts x).0 h.0; merged = tt; same = refl; text_is = λ r. rw h.1 (simp append_assoc) }
 spelled (Float f i) t h = record { tree = FloatTree f i; valid = tt; merged = tt; same = refl; text_is = λ r. rw h (simp append_assoc) }
-spelled (Tagged n i w) t h = rw (h.7 ∙ sym (append_assoc (decimal n) (indicator_text i) _)) (enclosed_given (label.Tag n i) w h.0 h.1 h.2 h.3 h.4 (spelled w h.1 h.5) h.6)
+spelled (Tagged n i w) t h = rw (h.7 ∙ sym (append_assoc (decimal n) (indicator_text i) _)) (enclosed_given (label.Tag i n) w h.0 h.1 h.2 h.3 h.4 (spelled w h.1 h.5) h.6)
 spelled (Named b) t h = record { tree = NamedTree b; valid = tt; merged = tt; same = refl; text_is = λ r. rw h refl }
 spelled (Simple w) t h = rw h.6 (enclosed_given label.Simple w h.0 h.1 h.2 tt h.3 (spelled w h.1 h.4) h.5)
 spelled (Listed k i End) t h = record { tree = ListTree k (EmptyTree i h.0); valid = (s_texts h.0).0 h.1; merged = tt; same = refl; text_is = λ r. rw h.2 (simp append_assoc) }
@@ -295,7 +295,7 @@ tells_stream ms m v t = rw t.same (ms, t.front, t.back, v, t.first_spelled, t.ot
 
 tells_enclosed : (l : LabelKind) (w : Tree Standalone) → IsLabel l → SpellsOne (items w) (text w) → Spells (labelled l (items w)) (label_text l ++ (40 ∷ onto w (41 ∷ [])))
 unfolding Spells SpellsOne
-tells_enclosed (label.Tag n i) w v h = (h.0, h.1, h.2, v, h.3, h.4, h.5, rw (onto-text w (41 ∷ []), h.6) (simp append_assoc))
+tells_enclosed (label.Tag i n) w v h = (h.0, h.1, h.2, v, h.3, h.4, h.5, rw (onto-text w (41 ∷ []), h.6) (simp append_assoc))
 tells_enclosed label.Simple w v h = (h.0, h.1, h.2, h.3, h.4, h.5, rw (onto-text w (41 ∷ []), h.6) (simp append_assoc))
 
 tells_embedded : (w : Tree Seq) (i : Option Indicator) → SpellsSequence (items w) (text w) → Spells (Embedded (items w) i) (60 ∷ 60 ∷ onto w (62 ∷ 62 ∷ (indicator_text i ++ [])))

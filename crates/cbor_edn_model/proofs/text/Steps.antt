@@ -171,7 +171,7 @@ module _ (g h : ℕ → (s : Rule) → Reader s) (gs : (limit : ℕ) (s : Rule) 
 
   number-same : (limit : ℕ) (xs : List ℕ) → Agree (8 * length xs + 2) → number_item g limit xs ≡ number_item h limit xs
   unfolding number_item number_end tag_item
-  number-same limit xs a = same_then _ _ refl (token-shorter number xs) (λ x lx. let i = (indicator_at x.1).0 in let ys = (indicator_at x.1).1 in ap (λ r. cond (starts_with 40 ys) r (Ok (NumberTree x.0 i, ys))) (same_then _ _ refl (any (or_invalid (tag_number x.0))) (λ n u. enclosed-same limit (label.Tag n i) ys (fewer _ _ (omega (arith, indicator-shorter x.1)) a))))
+  number-same limit xs a = same_then _ _ refl (token-shorter number xs) (λ x lx. let i = (indicator_at x.1).0 in let ys = (indicator_at x.1).1 in ap (λ r. cond (starts_with 40 ys) r (Ok (NumberTree x.0 i, ys))) (same_then _ _ refl (any (or_invalid (tag_number x.0))) (λ n u. enclosed-same limit (label.Tag i n) ys (fewer _ _ (omega (arith, indicator-shorter x.1)) a))))
 
   word-same : (limit : ℕ) (w : Word) (xs : List ℕ) → Agree (8 * length xs + 2) → word_item g limit w xs ≡ word_item h limit w xs
   unfolding word_item

@@ -263,7 +263,7 @@ trees = record {
   array = λ argument ws. list_tree Array argument (element_row ws);
   pair = key_value;
   cbor_map = λ argument es. list_tree Map argument (row_of es);
-  tag = λ w n t. EnclosedTree (Tag n (indicator_of w n)) (alone t);
+  tag = λ w n t. EnclosedTree (Tag (indicator_of w n) n) (alone t);
   simple = simple_tree;
   float = λ w f. FloatTree f (float_indicator w);
 }

@@ -118,7 +118,7 @@ module _ (g : ℕ → (s : Rule) → Reader s) where
 
   -- behind the number of a tag and its indicator
   unfoldable pub tag_item : ℕ → List ℕ → Option Indicator → Reader OneItem
-  tag_item limit x i xs = or_invalid (tag_number x) >>= λ n. enclosed_item limit (Tag n i) xs
+  tag_item limit x i xs = or_invalid (tag_number x) >>= λ n. enclosed_item limit (Tag i n) xs
 
   -- behind a number and its indicator: where a parenthesis follows, they are those of a tag
   unfoldable pub number_end : ℕ → List ℕ → Option Indicator → Reader OneItem

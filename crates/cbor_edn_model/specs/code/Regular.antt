@@ -50,7 +50,7 @@ unfoldable pub regular : {s : Sort} → Node s → Regular s
 regular (Number x i) = NumberTree x i
 regular (Float f i) = FloatTree f i
 regular (Listed k i m) = ListTree k (list_inside i (regular m))
-regular (Tagged n i w) = EnclosedTree (label.Tag n i) (alone (regular w))
+regular (Tagged n i w) = EnclosedTree (label.Tag i n) (alone (regular w))
 regular (Named b) = NamedTree b
 regular (Simple w) = EnclosedTree label.Simple (alone (regular w))
 regular (String w) = StringTree (regular w)

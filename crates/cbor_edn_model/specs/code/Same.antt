@@ -48,7 +48,7 @@ same_float NaN NaN = true
 same_float _ _ = false
 
 abbrev pub same_label : LabelKind → LabelKind → Bool
-same_label (Tag n i) (Tag k j) = nat_eq n k && same_indicator i j
+same_label (Tag i n) (Tag j k) = nat_eq n k && same_indicator i j
 same_label Simple Simple = true
 same_label _ _ = false
 
@@ -132,7 +132,7 @@ floats_are NaN NaN e = refl
 floats_are _ _ e = absurd (false≢true e)
 
 labels_are : (l m : LabelKind) → same_label l m ≡ true → l ≡ m
-labels_are (Tag n i) (Tag k j) e = let h = both (eqb-true n k) (indicators_are i j) e in λ a. Tag (h.0 a) (h.1 a)
+labels_are (Tag i n) (Tag j k) e = let h = both (eqb-true n k) (indicators_are i j) e in λ a. Tag (h.1 a) (h.0 a)
 labels_are Simple Simple e = refl
 labels_are _ _ e = absurd (false≢true e)
 
@@ -197,7 +197,7 @@ float_refl NegativeInfinity = refl
 float_refl NaN = refl
 
 label_refl : (l : LabelKind) → same_label l l ≡ true
-label_refl (Tag n i) = both_true (eq-eqb n n refl) (indicator_refl i)
+label_refl (Tag i n) = both_true (eq-eqb n n refl) (indicator_refl i)
 label_refl Simple = refl
 
 head_refl : (h : ListHead) → same_head h h ≡ true

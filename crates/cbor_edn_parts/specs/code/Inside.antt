@@ -11,7 +11,7 @@ use Rattle.cbor_edn_parts.specs.code.SpaceTokens.{space_step, space_final, separ
 use Rattle.cbor_edn_parts.specs.code.NumberTokens as numbers
 use Rattle.cbor_edn_parts.specs.code.NumberTokens.{number_step, number_final}
 use Rattle.cbor_edn_parts.specs.code.LiteralTokens as literals
-use Rattle.cbor_edn_parts.specs.code.LiteralTokens.{quote_byte, with_digit, unit_digit, low_digit, braced_digit, escape_step, inside, literal_step, literal_final, dots_final}
+use Rattle.cbor_edn_parts.specs.code.LiteralTokens.{with_digit, unit_digit, low_digit, braced_digit, escape_step, inside, literal_step, literal_final, dots_final}
 use Rattle.cbor_edn_parts.specs.declared.space.Within.{Within}
 use Rattle.cbor_edn_parts.specs.declared.space.Within.TheVariants as within
 use Rattle.cbor_edn_parts.specs.declared.space.Within.TheVariants.{InSlashes, InHash}

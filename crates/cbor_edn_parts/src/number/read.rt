@@ -9,10 +9,10 @@ ghost use Rattle.cbor_edn_parts.specs.code.Text.{text_bytes};
 
 use super::{Number, Reached};
 use crate::error::Refusal;
+use crate::leaf_text::LeafText;
 use crate::looks::Looks;
 use crate::scan::scan;
 use crate::text::Text;
-use std::borrow::CowStr;
 
 /// The number at a place, and the place behind it.
 pub fn number_at<'a>(
@@ -27,6 +27,6 @@ pub fn number_at<'a>(
     ensures cost { Costs 1 1 1 (text_bytes text.now) from looks.old.count looks.new.count result }
 {
     let (text, to) = scan(Reached::Start, text, from, looks)?;
-    let text = CowStr::Borrowed(text);
+    let text = LeafText::Borrowed(text);
     Ok((Number { text }, to))
 }

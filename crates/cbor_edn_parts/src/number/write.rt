@@ -5,16 +5,15 @@ ghost use Rattle.cbor_edn_parts.specs.Leaves.{number_bytes};
 ghost use Rattle.cbor_edn_parts.specs.Written.{hexadecimal_text};
 
 use super::Number;
+use crate::leaf_text::LeafText;
 use std::alloc::{AllocError, Global};
-use std::borrow::CowStr;
 
 impl<'a> Number<'a> {
     /// The integer in decimal, as `-16`. Fails where memory runs out.
     pub fn signed(alloc: Global, integer: i128) -> Result<Number<'a>, AllocError>
         ensures { IfOk result (λ t. number_bytes t ≡ signed_decimal integer) }
     {
-        let text = format!(in alloc; "{integer}")?;
-        let text = CowStr::Owned(text);
+        let text = LeafText::joined(alloc, "", itoa::Buffer::new().format(integer))?;
         Ok(Number { text })
     }
 
@@ -23,7 +22,7 @@ impl<'a> Number<'a> {
         ensures { IfOk result (λ t. number_bytes t ≡ hexadecimal_text integer) }
     {
         let text = format!(in alloc; "0x{integer:x}")?;
-        let text = CowStr::Owned(text);
+        let text = LeafText::own(alloc, text)?;
         Ok(Number { text })
     }
 }

@@ -3,8 +3,8 @@ ghost use Rattle.std.specs.Prelude.{◌≡◌, ◌++◌, IfOk};
 ghost use Rattle.cbor_edn_parts.specs.Leaves.{s_bytes, ms_bytes};
 
 use super::{Ms, S};
+use crate::leaf_text::LeafText;
 use std::alloc::{AllocError, Global};
-use std::borrow::CowStr;
 
 impl<'a> Ms<'a> {
     /// The text with the optional space behind it. Fails where memory runs out; no memory is taken where nothing stands
@@ -16,8 +16,7 @@ impl<'a> Ms<'a> {
             let text = self.text.clone()?;
             return Ok(S { text });
         }
-        let text = format!(in alloc; "{}{}", self.as_str(), space.as_str())?;
-        let text = CowStr::Owned(text);
+        let text = LeafText::joined(alloc, self.as_str(), space.as_str())?;
         Ok(S { text })
     }
 }

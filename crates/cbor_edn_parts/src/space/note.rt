@@ -1,12 +1,13 @@
 //! Comments as space texts.
 ghost use Rattle.std.specs.Prelude.{◌≡◌, ◌∷◌, ◌++◌, [], IfOk, OnOk, OnErr, List, ℕ, map, encode_utf8, string_bytes};
+ghost use Rattle.cbor_edn_parts.specs.LeafTexts.{leaf_bytes};
 ghost use Rattle.cbor_edn_parts.specs.Leaves.{s_bytes, msc_bytes, soc_bytes};
 ghost use Rattle.cbor_edn_parts.specs.Notes as definition;
 ghost use Rattle.cbor_edn_parts.specs.Notes.{noted, hash_lines};
 
 use super::{Msc, S, Soc};
+use crate::leaf_text::LeafText;
 use std::alloc::{AllocError, Global};
-use std::borrow::CowStr;
 
 impl<'a> S<'a> {
     /// A comment as space: `/ comment /`, or each line behind `# ` where it has a slash. Control characters other than HT, LF
@@ -19,7 +20,7 @@ impl<'a> S<'a> {
         } else {
             between_slashes(alloc, comment)?
         };
-        let text = CowStr::Owned(text);
+        let text = LeafText::own(alloc, text)?;
         Ok(S { text })
     }
 }
@@ -39,7 +40,7 @@ impl<'a> TakesComment for S<'a> {
 
     fn put_comment(&mut self, alloc: Global, comment: &str) -> Result<(), AllocError> {
         let text = note_before(alloc, comment, self.as_str())?;
-        self.text = CowStr::Owned(text);
+        self.text = text;
         Ok(())
     }
 }
@@ -49,7 +50,7 @@ impl<'a> TakesComment for Msc<'a> {
 
     fn put_comment(&mut self, alloc: Global, comment: &str) -> Result<(), AllocError> {
         let text = note_before(alloc, comment, self.as_str())?;
-        self.text = CowStr::Owned(text);
+        self.text = text;
         Ok(())
     }
 }
@@ -59,17 +60,17 @@ impl<'a> TakesComment for Soc<'a> {
 
     fn put_comment(&mut self, alloc: Global, comment: &str) -> Result<(), AllocError> {
         let text = note_before(alloc, comment, self.as_str())?;
-        self.text = CowStr::Owned(text);
+        self.text = text;
         Ok(())
     }
 }
 
 /// The comment as space, and the text behind it.
-fn note_before(alloc: Global, comment: &str, text: &str) -> Result<String, AllocError>
-    ensures { IfOk result (λ t. string_bytes t ≡ noted comment.now ++ text.now) }
+fn note_before<'a>(alloc: Global, comment: &str, text: &str) -> Result<LeafText<'a>, AllocError>
+    ensures { IfOk result (λ t. leaf_bytes t ≡ noted comment.now ++ text.now) }
 {
     let note = S::note(alloc, comment)?;
-    format!(in alloc; "{}{text}", note.as_str())
+    LeafText::joined(alloc, note.as_str(), text)
 }
 
 fn between_slashes(alloc: Global, comment: &str) -> Result<String, AllocError>

@@ -10,10 +10,10 @@ ghost use Rattle.cbor_edn_parts.specs.code.Text.{text_bytes};
 
 use super::{Around, S, Soc, Within};
 use crate::error::Refusal;
+use crate::leaf_text::LeafText;
 use crate::looks::Looks;
 use crate::scan::scan;
 use crate::text::Text;
-use std::borrow::CowStr;
 
 /// The optional space at a place, and the place behind it.
 pub fn space<'a>(text: &Text<'a>, from: usize, looks: &mut Looks) -> Result<(S<'a>, usize), Refusal>
@@ -24,7 +24,7 @@ pub fn space<'a>(text: &Text<'a>, from: usize, looks: &mut Looks) -> Result<(S<'
     ensures cost { Costs 1 1 1 (text_bytes text.now) from looks.old.count looks.new.count result }
 {
     let (text, to) = scan(Within::Between, text, from, looks)?;
-    let text = CowStr::Borrowed(text);
+    let text = LeafText::Borrowed(text);
     Ok((S { text }, to))
 }
 
@@ -41,7 +41,7 @@ pub fn separator<'a>(
     ensures cost { Costs 1 1 1 (text_bytes text.now) from looks.old.count looks.new.count result }
 {
     let (text, to) = scan(Around::Before(Within::Between), text, from, looks)?;
-    let text = CowStr::Borrowed(text);
+    let text = LeafText::Borrowed(text);
     Ok((Soc { text }, to))
 }
 
@@ -67,7 +67,7 @@ pub fn space_behind<'a>(
     match end.space {
         None => space(text, end.item, looks),
         Some(to) => {
-            let text = CowStr::Borrowed(text.slice(end.item, to));
+            let text = LeafText::Borrowed(text.slice(end.item, to));
             Ok((S { text }, to))
         }
     }
@@ -92,6 +92,6 @@ pub fn separator_behind<'a>(
         Some(b',') => space(text, at + 1, looks)?.1,
         _ => at,
     };
-    let text = CowStr::Borrowed(text.slice(end.item, to));
+    let text = LeafText::Borrowed(text.slice(end.item, to));
     Ok((Soc { text }, to))
 }

@@ -1,6 +1,6 @@
 //! Space texts by a column of the table of spaces.
 ghost use Rattle.std.specs.Prelude.{◌≡◌, ◌≤◌, [], ◌∷◌, ◌++◌, IfOk, IsOk, OnOk, string_bytes};
-ghost use Rattle.std.specs.Cow.{cow_str_bytes};
+ghost use Rattle.cbor_edn_parts.specs.LeafTexts.{leaf_bytes};
 ghost use Rattle.cbor_edn_parts.specs.Comments.{comments_of};
 ghost use Rattle.cbor_edn_parts.specs.Leaves.{s_bytes, ms_bytes, msc_bytes, soc_bytes};
 ghost use Rattle.cbor_edn_parts.specs.Spacing as table;
@@ -9,9 +9,9 @@ ghost use Rattle.cbor_edn_parts.specs.code.Columns.{in_column};
 
 use super::comments::{comments, cut_at_comma};
 use super::{Ms, Msc, S, Soc};
+use crate::leaf_text::LeafText;
 use crate::policy::Spacing;
 use std::alloc::{AllocError, Global};
-use std::borrow::CowStr;
 
 /// The most spaces of a line that takes no memory.
 const SHORT: usize = 64;
@@ -76,15 +76,15 @@ impl<'a> Soc<'a> {
 fn comments_in_column<'a>(
     alloc: Global,
     spacing: Spacing,
-    text: &CowStr<'a>,
-) -> Result<CowStr<'a>, AllocError>
-    ensures bytes { IfOk result (λ t. cow_str_bytes t ≡ in_column spacing (comments_of (cow_str_bytes text.now))) }
+    text: &LeafText<'a>,
+) -> Result<LeafText<'a>, AllocError>
+    ensures bytes { IfOk result (λ t. leaf_bytes t ≡ in_column spacing (comments_of (leaf_bytes text.now))) }
     ensures least { spacing ≡ table.Least → IsOk result }
-    ensures free { table.IsShort spacing → comments_of (cow_str_bytes text.now) ≡ [] → IsOk result }
+    ensures free { table.IsShort spacing → comments_of (leaf_bytes text.now) ≡ [] → IsOk result }
 {
     match (text, spacing) {
-        (CowStr::Borrowed(text), Spacing::Comments | Spacing::OneLine) => {
-            Ok(CowStr::Borrowed(comments(text)))
+        (LeafText::Borrowed(text), Spacing::Comments | Spacing::OneLine) => {
+            Ok(LeafText::Borrowed(comments(text)))
         }
         _ => in_column(alloc, spacing, comments(text.as_str()), ""),
     }
@@ -96,13 +96,13 @@ fn in_column<'a>(
     spacing: Spacing,
     before: &str,
     after: &str,
-) -> Result<CowStr<'a>, AllocError>
-    ensures bytes { IfOk result (λ t. cow_str_bytes t ≡ in_column spacing (before.now ++ after.now)) }
+) -> Result<LeafText<'a>, AllocError>
+    ensures bytes { IfOk result (λ t. leaf_bytes t ≡ in_column spacing (before.now ++ after.now)) }
     ensures least { spacing ≡ table.Least → IsOk result }
     ensures free { table.IsShort spacing → before.now ≡ [] → after.now ≡ [] → IsOk result }
 {
     match spacing {
-        Spacing::Least => Ok(CowStr::Borrowed("")),
+        Spacing::Least => Ok(LeafText::Borrowed("")),
         Spacing::Comments | Spacing::OneLine => behind(alloc, "", before, after),
         Spacing::OneSpace => behind(alloc, " ", before, after),
         Spacing::NewLine(indent) if indent <= SHORT => {
@@ -113,7 +113,7 @@ fn in_column<'a>(
             push_line(&mut text, indent)?;
             text.push_str(before)?;
             text.push_str(after)?;
-            Ok(CowStr::Owned(text))
+            LeafText::own(alloc, text)
         }
     }
 }
@@ -124,31 +124,31 @@ fn behind<'a>(
     blanks: &'static str,
     before: &str,
     after: &str,
-) -> Result<CowStr<'a>, AllocError>
-    ensures bytes { IfOk result (λ t. cow_str_bytes t ≡ blanks.now ++ (before.now ++ after.now)) }
+) -> Result<LeafText<'a>, AllocError>
+    ensures bytes { IfOk result (λ t. leaf_bytes t ≡ blanks.now ++ (before.now ++ after.now)) }
     ensures free { before.now ≡ [] → after.now ≡ [] → IsOk result }
 {
     if before.is_empty() && after.is_empty() {
-        return Ok(CowStr::Borrowed(blanks));
+        return Ok(LeafText::Borrowed(blanks));
     }
     let text = format!(in alloc; "{blanks}{before}{after}")?;
-    Ok(CowStr::Owned(text))
+    LeafText::own(alloc, text)
 }
 
 /// One space in place of nothing.
-fn or_space<'a>(text: CowStr<'a>) -> CowStr<'a>
-    ensures { cow_str_bytes result ≡ table.or_space (cow_str_bytes text.entry) }
+fn or_space<'a>(text: LeafText<'a>) -> LeafText<'a>
+    ensures { leaf_bytes result ≡ table.or_space (leaf_bytes text.entry) }
 {
     if text.as_str().is_empty() {
-        CowStr::Borrowed(" ")
+        LeafText::Borrowed(" ")
     } else {
         text
     }
 }
 
 /// A separator by a column: its comments with a comma between those in front of it and those behind it.
-fn with_comma<'a>(alloc: Global, spacing: Spacing, text: &str) -> Result<CowStr<'a>, AllocError>
-    ensures bytes { IfOk result (λ t. cow_str_bytes t ≡ table.spaced table.MSC spacing text.now) }
+fn with_comma<'a>(alloc: Global, spacing: Spacing, text: &str) -> Result<LeafText<'a>, AllocError>
+    ensures bytes { IfOk result (λ t. leaf_bytes t ≡ table.spaced table.MSC spacing text.now) }
     ensures least { spacing ≡ table.Least → IsOk result }
     ensures free { table.IsShort spacing → table.comments_before text.now ≡ [] → table.comments_after text.now ≡ [] → IsOk result }
 {
@@ -157,12 +157,12 @@ fn with_comma<'a>(alloc: Global, spacing: Spacing, text: &str) -> Result<CowStr<
     let after = comments(after);
     let is_empty = before.is_empty() && after.is_empty();
     let text = match spacing {
-        Spacing::Least => return Ok(CowStr::Borrowed(",")),
-        Spacing::Comments if is_empty => return Ok(CowStr::Borrowed(",")),
-        Spacing::OneLine if is_empty => return Ok(CowStr::Borrowed(", ")),
-        Spacing::OneSpace if is_empty => return Ok(CowStr::Borrowed(" ,")),
+        Spacing::Least => return Ok(LeafText::Borrowed(",")),
+        Spacing::Comments if is_empty => return Ok(LeafText::Borrowed(",")),
+        Spacing::OneLine if is_empty => return Ok(LeafText::Borrowed(", ")),
+        Spacing::OneSpace if is_empty => return Ok(LeafText::Borrowed(" ,")),
         Spacing::NewLine(indent) if is_empty && indent <= SHORT => {
-            return Ok(CowStr::Borrowed(comma_line(indent)));
+            return Ok(LeafText::Borrowed(comma_line(indent)));
         }
         Spacing::Comments => format!(in alloc; "{before},{after}")?,
         Spacing::OneLine => format!(in alloc; "{before}, {after}")?,
@@ -175,7 +175,7 @@ fn with_comma<'a>(alloc: Global, spacing: Spacing, text: &str) -> Result<CowStr<
             text
         }
     };
-    Ok(CowStr::Owned(text))
+    LeafText::own(alloc, text)
 }
 
 /// A comma, a line feed and so many spaces.

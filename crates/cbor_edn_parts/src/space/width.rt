@@ -1,5 +1,5 @@
 //! How long space texts are by a column of the table, told without memory.
-ghost use Rattle.std.specs.Prelude.{◌≡◌, ◌+◌, ◌-◌, ◌^◌, min, length};
+ghost use Rattle.std.specs.Prelude.{◌≡◌, ◌-◌, ◌^◌, min, length};
 ghost use Rattle.cbor_edn_parts.specs.Leaves.{s_bytes, ms_bytes, msc_bytes, soc_bytes};
 ghost use Rattle.cbor_edn_parts.specs.Spacing as table;
 ghost use Rattle.cbor_edn_parts.specs.code.Columns.{column_length, separator_length};

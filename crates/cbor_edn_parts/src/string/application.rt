@@ -1,5 +1,5 @@
 //! Literals of a prefix and a text.
-ghost use Rattle.std.specs.Prelude.{◌≡◌, ◌++◌, ◌↔◌, IsTrue, IfOk, IfSome, OnOk, None, List, ℕ, encode_utf8, string_bytes};
+ghost use Rattle.std.specs.Prelude.{◌≡◌, ◌++◌, IfOk, IfSome, OnOk, None, List, ℕ, encode_utf8, string_bytes};
 ghost use Rattle.cbor_edn_parts.specs.Leaves.{literal_bytes};
 ghost use Rattle.cbor_edn_parts.specs.Literal.{IsPrefix, IsLiteral, Prefixed};
 ghost use Rattle.cbor_edn_parts.specs.code.Prefixes as prefixes;
@@ -9,8 +9,8 @@ ghost use Rattle.cbor_edn_parts.specs.Written.{application_literal, all_single_e
 use super::write::push_escaped;
 use super::{Literal, Quote};
 use crate::error::{Fault, InconsistentEdn};
+use crate::leaf_text::LeafText;
 use std::alloc::{AllocError, Global};
-use std::borrow::CowStr;
 
 impl<'a> Literal<'a> {
     /// A prefix, and a text between single quotes: line feeds and what is from U+0020 upward as they are, but for `'`, `\` and
@@ -33,7 +33,7 @@ impl<'a> Literal<'a> {
             push_single_escaped(&mut literal, character)?;
         }
         literal.push('\'')?;
-        let text = CowStr::Owned(literal);
+        let text = LeafText::own(alloc, literal)?;
         Ok(Literal { text })
     }
 }

@@ -9,10 +9,10 @@ ghost use Rattle.cbor_edn_parts.specs.code.Text.{text_bytes};
 
 use super::{Dots, InDots, InLiteral, Literal};
 use crate::error::Refusal;
+use crate::leaf_text::LeafText;
 use crate::looks::Looks;
 use crate::scan::scan;
 use crate::text::Text;
-use std::borrow::CowStr;
 
 /// The literal at a place, and the place behind it.
 pub fn literal_at<'a>(
@@ -27,7 +27,7 @@ pub fn literal_at<'a>(
     ensures cost { Costs 1 1 1 (text_bytes text.now) from looks.old.count looks.new.count result }
 {
     let (text, to) = scan(InLiteral::Start, text, from, looks)?;
-    let text = CowStr::Borrowed(text);
+    let text = LeafText::Borrowed(text);
     Ok((Literal { text }, to))
 }
 
@@ -44,6 +44,6 @@ pub fn dots_at<'a>(
     ensures cost { Costs 1 1 1 (text_bytes text.now) from looks.old.count looks.new.count result }
 {
     let (text, to) = scan(InDots::None, text, from, looks)?;
-    let text = CowStr::Borrowed(text);
+    let text = LeafText::Borrowed(text);
     Ok((Dots { text }, to))
 }

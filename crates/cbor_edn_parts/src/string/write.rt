@@ -4,8 +4,8 @@ ghost use Rattle.cbor_edn_parts.specs.Contents.{hex_literal, text_literal, empty
 ghost use Rattle.cbor_edn_parts.specs.Leaves.{literal_bytes};
 
 use super::{Literal, StringKind};
+use crate::leaf_text::LeafText;
 use std::alloc::{AllocError, Global};
-use std::borrow::CowStr;
 use std::fmt::Write;
 
 impl<'a> Literal<'a> {
@@ -14,7 +14,7 @@ impl<'a> Literal<'a> {
         ensures { IfOk result (λ t. literal_bytes t ≡ hex_literal bytes.now) }
     {
         let digits = hex::encode(alloc, bytes)?;
-        let text = CowStr::Owned(format!(in alloc; "h'{digits}'")?);
+        let text = LeafText::own(alloc, format!(in alloc; "h'{digits}'")?)?;
         Ok(Literal { text })
     }
 
@@ -28,7 +28,7 @@ impl<'a> Literal<'a> {
             push_escaped(&mut literal, character)?;
         }
         literal.push('"')?;
-        let text = CowStr::Owned(literal);
+        let text = LeafText::own(alloc, literal)?;
         Ok(Literal { text })
     }
 
@@ -37,8 +37,8 @@ impl<'a> Literal<'a> {
         ensures { literal_bytes result ≡ empty_literal kind }
     {
         let text = match kind {
-            StringKind::Bytes => CowStr::Borrowed("''"),
-            StringKind::Text => CowStr::Borrowed("\"\""),
+            StringKind::Bytes => LeafText::Borrowed("''"),
+            StringKind::Text => LeafText::Borrowed("\"\""),
         };
         Literal { text }
     }

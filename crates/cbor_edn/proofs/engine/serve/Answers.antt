@@ -1,5 +1,5 @@
 -- What a run gives is handed on as it is.
-use Rattle.std.proofs.Common.{◌≡◌, ap, sym, arith, rules}
+use Rattle.std.proofs.Common.{ap, sym, arith, rules}
 use Rattle.cbor_edn.specs.Runs.{status}
 use Rattle.cbor_edn.proofs.engine.serve.Goals as goal
 

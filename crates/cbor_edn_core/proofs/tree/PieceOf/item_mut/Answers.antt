@@ -13,10 +13,10 @@ returns-in-Embedded g c =
     let read : c.deref_mut.result.now ≡ b.value = c.deref_mut.ensures.value ∙ ap (λ b. b.value) c.in-Embedded.sequence-is in (
       (
         refl,
-        λ w. then_some c.item_mut.result (c.item_mut.follows.holds w) (λ h leaves. viewed (view_piece leaves) (Embedded (with_value b (c.item_mut.follows.lender w)) c.in-Embedded.field-1) (rw c.in-Embedded.is refl)
-            (ap (λ t. EmbeddedTree t c.in-Embedded.field-1) (h leaves ∙ ap (λ x. with_item c.args.i (view_item leaves w) (view_sequence leaves x)) read) ∙ sym (ap (λ x. with_item c.args.i (view_item leaves w) (view_piece leaves x)) c.in-Embedded.is))),
-        λ leaves. viewed (view_piece leaves) (Embedded (with_value b c.item_mut.follows.lender-at-none) c.in-Embedded.field-1) (rw c.in-Embedded.is refl)
-            (ap (λ t. EmbeddedTree t c.in-Embedded.field-1) (c.item_mut.follows.holds-at-none leaves ∙ ap (view_sequence leaves) read) ∙ sym (ap (view_piece leaves) c.in-Embedded.is)),
+        λ w. then_some c.item_mut.result (c.item_mut.follows.holds w) (λ h leaves. viewed (view_piece leaves) (Embedded c.in-Embedded.field-0 (with_value b (c.item_mut.follows.lender w))) (rw c.in-Embedded.is refl)
+            (ap (λ t. EmbeddedTree t c.in-Embedded.field-0) (h leaves ∙ ap (λ x. with_item c.args.i (view_item leaves w) (view_sequence leaves x)) read) ∙ sym (ap (λ x. with_item c.args.i (view_item leaves w) (view_piece leaves x)) c.in-Embedded.is))),
+        λ leaves. viewed (view_piece leaves) (Embedded c.in-Embedded.field-0 (with_value b c.item_mut.follows.lender-at-none)) (rw c.in-Embedded.is refl)
+            (ap (λ t. EmbeddedTree t c.in-Embedded.field-0) (c.item_mut.follows.holds-at-none leaves ∙ ap (view_sequence leaves) read) ∙ sym (ap (view_piece leaves) c.in-Embedded.is)),
       ),
       record { lent = tt; value = λ leaves. c.item_mut.ensures.value leaves ∙ ap (λ s. slice_get (items_in (view_sequence leaves s)) c.args.i) read ∙ sym (ap (λ x. slice_get (items_in (view_piece leaves x)) c.args.i) c.in-Embedded.is) },
     )

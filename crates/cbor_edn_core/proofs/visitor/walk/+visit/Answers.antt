@@ -23,14 +23,14 @@ pub visit_inner-visit_standalone-requires : goal.visit_inner-visit_standalone-re
 visit_inner-visit_standalone-requires g t c κs within =
     let read : c.deref_mut.result.now ≡ c.in-Enclosed.content.value = c.deref_mut.ensures.value ∙ ap (λ b. b.value) c.in-Enclosed.content-is in
     let tag = ap (λ l. l.kind) (sym c.in-Enclosed.label-is) ∙ c.in-Tag.is in
-    (tag_less g.K.Seek.leaves t c.args.inner.now c.in-Enclosed.label c.in-Enclosed.content c.deref_mut.result.now c.in-Tag.field-0 c.in-Tag.field-1 c.in-Enclosed.is tag read c.decreases, (within.0, (within.1.0, (within.1.1.0, (within.1.1.1.0, (within.1.1.1.1.0, (within.1.1.1.1.1.0, (within.1.1.1.1.1.1.0, (within.1.1.1.1.1.1.1.0, (within.1.1.1.1.1.1.1.1, c.requires.callable))))))))))
+    (tag_less g.K.Seek.leaves t c.args.inner.now c.in-Enclosed.label c.in-Enclosed.content c.deref_mut.result.now c.in-Tag.field-1 c.in-Tag.field-0 c.in-Enclosed.is tag read c.decreases, (within.0, (within.1.0, (within.1.1.0, (within.1.1.1.0, (within.1.1.1.1.0, (within.1.1.1.1.1.0, (within.1.1.1.1.1.1.0, (within.1.1.1.1.1.1.1.0, (within.1.1.1.1.1.1.1.1, c.requires.callable))))))))))
 
 pub visit_inner-returns-in-Tag-clause-visited : goal.visit_inner-returns-in-Tag-clause-visited
 visit_inner-returns-in-Tag-clause-visited g t c =
     let read : c.deref_mut.result.now ≡ c.in-Enclosed.content.value = c.deref_mut.ensures.value ∙ ap (λ b. b.value) c.in-Enclosed.content-is in
     let tag = ap (λ l. l.kind) (sym c.in-Enclosed.label-is) ∙ c.in-Tag.is in
     let v = c.visit_standalone.ensures.visited in
-    (v.0, v.1, tag_walked g.K.Seek.leaves c.args.inner.now c.in-Enclosed.label c.in-Enclosed.content c.deref_mut.result.now c.in-Tag.field-0 c.in-Tag.field-1 _ _ v.0 _ c.in-Enclosed.is tag read (ap (λ l. l.kind) c.in-Enclosed.label-is) v.2)
+    (v.0, v.1, tag_walked g.K.Seek.leaves c.args.inner.now c.in-Enclosed.label c.in-Enclosed.content c.deref_mut.result.now c.in-Tag.field-1 c.in-Tag.field-0 _ _ v.0 _ c.in-Enclosed.is tag read (ap (λ l. l.kind) c.in-Enclosed.label-is) v.2)
 
 pub visit_inner-returns-in-Simple-clause-visited : goal.visit_inner-returns-in-Simple-clause-visited
 visit_inner-returns-in-Simple-clause-visited g t c =
@@ -280,14 +280,14 @@ pub visit_piece-visit_sequence-requires : goal.visit_piece-visit_sequence-requir
 visit_piece-visit_sequence-requires g t c κs within =
     let b = c.in-Embedded.sequence in
     let read : c.deref_mut.result.now ≡ b.value = c.deref_mut.ensures.value ∙ ap (λ b. b.value) c.in-Embedded.sequence-is in
-    (embedded_less g.K.Seek.leaves t c.args.piece.now b c.in-Embedded.field-1 c.deref_mut.result.now c.in-Embedded.is read c.decreases, (within.0, (within.1.0, (within.1.1.0, (within.1.1.1.0, (within.1.1.1.1.0, (within.1.1.1.1.1.0, (within.1.1.1.1.1.1.0, (within.1.1.1.1.1.1.1.0, (within.1.1.1.1.1.1.1.1, c.requires.callable))))))))))
+    (embedded_less g.K.Seek.leaves t c.args.piece.now b c.in-Embedded.field-0 c.deref_mut.result.now c.in-Embedded.is read c.decreases, (within.0, (within.1.0, (within.1.1.0, (within.1.1.1.0, (within.1.1.1.1.0, (within.1.1.1.1.1.0, (within.1.1.1.1.1.1.0, (within.1.1.1.1.1.1.1.0, (within.1.1.1.1.1.1.1.1, c.requires.callable))))))))))
 
 pub visit_piece-returns-in-Embedded-clause-visited : goal.visit_piece-returns-in-Embedded-clause-visited
 visit_piece-returns-in-Embedded-clause-visited g t c =
     let b = c.in-Embedded.sequence in
     let read : c.deref_mut.result.now ≡ b.value = c.deref_mut.ensures.value ∙ ap (λ b. b.value) c.in-Embedded.sequence-is in
     let v = c.visit_sequence.ensures.visited in
-    (v.0, v.1, embedded_walked g.K.Seek.leaves c.args.piece.now b c.in-Embedded.field-1 c.in-Embedded.field-1 c.deref_mut.result.now _ v.0 _ c.in-Embedded.is read refl v.2)
+    (v.0, v.1, embedded_walked g.K.Seek.leaves c.args.piece.now b c.in-Embedded.field-0 c.in-Embedded.field-0 c.deref_mut.result.now _ v.0 _ c.in-Embedded.is read refl v.2)
 
 pub visit_piece-returns-in-Literal-clause-visited : goal.visit_piece-returns-in-Literal-clause-visited
 visit_piece-returns-in-Literal-clause-visited g t c =

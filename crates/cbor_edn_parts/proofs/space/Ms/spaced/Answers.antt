@@ -1,5 +1,5 @@
 use Rattle.std.proofs.Common.{◌≡◌, true, sym, ap, ◌∙◌, subst}
-use Rattle.std.specs.Cow.{cow_str_bytes}
+use Rattle.cbor_edn_parts.specs.LeafTexts.{leaf_bytes}
 use Rattle.cbor_edn_parts.specs.Leaves.{ms_bytes}
 use Rattle.cbor_edn_parts.specs.Spacing as table
 use Rattle.cbor_edn_parts.specs.code.SpaceTokens.{is_ms}
@@ -8,7 +8,7 @@ use Rattle.cbor_edn_parts.proofs.Spacings.{spaced_stays}
 use Rattle.cbor_edn_parts.proofs.space.Ms.spaced.Goals as goal
 use Rattle.cbor_edn_parts.proofs.space.Ms.spaced.Goals.{After-or_space-text}
 
-bytes : (c : goal.After-or_space-text) → cow_str_bytes c.or_space-text.result ≡ table.spaced table.MS c.args.spacing (ms_bytes c.args.self.now)
+bytes : (c : goal.After-or_space-text) → leaf_bytes c.or_space-text.result ≡ table.spaced table.MS c.args.spacing (ms_bytes c.args.self.now)
 bytes c =
     c.or_space-text.ensures
     ∙ ap table.or_space c.in_ok-comments_in_column.ensures.bytes

@@ -1,5 +1,5 @@
 use Rattle.std.proofs.Common.{◌≡◌, ◌++◌, true, sym, subst, rules}
-use Rattle.std.specs.Prelude.{string_bytes}
+use Rattle.cbor_edn_parts.specs.LeafTexts.{leaf_bytes}
 use Rattle.cbor_edn_parts.specs.Leaves.{s_bytes, ms_bytes}
 use Rattle.cbor_edn_parts.specs.code.SpaceTokens.{is_s}
 use Rattle.cbor_edn_parts.proofs.Comments.{spaces_append}
@@ -10,5 +10,5 @@ pub invariant_of-result-2 : goal.invariant_of-result-2
 invariant_of-result-2 c =
     let ms = ms_bytes c.args.self.now in
     let s = s_bytes c.args.space.now in
-    let bytes : string_bytes c.in_ok-text-2.text ≡ ms ++ s = search (rules) in
+    let bytes : leaf_bytes c.in_ok-text-2.text ≡ ms ++ s = search (rules) in
     record { spelled = subst (λ t. is_s t ≡ true) (sym bytes) ((s_texts (ms ++ s)).0 (spaces_append ((ms_texts ms).1 c.args.self.now.spelled).0 ((s_texts s).1 c.args.space.now.spelled))) }

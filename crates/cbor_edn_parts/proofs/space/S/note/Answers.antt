@@ -24,8 +24,8 @@ bytes c =
 
 pub invariant_of-result : goal.invariant_of-result
 invariant_of-result c = record {
-  spelled = subst (λ t. is_s t ≡ true) (sym (bytes c)) ((s_texts (noted c.args.comment.now)).0 (notes_are_space c.args.comment.now (bytes_all c.args.comment.now c.type_inv.comment)).0);
+  spelled = subst (λ t. is_s t ≡ true) (sym (c.in_ok-text-3.ensures ∙ bytes (goal.at.invariant_of-result c).Joined-contains)) ((s_texts (noted c.args.comment.now)).0 (notes_are_space c.args.comment.now (bytes_all c.args.comment.now c.type_inv.comment)).0);
 }
 
 pub returns : goal.returns
-returns c = bytes (goal.at.returns c).Joined-contains
+returns c = c.in_ok-text-3.ensures ∙ bytes (goal.at.returns c).Joined-contains

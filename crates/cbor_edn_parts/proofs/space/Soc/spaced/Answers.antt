@@ -1,5 +1,5 @@
 use Rattle.std.proofs.Common.{◌≡◌, true, sym, ap, ◌∙◌, subst}
-use Rattle.std.specs.Cow.{cow_str_bytes}
+use Rattle.cbor_edn_parts.specs.LeafTexts.{leaf_bytes}
 use Rattle.cbor_edn_parts.specs.Comments.{comments_of, before_comma, after_comma}
 use Rattle.cbor_edn_parts.specs.Leaves.{soc_bytes}
 use Rattle.cbor_edn_parts.specs.Spacing as table
@@ -8,7 +8,7 @@ use Rattle.cbor_edn_parts.proofs.Columns.{soc_column}
 use Rattle.cbor_edn_parts.proofs.Spacings.{spaced_stays}
 use Rattle.cbor_edn_parts.proofs.space.Soc.spaced.Goals as goal
 
-bytes : (c : goal.In_ok-text) → cow_str_bytes c.in_ok-text.text ≡ table.spaced table.SOC c.args.spacing (soc_bytes c.args.self.now)
+bytes : (c : goal.In_ok-text) → leaf_bytes c.in_ok-text.text ≡ table.spaced table.SOC c.args.spacing (soc_bytes c.args.self.now)
 bytes c =
     let before = c.comments.ensures ∙ ap comments_of (c.cut_at_comma.ensures.before ∙ ap before_comma c.as_str.ensures) in
     let after = c.comments-2.ensures ∙ ap comments_of (c.cut_at_comma.ensures.after ∙ ap after_comma c.as_str.ensures) in

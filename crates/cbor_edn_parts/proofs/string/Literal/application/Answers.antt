@@ -1,11 +1,12 @@
 use Rattle.std.proofs.Common.{◌≡◌, ◌∷◌, ◌++◌, [], ℕ, List, ap, sym, ◌∙◌, arith, append_assoc}
-use Rattle.std.specs.Prelude.{string_bytes, encode_utf8}
+use Rattle.std.specs.Prelude.{encode_utf8}
 use Rattle.std.specs.Str.{encode_utf8_all}
 use Rattle.std.proofs.lemmas.List.{append-nil, map-id}
 use Rattle.std.proofs.lemmas.Iterator.{YieldsList-from_chars}
 use Rattle.std.proofs.lemmas.Iterator.Consumers.{YieldsList-end}
 use Rattle.std.proofs.lemmas.Str.{encodes-chars, encodes-append, encode_ascii}
 use Rattle.std.proofs.lemmas.Bool.{false≢true}
+use Rattle.cbor_edn_parts.specs.LeafTexts.{leaf_bytes}
 use Rattle.cbor_edn_parts.specs.Literal.{IsPrefix}
 use Rattle.cbor_edn_parts.specs.Written.{application_literal, all_single_escaped}
 use Rattle.cbor_edn_parts.proofs.Literals.{bytes_all}
@@ -22,14 +23,14 @@ loop-character-preserved c =
     ∙ append_assoc c.args.prefix.now (39 ∷ all_single_escaped (encode_utf8_all c.loop-character.yielded)) (all_single_escaped (encode_utf8 c.in-Some.character))
     ∙ ap (λ xs. c.args.prefix.now ++ (39 ∷ xs)) (sym (all_single_escaped-append (encode_utf8_all c.loop-character.yielded) (encode_utf8 c.in-Some.character)) ∙ ap all_single_escaped (sym (encoded c.loop-character.yielded c.in-Some.character)))
 
-is_prefix : (c : goal.In_ok-push-2) → IsPrefix c.args.prefix.now
+is_prefix : (c : goal.In_ok-text) → IsPrefix c.args.prefix.now
 is_prefix c = (prefix_test c.args.prefix.now).1 (sym c.is_prefix.ensures ∙ c.if-not-is_prefix.false)
 
-written : (c : goal.In_ok-push-2) → string_bytes c.push-2.new.self ≡ application_literal c.args.prefix.now c.args.text.now
+written : (c : goal.In_ok-text) → leaf_bytes c.in_ok-text.text ≡ application_literal c.args.prefix.now c.args.text.now
 written c =
     let t = YieldsList-end (YieldsList-from_chars c.args.text.now c.utf8.text cc) c.loop-character.yielded _ c.loop-character.yielded_by _ _ c.in-None.is c.next.ensures.steps in
     let all = ap encode_utf8_all (sym (map-id c.loop-character.yielded) ∙ t.0) ∙ encodes-chars c.args.text.now c.utf8.text in
-    c.in_ok-push-2.ensures.bytes ∙ ap (λ xs. xs ++ encode_utf8 39) (c.loop-character.invariant ∙ ap (λ xs. c.args.prefix.now ++ (39 ∷ all_single_escaped xs)) all)
+    c.in_ok-text.ensures ∙ c.in_ok-push-2.ensures.bytes ∙ ap (λ xs. xs ++ encode_utf8 39) (c.loop-character.invariant ∙ ap (λ xs. c.args.prefix.now ++ (39 ∷ all_single_escaped xs)) all)
     ∙ ap (λ xs. (c.args.prefix.now ++ (39 ∷ all_single_escaped c.args.text.now)) ++ xs) (encode_ascii 39 (omega arith))
     ∙ append_assoc c.args.prefix.now (39 ∷ all_single_escaped c.args.text.now) (39 ∷ [])
 

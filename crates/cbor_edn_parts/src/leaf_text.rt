@@ -1,0 +1,127 @@
+//! The texts of leaves.
+ghost use Rattle.std.specs.Prelude.{◌≡◌, ◌≤◌, ◌+◌, ◌++◌, length, nat_eq, take, IfOk, IsOk, string_bytes};
+ghost use Rattle.std.specs.Str.{IsUtf8};
+ghost use Rattle.std.specs.Cmp.{on_per, partial_equiv_from_equiv};
+ghost use Rattle.std.specs.Cmp.Lexicographic.{pointwise, nat_list_eq_equiv};
+
+use std::alloc::{AllocError, Global};
+use std::{fmt, str};
+
+/// How many bytes of a text of its own stand in the leaf itself: so many that a leaf takes three words.
+const ROOM: usize = 22;
+
+/// The text of a leaf: a part of what was read, or one of its own. A short one of its own takes no memory, as that of most numbers.
+#[derive(Drop)]
+pub enum LeafText<'a> {
+    Borrowed(&'a str),
+    Short(ShortText),
+    Long(Box<String>),
+}
+
+/// A text of at most [`ROOM`] bytes.
+#[derive(Clone, Copy)]
+pub struct ShortText {
+    length: u8,
+    bytes: [u8; ROOM],
+    ghost fits: { length ≤ 22 },
+    ghost utf8: { ∥ IsUtf8 (take length bytes) ∥₁ },
+}
+
+impl ShortText {
+    ghost use Rattle.cbor_edn_parts.specs.LeafTexts.{short_bytes};
+
+    /// Two texts, one behind the other.
+    fn joined(first: &str, second: &str) -> ShortText
+        requires { length first.now + length second.now ≤ 22 }
+        ensures { short_bytes result ≡ first.now ++ second.now }
+    {
+        let mut bytes = [0; ROOM];
+        put(&mut bytes, 0, first);
+        put(&mut bytes, first.len(), second);
+        ShortText {
+            length: (first.len() + second.len()) as u8,
+            bytes,
+        }
+    }
+
+    #[inline(never)]
+    fn as_str(&self) -> &str
+        ensures { result.now ≡ short_bytes self.now }
+    {
+        str::from_utf8(&self.bytes[..self.length as usize]).unwrap()
+    }
+}
+
+/// Writes a text over the bytes from a place on.
+fn put(bytes: &mut [u8; ROOM], at: usize, text: &str)
+    requires { at + length text.now ≤ 22 }
+    ensures { take (at + length text.now) bytes.new ≡ take at bytes.old ++ text.now }
+{
+    bytes[at..at + text.len()].copy_from_slice(text.as_bytes());
+}
+
+impl<'a> LeafText<'a> {
+    ghost use Rattle.cbor_edn_parts.specs.LeafTexts.{leaf_bytes};
+
+    /// A text of its own.
+    pub fn own(alloc: Global, text: String) -> Result<LeafText<'a>, AllocError>
+        ensures { IfOk result (λ t. leaf_bytes t ≡ string_bytes text) }
+    {
+        if text.len() <= ROOM {
+            return Ok(LeafText::Short(ShortText::joined(text.as_str(), "")));
+        }
+        Ok(LeafText::Long(Box::new(alloc, text)?))
+    }
+
+    /// Two texts, one behind the other, as a text of its own.
+    pub fn joined(alloc: Global, first: &str, second: &str) -> Result<LeafText<'a>, AllocError>
+        ensures bytes { IfOk result (λ t. leaf_bytes t ≡ first.now ++ second.now) }
+        ensures free { length first.now + length second.now ≤ 22 → IsOk result }
+    {
+        if first.len() + second.len() <= ROOM {
+            return Ok(LeafText::Short(ShortText::joined(first, second)));
+        }
+        let text = format!(in alloc; "{first}{second}")?;
+        Ok(LeafText::Long(Box::new(alloc, text)?))
+    }
+
+    #[inline(always)]
+    pub fn as_str(&self) -> &str
+        ensures { result.now ≡ leaf_bytes self.now }
+    {
+        match self {
+            LeafText::Borrowed(text) => text,
+            LeafText::Short(text) => text.as_str(),
+            LeafText::Long(text) => text.as_str(),
+        }
+    }
+
+    /// The same text. Fails where memory runs out.
+    pub fn clone(&self) -> Result<LeafText<'a>, AllocError>
+        ensures { IfOk result (λ t. leaf_bytes t ≡ leaf_bytes self.now) }
+    {
+        match self {
+            LeafText::Borrowed(text) => Ok(LeafText::Borrowed(text)),
+            LeafText::Short(text) => Ok(LeafText::Short(*text)),
+            LeafText::Long(text) => Ok(LeafText::Long(text.clone()?)),
+        }
+    }
+}
+
+impl PartialEq for LeafText<'_> {
+    ghost use Rattle.cbor_edn_parts.specs.LeafTexts.{leaf_bytes};
+
+    ghost eq = { λ x y. pointwise nat_eq (leaf_bytes x) (leaf_bytes y) };
+
+    ghost laws = { on_per leaf_bytes (partial_equiv_from_equiv nat_list_eq_equiv) };
+
+    fn eq(&self, other: &Self) -> bool {
+        self.as_str() == other.as_str()
+    }
+}
+
+impl fmt::Debug for LeafText<'_> {
+    fn fmt<W: fmt::Write>(&self, f: &mut fmt::Formatter<W>) -> fmt::Result {
+        fmt::Debug::fmt(&self.as_str(), f)
+    }
+}
