@@ -6,7 +6,10 @@ ghost use Rattle.cbor_edn_model.specs.Spelling.{Spells, SpellsSequence, SpellsOn
 ghost use Rattle.cbor_edn_core.specs.View.{view_list, view_items, row_text, view_pair_list, view_pairs, view_pair, pair_row_text, view_string, view_piece, piece_row_text, view_stream, view_strings, string_row_text, item_tree, standalone_tree, sequence_tree};
 ghost use Rattle.cbor_edn_model.specs.Leaves.{texts};
 
-use crate::tree::{CborString, InnerItem, Item, ItemList, Items, Kp, PairList, Pairs, Piece, Sequence, StandaloneItem, Stream, Strings};
+use crate::tree::{
+    CborString, InnerItem, Item, ItemList, Items, Kp, PairList, Pairs, Piece, Sequence,
+    StandaloneItem, Stream, Strings,
+};
 use cbor_edn_model::list_head::push_list_head;
 use cbor_edn_model::write::{push_indicator, push_label};
 use cbor_edn_parts::space::{Msc, S};

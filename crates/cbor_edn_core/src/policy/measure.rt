@@ -10,7 +10,10 @@ ghost use Rattle.cbor_edn_model.specs.Leaves.{texts};
 ghost use Rattle.cbor_edn_model.specs.code.Widths as widths;
 ghost use Rattle.cbor_edn_model.specs.code.Widths.{width, capped, entries_width, pieces_width, widths_onto, widths_by, entries_widths_by, stack};
 
-use crate::tree::{CborString, InnerItem, Item, ItemList, Items, Kp, PairList, Pairs, Piece, Sequence, StandaloneItem, Stream, Strings};
+use crate::tree::{
+    CborString, InnerItem, Item, ItemList, Items, Kp, PairList, Pairs, Piece, Sequence,
+    StandaloneItem, Stream, Strings,
+};
 use cbor_edn_model::width::{
     Spaces, head_len, indicator_len, label_len, ms_len, msc_len, push_width, s_len, soc_len,
 };
