@@ -2,7 +2,7 @@
 ghost use Rattle.std.specs.Prelude.{◌≡◌, ◌≤◌, ◌^◌, ◌↔◌, ℤ, pos, neg_ℤ, if◌then◌else◌, IsTrue, IfOk, IfSome, IsNone, drop, true, unsigned_abs};
 ghost use Rattle.cbor_edn_parts.specs.LeafTexts.{leaf_bytes};
 ghost use Rattle.std.specs.Fmt.{signed_decimal};
-ghost use Rattle.std.specs.Str.Parse.{ParsesUnsigned};
+ghost use Rattle.std.specs.Str.Parse.{IsNumeral, ParsesUnsigned, digits_value};
 ghost use Rattle.cbor_edn_parts.specs.Number.{MinusSign, radix, HasInteger};
 ghost use Rattle.cbor_edn_parts.specs.code.NumberReading.{prefix_length, sign_of, unsigned, named_base};
 ghost use Rattle.cbor_edn_parts.specs.code.NumberTokens as tokens;
@@ -316,16 +316,42 @@ impl<'a> Number<'a> {
     }
 }
 
-/// As `u128::from_str_radix`, in 64 bits where they hold the number: digit by digit, 128 bits take several times as long.
+/// A number below it has another digit without leaving 64 bits.
+const SMALL: u64 = 1_000_000_000_000_000_000;
+
+/// As `u128::from_str_radix`, in 64 bits where they hold the number: digit by digit, 128 bits take several times as long. A decimal
+/// number has a loop of its own, which takes a quarter of the instructions of that for any radix.
 fn parsed(digits: &str, radix: u32) -> Result<u128, ParseIntError>
     requires lower_bound { 2 ≤ radix }
     requires upper_bound { radix ≤ 36 }
     ensures value { ParsesUnsigned 128 radix digits.now result }
 {
+    if radix == 10 {
+        if let Some(magnitude) = small_decimal(digits.as_bytes()) {
+            return Ok(u128::from(magnitude));
+        }
+    }
     match u64::from_str_radix(digits, radix) {
         Ok(magnitude) => Ok(u128::from(magnitude)),
         Err(_) => u128::from_str_radix(digits, radix),
     }
+}
+
+/// The number that decimal digits write, or none where another byte stands among them or the number may take more than 64 bits.
+fn small_decimal(digits: &[u8]) -> Option<u64>
+    ensures { IfSome result (λ n. IsNumeral 10 digits.now × (n ≡ digits_value 10 digits.now)) }
+{
+    if digits.is_empty() {
+        return None;
+    }
+    let mut number: u64 = 0;
+    for byte in digits {
+        if !byte.is_ascii_digit() || number >= SMALL {
+            return None;
+        }
+        number = number * 10 + u64::from(*byte - b'0');
+    }
+    Some(number)
 }
 
 /// Whether a minus sign stands in front, and the text behind the sign, if any.

@@ -264,6 +264,7 @@ impl State for Around {
     fn step(self, byte: u8) -> Option<Around> {
         let kind = Kind::of(byte);
         match (kind, self) {
+            (Kind::Blank, _) => Some(self),
             (Kind::Comma, Around::Before(Within::Between)) => {
                 Some(Around::After(Within::Between))
             }
