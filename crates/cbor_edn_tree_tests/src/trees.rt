@@ -171,7 +171,7 @@ fn shows_numbers_words_literals_and_forms(rt: HostRuntime) -> Result<(), Fail> {
 // A list keeps its items side by side, so that each byte of an item counts.
 #[test]
 fn items_are_small(_rt: HostRuntime) -> Result<(), Fail> {
-    expect("bytes", std::mem::size_of::<Item<'static>>() <= 48)
+    expect("bytes", std::mem::size_of::<Item<'static>>() <= 32)
 }
 
 fn is_parsed<'a>(sequence: &Sequence<'a>, alloc: Global, text: &'a str) -> Result<bool, Fail> {
