@@ -19,6 +19,7 @@ use cbor_edn_core::from_cbor::CborError;
 use cbor_edn_core::tree::Sequence;
 use cbor_edn_parts::error::{Fault, InconsistentEdn, ParseError};
 use cbor_edn_parts::policy::DelimiterPolicy;
+use simdutf8::basic::from_utf8;
 use std::alloc::{AllocError, Global};
 use thiserror::Error;
 
@@ -120,7 +121,7 @@ fn parsed<'a>(alloc: Global, limit: usize, input: &'a [u8]) -> Result<Sequence<'
     ensures ok { IfOk result (λ s. IsReadAs limit input.now (sequence_tree s)) }
     ensures err { IfErr result (IsUnread limit input.now) }
 {
-    let Ok(text) = str::from_utf8(input) else {
+    let Ok(text) = from_utf8(input) else {
         return Err(RunError::NotUtf8);
     };
     Ok(Sequence::parse_within(alloc, text, limit)?)

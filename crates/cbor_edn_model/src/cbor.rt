@@ -70,20 +70,15 @@ pub fn push_head(
     ensures { OnOk result (out.new.items ≡ out.old.items ++ head major width argument) }
 {
     match width {
-        Width::Immediate => {
-            out.push(32 * major + argument as u8)?;
-        }
-        Width::One => {
-            out.push(32 * major + 24)?;
-            out.extend_from_slice(&(argument as u8).to_be_bytes())?;
-        }
+        Width::Immediate => out.push(32 * major + argument as u8)?,
+        Width::One => out.extend_from_slice(&[32 * major + 24, argument as u8])?,
         Width::Two => {
-            out.push(32 * major + 25)?;
-            out.extend_from_slice(&(argument as u16).to_be_bytes())?;
+            let [a, b] = (argument as u16).to_be_bytes();
+            out.extend_from_slice(&[32 * major + 25, a, b])?;
         }
         Width::Four => {
-            out.push(32 * major + 26)?;
-            out.extend_from_slice(&(argument as u32).to_be_bytes())?;
+            let [a, b, c, d] = (argument as u32).to_be_bytes();
+            out.extend_from_slice(&[32 * major + 26, a, b, c, d])?;
         }
         Width::Eight => {
             out.push(32 * major + 27)?;

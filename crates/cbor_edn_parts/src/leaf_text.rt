@@ -44,6 +44,13 @@ impl ShortText {
         }
     }
 
+    #[inline]
+    fn len(&self) -> usize
+        ensures { result ≡ length (short_bytes self.now) }
+    {
+        self.length as usize
+    }
+
     #[inline(never)]
     fn as_str(&self) -> &str
         ensures { result.now ≡ short_bytes self.now }
@@ -93,6 +100,17 @@ impl<'a> LeafText<'a> {
             LeafText::Borrowed(text) => text,
             LeafText::Short(text) => text.as_str(),
             LeafText::Long(text) => text.as_str(),
+        }
+    }
+
+    /// Its length in bytes.
+    pub fn len(&self) -> usize
+        ensures { result ≡ length (leaf_bytes self.now) }
+    {
+        match self {
+            LeafText::Borrowed(text) => text.len(),
+            LeafText::Short(text) => text.len(),
+            LeafText::Long(text) => text.len(),
         }
     }
 

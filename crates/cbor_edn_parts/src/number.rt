@@ -1,5 +1,5 @@
 //! Numbers.
-ghost use Rattle.std.specs.Prelude.{◌≡◌, ◌≤◌, ◌^◌, ◌↔◌, ℤ, pos, neg_ℤ, if◌then◌else◌, IsTrue, IfOk, IfSome, IsNone, drop, true, unsigned_abs};
+ghost use Rattle.std.specs.Prelude.{◌≡◌, ◌≤◌, ◌^◌, ◌↔◌, length, ℤ, pos, neg_ℤ, if◌then◌else◌, IsTrue, IfOk, IfSome, IsNone, drop, true, unsigned_abs};
 ghost use Rattle.cbor_edn_parts.specs.LeafTexts.{leaf_bytes};
 ghost use Rattle.std.specs.Fmt.{signed_decimal};
 ghost use Rattle.std.specs.Str.Parse.{IsNumeral, ParsesUnsigned, digits_value};
@@ -281,6 +281,13 @@ impl<'a> Number<'a> {
         ensures { result.now ≡ number_bytes self.now }
     {
         self.text.as_str()
+    }
+
+    /// Its length in bytes.
+    pub fn len(&self) -> usize
+        ensures { result ≡ length (number_bytes self.now) }
+    {
+        self.text.len()
     }
 
     /// The same text. Fails where memory runs out.

@@ -1,5 +1,5 @@
 //! Literals: quoted texts, with or without a prefix, and dots.
-ghost use Rattle.std.specs.Prelude.{◌≡◌, ◌==◌, IsTrue, IfOk, Some, None, [], if◌then◌else◌};
+ghost use Rattle.std.specs.Prelude.{◌≡◌, ◌==◌, IsTrue, IfOk, Some, None, [], length, if◌then◌else◌};
 ghost use Rattle.cbor_edn_parts.specs.LeafTexts.{leaf_bytes};
 ghost use Rattle.cbor_edn_parts.specs.code.Ended.{Steps};
 ghost use Rattle.cbor_edn_parts.specs.Literal.{letter_escape};
@@ -105,6 +105,13 @@ impl<'a> Literal<'a> {
         self.text.as_str()
     }
 
+    /// Its length in bytes.
+    pub fn len(&self) -> usize
+        ensures { result ≡ length (literal_bytes self.now) }
+    {
+        self.text.len()
+    }
+
     /// The same text. Fails where memory runs out.
     pub fn clone(&self) -> Result<Literal<'a>, AllocError>
         ensures { IfOk result (λ t. literal_bytes t ≡ literal_bytes self.now) }
@@ -123,6 +130,13 @@ impl<'a> Dots<'a> {
         ensures { result.now ≡ dots_bytes self.now }
     {
         self.text.as_str()
+    }
+
+    /// Its length in bytes.
+    pub fn len(&self) -> usize
+        ensures { result ≡ length (dots_bytes self.now) }
+    {
+        self.text.len()
     }
 
     /// The same text. Fails where memory runs out.

@@ -2,6 +2,7 @@
 ghost use Rattle.std.specs.Prelude.{◌≡◌, ◌++◌, ◌∷◌, [], map, OnOk, None};
 ghost use Rattle.cbor_edn_parts.specs.Leaves.{msc_bytes};
 
+use crate::row::append;
 use cbor_edn_parts::space::Msc;
 use std::alloc::{AllocError, Global};
 
@@ -34,7 +35,7 @@ impl<'a, T: Drop> RowBuilder<'a, T> {
     {
         match std::mem::replace(&mut self.last, Some(entry)) {
             None => Ok(()),
-            Some(last) => Ok(self.row.push((last, Msc::comma_space()))?),
+            Some(last) => append(&mut self.row, (last, Msc::comma_space())),
         }
     }
 }

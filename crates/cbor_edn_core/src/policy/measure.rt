@@ -106,7 +106,7 @@ fn measure_item(
 {
     match &item.inner {
         InnerItem::Number(indicator, number) => {
-            Ok(indicator_len(*indicator).saturating_add(number.as_str().len()))
+            Ok(indicator_len(*indicator).saturating_add(number.len()))
         }
         InnerItem::NonFinite(indicator, float) => {
             Ok(indicator_len(*indicator).saturating_add(float.as_str().len()))
@@ -186,9 +186,9 @@ fn measure_piece(
 {
     match piece {
         Piece::Literal(indicator, literal) => {
-            Ok(indicator_len(*indicator).saturating_add(literal.as_str().len()))
+            Ok(indicator_len(*indicator).saturating_add(literal.len()))
         }
-        Piece::Dots(dots) => Ok(dots.as_str().len()),
+        Piece::Dots(dots) => Ok(dots.len()),
         Piece::Embedded(indicator, sequence) => {
             let sequence = measure_sequence(table, Spaces::Kept, sequence)?;
             Ok(

@@ -305,11 +305,11 @@ pub string-pieces-preserved : goal.string-pieces-preserved
 string-pieces-preserved t c = record {
   order = omega (arith, c.in_ok-piece.ensures.place.0, c.in_ok-before.ensures.place.0, c.in_ok-after.ensures.place.0);
   place = c.in_ok-after.ensures.place.1;
-  first = λ e. absurd (pushed_some c.pieces.row.items _ (sym c.in_ok-append.ensures ∙ e));
-  cost = rw (c.in_ok-append.ensures, spared_push c.pieces.row.items (c.in_ok-piece.piece, c.in_ok-before.before, c.in_ok-after.after) _) (omega (arith, spared_first c.pieces.row.items _ c.pieces.at c.args.from _ _ c.pieces.invariant.first c.pieces.invariant.cost, c.in_ok-piece.ensures.cost.0, c.in_ok-before.ensures.cost, c.in_ok-after.ensures.cost, c.joins.ensures.count, c.in_ok-before.ensures.place.0, c.in_ok-after.ensures.place.0));
+  first = λ e. absurd (pushed_some c.pieces.row.items _ (sym c.in_ok-append.ensures.appended ∙ e));
+  cost = rw (c.in_ok-append.ensures.appended, spared_push c.pieces.row.items (c.in_ok-piece.piece, c.in_ok-before.before, c.in_ok-after.after) _) (omega (arith, spared_first c.pieces.row.items _ c.pieces.at c.args.from _ _ c.pieces.invariant.first c.pieces.invariant.cost, c.in_ok-piece.ensures.cost.0, c.in_ok-before.ensures.cost, c.in_ok-after.ensures.cost, c.joins.ensures.count, c.in_ok-before.ensures.place.0, c.in_ok-after.ensures.place.0));
   least = omega (arith, c.in_ok-piece.ensures.cost, c.in_ok-before.ensures.cost, c.in_ok-after.ensures.cost, c.joins.ensures.count);
-  borrowed = rw (c.in_ok-append.ensures) (borrows_piece_push c.pieces.row.items _ c.pieces.invariant.borrowed c.in_ok-piece.ensures.borrowed c.in_ok-before.ensures.borrowed c.in_ok-after.ensures.borrowed);
-  reads = rw (c.in_ok-append.ensures) (pieces_turn_more c.args.limit _ _ _ c.pieces.invariant.reads _ _ c.in_ok-piece.ensures.value _ _ (scan_read space _ _ _ c.in_ok-before.ensures.value) _ (sym c.if-not-joins.ensures.value) (c.if-not-joins.ensures.yes refl).0 _ _ (scan_read space _ _ _ c.in_ok-after.ensures.value)
+  borrowed = rw (c.in_ok-append.ensures.appended) (borrows_piece_push c.pieces.row.items _ c.pieces.invariant.borrowed c.in_ok-piece.ensures.borrowed c.in_ok-before.ensures.borrowed c.in_ok-after.ensures.borrowed);
+  reads = rw (c.in_ok-append.ensures.appended) (pieces_turn_more c.args.limit _ _ _ c.pieces.invariant.reads _ _ c.in_ok-piece.ensures.value _ _ (scan_read space _ _ _ c.in_ok-before.ensures.value) _ (sym c.if-not-joins.ensures.value) (c.if-not-joins.ensures.yes refl).0 _ _ (scan_read space _ _ _ c.in_ok-after.ensures.value)
       ∙ with_more_pieces (seen_piece texts) c.pieces.row.items (c.in_ok-piece.piece, c.in_ok-before.before, c.in_ok-after.after) _ _ refl);
 }
 

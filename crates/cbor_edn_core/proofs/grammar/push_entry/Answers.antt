@@ -5,7 +5,7 @@ use Rattle.cbor_edn_core.proofs.grammar.push_entry.Goals as goal
 pub returns-clause-pushed : goal.returns-clause-pushed
 returns-clause-pushed g c = record {
   separator = c.in-Some.separator;
-  items = c.in_ok-append.ensures;
+  items = c.in_ok-append.ensures.appended;
   same = c.in-Some.ensures.same;
   not_empty = λ e. false≢true (sym (c.in-Some.ensures.none.1 e));
   borrowed = c.in-Some.ensures.borrowed;
