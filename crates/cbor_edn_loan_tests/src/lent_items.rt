@@ -78,8 +78,10 @@ const OVERWRITTEN: &[(Lender, &str, &str)] = &[
         "[_ 1 , {} /c/ [2] ,] 3",
         "[_ 1 , +1 /c/ +1 ,] 3",
     ),
+    (Lender::Array, "[ /c/ \"a\" , 1]", "[ /c/ \"a\" , +1]"),
     (Lender::Array, "[[1, 2]]", "[[1, 2]]"),
     (Lender::Array, "[ /c/ ]", "[ /c/ ]"),
+    (Lender::Array, "[_ ]", "[_ ]"),
     (Lender::Sequence, "1 , <<2>> /c/ [3] ,", "1 , +1 /c/ +1 ,"),
     (Lender::Sequence, " [1, 2] ", " [1, 2] "),
     (Lender::Sequence, " /c/ ", " /c/ "),
@@ -121,7 +123,9 @@ const EXCHANGED: &[(&str, &str)] = &[
         "{_ 2: 1 , [3] :\"a\" /c/ 4:{},}",
     ),
     ("{1 : 2}", "{2 : 1}"),
+    ("{ /c/ 1: 2}", "{ /c/ 2: 1}"),
     ("{ /c/ }", "{ /c/ }"),
+    ("{_ }", "{_ }"),
 ];
 
 #[test]
