@@ -86,7 +86,10 @@ build() {
   echo "bench: the program of $1 is missing" >&2
   mkdir -p "$folder"
   git -C "$root" worktree add --quiet --detach "$tree" "$1"
-  "$tree/cbor-edn" diag2cbor < /dev/null || status=$?
+  # a launcher with no --build builds at any call
+  local call=--build
+  grep -q -e --build "$tree/cbor-edn" || call=diag2cbor
+  "$tree/cbor-edn" "$call" < /dev/null || status=$?
   if [ "$status" != 0 ]; then
     cp "$tree/out/cbor-edn.log" "$folder/" && echo "bench: a copy of that file is $folder/cbor-edn.log" >&2
     exit "$status"
@@ -100,7 +103,7 @@ for commit in ${commits[@]+"${commits[@]}"}; do
   [ -x "$root/out/bench/$commit/cbor-edn" ] || build "$commit"
 done
 if [ ${#words[@]} = 1 ]; then
-  "$root/cbor-edn" diag2cbor < /dev/null
+  "$root/cbor-edn" --build
   names+=("the working tree")
   binaries+=("$root/out/cbor-edn")
 fi

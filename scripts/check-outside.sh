@@ -19,7 +19,7 @@ fi
 
 program=${1-}
 if [ -z "$program" ]; then
-  ./cbor-edn --version > /dev/null
+  ./cbor-edn --build
   program=out/cbor-edn
 fi
 exec "$python" - "$program" <<'PYTHON'

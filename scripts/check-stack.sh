@@ -14,7 +14,7 @@ set -euo pipefail
 cd "$(dirname "$(readlink -f "$0")")/.."
 program=${1-}
 if [ -z "$program" ]; then
-  ./cbor-edn --version > /dev/null
+  ./cbor-edn --build
   program=out/cbor-edn
 fi
 program=$(readlink -f "$program")

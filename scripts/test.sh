@@ -1,8 +1,9 @@
 #!/usr/bin/env bash
 # All tests: where a text is read (a look at the sources), each proof, edit that must fail, test and program (`rt ci`),
 # beside it the calls of each crate *_memory with each of their allocations refused in turn, then the encodings of
-# another implementation, where it is installed, and the deepest nesting under small stacks. The last line is
-# 'N passed, M failed'. `ARCHITECTURE.md` ("Measuring") says how the proofs share the processors.
+# another implementation, where it is installed, the deepest nesting under small stacks, and the launcher. The last line is
+# 'N passed, M failed'. Where nothing failed, the program that was proved is left to ./cbor-edn. `ARCHITECTURE.md`
+# ("Measuring") says how the proofs share the processors.
 set -euo pipefail
 
 cd "$(dirname "$(readlink -f "$0")")/.."
@@ -16,7 +17,9 @@ failed=0
 log=$(mktemp)
 times=$(mktemp)
 beside=$(mktemp -d)
-trap 'kill $(jobs -p) 2> /dev/null || true; rm -rf "$log" "$times" "$beside"' EXIT
+# as old as the beginning of this run
+began=$(mktemp)
+trap 'kill $(jobs -p) 2> /dev/null || true; rm -rf "$log" "$times" "$beside" "$began"' EXIT
 
 # Hands lines on. Those that say that a crate's proof has ended, that its edits begin, or what is wrong, come again at the end, with the
 # minutes since the start.
@@ -54,6 +57,12 @@ refuse_memory() {
   done
 }
 
+# Whether `rt ci` takes what an earlier one proved. The kits that keep that let `rt ci` name crates too, and say both in their help or on
+# the page to read first; others prove all from nothing each time.
+keeps_proofs() {
+  { rt help || true; cat "$(rt doc)"; } 2>&1 | grep -Ei 'rt ci \[?NAME|checksum' > /dev/null
+}
+
 # Proves crates, the lowest first, in a tree that lists no others: so `rt ci` gives each proof all processors that it may have. The
 # whole `rt ci` then takes these proofs, which it knows by what they read, and proves what is not there by itself.
 prove_ahead() {
@@ -69,23 +78,40 @@ prove_ahead() {
   (cd "$tree" && rt ci) 2>&1 | stamp > "$tree.log" || true
 }
 
+# Leaves the program to ./cbor-edn as its own build does: a source that has changed since this run began is newer.
+leave_program() {
+  local made=$1
+  [ "$made" -nt "$began" ] || return 0
+  mkdir -p out
+  cp "$made" out/cbor-edn.new
+  touch -r "$began" out/cbor-edn.new
+  mv out/cbor-edn.new out/cbor-edn
+}
+
+program=crates/cbor_edn_tool/out/cbor_edn_tool
+gives_way=()
 add scripts/check-reads.sh
 # Refused memory needs builds, and no proof: in a tree of its own it takes the time that proofs leave.
 mkdir "$beside/tree"
 tar -c --exclude=out --exclude=.git . | tar -x -C "$beside/tree"
 refuse_memory "$beside/tree" &
-# Nearly all waits for the crate of trees, whose proof is by far the longest.
-prove_ahead "$beside/ahead" cbor_edn_parts cbor_edn_model cbor_edn_core &
-# it begins with a proof that `rt ci` would begin with too
-sleep 10
-# One check for each processor: by itself, rt holds checks back for memory that they do not need. It gives way to the proofs ahead.
-RT_JOBS=$(nproc) add nice -n 10 rt ci
+if keeps_proofs; then
+  # Nearly all waits for the crate of trees, whose proof is by far the longest.
+  prove_ahead "$beside/ahead" cbor_edn_parts cbor_edn_model cbor_edn_core &
+  # it begins with a proof that `rt ci` would begin with too
+  sleep 10
+  gives_way=(nice -n 10)
+fi
+# One check for each processor: by itself, rt holds checks back for memory that they do not need.
+RT_JOBS=$(nproc) add "${gives_way[@]}" rt ci
 wait
 for crate in crates/*_memory; do
   add cat "$beside/$(basename "$crate")"
 done
-add scripts/check-outside.sh crates/cbor_edn_tool/out/cbor_edn_tool
-add scripts/check-stack.sh crates/cbor_edn_tool/out/cbor_edn_tool crates/cbor_edn_{text,tree}_tests/out/*_tests_tests
+add scripts/check-outside.sh "$program"
+add scripts/check-launcher.sh "$program"
+add scripts/check-stack.sh "$program" crates/cbor_edn_{text,tree}_tests/out/*_tests_tests
 cat "$times"
+[ "$failed" != 0 ] || leave_program "$program"
 echo "$passed passed, $failed failed"
 [ "$failed" = 0 ]
