@@ -1,0 +1,3 @@
+pub mod resolving
+pub mod conversions
+pub mod examples

@@ -1,0 +1,12 @@
+-- What each conversion keeps of what items mean, and what it resolves.
+pub mod AddressesKept
+pub mod BignumsKept
+pub mod ConversionsKept
+pub mod ItemBytes
+pub mod Literals
+pub mod LiteralsResolved
+pub mod OneLine
+pub mod Same
+pub mod Sought
+pub mod Steps
+pub mod TimesKept

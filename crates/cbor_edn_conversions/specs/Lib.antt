@@ -1,0 +1,10 @@
+pub mod Resolving
+pub mod VisitedItems
+pub mod ResolvingLaws
+pub mod Conversions
+pub mod Times
+pub mod Addresses
+pub mod Bignums
+pub mod All
+pub mod Resolvers
+pub mod ConversionLaws

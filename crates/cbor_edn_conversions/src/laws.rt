@@ -1,0 +1,101 @@
+//! Laws of the definitions that conversions cite. Each function's contract is one, and its body does nothing.
+ghost use Rattle.cbor_edn_model.specs.Seeking.{IsTag, IsApplication};
+ghost use Rattle.cbor_edn_conversions.specs.Resolving.{no_resolver};
+ghost use Rattle.cbor_edn_conversions.specs.ResolvingLaws.{NoneResolved, DecodedUnresolved, VisitKeeps, VisitKeepsExactly, VisitResolves, VisitResolvesExactly, ResolvedAgain, ResolvedInTurn, ResolversByPrefix, VisitedOnce, VisitsItems, ItemsVisitedOnce, VisitsTurnItems, ItemsResolvedAgain, AnswersResolvedAgain};
+ghost use Rattle.cbor_edn_conversions.specs.VisitedItems.{IsTagNode, IsApplicationNode};
+ghost use Rattle.cbor_edn_conversions.specs.Resolvers.{time_resolver, address_resolver, literal_resolver};
+ghost use Rattle.cbor_edn_conversions.specs.Times.{resolve_time, pretty_time};
+ghost use Rattle.cbor_edn_conversions.specs.Addresses.{resolve_address, pretty_address};
+ghost use Rattle.cbor_edn_conversions.specs.All.{resolve_all, pretty_all};
+ghost use Rattle.cbor_edn_conversions.specs.ConversionLaws.{IsOfApplications, LiteralsStandFor, LiteralsOfItems, EncodingsComputed, OnOneLine, StampsTested, TimesReadBack, PrettyKeeps, BignumsKept, Resolves, PrettyResolvedAgain, PrettyResolvedInTurn, ItemsResolvedBack};
+
+/// By no resolver items mean what they mean, and decoded items mean the same by any of application literals.
+pub fn decoded_means()
+    ensures none { NoneResolved }
+    ensures decoded { DecodedUnresolved }
+{}
+
+/// Resolvers that look at prefix and text are of application literals.
+pub fn by_prefix()
+    ensures { ResolversByPrefix }
+{}
+
+/// A visit keeps what its calls keep.
+pub fn visits_keep()
+    ensures tags { VisitKeeps IsTag }
+    ensures tags_exactly { VisitKeepsExactly IsTag }
+    ensures literals { VisitKeeps IsApplication }
+    ensures literals_exactly { VisitKeepsExactly IsApplication }
+{}
+
+/// A whole visit of literals turns the one resolver into the other where its calls do.
+pub fn visits_resolve()
+    ensures values { VisitResolves }
+    ensures exactly { VisitResolvesExactly }
+{}
+
+/// The items of a value mean it again once literals stood for parts of them, and were replaced by what they stand for.
+pub fn resolved_again()
+    ensures one_visit { ResolvedAgain }
+    ensures in_turn { ResolvedInTurn }
+    ensures of_items { ItemsResolvedAgain }
+    ensures of_answers { AnswersResolvedAgain }
+{}
+
+/// Visits with the same answers have the same result.
+pub fn visited_once()
+    ensures tags { VisitedOnce IsTag }
+    ensures literals { VisitedOnce IsApplication }
+    ensures tag_items { ItemsVisitedOnce IsTagNode }
+    ensures literal_items { ItemsVisitedOnce IsApplicationNode }
+{}
+
+/// A whole visit of a tree is one of its items.
+pub fn visits_items()
+    ensures tags { VisitsItems IsTag IsTagNode }
+    ensures literals { VisitsItems IsApplication IsApplicationNode }
+    ensures tags_turn { VisitsTurnItems IsTag IsTagNode }
+    ensures literals_turn { VisitsTurnItems IsApplication IsApplicationNode }
+{}
+
+/// The resolvers give values to application literals without a content alone.
+pub fn resolvers()
+    ensures times { IsOfApplications time_resolver }
+    ensures addresses { IsOfApplications address_resolver }
+    ensures values { LiteralsStandFor }
+{}
+
+/// What conversions compare and make: the bytes of items, the spaces of a single line, and the instants of numbers.
+pub fn conversions()
+    ensures encodings { EncodingsComputed }
+    ensures spaces { OnOneLine }
+    ensures stamps { StampsTested }
+    ensures instants { TimesReadBack }
+    ensures items { LiteralsOfItems }
+{}
+
+/// Items that are prettified mean what they meant.
+pub fn pretty_calls_keep()
+    ensures times { PrettyKeeps time_resolver pretty_time }
+    ensures addresses { PrettyKeeps address_resolver pretty_address }
+    ensures bignums { BignumsKept }
+    ensures times_of_all { PrettyKeeps literal_resolver pretty_time }
+    ensures addresses_of_all { PrettyKeeps literal_resolver pretty_address }
+    ensures all { PrettyKeeps literal_resolver pretty_all }
+{}
+
+/// Literals that are resolved mean what they stood for.
+pub fn calls_resolve()
+    ensures times_of_all { Resolves resolve_time literal_resolver address_resolver }
+    ensures times { Resolves resolve_time time_resolver no_resolver }
+    ensures addresses_of_all { Resolves resolve_address literal_resolver time_resolver }
+    ensures addresses { Resolves resolve_address address_resolver no_resolver }
+    ensures all { Resolves resolve_all literal_resolver no_resolver }
+{}
+
+/// The items of a value mean it again once they were prettified and resolved.
+pub fn pretty_resolved_again()
+    ensures one_visit { PrettyResolvedAgain }
+    ensures in_turn { PrettyResolvedInTurn }
+    ensures of_items { ItemsResolvedBack }
+{}

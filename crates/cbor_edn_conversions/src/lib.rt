@@ -1,0 +1,4 @@
+//! What conversions answer and leave, and the laws that prettified and resolved items mean the same.
+#![tactic(auto)]
+
+pub mod laws;
