@@ -1,6 +1,7 @@
 -- What each conversion keeps of what items mean, and what it resolves.
 pub mod AddressesKept
 pub mod BignumsKept
+pub mod Calls
 pub mod ConversionsKept
 pub mod ItemBytes
 pub mod Literals
@@ -8,5 +9,4 @@ pub mod LiteralsResolved
 pub mod OneLine
 pub mod Same
 pub mod Sought
-pub mod Steps
 pub mod TimesKept

@@ -20,8 +20,8 @@ use Rattle.cbor_edn_conversions.specs.Conversions.{Words, Conversion, converted,
 use Rattle.cbor_edn_conversions.specs.Resolvers.{TurnsTo}
 use Rattle.cbor_edn_conversions.specs.Addresses.{address_prefix, address_tag, address_item, item_integer, whole_text, length_text, prefix_text, if_same, as_literal, with_first, as_first, by_length, by_others, by_first, by_elements, by_bytes, address_literal, address_of_tag, pretty_address}
 use Rattle.cbor_edn_conversions.proofs.conversions.Same.{MeanOne, mean_one}
-use Rattle.cbor_edn_conversions.proofs.conversions.Steps.{reply_turns, told_is, unmarked_means, without_tag_is}
-use Rattle.cbor_edn_conversions.proofs.conversions.Literals.{GivesAddresses, address_tree_means}
+use Rattle.cbor_edn_conversions.proofs.conversions.Calls.{reply_turns, told_is, unmarked_means, without_tag_is}
+use Rattle.cbor_edn_conversions.proofs.conversions.Literals.{GivesAddresses, address_prefix_is, tree_means}
 use Rattle.cbor_edn_conversions.proofs.conversions.ItemBytes.{bytes_fit, MeansFit, elements_fit}
 
 abbrev ok : Tree OneItem → Conversion
@@ -179,7 +179,7 @@ module _ (R : Resolver) (no_content : ResolvesNoContent R) (gives : GivesAddress
         record {
           value = b.same.value;
           before = b.same.left;
-          after = ap (λ x. means_by R (items x)) (sym b.new_is) ∙ address_tree_means R gives wrap t b.back b.same.value (bytes t refl content) b.back_is b.same.right;
+          after = ap (λ x. means_by R (items x)) (sym b.new_is) ∙ tree_means R address_prefix address_item address_prefix_is gives wrap t b.back b.same.value (bytes t refl content) b.back_is b.same.right;
         }
 
     -- one in place of the first element
@@ -202,7 +202,7 @@ module _ (R : Resolver) (no_content : ResolvesNoContent R) (gives : GivesAddress
         let right : means (items (in_tag wrap n (with_item 0 f.first c))) ≡ Some b.same.value = ap (λ x. means (items x)) f.is ∙ b.same.right in
         let inner = content_means wrap n (with_item 0 f.first c) b.same.value right in
         let first = first_means f.first c e es inner.0 are inner.1 in
-        let literal : means_by R (items (literal_tree (address_prefix false) t)) ≡ means_by R (items f.first) = address_tree_means R gives false t f.first first.0 (bytes t refl fit.0) f.first_is first.1 ∙ sym (more_means R no_content (items f.first) first.0 first.1) in
+        let literal : means_by R (items (literal_tree (address_prefix false) t)) ≡ means_by R (items f.first) = tree_means R address_prefix address_item address_prefix_is gives false t f.first first.0 (bytes t refl fit.0) f.first_is first.1 ∙ sym (more_means R no_content (items f.first) first.0 first.1) in
         record {
           value = b.same.value;
           before = b.same.left;

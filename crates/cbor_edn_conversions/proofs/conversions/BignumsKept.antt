@@ -12,7 +12,7 @@ use Rattle.cbor_edn_conversions.specs.Conversions.{Conversion, told_tag, mean_th
 use Rattle.cbor_edn_conversions.specs.Resolvers.{TurnsTo}
 use Rattle.cbor_edn_conversions.specs.Bignums.{quoted_item_bytes, magnitude, bignum_integer, if_same_integer, integer_of_tag, bignum_of_tag, pretty_bignum}
 use Rattle.cbor_edn_conversions.proofs.conversions.Same.{mean_one}
-use Rattle.cbor_edn_conversions.proofs.conversions.Steps.{reply_turns, told_is}
+use Rattle.cbor_edn_conversions.proofs.conversions.Calls.{reply_turns, told_is}
 
 module _ (R : Resolver) (no_content : ResolvesNoContent R) where
   -- Items that mean the same bytes turn into each other, whatever literals stand for.

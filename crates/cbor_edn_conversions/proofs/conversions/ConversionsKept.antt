@@ -16,7 +16,7 @@ use Rattle.cbor_edn_conversions.specs.Addresses.{resolve_address, pretty_address
 use Rattle.cbor_edn_conversions.specs.Bignums.{pretty_bignum}
 use Rattle.cbor_edn_conversions.specs.All.{resolve_all, pretty_all}
 use Rattle.cbor_edn_conversions.specs.ConversionLaws.{IsOfApplications, LiteralsStandFor, LiteralsOfItems, PrettyKeeps, BignumsKept, Resolves, PrettyResolvedAgain, PrettyResolvedInTurn, Made, ItemsResolvedBack}
-use Rattle.cbor_edn_conversions.proofs.conversions.Steps.{turns_to, then_turns}
+use Rattle.cbor_edn_conversions.proofs.conversions.Calls.{turns_to, then_turns}
 use Rattle.cbor_edn_conversions.proofs.conversions.Literals.{time_applications, address_applications, all_applications, time_no_content, address_no_content, all_no_content, time_gives, address_gives, all_gives_times, all_gives_addresses}
 use Rattle.cbor_edn_conversions.proofs.conversions.TimesKept.{time_item_turns, time_turns}
 use Rattle.cbor_edn_conversions.proofs.conversions.AddressesKept.{address_item_turns, address_turns}

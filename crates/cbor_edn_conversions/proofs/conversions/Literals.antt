@@ -1,5 +1,5 @@
 -- The literals of times and addresses, and the values that the resolvers give them.
-use Rattle.std.proofs.Common.{ℕ, ◌<◌, ◌≡◌, Bool, true, false, if◌then◌else◌, not, List, codes, All, Option, Some, None, Ok, refl, ap, ◌∙◌}
+use Rattle.std.proofs.Common.{ℕ, ◌<◌, ◌≡◌, Bool, true, false, List, codes, All, Option, Some, None, Ok, refl, ap, ◌∙◌}
 use Rattle.cbor_edn_parts.specs.declared.indicator.Indicator.{Indicator}
 use Rattle.cbor_edn_parts.specs.Literal.{IsPrefix, Prefixed, IsLiteral}
 use Rattle.cbor_edn_parts.specs.Written.{application_literal}
@@ -12,7 +12,7 @@ use Rattle.cbor_edn_model.specs.Value.{Value}
 use Rattle.cbor_edn_conversions.specs.Resolving.{Resolver, or_else, means_by, ResolvesApplications, ResolvesNoContent}
 use Rattle.cbor_edn_conversions.proofs.resolving.ByPrefix.{by_prefix_applications, by_prefix_no_content, by_prefix_is}
 use Rattle.cbor_edn_conversions.proofs.resolving.Turning.{either_applications, either_no_content}
-use Rattle.cbor_edn_conversions.specs.Conversions.{literal_tree}
+use Rattle.cbor_edn_conversions.specs.Conversions.{Conversion, literal_tree}
 use Rattle.cbor_edn_conversions.specs.Resolvers.{value_of, time_value, address_value, time_resolver, address_resolver, literal_resolver}
 use Rattle.cbor_edn_conversions.specs.Times.{time_prefix, time_item, time_of_literal}
 use Rattle.cbor_edn_conversions.specs.Addresses.{address_prefix, address_item, address_of_literal}
@@ -39,12 +39,9 @@ all_no_content = either_no_content time_resolver address_resolver time_no_conten
 
 -- ---- prefixes
 
-is_prefix_by : (b : Bool) → IsPrefix (if b then codes "DT" else codes "dt")
-is_prefix_by true = (prefix_test (codes "DT")).1 refl
-is_prefix_by false = (prefix_test (codes "dt")).1 refl
-
 pub time_prefix_is : (wrap : Bool) → IsPrefix (time_prefix wrap)
-time_prefix_is wrap = is_prefix_by wrap
+time_prefix_is true = (prefix_test (codes "DT")).1 refl
+time_prefix_is false = (prefix_test (codes "dt")).1 refl
 
 pub address_prefix_is : (wrap : Bool) → IsPrefix (address_prefix wrap)
 address_prefix_is true = (prefix_test (codes "IP")).1 refl
@@ -86,17 +83,19 @@ module _ (p t x : List ℕ) (i : Option Indicator) (is : IsLiteral (Prefixed p) 
   pub all_given : is_supported_prefix p ≡ false → literal_resolver x i ≡ or_else (time_value p t) (address_value p t)
   all_given not = ap (λ o. or_else o (address_resolver x i)) (time_given not) ∙ ap (λ o. or_else (time_value p t) o) (address_given not)
 
-or_nothing : (o : Option Value) → or_else o None ≡ o
+pub or_nothing : (o : Option Value) → or_else o None ≡ o
 or_nothing None = refl
 or_nothing (Some v) = refl
 
--- The resolver gives time literals the values of what they become,
-abbrev pub GivesTimes : Resolver → Type 0
-GivesTimes R = (wrap : Bool) (t x : List ℕ) (i : Option Indicator) → IsLiteral (Prefixed (time_prefix wrap)) t x → R x i ≡ value_of (Some (time_item wrap t))
+-- The resolver gives literals of these prefixes the values of what they become.
+abbrev pub Gives : (Bool → List ℕ) → (Bool → List ℕ → Conversion) → Resolver → Type 0
+Gives prefix item R = (wrap : Bool) (t x : List ℕ) (i : Option Indicator) → IsLiteral (Prefixed (prefix wrap)) t x → R x i ≡ value_of (Some (item wrap t))
 
--- and address literals.
+abbrev pub GivesTimes : Resolver → Type 0
+GivesTimes R = Gives time_prefix time_item R
+
 abbrev pub GivesAddresses : Resolver → Type 0
-GivesAddresses R = (wrap : Bool) (t x : List ℕ) (i : Option Indicator) → IsLiteral (Prefixed (address_prefix wrap)) t x → R x i ≡ value_of (Some (address_item wrap t))
+GivesAddresses R = Gives address_prefix address_item R
 
 pub time_gives : GivesTimes time_resolver
 time_gives wrap t x i is = time_given (time_prefix wrap) t x i is (time_unsupported wrap) ∙ ap value_of (time_of_prefix wrap t)
@@ -122,10 +121,8 @@ module _ (R : Resolver) where
   unfolding means_by items
   literal_means p t v e = ap (λ o. or_else o (literal_content (application_literal p t) >>= λ c. string_of c None)) e
 
-  pub time_tree_means : GivesTimes R → (wrap : Bool) (t : List ℕ) (w : Tree OneItem) (v : Value) → All (λ b. b < 256) t → time_item wrap t ≡ Ok w → means (items w) ≡ Some v → means_by R (items (literal_tree (time_prefix wrap) t)) ≡ Some v
-  time_tree_means gives wrap t w v bytes is e =
-      literal_means (time_prefix wrap) t v (gives wrap t _ None (application_is (time_prefix wrap) t (time_prefix_is wrap) bytes) ∙ (ap (λ c. value_of (Some c)) is ∙ e))
-
-  pub address_tree_means : GivesAddresses R → (wrap : Bool) (t : List ℕ) (w : Tree OneItem) (v : Value) → All (λ b. b < 256) t → address_item wrap t ≡ Ok w → means (items w) ≡ Some v → means_by R (items (literal_tree (address_prefix wrap) t)) ≡ Some v
-  address_tree_means gives wrap t w v bytes is e =
-      literal_means (address_prefix wrap) t v (gives wrap t _ None (application_is (address_prefix wrap) t (address_prefix_is wrap) bytes) ∙ (ap (λ c. value_of (Some c)) is ∙ e))
+  -- A literal of these prefixes means what the item that it becomes does.
+  pub tree_means : (prefix : Bool → List ℕ) (item : Bool → List ℕ → Conversion) → ((wrap : Bool) → IsPrefix (prefix wrap)) → Gives prefix item R → (wrap : Bool) (t : List ℕ) (w : Tree OneItem) (v : Value) → All (λ b. b < 256) t
+      → item wrap t ≡ Ok w → means (items w) ≡ Some v → means_by R (items (literal_tree (prefix wrap) t)) ≡ Some v
+  tree_means prefix item prefix_is gives wrap t w v bytes is e =
+      literal_means (prefix wrap) t v (gives wrap t _ None (application_is (prefix wrap) t (prefix_is wrap) bytes) ∙ (ap (λ c. value_of (Some c)) is ∙ e))

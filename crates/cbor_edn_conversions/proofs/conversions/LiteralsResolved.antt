@@ -22,12 +22,12 @@ use Rattle.cbor_edn_conversions.specs.VisitedItems.{IsApplicationNode}
 use Rattle.cbor_edn_conversions.proofs.resolving.ByPrefix.{by_prefix_is}
 use Rattle.cbor_edn_conversions.proofs.resolving.OnItems.{application_node}
 use Rattle.cbor_edn_conversions.proofs.resolving.Resolved.{more_means}
-use Rattle.cbor_edn_conversions.specs.Conversions.{Conversion, reply, and_then}
+use Rattle.cbor_edn_conversions.specs.Conversions.{Conversion, reply, and_then, of_prefixes}
 use Rattle.cbor_edn_conversions.specs.Resolvers.{TurnsTo, value_of, time_value, address_value, time_resolver, address_resolver, literal_resolver}
-use Rattle.cbor_edn_conversions.specs.Times.{time_prefix, time_of_literal, resolve_time}
-use Rattle.cbor_edn_conversions.specs.Addresses.{address_prefix, address_of_literal, resolve_address}
+use Rattle.cbor_edn_conversions.specs.Times.{time_prefix, time_item, time_of_literal, resolve_time}
+use Rattle.cbor_edn_conversions.specs.Addresses.{address_prefix, address_item, address_of_literal, resolve_address}
 use Rattle.cbor_edn_conversions.specs.All.{resolve_all}
-use Rattle.cbor_edn_conversions.proofs.conversions.Literals.{time_no_content, address_no_content, no_address_of_time, no_time_of_address, time_unsupported, address_unsupported}
+use Rattle.cbor_edn_conversions.proofs.conversions.Literals.{time_no_content, address_no_content, no_address_of_time, no_time_of_address, time_unsupported, address_unsupported, or_nothing}
 
 -- ---- one literal
 
@@ -97,39 +97,35 @@ module _ (F : List ℕ → List ℕ → Option Value) where
 
 -- ---- which literals are converted
 
-record OfPrefix (prefix : Bool → List ℕ) (p : List ℕ) : Type 0 where
-  pub wrap : Bool
-  pub is : p ≡ prefix wrap
+module _ (prefix : Bool → List ℕ) (item : Bool → List ℕ → Conversion) where
+  record OfPrefix (p : List ℕ) : Type 0 where
+    pub wrap : Bool
+    pub is : p ≡ prefix wrap
 
-time_which_by : (p t : List ℕ) (a b : Bool) → same p (time_prefix false) ≡ a → same p (time_prefix true) ≡ b → OfPrefix time_prefix p ⊎ (time_of_literal p t ≡ None)
-time_which_by p t true b e f = inl (record { wrap = false; is = same-found p (time_prefix false) e })
-time_which_by p t false true e f = inl (record { wrap = true; is = same-found p (time_prefix true) f })
-time_which_by p t false false e f = inr (rw (e, f) refl)
+  which_by : (p t : List ℕ) (a b : Bool) → same p (prefix false) ≡ a → same p (prefix true) ≡ b → OfPrefix p ⊎ (of_prefixes prefix item p t ≡ None)
+  which_by p t true b e f = inl (record { wrap = false; is = same-found p (prefix false) e })
+  which_by p t false true e f = inl (record { wrap = true; is = same-found p (prefix true) f })
+  which_by p t false false e f = inr (rw (e, f) refl)
 
-time_which : (p t : List ℕ) → OfPrefix time_prefix p ⊎ (time_of_literal p t ≡ None)
-time_which p t = time_which_by p t _ _ refl refl
+  which : (p t : List ℕ) → OfPrefix p ⊎ (of_prefixes prefix item p t ≡ None)
+  which p t = which_by p t _ _ refl refl
 
-address_which_by : (p t : List ℕ) (a b : Bool) → same p (address_prefix false) ≡ a → same p (address_prefix true) ≡ b → OfPrefix address_prefix p ⊎ (address_of_literal p t ≡ None)
-address_which_by p t true b e f = inl (record { wrap = false; is = same-found p (address_prefix false) e })
-address_which_by p t false true e f = inl (record { wrap = true; is = same-found p (address_prefix true) f })
-address_which_by p t false false e f = inr (rw (e, f) refl)
+  -- none of those that say a content is,
+  unsupported_none : ((wrap : Bool) → is_supported_prefix (prefix wrap) ≡ false) → (p t : List ℕ) → is_supported_prefix p ≡ true → value_of (of_prefixes prefix item p t) ≡ None
+  unsupported_none unsupported p t supported =
+      elim (which p t) [
+        | inl h ↦ (let both : true ≡ false = sym supported ∙ (ap is_supported_prefix h.is ∙ unsupported h.wrap) in absurd cc)
+        | inr none ↦ ap value_of none
+      ]
 
-address_which : (p t : List ℕ) → OfPrefix address_prefix p ⊎ (address_of_literal p t ≡ None)
-address_which p t = address_which_by p t _ _ refl refl
-
-time_none : (p t : List ℕ) → is_supported_prefix p ≡ true → time_value p t ≡ None
-time_none p t supported =
-    elim (time_which p t) [
-      | inl h ↦ (let both : true ≡ false = sym supported ∙ (ap is_supported_prefix h.is ∙ time_unsupported h.wrap) in absurd cc)
-      | inr none ↦ ap value_of none
-    ]
-
-address_none : (p t : List ℕ) → is_supported_prefix p ≡ true → address_value p t ≡ None
-address_none p t supported =
-    elim (address_which p t) [
-      | inl h ↦ (let both : true ≡ false = sym supported ∙ (ap is_supported_prefix h.is ∙ address_unsupported h.wrap) in absurd cc)
-      | inr none ↦ ap value_of none
-    ]
+  -- and one that is has no content, and is none of the other conversion.
+  converted_alone : ((wrap : Bool) (t : List ℕ) → content_of (Prefixed (prefix wrap)) t ≡ None) → (other : List ℕ → List ℕ → Option Conversion) → ((wrap : Bool) (t : List ℕ) → other (prefix wrap) t ≡ None)
+      → (p t x : List ℕ) → IsLiteral (Prefixed p) t x → (c : Conversion) → of_prefixes prefix item p t ≡ Some c → (other p t ≡ None) × (literal_content x ≡ None)
+  converted_alone no_content other apart p t x is c e =
+      elim (which p t) [
+        | inl h ↦ (ap (λ q. other q t) h.is ∙ apart h.wrap t, content_is (Prefixed p) t x is ∙ (ap (λ q. content_of (Prefixed q) t) h.is ∙ no_content h.wrap t))
+        | inr none ↦ (let both : None ≡ Some c = sym none ∙ e in absurd cc)
+      ]
 
 time_content : (wrap : Bool) (t : List ℕ) → content_of (Prefixed (time_prefix wrap)) t ≡ None
 time_content true t = refl
@@ -139,34 +135,22 @@ address_content : (wrap : Bool) (t : List ℕ) → content_of (Prefixed (address
 address_content true t = refl
 address_content false t = refl
 
-or_nothing : (o : Option Value) → or_else o None ≡ o
-or_nothing None = refl
-or_nothing (Some v) = refl
-
 module _ (p t x : List ℕ) (i : Option Indicator) (is : IsLiteral (Prefixed p) t x) where
   pub time_is : time_resolver x i ≡ time_value p t
-  time_is = by_prefix_gives time_value time_none p t x i is
+  time_is = by_prefix_gives time_value (unsupported_none time_prefix time_item time_unsupported) p t x i is
 
   pub address_is : address_resolver x i ≡ address_value p t
-  address_is = by_prefix_gives address_value address_none p t x i is
+  address_is = by_prefix_gives address_value (unsupported_none address_prefix address_item address_unsupported) p t x i is
 
   all_is : literal_resolver x i ≡ or_else (time_value p t) (address_value p t)
   all_is = ap (λ o. or_else o (address_resolver x i)) time_is ∙ ap (λ o. or_else (time_value p t) o) address_is
 
   -- a time literal is no address literal, and has no content
   time_some : (c : Conversion) → time_of_literal p t ≡ Some c → (address_of_literal p t ≡ None) × (literal_content x ≡ None)
-  time_some c e =
-      elim (time_which p t) [
-        | inl h ↦ (ap (λ q. address_of_literal q t) h.is ∙ no_address_of_time h.wrap t, content_is (Prefixed p) t x is ∙ (ap (λ q. content_of (Prefixed q) t) h.is ∙ time_content h.wrap t))
-        | inr none ↦ (let both : None ≡ Some c = sym none ∙ e in absurd cc)
-      ]
+  time_some c e = converted_alone time_prefix time_item time_content address_of_literal no_address_of_time p t x is c e
 
   address_some : (c : Conversion) → address_of_literal p t ≡ Some c → (time_of_literal p t ≡ None) × (literal_content x ≡ None)
-  address_some c e =
-      elim (address_which p t) [
-        | inl h ↦ (ap (λ q. time_of_literal q t) h.is ∙ no_time_of_address h.wrap t, content_is (Prefixed p) t x is ∙ (ap (λ q. content_of (Prefixed q) t) h.is ∙ address_content h.wrap t))
-        | inr none ↦ (let both : None ≡ Some c = sym none ∙ e in absurd cc)
-      ]
+  address_some c e = converted_alone address_prefix address_item address_content time_of_literal no_time_of_address p t x is c e
 
 -- ---- the calls
 

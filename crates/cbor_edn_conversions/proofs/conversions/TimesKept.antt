@@ -24,8 +24,8 @@ use Rattle.cbor_edn_conversions.specs.Conversions.{Conversion, told_tag, is_narr
 use Rattle.cbor_edn_conversions.specs.Resolvers.{TurnsTo}
 use Rattle.cbor_edn_conversions.specs.Times.{time_prefix, time_item, instant_item, instant_by, is_plain, is_time_stamp, instant_literal, time_literal, time_of_tag, pretty_time}
 use Rattle.cbor_edn_conversions.proofs.conversions.Same.{plain_integer}
-use Rattle.cbor_edn_conversions.proofs.conversions.Steps.{reply_turns, told_is, tag_means, unmarked_means, without_tag_is}
-use Rattle.cbor_edn_conversions.proofs.conversions.Literals.{GivesTimes, time_tree_means}
+use Rattle.cbor_edn_conversions.proofs.conversions.Calls.{reply_turns, told_is, tag_means, unmarked_means, without_tag_is}
+use Rattle.cbor_edn_conversions.proofs.conversions.Literals.{GivesTimes, time_prefix_is, tree_means}
 
 -- ---- the text of a time is of bytes
 
@@ -148,13 +148,13 @@ module _ (R : Resolver) (gives : GivesTimes R) where
   tagged_means : (z : ℤ) (m : Value) (x : Value) → is_time_stamp z ≡ true → means_integer None z ≡ Some m → (width_of None 1 >>= λ d. Some (tag d 1 m)) ≡ Some x → means_by R (items (literal_tree (time_prefix true) (time_text z 0))) ≡ Some x
   unfolding means items
   tagged_means z m x stamp is e =
-      time_tree_means R gives true (time_text z 0) (tag_tree 1 (NumberTree (instant_number z 0) None)) x (time_bytes _ 0) (read_again true z 0 stamp (omega arith))
+      tree_means R time_prefix time_item time_prefix_is gives true (time_text z 0) (tag_tree 1 (NumberTree (instant_number z 0) None)) x (time_bytes _ 0) (read_again true z 0 stamp (omega arith))
       (ap (λ o. width_of None 1 >>= λ d. o >>= λ v. Some (tag d 1 v)) (number_means z stamp ∙ is) ∙ e)
 
   -- The same of a number without tag.
   untagged_means : (z : ℤ) (x : Value) → is_time_stamp z ≡ true → means_integer None z ≡ Some x → means_by R (items (literal_tree (time_prefix false) (time_text z 0))) ≡ Some x
   untagged_means z x stamp is =
-      time_tree_means R gives false (time_text z 0) (NumberTree (instant_number z 0) None) x (time_bytes _ 0) (read_again false z 0 stamp (omega arith)) (number_means z stamp ∙ is)
+      tree_means R time_prefix time_item time_prefix_is gives false (time_text z 0) (NumberTree (instant_number z 0) None) x (time_bytes _ 0) (read_again false z 0 stamp (omega arith)) (number_means z stamp ∙ is)
 
   -- ---- the call
 

@@ -1,0 +1,125 @@
+//! What conversions compute without a tree: whether an indicator may go, the tags of addresses, and the texts of addresses and bignums.
+ghost use Rattle.std.specs.Prelude.{◌≡◌, ◌<◌, ◌^◌, ◌+◌, pos, Option, Some, Ok, Err, IfOk, string_bytes, option_map};
+ghost use Rattle.std.specs.Fmt.{signed_decimal};
+ghost use Rattle.cbor_edn_parts.specs.Refusals.{IfTold};
+ghost use Rattle.cbor_edn_conversions.specs.Conversions.{is_narrowest};
+ghost use Rattle.cbor_edn_conversions.specs.Addresses.{address_tag, refusal_words, whole_text, prefix_text};
+ghost use Rattle.cbor_edn_conversions.specs.Bignums.{bignum_integer};
+ghost use Rattle.cbor_edn_literals.specs.Address.{size_of};
+
+use cbor_edn_literals::address::{IpVersion, filled_address, print_address};
+use cbor_edn_parts::error::Fault;
+use cbor_edn_parts::indicator::Indicator;
+use std::alloc::{AllocError, Global};
+
+/// Whether there is no indicator, or the one of the shortest head of this argument: `_0` for 52.
+pub fn is_narrowest(indicator: Option<Indicator>, argument: u64) -> bool
+    ensures { result ≡ is_narrowest indicator argument }
+{
+    match indicator {
+        None => true,
+        Some(Indicator::Indefinite) => false,
+        Some(Indicator::Immediate) => argument < 24,
+        Some(Indicator::One) => 24 <= argument && argument < 1 << 8,
+        Some(Indicator::Two) => 1 << 8 <= argument && argument < 1 << 16,
+        Some(Indicator::Four) => 1 << 16 <= argument && argument < 1 << 32,
+        Some(Indicator::Eight) => 1 << 32 <= argument,
+    }
+}
+
+/// The tag of addresses of this version.
+pub fn address_tag(version: IpVersion) -> u64
+    ensures { result ≡ address_tag version }
+{
+    match version {
+        IpVersion::V4 => 52,
+        IpVersion::V6 => 54,
+    }
+}
+
+/// Why bytes, or bytes behind a prefix length, are no address of a version.
+#[derive(Clone, Copy, Debug, PartialEq, Eq)]
+pub enum NoAddress {
+    /// More bytes than an address has.
+    TooLong,
+    /// Fewer, and no prefix length.
+    TooShort,
+    /// A prefix length below 0, or past the bits of an address.
+    LengthTooLarge,
+}
+
+impl NoAddress {
+    pub fn as_str(self) -> &'static str
+        ensures { result.now ≡ refusal_words self }
+    {
+        match self {
+            NoAddress::TooLong => "Data too long for address type",
+            NoAddress::TooShort => "Data too short for address type",
+            NoAddress::LengthTooLarge => "Prefix exceeds address size",
+        }
+    }
+}
+
+/// The text of a whole address.
+pub fn whole_text(alloc: Global, version: IpVersion, bytes: &[u8]) -> Result<String, Fault<NoAddress>>
+    ensures text { IfOk result (λ s. whole_text version bytes.now ≡ Ok (string_bytes s)) }
+    ensures refused { IfTold result (λ e. whole_text version bytes.now ≡ Err (refusal_words e)) }
+{
+    let size = size_of(version);
+    if bytes.len() > size {
+        return Err(Fault::Told(NoAddress::TooLong));
+    }
+    if bytes.len() < size {
+        return Err(Fault::Told(NoAddress::TooShort));
+    }
+    let text = print_address(alloc, &filled_address(version, bytes), None)?;
+    Ok(text)
+}
+
+/// The text of an address with a prefix length, whose bytes are filled with zeros.
+pub fn prefix_text(
+    alloc: Global,
+    version: IpVersion,
+    prefix_length: i128,
+    bytes: &[u8],
+) -> Result<String, Fault<NoAddress>>
+    ensures text { IfOk result (λ s. prefix_text version prefix_length bytes.now ≡ Ok (string_bytes s)) }
+    ensures refused { IfTold result (λ e. prefix_text version prefix_length bytes.now ≡ Err (refusal_words e)) }
+{
+    let size = size_of(version);
+    if bytes.len() > size {
+        return Err(Fault::Told(NoAddress::TooLong));
+    }
+    let Ok(prefix_length) = u8::try_from(prefix_length) else {
+        return Err(Fault::Told(NoAddress::LengthTooLarge));
+    };
+    if usize::from(prefix_length) > 8 * size {
+        return Err(Fault::Told(NoAddress::LengthTooLarge));
+    }
+    let text = print_address(alloc, &filled_address(version, bytes), Some(prefix_length))?;
+    Ok(text)
+}
+
+fn size_of(version: IpVersion) -> usize
+    ensures { result ≡ size_of version }
+{
+    match version {
+        IpVersion::V4 => 4,
+        IpVersion::V6 => 16,
+    }
+}
+
+/// The integer of a bignum in decimal: of tag 2 its number, and of tag 3 the integer that lies one further below zero.
+pub fn bignum_text(alloc: Global, tag: u64, number: u128) -> Result<Option<String>, AllocError>
+    requires { tag ≡ 3 → number + 1 < 2 ^ 128 }
+    ensures { IfOk result (λ o. option_map string_bytes o ≡ option_map signed_decimal (bignum_integer tag number)) }
+{
+    match tag {
+        2 => Ok(Some(format!(in alloc; "{number}")?)),
+        3 => {
+            let below = number + 1;
+            Ok(Some(format!(in alloc; "-{below}")?))
+        }
+        _ => Ok(None),
+    }
+}
