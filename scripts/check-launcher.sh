@@ -169,8 +169,10 @@ answer 0 '' "${tail_of_try//%s/0}"
 rm -f "$reply/built"
 call --build < /dev/null
 count 'a build' test "$status" = 0
-count 'its progress' grep -q 'crate 1 of 6, cbor_edn_parts.* min' "$work/said"
-count 'its crates' test "$(cut -d' ' -f1,4- "$reply/built")" = "$(printf '%s\n' 'lib cbor_edn_parts' 'lib cbor_edn_command' 'lib cbor_edn_model' 'lib cbor_edn_core' 'lib cbor_edn' 'run -- diag2cbor cbor_edn_tool')"
+count 'its progress' grep -q "crate 1 of $(wc -l < "$reply/built"), cbor_edn_parts.* 0 min" "$work/said"
+built=$(cut -d' ' -f1,4- "$reply/built" | tr '\n' ',')
+count 'its crates' test "${built%%,*} .. ${built##*,lib }" = 'lib cbor_edn_parts .. cbor_edn,run -- diag2cbor cbor_edn_tool,'
+count 'each of them once' test -z "$(sort "$reply/built" | uniq -d)"
 
 # The program that is built.
 call_by "$work/no-rt" diag2cbor < <(printf '[1, 0x1f, []]')
