@@ -1,7 +1,7 @@
 //! Uses of `cbor_edn`, as a caller writes them: each contract follows from those of the calls alone.
 #![tactic(auto)]
 
-ghost use Rattle.std.specs.Prelude.{◌≡◌, ◌≤◌, Some, None, IfSome, IsNone, IfOk, IsErr};
+ghost use Rattle.std.specs.Prelude.{◌≡◌, ◌≤◌, Some, None, IsNone, IfOk, IsErr};
 ghost use Rattle.std.specs.Option.{OnSome};
 ghost use Rattle.std.specs.String.{string_bytes};
 ghost use Rattle.cbor_edn_model.specs.Decoded.{items_of};
@@ -13,37 +13,27 @@ ghost use Rattle.cbor_edn_model.specs.Spelling.{SpellsSequence};
 ghost use Rattle.cbor_edn_model.specs.Value.{Values, EncAll};
 ghost use Rattle.cbor_edn_core.specs.View.{item_tree, sequence_tree, standalone_tree};
 
-use cbor_edn::{Item, Sequence, StandaloneItem, TypeMismatch};
+use cbor_edn::engine::RunError;
+use cbor_edn::{DelimiterPolicy, Item, Sequence, StandaloneItem, TypeMismatch};
 use std::alloc::Global;
 
-/// The CBOR that a text means, as for a commented configuration that ships as CBOR. None where the text is no EDN, means
-/// nothing, or memory runs out.
-pub fn shipped(alloc: Global, text: &str) -> Option<Vec<u8>>
-    ensures { IfSome result (λ b. (x : Items) × (vs : Values) × SpellsSequence x text.now × (nesting x ≤ 512) × (means x ≡ Some vs) × EncAll b.items vs) }
+/// The CBOR that a text means, as for a commented configuration that ships as CBOR. Fails where the text is no EDN, nests too
+/// deep or means nothing, and where memory runs out.
+pub fn shipped(alloc: Global, text: &str) -> Result<Vec<u8>, RunError>
+    ensures { IfOk result (λ b. (x : Items) × (vs : Values) × SpellsSequence x text.now × (nesting x ≤ 512) × (means x ≡ Some vs) × EncAll b.items vs) }
 {
-    let sequence = match Sequence::parse(alloc, text) {
-        Ok(sequence) => sequence,
-        Err(_) => return None,
-    };
-    match sequence.to_cbor(alloc) {
-        Ok(bytes) => Some(bytes),
-        Err(_) => None,
-    }
+    let sequence = Sequence::parse(alloc, text)?;
+    Ok(sequence.to_cbor(alloc)?)
 }
 
-/// A text of what bytes encode, as for a token or a signed object that is looked into. None where they encode nothing that
-/// can be shown, or memory runs out.
-pub fn shown(alloc: Global, bytes: &[u8]) -> Option<String>
-    ensures { IfSome result (λ s. (vs : Values) × EncAll bytes.now vs × SpellsSequence (items_of vs) (string_bytes s)) }
+/// The indented text of what bytes encode, as for a token or a signed object that is looked into. Fails where they encode
+/// nothing that can be shown or nests too deep, and where memory runs out.
+pub fn shown(alloc: Global, bytes: &[u8]) -> Result<String, RunError>
+    ensures { IfOk result (λ s. (vs : Values) × EncAll bytes.now vs × SpellsSequence (items_of vs) (string_bytes s)) }
 {
-    let sequence: Sequence<'_> = match Sequence::from_cbor(alloc, bytes) {
-        Ok(sequence) => sequence,
-        Err(_) => return None,
-    };
-    match sequence.serialize(alloc) {
-        Ok(text) => Some(text),
-        Err(_) => None,
-    }
+    let mut sequence: Sequence<'_> = Sequence::from_cbor(alloc, bytes)?;
+    sequence.set_delimiters(alloc, DelimiterPolicy::indented())?;
+    Ok(sequence.serialize(alloc)?)
 }
 
 /// Puts another content into a tag, as for a token that is wrapped anew. Fails where the item is no tag; it stays then.
