@@ -50,19 +50,19 @@ VisitResolvesExactly = (B A : Resolver) → DifferAtPrefixes B A → (cs : List 
 abbrev pub ComesBack : List SoughtCall → List SoughtCall → Ending → Type 0
 ComesBack cs ds r =
     ((v : Value) → Fits v → (a b c d : Tree Standalone) → items a ≡ item_of v → VisitParts IsTag _ a cs b r
-        → items b ≡ items c → VisitParts IsApplication _ c ds d whole → means (items d) ≡ Some v)
+    → items b ≡ items c → VisitParts IsApplication _ c ds d whole → means (items d) ≡ Some v)
     × ((vs : Values) → ValuesFit vs → (a b c d : Tree Seq) → items a ≡ items_of vs → VisitParts IsTag _ a cs b r
-        → items b ≡ items c → VisitParts IsApplication _ c ds d whole → means (items d) ≡ Some vs)
+    → items b ≡ items c → VisitParts IsApplication _ c ds d whole → means (items d) ≡ Some vs)
 
 -- The same with two whole visits of literals, one behind the other.
 abbrev pub ComesBackInTurn : List SoughtCall → List SoughtCall → List SoughtCall → Ending → Type 0
 ComesBackInTurn cs ds es r =
     ((v : Value) → Fits v → (a b c d e f : Tree Standalone) → items a ≡ item_of v → VisitParts IsTag _ a cs b r
-        → items b ≡ items c → VisitParts IsApplication _ c ds d whole
-        → items d ≡ items e → VisitParts IsApplication _ e es f whole → means (items f) ≡ Some v)
+    → items b ≡ items c → VisitParts IsApplication _ c ds d whole
+    → items d ≡ items e → VisitParts IsApplication _ e es f whole → means (items f) ≡ Some v)
     × ((vs : Values) → ValuesFit vs → (a b c d e f : Tree Seq) → items a ≡ items_of vs → VisitParts IsTag _ a cs b r
-        → items b ≡ items c → VisitParts IsApplication _ c ds d whole
-        → items d ≡ items e → VisitParts IsApplication _ e es f whole → means (items f) ≡ Some vs)
+    → items b ≡ items c → VisitParts IsApplication _ c ds d whole
+    → items d ≡ items e → VisitParts IsApplication _ e es f whole → means (items f) ≡ Some vs)
 
 -- It comes back where the visit of tags keeps what items mean by R and the visit of literals turns R into none,
 abbrev pub ResolvedAgain : Type 0
@@ -112,9 +112,9 @@ VisitsTurnItems IsSought IsSoughtNode = (B A : Resolver) (cs : List SoughtCall) 
 abbrev pub ItemsComeBack : (Told → Node Item → Node Item → Type 0) → (Told → Node Item → Node Item → Type 0) → Type 0
 ItemsComeBack Pretty Resolved =
     ((v : Value) → Fits v → (x y : Node Item) → ReachedItem IsTagNode Pretty (item_of v) x
-        → ReachedItem IsApplicationNode Resolved x y → means y ≡ Some v)
+    → ReachedItem IsApplicationNode Resolved x y → means y ≡ Some v)
     × ((vs : Values) → ValuesFit vs → (x y : Items) → VisitedNode IsTagNode Pretty _ (items_of vs) x
-        → VisitedNode IsApplicationNode Resolved _ x y → means y ≡ Some vs)
+    → VisitedNode IsApplicationNode Resolved _ x y → means y ≡ Some vs)
 
 -- They come back where the first keeps what items mean by R, and the second turns R into none,
 abbrev pub ItemsResolvedAgain : Type 0

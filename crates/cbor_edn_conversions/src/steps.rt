@@ -61,7 +61,11 @@ impl NoAddress {
 }
 
 /// The text of a whole address.
-pub fn whole_text(alloc: Global, version: IpVersion, bytes: &[u8]) -> Result<String, Fault<NoAddress>>
+pub fn whole_text(
+    alloc: Global,
+    version: IpVersion,
+    bytes: &[u8],
+) -> Result<String, Fault<NoAddress>>
     ensures text { IfOk result (λ s. whole_text version bytes.now ≡ Ok (string_bytes s)) }
     ensures refused { IfTold result (λ e. whole_text version bytes.now ≡ Err (refusal_words e)) }
 {
