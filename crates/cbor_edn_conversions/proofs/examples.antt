@@ -1,5 +1,6 @@
 -- Worked examples.
 pub mod AddressRows
+pub mod AnnotationRows
 pub mod ConvertedBack
 pub mod PartRows
 pub mod ResolvedBack

@@ -2,9 +2,14 @@ pub mod Resolving
 pub mod VisitedItems
 pub mod ResolvingLaws
 pub mod Conversions
+pub mod Integers
 pub mod Times
 pub mod Addresses
 pub mod Bignums
 pub mod All
 pub mod Resolvers
 pub mod ConversionLaws
+pub mod Tag999
+pub mod Annotations
+pub mod Tables
+pub mod Claims

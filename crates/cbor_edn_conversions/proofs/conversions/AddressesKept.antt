@@ -18,7 +18,8 @@ use Rattle.cbor_edn_conversions.specs.Resolving.{Resolver, means_by, ResolvesNoC
 use Rattle.cbor_edn_conversions.proofs.resolving.Resolved.{more_means}
 use Rattle.cbor_edn_conversions.specs.Conversions.{Words, Conversion, converted, told_tag, is_narrowest, changed_encoding, without_tag, mean_the_same, literal_tree, tag_tree, in_tag}
 use Rattle.cbor_edn_conversions.specs.Resolvers.{TurnsTo}
-use Rattle.cbor_edn_conversions.specs.Addresses.{address_prefix, address_tag, address_item, item_integer, whole_text, length_text, prefix_text, if_same, as_literal, with_first, as_first, by_length, by_others, by_first, by_elements, by_bytes, address_literal, address_of_tag, pretty_address}
+use Rattle.cbor_edn_conversions.specs.Integers.{item_integer}
+use Rattle.cbor_edn_conversions.specs.Addresses.{address_prefix, address_tag, address_item, whole_text, length_text, prefix_text, if_same, as_literal, with_first, as_first, by_length, by_others, by_first, by_elements, by_bytes, address_literal, address_of_tag, pretty_address}
 use Rattle.cbor_edn_conversions.proofs.conversions.Same.{MeanOne, mean_one}
 use Rattle.cbor_edn_conversions.proofs.conversions.Calls.{reply_turns, told_is, unmarked_means, without_tag_is}
 use Rattle.cbor_edn_conversions.proofs.conversions.Literals.{GivesAddresses, address_prefix_is, tree_means}
