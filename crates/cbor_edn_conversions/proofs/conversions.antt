@@ -6,6 +6,7 @@ pub mod ConversionsKept
 pub mod ItemBytes
 pub mod Literals
 pub mod LiteralsResolved
+pub mod OneActs
 pub mod OneLine
 pub mod Same
 pub mod Sought

@@ -1,12 +1,13 @@
 -- The laws of conversions, as contracts name them.
-use Rattle.std.specs.Prelude.{ℕ, ℤ, ◌≡◌, ◌↔◌, Bool, true, List, Option, Some, Ok, All}
+use Rattle.std.specs.Prelude.{ℕ, ℤ, ◌≡◌, ◌↔◌, ◌==◌, ◌||◌, if◌then◌else◌, codes, Bool, true, List, Option, Some, Ok, All}
 use Rattle.cbor_edn_parts.specs.declared.indicator.Indicator.{Indicator}
 use Rattle.cbor_edn_parts.specs.Literal.{Prefixed, IsLiteral}
 use Rattle.cbor_edn_parts.specs.code.NumberReading.{integer_of}
+use Rattle.cbor_edn_parts.specs.code.ContentReading.{same}
 use Rattle.cbor_edn_model.specs.Decoded.{IsSingleLine}
 use Rattle.cbor_edn_model.specs.Items.{Item, Node}
 use Rattle.cbor_edn_model.specs.Meaning.{means}
-use Rattle.cbor_edn_model.specs.Seeking.{Told, SoughtCall, IsApplication}
+use Rattle.cbor_edn_model.specs.Seeking.{Told, number, prefix_and_text, SoughtCall, IsApplication}
 use Rattle.cbor_edn_model.specs.Trees.{Tree, OneItem, NumberTree, items}
 use Rattle.cbor_edn_model.specs.Value.{Value, AreBytes, Enc}
 use Rattle.cbor_edn_model.specs.Visits.{Ending}
@@ -16,8 +17,8 @@ use Rattle.cbor_edn_conversions.specs.Resolving.{Resolver, ResolvesApplications,
 use Rattle.cbor_edn_conversions.specs.ResolvingLaws.{ComesBack, ComesBackInTurn, ItemsComeBack}
 use Rattle.cbor_edn_conversions.specs.Conversions.{Reply, item_encoding, literal_tree, in_tag}
 use Rattle.cbor_edn_conversions.specs.Resolvers.{time_value, address_value, time_resolver, address_resolver, literal_resolver, TurnsTo}
-use Rattle.cbor_edn_conversions.specs.Times.{is_time_stamp, time_prefix, time_item, time_literal, instant_by, resolve_time}
-use Rattle.cbor_edn_conversions.specs.Addresses.{address_tag, address_item, address_literal, resolve_address}
+use Rattle.cbor_edn_conversions.specs.Times.{is_time_stamp, time_prefix, time_item, time_literal, instant_by, resolve_time, pretty_time}
+use Rattle.cbor_edn_conversions.specs.Addresses.{address_tag, address_item, address_literal, resolve_address, pretty_address}
 use Rattle.cbor_edn_conversions.specs.Bignums.{pretty_bignum}
 use Rattle.cbor_edn_conversions.specs.All.{resolve_all, pretty_all}
 
@@ -74,6 +75,19 @@ BignumsKept = (R : Resolver) → ResolvesNoContent R → PrettyKeeps R pretty_bi
 abbrev pub Resolves : (Told → Tree OneItem → Reply) → Resolver → Resolver → Type 0
 Resolves f B A = (c : SoughtCall) → IsApplication c.before c.told → AnswersBy f c → Turns B A c
 
+-- Of the conversions of tags at most one does something, by the tag's number,
+abbrev pub PrettyByNumber : Type 0
+PrettyByNumber = (n : ℕ) (w : Tree OneItem) → pretty_all (number n) w
+    ≡ (if n == 1 then pretty_time (number n) w
+    else if (n == 52) || (n == 54) then pretty_address (number n) w
+    else pretty_bignum (number n) w)
+
+-- and of those of literals at most one, by the prefix.
+abbrev pub ResolvedByPrefix : Type 0
+ResolvedByPrefix = (p t : List ℕ) (w : Tree OneItem) → resolve_all (prefix_and_text p t) w
+    ≡ (if same p (codes "dt") || same p (codes "DT") then resolve_time (prefix_and_text p t) w
+    else resolve_address (prefix_and_text p t) w)
+
 -- The items of a value mean it again after a visit of tags that prettifies them and one of literals that resolves them,
 abbrev pub PrettyResolvedAgain : Type 0
 PrettyResolvedAgain = (cs ds : List SoughtCall) (r : Ending)
@@ -88,6 +102,6 @@ PrettyResolvedInTurn = (cs ds es : List SoughtCall) (r : Ending)
 abbrev pub Made : (Told → Tree OneItem → Reply) → Told → Node Item → Node Item → Type 0
 Made f a x y = (w : Tree OneItem) × (items w ≡ x) × (items (f a w).1 ≡ y)
 
--- The same of items alone.
+-- The same of items alone: from the item of the value to the prettified one, and on to one that means the value.
 abbrev pub ItemsResolvedBack : Type 0
 ItemsResolvedBack = ItemsComeBack (Made pretty_all) (Made resolve_all)

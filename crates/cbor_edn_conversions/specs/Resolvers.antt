@@ -20,11 +20,11 @@ time_value p t = value_of (time_of_literal p t)
 abbrev pub address_value : List ℕ → List ℕ → Option Value
 address_value p t = value_of (address_of_literal p t)
 
--- the values of `dt'..'` and `DT'..'`: times with a fraction have none
+-- the values of `dt'..'` and `DT'..'`: the integer 42, and tag 1 over it; times with a fraction have none, as decimals mean nothing
 abbrev pub time_resolver : Resolver
 time_resolver = by_prefix time_value
 
--- those of `ip'..'` and `IP'..'`
+-- those of `ip'..'` and `IP'..'`: bytes, or an array of a length and bytes, and these in tag 52 or 54
 abbrev pub address_resolver : Resolver
 address_resolver = by_prefix address_value
 

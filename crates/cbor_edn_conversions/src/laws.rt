@@ -7,7 +7,7 @@ ghost use Rattle.cbor_edn_conversions.specs.Resolvers.{time_resolver, address_re
 ghost use Rattle.cbor_edn_conversions.specs.Times.{resolve_time, pretty_time};
 ghost use Rattle.cbor_edn_conversions.specs.Addresses.{resolve_address, pretty_address};
 ghost use Rattle.cbor_edn_conversions.specs.All.{resolve_all, pretty_all};
-ghost use Rattle.cbor_edn_conversions.specs.ConversionLaws.{IsOfApplications, LiteralsStandFor, LiteralsOfItems, EncodingsComputed, OnOneLine, StampsTested, TimesReadBack, PrettyKeeps, BignumsKept, Resolves, PrettyResolvedAgain, PrettyResolvedInTurn, ItemsResolvedBack};
+ghost use Rattle.cbor_edn_conversions.specs.ConversionLaws.{IsOfApplications, LiteralsStandFor, LiteralsOfItems, EncodingsComputed, OnOneLine, StampsTested, TimesReadBack, PrettyKeeps, BignumsKept, Resolves, PrettyByNumber, ResolvedByPrefix, PrettyResolvedAgain, PrettyResolvedInTurn, ItemsResolvedBack};
 
 /// By no resolver items mean what they mean, and decoded items mean the same by any of application literals.
 pub fn decoded_means()
@@ -91,6 +91,12 @@ pub fn calls_resolve()
     ensures addresses_of_all { Resolves resolve_address literal_resolver time_resolver }
     ensures addresses { Resolves resolve_address address_resolver no_resolver }
     ensures all { Resolves resolve_all literal_resolver no_resolver }
+{}
+
+/// At most one conversion does something: at a tag by its number, at a literal by its prefix.
+pub fn one_acts()
+    ensures tags { PrettyByNumber }
+    ensures literals { ResolvedByPrefix }
 {}
 
 /// The items of a value mean it again once they were prettified and resolved.
