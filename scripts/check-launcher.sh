@@ -152,7 +152,7 @@ count 'names' passed_on cbor2diag -i hex --max-nesting 'in edn' "$work/elsewhere
 call diag2diag -- --help - < /dev/null
 count 'a name like a flag' passed_on diag2diag -- "$work/elsewhere/--help" -
 call diag2cbor --flag 'in edn' < /dev/null
-count 'a flag that there is not' passed_on diag2cbor --flag 'in edn'
+count 'a flag that the launcher does not know' passed_on diag2cbor --flag "$work/elsewhere/in edn"
 call diag2cbor 'in edn' a b < /dev/null
 count 'too many names' passed_on diag2cbor 'in edn' a b
 
