@@ -1,15 +1,15 @@
 -- At most one conversion does something: at a tag by its number, at a literal by its prefix.
-use Rattle.std.proofs.Common.{ℕ, ◌≡◌, ◌==◌, ◌||◌, Bool, true, false, cond, codes, List, Option, Some, None, Ok, Err, refl, ap, ◌∙◌, subst, sym}
+use Rattle.std.proofs.Common.{ℕ, ◌≡◌, ◌==◌, ◌||◌, Bool, true, false, cond, codes, List, Option, Some, None, refl, ap, ◌∙◌, subst}
 use Rattle.std.proofs.lemmas.Bool.{eqb-true}
 use Rattle.cbor_edn_parts.specs.declared.indicator.Indicator.{Indicator}
 use Rattle.cbor_edn_parts.specs.code.ContentReading.{same}
 use Rattle.cbor_edn_parts.proofs.Prefixes.{same-found}
 use Rattle.cbor_edn_model.specs.declared.label.LabelKind.TheVariants as label
-use Rattle.cbor_edn_model.specs.Seeking.{Told, number, prefix_and_text}
+use Rattle.cbor_edn_model.specs.Seeking.{number, prefix_and_text}
 use Rattle.cbor_edn_model.specs.Trees.{Tree, OneItem, NumberTree, FloatTree, NamedTree, EnclosedTree, ListTree, StringTree, StreamTree}
 use Rattle.cbor_edn_model.specs.Visits.{fine, comment, no_memory}
-use Rattle.cbor_edn_conversions.specs.Conversions.{Conversion, Reply, reply, and_then, enclosed, told_tag, of_literal}
-use Rattle.cbor_edn_conversions.specs.Times.{time_of_tag, time_of_literal, pretty_time, resolve_time}
+use Rattle.cbor_edn_conversions.specs.Conversions.{Conversion, Reply, reply, and_then, enclosed, told_tag}
+use Rattle.cbor_edn_conversions.specs.Times.{time_of_tag, pretty_time, resolve_time}
 use Rattle.cbor_edn_conversions.specs.Addresses.{address_of_tag, address_of_literal, pretty_address, resolve_address}
 use Rattle.cbor_edn_conversions.specs.Bignums.{quoted_item_bytes, integer_of_tag, bignum_of_tag, pretty_bignum}
 use Rattle.cbor_edn_conversions.specs.All.{pretty_all, resolve_all}
