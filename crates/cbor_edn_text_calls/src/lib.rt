@@ -2,21 +2,23 @@
 //! check here is that of a small crate, and what a clause refuses here it refuses where the call is written.
 #![tactic(auto)]
 
-ghost use Rattle.std.specs.Prelude.{◌≡◌, ◌≤◌, ◌+◌, ◌*◌, ◌≢◌, length, IfOk, OnOk};
+ghost use Rattle.std.specs.Prelude.{◌≡◌, ◌≤◌, ◌+◌, ◌*◌, ◌≢◌, length, IfOk, IsOk, OnOk};
 ghost use Rattle.cbor_edn_core.specs.Parsing.{ParsedSequence, Unparsed};
-ghost use Rattle.cbor_edn_core.specs.View.{sequence_tree, standalone_tree};
+ghost use Rattle.cbor_edn_core.specs.View.{item_tree, sequence_tree, standalone_tree};
 ghost use Rattle.cbor_edn_model.specs.Bare.{without_indicators};
 ghost use Rattle.cbor_edn_model.specs.Commented.{commented};
-ghost use Rattle.cbor_edn_model.specs.Decoded.{IsDecodedSequence, NoSequence};
+ghost use Rattle.cbor_edn_model.specs.Decoded.{alone, IsDecodedSequence, NoSequence};
 ghost use Rattle.cbor_edn_model.specs.Fewer.{Fewer};
+ghost use Rattle.cbor_edn_model.specs.Layout.{laid_out};
 ghost use Rattle.cbor_edn_model.specs.Spelling.{SpellsSequence};
 ghost use Rattle.cbor_edn_model.specs.Trees.{items};
 ghost use Rattle.cbor_edn_parts.specs.Refusals.{IfTold};
 
 use cbor_edn_core::from_cbor::CborError;
-use cbor_edn_core::tree::{NESTING_LIMIT, Sequence, StandaloneItem};
+use cbor_edn_core::tree::{Item, NESTING_LIMIT, Sequence, StandaloneItem};
 use cbor_edn_parts::error::{Fault, ParseError};
 use cbor_edn_parts::looks::Looks;
+use cbor_edn_parts::policy::DelimiterPolicy;
 use std::alloc::{AllocError, Global};
 
 /// `Sequence::parse_within`.
@@ -78,4 +80,28 @@ pub fn set_comment(
     ensures commented { OnOk result (standalone_tree item.new ≡ commented comment.now (standalone_tree item.old)) }
 {
     item.set_comment(alloc, comment)
+}
+
+/// `Sequence::set_delimiters`.
+pub fn set_delimiters(
+    sequence: &mut Sequence<'_>,
+    alloc: Global,
+    policy: DelimiterPolicy,
+) -> Result<(), AllocError>
+    ensures laid { OnOk result (sequence_tree sequence.new ≡ laid_out policy (sequence_tree sequence.old)) }
+    ensures items { items (sequence_tree sequence.new) ≡ items (sequence_tree sequence.old) }
+    ensures discarded { policy ≡ DelimiterPolicy.DiscardAll → IsOk result }
+{
+    sequence.set_delimiters(alloc, policy)
+}
+
+/// `Item::with_comment`.
+pub fn with_comment<'a>(
+    item: Item<'a>,
+    alloc: Global,
+    comment: &str,
+) -> Result<StandaloneItem<'a>, AllocError>
+    ensures { IfOk result (λ t. standalone_tree t ≡ commented comment.now (alone (item_tree item.entry))) }
+{
+    item.with_comment(alloc, comment)
 }

@@ -2,21 +2,23 @@
 //! here is that of a small crate, and what a clause refuses here it refuses where the call is written.
 #![tactic(auto)]
 
-ghost use Rattle.std.specs.Prelude.{◌≡◌, ℕ, option_map, map, List, Some, None, IfOk, IfErr, OnOk};
+ghost use Rattle.std.specs.Prelude.{◌≡◌, ℕ, ℤ, FitsSigned, option_map, map, List, Some, None, IfOk, IfErr, OnOk};
+ghost use Rattle.std.specs.Int.{w128};
 ghost use Rattle.std.specs.String.{string_bytes};
 ghost use Rattle.cbor_edn_core.specs.Callbacks.{IsCall, IsKeyCall, IfVisited, ending};
-ghost use Rattle.cbor_edn_core.specs.Constructed.{tagged_tree};
+ghost use Rattle.cbor_edn_core.specs.Constructed.{tagged_tree, element_tree, pair_tree, comma_inside, comma_sequence, Ends, OfAll};
 ghost use Rattle.cbor_edn_core.specs.Iterated.{items_left, pairs_left, both_trees};
 ghost use Rattle.cbor_edn_core.specs.IteratedMut.{items_to_lend, pairs_to_lend, sequence_items_to_lend};
 ghost use Rattle.cbor_edn_core.specs.Lent.{with_tag_content};
-ghost use Rattle.cbor_edn_core.specs.Mismatch.{literal_mismatch};
+ghost use Rattle.cbor_edn_core.specs.Mismatch.{IsIntegerMismatch, literal_mismatch};
 ghost use Rattle.cbor_edn_core.specs.Sought.{IsTagCall, IsLiteralCall, MayVisitTags, MayVisitLiterals};
 ghost use Rattle.cbor_edn_core.specs.View.{item_tree, sequence_tree, standalone_tree};
-ghost use Rattle.cbor_edn_model.specs.Accessed.{IsApplicationItem, array_items, item_bytes, map_items, string_tree, tag_content, tag_number};
+ghost use Rattle.cbor_edn_model.specs.Accessed.{IsApplicationItem, IsIntegerItem, IsLiteralItem, array_items, item_bytes, map_items, string_tree, tag_content, tag_number};
 ghost use Rattle.cbor_edn_model.specs.Commented.{commented};
+ghost use Rattle.cbor_edn_model.specs.Items.{Array, Map};
 ghost use Rattle.cbor_edn_model.specs.Paths.{at_sequence, items_in};
 ghost use Rattle.cbor_edn_model.specs.Seeking.{SoughtCall, VisitParts, IsTag, IsApplication};
-ghost use Rattle.cbor_edn_model.specs.Trees.{text};
+ghost use Rattle.cbor_edn_model.specs.Trees.{ListTree, text};
 ghost use Rattle.cbor_edn_model.specs.Visits.{Call, KeyCall, Chain, VisitArray, VisitMap};
 ghost use Rattle.cbor_edn_parts.specs.Refusals.{IfTold};
 ghost use Rattle.cbor_edn_tree_calls.specs.Callable.{AlwaysCallable};
@@ -58,6 +60,15 @@ pub fn set_comment_in_tag(
         Ok(content) => Ok(content.set_comment(alloc, comment)?),
         Err(mismatch) => Err(Fault::Told(mismatch)),
     }
+}
+
+/// `Item::get_integer`.
+pub fn get_integer(item: &Item<'_>) -> Result<i128, TypeMismatch>
+    ensures found { IfOk result (λ z. IsIntegerItem (item_tree item.now) z) }
+    ensures refused { IfErr result (λ _. (z : ℤ) → FitsSigned w128 z → IsIntegerItem (item_tree item.now) z → ⊥) }
+    ensures words { IfErr result (IsIntegerMismatch (IsLiteralItem (item_tree item.now))) }
+{
+    item.get_integer()
 }
 
 /// `Item::get_array_items`.
@@ -145,6 +156,39 @@ pub fn tagged<'a>(
     ensures { IfOk result (λ t. item_tree t ≡ tagged_tree number (standalone_tree item.entry)) }
 {
     item.tagged(alloc, number)
+}
+
+/// `Item::new_array`.
+pub fn new_array<'a, U: IntoIterator<Item = Item<'a>>>(
+    alloc: Global,
+    items: U,
+) -> Result<Item<'a>, AllocError>
+    requires { Ends U.into_iter_gives U.IntoIter.can_next U.IntoIter.remaining items }
+    ensures { IfOk result (λ t. OfAll U.into_iter_gives U.IntoIter.next_gives items (λ xs. item_tree t ≡ ListTree Array (comma_inside (map element_tree xs)))) }
+{
+    Item::new_array(alloc, items)
+}
+
+/// `Item::new_map`.
+pub fn new_map<'a, U: IntoIterator<Item = (Item<'a>, Item<'a>)>>(
+    alloc: Global,
+    entries: U,
+) -> Result<Item<'a>, AllocError>
+    requires { Ends U.into_iter_gives U.IntoIter.can_next U.IntoIter.remaining entries }
+    ensures { IfOk result (λ t. OfAll U.into_iter_gives U.IntoIter.next_gives entries (λ xs. item_tree t ≡ ListTree Map (comma_inside (map pair_tree xs)))) }
+{
+    Item::new_map(alloc, entries)
+}
+
+/// `Sequence::new`.
+pub fn new_sequence<'a, U: IntoIterator<Item = Item<'a>>>(
+    alloc: Global,
+    items: U,
+) -> Result<Sequence<'a>, AllocError>
+    requires { Ends U.into_iter_gives U.IntoIter.can_next U.IntoIter.remaining items }
+    ensures { IfOk result (λ t. OfAll U.into_iter_gives U.IntoIter.next_gives items (λ xs. sequence_tree t ≡ comma_sequence (map element_tree xs))) }
+{
+    Sequence::new(alloc, items)
 }
 
 /// `Item::visit_array_elements`, of a callback that may always be called, also by a body that calls it once too often.
