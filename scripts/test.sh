@@ -2,8 +2,8 @@
 # All tests: where a text is read (a look at the sources), each proof, edit that must fail, test and program (`rt ci`),
 # beside it the calls of each crate *_memory with each of their allocations refused in turn, then the encodings of
 # another implementation, where it is installed, the deepest nesting under small stacks, and the launcher. The last line is
-# 'N passed, M failed'. Where nothing failed, the program that was proved is left to ./cbor-edn. `ARCHITECTURE.md`
-# ("Measuring") says how the proofs share the processors.
+# 'N passed, M failed'. Where nothing failed, the program that was proved is left to ./cbor-edn. `docs/CONTRIBUTING.md`
+# says how the proofs share the processors.
 set -euo pipefail
 
 cd "$(dirname "$(readlink -f "$0")")/.."
