@@ -4,26 +4,33 @@ use Rattle.std.specs.Str.{IsUtf8}
 use Rattle.cbor_edn_core.specs.Parsing.{ParsedSequence}
 use Rattle.cbor_edn_model.specs.Decoded.{IsDecodedSequence}
 use Rattle.cbor_edn_model.specs.Meaning.{means}
-use Rattle.cbor_edn_model.specs.Trees.{Tree, Seq, items}
+use Rattle.cbor_edn_model.specs.Trees.{Tree, Seq, items, text}
 use Rattle.cbor_edn_model.specs.Value.{Values, EncAll}
 use Rattle.cbor_edn_core.specs.View.{Sequence, sequence_tree}
 use Rattle.cbor_edn_core.proofs.code.Printable.{sequence_valid}
 use Rattle.cbor_edn_model.proofs.text.Tested.{valid}
 use Rattle.cbor_edn.proofs.Edits.{edited_items}
-use Rattle.std.specs.Prelude.{false, Err}
+use Rattle.std.proofs.lemmas.Str.{IsUtf8-string_bytes}
+use Rattle.std.specs.Prelude.{false, Result, Ok, Err, IfOk, string_bytes}
+use Rattle.std.specs.declared.alloc.Global.{Global}
+use Rattle.std.specs.declared.string.String.{String}
 use Rattle.cbor_edn_parts.specs.Refusals.{IfTold}
 use Rattle.cbor_edn_parts.specs.declared.error.Fault.{Fault}
 use Rattle.cbor_edn_parts.specs.declared.error.Fault.TheVariants.{Memory, Told}
 use Rattle.cbor_edn_parts.specs.declared.error.InconsistentEdn.{InconsistentEdn}
 use Rattle.cbor_edn_model.specs.Meaning.{NoEncoding}
 use Rattle.cbor_edn_command.specs.Hexadecimal.{input_bytes}
-use Rattle.cbor_edn.specs.Runs.{IsReadAs, IsDecodedAs, IsRefused, told_as}
+use Rattle.cbor_edn.specs.Runs.{IsReadAs, IsDecodedAs, IsPrintedAs, IsRefused, edited, told_as}
 use Rattle.cbor_edn.specs.Steps.{IsEncoded, IsUnencoded, IsUndiagnosed}
 use Rattle.cbor_edn_command.specs.declared.options.Command.TheVariants.{Cbor2Diag}
 use Rattle.cbor_edn.specs.declared.engine.RunError.{RunError}
 use Rattle.cbor_edn.specs.declared.engine.RunError.TheVariants.{Read, NotUtf8, Parse, Cbor, Hex, Inconsistent, Write}
 use Rattle.cbor_edn.specs.declared.engine.RunError.TheVariants as run
 use Rattle.cbor_edn_command.specs.declared.options.Options.{Options}
+
+-- what holds of an answer's value holds of it in its box
+pub of_boxed : {T E : Type 0} (P : T → Type 0) (answer : Result T E) (x : T) → answer ≡ Ok x → IfOk answer P → P x
+of_boxed P answer x is holds = subst (λ r. IfOk r P) is holds
 
 pub read_as : (limit : ℕ) (input t : List ℕ) (x : Sequence) → t ≡ input → IsUtf8 input → ParsedSequence limit t x → IsReadAs limit input (sequence_tree x)
 read_as limit input t x same utf8 parsed = record {
@@ -36,6 +43,11 @@ read_as limit input t x same utf8 parsed = record {
 
 pub decoded_as : (limit : ℕ) (bytes : List ℕ) (x : Sequence) → IsDecodedSequence limit bytes (sequence_tree x) → IsDecodedAs limit bytes (sequence_tree x)
 decoded_as limit bytes x d = (d, valid (sequence_tree x) (sequence_valid x))
+
+-- a tree that is printed where it is lent
+pub printed_as : (o : Options) (out : String Global) (lent x : Sequence) → lent ≡ x → string_bytes out ≡ text (edited o (sequence_tree lent))
+    → IsPrintedAs (edited o (sequence_tree x)) (string_bytes out)
+printed_as o out lent x same is = (IsUtf8-string_bytes out, subst (λ (v : Sequence). string_bytes out ≡ text (edited o (sequence_tree v))) same is)
 
 pub encoded_as : (o : Options) (input bytes : List ℕ) (w : Tree Seq) → IsReadAs o.limit input w
     → (vs : Values) × (means (items w) ≡ Some vs) × EncAll bytes vs → IsEncoded o input bytes

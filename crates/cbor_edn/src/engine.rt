@@ -10,6 +10,7 @@ ghost use Rattle.cbor_edn.specs.Steps.{IsEncoded, IsUnencoded, IsDiagnosed, IsUn
 ghost use Rattle.cbor_edn.specs.declared.engine.RunError.{RunError};
 ghost use Rattle.cbor_edn.specs.declared.engine.RunError.TheVariants.{Memory, Parse, Cbor, Inconsistent, Hex, Read};
 
+use crate::boxed::boxed;
 pub use cbor_edn_command::count::Count;
 pub use cbor_edn_command::devices::{DeviceFault, Sink, Source, StdSink, StdSource};
 use cbor_edn_command::hexadecimal::{self, NotHex};
@@ -117,14 +118,14 @@ impl From<Fault<DeviceFault>> for RunError {
 }
 
 // The items of a text.
-fn parsed<'a>(alloc: Global, limit: usize, input: &'a [u8]) -> Result<Sequence<'a>, RunError>
-    ensures ok { IfOk result (λ s. IsReadAs limit input.now (sequence_tree s)) }
+fn parsed<'a>(alloc: Global, limit: usize, input: &'a [u8]) -> Result<Box<Sequence<'a>>, RunError>
+    ensures ok { IfOk result (λ s. IsReadAs limit input.now (sequence_tree s.value)) }
     ensures err { IfErr result (IsUnread limit input.now) }
 {
     let Ok(text) = from_utf8(input) else {
         return Err(RunError::NotUtf8);
     };
-    Ok(Sequence::parse_within(alloc, text, limit)?)
+    Ok(boxed(alloc, Sequence::parse_within(alloc, text, limit))?)
 }
 
 // The encodings of what a text means. Spaces and comments have no part in it.
@@ -162,7 +163,10 @@ fn diagnosed(alloc: Global, options: &Options, bytes: &[u8]) -> Result<String, R
     ensures ok { IfOk result (λ t. IsDiagnosed options.now bytes.now (string_bytes t)) }
     ensures err { IfErr result (IsUndiagnosed options.now bytes.now) }
 {
-    let mut sequence = Sequence::from_cbor_within(alloc, bytes, options.limit)?;
+    let mut sequence = boxed(
+        alloc,
+        Sequence::from_cbor_within(alloc, bytes, options.limit),
+    )?;
     Ok(printed(alloc, options, &mut sequence)?)
 }
 

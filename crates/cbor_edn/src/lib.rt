@@ -1,6 +1,7 @@
 //! The Extended Diagnostic Notation (EDN) of CBOR: read, printed, encoded and decoded without loss.
 #![tactic(auto)]
 
+mod boxed;
 pub mod engine;
 pub mod laws;
 

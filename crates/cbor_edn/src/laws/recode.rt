@@ -10,6 +10,7 @@ ghost use Rattle.cbor_edn_model.specs.Meaning.{means};
 ghost use Rattle.cbor_edn_model.specs.Decoded.{NoSequence, IsTooDeepSequence};
 ghost use Rattle.cbor_edn.specs.Recoding.{IsTextOfItems};
 
+use crate::boxed::boxed;
 use cbor_edn_core::from_cbor::CborError;
 use cbor_edn_core::tree::{NESTING_LIMIT, Sequence};
 use cbor_edn_parts::error::Fault;
@@ -24,7 +25,7 @@ pub fn recoded(alloc: Global, bytes: &[u8]) -> Result<Vec<u8>, Fault<CborError>>
     ensures refused { IfTold result (λ e. e ≢ CborError.TooDeep → NoSequence bytes.now) }
     ensures too_deep { IfTold result (λ e. e ≡ CborError.TooDeep → IsTooDeepSequence NESTING_LIMIT bytes.now) }
 {
-    let sequence: Sequence<'_> = Sequence::from_cbor(alloc, bytes)?;
+    let sequence: Box<Sequence<'_>> = boxed(alloc, Sequence::from_cbor(alloc, bytes))?;
     Ok(encoded(alloc, &sequence)?)
 }
 
@@ -64,7 +65,7 @@ fn decoded_text(
     ensures refused { IfTold result (λ e. e ≢ CborError.TooDeep → NoSequence bytes.now) }
     ensures too_deep { IfTold result (λ e. e ≡ CborError.TooDeep → IsTooDeepSequence NESTING_LIMIT bytes.now) }
 {
-    let mut sequence: Sequence<'_> = Sequence::from_cbor(alloc, bytes)?;
+    let mut sequence: Box<Sequence<'_>> = boxed(alloc, Sequence::from_cbor(alloc, bytes))?;
     Ok(laid_out_text(alloc, &mut sequence, policies)?)
 }
 
@@ -87,7 +88,7 @@ fn read_and_encoded(alloc: Global, text: &str) -> Result<Vec<u8>, AllocError>
     requires { (bytes : List ℕ) × IsTextOfItems NESTING_LIMIT bytes text.now }
     ensures { IfOk result (λ b. IsTextOfItems NESTING_LIMIT b.items text.now) }
 {
-    match Sequence::parse(alloc, text) {
+    match boxed(alloc, Sequence::parse(alloc, text)) {
         Ok(sequence) => encoded(alloc, &sequence),
         Err(Fault::Memory(refused)) => Err(refused),
         Err(Fault::Told(_)) => unreachable!(),

@@ -1,10 +1,10 @@
-use Rattle.std.proofs.lemmas.Str.{IsUtf8-string_bytes}
 use Rattle.cbor_edn_core.specs.View.{sequence_tree}
+use Rattle.cbor_edn.proofs.Loading.{printed_as}
 use Rattle.cbor_edn.proofs.engine.reprinted.Goals as goal
 
 pub returns-clause-ok : goal.returns-clause-ok
 returns-clause-ok c = (
-  sequence_tree c.in_ok-sequence.sequence,
+  sequence_tree c.in_ok-sequence.sequence.value,
   c.in_ok-sequence.ensures.ok,
-  (IsUtf8-string_bytes c.in_ok-printed.field-0, c.in_ok-printed.ensures),
+  printed_as c.args.options.now c.in_ok-printed.field-0 _ c.in_ok-sequence.sequence.value c.deref_mut.ensures.value c.in_ok-printed.ensures,
 )

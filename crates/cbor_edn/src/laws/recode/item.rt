@@ -10,6 +10,7 @@ ghost use Rattle.cbor_edn_model.specs.Meaning.{means};
 ghost use Rattle.cbor_edn_model.specs.Decoded.{NoneIs, IsTooDeepEncoding};
 ghost use Rattle.cbor_edn.specs.Recoding.{IsTextOfItem};
 
+use crate::boxed::boxed;
 use cbor_edn_core::from_cbor::CborError;
 use cbor_edn_core::tree::{NESTING_LIMIT, StandaloneItem};
 use cbor_edn_parts::error::Fault;
@@ -53,7 +54,7 @@ fn decoded_text(
     ensures refused { IfTold result (λ e. e ≢ CborError.TooDeep → NoneIs (Enc bytes.now)) }
     ensures too_deep { IfTold result (λ e. e ≡ CborError.TooDeep → IsTooDeepEncoding NESTING_LIMIT bytes.now (Enc bytes.now)) }
 {
-    let mut item: StandaloneItem<'_> = StandaloneItem::from_cbor(alloc, bytes)?;
+    let mut item: Box<StandaloneItem<'_>> = boxed(alloc, StandaloneItem::from_cbor(alloc, bytes))?;
     Ok(laid_out_text(alloc, &mut item, policies)?)
 }
 
@@ -76,7 +77,7 @@ fn read_and_encoded(alloc: Global, text: &str) -> Result<Vec<u8>, AllocError>
     requires { (bytes : List ℕ) × IsTextOfItem NESTING_LIMIT bytes text.now }
     ensures { IfOk result (λ b. IsTextOfItem NESTING_LIMIT b.items text.now) }
 {
-    match StandaloneItem::parse(alloc, text) {
+    match boxed(alloc, StandaloneItem::parse(alloc, text)) {
         Ok(item) => encoded(alloc, &item),
         Err(Fault::Memory(refused)) => Err(refused),
         Err(Fault::Told(_)) => unreachable!(),
