@@ -88,6 +88,15 @@ leave_program() {
   mv out/cbor-edn.new out/cbor-edn
 }
 
+# Says what the whole run took, by the clock and on all processors.
+say_minutes() {
+  times > "$log"
+  awk -v clock="$SECONDS" 'NR == 2 {
+    split($0, part, /[ms ]+/)
+    printf "%d minutes, %d CPU minutes\n", clock / 60, part[1] + part[3] + (part[2] + part[4]) / 60
+  }' "$log"
+}
+
 program=crates/cbor_edn_tool/out/cbor_edn_tool
 gives_way=()
 add scripts/check-reads.sh
@@ -112,6 +121,7 @@ add scripts/check-outside.sh "$program"
 add scripts/check-launcher.sh "$program"
 add scripts/check-stack.sh "$program" crates/cbor_edn_{text,tree}_tests/out/*_tests_tests
 cat "$times"
+say_minutes
 [ "$failed" != 0 ] || leave_program "$program"
 echo "$passed passed, $failed failed"
 [ "$failed" = 0 ]
