@@ -3,7 +3,7 @@ ghost use Rattle.std.specs.Prelude.{◌≡◌, ℤ, FitsSigned, IfOk, IfErr, Som
 ghost use Rattle.std.specs.Int.{w128};
 ghost use Rattle.cbor_edn_parts.specs.Leaves.{number_bytes};
 ghost use Rattle.cbor_edn_parts.specs.Number.{IsInteger};
-ghost use Rattle.cbor_edn_model.specs.Accessed.{tag_number, tag_content, number_text, IsIntegerItem, IsLiteralItem, array_items, map_items, element, key_and_value, entries_inside};
+ghost use Rattle.cbor_edn_model.specs.Accessed.{tag_number, tag_head, tag_content, named_word, number_and_indicator, inner_item, number_text, IsIntegerItem, IsLiteralItem, array_items, map_items, element, key_and_value, entries_inside};
 ghost use Rattle.cbor_edn_model.specs.Leaves.{texts};
 ghost use Rattle.cbor_edn_core.specs.Mismatch.{IsIntegerMismatch};
 ghost use Rattle.cbor_edn_model.specs.Paths.{items_in};
@@ -11,7 +11,10 @@ ghost use Rattle.cbor_edn_core.specs.Iterated.{items_left, pairs_left, both_tree
 ghost use Rattle.cbor_edn_core.specs.IteratedMut.{items_to_lend, pairs_to_lend, sequence_items_to_lend};
 ghost use Rattle.cbor_edn_core.specs.View.{item_tree, sequence_tree, standalone_tree, view_list, view_pair_list};
 
-use crate::tree::{InnerItem, Item, ItemList, LabelKind, PairList, Sequence, StandaloneItem};
+use crate::tree::{
+    Indicator, InnerItem, Item, ItemList, LabelKind, PairList, Sequence, StandaloneItem,
+};
+use cbor_edn_model::word::NamedSimple;
 use cbor_edn_parts::number::Number;
 pub use iterators::{ArrayItems, MapItems};
 pub use lending::{ArrayItemsMut, MapItemsMut, SequenceItemsMut};
@@ -55,6 +58,26 @@ impl<'a> Item<'a> {
         }
     }
 
+    /// The number of a tag and its encoding indicator, or none where the item is no tag.
+    #[tactic(auto, using(crate::proofs::code::Views::view_string_is, crate::proofs::code::Views::view_stream_is))]
+    pub fn get_tag_head(&self) -> Option<(u64, Option<Indicator>)>
+        ensures { result ≡ tag_head (item_tree self.now) }
+    {
+        match &self.inner {
+            InnerItem::Enclosed(label, _) => match label.kind {
+                LabelKind::Tag(indicator, number) => Some((number, indicator)),
+                LabelKind::Simple => None,
+            },
+            InnerItem::Number(..)
+            | InnerItem::NonFinite(..)
+            | InnerItem::Named(_)
+            | InnerItem::Array(_)
+            | InnerItem::Map(_)
+            | InnerItem::String(_)
+            | InnerItem::Stream(_) => None,
+        }
+    }
+
     /// What stands between the parentheses of a tag. Fails with `TaggedItem` where the item is none.
     pub fn get_tagged(&self) -> Result<&StandaloneItem<'a>, TypeMismatch>
         ensures found { IfOk result (λ w. tag_content (item_tree self.now) ≡ Some (standalone_tree w.now)) }
@@ -63,6 +86,41 @@ impl<'a> Item<'a> {
         match tag_of(self) {
             Some((_, content)) => Ok(content),
             None => Err(TypeMismatch::TaggedItem),
+        }
+    }
+
+    /// The word of a simple value that has a name, as `true`, or none where the item is anything else, `simple(21)` too.
+    #[tactic(auto, using(crate::proofs::code::Views::view_string_is, crate::proofs::code::Views::view_stream_is))]
+    pub fn get_named(&self) -> Option<NamedSimple>
+        ensures { result ≡ named_word (item_tree self.now) }
+    {
+        match &self.inner {
+            InnerItem::Named(name) => Some(*name),
+            InnerItem::Number(..)
+            | InnerItem::NonFinite(..)
+            | InnerItem::Enclosed(..)
+            | InnerItem::Array(_)
+            | InnerItem::Map(_)
+            | InnerItem::String(_)
+            | InnerItem::Stream(_) => None,
+        }
+    }
+
+    /// The text of a number and its encoding indicator, as `0x1f` and `_1` of `0x1f_1`, or none where the item is no number. The
+    /// words `Infinity`, `-Infinity` and `NaN` are none.
+    #[tactic(auto, using(crate::proofs::code::Views::view_string_is, crate::proofs::code::Views::view_stream_is))]
+    pub fn get_number(&self) -> Option<(&str, Option<Indicator>)>
+        ensures { option_map (λ p. (p.0.now, p.1)) result ≡ number_and_indicator (item_tree self.now) }
+    {
+        match &self.inner {
+            InnerItem::Number(indicator, number) => Some((number.as_str(), *indicator)),
+            InnerItem::NonFinite(..)
+            | InnerItem::Named(_)
+            | InnerItem::Enclosed(..)
+            | InnerItem::Array(_)
+            | InnerItem::Map(_)
+            | InnerItem::String(_)
+            | InnerItem::Stream(_) => None,
         }
     }
 
@@ -128,6 +186,15 @@ impl<'a> Item<'a> {
             Some(PairList::Absent { .. }) => Ok(MapItemsMut::empty()),
             None => Err(TypeMismatch::Map),
         }
+    }
+}
+
+impl<'a> StandaloneItem<'a> {
+    /// The item between the spaces.
+    pub fn item(&self) -> &Item<'a>
+        ensures { item_tree result.now ≡ inner_item (standalone_tree self.now) }
+    {
+        &self.item
     }
 }
 

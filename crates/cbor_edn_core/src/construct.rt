@@ -1,9 +1,10 @@
 //! Items and sequences that are made from values: no space, `,` between two entries, and no encoding indicator.
-ghost use Rattle.std.specs.Prelude.{◌≡◌, ◌∷◌, [], map, option_map, IfOk, None};
+ghost use Rattle.std.specs.Prelude.{◌≡◌, ◌∷◌, [], map, option_map, IfOk, IfErr, IfSome, OnOk, None};
 ghost use Rattle.std.specs.Fmt.{signed_decimal};
 ghost use Rattle.cbor_edn_parts.specs.Contents.{hex_literal, text_literal};
 ghost use Rattle.cbor_edn_parts.specs.Leaves.{literal_bytes, msc_bytes};
 ghost use Rattle.cbor_edn_parts.specs.Literal.{IsPrefix};
+ghost use Rattle.cbor_edn_parts.specs.Number.{IsNumber};
 ghost use Rattle.cbor_edn_parts.specs.Refusals.{IfTold};
 ghost use Rattle.cbor_edn_parts.specs.Written.{hexadecimal_text, application_literal};
 ghost use Rattle.cbor_edn_core.specs.Constructed.{literal_tree, tagged_tree, element_tree, pair_tree, comma_row, comma_inside, comma_sequence, Ends, OfAll};
@@ -17,6 +18,7 @@ use crate::tree::{
     CborString, InnerItem, Item, ItemList, ItemOf, Items, Kp, Label, PairList, Pairs, Piece,
     Sequence, SequenceOf, StandaloneItem,
 };
+use cbor_edn_model::word::NamedSimple;
 use cbor_edn_parts::error::{Fault, InconsistentEdn};
 use cbor_edn_parts::number::Number;
 use cbor_edn_parts::space::{Msc, S, Soc};
@@ -42,6 +44,20 @@ impl<'a> Item<'a> {
         Ok(ItemOf {
             inner: InnerItem::Number(None, number),
         })
+    }
+
+    /// A number as it is written, as `1.5` or `0b101`, or none where the text is no number of the grammar. Fails where memory runs
+    /// out.
+    pub fn new_number(alloc: Global, text: &str) -> Result<Option<Item<'a>>, AllocError>
+        ensures some { IfOk result (λ o. IfSome o (λ t. item_tree t ≡ NumberTree text.now None)) }
+        ensures none { IfOk result (λ o. o ≡ None → IsNumber text.now → ⊥) }
+    {
+        match Number::written(alloc, text)? {
+            Some(number) => Ok(Some(ItemOf {
+                inner: InnerItem::Number(None, number),
+            })),
+            None => Ok(None),
+        }
     }
 
     /// A byte string as `h'..'` with digits in lower case. Fails where memory runs out.
@@ -83,6 +99,19 @@ impl<'a> Item<'a> {
         let row = Vec::new(alloc);
         let last = Piece::Literal(None, literal);
         Item::string(alloc, CborString { row, last })
+    }
+
+    /// Puts the item into a tag of this number, in its place, as [`Item::tagged`] does. Fails where memory runs out: the item is as
+    /// before then.
+    pub fn put_into_tag(&mut self, alloc: Global, number: u64) -> Result<(), AllocError>
+        ensures tagged { OnOk result (item_tree self.new ≡ tagged_tree number (alone (item_tree self.old))) }
+        ensures refused { IfErr result (λ _. item_tree self.new ≡ item_tree self.old) }
+    {
+        let content: StandaloneItem<'a> = StandaloneItem::from(placeholder());
+        let mut content = Box::new(alloc, content)?;
+        content.item = std::mem::replace(self, placeholder());
+        self.inner = InnerItem::Enclosed(Label::tag(number, None), content);
+        Ok(())
     }
 
     /// The item in a tag of this number, without an encoding indicator and without space, as `1(2)`. Fails where memory runs
@@ -189,6 +218,13 @@ impl<'a> Sequence<'a> {
             before: S::empty(),
             items,
         })
+    }
+}
+
+/// An item that takes no memory.
+fn placeholder<'a>() -> Item<'a> {
+    ItemOf {
+        inner: InnerItem::Named(NamedSimple::Null),
     }
 }
 

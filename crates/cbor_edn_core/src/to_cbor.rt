@@ -28,6 +28,20 @@ use cbor_edn_parts::space::{Msc, S};
 use cbor_edn_parts::string::{Literal, StringKind};
 use std::alloc::Global;
 
+impl Item<'_> {
+    /// The encoding of the value that the item means. Fails where it means none, and where memory runs out.
+    #[tactic(auto, unfolding(cbor_edn_model::specs::Trees::items))]
+    pub fn to_cbor(&self, alloc: Global) -> Result<Vec<u8>, Fault<InconsistentEdn>>
+        ensures bytes { IfOk result (λ b. (v : Value) × (means (trees.items (item_tree self.now)) ≡ Some v) × Enc b.items v) }
+        ensures refused { IfTold result (NoEncoding (means (trees.items (item_tree self.now)))) }
+    {
+        let mut out = Vec::new(alloc);
+        push_item(&mut out, self)?;
+        are_bytes(&out);
+        Ok(out)
+    }
+}
+
 impl StandaloneItem<'_> {
     /// The encoding of the value that the item means. Fails where it means none, and where memory runs out.
     #[tactic(auto, unfolding(cbor_edn_model::specs::Trees::items))]

@@ -1,23 +1,45 @@
 -- What the accessors of an item answer.
 use Rattle.std.specs.Prelude.{ℕ, ℤ, List, [], ◌∷◌, ◌++◌, ◌≡◌, map, Bool, true, false, Option, Some, None}
+use Rattle.std.specs.List.{list_all}
 use Rattle.cbor_edn_parts.specs.Literal.{Prefixed, IsLiteral}
 use Rattle.cbor_edn_parts.specs.Number.{HasInteger, IsInteger}
 use Rattle.cbor_edn_parts.specs.Contents.{Content}
+use Rattle.cbor_edn_parts.specs.declared.indicator.Indicator.{Indicator}
 use Rattle.cbor_edn_parts.specs.declared.string.StringKind.TheVariants.{Bytes}
 use Rattle.cbor_edn_model.specs.Meaning.{means}
 use Rattle.cbor_edn_model.specs.declared.label.LabelKind.TheVariants as label
+use Rattle.cbor_edn_model.specs.declared.word.NamedSimple.{NamedSimple}
 use Rattle.cbor_edn_model.specs.Items.{Row, Elements, Pairs, Strings, Bracketed, Array, Map, entries_of}
-use Rattle.cbor_edn_model.specs.Trees.{Tree, OneItem, OnePiece, OneString, OneEntry, Inside, Rest, Standalone, NumberTree, EnclosedTree, ListTree, StringTree, StreamTree, LiteralTree, LastPieceTree, PlusTree, EmptyTree, FullTree, LastTree, MoreTree, ElementTree, PairTree, ChunkTree, items}
+use Rattle.cbor_edn_model.specs.Trees.{Tree, OneItem, OnePiece, OneString, OneEntry, Inside, Rest, Standalone, NumberTree, NamedTree, EnclosedTree, ListTree, StringTree, StreamTree, LiteralTree, LastPieceTree, PlusTree, EmptyTree, FullTree, LastTree, MoreTree, ElementTree, PairTree, ChunkTree, StandaloneTree, items}
 
 -- the number of a tag: 1 of `1( 2 )`
 abbrev pub tag_number : Tree OneItem → Option ℕ
 tag_number (EnclosedTree (label.Tag i n) w) = Some n
 tag_number _ = None
 
+-- the number of a tag with its encoding indicator: 1 and `_0` of `1_0(2)`
+abbrev pub tag_head : Tree OneItem → Option (ℕ × Option Indicator)
+tag_head (EnclosedTree (label.Tag i n) w) = Some (n, i)
+tag_head _ = None
+
 -- what stands between the parentheses of a tag, with its spaces: ` 2 ` of `1( 2 )`
 abbrev pub tag_content : Tree OneItem → Option (Tree Standalone)
 tag_content (EnclosedTree (label.Tag i n) w) = Some w
 tag_content _ = None
+
+-- the item between two spaces: 2 of ` 2 `
+abbrev pub inner_item : Tree Standalone → Tree OneItem
+inner_item (StandaloneTree s w t) = w
+
+-- the word of a simple value that has a name: `true`
+abbrev pub named_word : Tree OneItem → Option NamedSimple
+named_word (NamedTree b) = Some b
+named_word _ = None
+
+-- the text of a number with its encoding indicator: `0x1f` and `_1` of `0x1f_1`
+abbrev pub number_and_indicator : Tree OneItem → Option (List ℕ × Option Indicator)
+number_and_indicator (NumberTree x i) = Some (x, i)
+number_and_indicator _ = None
 
 -- the text of a number: `0x1f` of `0x1f_1`
 abbrev pub number_text : Tree OneItem → Option (List ℕ)
@@ -119,3 +141,13 @@ IsApplicationPiece _ p v = ⊥
 -- The item is such a piece alone.
 abbrev pub IsApplicationItem : Tree OneItem → List ℕ → List ℕ → Type 0
 IsApplicationItem w p v = (l : Tree OnePiece) × (string_tree w ≡ Some (LastPieceTree l)) × IsApplicationPiece l p v
+
+-- The piece is quoted and has no encoding indicator: `h'01'` and `"a"`, neither `h'01'_0` nor `<<1>>`.
+abbrev pub is_plain_piece : Tree OnePiece → Bool
+is_plain_piece (LiteralTree x None) = true
+is_plain_piece _ = false
+
+-- The item is a string of such pieces, as `h'01' + 'a'`.
+abbrev pub is_plain_string : Tree OneItem → Bool
+is_plain_string (StringTree w) = list_all is_plain_piece (pieces w)
+is_plain_string _ = false

@@ -18,6 +18,7 @@ pub mod SeparatorTokens
 pub mod SpaceTexts
 pub mod Steps
 pub mod Tokens
+pub mod TokenTests
 mod Walks
 pub mod Decoding
 pub mod Applications

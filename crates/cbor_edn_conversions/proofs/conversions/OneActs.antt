@@ -8,7 +8,8 @@ use Rattle.cbor_edn_model.specs.declared.label.LabelKind.TheVariants as label
 use Rattle.cbor_edn_model.specs.Seeking.{number, prefix_and_text}
 use Rattle.cbor_edn_model.specs.Trees.{Tree, OneItem, NumberTree, FloatTree, NamedTree, EnclosedTree, ListTree, StringTree, StreamTree}
 use Rattle.cbor_edn_model.specs.Visits.{fine, comment, no_memory}
-use Rattle.cbor_edn_conversions.specs.Conversions.{Conversion, Reply, reply, and_then, enclosed, told_tag}
+use Rattle.cbor_edn_model.specs.Accessed.{inner_item}
+use Rattle.cbor_edn_conversions.specs.Conversions.{Conversion, Reply, reply, and_then, told_tag}
 use Rattle.cbor_edn_conversions.specs.Times.{time_of_tag, pretty_time, resolve_time}
 use Rattle.cbor_edn_conversions.specs.Addresses.{address_of_tag, address_of_literal, pretty_address, resolve_address}
 use Rattle.cbor_edn_conversions.specs.Bignums.{quoted_item_bytes, integer_of_tag, bignum_of_tag, pretty_bignum}
@@ -43,7 +44,7 @@ module _ (f : OfTag) (nothing : f None ≡ None) (n : ℕ) (at : (i : Option Ind
   by_number i m c false e = nothing
 
   tag_idle : (w : Tree OneItem) → f (told_tag (number n) w) ≡ None
-  tag_idle (EnclosedTree (label.Tag i m) w) = by_number i m (enclosed w) (n == m) refl
+  tag_idle (EnclosedTree (label.Tag i m) w) = by_number i m (inner_item w) (n == m) refl
   tag_idle (EnclosedTree label.Simple w) = nothing
   tag_idle (NumberTree x i) = nothing
   tag_idle (FloatTree g i) = nothing

@@ -1,7 +1,8 @@
 //! The bytes of strings.
 ghost use Rattle.std.specs.Prelude.{◌≡◌, IfOk, Some, None};
+ghost use Rattle.std.specs.List.{list_all};
 ghost use Rattle.cbor_edn_parts.specs.Refusals.{IfTold};
-ghost use Rattle.cbor_edn_model.specs.Accessed.{item_bytes, piece_bytes, string_bytes, strings_bytes};
+ghost use Rattle.cbor_edn_model.specs.Accessed.{item_bytes, piece_bytes, string_bytes, strings_bytes, pieces, is_plain_piece, is_plain_string};
 ghost use Rattle.cbor_edn_model.specs.Leaves.{texts};
 ghost use Rattle.cbor_edn_model.specs.code.Adding.{Adds};
 ghost use Rattle.cbor_edn_core.specs.View.{item_tree, view_piece, view_string, view_strings};
@@ -24,6 +25,43 @@ impl Item<'_> {
         add_item(&mut bytes, self)?;
         Ok(bytes)
     }
+}
+
+impl Item<'_> {
+    /// Whether the item is a string whose pieces are all quoted and have no encoding indicator, as `h'01' + 'a'` and neither
+    /// `h'01'_0` nor `<<1>>`.
+    #[tactic(auto, using(crate::proofs::code::Views::view_string_is, crate::proofs::code::Views::view_stream_is))]
+    pub fn is_plain_string(&self) -> bool
+        ensures { result ≡ is_plain_string (item_tree self.now) }
+    {
+        match &self.inner {
+            InnerItem::String(string) => has_plain_pieces(string),
+            InnerItem::Number(..)
+            | InnerItem::NonFinite(..)
+            | InnerItem::Named(_)
+            | InnerItem::Enclosed(..)
+            | InnerItem::Array(_)
+            | InnerItem::Map(_)
+            | InnerItem::Stream(_) => false,
+        }
+    }
+}
+
+fn has_plain_pieces(string: &CborString<'_>) -> bool
+    ensures { result ≡ list_all is_plain_piece (pieces (view_string texts string.now)) }
+{
+    for (piece, _, _) in &string.row {
+        if !is_plain_piece(piece) {
+            return false;
+        }
+    }
+    is_plain_piece(&string.last)
+}
+
+fn is_plain_piece(piece: &Piece<'_>) -> bool
+    ensures { result ≡ is_plain_piece (view_piece texts piece.now) }
+{
+    matches!(piece, Piece::Literal(None, _))
 }
 
 fn add_item(out: &mut Vec<u8>, item: &Item<'_>) -> Result<(), Fault<TypeMismatch>>

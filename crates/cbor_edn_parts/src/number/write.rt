@@ -1,11 +1,14 @@
-//! Numbers that are made from integers.
-ghost use Rattle.std.specs.Prelude.{◌≡◌, IfOk};
+//! Numbers that are made from integers and from texts.
+ghost use Rattle.std.specs.Prelude.{◌≡◌, IfOk, IfSome, None};
 ghost use Rattle.std.specs.Fmt.{signed_decimal};
+ghost use Rattle.cbor_edn_parts.specs.Number.{IsNumber};
+ghost use Rattle.cbor_edn_parts.specs.code.NumberTokens as tokens;
 ghost use Rattle.cbor_edn_parts.specs.Leaves.{number_bytes};
 ghost use Rattle.cbor_edn_parts.specs.Written.{hexadecimal_text};
 
-use super::Number;
+use super::{Number, Reached};
 use crate::leaf_text::LeafText;
+use crate::scan::State;
 use std::alloc::{AllocError, Global};
 
 impl<'a> Number<'a> {
@@ -25,4 +28,31 @@ impl<'a> Number<'a> {
         let text = LeafText::own(alloc, text)?;
         Ok(Number { text })
     }
+
+    /// The number that is written so, or none where the text is no number of the grammar. Fails where memory runs out, which a
+    /// text of at most 22 bytes doesn't need.
+    pub fn written(alloc: Global, text: &str) -> Result<Option<Number<'a>>, AllocError>
+        ensures some { IfOk result (λ o. IfSome o (λ n. number_bytes n ≡ text.now)) }
+        ensures none { IfOk result (λ o. o ≡ None → IsNumber text.now → ⊥) }
+    {
+        if !is_number(text) {
+            return Ok(None);
+        }
+        let text = LeafText::joined(alloc, "", text)?;
+        Ok(Some(Number { text }))
+    }
+}
+
+/// Whether the text is a number of the grammar.
+fn is_number(text: &str) -> bool
+    ensures { result ≡ tokens.is_number text.now }
+{
+    let mut state = Reached::Start;
+    for byte in text.as_bytes() {
+        match state.step(*byte) {
+            Some(next) => state = next,
+            None => return false,
+        }
+    }
+    state.is_final()
 }
