@@ -1,0 +1,62 @@
+-- Conversions of addresses, by the texts that they take.
+use Rattle.std.proofs.Common.{◌≡◌, ℕ, ℤ, Bool, false, codes, List, [], ◌∷◌, Option, Some, None, Result, Ok, Err, refl, sym, ap, ◌∙◌, subst}
+use Rattle.std.specs.Prelude.{option_map}
+use Rattle.cbor_edn_model.specs.Accessed.{item_bytes}
+use Rattle.cbor_edn_model.specs.Trees.{Tree, OneItem}
+use Rattle.cbor_edn_model.specs.Visits.{Answer}
+use Rattle.cbor_edn_literals.specs.declared.address.IpVersion.{IpVersion}
+use Rattle.cbor_edn_conversions.specs.Integers.{item_integer}
+use Rattle.cbor_edn_conversions.specs.Conversions.{Words, Conversion, reply}
+use Rattle.cbor_edn_conversions.specs.Addresses.{whole_text, prefix_text, as_literal, by_length, by_others}
+use Rattle.std.specs.declared.net.ip_addr.IpAddr.{IpAddr}
+use Rattle.cbor_edn_parts.specs.code.ContentReading.{same}
+use Rattle.cbor_edn_literals.specs.declared.address.AddressError.{AddressError}
+use Rattle.cbor_edn_literals.specs.Address.{Reads}
+use Rattle.cbor_edn_literals.proofs.AddressReading.{computed}
+use Rattle.cbor_edn_conversions.specs.Addresses.{address_item, read_item, address_of_literal}
+use Rattle.cbor_edn_application.specs.Acts.{ActsSo}
+
+abbrev pub refused : Words → Conversion
+refused e = Err e
+
+pub other_prefix : (p t : List ℕ) → same p (codes "ip") ≡ false → same p (codes "IP") ≡ false → address_of_literal p t ≡ None
+other_prefix p t e f = rw (e, f) refl
+
+-- what a literal stands for, by the answer of its reader
+pub address_read : (wrap : Bool) (t : List ℕ) (r : Result (IpAddr × Option ℕ) AddressError) → Reads t r → address_item wrap t ≡ read_item wrap r
+address_read wrap t r h = ap (read_item wrap) (computed t r h)
+
+-- an item is answered by what is one conversion and the same as another
+pub acts_so : (o p : Option Conversion) (w v : Tree OneItem) (r : Answer) → o ≡ p → ActsSo (λ x. reply x o) w r v → ActsSo (λ x. reply x p) w r v
+acts_so o p w v r e h = subst (λ o. ActsSo (λ x. reply x o) w r v) e h
+
+abbrev text : List ℕ → Result (List ℕ) Words
+text t = Ok t
+
+text_is : (t u : Result (List ℕ) Words) → Some t ≡ Some u → t ≡ u
+text_is t u e = cc
+
+module _ (version : IpVersion) (wrap : Bool) (w : Tree OneItem) where
+  -- two elements
+  pub two_elements : (e s : Tree OneItem) (es : List (Tree OneItem)) → es ≡ s ∷ [] → by_others version wrap w e es ≡ by_length version wrap w (item_integer e) (item_bytes s)
+  two_elements e s es is = ap (by_others version wrap w e) is
+
+  pub no_length : (o : Option ℤ) (p : Option (List ℕ)) → None ≡ o → by_length version wrap w o p ≡ refused (codes "Address with prefix is inexpressible in IP'' literal")
+  no_length o p is = ap (λ o. by_length version wrap w o p) (sym is)
+
+  pub no_second : (o : Option ℤ) (p : Option (List ℕ)) (z : ℤ) → Some z ≡ o → None ≡ p → by_length version wrap w o p ≡ refused (codes "Second element after an integer must be a byte string")
+  no_second o p z is none = ap (λ o. by_length version wrap w o p) (sym is) ∙ ap (λ p. by_length version wrap w (Some z) p) (sym none)
+
+  pub length_text_is : (o : Option ℤ) (p : Option (List ℕ)) (z : ℤ) (bs : List ℕ) (t : Result (List ℕ) Words) → Some z ≡ o → Some bs ≡ p → prefix_text version z bs ≡ t → by_length version wrap w o p ≡ as_literal version wrap w t
+  length_text_is o p z bs t is are text =
+      ap (λ o. by_length version wrap w o p) (sym is) ∙ (ap (λ p. by_length version wrap w (Some z) p) (sym are) ∙ ap (as_literal version wrap w) text)
+
+-- the text of bytes
+pub text_of_bytes : (version : IpVersion) (o : Option (List ℕ)) (bs : List ℕ) (t : Result (List ℕ) Words) → Some bs ≡ o → whole_text version bs ≡ t → option_map (whole_text version) o ≡ Some t
+text_of_bytes version o bs t are is = ap (option_map (whole_text version)) (sym are) ∙ ap (λ (x : Result (List ℕ) Words). Some x) is
+
+pub resolved : (p q t u : List ℕ) (wrap : Bool) → p ≡ q → t ≡ u → ((t : List ℕ) → address_of_literal p t ≡ Some (address_item wrap t)) → Some (address_item wrap t) ≡ address_of_literal q u
+resolved p q t u wrap e f is = ap (λ t. Some (address_item wrap t)) f ∙ sym (subst (λ p. address_of_literal p u ≡ Some (address_item wrap u)) e (is u))
+
+pub unresolved : (p q u : List ℕ) → p ≡ q → ((t : List ℕ) → address_of_literal p t ≡ None) → None ≡ address_of_literal q u
+unresolved p q u e is = sym (subst (λ p. address_of_literal p u ≡ None) e (is u))

@@ -1,0 +1,14 @@
+use Rattle.cbor_edn_core.specs.View.{item_tree, standalone_tree}
+use Rattle.cbor_edn_model.specs.Leaves.{texts}
+use Rattle.cbor_edn_conversions.specs.Annotations.{with_direction}
+use Rattle.cbor_edn_application.proofs.Results.{on_some}
+use Rattle.cbor_edn_application.proofs.TagContents.{inside_acts, nothing_inside}
+use Rattle.cbor_edn_application.proofs.language.comment_content.Goals as goal
+
+pub returns-in-Some : goal.returns-in-Some
+returns-in-Some c =
+    inside_acts with_direction (standalone_tree c.args.content.now) _ (item_tree c.in-Some.array.now) (item_tree c.comment_array.new.array) _ (c.in-Some.ensures.value texts)
+    (on_some c.at_mut.result _ c.in-Some.is (c.at_mut.follows.holds c.comment_array.new.array) texts) c.comment_array.ensures
+
+pub returns-in-None : goal.returns-in-None
+returns-in-None c = absurd (nothing_inside (standalone_tree c.args.content.now) (c.in-None.ensures.value texts))

@@ -1,0 +1,8 @@
+use Rattle.std.proofs.Common.{rules}
+use Rattle.cbor_edn_model.specs.Layout.{laid}
+use Rattle.cbor_edn_parts.specs.Comments.{up_to_comma, past_comma, from_first, to_last}
+use Rattle.cbor_edn_application.proofs.tag999.tag999.Goals as goal
+
+pub returns : goal.returns
+unfolding laid up_to_comma past_comma from_first to_last
+returns c = search rules

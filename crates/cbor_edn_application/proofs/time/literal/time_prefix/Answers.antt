@@ -1,0 +1,10 @@
+use Rattle.std.proofs.Common.{inl, arith}
+use Rattle.cbor_edn_parts.specs.Space.{end, next}
+use Rattle.cbor_edn_parts.specs.Literal.{small, large}
+use Rattle.cbor_edn_application.proofs.time.literal.time_prefix.Goals as goal
+
+pub returns-then-wrap-clause-prefix : goal.returns-then-wrap-clause-prefix
+returns-then-wrap-clause-prefix c = large (omega arith, omega arith) (next (inl (omega arith, omega arith)) end)
+
+pub returns-else-wrap-clause-prefix : goal.returns-else-wrap-clause-prefix
+returns-else-wrap-clause-prefix c = small (omega arith, omega arith) (next (inl (omega arith, omega arith)) end)

@@ -1,0 +1,12 @@
+use Rattle.std.proofs.Common.{rules, refl}
+use Rattle.cbor_edn_conversions.specs.Claims.{claim_key, with_claims}
+use Rattle.cbor_edn_application.specs.Handlers.{at_claim}
+use Rattle.cbor_edn_application.proofs.Results.{on_visited}
+use Rattle.cbor_edn_application.proofs.MapVisits.{map_whole}
+use Rattle.cbor_edn_application.proofs.visits.annotate_claims.Goals as goal
+
+pub returns-clause-claims : goal.returns-clause-claims
+unfolding with_claims
+returns-clause-claims c =
+    on_visited _ c.visit_map_elements.result c.visit_map_elements.ensures.visited
+    (λ h. (map_whole claim_key at_claim _ _ (λ p q x y z s. search rules) (λ h x r y did. did) h.2 refl h.1).1)

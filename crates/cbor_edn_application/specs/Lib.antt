@@ -1,0 +1,6 @@
+pub mod Acts
+pub mod Handlers
+pub mod Places
+pub mod Refused
+pub mod TimeSteps
+pub mod Laws

@@ -1,0 +1,178 @@
+//! The texts of items that are addresses, and the literals of these texts.
+ghost use Rattle.std.specs.Prelude.{◌≡◌, ℕ, Bool, List, map, option_map, Option, Some, Ok, Err, Result, IfOk, string_bytes};
+ghost use Rattle.cbor_edn_parts.specs.Refusals.{IfTold};
+ghost use Rattle.cbor_edn_model.specs.Accessed.{item_bytes, array_items};
+ghost use Rattle.cbor_edn_model.specs.Trees.{Tree, OneItem};
+ghost use Rattle.cbor_edn_core.specs.Iterated.{items_left};
+ghost use Rattle.cbor_edn_core.specs.View.{item_tree};
+ghost use Rattle.cbor_edn_conversions.specs.Conversions.{Words};
+ghost use Rattle.cbor_edn_conversions.specs.Integers.{item_integer};
+ghost use Rattle.cbor_edn_conversions.specs.Addresses.{refusal_words, whole_text, prefix_text, as_literal, by_length, by_others, by_elements, address_literal};
+
+use super::placing::{first_literal, whole_literal};
+use crate::integers::integer_of;
+use cbor_edn_conversions::steps::{NoAddress, prefix_text, whole_text};
+use cbor_edn_core::access::ArrayItems;
+use cbor_edn_core::tree::Item;
+use cbor_edn_literals::address::IpVersion;
+use cbor_edn_parts::error::Fault;
+use std::alloc::{AllocError, Global};
+
+/// The address literal that stands for an item: for bytes, or for an array of a prefix length and bytes. Of an array whose first
+/// element is bytes, the array with the literal of these in its place. With `wrap` the item is the content of the version's tag,
+/// and what is given stands for the tag.
+#[tactic(auto, unfolding(cbor_edn_conversions::specs::Addresses::address_literal))]
+pub fn ip_item_to_aol<'a>(
+    alloc: Global,
+    item: &Item<'a>,
+    version: IpVersion,
+    wrap: bool,
+) -> Result<Item<'a>, Fault<&'static str>>
+    ensures converted { IfOk result (λ t. address_literal (item_tree item.now) version wrap ≡ Ok (item_tree t)) }
+    ensures refused { IfTold result (λ e. address_literal (item_tree item.now) version wrap ≡ Err e.now) }
+{
+    match bytes_text(alloc, version, item)? {
+        Some(text) => whole_literal(alloc, item, version, wrap, text.as_str()),
+        None => array_literal(alloc, item, version, wrap),
+    }
+}
+
+/// The same of an array.
+fn array_literal<'a>(
+    alloc: Global,
+    array: &Item<'a>,
+    version: IpVersion,
+    wrap: bool,
+) -> Result<Item<'a>, Fault<&'static str>>
+    ensures converted { IfOk result (λ t. by_elements version wrap (item_tree array.now) (array_items (item_tree array.now)) ≡ Ok (item_tree t)) }
+    ensures refused { IfTold result (λ e. by_elements version wrap (item_tree array.now) (array_items (item_tree array.now)) ≡ Err e.now) }
+{
+    let Ok(mut elements) = array.get_array_items() else {
+        return Err(Fault::Told("Unexpected type for this tag"));
+    };
+    let Some(first) = elements.next() else {
+        return Err(Fault::Told("Array too short for IP tag"));
+    };
+    match bytes_text(alloc, version, first)? {
+        Some(text) => first_literal(alloc, array, version, wrap, text.as_str()),
+        None => others_literal(alloc, array, version, wrap, first, elements),
+    }
+}
+
+/// The literal of an array whose first element is no bytes, and that has these others.
+fn others_literal<'a>(
+    alloc: Global,
+    array: &Item<'a>,
+    version: IpVersion,
+    wrap: bool,
+    first: &Item<'_>,
+    others: ArrayItems<'_, '_>,
+) -> Result<Item<'a>, Fault<&'static str>>
+    ensures converted { IfOk result (λ t. by_others version wrap (item_tree array.now) (item_tree first.now) (map item_tree (items_left others.entry)) ≡ Ok (item_tree t)) }
+    ensures refused { IfTold result (λ e. by_others version wrap (item_tree array.now) (item_tree first.now) (map item_tree (items_left others.entry)) ≡ Err e.now) }
+{
+    let text = elements_text(alloc, version, first, others)?;
+    whole_literal(alloc, array, version, wrap, text.as_str())
+}
+
+/// The text of a whole address, or none where the item is no bytes.
+fn bytes_text(
+    alloc: Global,
+    version: IpVersion,
+    item: &Item<'_>,
+) -> Result<Option<String>, Fault<&'static str>>
+    ensures text { IfOk result (λ o. option_map (whole_text version) (item_bytes (item_tree item.now)) ≡ option_map (λ s. Ok (string_bytes s)) o) }
+    ensures refused { IfTold result (λ e. option_map (whole_text version) (item_bytes (item_tree item.now)) ≡ Some (Err e.now)) }
+{
+    let Some(bytes) = bytes_of(alloc, item)? else {
+        return Ok(None);
+    };
+    let text = address_text(alloc, version, &bytes)?;
+    Ok(Some(text))
+}
+
+/// The text of an address with a prefix length, of an array whose first element is no bytes.
+fn elements_text(
+    alloc: Global,
+    version: IpVersion,
+    first: &Item<'_>,
+    mut others: ArrayItems<'_, '_>,
+) -> Result<String, Fault<&'static str>>
+    ensures text { IfOk result (λ s. (wrap : Bool) (w : Tree OneItem) → by_others version wrap w (item_tree first.now) (map item_tree (items_left others.entry)) ≡ as_literal version wrap w (Ok (string_bytes s))) }
+    ensures refused { IfTold result (λ e. (wrap : Bool) (w : Tree OneItem) → by_others version wrap w (item_tree first.now) (map item_tree (items_left others.entry)) ≡ Err e.now) }
+{
+    let Some(second) = others.next() else {
+        return Err(Fault::Told("Array too short for IP tag"));
+    };
+    if others.next().is_some() {
+        return Err(Fault::Told(
+            "Address with prefix and zone identifier is inexpressible in IP'' literal",
+        ));
+    }
+    pair_text(alloc, version, first, second)
+}
+
+/// The text of an address, of a prefix length and bytes.
+fn pair_text(
+    alloc: Global,
+    version: IpVersion,
+    first: &Item<'_>,
+    second: &Item<'_>,
+) -> Result<String, Fault<&'static str>>
+    ensures text { IfOk result (λ s. (wrap : Bool) (w : Tree OneItem) → by_length version wrap w (item_integer (item_tree first.now)) (item_bytes (item_tree second.now)) ≡ as_literal version wrap w (Ok (string_bytes s))) }
+    ensures refused { IfTold result (λ e. (wrap : Bool) (w : Tree OneItem) → by_length version wrap w (item_integer (item_tree first.now)) (item_bytes (item_tree second.now)) ≡ Err e.now) }
+{
+    let Some(prefix_length) = integer_of(first) else {
+        return Err(Fault::Told("Address with prefix is inexpressible in IP'' literal"));
+    };
+    let Some(bytes) = bytes_of(alloc, second)? else {
+        return Err(Fault::Told("Second element after an integer must be a byte string"));
+    };
+    address_prefix_text(alloc, version, prefix_length, &bytes)
+}
+
+fn address_text(
+    alloc: Global,
+    version: IpVersion,
+    bytes: &[u8],
+) -> Result<String, Fault<&'static str>>
+    ensures text { IfOk result (λ s. whole_text version bytes.now ≡ Ok (string_bytes s)) }
+    ensures refused { IfTold result (λ e. whole_text version bytes.now ≡ Err e.now) }
+{
+    in_words(whole_text(alloc, version, bytes))
+}
+
+fn address_prefix_text(
+    alloc: Global,
+    version: IpVersion,
+    prefix_length: i128,
+    bytes: &[u8],
+) -> Result<String, Fault<&'static str>>
+    ensures text { IfOk result (λ s. prefix_text version prefix_length bytes.now ≡ Ok (string_bytes s)) }
+    ensures refused { IfTold result (λ e. prefix_text version prefix_length bytes.now ≡ Err e.now) }
+{
+    in_words(prefix_text(alloc, version, prefix_length, bytes))
+}
+
+/// The bytes of a string, or none where the item is no string or means no bytes.
+fn bytes_of(alloc: Global, item: &Item<'_>) -> Result<Option<Vec<u8>>, AllocError>
+    ensures { IfOk result (λ o. option_map (λ v. v.items) o ≡ item_bytes (item_tree item.now)) }
+{
+    match item.get_bytes(alloc) {
+        Ok(bytes) => Ok(Some(bytes)),
+        Err(Fault::Told(_)) => Ok(None),
+        Err(Fault::Memory(refused)) => Err(refused),
+    }
+}
+
+/// The same with the words of a refusal.
+fn in_words(text: Result<String, Fault<NoAddress>>) -> Result<String, Fault<&'static str>>
+    ensures text { (t : Result (List ℕ) Words) → IfOk text (λ s. t ≡ Ok (string_bytes s)) → IfOk result (λ s. t ≡ Ok (string_bytes s)) }
+    ensures refused { (t : Result (List ℕ) Words) → IfTold text (λ e. t ≡ Err (refusal_words e)) → IfTold result (λ e. t ≡ Err e.now) }
+{
+    match text {
+        Ok(text) => Ok(text),
+        Err(Fault::Told(error)) => Err(Fault::Told(error.as_str())),
+        Err(Fault::Memory(refused)) => Err(Fault::Memory(refused)),
+    }
+}

@@ -1,0 +1,157 @@
+//! Literals in the place of items, where what they stand for means the same bytes.
+ghost use Rattle.std.specs.Prelude.{◌≡◌, false, Ok, Err, IfOk, OnOk, unwrap_or};
+ghost use Rattle.cbor_edn_parts.specs.Refusals.{IfTold};
+ghost use Rattle.cbor_edn_model.specs.Paths.{with_item, at_standalone, with_at_standalone};
+ghost use Rattle.cbor_edn_model.specs.Trees.{Tree, OneItem};
+ghost use Rattle.cbor_edn_core.specs.View.{item_tree, standalone_tree};
+ghost use Rattle.cbor_edn_conversions.specs.Conversions.{Conversion, converted, literal_tree, in_tag, mean_the_same};
+ghost use Rattle.cbor_edn_conversions.specs.Addresses.{address_prefix, address_tag, address_item, if_same, as_literal, as_first, with_first};
+
+use super::items::{address_item, in_tag};
+use crate::same::mean_the_same;
+use cbor_edn_core::tree::{Item, StandaloneItem};
+use cbor_edn_literals::address::IpVersion;
+use cbor_edn_parts::error::Fault;
+use std::alloc::{AllocError, Global};
+use std::mem;
+
+/// What is told where a literal would not stand for the bytes that an item means.
+pub(super) const CHANGED_ENCODING: &str = "Conversion would change the encoding";
+
+/// The literal of a text in the place of an item.
+pub(super) fn whole_literal<'a>(
+    alloc: Global,
+    item: &Item<'a>,
+    version: IpVersion,
+    wrap: bool,
+    text: &str,
+) -> Result<Item<'a>, Fault<&'static str>>
+    ensures converted { IfOk result (λ t. as_literal version wrap (item_tree item.now) (Ok text.now) ≡ Ok (item_tree t)) }
+    ensures refused { IfTold result (λ e. as_literal version wrap (item_tree item.now) (Ok text.now) ≡ Err e.now) }
+{
+    keep_encoding(alloc, item, version, wrap, address_item(alloc, wrap, text))?;
+    Ok(literal(alloc, wrap, text)?)
+}
+
+/// The array with the literal of a text in the place of its first element, with `wrap` in the tag of the version.
+pub(super) fn first_literal<'a>(
+    alloc: Global,
+    array: &Item<'a>,
+    version: IpVersion,
+    wrap: bool,
+    text: &str,
+) -> Result<Item<'a>, Fault<&'static str>>
+    ensures converted { IfOk result (λ t. as_first version wrap (item_tree array.now) (Ok text.now) ≡ Ok (item_tree t)) }
+    ensures refused { IfTold result (λ e. as_first version wrap (item_tree array.now) (Ok text.now) ≡ Err e.now) }
+{
+    let back = first_back(alloc, array, version, wrap, text);
+    keep_encoding(alloc, array, version, wrap, back)?;
+    let literal = literal(alloc, false, text)?;
+    Ok(with_first(alloc, array, version, wrap, literal)?)
+}
+
+/// The array that this one stands for: its first element is what the literal of the text stands for.
+fn first_back<'a>(
+    alloc: Global,
+    array: &Item<'a>,
+    version: IpVersion,
+    wrap: bool,
+    text: &str,
+) -> Result<Item<'a>, Fault<&'static str>>
+    ensures converted { IfOk result (λ t. converted (address_item false text.now) (λ x. Ok (with_first version wrap (item_tree array.now) x)) ≡ Ok (item_tree t)) }
+    ensures refused { IfTold result (λ e. converted (address_item false text.now) (λ x. Ok (with_first version wrap (item_tree array.now) x)) ≡ Err e.now) }
+{
+    let first = address_item(alloc, false, text)?;
+    Ok(with_first(alloc, array, version, wrap, first)?)
+}
+
+/// Fails where the item that is given means other bytes than this one, with `wrap` in the tag of the version.
+fn keep_encoding(
+    alloc: Global,
+    item: &Item<'_>,
+    version: IpVersion,
+    wrap: bool,
+    back: Result<Item<'_>, Fault<&'static str>>,
+) -> Result<(), Fault<&'static str>>
+    ensures same { (new : Tree OneItem) (c : Conversion) → IfOk back.entry (λ t. c ≡ Ok (item_tree t)) → IfTold back.entry (λ e. c ≡ Err e.now)
+        → OnOk result (if_same version wrap (item_tree item.now) new c ≡ Ok new) }
+    ensures changed { (new : Tree OneItem) (c : Conversion) → IfOk back.entry (λ t. c ≡ Ok (item_tree t)) → IfTold back.entry (λ e. c ≡ Err e.now)
+        → IfTold result (λ e. if_same version wrap (item_tree item.now) new c ≡ Err e.now) }
+{
+    let is_same = match back {
+        Ok(back) => is_same(alloc, item, version, wrap, &back)?,
+        Err(Fault::Told(_)) => false,
+        Err(Fault::Memory(refused)) => return Err(Fault::Memory(refused)),
+    };
+    if is_same {
+        Ok(())
+    } else {
+        Err(Fault::Told(CHANGED_ENCODING))
+    }
+}
+
+/// Whether another item means the same bytes as this one, with `wrap` in the tag of the version.
+fn is_same(
+    alloc: Global,
+    item: &Item<'_>,
+    version: IpVersion,
+    wrap: bool,
+    back: &Item<'_>,
+) -> Result<bool, AllocError>
+    ensures { IfOk result (λ b. b ≡ mean_the_same (in_tag wrap (address_tag version) (item_tree item.now)) (item_tree back.now)) }
+{
+    let item = in_tag(alloc, wrap, version, item.clone()?)?;
+    mean_the_same(alloc, &item, back)
+}
+
+/// `ip'192.0.2.1'`, or with `wrap` `IP'192.0.2.1'`.
+fn literal<'a>(alloc: Global, wrap: bool, text: &str) -> Result<Item<'a>, AllocError>
+    ensures { IfOk result (λ t. item_tree t ≡ literal_tree (address_prefix wrap) text.now) }
+{
+    match Item::new_application_literal(alloc, prefix_of(wrap), text) {
+        Ok(item) => Ok(item),
+        Err(Fault::Memory(refused)) => Err(refused),
+        Err(Fault::Told(_)) => unreachable!(),
+    }
+}
+
+fn prefix_of(wrap: bool) -> &'static str
+    ensures { result.now ≡ address_prefix wrap }
+{
+    if wrap { "IP" } else { "ip" }
+}
+
+/// A copy of the array with another first element, with `wrap` in the tag of the version.
+fn with_first<'a>(
+    alloc: Global,
+    array: &Item<'a>,
+    version: IpVersion,
+    wrap: bool,
+    first: Item<'a>,
+) -> Result<Item<'a>, AllocError>
+    ensures { IfOk result (λ t. item_tree t ≡ with_first version wrap (item_tree array.now) (item_tree first.entry)) }
+{
+    let copy = first_replaced(array, first)?;
+    in_tag(alloc, wrap, version, copy)
+}
+
+/// A copy of the item with another first item below it, where there is one.
+fn first_replaced<'a>(item: &Item<'a>, first: Item<'a>) -> Result<Item<'a>, AllocError>
+    ensures { IfOk result (λ t. item_tree t ≡ with_item 0 (item_tree first.entry) (item_tree item.now)) }
+{
+    let mut copy = StandaloneItem::from(item.clone()?);
+    let replaced = replace(&mut copy, &[0], first);
+    // It takes the place of the copy in turn.
+    Ok(replace(&mut copy, &[], replaced))
+}
+
+/// Puts an item where the path leads, and gives the one that stood there, or the same item where it leads nowhere.
+fn replace<'a>(tree: &mut StandaloneItem<'a>, path: &[usize], item: Item<'a>) -> Item<'a>
+    ensures put { standalone_tree tree.new ≡ with_at_standalone path.now (item_tree item.entry) (standalone_tree tree.old) }
+    ensures before { item_tree result ≡ unwrap_or (at_standalone path.now (standalone_tree tree.old)) (item_tree item.entry) }
+{
+    match tree.at_mut(path) {
+        Some(place) => mem::replace(place, item),
+        None => item,
+    }
+}

@@ -1,0 +1,96 @@
+//! Comments at the keys of claims sets, and what is done with their values.
+ghost use Rattle.std.specs.Prelude.{◌≡◌, option_map};
+ghost use Rattle.cbor_edn_core.specs.Callbacks.{key_answer, handler_of, answer_of};
+ghost use Rattle.cbor_edn_core.specs.View.{item_tree};
+ghost use Rattle.cbor_edn_conversions.specs.declared.tables.ClaimValue.TheVariants as claim_kind;
+ghost use Rattle.cbor_edn_conversions.specs.Claims.{claim_key, claim_value, confirmation_key, with_keys};
+ghost use Rattle.cbor_edn_application.specs.Handlers.{at_claim, KeyAnswers, ValueAnswers};
+
+use crate::answers::refusal;
+use crate::confirmation::comment_confirmation;
+use crate::integers::integer_of;
+use crate::reply::reply;
+use crate::time::dt_item_to_aol;
+use cbor_edn_conversions::tables::{ClaimValue, claim};
+use cbor_edn_core::tree::Item;
+use cbor_edn_core::visitor::MapValueHandler;
+use cbor_edn_parts::error::CallbackError;
+use std::alloc::Global;
+
+/// What is done with the value of a claim.
+#[derive(Clone, Copy, Debug, PartialEq, Eq)]
+pub enum CcsHandler {
+    /// A time becomes a time literal.
+    Timestamp,
+    /// The keys of a map get the names of confirmation methods.
+    Cnf,
+}
+
+/// The comment at a key of a claims set: the name of its claim, and what is done with its value.
+pub fn comment_ccs<'a>(
+    alloc: Global,
+    key: &mut Item<'a>,
+) -> Result<(Option<String>, Option<CcsHandler>), CallbackError>
+    ensures same { item_tree key.new ≡ item_tree key.old }
+    ensures answer { KeyAnswers (claim_key (item_tree key.old)) (key_answer result) (option_map at_claim (handler_of result)) }
+{
+    let Some(number) = integer_of(key) else {
+        return Ok((None, None));
+    };
+    let Some((name, value)) = claim(number) else {
+        return Ok((None, None));
+    };
+    let name = String::from_str(alloc, name)?;
+    Ok((Some(name), handler(value)))
+}
+
+/// What is done with a value, by what it is.
+fn handler(value: Option<ClaimValue>) -> Option<CcsHandler>
+    ensures { option_map at_claim result ≡ option_map claim_value value }
+{
+    match value {
+        Some(ClaimValue::Timestamp) => Some(CcsHandler::Timestamp),
+        Some(ClaimValue::Confirmation) => Some(CcsHandler::Cnf),
+        None => None,
+    }
+}
+
+impl<'a> MapValueHandler<'a> for CcsHandler {
+    ghost use Rattle.cbor_edn_core.specs.Callbacks.{answer_of};
+    ghost use Rattle.cbor_edn_core.specs.View.{item_tree};
+    ghost use Rattle.cbor_edn_application.specs.Handlers.{at_claim, ValueAnswers};
+
+    ghost handles = { λ h x r y. ValueAnswers (at_claim h) (item_tree x) (answer_of r) (item_tree y) };
+
+    fn handle(self, alloc: Global, value: &mut Item<'a>) -> Result<Option<String>, CallbackError> {
+        match self {
+            CcsHandler::Timestamp => put_time(alloc, value),
+            CcsHandler::Cnf => comment_confirmations(alloc, value),
+        }
+    }
+}
+
+/// Puts the literal of a time in its place.
+fn put_time(alloc: Global, value: &mut Item<'_>) -> Result<Option<String>, CallbackError>
+    ensures { ValueAnswers (claim_value claim_kind.Timestamp) (item_tree value.old) (answer_of result) (item_tree value.new) }
+{
+    let literal = dt_item_to_aol(alloc, value, false);
+    match reply(alloc, value, literal) {
+        Ok(()) => Ok(None),
+        Err(error) => Err(error),
+    }
+}
+
+/// The comments in the value of a claim `cnf`.
+fn comment_confirmations(
+    alloc: Global,
+    value: &mut Item<'_>,
+) -> Result<Option<String>, CallbackError>
+    ensures { ValueAnswers (with_keys confirmation_key) (item_tree value.old) (answer_of result) (item_tree value.new) }
+{
+    let answer = value.visit_map_elements(alloc, &mut |key| comment_confirmation(alloc, key));
+    match answer {
+        Ok(()) => Ok(None),
+        Err(fault) => Err(refusal(alloc, fault, "Expected map")),
+    }
+}

@@ -1,0 +1,32 @@
+//! Literals and annotations: functions that visits call, and the visits with them.
+#![tactic(auto)]
+
+mod address;
+mod all;
+mod answers;
+mod bignum;
+mod claims;
+mod confirmation;
+mod conversions;
+mod integers;
+mod language;
+pub mod laws;
+mod oscore;
+mod reply;
+mod same;
+mod tag999;
+mod tags;
+mod time;
+pub mod visits;
+
+pub use address::{ip_aol_to_item, ip_item_to_aol, ip_tag_to_aol};
+pub use all::{all_aol_to_item, all_tag_prettify};
+pub use bignum::tag23_to_edn_integer;
+pub use cbor_edn_literals::address::IpVersion;
+pub use claims::{CcsHandler, comment_ccs};
+pub use confirmation::CnfHandler;
+pub use conversions::{prettified_and_resolved, prettify, resolve};
+pub use language::comment_lang_tag;
+pub use oscore::OscHandler;
+pub use tag999::any_aol_to_tag999;
+pub use time::{dt_aol_to_item, dt_item_to_aol, dt_tag_to_aol};

@@ -1,0 +1,74 @@
+//! Literals as tags of their prefix and their text.
+ghost use Rattle.std.specs.Prelude.{◌≡◌, ◌∷◌, [], map, IfOk};
+ghost use Rattle.std.specs.String.{string_bytes};
+ghost use Rattle.cbor_edn_core.specs.Constructed.{comma_inside, element_tree};
+ghost use Rattle.cbor_edn_core.specs.Sought.{told_answer};
+ghost use Rattle.cbor_edn_core.specs.View.{item_tree};
+ghost use Rattle.cbor_edn_model.specs.Items.{Array};
+ghost use Rattle.cbor_edn_model.specs.Seeking.{prefix_and_text};
+ghost use Rattle.cbor_edn_model.specs.Trees.{ListTree, ElementTree};
+ghost use Rattle.cbor_edn_conversions.specs.Tag999.{to_tag999, tag999_tree, text_tree, is_built_in as is_built_in_text};
+ghost use Rattle.cbor_edn_application.specs.Acts.{ActsBy};
+
+use cbor_edn_core::tree::{Item, StandaloneItem};
+use cbor_edn_parts::error::CallbackError;
+use cbor_edn_parts::policy::DelimiterPolicy;
+use std::alloc::{AllocError, Global};
+
+/// Puts `999(["prefix", "text"])` in the place of a literal, whose encoding indicator is dropped. Literals of the prefixes `h`, `b64`,
+/// `b32` and `h32` stay.
+pub fn any_aol_to_tag999<'a>(
+    alloc: Global,
+    prefix: String,
+    text: String,
+    item: &mut Item<'a>,
+) -> Result<(), CallbackError>
+    ensures { ActsBy to_tag999 (prefix_and_text (string_bytes prefix) (string_bytes text)) (item_tree item.old) (told_answer result) (item_tree item.new) }
+{
+    if is_built_in(prefix.as_str()) {
+        return Ok(());
+    }
+    *item = tag999(alloc, prefix.as_str(), text.as_str())?;
+    Ok(())
+}
+
+/// Whether literals mean bytes with this prefix.
+fn is_built_in(prefix: &str) -> bool
+    ensures { result ≡ is_built_in_text prefix.now }
+{
+    matches!(prefix, "h" | "b64" | "b32" | "h32")
+}
+
+/// `999(["prefix", "text"])`
+fn tag999<'a>(alloc: Global, prefix: &str, text: &str) -> Result<Item<'a>, AllocError>
+    ensures { IfOk result (λ t. item_tree t ≡ tag999_tree prefix.now text.now) }
+{
+    let mut content = StandaloneItem::from(text_pair(alloc, prefix, text)?);
+    content.set_delimiters(alloc, DelimiterPolicy::SingleLineRegularSpacing)?;
+    content.tagged(alloc, 999)
+}
+
+/// `["prefix","text"]`
+fn text_pair<'a>(alloc: Global, prefix: &str, text: &str) -> Result<Item<'a>, AllocError>
+    ensures { IfOk result (λ t. item_tree t ≡ ListTree Array (comma_inside (ElementTree (text_tree prefix.now) ∷ ElementTree (text_tree text.now) ∷ []))) }
+{
+    let items = texts(alloc, prefix, text)?;
+    array_of(alloc, items)
+}
+
+/// `"prefix"` and `"text"`
+fn texts<'a>(alloc: Global, prefix: &str, text: &str) -> Result<Vec<Item<'a>>, AllocError>
+    ensures { IfOk result (λ v. map element_tree v.items ≡ ElementTree (text_tree prefix.now) ∷ ElementTree (text_tree text.now) ∷ []) }
+{
+    let mut items: Vec<Item<'a>> = Vec::new(alloc);
+    items.push(Item::new_text(alloc, prefix)?)?;
+    items.push(Item::new_text(alloc, text)?)?;
+    Ok(items)
+}
+
+/// An array of these items.
+fn array_of<'a>(alloc: Global, items: Vec<Item<'a>>) -> Result<Item<'a>, AllocError>
+    ensures { IfOk result (λ t. item_tree t ≡ ListTree Array (comma_inside (map element_tree items.entry.items))) }
+{
+    Item::new_array(alloc, items)
+}
