@@ -1,0 +1,9 @@
+//! Tests of literals and annotations: texts before and after, and functions that are called alone.
+#![tactic(auto)]
+
+#[cfg(test)]
+mod alone;
+#[cfg(test)]
+mod claims;
+#[cfg(test)]
+mod visited;
