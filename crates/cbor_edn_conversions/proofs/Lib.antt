@@ -1,3 +1,4 @@
 pub mod resolving
 pub mod conversions
+pub mod nesting
 pub mod examples

@@ -1,7 +1,9 @@
 -- What each conversion keeps of what items mean, and what it resolves.
 pub mod AddressesKept
 pub mod BignumsKept
+pub mod AnswersGiven
 pub mod Calls
+pub mod ClaimsKept
 pub mod ConversionsKept
 pub mod ItemBytes
 pub mod Literals

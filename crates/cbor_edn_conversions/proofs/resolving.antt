@@ -1,6 +1,7 @@
 -- What visits that replace items keep of what these mean.
 pub mod ByPrefix
 pub mod Determined
+pub mod Existing
 pub mod Flat
 pub mod ItemsKept
 pub mod ItemsOnce

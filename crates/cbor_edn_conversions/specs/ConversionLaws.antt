@@ -21,6 +21,7 @@ use Rattle.cbor_edn_conversions.specs.Times.{is_time_stamp, time_prefix, time_it
 use Rattle.cbor_edn_conversions.specs.Addresses.{address_tag, address_item, address_literal, resolve_address, pretty_address}
 use Rattle.cbor_edn_conversions.specs.Bignums.{pretty_bignum}
 use Rattle.cbor_edn_conversions.specs.All.{resolve_all, pretty_all}
+use Rattle.cbor_edn_conversions.specs.Claims.{with_claims}
 
 -- It gives values to application literals without a content alone.
 abbrev pub IsOfApplications : Resolver → Type 0
@@ -71,7 +72,11 @@ PrettyKeeps R f = (c : SoughtCall) → AnswersBy f c → Turns R R c
 abbrev pub BignumsKept : Type 0
 BignumsKept = (R : Resolver) → ResolvesNoContent R → PrettyKeeps R pretty_bignum
 
--- A call at a literal turns the one resolver into the other.
+-- A claims set with its comments means what it meant: times in it become literals, and these stand for them.
+abbrev pub ClaimsKeep : Type 0
+ClaimsKeep = (w : Tree OneItem) → TurnsTo literal_resolver literal_resolver w (with_claims w).1
+
+-- A call at a literal turns the one resolver into the other. It keeps what is meant where the two are one, also where it is refused.
 abbrev pub Resolves : (Told → Tree OneItem → Reply) → Resolver → Resolver → Type 0
 Resolves f B A = (c : SoughtCall) → IsApplication c.before c.told → AnswersBy f c → Turns B A c
 

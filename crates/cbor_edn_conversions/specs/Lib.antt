@@ -13,3 +13,5 @@ pub mod Tag999
 pub mod Annotations
 pub mod Tables
 pub mod Claims
+pub mod Nesting
+pub mod NestingLaws

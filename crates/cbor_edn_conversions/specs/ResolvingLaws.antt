@@ -1,5 +1,5 @@
 -- The laws of visits that keep what items mean, as contracts name them.
-use Rattle.std.specs.Prelude.{◌≡◌, ℕ, false, List, Option, Some, All}
+use Rattle.std.specs.Prelude.{◌≡◌, ◌≢◌, ℕ, false, List, Option, Some, All}
 use Rattle.cbor_edn_parts.specs.declared.indicator.Indicator.{Indicator}
 use Rattle.cbor_edn_parts.specs.Literal.{Prefixed, IsLiteral}
 use Rattle.cbor_edn_parts.specs.code.ContentReading.{is_supported_prefix}
@@ -9,7 +9,7 @@ use Rattle.cbor_edn_model.specs.Meaning.{MeaningOf, means}
 use Rattle.cbor_edn_model.specs.Seeking.{Told, SoughtCall, VisitParts, IsTag, IsApplication}
 use Rattle.cbor_edn_model.specs.Trees.{Tree, OneItem, Seq, Standalone, items}
 use Rattle.cbor_edn_model.specs.Value.{Value, Values, Fits, ValuesFit}
-use Rattle.cbor_edn_model.specs.Visits.{Answer, Ending, whole}
+use Rattle.cbor_edn_model.specs.Visits.{Answer, no_memory, Ending, whole}
 use Rattle.cbor_edn_conversions.specs.Resolving.{Resolver, no_resolver, means_by, DifferAtPrefixes, ResolvesApplications, ResolvesNoContent, Turns, TurnsExactly, AnswersBy, by_prefix}
 use Rattle.cbor_edn_conversions.specs.VisitedItems.{IsTagNode, IsApplicationNode, ReachedItem, VisitedNode, Answered, LeavesAnswer, TurnsItem}
 
@@ -86,6 +86,16 @@ abbrev pub VisitedOnce : (Tree OneItem → Told → Type 0) → Type 0
 VisitedOnce IsSought = (f : Told → Tree OneItem → Answer × Tree OneItem) (cs ds : List SoughtCall) → All (AnswersBy f) cs → All (AnswersBy f) ds
     → ((w v u : Tree Standalone) → VisitParts IsSought _ w cs v whole → VisitParts IsSought _ w ds u whole → (v ≡ u) × (cs ≡ ds))
     × ((w v u : Tree Seq) → VisitParts IsSought _ w cs v whole → VisitParts IsSought _ w ds u whole → (v ≡ u) × (cs ≡ ds))
+
+-- The function answers without memory.
+abbrev pub NeverRefused : (Told → Tree OneItem → Answer × Tree OneItem) → Type 0
+NeverRefused f = (a : Told) (w : Tree OneItem) → (f a w).0 ≢ no_memory
+
+-- By such answers each tree has a whole visit.
+abbrev pub VisitsExist : (Tree OneItem → Told → Type 0) → Type 0
+VisitsExist IsSought = (f : Told → Tree OneItem → Answer × Tree OneItem) → NeverRefused f
+    → ((w : Tree Standalone) → (v : Tree Standalone) × (cs : List SoughtCall) × All (AnswersBy f) cs × VisitParts IsSought _ w cs v whole)
+    × ((w : Tree Seq) → (v : Tree Seq) × (cs : List SoughtCall) × All (AnswersBy f) cs × VisitParts IsSought _ w cs v whole)
 
 -- ---- items alone
 

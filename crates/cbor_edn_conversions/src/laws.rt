@@ -1,13 +1,17 @@
 //! Laws of the definitions that conversions cite. Each function's contract is one, and its body does nothing.
 ghost use Rattle.cbor_edn_model.specs.Seeking.{IsTag, IsApplication};
 ghost use Rattle.cbor_edn_conversions.specs.Resolving.{no_resolver};
-ghost use Rattle.cbor_edn_conversions.specs.ResolvingLaws.{NoneResolved, DecodedUnresolved, VisitKeeps, VisitKeepsExactly, VisitResolves, VisitResolvesExactly, ResolvedAgain, ResolvedInTurn, ResolversByPrefix, VisitedOnce, VisitsItems, ItemsVisitedOnce, VisitsTurnItems, ItemsResolvedAgain, AnswersResolvedAgain};
+ghost use Rattle.cbor_edn_conversions.specs.ResolvingLaws.{NoneResolved, DecodedUnresolved, VisitKeeps, VisitKeepsExactly, VisitResolves, VisitResolvesExactly, ResolvedAgain, ResolvedInTurn, ResolversByPrefix, VisitedOnce, NeverRefused, VisitsExist, VisitsItems, ItemsVisitedOnce, VisitsTurnItems, ItemsResolvedAgain, AnswersResolvedAgain};
 ghost use Rattle.cbor_edn_conversions.specs.VisitedItems.{IsTagNode, IsApplicationNode};
 ghost use Rattle.cbor_edn_conversions.specs.Resolvers.{time_resolver, address_resolver, literal_resolver};
 ghost use Rattle.cbor_edn_conversions.specs.Times.{resolve_time, pretty_time};
 ghost use Rattle.cbor_edn_conversions.specs.Addresses.{resolve_address, pretty_address};
 ghost use Rattle.cbor_edn_conversions.specs.All.{resolve_all, pretty_all};
-ghost use Rattle.cbor_edn_conversions.specs.ConversionLaws.{IsOfApplications, LiteralsStandFor, LiteralsOfItems, EncodingsComputed, OnOneLine, StampsTested, TimesReadBack, PrettyKeeps, BignumsKept, Resolves, PrettyByNumber, ResolvedByPrefix, PrettyResolvedAgain, PrettyResolvedInTurn, ItemsResolvedBack};
+ghost use Rattle.cbor_edn_conversions.specs.Bignums.{pretty_bignum};
+ghost use Rattle.cbor_edn_conversions.specs.Annotations.{comment_lang};
+ghost use Rattle.cbor_edn_conversions.specs.Tag999.{to_tag999};
+ghost use Rattle.cbor_edn_conversions.specs.NestingLaws.{NestsAsMeant, DecodedIsDirect, VisitKeepsDirect, CallsKeepDirect, ClaimsKeepDirect, LanguageKeepsItems};
+ghost use Rattle.cbor_edn_conversions.specs.ConversionLaws.{IsOfApplications, LiteralsStandFor, LiteralsOfItems, EncodingsComputed, OnOneLine, StampsTested, TimesReadBack, PrettyKeeps, BignumsKept, ClaimsKeep, Resolves, PrettyByNumber, ResolvedByPrefix, PrettyResolvedAgain, PrettyResolvedInTurn, ItemsResolvedBack};
 
 /// By no resolver items mean what they mean, and decoded items mean the same by any of application literals.
 pub fn decoded_means()
@@ -50,6 +54,12 @@ pub fn visited_once()
     ensures literal_items { ItemsVisitedOnce IsApplicationNode }
 {}
 
+/// By answers that take no memory each tree has a whole visit.
+pub fn visits_exist()
+    ensures tags { VisitsExist IsTag }
+    ensures literals { VisitsExist IsApplication }
+{}
+
 /// A whole visit of a tree is one of its items.
 pub fn visits_items()
     ensures tags { VisitsItems IsTag IsTagNode }
@@ -74,7 +84,7 @@ pub fn conversions()
     ensures items { LiteralsOfItems }
 {}
 
-/// Items that are prettified mean what they meant.
+/// Items that are prettified mean what they meant, and so do claims sets with their comments.
 pub fn pretty_calls_keep()
     ensures times { PrettyKeeps time_resolver pretty_time }
     ensures addresses { PrettyKeeps address_resolver pretty_address }
@@ -82,13 +92,16 @@ pub fn pretty_calls_keep()
     ensures times_of_all { PrettyKeeps literal_resolver pretty_time }
     ensures addresses_of_all { PrettyKeeps literal_resolver pretty_address }
     ensures all { PrettyKeeps literal_resolver pretty_all }
+    ensures claims { ClaimsKeep }
 {}
 
 /// Literals that are resolved mean what they stood for.
 pub fn calls_resolve()
     ensures times_of_all { Resolves resolve_time literal_resolver address_resolver }
+    ensures times_kept { Resolves resolve_time literal_resolver literal_resolver }
     ensures times { Resolves resolve_time time_resolver no_resolver }
     ensures addresses_of_all { Resolves resolve_address literal_resolver time_resolver }
+    ensures addresses_kept { Resolves resolve_address literal_resolver literal_resolver }
     ensures addresses { Resolves resolve_address address_resolver no_resolver }
     ensures all { Resolves resolve_all literal_resolver no_resolver }
 {}
@@ -104,4 +117,48 @@ pub fn pretty_resolved_again()
     ensures one_visit { PrettyResolvedAgain }
     ensures in_turn { PrettyResolvedInTurn }
     ensures of_items { ItemsResolvedBack }
+{}
+
+/// Calls of conversions and of comments take no memory.
+pub fn answers_given()
+    ensures pretty_times { NeverRefused pretty_time }
+    ensures pretty_addresses { NeverRefused pretty_address }
+    ensures pretty_bignums { NeverRefused pretty_bignum }
+    ensures all_pretty { NeverRefused pretty_all }
+    ensures resolved_times { NeverRefused resolve_time }
+    ensures resolved_addresses { NeverRefused resolve_address }
+    ensures all_resolved { NeverRefused resolve_all }
+    ensures others { NeverRefused to_tag999 }
+    ensures comments { NeverRefused comment_lang }
+{}
+
+/// Direct items nest no deeper than those of the values that they mean, and decoded items are direct.
+pub fn nest_as_meant()
+    ensures within { NestsAsMeant }
+    ensures decoded { DecodedIsDirect }
+{}
+
+/// Visits leave direct items direct where their calls do.
+pub fn visits_keep_direct()
+    ensures tags { VisitKeepsDirect IsTag }
+    ensures literals { VisitKeepsDirect IsApplication }
+{}
+
+/// Calls of conversions leave direct items direct.
+pub fn calls_keep_direct()
+    ensures pretty_times { CallsKeepDirect pretty_time }
+    ensures pretty_addresses { CallsKeepDirect pretty_address }
+    ensures pretty_bignums { CallsKeepDirect pretty_bignum }
+    ensures all_pretty { CallsKeepDirect pretty_all }
+    ensures resolved_times { CallsKeepDirect resolve_time }
+    ensures resolved_addresses { CallsKeepDirect resolve_address }
+    ensures all_resolved { CallsKeepDirect resolve_all }
+    ensures others { CallsKeepDirect to_tag999 }
+{}
+
+/// So do annotations.
+pub fn annotations_keep_direct()
+    ensures claims { ClaimsKeepDirect }
+    ensures comments { CallsKeepDirect comment_lang }
+    ensures comments_alone { LanguageKeepsItems }
 {}

@@ -1,6 +1,6 @@
 -- The laws.
-use Rattle.std.proofs.Common.{List, [], ◌∷◌, All, sym, ap, ◌∙◌, subst}
-use Rattle.std.proofs.lemmas.List.Elements.{All-nil, All-cons, All-head, All-tail}
+use Rattle.std.proofs.Common.{List, All, sym, ap, ◌∙◌, subst}
+use Rattle.std.proofs.lemmas.List.Elements.{All-weaker}
 use Rattle.cbor_edn_model.specs.Items.{Item, Node}
 use Rattle.cbor_edn_model.specs.Seeking.{Told, SoughtCall, VisitParts, IsApplication}
 use Rattle.cbor_edn_model.specs.Trees.{Rule, Tree, OneItem, Seq, Standalone}
@@ -15,14 +15,15 @@ use Rattle.cbor_edn_conversions.specs.Times.{resolve_time, pretty_time}
 use Rattle.cbor_edn_conversions.specs.Addresses.{resolve_address, pretty_address}
 use Rattle.cbor_edn_conversions.specs.Bignums.{pretty_bignum}
 use Rattle.cbor_edn_conversions.specs.All.{resolve_all, pretty_all}
-use Rattle.cbor_edn_conversions.specs.ConversionLaws.{IsOfApplications, LiteralsStandFor, LiteralsOfItems, PrettyKeeps, BignumsKept, Resolves, PrettyResolvedAgain, PrettyResolvedInTurn, Made, ItemsResolvedBack}
+use Rattle.cbor_edn_conversions.specs.ConversionLaws.{IsOfApplications, LiteralsStandFor, LiteralsOfItems, PrettyKeeps, BignumsKept, ClaimsKeep, Resolves, PrettyResolvedAgain, PrettyResolvedInTurn, Made, ItemsResolvedBack}
 use Rattle.cbor_edn_conversions.proofs.conversions.Calls.{turns_to, then_turns}
 use Rattle.cbor_edn_conversions.proofs.conversions.Literals.{time_applications, address_applications, all_applications, time_no_content, address_no_content, all_no_content, time_gives, address_gives, all_gives_times, all_gives_addresses}
 use Rattle.cbor_edn_conversions.proofs.conversions.TimesKept.{time_item_turns, time_turns}
 use Rattle.cbor_edn_conversions.proofs.conversions.AddressesKept.{address_item_turns, address_turns}
 use Rattle.cbor_edn_conversions.proofs.conversions.BignumsKept.{bignum_turns}
-use Rattle.cbor_edn_conversions.proofs.conversions.LiteralsResolved.{time_is, address_is, time_resolved, time_resolved_alone, address_resolved, address_resolved_alone, all_resolved}
-use Rattle.cbor_edn_conversions.proofs.conversions.Sought.{Sought, parts_sought}
+use Rattle.cbor_edn_conversions.proofs.conversions.ClaimsKept.{claims_turn}
+use Rattle.cbor_edn_conversions.proofs.conversions.LiteralsResolved.{time_is, address_is, time_resolved, time_resolved_kept, time_resolved_alone, address_resolved, address_resolved_kept, address_resolved_alone, all_resolved}
+use Rattle.cbor_edn_conversions.proofs.conversions.Sought.{sought_all}
 
 -- ---- resolvers
 
@@ -66,14 +67,23 @@ all_turns a w =
 pub all_keep : PrettyKeeps literal_resolver pretty_all
 all_keep c is = turns_to literal_resolver literal_resolver pretty_all c is (all_turns c.told c.before)
 
+pub claims_keep : ClaimsKeep
+claims_keep = claims_turn literal_resolver all_gives_times
+
 pub time_resolves : Resolves resolve_time literal_resolver address_resolver
 time_resolves c sought is = turns_to literal_resolver address_resolver resolve_time c is (time_resolved c.told c.before sought)
+
+pub time_resolves_kept : Resolves resolve_time literal_resolver literal_resolver
+time_resolves_kept c sought is = turns_to literal_resolver literal_resolver resolve_time c is (time_resolved_kept c.told c.before sought)
 
 pub time_resolves_alone : Resolves resolve_time time_resolver no_resolver
 time_resolves_alone c sought is = turns_to time_resolver no_resolver resolve_time c is (time_resolved_alone c.told c.before sought)
 
 pub address_resolves : Resolves resolve_address literal_resolver time_resolver
 address_resolves c sought is = turns_to literal_resolver time_resolver resolve_address c is (address_resolved c.told c.before sought)
+
+pub address_resolves_kept : Resolves resolve_address literal_resolver literal_resolver
+address_resolves_kept c sought is = turns_to literal_resolver literal_resolver resolve_address c is (address_resolved_kept c.told c.before sought)
 
 pub address_resolves_alone : Resolves resolve_address address_resolver no_resolver
 address_resolves_alone c sought is = turns_to address_resolver no_resolver resolve_address c is (address_resolved_alone c.told c.before sought)
@@ -84,18 +94,10 @@ all_resolve c sought is = turns_to literal_resolver no_resolver resolve_all c is
 -- ---- visits
 
 all_calls : (f : Told → Tree OneItem → Reply) → PrettyKeeps literal_resolver f → (cs : List SoughtCall) → All (AnswersBy f) cs → All (Turns literal_resolver literal_resolver) cs
-all_calls f keeps [] h = All-nil (Turns literal_resolver literal_resolver)
-all_calls f keeps (c ∷ cs) h = All-cons (Turns literal_resolver literal_resolver) c cs (keeps c (All-head (AnswersBy f) c cs h)) (all_calls f keeps cs (All-tail (AnswersBy f) c cs h))
+all_calls f keeps cs h = All-weaker (AnswersBy f) (Turns literal_resolver literal_resolver) keeps cs h
 
-module _ (f : Told → Tree OneItem → Reply) (B A : Resolver) (resolves : Resolves f B A) where
-  sought_calls : (cs : List SoughtCall) → All (Sought IsApplication) cs → All (AnswersBy f) cs → All (Turns B A) cs
-  sought_calls [] s h = All-nil (Turns B A)
-  sought_calls (c ∷ cs) s h =
-      All-cons (Turns B A) c cs (resolves c (All-head (Sought IsApplication) c cs s) (All-head (AnswersBy f) c cs h))
-      (sought_calls cs (All-tail (Sought IsApplication) c cs s) (All-tail (AnswersBy f) c cs h))
-
-  visit_calls : (k : Rule) (w v : Tree k) (cs : List SoughtCall) (r : Ending) → VisitParts IsApplication k w cs v r → All (AnswersBy f) cs → All (Turns B A) cs
-  visit_calls k w v cs r visit h = sought_calls cs (parts_sought IsApplication visit) h
+visit_calls : (f : Told → Tree OneItem → Reply) (B A : Resolver) → Resolves f B A → (k : Rule) (w v : Tree k) (cs : List SoughtCall) (r : Ending) → VisitParts IsApplication k w cs v r → All (AnswersBy f) cs → All (Turns B A) cs
+visit_calls f B A resolves k w v cs r visit h = sought_all IsApplication (AnswersBy f) (Turns B A) resolves visit h
 
 pub pretty_resolved_again : PrettyResolvedAgain
 pretty_resolved_again cs ds r pretty resolve =

@@ -27,7 +27,7 @@ use Rattle.cbor_edn_conversions.specs.Resolvers.{TurnsTo, value_of, time_value, 
 use Rattle.cbor_edn_conversions.specs.Times.{time_prefix, time_item, time_of_literal, resolve_time}
 use Rattle.cbor_edn_conversions.specs.Addresses.{address_prefix, address_item, address_of_literal, resolve_address}
 use Rattle.cbor_edn_conversions.specs.All.{resolve_all}
-use Rattle.cbor_edn_conversions.proofs.conversions.Literals.{time_no_content, address_no_content, no_address_of_time, no_time_of_address, time_unsupported, address_unsupported, or_nothing}
+use Rattle.cbor_edn_conversions.proofs.conversions.Literals.{time_no_content, address_no_content, all_no_content, no_address_of_time, no_time_of_address, time_unsupported, address_unsupported, or_nothing}
 
 -- ---- one literal
 
@@ -75,6 +75,13 @@ module _ (B A : Resolver) (no_content : ResolvesNoContent A) (w : Tree OneItem) 
   conversion_turns None none some = left_turns (none refl)
   conversion_turns (Some (Err e)) none some = let h = some (Err e) refl in left_turns (h.0 ∙ sym h.1)
   conversion_turns (Some (Ok v)) none some = let h = some (Ok v) refl in becomes_turns v (means (items v)) refl h.0 h.2
+
+-- The same by one resolver, which gives the literal what it becomes means.
+conversion_keeps : (R : Resolver) → ResolvesNoContent R → (w : Tree OneItem) (x : List ℕ) (i : Option Indicator) → items w ≡ String (LastPiece (Literal x i))
+    → (o : Option Conversion) → ((c : Conversion) → o ≡ Some c → (R x i ≡ value_of o) × (literal_content x ≡ None)) → TurnsTo R R w (reply w o).1
+conversion_keeps R no_content w x i is None some u e = e
+conversion_keeps R no_content w x i is (Some (Err t)) some u e = e
+conversion_keeps R no_content w x i is (Some (Ok v)) some u e = let h = some (Ok v) refl in becomes_turns R R no_content w x i is v (means (items v)) refl h.0 h.1 u e
 
 -- ---- what the resolvers give a literal
 
@@ -152,6 +159,13 @@ module _ (p t x : List ℕ) (i : Option Indicator) (is : IsLiteral (Prefixed p) 
   address_some : (c : Conversion) → address_of_literal p t ≡ Some c → (time_of_literal p t ≡ None) × (literal_content x ≡ None)
   address_some c e = converted_alone address_prefix address_item address_content time_of_literal no_time_of_address p t x is c e
 
+  -- so both resolvers give it what it becomes means
+  all_of_time : (c : Conversion) → time_of_literal p t ≡ Some c → literal_resolver x i ≡ time_value p t
+  all_of_time c e = ap (λ o. or_else (time_resolver x i) o) (address_is ∙ ap value_of (time_some c e).0) ∙ (or_nothing (time_resolver x i) ∙ time_is)
+
+  all_of_address : (c : Conversion) → address_of_literal p t ≡ Some c → literal_resolver x i ≡ address_value p t
+  all_of_address c e = ap (λ o. or_else o (address_resolver x i)) (time_is ∙ ap value_of (address_some c e).0) ∙ address_is
+
 -- ---- the calls
 
 module _ (w : Tree OneItem) (p t : List ℕ) (l : LiteralItem (items w) p t) where
@@ -166,10 +180,12 @@ module _ (w : Tree OneItem) (p t : List ℕ) (l : LiteralItem (items w) p t) whe
   time_of_all =
       conversion_turns literal_resolver address_resolver address_no_content w l.text l.indicator l.is (time_of_literal p t)
       (λ none. ap (λ o. or_else o (address_resolver x i)) (time_is p t x i l.literal ∙ ap value_of none))
-      (λ c some.
-      let h = time_some p t x i l.literal c some in
-      let other : address_resolver x i ≡ None = address_is p t x i l.literal ∙ ap value_of h.0 in
-      (ap (λ o. or_else (time_resolver x i) o) other ∙ (or_nothing (time_resolver x i) ∙ time_is p t x i l.literal), other, h.1))
+      (λ c some. let h = time_some p t x i l.literal c some in (all_of_time p t x i l.literal c some, address_is p t x i l.literal ∙ ap value_of h.0, h.1))
+
+  time_kept : TurnsTo literal_resolver literal_resolver w (reply w (time_of_literal p t)).1
+  time_kept =
+      conversion_keeps literal_resolver all_no_content w l.text l.indicator l.is (time_of_literal p t)
+      (λ c some. (all_of_time p t x i l.literal c some, (time_some p t x i l.literal c some).1))
 
   time_alone : TurnsTo time_resolver no_resolver w (reply w (time_of_literal p t)).1
   time_alone =
@@ -181,10 +197,12 @@ module _ (w : Tree OneItem) (p t : List ℕ) (l : LiteralItem (items w) p t) whe
   address_of_all =
       conversion_turns literal_resolver time_resolver time_no_content w l.text l.indicator l.is (address_of_literal p t)
       (λ none. ap (λ o. or_else (time_resolver x i) o) (address_is p t x i l.literal ∙ ap value_of none) ∙ or_nothing (time_resolver x i))
-      (λ c some.
-      let h = address_some p t x i l.literal c some in
-      let other : time_resolver x i ≡ None = time_is p t x i l.literal ∙ ap value_of h.0 in
-      (ap (λ o. or_else o (address_resolver x i)) other ∙ address_is p t x i l.literal, other, h.1))
+      (λ c some. let h = address_some p t x i l.literal c some in (all_of_address p t x i l.literal c some, time_is p t x i l.literal ∙ ap value_of h.0, h.1))
+
+  address_kept : TurnsTo literal_resolver literal_resolver w (reply w (address_of_literal p t)).1
+  address_kept =
+      conversion_keeps literal_resolver all_no_content w l.text l.indicator l.is (address_of_literal p t)
+      (λ c some. (all_of_address p t x i l.literal c some, (address_some p t x i l.literal c some).1))
 
   address_alone : TurnsTo address_resolver no_resolver w (reply w (address_of_literal p t)).1
   address_alone =
@@ -197,10 +215,7 @@ module _ (w : Tree OneItem) (p t : List ℕ) (l : LiteralItem (items w) p t) whe
   all_by_time c some =
       conversion_turns literal_resolver no_resolver (λ x i v e. absurd cc) w l.text l.indicator l.is (time_of_literal p t)
       (λ none. let both : None ≡ Some c = sym none ∙ some in absurd cc)
-      (λ c some.
-      let h = time_some p t x i l.literal c some in
-      let other : address_resolver x i ≡ None = address_is p t x i l.literal ∙ ap value_of h.0 in
-      (ap (λ o. or_else (time_resolver x i) o) other ∙ (or_nothing (time_resolver x i) ∙ time_is p t x i l.literal), refl, h.1))
+      (λ c some. (all_of_time p t x i l.literal c some, refl, (time_some p t x i l.literal c some).1))
 
   all_by_address : time_of_literal p t ≡ None → TurnsTo literal_resolver no_resolver w (reply w (address_of_literal p t)).1
   all_by_address none_of_time =
@@ -235,6 +250,11 @@ unfolding resolve_time
 time_resolved (number n) w h = absurd h
 time_resolved (prefix_and_text p t) w h = time_of_all w p t (told_literal w p t h)
 
+pub time_resolved_kept : (a : Told) (w : Tree OneItem) → IsApplication w a → TurnsTo literal_resolver literal_resolver w (resolve_time a w).1
+unfolding resolve_time
+time_resolved_kept (number n) w h = absurd h
+time_resolved_kept (prefix_and_text p t) w h = time_kept w p t (told_literal w p t h)
+
 pub time_resolved_alone : (a : Told) (w : Tree OneItem) → IsApplication w a → TurnsTo time_resolver no_resolver w (resolve_time a w).1
 unfolding resolve_time
 time_resolved_alone (number n) w h = absurd h
@@ -244,6 +264,11 @@ pub address_resolved : (a : Told) (w : Tree OneItem) → IsApplication w a → T
 unfolding resolve_address
 address_resolved (number n) w h = absurd h
 address_resolved (prefix_and_text p t) w h = address_of_all w p t (told_literal w p t h)
+
+pub address_resolved_kept : (a : Told) (w : Tree OneItem) → IsApplication w a → TurnsTo literal_resolver literal_resolver w (resolve_address a w).1
+unfolding resolve_address
+address_resolved_kept (number n) w h = absurd h
+address_resolved_kept (prefix_and_text p t) w h = address_kept w p t (told_literal w p t h)
 
 pub address_resolved_alone : (a : Told) (w : Tree OneItem) → IsApplication w a → TurnsTo address_resolver no_resolver w (resolve_address a w).1
 unfolding resolve_address

@@ -61,10 +61,10 @@ visits_resolve_exactly B A differ cs all = (λ w v a. visit_resolves_exactly B A
 unprefixed_none : (R : Resolver) → ResolvesApplications R → (x : List ℕ) (i : Option Indicator) → IsUnprefixed x → R x i ≡ None
 unprefixed_none R n x i none = n x i (λ p t is. absurd (none p t is))
 
-both_differ : (R Q : Resolver) → ResolvesApplications R → ResolvesApplications Q → DifferAtPrefixes R Q
+pub both_differ : (R Q : Resolver) → ResolvesApplications R → ResolvesApplications Q → DifferAtPrefixes R Q
 both_differ R Q n m x i none = unprefixed_none R n x i none ∙ sym (unprefixed_none Q m x i none)
 
-none_applications : ResolvesApplications no_resolver
+pub none_applications : ResolvesApplications no_resolver
 none_applications x i n = refl
 
 -- The items of a value mean it by resolvers of application literals.

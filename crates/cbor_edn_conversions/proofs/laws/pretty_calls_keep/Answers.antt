@@ -1,5 +1,5 @@
 -- The laws of `pretty_calls_keep`, as lemmas have them.
-use Rattle.cbor_edn_conversions.proofs.conversions.ConversionsKept.{time_keeps, address_keeps, bignum_keeps, time_keeps_all, address_keeps_all, all_keep}
+use Rattle.cbor_edn_conversions.proofs.conversions.ConversionsKept.{time_keeps, address_keeps, bignum_keeps, time_keeps_all, address_keeps_all, all_keep, claims_keep}
 use Rattle.cbor_edn_conversions.proofs.laws.pretty_calls_keep.Goals as goal
 
 pub returns-clause-times : goal.returns-clause-times
@@ -19,3 +19,6 @@ returns-clause-addresses_of_all c = address_keeps_all
 
 pub returns-clause-all : goal.returns-clause-all
 returns-clause-all c = all_keep
+
+pub returns-clause-claims : goal.returns-clause-claims
+returns-clause-claims c = claims_keep

@@ -1,0 +1,5 @@
+-- How deep items nest that conversions leave.
+pub mod DirectAnswers
+pub mod DirectClaims
+pub mod DirectVisits
+pub mod Meant

@@ -1,0 +1,38 @@
+-- Items that nest as deep as the values that they mean.
+use Rattle.std.specs.Prelude.{◌≢◌, Some}
+use Rattle.cbor_edn_model.specs.declared.word.NamedSimple.{NamedSimple}
+use Rattle.cbor_edn_model.specs.Items.{Sort, Item, Node, Number, Float, Listed, Tagged, Named, Simple, String, Stream, Literal, Dots, Embedded, LastPiece, Plus, Element, Pair, Chunk, End, Then}
+use Rattle.cbor_edn_model.specs.Meaning.{means_simple, named_number}
+use Rattle.cbor_edn_model.specs.Seeking.{SoughtCall}
+use Rattle.cbor_edn_model.specs.Trees.{items}
+use Rattle.cbor_edn_model.specs.Value.{simple}
+
+-- What stands in `simple(..)` is no value with a word: 42 is none, 20 is `false`.
+abbrev pub HasNoWord : Node Item → Type 0
+HasNoWord w = (b : NamedSimple) → means_simple w ≢ Some (simple (named_number b))
+
+-- No sequence is embedded in the items, and each simple value with a word is that word: `[1, simple(42), false]`, with neither `<<1>>` nor
+-- `simple(20)`, which nest one level deeper than `h'01'` and `false`.
+abbrev pub IsDirect : {s : Sort} → Node s → Type 0
+IsDirect (Number x i) = Unit {0}
+IsDirect (Float f i) = Unit {0}
+IsDirect (Listed k i m) = IsDirect m
+IsDirect (Tagged n i w) = IsDirect w
+IsDirect (Named b) = Unit {0}
+IsDirect (Simple w) = HasNoWord w
+IsDirect (String w) = IsDirect w
+IsDirect (Stream m) = IsDirect m
+IsDirect (Literal x i) = Unit {0}
+IsDirect (Dots x) = Unit {0}
+IsDirect (Embedded m i) = ⊥
+IsDirect (LastPiece p) = IsDirect p
+IsDirect (Plus p w) = IsDirect p × IsDirect w
+IsDirect (Element w) = IsDirect w
+IsDirect (Pair v w) = IsDirect v × IsDirect w
+IsDirect (Chunk w) = IsDirect w
+IsDirect End = Unit {0}
+IsDirect (Then e m) = IsDirect e × IsDirect m
+
+-- A call leaves such items where it finds such.
+abbrev pub StaysDirect : SoughtCall → Type 0
+StaysDirect c = IsDirect (items c.before) → IsDirect (items c.after)
