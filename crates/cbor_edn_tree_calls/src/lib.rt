@@ -2,7 +2,7 @@
 //! here is that of a small crate, and what a clause refuses here it refuses where the call is written.
 #![tactic(auto)]
 
-ghost use Rattle.std.specs.Prelude.{◌≡◌, ℕ, ℤ, FitsSigned, option_map, map, List, Some, None, IfOk, IfErr, OnOk};
+ghost use Rattle.std.specs.Prelude.{◌≡◌, ℕ, ℤ, FitsSigned, option_map, map, List, Some, None, IfOk, IfErr, IfSome, OnOk};
 ghost use Rattle.std.specs.Int.{w128};
 ghost use Rattle.std.specs.String.{string_bytes};
 ghost use Rattle.cbor_edn_core.specs.Callbacks.{IsCall, IsKeyCall, IfVisited, ending};
@@ -13,20 +13,22 @@ ghost use Rattle.cbor_edn_core.specs.Lent.{with_tag_content};
 ghost use Rattle.cbor_edn_core.specs.Mismatch.{IsIntegerMismatch, literal_mismatch};
 ghost use Rattle.cbor_edn_core.specs.Sought.{IsTagCall, IsLiteralCall, MayVisitTags, MayVisitLiterals};
 ghost use Rattle.cbor_edn_core.specs.View.{item_tree, sequence_tree, standalone_tree};
-ghost use Rattle.cbor_edn_model.specs.Accessed.{IsApplicationItem, IsIntegerItem, IsLiteralItem, array_items, item_bytes, map_items, string_tree, tag_content, tag_number};
+ghost use Rattle.cbor_edn_model.specs.Accessed.{IsApplicationItem, IsIntegerItem, IsLiteralItem, array_items, item_bytes, map_items, string_tree, tag_content, tag_head, tag_number};
 ghost use Rattle.cbor_edn_model.specs.Commented.{commented};
+ghost use Rattle.cbor_edn_model.specs.Decoded.{alone};
 ghost use Rattle.cbor_edn_model.specs.Items.{Array, Map};
 ghost use Rattle.cbor_edn_model.specs.Paths.{at_sequence, items_in};
 ghost use Rattle.cbor_edn_model.specs.Seeking.{SoughtCall, VisitParts, IsTag, IsApplication};
-ghost use Rattle.cbor_edn_model.specs.Trees.{ListTree, text};
+ghost use Rattle.cbor_edn_model.specs.Trees.{ListTree, NumberTree, text};
 ghost use Rattle.cbor_edn_model.specs.Visits.{Call, KeyCall, Chain, VisitArray, VisitMap};
+ghost use Rattle.cbor_edn_parts.specs.Number.{IsNumber};
 ghost use Rattle.cbor_edn_parts.specs.Refusals.{IfTold};
 ghost use Rattle.cbor_edn_tree_calls.specs.Callable.{AlwaysCallable};
 
 use cbor_edn_core::access::{
     ArrayItems, ArrayItemsMut, MapItems, MapItemsMut, SequenceItemsMut, TypeMismatch,
 };
-use cbor_edn_core::tree::{Item, Sequence, StandaloneItem};
+use cbor_edn_core::tree::{Indicator, Item, Sequence, StandaloneItem};
 use cbor_edn_core::visitor::MapValueHandler;
 use cbor_edn_parts::error::{CallbackError, Fault};
 use std::alloc::{AllocError, Global};
@@ -37,6 +39,13 @@ pub fn get_tag(item: &Item<'_>) -> Result<u64, TypeMismatch>
     ensures refused { IfErr result (λ e. (e ≡ TypeMismatch.TaggedItem) × (tag_number (item_tree item.now) ≡ None)) }
 {
     item.get_tag()
+}
+
+/// `Item::get_tag_head`.
+pub fn get_tag_head(item: &Item<'_>) -> Option<(u64, Option<Indicator>)>
+    ensures { result ≡ tag_head (item_tree item.now) }
+{
+    item.get_tag_head()
 }
 
 /// `Item::get_tagged`.
@@ -156,6 +165,22 @@ pub fn tagged<'a>(
     ensures { IfOk result (λ t. item_tree t ≡ tagged_tree number (standalone_tree item.entry)) }
 {
     item.tagged(alloc, number)
+}
+
+/// `Item::put_into_tag`.
+pub fn put_into_tag(item: &mut Item<'_>, alloc: Global, number: u64) -> Result<(), AllocError>
+    ensures tagged { OnOk result (item_tree item.new ≡ tagged_tree number (alone (item_tree item.old))) }
+    ensures refused { IfErr result (λ _. item_tree item.new ≡ item_tree item.old) }
+{
+    item.put_into_tag(alloc, number)
+}
+
+/// `Item::new_number`.
+pub fn new_number<'a>(alloc: Global, text: &str) -> Result<Option<Item<'a>>, AllocError>
+    ensures some { IfOk result (λ o. IfSome o (λ t. item_tree t ≡ NumberTree text.now None)) }
+    ensures none { IfOk result (λ o. o ≡ None → IsNumber text.now → ⊥) }
+{
+    Item::new_number(alloc, text)
 }
 
 /// `Item::new_array`.
