@@ -1,9 +1,9 @@
 -- The bytes of quoted strings, and which integers mean the same bytes as a bignum.
-use Rattle.std.proofs.Common.{ℕ, ℤ, pos, negsuc, zero, suc, ◌+◌, ◌-◌, ◌^◌, ◌<◌, ◌≤◌, ◌≡◌, ◌≢◌, ◌==◌, Bool, true, false, cond, nat_lt, List, [], ◌∷◌, ◌++◌, length, Option, Some, None, Ok, refl, sym, ap, ◌∙◌, subst, append-nil, arith}
+use Rattle.std.proofs.Common.{ℕ, ℤ, pos, negsuc, zero, suc, ◌+◌, ◌-◌, ◌^◌, ◌<◌, ◌≤◌, ◌≡◌, ◌≢◌, ◌==◌, Bool, true, false, cond, nat_lt, List, [], ◌∷◌, length, Option, Some, None, Ok, refl, sym, ap, ◌∙◌, append-nil, arith}
 use Rattle.std.specs.Prelude.{option_map, option_and_then, is_some}
 use Rattle.std.proofs.lemmas.Bool.{eqb-true, eqb-false}
 use Rattle.std.specs.Fmt.{signed_decimal}
-use Rattle.std.specs.Int.{w128, bytes_high_first, to_be_bytes}
+use Rattle.std.specs.Int.{bytes_high_first}
 use Rattle.std.specs.List.{list_all}
 use Rattle.cbor_edn_parts.specs.declared.indicator.Indicator.{Indicator}
 use Rattle.cbor_edn_parts.specs.declared.string.StringKind.{StringKind}
@@ -14,14 +14,13 @@ use Rattle.cbor_edn_parts.proofs.Decimals.{integer_of_decimal}
 use Rattle.cbor_edn_model.specs.declared.cbor.Width.{Width}
 use Rattle.cbor_edn_model.specs.declared.label.LabelKind.TheVariants as label
 use Rattle.cbor_edn_model.specs.Accessed.{tag_head, tag_content, inner_item, only_bytes, joined, pieces, string_bytes, item_bytes, is_plain_piece, is_plain_string}
-use Rattle.cbor_edn_model.specs.Items.{Number, String, Tagged}
 use Rattle.cbor_edn_model.specs.Meaning.{◌>>=◌, means, width_of, without_zeros, magnitude_bytes, tagged, bignum, means_integer, pieces_mark, chunk_of, string_of}
 use Rattle.cbor_edn_model.specs.Seeking.{Told, number}
 use Rattle.cbor_edn_model.specs.Trees.{Tree, OneItem, OneString, Standalone, NumberTree, FloatTree, NamedTree, EnclosedTree, ListTree, StringTree, StreamTree, LiteralTree, DotsTree, EmbeddedTree, LastPieceTree, PlusTree, items}
 use Rattle.cbor_edn_model.specs.Value.{Value, Chunk, unsigned, negative, string, tag}
 use Rattle.cbor_edn_model.specs.Visits.{fine}
 use Rattle.cbor_edn_model.proofs.meaning.MeaningSteps.{given, some_is, some_if, both_steps, bind}
-use Rattle.cbor_edn_conversions.specs.Conversions.{Conversion, reply, told_tag, encoded, are_same, item_encoding, mean_the_same, integer_tree, tag_tree}
+use Rattle.cbor_edn_conversions.specs.Conversions.{reply, told_tag, encoded, are_same, item_encoding, mean_the_same, integer_tree, tag_tree}
 use Rattle.cbor_edn_conversions.specs.Bignums.{quoted_string_bytes, quoted_item_bytes, magnitude, bignum_integer, if_same_integer, integer_of_tag, bignum_of_tag, pretty_bignum}
 use Rattle.cbor_edn_conversions.proofs.conversions.Calls.{told_is}
 use Rattle.cbor_edn_conversions.proofs.conversions.ItemBytes.{string_content}

@@ -1,6 +1,6 @@
 pub mod ArrayVisits
 pub mod ItemIntegers
-pub mod Languages
+pub mod KeptClaims
 pub mod Lists
 pub mod MapVisits
 pub mod RefusedVisits
@@ -21,6 +21,9 @@ pub mod Told
 pub mod AddressTags
 pub mod VecItems
 pub mod Bignums
+pub mod ClaimsSets
+pub mod ClaimsSetsKept
 pub mod Magnitudes
 pub mod OneOfAll
+pub mod VisitsTurn
 pub mod ResolvedAgain

@@ -1,5 +1,6 @@
 -- Visits of maps whose keys are answered by a function, with what is done at their values.
-use Rattle.std.proofs.Common.{ℕ, suc, List, ◌≡◌, ◌≢◌, Option, None, Some, option_map, Result, MutBor, refl, sym, ap, subst, ◌∙◌, codes}
+use Rattle.std.proofs.Common.{ℕ, suc, List, [], All, ◌≡◌, ◌≢◌, Option, None, Some, option_map, Result, MutBor, refl, sym, ap, subst, ◌∙◌, codes}
+use Rattle.std.proofs.lemmas.List.Elements.{All-head, All-tail}
 use Rattle.std.specs.Fn.{Called}
 use Rattle.std.specs.declared.string.String.{String}
 use Rattle.std.specs.declared.alloc.Global.{Global}
@@ -7,15 +8,16 @@ use Rattle.cbor_edn_parts.specs.declared.error.CallbackError.{CallbackError}
 use Rattle.cbor_edn_core.specs.Callbacks.{Callback, Handles, IsKeyCall, Spends, none, drops, spends, answer_of, key_answer, handler_of}
 use Rattle.cbor_edn_core.specs.View.{Item, item_tree}
 use Rattle.cbor_edn_model.specs.Accessed.{map_items}
-use Rattle.cbor_edn_model.specs.Items.{Pairs, Array, Map}
-use Rattle.cbor_edn_model.specs.Trees.{Tree, OneItem, OneEntry, Rest, NumberTree, FloatTree, NamedTree, EnclosedTree, ListTree, StringTree, StreamTree, FullTree, LastTree, MoreTree, PairTree}
+use Rattle.cbor_edn_model.specs.Items as kind
+use Rattle.cbor_edn_model.specs.Items.{Node, Entry, Entries, Pairs, Array, Map}
+use Rattle.cbor_edn_model.specs.Trees.{Tree, OneItem, OneEntry, Rest, NumberTree, FloatTree, NamedTree, EnclosedTree, ListTree, StringTree, StreamTree, EmptyTree, FullTree, LastTree, MoreTree, PairTree, mark, items}
 use Rattle.cbor_edn_model.specs.Visits as visits
 use Rattle.cbor_edn_model.specs.Visits.{Answer, fine, comment, no_memory, answered, Call, KeyCall, Handler, no_handler, dropped, spent, Ending, whole, VisitPair, VisitEntries, last, more, stops, full, empty, VisitMap, pairs, Chain}
 use Rattle.cbor_edn_conversions.specs.Annotations.{turned}
 use Rattle.cbor_edn_conversions.specs.Claims.{KeyReply, value_turn, key_turn, with_keys}
 use Rattle.cbor_edn_conversions.specs.Conversions.{Reply}
-use Rattle.cbor_edn_application.specs.Handlers.{KeyAnswers, ValueAnswers}
-use Rattle.cbor_edn_application.proofs.Visiting.{chain_first}
+use Rattle.cbor_edn_application.specs.Handlers.{KeyAnswers, ValueAnswers, HandledBy, Keyed, AreKeysVisited}
+use Rattle.cbor_edn_application.proofs.Visiting.{chain_first, chain_all}
 
 last_same : {e f : Tree (OneEntry Pairs)} {s t : List ℕ} → f ≡ e → t ≡ s → LastTree f t ≡ LastTree e s
 last_same a b = cc
@@ -43,13 +45,6 @@ value_is f w v no_memory n e = absurd (n refl)
 value_same : (f : AtValue) (w x : Tree OneItem) (r q : Answer) (v y : Tree OneItem) → w ≡ x → r ≡ q → v ≡ y → ValueAnswers f w r v → ValueAnswers f x q y
 value_same f w x r q v y a b c h = subst (λ t. ValueAnswers f t q y) a (subst (λ t. ValueAnswers f w t y) b (subst (λ t. ValueAnswers f w r t) c h))
 
--- what became of a handler, by what is done at the value
-abbrev HandledBy : Option AtValue → Handler → Type 0
-HandledBy None no_handler = Unit {0}
-HandledBy (Some f) dropped = Unit {0}
-HandledBy (Some f) (spent d) = ValueAnswers f d.before d.answer d.after
-HandledBy _ _ = ⊥
-
 passed_value : (o : Option AtValue) (v : Tree OneItem) (r : List ℕ) → HandledBy o no_handler → value_turn o v r ≡ (v, r)
 passed_value None v r h = refl
 passed_value (Some f) v r h = absurd h
@@ -62,12 +57,7 @@ handled_value (Some f) d r had h = let is = value_is f d.before d.after d.answer
     both e g = ap (λ w. (w, answered (f d.before).0 r)) (sym g) ∙ ap (λ a. (d.after, answered a r)) (sym e)
 
 module _ (at_key : Tree OneItem → KeyReply) where
-  -- what is known of a call at a key
-  record Keyed (c : KeyCall) : Type 0 where
-    same : c.at_key.after ≡ c.at_key.before
-    answers : c.at_key.answer ≢ no_memory → (c.at_key.answer ≡ (at_key c.at_key.before).0) × HandledBy (at_key c.at_key.before).1 c.handler
-
-  pair_whole : {e f : Tree (OneEntry Pairs)} {s t : List ℕ} {c : KeyCall} {r : Ending} (i : ℕ) → VisitPair e s c f t r → r ≡ whole → Keyed c → (f ≡ (key_turn at_key i e s).0) × (t ≡ (key_turn at_key i e s).1)
+  pair_whole : {e f : Tree (OneEntry Pairs)} {s t : List ℕ} {c : KeyCall} {r : Ending} (i : ℕ) → VisitPair e s c f t r → r ≡ whole → Keyed at_key c → (f ≡ (key_turn at_key i e s).0) × (t ≡ (key_turn at_key i e s).1)
   pair_whole i (visits.passed_over {c = c} {v = v} {s = s} {t = t} {r = r} had) is k =
       let a = k.answers had in let x = passed_value (at_key c.before).1 v r a.1 in
       (pair_same k.same (ap (λ b. answered b s) a.0) (sym (ap (λ p. p.0) x)), sym (ap (λ p. p.1) x))
@@ -86,6 +76,75 @@ module _ (at_key : Tree OneItem → KeyReply) where
   no_map (ListTree Map w) e = absurd cc
   no_map (StringTree w) e = refl
   no_map (StreamTree s m) e = refl
+
+-- ---- values that keep their items
+
+-- what is done at a value, if something is, changes spaces alone
+abbrev pub Keeps : Option AtValue → Type 0
+Keeps None = Unit {0}
+Keeps (Some f) = (v : Tree OneItem) → items (f v).1 ≡ items v
+
+value_answer : (f : AtValue) → ((v : Tree OneItem) → items (f v).1 ≡ items v) → (w v : Tree OneItem) (r : Answer) → ValueAnswers f w r v → items v ≡ items w
+value_answer f kept w v fine h = ap (λ x. items x) h.1 ∙ kept w
+value_answer f kept w v (comment c) h = ap (λ x. items x) h.1 ∙ kept w
+value_answer f kept w v no_memory h = h
+
+handled_kept : (o : Option AtValue) → Keeps o → (d : Call) → HandledBy o (spent d) → items d.after ≡ items d.before
+handled_kept None kept d h = absurd h
+handled_kept (Some f) kept d h = value_answer f kept d.before d.after d.answer h
+
+turn_kept : (o : Option AtValue) → Keeps o → (v : Tree OneItem) (r : List ℕ) → items (value_turn o v r).0 ≡ items v
+turn_kept None kept v r = refl
+turn_kept (Some f) kept v r = kept v
+
+then_same : (x y : Node (Entry Pairs)) (m n : Node (Entries Pairs)) → x ≡ y → m ≡ n → kind.Then x m ≡ kind.Then y n
+then_same x y m n e f = ap (λ z. kind.Then z m) e ∙ ap (λ z. kind.Then y z) f
+
+items_pair : (k l v x : Tree OneItem) → items l ≡ items k → items x ≡ items v → kind.Pair (items l) (items x) ≡ kind.Pair (items k) (items v)
+items_pair k l v x e f = ap (λ z. kind.Pair z (items x)) e ∙ ap (λ z. kind.Pair (items k) z) f
+
+module _ (at_key : Tree OneItem → KeyReply) (kept : (k : Tree OneItem) → Keeps (at_key k).1) where
+  row_turned : (i : ℕ) (m : Tree (Rest Pairs)) → items (turned (key_turn at_key) i m) ≡ items m
+  unfolding items
+  row_turned i (LastTree (PairTree k s t v) r) = then_same _ _ _ _ (ap (λ z. kind.Pair (items k) z) (turn_kept (at_key k).1 (kept k) v r)) refl
+  row_turned i (MoreTree (PairTree k s t v) r m) = then_same _ _ _ _ (ap (λ z. kind.Pair (items k) z) (turn_kept (at_key k).1 (kept k) v r)) (row_turned (suc i) m)
+
+  -- a map with comments has the same items
+  pub keys_kept : (w : Tree OneItem) → items (with_keys at_key w).1 ≡ items w
+  unfolding items
+  keys_kept (NumberTree x i) = refl
+  keys_kept (FloatTree f i) = refl
+  keys_kept (NamedTree b) = refl
+  keys_kept (EnclosedTree l w) = refl
+  keys_kept (ListTree Array w) = refl
+  keys_kept (ListTree Map (FullTree h s m)) = ap (λ x. kind.Listed Map (mark h) x) (row_turned 0 m)
+  keys_kept (ListTree Map (EmptyTree i s)) = refl
+  keys_kept (StringTree w) = refl
+  keys_kept (StreamTree s m) = refl
+
+  pair_kept : {e f : Tree (OneEntry Pairs)} {s t : List ℕ} {c : KeyCall} {r : Ending} → VisitPair e s c f t r → Keyed at_key c → items f ≡ items e
+  unfolding items
+  pair_kept (visits.passed_over {c = c} {v = v} had) k = items_pair c.before c.after v v (ap (λ x. items x) k.same) refl
+  pair_kept (visits.handled {c = c} {d = d} had done) k =
+      items_pair c.before c.after d.before d.after (ap (λ x. items x) k.same) (handled_kept (at_key c.before).1 (kept c.before) d (k.answers had).1)
+  pair_kept (visits.refused_at_key {c = c} {v = v} had n) k = items_pair c.before c.after v v (ap (λ x. items x) k.same) refl
+  pair_kept (visits.refused_at_value {c = c} {d = d} had done) k =
+      items_pair c.before c.after d.before d.after (ap (λ x. items x) k.same) (handled_kept (at_key c.before).1 (kept c.before) d (k.answers had).1)
+
+  row_kept : {m n : Tree (Rest Pairs)} {cs : List KeyCall} {r : Ending} → VisitEntries VisitPair m cs n r → All (Keyed at_key) cs → items n ≡ items m
+  unfolding items
+  row_kept (last {c = c} one) all = then_same _ _ _ _ (pair_kept one (All-head (Keyed at_key) c [] all)) refl
+  row_kept (more {c = c} {cs = cs} one rest) all = then_same _ _ _ _ (pair_kept one (All-head (Keyed at_key) c cs all)) (row_kept rest (All-tail (Keyed at_key) c cs all))
+  row_kept (stops {c = c} one) all = then_same _ _ _ _ (pair_kept one (All-head (Keyed at_key) c [] all)) refl
+
+  map_kept : {w v : Tree OneItem} {cs : List KeyCall} {r : Ending} → VisitMap w cs v r → All (Keyed at_key) cs → items v ≡ items w
+  unfolding items
+  map_kept (pairs (full {h = h} a)) all = ap (λ x. kind.Listed Map (mark h) x) (row_kept a all)
+  map_kept (pairs empty) all = refl
+
+  -- and so has one whose visit was cut
+  pub visit_kept : {w v : Tree OneItem} {r : Ending} → AreKeysVisited at_key w r v → items v ≡ items w
+  visit_kept h = map_kept h.2 h.1
 
 module _ {H F : Type 0} (at_key : Tree OneItem → KeyReply) (at_value : H → Tree OneItem → Reply) (callback : Callback Item (Result (Option (String Global) × Option H) CallbackError) F) (handles : Handles Item H)
     (each : (p q : F) (x y : MutBor Item) (z : Result (Option (String Global) × Option H) CallbackError) → Called callback p (x, tt) (z, (y, tt)) q
@@ -121,3 +180,7 @@ module _ {H F : Type 0} (at_key : Tree OneItem → KeyReply) (at_value : H → T
   pub map_whole : {w v : Tree OneItem} {cs : List KeyCall} {r : Ending} {f g : F} → VisitMap w cs v r → r ≡ whole → Chain Step f cs g → (fine ≡ (with_keys at_key w).0) × (v ≡ (with_keys at_key w).1)
   map_whole (pairs (full {h = h} {s = s} a)) is chain = (refl, ap (λ m. ListTree Map (FullTree h s m)) (row_whole 0 a is chain))
   map_whole (pairs empty) is chain = (refl, refl)
+
+  -- the calls of a visit, however it ended
+  pub map_visited : {w v : Tree OneItem} {cs : List KeyCall} {r : Ending} {f g : F} → VisitMap w cs v r → Chain Step f cs g → AreKeysVisited at_key w r v
+  map_visited {cs = cs} visit chain = (cs, chain_all Step (λ _. Unit {0}) (Keyed at_key) (λ f g c _ s. (keyed f g c s, tt)) chain tt, visit)

@@ -1,5 +1,5 @@
 -- What one function does, where it alone acts.
-use Rattle.std.proofs.Common.{ℕ, ◌≡◌, ◌≢◌, ◌==◌, ◌||◌, Bool, true, false, cond, codes, List, refl, sym, ap, ◌∙◌, inl, inr}
+use Rattle.std.proofs.Common.{ℕ, ◌≡◌, ◌≢◌, ◌==◌, ◌||◌, Bool, false, cond, codes, List, refl, sym, ap, ◌∙◌, inl, inr}
 use Rattle.std.specs.Prelude.{◌⊎◌}
 use Rattle.cbor_edn_parts.specs.code.ContentReading.{same}
 use Rattle.cbor_edn_parts.proofs.Prefixes.{differ}

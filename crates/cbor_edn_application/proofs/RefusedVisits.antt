@@ -4,7 +4,7 @@ use Rattle.cbor_edn_parts.specs.declared.error.Fault.{Fault}
 use Rattle.cbor_edn_parts.specs.declared.error.Fault.TheVariants as fault
 use Rattle.cbor_edn_parts.specs.Refusals.{IfTold}
 use Rattle.cbor_edn_core.specs.Callbacks.{IfVisited}
-use Rattle.cbor_edn_model.specs.Trees.{Tree, OneItem}
+use Rattle.cbor_edn_model.specs.Trees.{Tree, OneItem, items}
 use Rattle.cbor_edn_model.specs.Visits.{Answer, fine, comment, no_memory, Ending, cut}
 use Rattle.cbor_edn_conversions.specs.Conversions.{Reply}
 use Rattle.cbor_edn_application.specs.Acts.{ActsSo, AnswersSo}
@@ -34,13 +34,14 @@ refused_acts f w v words a P Q r x is answers visited told when_cut when_told = 
 refusal_value : (f : Tree OneItem → Reply) (w v : Tree OneItem) (words : List ℕ) (a : Answer) → f w ≡ (comment words, w) → v ≡ w → AnswersSo (comment words) a → ValueAnswers f w a v
 refusal_value f w v words fine is same h = (h ∙ sym (ap (λ p. p.0) is), same ∙ sym (ap (λ p. p.1) is))
 refusal_value f w v words (comment c) is same h = (h ∙ sym (ap (λ p. p.0) is), same ∙ sym (ap (λ p. p.1) is))
-refusal_value f w v words no_memory is same h = tt
+refusal_value f w v words no_memory is same h = ap (λ x. items x) same
 
-fault_value : {X : Type 0} (f : Tree OneItem → Reply) (w v : Tree OneItem) (words : List ℕ) (a : Answer) (Q : X → Type 0) (x : Fault X) → AnswersFault x (λ _. words) a
-    → IfTold (err x) Q → ((e : X) → Q e → (f w ≡ (comment words, w)) × (v ≡ w)) → ValueAnswers f w a v
-fault_value f w v words a Q (fault.Memory e) answers told when_told = subst (λ r. ValueAnswers f w r v) (sym answers) tt
-fault_value f w v words a Q (fault.Told e) answers told when_told = let h = when_told e told in refusal_value f w v words a h.0 h.1 answers
+fault_value : {X : Type 0} (f : Tree OneItem → Reply) (w v : Tree OneItem) (words : List ℕ) (a : Answer) (P : Ending → Type 0) (Q : X → Type 0) (x : Fault X) → AnswersFault x (λ _. words) a
+    → IfVisited (err x) P → IfTold (err x) Q → (P cut → items v ≡ items w) → ((e : X) → Q e → (f w ≡ (comment words, w)) × (v ≡ w)) → ValueAnswers f w a v
+fault_value f w v words a P Q (fault.Memory e) answers visited told when_cut when_told = subst (λ r. ValueAnswers f w r v) (sym answers) (when_cut visited)
+fault_value f w v words a P Q (fault.Told e) answers visited told when_cut when_told = let h = when_told e told in refusal_value f w v words a h.0 h.1 answers
 
-pub refused_value : {X : Type 0} (f : Tree OneItem → Reply) (w v : Tree OneItem) (words : List ℕ) (a : Answer) (Q : X → Type 0) (r : Result (Unit {0}) (Fault X)) (x : Fault X) → r ≡ Err x → AnswersFault x (λ _. words) a
-    → IfTold r Q → ((e : X) → Q e → (f w ≡ (comment words, w)) × (v ≡ w)) → ValueAnswers f w a v
-refused_value f w v words a Q r x is answers told when_told = fault_value f w v words a Q x answers (subst (λ o. IfTold o Q) is told) when_told
+pub refused_value : {X : Type 0} (f : Tree OneItem → Reply) (w v : Tree OneItem) (words : List ℕ) (a : Answer) (P : Ending → Type 0) (Q : X → Type 0) (r : Result (Unit {0}) (Fault X)) (x : Fault X) → r ≡ Err x → AnswersFault x (λ _. words) a
+    → IfVisited r P → IfTold r Q → (P cut → items v ≡ items w) → ((e : X) → Q e → (f w ≡ (comment words, w)) × (v ≡ w)) → ValueAnswers f w a v
+refused_value f w v words a P Q r x is answers visited told when_cut when_told =
+    fault_value f w v words a P Q x answers (subst (λ o. IfVisited o P) is visited) (subst (λ o. IfTold o Q) is told) when_cut when_told

@@ -1,75 +1,71 @@
 -- The laws of visits that convert.
-use Rattle.std.proofs.Common.{◌≡◌, List, [], ◌∷◌, Some, Result, Ok, Err, OnOk, All, refl, ap, ◌∙◌}
-use Rattle.std.proofs.lemmas.List.Elements.{All-nil, All-cons, All-head, All-tail}
-use Rattle.std.specs.declared.alloc.AllocError.{AllocError}
-use Rattle.cbor_edn_core.specs.Callbacks.{ending}
-use Rattle.cbor_edn_model.specs.Decoded.{items_of}
-use Rattle.cbor_edn_model.specs.Meaning.{means}
-use Rattle.cbor_edn_model.specs.Seeking.{Told, SoughtCall, IsTag, IsApplication, VisitParts}
-use Rattle.cbor_edn_model.specs.Trees.{Rule, Tree, OneItem, Seq, items}
-use Rattle.cbor_edn_model.specs.Value.{Values, ValuesFit}
-use Rattle.cbor_edn_model.specs.Visits.{Answer, fine, comment, no_memory, Ending, whole, cut}
+use Rattle.std.proofs.Common.{sym, ◌∙◌}
+use Rattle.cbor_edn_model.specs.Seeking.{Told, IsTag, IsApplication}
+use Rattle.cbor_edn_model.specs.Trees.{Tree, OneItem, Seq, items}
+use Rattle.cbor_edn_conversions.specs.Addresses.{resolve_address, pretty_address}
 use Rattle.cbor_edn_conversions.specs.All.{resolve_all, pretty_all}
-use Rattle.cbor_edn_conversions.specs.Resolvers.{TurnsTo, literal_resolver}
-use Rattle.cbor_edn_conversions.specs.Resolving.{no_resolver, means_by, Turns, AnswersBy}
-use Rattle.cbor_edn_conversions.proofs.conversions.ConversionsKept.{all_turns, all_keep, all_resolve}
-use Rattle.cbor_edn_conversions.proofs.conversions.Literals.{all_applications}
-use Rattle.cbor_edn_conversions.proofs.conversions.Sought.{Sought, parts_sought}
-use Rattle.cbor_edn_conversions.proofs.resolving.Turning.{resolved_again, tags_visited_once, literals_visited_once}
-use Rattle.cbor_edn_application.specs.Acts.{ActsBy, EndsBy, IsVisited}
-use Rattle.cbor_edn_application.specs.Laws.{SequencesResolvedAgain, ItemsResolvedAgain, VisitedOnce}
+use Rattle.cbor_edn_conversions.specs.Annotations.{comment_lang}
+use Rattle.cbor_edn_conversions.specs.Bignums.{pretty_bignum}
+use Rattle.cbor_edn_conversions.specs.Resolvers.{TurnsTo, time_resolver, literal_resolver}
+use Rattle.cbor_edn_conversions.specs.Resolving.{no_resolver}
+use Rattle.cbor_edn_conversions.specs.Times.{resolve_time, pretty_time}
+use Rattle.cbor_edn_conversions.proofs.conversions.AddressesKept.{address_turns}
+use Rattle.cbor_edn_conversions.proofs.conversions.BignumsKept.{bignum_turns}
+use Rattle.cbor_edn_conversions.proofs.conversions.ConversionsKept.{all_turns}
+use Rattle.cbor_edn_conversions.proofs.conversions.Literals.{time_applications, all_applications, all_no_content, all_gives_times, all_gives_addresses}
+use Rattle.cbor_edn_conversions.proofs.conversions.LiteralsResolved.{time_resolved_kept, time_resolved_alone, address_resolved, address_resolved_kept, all_resolved}
+use Rattle.cbor_edn_conversions.proofs.conversions.TimesKept.{time_turns}
+use Rattle.cbor_edn_conversions.proofs.nesting.DirectAnswers.{language_keeps_items}
+use Rattle.cbor_edn_conversions.proofs.resolving.Resolved.{none_means}
+use Rattle.cbor_edn_conversions.proofs.resolving.Turning.{resolved_again, both_differ, none_applications, tags_visited_once, literals_visited_once}
+use Rattle.cbor_edn_conversions.proofs.resolving.VisitsKept.{visit_resolves}
+use Rattle.cbor_edn_application.specs.Acts.{Act}
+use Rattle.cbor_edn_application.specs.Laws.{SequencesResolvedAgain, ItemsResolvedAgain, VisitedOnce, VisitsKeep, VisitsLeave, LiteralsResolvedInTurn}
+use Rattle.cbor_edn_application.proofs.Unmoved.{visit_unmoved}
+use Rattle.cbor_edn_application.proofs.VisitsTurn.{whole_calls, ended_calls, visit_keeps}
 
--- ---- the visit that prettifies
+-- ---- visits that keep
 
--- a call keeps what the item means, also where memory was refused
-act_keeps : (a : Told) (w v : Tree OneItem) (r : Answer) → ActsBy pretty_all a w r v → TurnsTo literal_resolver literal_resolver w v
-act_keeps a w v no_memory same x e = ap (λ (t : Tree OneItem). means_by literal_resolver (items t)) same ∙ e
-act_keeps a w v fine acts x e = ap (λ (t : Tree OneItem). means_by literal_resolver (items t)) acts.1 ∙ all_turns a w x e
-act_keeps a w v (comment c) acts x e = ap (λ (t : Tree OneItem). means_by literal_resolver (items t)) acts.1 ∙ all_turns a w x e
+-- what a function leaves of a tag
+tags_keep : (act : Act) → ((a : Told) (w : Tree OneItem) → TurnsTo literal_resolver literal_resolver w (act a w).1) → VisitsKeep IsTag act
+tags_keep act turns = visit_keeps IsTag act literal_resolver (λ a w s. turns a w)
 
-abbrev Keeps : SoughtCall → Type 0
-Keeps = Turns literal_resolver literal_resolver
+pub pretty_times_keep : VisitsKeep IsTag pretty_time
+pretty_times_keep = tags_keep pretty_time (time_turns literal_resolver all_gives_times)
 
-abbrev Acted : SoughtCall → Type 0
-Acted c = ActsBy pretty_all c.told c.before c.answer c.after
+pub pretty_addresses_keep : VisitsKeep IsTag pretty_address
+pretty_addresses_keep = tags_keep pretty_address (address_turns literal_resolver all_no_content all_gives_addresses)
 
-acted_keep : (cs : List SoughtCall) → All Acted cs → All Keeps cs
-acted_keep [] h = All-nil Keeps
-acted_keep (c ∷ cs) h = All-cons Keeps c cs (act_keeps c.told c.before c.after c.answer (All-head Acted c cs h)) (acted_keep cs (All-tail Acted c cs h))
+pub pretty_bignums_keep : VisitsKeep IsTag pretty_bignum
+pretty_bignums_keep = tags_keep pretty_bignum (bignum_turns literal_resolver all_no_content)
 
-answered_keep : (cs : List SoughtCall) → All (AnswersBy pretty_all) cs → All Keeps cs
-answered_keep [] h = All-nil Keeps
-answered_keep (c ∷ cs) h = All-cons Keeps c cs (all_keep c (All-head (AnswersBy pretty_all) c cs h)) (answered_keep cs (All-tail (AnswersBy pretty_all) c cs h))
+pub resolved_times_keep : VisitsKeep IsApplication resolve_time
+resolved_times_keep = visit_keeps IsApplication resolve_time literal_resolver time_resolved_kept
 
-ended_keep : (cs : List SoughtCall) (r : Ending) → EndsBy pretty_all cs r → All Keeps cs
-ended_keep cs whole h = answered_keep cs h
-ended_keep cs cut h = acted_keep cs h
+pub resolved_addresses_keep : VisitsKeep IsApplication resolve_address
+resolved_addresses_keep = visit_keeps IsApplication resolve_address literal_resolver address_resolved_kept
 
--- ---- the visit that resolves
+pub languages_leave : VisitsLeave IsTag comment_lang
+languages_leave w v r h = visit_unmoved IsTag comment_lang language_keeps_items Seq w v r h
 
-abbrev Resolves : SoughtCall → Type 0
-Resolves = Turns literal_resolver no_resolver
-
-sought_resolve : (cs : List SoughtCall) → All (Sought IsApplication) cs → All (AnswersBy resolve_all) cs → All Resolves cs
-sought_resolve [] s h = All-nil Resolves
-sought_resolve (c ∷ cs) s h =
-    All-cons Resolves c cs (all_resolve c (All-head (Sought IsApplication) c cs s) (All-head (AnswersBy resolve_all) c cs h))
-    (sought_resolve cs (All-tail (Sought IsApplication) c cs s) (All-tail (AnswersBy resolve_all) c cs h))
-
-visit_resolves : (k : Rule) (w v : Tree k) (cs : List SoughtCall) → VisitParts IsApplication k w cs v whole → All (AnswersBy resolve_all) cs → All Resolves cs
-visit_resolves k w v cs visit h = sought_resolve cs (parts_sought IsApplication visit) h
-
--- ---- the laws
+-- ---- visits that resolve
 
 pub sequences_resolved_again : SequencesResolvedAgain
 sequences_resolved_again vs fit a b c d r is first same second =
-    (resolved_again literal_resolver all_applications first.0 second.0 r (ended_keep first.0 r first.1) (visit_resolves _ c d second.0 second.2 second.1)).1
+    (resolved_again literal_resolver all_applications first.0 second.0 r (ended_calls IsTag pretty_all literal_resolver (λ a w s. all_turns a w) r first) (whole_calls IsApplication resolve_all literal_resolver no_resolver all_resolved second)).1
     vs fit a b c d is first.2 same second.2
 
 pub items_resolved_again : ItemsResolvedAgain
 items_resolved_again v fit a b c d r is first same second =
-    (resolved_again literal_resolver all_applications first.0 second.0 r (ended_keep first.0 r first.1) (visit_resolves _ c d second.0 second.2 second.1)).0
+    (resolved_again literal_resolver all_applications first.0 second.0 r (ended_calls IsTag pretty_all literal_resolver (λ a w s. all_turns a w) r first) (whole_calls IsApplication resolve_all literal_resolver no_resolver all_resolved second)).0
     v fit a b c d is first.2 same second.2
+
+pub resolved_in_turn : LiteralsResolvedInTurn
+resolved_in_turn w u v addresses times xs e =
+    let rest = visit_resolves literal_resolver time_resolver (both_differ literal_resolver time_resolver all_applications time_applications) addresses.0 (whole_calls IsApplication resolve_address literal_resolver time_resolver address_resolved addresses) Seq w u addresses.2 xs e in
+    sym (none_means (items v)) ∙ visit_resolves time_resolver no_resolver (both_differ time_resolver no_resolver time_applications none_applications) times.0 (whole_calls IsApplication resolve_time time_resolver no_resolver time_resolved_alone times) Seq u v times.2 xs rest
+
+-- ---- one result
 
 pub tags_once : VisitedOnce IsTag
 tags_once act = (
@@ -82,11 +78,3 @@ literals_once act = (
   λ w v u a b. ((literals_visited_once act a.0 b.0 a.1 b.1).0 w v u a.2 b.2).0,
   λ w v u a b. ((literals_visited_once act a.0 b.0 a.1 b.1).1 w v u a.2 b.2).0,
 )
-
--- ---- both visits
-
--- What is left by a visit that prettifies, and one that resolves then.
-pub both_visits : (a b d : Tree Seq) (p q : Result (Unit {0}) AllocError) → IsVisited IsTag pretty_all a (ending p) b → IsVisited IsApplication resolve_all b (ending q) d
-    → OnOk q ((vs : Values) → ValuesFit vs → items a ≡ items_of vs → means (items d) ≡ Some vs)
-both_visits a b d p (Ok u) first second = λ vs fit is. sequences_resolved_again vs fit a b b d (ending p) is first refl second
-both_visits a b d p (Err e) first second = tt

@@ -1,9 +1,9 @@
 -- What keys of maps and their values are answered, and what each handler does with its value.
-use Rattle.std.specs.Prelude.{List, Option, ℕ, ◌≡◌, codes}
+use Rattle.std.specs.Prelude.{List, Option, Some, None, All, ℕ, ◌≡◌, ◌≢◌, codes}
 use Rattle.cbor_edn_core.specs.declared.access.TypeMismatch.{TypeMismatch}
 use Rattle.cbor_edn_core.specs.declared.access.TypeMismatch.TheVariants.{IntegerInRange}
-use Rattle.cbor_edn_model.specs.Trees.{Tree, OneItem}
-use Rattle.cbor_edn_model.specs.Visits.{Answer, no_memory}
+use Rattle.cbor_edn_model.specs.Trees.{Tree, OneItem, items}
+use Rattle.cbor_edn_model.specs.Visits.{Answer, no_memory, KeyCall, Handler, no_handler, dropped, spent, Ending, VisitMap}
 use Rattle.cbor_edn_conversions.specs.declared.tables.ClaimValue.TheVariants as claim
 use Rattle.cbor_edn_conversions.specs.declared.tables.ConfirmationValue.TheVariants as confirmation
 use Rattle.cbor_edn_conversions.specs.declared.tables.ParameterValue.TheVariants as parameter
@@ -21,10 +21,28 @@ abbrev pub KeyAnswers : KeyReply → Answer → Option (Tree OneItem → Reply) 
 KeyAnswers p no_memory f = Unit {0}
 KeyAnswers p r f = (r ≡ p.0) × (f ≡ p.1)
 
--- So a value is answered and left, unless memory was refused; then some of its keys may have their comments already.
+-- So a value is answered and left, unless memory was refused; then its items are as before, but some of its keys may have their comments.
 abbrev pub ValueAnswers : (Tree OneItem → Reply) → Tree OneItem → Answer → Tree OneItem → Type 0
-ValueAnswers f w no_memory v = Unit {0}
+ValueAnswers f w no_memory v = items v ≡ items w
 ValueAnswers f w r v = (r ≡ (f w).0) × (v ≡ (f w).1)
+
+-- ---- visits of maps
+
+-- what became of a handler, by what is done at the value
+abbrev pub HandledBy : Option (Tree OneItem → Reply) → Handler → Type 0
+HandledBy None no_handler = Unit {0}
+HandledBy (Some f) dropped = Unit {0}
+HandledBy (Some f) (spent d) = ValueAnswers f d.before d.answer d.after
+HandledBy _ _ = ⊥
+
+-- A call at a key, by what keys are answered and what is done at their values. The key stays.
+pub record Keyed (at_key : Tree OneItem → KeyReply) (c : KeyCall) : Type 0 where
+  pub same : c.at_key.after ≡ c.at_key.before
+  pub answers : c.at_key.answer ≢ no_memory → (c.at_key.answer ≡ (at_key c.at_key.before).0) × HandledBy (at_key c.at_key.before).1 c.handler
+
+-- What a visit of a map with such calls leaves of it; a visit that was cut made a beginning of them.
+abbrev pub AreKeysVisited : (Tree OneItem → KeyReply) → Tree OneItem → Ending → Tree OneItem → Type 0
+AreKeysVisited at_key w r v = (cs : List KeyCall) × All (Keyed at_key) cs × VisitMap w cs v r
 
 -- the words of a key that is no integer of 128 bits
 abbrev pub integer_words : TypeMismatch → List ℕ

@@ -2,5 +2,6 @@ pub mod Acts
 pub mod Handlers
 pub mod Places
 pub mod Refused
+pub mod Sequences
 pub mod TimeSteps
 pub mod Laws

@@ -1,24 +1,95 @@
 //! Whole visits with the functions of the crate.
 ghost use Rattle.std.specs.Prelude.{◌≡◌, None, OnOk};
 ghost use Rattle.cbor_edn_parts.specs.Refusals.{IfTold};
-ghost use Rattle.cbor_edn_core.specs.Callbacks.{ending};
+ghost use Rattle.cbor_edn_core.specs.Callbacks.{ending, IfVisited};
 ghost use Rattle.cbor_edn_core.specs.Sought.{told_answer};
 ghost use Rattle.cbor_edn_core.specs.View.{item_tree, sequence_tree};
 ghost use Rattle.cbor_edn_model.specs.Accessed.{map_items};
 ghost use Rattle.cbor_edn_model.specs.Seeking.{IsTag, IsApplication, number as tag_told};
 ghost use Rattle.cbor_edn_model.specs.Trees.{items};
+ghost use Rattle.cbor_edn_conversions.specs.Addresses.{resolve_address, pretty_address};
+ghost use Rattle.cbor_edn_conversions.specs.All.{resolve_all, pretty_all};
 ghost use Rattle.cbor_edn_conversions.specs.Annotations.{commenting, comment_lang};
-ghost use Rattle.cbor_edn_conversions.specs.Claims.{with_claims};
+ghost use Rattle.cbor_edn_conversions.specs.Bignums.{pretty_bignum};
+ghost use Rattle.cbor_edn_conversions.specs.Claims.{claim_key, with_claims};
 ghost use Rattle.cbor_edn_conversions.specs.Tag999.{to_tag999};
+ghost use Rattle.cbor_edn_conversions.specs.Times.{resolve_time, pretty_time};
 ghost use Rattle.cbor_edn_application.specs.Acts.{ActsBy, IsVisited};
+ghost use Rattle.cbor_edn_application.specs.Handlers.{AreKeysVisited};
 
+use crate::address::{ip_aol_to_item, ip_tag_to_aol};
+use crate::all::{all_aol_to_item, all_tag_prettify};
+use crate::bignum::tag23_to_edn_integer;
 use crate::claims::comment_ccs;
+pub use crate::claims_sets::annotate_claims_sets;
 use crate::language::comment_lang_tag;
 use crate::tag999::any_aol_to_tag999;
+use crate::time::{dt_aol_to_item, dt_tag_to_aol};
 use cbor_edn_core::access::TypeMismatch;
 use cbor_edn_core::tree::{Item, Sequence};
 use cbor_edn_parts::error::{CallbackError, Fault};
 use std::alloc::{AllocError, Global};
+
+/// Calls [`all_tag_prettify`] at each tag: times, addresses and bignums become what people read.
+pub fn prettify(alloc: Global, sequence: &mut Sequence<'_>) -> Result<(), AllocError>
+    ensures { IsVisited IsTag pretty_all (sequence_tree sequence.old) (ending result) (sequence_tree sequence.new) }
+{
+    sequence.visit_tag(alloc, &mut |tag, item| all_tag_prettify(alloc, tag, item))
+}
+
+/// Calls [`all_aol_to_item`] at each literal: times and addresses become what they stand for.
+pub fn resolve(alloc: Global, sequence: &mut Sequence<'_>) -> Result<(), AllocError>
+    ensures { IsVisited IsApplication resolve_all (sequence_tree sequence.old) (ending result) (sequence_tree sequence.new) }
+{
+    sequence.visit_application_literals(
+        alloc,
+        &mut |prefix, text, item| all_aol_to_item(alloc, prefix, text, item),
+    )
+}
+
+/// Calls [`ip_tag_to_aol`] at each tag.
+pub fn prettify_addresses(alloc: Global, sequence: &mut Sequence<'_>) -> Result<(), AllocError>
+    ensures { IsVisited IsTag pretty_address (sequence_tree sequence.old) (ending result) (sequence_tree sequence.new) }
+{
+    sequence.visit_tag(alloc, &mut |tag, item| ip_tag_to_aol(alloc, tag, item))
+}
+
+/// Calls [`dt_tag_to_aol`] at each tag.
+pub fn prettify_times(alloc: Global, sequence: &mut Sequence<'_>) -> Result<(), AllocError>
+    ensures { IsVisited IsTag pretty_time (sequence_tree sequence.old) (ending result) (sequence_tree sequence.new) }
+{
+    sequence.visit_tag(alloc, &mut |tag, item| dt_tag_to_aol(alloc, tag, item))
+}
+
+/// Calls [`tag23_to_edn_integer`] at each tag.
+pub fn prettify_bignums(alloc: Global, sequence: &mut Sequence<'_>) -> Result<(), AllocError>
+    ensures { IsVisited IsTag pretty_bignum (sequence_tree sequence.old) (ending result) (sequence_tree sequence.new) }
+{
+    sequence.visit_tag(
+        alloc,
+        &mut |tag, item| tag23_to_edn_integer(alloc, tag, item),
+    )
+}
+
+/// Calls [`ip_aol_to_item`] at each literal.
+pub fn resolve_addresses(alloc: Global, sequence: &mut Sequence<'_>) -> Result<(), AllocError>
+    ensures { IsVisited IsApplication resolve_address (sequence_tree sequence.old) (ending result) (sequence_tree sequence.new) }
+{
+    sequence.visit_application_literals(
+        alloc,
+        &mut |prefix, text, item| ip_aol_to_item(alloc, prefix, text, item),
+    )
+}
+
+/// Calls [`dt_aol_to_item`] at each literal.
+pub fn resolve_times(alloc: Global, sequence: &mut Sequence<'_>) -> Result<(), AllocError>
+    ensures { IsVisited IsApplication resolve_time (sequence_tree sequence.old) (ending result) (sequence_tree sequence.new) }
+{
+    sequence.visit_application_literals(
+        alloc,
+        &mut |prefix, text, item| dt_aol_to_item(alloc, prefix, text, item),
+    )
+}
 
 /// Puts tags of their prefix and their text in the place of literals.
 pub fn to_999(alloc: Global, sequence: &mut Sequence<'_>) -> Result<(), AllocError>
@@ -69,6 +140,7 @@ pub fn comment_languages(alloc: Global, sequence: &mut Sequence<'_>) -> Result<(
 /// Puts the comments of a claims set into a map. Fails with `Map` where the item is none.
 pub fn annotate_claims(alloc: Global, item: &mut Item<'_>) -> Result<(), Fault<TypeMismatch>>
     ensures claims { OnOk result (item_tree item.new ≡ (with_claims (item_tree item.old)).1) }
+    ensures visited { IfVisited result (λ r. AreKeysVisited claim_key (item_tree item.old) r (item_tree item.new)) }
     ensures no_map { IfTold result (λ _. (map_items (item_tree item.old) ≡ None) × (item_tree item.new ≡ item_tree item.old)) }
 {
     item.visit_map_elements(alloc, &mut |key| comment_ccs(alloc, key))

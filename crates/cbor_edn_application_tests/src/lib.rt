@@ -7,3 +7,5 @@ mod alone;
 mod claims;
 #[cfg(test)]
 mod visited;
+#[cfg(test)]
+mod whole;

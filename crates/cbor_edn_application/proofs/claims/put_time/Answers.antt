@@ -1,6 +1,6 @@
-use Rattle.std.proofs.Common.{Some, false}
+use Rattle.std.proofs.Common.{Some, false, ap}
 use Rattle.cbor_edn_core.specs.View.{item_tree}
-use Rattle.cbor_edn_model.specs.Trees.{Tree, OneItem}
+use Rattle.cbor_edn_model.specs.Trees.{Tree, OneItem, items}
 use Rattle.cbor_edn_model.specs.Visits.{Answer, fine, comment, no_memory}
 use Rattle.cbor_edn_conversions.specs.declared.tables.ClaimValue.TheVariants.{Timestamp}
 use Rattle.cbor_edn_conversions.specs.Claims.{claim_value}
@@ -13,7 +13,7 @@ use Rattle.cbor_edn_application.proofs.claims.put_time.Goals as goal
 time_value : (w v : Tree OneItem) (r : Answer) → ActsSo (λ x. reply x (Some (time_literal w false))) w r v → ValueAnswers (claim_value Timestamp) w r v
 time_value w v fine h = h
 time_value w v (comment t) h = h
-time_value w v no_memory h = tt
+time_value w v no_memory h = ap (λ x. items x) h
 
 pub returns-in-Err : goal.returns-in-Err
 returns-in-Err c =

@@ -1,0 +1,15 @@
+-- The item stands where the loan was.
+use Rattle.std.proofs.Common.{[], ◌∷◌, sym, ap, ◌∙◌}
+use Rattle.cbor_edn_core.specs.View.{item_tree, sequence_tree}
+use Rattle.cbor_edn_model.specs.Leaves.{texts}
+use Rattle.cbor_edn_model.specs.Paths.{with_at_sequence}
+use Rattle.cbor_edn_application.proofs.Lent.{where_lent}
+use Rattle.cbor_edn_application.proofs.claims_sets.annotate_at.Goals as goal
+
+pub returns-in_ok-annotate_map-in-Some : goal.returns-in_ok-annotate_map-in-Some
+returns-in_ok-annotate_map-in-Some c = (
+  item_tree c.in-Some.item.now,
+  sym (c.in-Some.ensures.value texts),
+  where_lent c.in-Some.is (c.at_mut.follows.holds c.annotate_map.new.item) texts
+      ∙ ap (λ x. with_at_sequence (c.args.index ∷ []) x (sequence_tree c.args.sequence.now)) c.in_ok-annotate_map-in-Some.ensures,
+)

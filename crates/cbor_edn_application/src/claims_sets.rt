@@ -1,0 +1,59 @@
+//! Claims sets among the items of a sequence.
+ghost use Rattle.std.specs.Prelude.{◌≡◌, IfOk, OnOk};
+ghost use Rattle.cbor_edn_core.specs.View.{item_tree, sequence_tree};
+ghost use Rattle.cbor_edn_parts.specs.declared.error.Fault.TheVariants.{Told};
+ghost use Rattle.cbor_edn_core.specs.declared.access.TypeMismatch.{TypeMismatch};
+ghost use Rattle.cbor_edn_conversions.specs.Claims.{with_claims};
+ghost use Rattle.cbor_edn_application.specs.Sequences.{with_claims_sets, IsAnnotatedAt};
+
+use crate::visits::annotate_claims;
+use cbor_edn_core::access::TypeMismatch;
+use cbor_edn_core::tree::{Item, Sequence};
+use cbor_edn_parts::error::Fault;
+use std::alloc::{AllocError, Global};
+
+/// Puts the comments of a claims set into each item that is a map. Other items are passed over.
+pub fn annotate_claims_sets(alloc: Global, sequence: &mut Sequence<'_>) -> Result<(), AllocError>
+    ensures { OnOk result (sequence_tree sequence.new ≡ with_claims_sets (sequence_tree sequence.old)) }
+{
+    for index in 0..usize::MAX {
+        if !annotate_at(alloc, sequence, index)? {
+            return Ok(());
+        }
+    }
+    // No sequence in memory has so many items.
+    Err(AllocError)
+}
+
+/// The same of the item at an index. False where there is none.
+fn annotate_at(alloc: Global, sequence: &mut Sequence<'_>, index: usize) -> Result<bool, AllocError>
+    ensures { IfOk result (λ there. IsAnnotatedAt index there (sequence_tree sequence.old) (sequence_tree sequence.new)) }
+{
+    match sequence.at_mut(&[index]) {
+        Some(item) => {
+            annotate_map(alloc, item)?;
+            Ok(true)
+        }
+        None => Ok(false),
+    }
+}
+
+/// The same of an item. One that is no map stays.
+fn annotate_map(alloc: Global, item: &mut Item<'_>) -> Result<(), AllocError>
+    ensures { OnOk result (item_tree item.new ≡ (with_claims (item_tree item.old)).1) }
+{
+    match annotate_claims(alloc, item) {
+        Ok(()) => Ok(()),
+        Err(fault) => passed_over(fault),
+    }
+}
+
+/// An item of another type is no error.
+fn passed_over(fault: Fault<TypeMismatch>) -> Result<(), AllocError>
+    ensures { OnOk result ((e : TypeMismatch) × (fault ≡ Told e)) }
+{
+    match fault {
+        Fault::Memory(refused) => Err(refused),
+        Fault::Told(_) => Ok(()),
+    }
+}
