@@ -1,0 +1,4 @@
+pub mod Edits
+pub mod ItemPaths
+pub mod EditedItems
+pub mod ReadingBack

@@ -1,0 +1,87 @@
+//! Edits as tables hold them, and sequences whose texts are read again.
+use cbor_edn_core::tree::{Item, Sequence};
+use cbor_edn_expect::{digits_of, expect_row};
+use cbor_edn_parts::policy::DelimiterPolicy;
+use cbor_edn_script::Edit;
+use std::alloc::Global;
+use std::test::Fail;
+
+/// An edit as a table holds it: the item that is put somewhere is the first one of a text.
+#[derive(Clone, Copy)]
+pub(crate) enum Step {
+    Delimit(DelimiterPolicy),
+    Discard,
+    Replace(&'static [usize], &'static str),
+    TagAt(&'static [usize], u64),
+    CommentTags(&'static str),
+    Prettify,
+    Resolve,
+    To999,
+}
+
+pub(crate) fn edit_of<'a>(alloc: Global, step: Step) -> Result<Edit<'a>, Fail> {
+    match step {
+        Step::Delimit(policy) => Ok(Edit::Delimit(policy)),
+        Step::Discard => Ok(Edit::Discard),
+        Step::Replace(path, text) => replacement(alloc, path, text),
+        Step::TagAt(path, number) => Ok(Edit::TagAt(path.to_vec(alloc)?, number)),
+        Step::CommentTags(comment) => Ok(Edit::CommentTags(String::from_str(alloc, comment)?)),
+        Step::Prettify => Ok(Edit::Prettify),
+        Step::Resolve => Ok(Edit::Resolve),
+        Step::To999 => Ok(Edit::To999),
+    }
+}
+
+/// An edit that puts the first item of a text where a path leads.
+pub(crate) fn replacement<'a>(
+    alloc: Global,
+    path: &[usize],
+    text: &'a str,
+) -> Result<Edit<'a>, Fail> {
+    Ok(Edit::Replace(path.to_vec(alloc)?, first_item(alloc, text)?))
+}
+
+fn first_item<'a>(alloc: Global, text: &'a str) -> Result<Item<'a>, Fail> {
+    let mut sequence = sequence_of(alloc, text)?;
+    match sequence.at_mut(&[0]) {
+        Some(item) => Ok(item.clone()?),
+        None => Err(Fail::new("no item")),
+    }
+}
+
+// Trees stand in boxes: a proof writes out what a function holds, and of a box only that it is one.
+pub(crate) fn sequence_of<'a>(alloc: Global, text: &'a str) -> Result<Box<Sequence<'a>>, Fail> {
+    Ok(Box::new(alloc, Sequence::parse(alloc, text)?)?)
+}
+
+/// The bytes that a sequence means, in digits, or the name of the refusal.
+pub(crate) fn encoding(alloc: Global, sequence: &Sequence<'_>) -> Result<String, Fail> {
+    digits_of(alloc, sequence.to_cbor(alloc))
+}
+
+/// Fails where the printed text of a sequence is read as other items, or as items with another encoding. Leaves the sequence without its
+/// spaces: by what is printed then, items are compared.
+pub(crate) fn expect_read_back(
+    alloc: Global,
+    row: &str,
+    sequence: &mut Sequence<'_>,
+) -> Result<(), Fail> {
+    let text = sequence.serialize(alloc)?;
+    let bytes = encoding(alloc, sequence)?;
+    let bare = text_of_items(alloc, sequence)?;
+    expect_same(alloc, row, text.as_str(), bytes.as_str(), bare.as_str())
+}
+
+fn expect_same(alloc: Global, row: &str, text: &str, bytes: &str, items: &str) -> Result<(), Fail> {
+    let mut again = sequence_of(alloc, text)?;
+    let told = encoding(alloc, &again)?;
+    expect_row(alloc, row, told.as_str(), bytes)?;
+    let told = text_of_items(alloc, &mut again)?;
+    expect_row(alloc, row, told.as_str(), items)
+}
+
+/// The text of the items with the least spaces.
+fn text_of_items(alloc: Global, sequence: &mut Sequence<'_>) -> Result<String, Fail> {
+    sequence.set_delimiters(alloc, DelimiterPolicy::DiscardAll)?;
+    Ok(sequence.serialize(alloc)?)
+}
