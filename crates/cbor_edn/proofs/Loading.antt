@@ -1,17 +1,20 @@
 -- From what a call of the tree answers to what a run says.
-use Rattle.std.proofs.Common.{◌≡◌, ℕ, List, Some, ap, sym, subst, ◌∙◌}
+use Rattle.std.proofs.Common.{◌≡◌, ℕ, List, Some, Bool, true, false, not, refl, ap, sym, subst, ◌∙◌}
 use Rattle.std.specs.Str.{IsUtf8}
 use Rattle.cbor_edn_core.specs.Parsing.{ParsedSequence}
 use Rattle.cbor_edn_model.specs.Decoded.{IsDecodedSequence}
+use Rattle.cbor_edn_model.specs.Layout.{laid_out}
 use Rattle.cbor_edn_model.specs.Meaning.{means}
 use Rattle.cbor_edn_model.specs.Trees.{Tree, Seq, items, text}
 use Rattle.cbor_edn_model.specs.Value.{Values, EncAll}
 use Rattle.cbor_edn_core.specs.View.{Sequence, sequence_tree}
 use Rattle.cbor_edn_core.proofs.code.Printable.{sequence_valid}
+use Rattle.cbor_edn_core.proofs.layout.Layouts.{keeps_items}
+use Rattle.cbor_edn_parts.specs.Spacing.{indented}
 use Rattle.cbor_edn_model.proofs.text.Tested.{valid}
-use Rattle.cbor_edn.proofs.Edits.{edited_items}
 use Rattle.std.proofs.lemmas.Str.{IsUtf8-string_bytes}
-use Rattle.std.specs.Prelude.{false, Result, Ok, Err, IfOk, string_bytes}
+use Rattle.std.specs.Prelude.{Result, Ok, Err, IfOk, string_bytes}
+use Rattle.std.specs.declared.alloc.AllocError.{AllocError}
 use Rattle.std.specs.declared.alloc.Global.{Global}
 use Rattle.std.specs.declared.string.String.{String}
 use Rattle.cbor_edn_parts.specs.Refusals.{IfTold}
@@ -20,7 +23,8 @@ use Rattle.cbor_edn_parts.specs.declared.error.Fault.TheVariants.{Memory, Told}
 use Rattle.cbor_edn_parts.specs.declared.error.InconsistentEdn.{InconsistentEdn}
 use Rattle.cbor_edn_model.specs.Meaning.{NoEncoding}
 use Rattle.cbor_edn_command.specs.Hexadecimal.{input_bytes}
-use Rattle.cbor_edn.specs.Runs.{IsReadAs, IsDecodedAs, IsPrintedAs, IsRefused, edited, told_as}
+use Rattle.cbor_edn.specs.Runs.{IsReadAs, IsDecodedAs, IsPrintedAs, IsRefused, told_as}
+use Rattle.cbor_edn.specs.RunSteps.{Where, IsLaidOut, StepsGive}
 use Rattle.cbor_edn.specs.Steps.{IsEncoded, IsUnencoded, IsUndiagnosed}
 use Rattle.cbor_edn_command.specs.declared.options.Command.TheVariants.{Cbor2Diag}
 use Rattle.cbor_edn.specs.declared.engine.RunError.{RunError}
@@ -44,23 +48,55 @@ read_as limit input t x same utf8 parsed = record {
 pub decoded_as : (limit : ℕ) (bytes : List ℕ) (x : Sequence) → IsDecodedSequence limit bytes (sequence_tree x) → IsDecodedAs limit bytes (sequence_tree x)
 decoded_as limit bytes x d = (d, valid (sequence_tree x) (sequence_valid x))
 
+-- the last step, which sets spaces alone
+abbrev pub Last : Options → Tree Seq → Tree Seq → Type 0
+Last o = Where (not o.preserve_space) (IsLaidOut indented)
+
+-- what it gives, where nothing has need of it
+abbrev pub spaced : Bool → Tree Seq → Tree Seq
+spaced true w = laid_out indented w
+spaced false w = w
+
+is_spaced : (asked : Bool) (w : Tree Seq) → Where asked (IsLaidOut indented) w (spaced asked w)
+is_spaced true w = refl
+is_spaced false w = refl
+
+same_items : (asked : Bool) (w : Tree Seq) → items (spaced asked w) ≡ items w
+same_items true w = keeps_items Seq indented w
+same_items false w = refl
+
+abbrev pub IsShownAs : Options → Tree Seq → List ℕ → Type 0
+IsShownAs o w out = (v : Tree Seq) × StepsGive o w v × IsPrintedAs v out
+
+pub printed_text : (o : Options) (w : Tree Seq) (between after : Sequence) (r : Result (String Global) AllocError) → ((v : Tree Seq) → Last o (sequence_tree between) v → StepsGive o w v)
+    → Last o (sequence_tree between) (sequence_tree after) → IfOk r (λ out. string_bytes out ≡ text (sequence_tree after)) → IfOk r (λ out. IsShownAs o w (string_bytes out))
+printed_text o w between after (Ok out) give laid is = (sequence_tree after, give (sequence_tree after) laid, (valid (sequence_tree after) (sequence_valid after), IsUtf8-string_bytes out, is))
+printed_text o w between after (Err e) give laid is = tt
+
 -- a tree that is printed where it is lent
-pub printed_as : (o : Options) (out : String Global) (lent x : Sequence) → lent ≡ x → string_bytes out ≡ text (edited o (sequence_tree lent))
-    → IsPrintedAs (edited o (sequence_tree x)) (string_bytes out)
-printed_as o out lent x same is = (IsUtf8-string_bytes out, subst (λ (v : Sequence). string_bytes out ≡ text (edited o (sequence_tree v))) same is)
+pub printed_as : (o : Options) (out : List ℕ) (lent x : Sequence) → lent ≡ x → IsShownAs o (sequence_tree lent) out → IsShownAs o (sequence_tree x) out
+printed_as o out lent x same is = subst (λ (s : Sequence). IsShownAs o (sequence_tree s) out) same is
 
-pub encoded_as : (o : Options) (input bytes : List ℕ) (w : Tree Seq) → IsReadAs o.limit input w
-    → (vs : Values) × (means (items w) ≡ Some vs) × EncAll bytes vs → IsEncoded o input bytes
-encoded_as o input bytes w read (vs, meant, enc) = (w, vs, read, ap means (edited_items o w) ∙ meant, enc)
+-- what the steps but the last give, where the tree moves in and out of its box
+pub taken : (o : Options) (lent x after now : Sequence) → lent ≡ x → now ≡ after → ((v : Tree Seq) → Last o (sequence_tree after) v → StepsGive o (sequence_tree lent) v)
+    → (v : Tree Seq) → Last o (sequence_tree now) v → StepsGive o (sequence_tree x) v
+taken o lent x after now same left give =
+    subst (λ (s : Sequence). (v : Tree Seq) → Last o (sequence_tree now) v → StepsGive o (sequence_tree s) v) same
+    (subst (λ (s : Sequence). (v : Tree Seq) → Last o (sequence_tree s) v → StepsGive o (sequence_tree lent) v) (sym left) give)
 
-refused_with : (o : Options) (input : List ℕ) (w : Tree Seq) (f : Fault InconsistentEdn) → IsReadAs o.limit input w
-    → IfTold {X = Unit {0}} (Err f) (NoEncoding (means (items w))) → IsUnencoded o input (told_as Inconsistent f)
-refused_with o input w (Memory e) read none = tt
-refused_with o input w (Told e) read none = (w, read, ap means (edited_items o w) ∙ none)
+pub encoded_as : (o : Options) (input bytes : List ℕ) (w t : Tree Seq) → IsReadAs o.limit input w → ((v : Tree Seq) → Last o t v → StepsGive o w v)
+    → (vs : Values) × (means (items t) ≡ Some vs) × EncAll bytes vs → IsEncoded o input bytes
+encoded_as o input bytes w t read give (vs, meant, enc) =
+    (w, spaced (not o.preserve_space) t, vs, read, give _ (is_spaced (not o.preserve_space) t), ap means (same_items (not o.preserve_space) t) ∙ meant, enc)
 
-pub unencoded_as : (o : Options) (input : List ℕ) (w : Tree Seq) (f : Fault InconsistentEdn) (e : RunError) → IsReadAs o.limit input w → e ≡ told_as Inconsistent f
-    → IfTold {X = Unit {0}} (Err f) (NoEncoding (means (items w))) → IsUnencoded o input e
-unencoded_as o input w f e read is none = subst (IsUnencoded o input) (sym is) (refused_with o input w f read none)
+refused_with : (o : Options) (input : List ℕ) (w t : Tree Seq) (f : Fault InconsistentEdn) → IsReadAs o.limit input w → ((v : Tree Seq) → Last o t v → StepsGive o w v)
+    → IfTold {X = Unit {0}} (Err f) (NoEncoding (means (items t))) → IsUnencoded o input (told_as Inconsistent f)
+refused_with o input w t (Memory e) read give none = tt
+refused_with o input w t (Told e) read give none = (w, spaced (not o.preserve_space) t, read, give _ (is_spaced (not o.preserve_space) t), ap means (same_items (not o.preserve_space) t) ∙ none)
+
+pub unencoded_as : (o : Options) (input : List ℕ) (w t : Tree Seq) (f : Fault InconsistentEdn) (e : RunError) → IsReadAs o.limit input w → ((v : Tree Seq) → Last o t v → StepsGive o w v)
+    → e ≡ told_as Inconsistent f → IfTold {X = Unit {0}} (Err f) (NoEncoding (means (items t))) → IsUnencoded o input e
+unencoded_as o input w t f e read give is none = subst (IsUnencoded o input) (sym is) (refused_with o input w t f read give none)
 
 -- where the input itself is what is decoded
 pub refused_bytes : (o : Options) (input : List ℕ) (e : RunError) → o.command ≡ Cbor2Diag → o.hex ≡ false → IsUndiagnosed o input e → IsRefused o input e

@@ -1,69 +1,67 @@
--- What is decoded and printed is read and encoded as the same bytes.
-use Rattle.std.proofs.Common.{◌≡◌, ℕ, List, Some, false, ap, sym, subst, ◌∙◌, arith}
-use Rattle.std.specs.Prelude.{if◌then◌else◌, Result, Ok}
-use Rattle.std.specs.Str.{IsUtf8}
+-- What is decoded and shown is read and encoded as the same bytes.
+use Rattle.std.proofs.Common.{◌≡◌, ℕ, List, sym, ap, subst, ◌∙◌, arith}
+use Rattle.std.specs.Prelude.{if◌then◌else◌}
 use Rattle.cbor_edn_model.specs.Items.{nesting}
 use Rattle.cbor_edn_model.specs.Spelling.{SpellsSequence}
-use Rattle.cbor_edn_model.specs.Trees.{Tree, Seq, items, text}
-use Rattle.cbor_edn_model.specs.Meaning.{means}
-use Rattle.cbor_edn_model.specs.Value.{Values, encodings}
-use Rattle.cbor_edn_core.proofs.text.GrammarLaws.{unique_items, spelled_by_trees}
+use Rattle.cbor_edn_model.specs.Trees.{Tree, Seq, items}
+use Rattle.cbor_edn_core.proofs.text.GrammarLaws.{spelled_by_trees}
+use Rattle.cbor_edn_conversions.specs.Resolvers.{literal_resolver}
+use Rattle.cbor_edn_conversions.specs.Resolving.{means_by}
+use Rattle.cbor_edn_conversions.proofs.conversions.Literals.{all_no_content}
+use Rattle.cbor_edn_conversions.proofs.resolving.Resolved.{more_means}
 use Rattle.cbor_edn_command.specs.Hexadecimal.{input_bytes, hex_lines}
-use Rattle.cbor_edn.specs.RunLaws.{ReadsBack}
-use Rattle.cbor_edn.specs.Runs.{IsReadAs, IsDecodedAs, IsEncodedAs, IsWrittenAs, Loads, edited}
 use Rattle.cbor_edn_command.specs.declared.options.Command.{Command}
-use Rattle.cbor_edn_command.specs.declared.options.Command.TheVariants.{Cbor2Diag}
 use Rattle.cbor_edn_command.specs.declared.options.Options.{Options}
-use Rattle.cbor_edn.proofs.Edits.{edited_items, edited_valid}
+use Rattle.cbor_edn.specs.RunLaws.{Shows, Encodes, ReadsBack}
+use Rattle.cbor_edn.specs.RunSteps.{StepsGive}
+use Rattle.cbor_edn.specs.Runs.{IsDecodedAs, IsPrintedAs, IsWrittenAs, Loads, IsOutput}
+use Rattle.cbor_edn.proofs.RunsOnce.{ok_same, one_output}
+use Rattle.cbor_edn.proofs.ShownNesting.{shown_within}
+use Rattle.cbor_edn.proofs.StepsKept.{Means, steps_keep, resolved_means, steps_give}
 
-ok_same : {E : Type 0} (a b : List ℕ) → ◌≡◌ {A = Result (List ℕ) E} (Ok a) (Ok b) → a ≡ b
-ok_same a b e = cc
+-- what is shown of some bytes
+record IsShown (o : Options) (bytes out : List ℕ) : Type 0 where
+  pub decoded : Tree Seq
+  pub shown : Tree Seq
+  pub is_decoded : IsDecodedAs o.limit bytes decoded
+  pub steps : StepsGive o decoded shown
+  pub is_printed : IsPrintedAs shown out
 
-some_same : (vs ws : Values) → Some vs ≡ Some ws → vs ≡ ws
-some_same vs ws e = cc
+shown_of : (o : Options) (bytes out : List ℕ) → Shows o → IsOutput o bytes out → IsShown o bytes out
+shown_of o bytes out shows (w, v, loads, steps, written) =
+    let loaded = subst (λ (c : Command). Loads c o bytes w) shows.command loads in
+    let same = ok_same loaded.0 bytes (sym loaded.1 ∙ ap (λ h. input_bytes h bytes) shows.binary) in
+    record {
+      decoded = w;
+      shown = v;
+      is_decoded = subst (λ x. IsDecodedAs o.limit x w) same loaded.2;
+      steps = steps;
+      is_printed = subst (λ (c : Command). IsWrittenAs c o v out) shows.command written;
+    }
 
--- what is decoded where bytes stand for themselves
-decoded : (o : Options) (bytes : List ℕ) (w : Tree Seq) → o.hex ≡ false → Loads Cbor2Diag o bytes w → IsDecodedAs o.limit bytes w
-decoded o bytes w plain (b, is, d) = subst (λ x. IsDecodedAs o.limit x w) (sym (ok_same bytes b (sym (ap (λ h. input_bytes h bytes) plain) ∙ is))) d
-
--- A text that spells the items of some bytes is encoded as them.
-encodes : (o : Options) (limit : ℕ) (bytes t : List ℕ) (w : Tree Seq) → o.hex ≡ false → o.limit ≡ limit → IsDecodedAs limit bytes w → IsUtf8 t → SpellsSequence (items w) t
-    → (v : Tree Seq) × IsReadAs o.limit t v × IsEncodedAs o.hex (edited o v) bytes
-encodes o limit bytes t w plain same_limit d utf8 spelled =
-    let tree = spelled_by_trees.0 (items w) t spelled in (
-      tree.0,
-      record {
-        utf8 = utf8;
-        prints = tree.4;
-        valid = tree.1;
-        merged = tree.2;
-        within = omega (arith, ap nesting tree.3, ap nesting d.0.same_items, d.0.within, same_limit);
-      },
-      (d.0.values, bytes, ap means (edited_items o tree.0 ∙ tree.3) ∙ d.0.meant, d.0.encoded, sym (ap (λ h. if h then hex_lines bytes else bytes) plain)),
+encoded_again : (there back : Options) (bytes out : List ℕ) → Shows there → Encodes back → back.limit ≡ there.limit → IsShown there bytes out → IsOutput back out bytes
+encoded_again there back bytes out shows encodes same_limit h =
+    let values = h.is_decoded.0.values in
+    let meant : Means values (items h.shown) = steps_keep values there shows.literals_stay h.decoded h.shown h.steps (more_means literal_resolver all_no_content (items h.decoded) values h.is_decoded.0.meant) in
+    let spelled : SpellsSequence (items h.shown) out = subst (SpellsSequence (items h.shown)) (sym h.is_printed.2) (spelled_by_trees.2 h.shown h.is_printed.0) in
+    let (read, valid, merged, same, prints) = spelled_by_trees.0 (items h.shown) out spelled in
+    let within = shown_within there h.decoded h.shown shows there.limit bytes h.is_decoded h.steps in
+    let made = steps_give back encodes read in
+    let means_values = resolved_means values back encodes read made.0 made.1 (ap (λ x. means_by literal_resolver x) same ∙ meant) in (
+      read,
+      made.0,
+      subst (λ (c : Command). Loads c back out read) (sym encodes.command) (record {
+        utf8 = h.is_printed.1;
+        prints = prints;
+        valid = valid;
+        merged = merged;
+        within = omega (arith, ap nesting same, within, same_limit);
+      }),
+      made.1,
+      subst (λ (c : Command). IsWrittenAs c back made.0 bytes) (sym encodes.command) (values, bytes, means_values, h.is_decoded.0.encoded, sym (ap (λ b. if b then hex_lines bytes else bytes) encodes.binary)),
     )
-
--- It is encoded as nothing else.
-no_other : (o : Options) (limit : ℕ) (bytes b t : List ℕ) (w v : Tree Seq) → o.hex ≡ false → IsDecodedAs limit bytes w → SpellsSequence (items w) t
-    → IsReadAs o.limit t v → IsEncodedAs o.hex (edited o v) b → b ≡ bytes
-no_other o limit bytes b t w v plain d spelled read (vs, e, meant, enc, is) =
-    let also : SpellsSequence (items v) t = subst (SpellsSequence (items v)) read.prints (spelled_by_trees.2 v read.valid) in
-    let same : items v ≡ items w = unique_items.0 (items v) (items w) t also spelled in
-    let values : vs ≡ d.0.values = some_same vs d.0.values (sym meant ∙ ap means (edited_items o v ∙ same) ∙ d.0.meant) in
-    is ∙ ap (λ h. if h then hex_lines e else e) plain ∙ enc.1 ∙ ap encodings values ∙ sym d.0.encoded.1
 
 pub reads_back : ReadsBack
-reads_back there back bytes out is_there is_back plain plain_back same_limit (w, loaded, written) =
-    let d = decoded there bytes w plain (subst (λ (c : Command). Loads c there bytes w) is_there loaded) in
-    let printed = subst (λ (c : Command). IsWrittenAs c there (edited there w) out) is_there written in
-    let own : SpellsSequence (items (edited there w)) (text (edited there w)) = spelled_by_trees.2 (edited there w) (edited_valid there w d.1) in
-    let spelled : SpellsSequence (items w) out =
-    subst (λ x. SpellsSequence x out) (edited_items there w) (subst (SpellsSequence (items (edited there w))) (sym printed.1) own) in
-    let made = encodes back there.limit bytes out w plain_back same_limit d printed.0 spelled in (
-      (
-        made.0,
-        subst (λ (c : Command). Loads c back out made.0) (sym is_back) made.1,
-        subst (λ (c : Command). IsWrittenAs c back (edited back made.0) bytes) (sym is_back) made.2,
-      ),
-      λ b o. no_other back there.limit bytes b out w o.0 plain_back d spelled
-          (subst (λ (c : Command). Loads c back out o.0) is_back o.1) (subst (λ (c : Command). IsWrittenAs c back (edited back o.0) b) is_back o.2),
-    )
+reads_back there back bytes out shows encodes same_limit output =
+    let again = encoded_again there back bytes out shows encodes same_limit (shown_of there bytes out shows output) in
+    (again, λ b other. one_output back out b bytes other again)

@@ -4,16 +4,12 @@ use Rattle.std.specs.Str.{IsUtf8}
 use Rattle.std.specs.Io.KnownBytes.{Appends, Keeps}
 use Rattle.cbor_edn_parts.specs.declared.error.Fault.{Fault}
 use Rattle.cbor_edn_parts.specs.declared.error.Fault.TheVariants as fault
-use Rattle.cbor_edn_parts.specs.declared.policy.DelimiterPolicy.{DelimiterPolicy}
-use Rattle.cbor_edn_parts.specs.declared.policy.DelimiterPolicy.TheVariants.{DiscardAll}
-use Rattle.cbor_edn_parts.specs.Spacing.{indented}
 use Rattle.cbor_edn_model.specs.declared.from_cbor.CborError.{CborError}
 use Rattle.cbor_edn_model.specs.declared.from_cbor.CborError.TheVariants.{TooDeep}
 use Rattle.cbor_edn_model.specs.Items.{nesting}
 use Rattle.cbor_edn_model.specs.Spelling.{SpellsSequence}
 use Rattle.cbor_edn_core.specs.Parsing.{Unparsed}
 use Rattle.cbor_edn_model.specs.Trees.{Tree, Seq, Valid, Merged, items, text}
-use Rattle.cbor_edn_model.specs.Layout.{laid_out}
 use Rattle.cbor_edn_model.specs.Meaning.{means}
 use Rattle.cbor_edn_model.specs.Value.{Values, EncAll}
 use Rattle.cbor_edn_model.specs.Decoded.{IsDecodedSequence, NoSequence, IsTooDeepSequence}
@@ -22,6 +18,7 @@ use Rattle.cbor_edn_command.specs.Hexadecimal.{input_bytes, hex_lines}
 use Rattle.cbor_edn_command.specs.declared.options.Command.{Command}
 use Rattle.cbor_edn_command.specs.declared.options.Command.TheVariants.{Diag2Cbor, Cbor2Diag, Diag2Diag}
 use Rattle.cbor_edn_command.specs.declared.options.Options.{Options}
+use Rattle.cbor_edn.specs.RunSteps.{StepsGive}
 use Rattle.cbor_edn.specs.declared.engine.RunError.{RunError}
 use Rattle.cbor_edn.specs.declared.engine.RunError.TheVariants.{Read, NotUtf8, Parse, Cbor, Hex, Inconsistent, Write, Memory}
 
@@ -45,21 +42,13 @@ Loads Diag2Cbor o input w = IsReadAs o.limit input w
 Loads Cbor2Diag o input w = (bytes : List ℕ) × (input_bytes o.hex input ≡ Ok bytes) × IsDecodedAs o.limit bytes w
 Loads Diag2Diag o input w = IsReadAs o.limit input w
 
--- a tree after a policy that may be asked for
-abbrev pub laid_where : Bool → DelimiterPolicy → Tree Seq → Tree Seq
-laid_where asked policy w = if asked then laid_out policy w else w
-
--- The tree that is written: without comments where that is asked for, then indented unless its spaces are to stay.
-abbrev pub edited : Options → Tree Seq → Tree Seq
-edited o w = laid_where (not o.preserve_space) indented (laid_where o.remove_comments DiscardAll w)
-
 -- the bytes that a tree's items mean, or their digits in lines
 abbrev pub IsEncodedAs : Bool → Tree Seq → List ℕ → Type 0
 IsEncodedAs hex w out = (vs : Values) × (bytes : List ℕ) × (means (items w) ≡ Some vs) × EncAll bytes vs × (out ≡ (if hex then hex_lines bytes else bytes))
 
--- a tree's text
+-- the text of a tree whose texts are each in their set
 abbrev pub IsPrintedAs : Tree Seq → List ℕ → Type 0
-IsPrintedAs w out = IsUtf8 out × (out ≡ text w)
+IsPrintedAs w out = Valid w × IsUtf8 out × (out ≡ text w)
 
 abbrev pub IsWrittenAs : Command → Options → Tree Seq → List ℕ → Type 0
 IsWrittenAs Diag2Cbor o w out = IsEncodedAs o.hex w out
@@ -69,7 +58,7 @@ IsWrittenAs Diag2Diag o w out = IsPrintedAs w out
 -- What is written for an input: `83 01 18 1f 80` for `[1, 0x1f, []]` by `Diag2Cbor`, and `[1, 31, []]` with a line feed for that by
 -- `Cbor2Diag`.
 abbrev pub IsOutput : Options → List ℕ → List ℕ → Type 0
-IsOutput o input out = (w : Tree Seq) × Loads o.command o input w × IsWrittenAs o.command o (edited o w) out
+IsOutput o input out = (w v : Tree Seq) × Loads o.command o input w × StepsGive o w v × IsWrittenAs o.command o v out
 
 -- ---- what is refused
 
@@ -100,7 +89,7 @@ IsRefused o input NotUtf8 = ReadsText o.command × IsUnread o.limit input NotUtf
 IsRefused o input (Parse e) = ReadsText o.command × IsUnread o.limit input (Parse e)
 IsRefused o input (Cbor e) = (o.command ≡ Cbor2Diag) × ((bytes : List ℕ) × (input_bytes o.hex input ≡ Ok bytes) × IsUndecoded o.limit bytes e)
 IsRefused o input Hex = (o.command ≡ Cbor2Diag) × IsErr (input_bytes o.hex input)
-IsRefused o input (Inconsistent e) = (o.command ≡ Diag2Cbor) × ((w : Tree Seq) × IsReadAs o.limit input w × (means (items (edited o w)) ≡ None))
+IsRefused o input (Inconsistent e) = (o.command ≡ Diag2Cbor) × ((w v : Tree Seq) × IsReadAs o.limit input w × StepsGive o w v × (means (items v) ≡ None))
 IsRefused o input Write = ⊥
 IsRefused o input (Memory _) = Unit {0}
 

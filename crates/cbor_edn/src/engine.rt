@@ -1,16 +1,18 @@
 //! A whole run: from a reader, through a tree of items, to a writer.
 ghost use Rattle.std.specs.Prelude.{◌≡◌, ◌+◌, Result, IfOk, IfErr, IfSome, string_bytes};
 ghost use Rattle.std.specs.Io.KnownBytes.{IsAtEnd, Keeps};
-ghost use Rattle.cbor_edn_model.specs.Trees.{text};
+ghost use Rattle.cbor_edn_model.specs.Trees.{Tree, Seq};
 ghost use Rattle.cbor_edn_core.specs.View.{sequence_tree};
 ghost use Rattle.cbor_edn_command.specs.Devices.{FailsAtMostOnce};
 ghost use Rattle.cbor_edn.specs.Runs.{IsOutput, IsRefused, Wrote, HasReadAll, EndsReading, EndsWriting, IsFaultLine, IsTold, read_faults, write_faults, status, told_as};
-ghost use Rattle.cbor_edn.specs.Runs.{IsReadAs, IsUnread, edited};
+ghost use Rattle.cbor_edn.specs.Runs.{IsReadAs, IsUnread, IsPrintedAs};
+ghost use Rattle.cbor_edn.specs.RunSteps.{StepsGive};
 ghost use Rattle.cbor_edn.specs.Steps.{IsEncoded, IsUnencoded, IsDiagnosed, IsUndiagnosed, IsReprinted};
 ghost use Rattle.cbor_edn.specs.declared.engine.RunError.{RunError};
 ghost use Rattle.cbor_edn.specs.declared.engine.RunError.TheVariants.{Memory, Parse, Cbor, Inconsistent, Hex, Read};
 
 use crate::boxed::boxed;
+use crate::steps;
 pub use cbor_edn_command::count::Count;
 pub use cbor_edn_command::devices::{DeviceFault, Sink, Source, StdSink, StdSource};
 use cbor_edn_command::hexadecimal::{self, NotHex};
@@ -19,7 +21,6 @@ use cbor_edn_command::transfer::{read_all, write_all};
 use cbor_edn_core::from_cbor::CborError;
 use cbor_edn_core::tree::Sequence;
 use cbor_edn_parts::error::{Fault, InconsistentEdn, ParseError};
-use cbor_edn_parts::policy::DelimiterPolicy;
 use simdutf8::basic::from_utf8;
 use std::alloc::{AllocError, Global};
 use thiserror::Error;
@@ -128,33 +129,29 @@ fn parsed<'a>(alloc: Global, limit: usize, input: &'a [u8]) -> Result<Box<Sequen
     Ok(boxed(alloc, Sequence::parse_within(alloc, text, limit))?)
 }
 
-// The encodings of what a text means. Spaces and comments have no part in it.
-#[tactic(auto, using(crate::proofs::Loading::encoded_as, crate::proofs::Loading::unencoded_as))]
+// The encodings of what the items of a text mean after the steps. The last step sets spaces, which have no part in it.
 fn encoded(alloc: Global, options: &Options, input: &[u8]) -> Result<Vec<u8>, RunError>
     ensures ok { IfOk result (λ bytes. IsEncoded options.now input.now bytes.items) }
     ensures err { IfErr result (IsUnencoded options.now input.now) }
 {
-    let sequence = parsed(alloc, options.limit, input)?;
+    let mut sequence = parsed(alloc, options.limit, input)?;
+    steps::take(alloc, options, &mut sequence)?;
     match sequence.to_cbor(alloc) {
         Ok(bytes) => Ok(bytes),
         Err(fault) => Err(RunError::from(fault)),
     }
 }
 
-// The text of items, with the spaces that are asked for.
+// The text of items after the steps.
 fn printed(
     alloc: Global,
     options: &Options,
     sequence: &mut Sequence<'_>,
 ) -> Result<String, AllocError>
-    ensures { IfOk result (λ t. string_bytes t ≡ text (edited options.now (sequence_tree sequence.old))) }
+    ensures { IfOk result (λ t. (v : Tree Seq) × StepsGive options.now (sequence_tree sequence.old) v × IsPrintedAs v (string_bytes t)) }
 {
-    if options.remove_comments {
-        sequence.set_delimiters(alloc, DelimiterPolicy::DiscardAll)?;
-    }
-    if !options.preserve_space {
-        sequence.set_delimiters(alloc, DelimiterPolicy::indented())?;
-    }
+    steps::take(alloc, options, sequence)?;
+    steps::indent(alloc, options, sequence)?;
     sequence.serialize(alloc)
 }
 

@@ -1,9 +1,12 @@
 //! The Extended Diagnostic Notation (EDN) of CBOR: read, printed, encoded and decoded without loss.
 #![tactic(auto)]
 
+pub mod application;
 mod boxed;
 pub mod engine;
 pub mod laws;
+pub mod script;
+mod steps;
 
 pub use cbor_edn_command::words;
 pub use cbor_edn_core::access::{
@@ -12,6 +15,8 @@ pub use cbor_edn_core::access::{
 pub use cbor_edn_core::from_cbor::CborError;
 pub use cbor_edn_core::tree::{Item, NESTING_LIMIT, Sequence, StandaloneItem};
 pub use cbor_edn_core::visitor::MapValueHandler;
+pub use cbor_edn_model::word::NamedSimple;
 pub use cbor_edn_parts::error::{CallbackError, Fault, InconsistentEdn, ParseError};
+pub use cbor_edn_parts::indicator::Indicator;
 pub use cbor_edn_parts::looks::Looks;
 pub use cbor_edn_parts::policy::DelimiterPolicy;

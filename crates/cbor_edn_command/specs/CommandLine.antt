@@ -1,9 +1,9 @@
 -- The program's command line, as `clap` sees it, and what is read off the entries that `clap` finds for the words.
-use Rattle.std.specs.Prelude.{◌≡◌, ℕ, Bool, true, false, List, [], ◌∷◌, map, codes, Option, Some, None, unwrap_or, if◌then◌else◌}
+use Rattle.std.specs.Prelude.{◌≡◌, ℕ, Bool, true, false, not, List, [], ◌∷◌, ◌++◌, map, codes, Option, Some, None, unwrap_or, if◌then◌else◌}
 use Rattle.std.specs.Str.{bytes_eq}
 use Rattle.std.specs.Str.Parse.{digits_value, without_leading_plus}
 use Rattle.std.specs.Option.{option_map_or}
-use Rattle.clap.specs.Words.{App, Row, Rule, Text, first_of, new_app, new_rule, one_of, subcommand_of, with_rule, with_subcommand}
+use Rattle.clap.specs.Words.{App, Row, Rule, Text, first_of, new_app, new_rule, one_of, subcommand_of, with_subcommand}
 use Rattle.clap.specs.declared.builder.action.ArgAction.TheVariants.{SetTrue}
 use Rattle.clap.specs.declared.builder.value_parser.ValueParser.{ValueParser}
 use Rattle.clap.specs.declared.builder.value_parser.ValueParser.TheVariants.{Names, Unsigned}
@@ -26,31 +26,51 @@ max_nesting = record (new_rule (codes "max-nesting")) { long = Some (codes "max-
 abbrev pub format : ℕ → Text → ValueParser → Rule
 format short long names = record (new_rule (codes "format")) { short = Some short; long = Some long; value_names = 1; parser = Some names }
 
+-- `--annotate`: one of some names
+abbrev pub annotate : ValueParser → Rule
+annotate names = record (new_rule (codes "annotate")) { long = Some (codes "annotate"); value_names = 1; parser = Some names }
+
 -- INPUT and OUTPUT
 abbrev pub file : Text → Rule
 file id = record (new_rule id) { value_names = 1 }
 
--- what each command takes behind its own flags
-abbrev pub with_common : App → App
-with_common a = with_rule (with_rule (with_rule a max_nesting) (file (codes "input"))) (file (codes "output"))
+-- what the commands that read EDN take, those that write it, and all of them
+abbrev pub edn_input : List Rule
+edn_input = flag (codes "annotate-tags") ∷ flag (codes "apply-999") ∷ []
+
+abbrev pub edn_output : ValueParser → List Rule
+edn_output annotations = flag (codes "aol-to-item") ∷ flag (codes "no-bignum-from-tags") ∷ annotate annotations ∷ []
+
+abbrev pub common : List Rule
+common = max_nesting ∷ file (codes "input") ∷ file (codes "output") ∷ []
+
+-- a command that takes more
+abbrev pub with_rules : App → List Rule → App
+with_rules a more = record a { top = record a.top { rules = a.top.rules ++ more } }
 
 abbrev pub diag2cbor : ValueParser → App
-diag2cbor names = with_common (with_rule (new_app (codes "diag2cbor")) (format 111 (codes "output-format") names))
+diag2cbor formats = with_rules (new_app (codes "diag2cbor")) (format 111 (codes "output-format") formats ∷ edn_input ++ common)
 
-abbrev pub cbor2diag : ValueParser → App
-cbor2diag names = with_common (with_rule (new_app (codes "cbor2diag")) (format 105 (codes "input-format") names))
+abbrev pub cbor2diag : ValueParser → ValueParser → App
+cbor2diag formats annotations =
+    with_rules (new_app (codes "cbor2diag"))
+    (format 105 (codes "input-format") formats ∷ flag (codes "no-annotate-tags") ∷ edn_output annotations ++ common)
 
-abbrev pub diag2diag : App
-diag2diag = with_common (with_rule (with_rule (new_app (codes "diag2diag")) (flag (codes "preserve-space"))) (flag (codes "remove-comments")))
+abbrev pub diag2diag : ValueParser → App
+diag2diag annotations =
+    with_rules (new_app (codes "diag2diag"))
+    (edn_input ++ edn_output annotations ++ flag (codes "preserve-space") ∷ flag (codes "remove-comments") ∷ common)
 
 -- a program with a version, of which a command is wanted, and which has no command `help`
 abbrev pub wants_command : App → App
 wants_command a = record a { top = record a.top { has_version = true; subcommand_required = true; disable_help_subcommand = true } }
 
--- `cbor-edn`, with the parsers of the names of formats that are written and read
+-- `cbor-edn`, with the parsers of the names of formats and of annotations
 abbrev pub program : ValueParser → ValueParser → App
-program written read =
-    with_subcommand (with_subcommand (with_subcommand (wants_command (new_app (codes "cbor-edn"))) (diag2cbor written).top) (cbor2diag read).top) diag2diag.top
+program formats annotations =
+    with_subcommand
+    (with_subcommand (with_subcommand (wants_command (new_app (codes "cbor-edn"))) (diag2cbor formats).top) (cbor2diag formats annotations).top)
+    (diag2diag annotations).top
 
 -- ---- what they say
 
@@ -61,13 +81,9 @@ command_named name =
     else if bytes_eq name (codes "diag2diag") then Some Diag2Diag
     else None
 
--- a flag that a command has or lacks: it is there as `true`
-abbrev pub IsFlag : Text → List Row → Bool → Type 0
-IsFlag id rows b = (one_of id rows ≡ None → b ≡ false) × (one_of id rows ≡ Some (codes "true") → b ≡ true) × (one_of id rows ≡ Some (codes "false") → b ≡ false)
-
--- `hex` as a format
-abbrev pub is_hex : List Row → Bool
-is_hex rows = option_map_or (λ t. bytes_eq t (codes "hex")) (first_of (codes "format") rows) false
+-- a flag has this value
+abbrev pub is_value : Text → Text → List Row → Bool
+is_value id value rows = option_map_or (λ t. bytes_eq t value) (first_of id rows) false
 
 abbrev pub limit_of : List Row → ℕ
 limit_of rows = option_map_or (λ t. digits_value 10 (without_leading_plus t)) (one_of (codes "max-nesting") rows) NESTING_LIMIT
@@ -76,23 +92,96 @@ limit_of rows = option_map_or (λ t. digits_value 10 (without_leading_plus t)) (
 abbrev pub file_of : Text → List Row → Text
 file_of id rows = unwrap_or (first_of id rows) (codes "-")
 
+-- An option by a command's entries: on where a flag is given. A flag that the command has is there, as `true` or `false`.
+abbrev pub IsFlag : Text → List Row → Bool → Type 0
+IsFlag id rows on = (one_of id rows ≡ None → on ≡ false) × (one_of id rows ≡ Some (codes "true") → on ≡ true) × (one_of id rows ≡ Some (codes "false") → on ≡ false)
+
+-- on, unless a flag is given
+abbrev pub IsNoFlag : Text → List Row → Bool → Type 0
+IsNoFlag id rows on = IsFlag id rows (not on)
+
+-- on where a flag has this value
+abbrev pub IsValue : Text → Text → List Row → Bool → Type 0
+IsValue id value rows on = on ≡ is_value id value rows
+
+-- always so
+abbrev pub IsAlways : Bool → List Row → Bool → Type 0
+IsAlways default rows on = on ≡ default
+
+-- ---- the options, by the flags of each command
+
+abbrev pub IsHex : Command → List Row → Bool → Type 0
+IsHex Diag2Cbor = IsValue (codes "format") (codes "hex")
+IsHex Cbor2Diag = IsValue (codes "format") (codes "hex")
+IsHex Diag2Diag = IsAlways false
+
+abbrev pub AnnotatesTags : Command → List Row → Bool → Type 0
+AnnotatesTags Diag2Cbor = IsFlag (codes "annotate-tags")
+AnnotatesTags Cbor2Diag = IsNoFlag (codes "no-annotate-tags")
+AnnotatesTags Diag2Diag = IsFlag (codes "annotate-tags")
+
+abbrev pub Applies999 : Command → List Row → Bool → Type 0
+Applies999 Diag2Cbor = IsFlag (codes "apply-999")
+Applies999 Cbor2Diag = IsAlways false
+Applies999 Diag2Diag = IsFlag (codes "apply-999")
+
+-- literals of times and addresses have no encoding, and what they stand for has one
+abbrev pub ResolvesLiterals : Command → List Row → Bool → Type 0
+ResolvesLiterals Diag2Cbor = IsAlways true
+ResolvesLiterals Cbor2Diag = IsFlag (codes "aol-to-item")
+ResolvesLiterals Diag2Diag = IsFlag (codes "aol-to-item")
+
+-- a bignum and the tag that stands for it have the same encoding
+abbrev pub ReadsBignums : Command → List Row → Bool → Type 0
+ReadsBignums Diag2Cbor = IsAlways false
+ReadsBignums Cbor2Diag = IsNoFlag (codes "no-bignum-from-tags")
+ReadsBignums Diag2Diag = IsNoFlag (codes "no-bignum-from-tags")
+
+abbrev pub AnnotatesClaims : Command → List Row → Bool → Type 0
+AnnotatesClaims Diag2Cbor = IsAlways false
+AnnotatesClaims Cbor2Diag = IsValue (codes "annotate") (codes "ccs")
+AnnotatesClaims Diag2Diag = IsValue (codes "annotate") (codes "ccs")
+
+abbrev pub RemovesComments : Command → List Row → Bool → Type 0
+RemovesComments Diag2Diag = IsFlag (codes "remove-comments")
+RemovesComments _ = IsAlways false
+
+abbrev pub PreservesSpace : Command → List Row → Bool → Type 0
+PreservesSpace Diag2Diag = IsFlag (codes "preserve-space")
+PreservesSpace _ = IsAlways false
+
+-- The options of a command, but for its limit, are those that its entries set.
+pub record AreSet (rows : List Row) (o : Options) : Type 0 where
+  pub hex : IsHex o.command rows o.hex
+  pub annotate_tags : AnnotatesTags o.command rows o.annotate_tags
+  pub apply_999 : Applies999 o.command rows o.apply_999
+  pub aol_to_item : ResolvesLiterals o.command rows o.aol_to_item
+  pub bignum_from_tags : ReadsBignums o.command rows o.bignum_from_tags
+  pub annotate_ccs : AnnotatesClaims o.command rows o.annotate_ccs
+  pub remove_comments : RemovesComments o.command rows o.remove_comments
+  pub preserve_space : PreservesSpace o.command rows o.preserve_space
+
 -- The options and the two names, read off a command's name and its entries.
 pub record IsReadOff (found : Text × List Row) (o : Options) (source target : Text) : Type 0 where
   pub command : command_named found.0 ≡ Some o.command
-  pub hex : o.hex ≡ is_hex found.1
-  pub remove_comments : IsFlag (codes "remove-comments") found.1 o.remove_comments
-  pub preserve_space : IsFlag (codes "preserve-space") found.1 o.preserve_space
+  pub flags : AreSet found.1 o
   pub limit : o.limit ≡ limit_of found.1
   pub input : source ≡ file_of (codes "input") found.1
   pub output : target ≡ file_of (codes "output") found.1
 
 -- a parser that takes these names alone
-abbrev pub AreFormats : ValueParser → Type 0
-AreFormats (Names names) = map (λ s. s.now) names.now ≡ codes "hex" ∷ codes "binary" ∷ codes "auto" ∷ []
-AreFormats _ = ⊥
+abbrev pub AreNames : List Text → ValueParser → Type 0
+AreNames texts (Names names) = map (λ s. s.now) names.now ≡ texts
+AreNames _ _ = ⊥
 
--- The same of the entries that `clap` finds for some words, where each format is `hex`, `binary` or `auto`.
+abbrev pub AreFormats : ValueParser → Type 0
+AreFormats = AreNames (codes "hex" ∷ codes "binary" ∷ codes "auto" ∷ [])
+
+abbrev pub AreAnnotations : ValueParser → Type 0
+AreAnnotations = AreNames (codes "ccs" ∷ [])
+
+-- The same of the entries that `clap` finds for some words, where each format is `hex`, `binary` or `auto`, and `ccs` is annotated.
 abbrev pub IsReadFrom : List Text → Options → Text → Text → Type 0
 IsReadFrom words o source target =
-    (written read : ValueParser) × (found : Text × List Row) × AreFormats written × AreFormats read × (subcommand_of (program written read) words ≡ Some found)
-    × IsReadOff found o source target
+    (formats annotations : ValueParser) × (found : Text × List Row) × AreFormats formats × AreAnnotations annotations
+    × (subcommand_of (program formats annotations) words ≡ Some found) × IsReadOff found o source target

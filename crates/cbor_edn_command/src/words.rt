@@ -1,10 +1,8 @@
 //! The words of a command line.
 ghost use Rattle.std.specs.Prelude.{◌≡◌, IfOk, IfSome, map};
-ghost use Rattle.clap.specs.Words.{app_of, found_of, rows_of};
-ghost use Rattle.clap.specs.declared.builder.command.Command.TheViews.{out-Command};
-ghost use Rattle.clap.specs.declared.builder.value_parser.ValueParser.{ValueParser};
+ghost use Rattle.clap.specs.Words.{found_of, rows_of};
 ghost use Rattle.cbor_edn_command.specs.CommandLine as line;
-ghost use Rattle.cbor_edn_command.specs.Steps.{IsArgOf, IsCommandOf};
+ghost use Rattle.cbor_edn_command.specs.Steps.{GrowsBy, IsArgOf, IsCommandOf, IsProgram};
 
 use crate::options::{Command, Options};
 use cbor_edn_parts::nesting::NESTING_LIMIT;
@@ -15,16 +13,34 @@ use std::alloc::{AllocError, Global};
 
 static FORMATS: [&str; 3] = ["hex", "binary", "auto"];
 
+static ANNOTATIONS: [&str; 1] = ["ccs"];
+
 const ABOUT: &str = "Turns the Extended Diagnostic Notation (EDN) of CBOR into CBOR and back";
 
 const EXAMPLES: &str = "\
-Without INPUT and OUTPUT, or where they are -, standard input and output are read and written.
-Exit status: 0 done, 1 a fault of the input, a file or a device, 2 a fault of the words.
+A command takes [OPTIONS] [INPUT] [OUTPUT], and shows its options by --help.
+Standard input and output stand for names that are left out or -.
+Exit status: 0 done, 1 a fault of input, file or device, 2 a fault of the words.
 
 Examples:
   echo '[1, 0x1f, []]' | cbor-edn diag2cbor -o hex    # 8301181f80
   echo '83 01 18 1f 80' | cbor-edn cbor2diag -i hex   # [1, 31, []]
   echo '[1 /one/,2]' | cbor-edn diag2diag             # [1/one/, 2]";
+
+const ENCODING: &str = "\
+Literals of times and addresses are encoded as what they stand for.
+
+Example:
+  echo \"ip'192.0.2.1', 0x1f\" | cbor-edn diag2cbor -o hex   # 44c0000201181f";
+
+const DECODING: &str = "\
+Example:
+  echo c100 | cbor-edn cbor2diag -i hex   # DT'1970-01-01T00:00:00+00:00'";
+
+const EDITING: &str = "\
+Example:
+  echo '{4: 1700000000}' | cbor-edn diag2diag --annotate ccs
+  # {4/ exp /: dt'2023-11-14T22:13:20+00:00'}";
 
 /// What a run is to do by the words of a command line, of which the first is the program's name, and the names of its input and
 /// its output: `-` stands for the standard streams, also where a name is left out. An error is a fault of the words, or the
@@ -46,13 +62,7 @@ pub fn options<'a>(
     let Some(limit) = limit_of(found) else {
         return Err(program.error(ErrorKind::ValueValidation, "no such limit")?);
     };
-    let options = Options {
-        command,
-        hex: is_hex(found),
-        remove_comments: found.get_flag("remove-comments"),
-        preserve_space: found.get_flag("preserve-space"),
-        limit,
-    };
+    let options = options_of(command, found, limit);
     Ok((options, file_of(found, "input"), file_of(found, "output")))
 }
 
@@ -67,12 +77,65 @@ fn command_named(name: &str) -> Option<Command>
     }
 }
 
-// Whether CBOR stands in digits.
-fn is_hex(found: &ArgMatches<'_>) -> bool
-    ensures { result ≡ line.is_hex (rows_of (found_of found.now)) }
+// The options of a command by its flags. What no flag of the command sets is off, but for literals that are to be encoded.
+fn options_of(command: Command, found: &ArgMatches<'_>, limit: usize) -> Options
+    ensures given { (result.command ≡ command) × (result.limit ≡ limit) }
+    ensures flags { line.AreSet (rows_of (found_of found.now)) result }
 {
-    match found.get_str("format") {
-        Some(name) => name == "hex",
+    let off = Options {
+        command,
+        hex: false,
+        annotate_tags: false,
+        apply_999: false,
+        aol_to_item: false,
+        bignum_from_tags: false,
+        annotate_ccs: false,
+        remove_comments: false,
+        preserve_space: false,
+        limit,
+    };
+    match command {
+        Command::Diag2Cbor => Options {
+            hex: is_value(found, "format", "hex"),
+            annotate_tags: is_given(found, "annotate-tags"),
+            apply_999: is_given(found, "apply-999"),
+            aol_to_item: true,
+            ..off
+        },
+        Command::Cbor2Diag => Options {
+            hex: is_value(found, "format", "hex"),
+            annotate_tags: !is_given(found, "no-annotate-tags"),
+            aol_to_item: is_given(found, "aol-to-item"),
+            bignum_from_tags: !is_given(found, "no-bignum-from-tags"),
+            annotate_ccs: is_value(found, "annotate", "ccs"),
+            ..off
+        },
+        Command::Diag2Diag => Options {
+            annotate_tags: is_given(found, "annotate-tags"),
+            apply_999: is_given(found, "apply-999"),
+            aol_to_item: is_given(found, "aol-to-item"),
+            bignum_from_tags: !is_given(found, "no-bignum-from-tags"),
+            annotate_ccs: is_value(found, "annotate", "ccs"),
+            remove_comments: is_given(found, "remove-comments"),
+            preserve_space: is_given(found, "preserve-space"),
+            ..off
+        },
+    }
+}
+
+// Whether a flag is given.
+fn is_given(found: &ArgMatches<'_>, flag: &str) -> bool
+    ensures { line.IsFlag flag.now (rows_of (found_of found.now)) result }
+{
+    found.get_flag(flag)
+}
+
+// Whether a flag has this value.
+fn is_value(found: &ArgMatches<'_>, flag: &str, value: &str) -> bool
+    ensures { result ≡ line.is_value flag.now value.now (rows_of (found_of found.now)) }
+{
+    match found.get_str(flag) {
+        Some(name) => name == value,
         None => false,
     }
 }
@@ -100,44 +163,57 @@ fn file_of<'a>(found: &ArgMatches<'a>, id: &str) -> &'a str
 
 // The command line of the program.
 fn program<'a>(alloc: Global) -> Result<clap::Command<'a>, AllocError>
-    ensures { IfOk result (λ c. (written read : ValueParser) × line.AreFormats written × line.AreFormats read × IsCommandOf (line.program written read) c) }
+    ensures { IfOk result IsProgram }
 {
+    let formats = ValueParser::Names(&FORMATS);
+    let annotations = ValueParser::Names(&ANNOTATIONS);
     clap::Command::new(alloc, "cbor-edn")
         .version("0.1.0")
         .about(ABOUT)
         .after_help(EXAMPLES)
         .subcommand_required(true)
         .disable_help_subcommand(true)
-        .subcommand(diag2cbor(alloc)?)?
-        .subcommand(cbor2diag(alloc)?)?
-        .subcommand(diag2diag(alloc)?)
+        .subcommand(diag2cbor(alloc, formats)?)?
+        .subcommand(cbor2diag(alloc, formats, annotations)?)?
+        .subcommand(diag2diag(alloc, annotations)?)
 }
 
-fn diag2cbor<'a>(alloc: Global) -> Result<clap::Command<'a>, AllocError>
-    ensures { IfOk result (λ c. (names : ValueParser) × line.AreFormats names × IsCommandOf (line.diag2cbor names) c) }
+fn diag2cbor<'a>(alloc: Global, formats: ValueParser<'a>) -> Result<clap::Command<'a>, AllocError>
+    ensures { IfOk result (IsCommandOf (line.diag2cbor formats.entry)) }
 {
-    let help = "What the CBOR is written as (auto: binary)";
     let command = clap::Command::new(alloc, "diag2cbor")
         .about("Encodes items in EDN as CBOR")
-        .arg(format(alloc, 'o', "output-format", help))?;
-    with_common(alloc, command)
+        .after_help(ENCODING)
+        .arg(format(alloc, 'o', "output-format", formats))?;
+    with_common(alloc, with_edn_input(alloc, command)?)
 }
 
-fn cbor2diag<'a>(alloc: Global) -> Result<clap::Command<'a>, AllocError>
-    ensures { IfOk result (λ c. (names : ValueParser) × line.AreFormats names × IsCommandOf (line.cbor2diag names) c) }
+fn cbor2diag<'a>(
+    alloc: Global,
+    formats: ValueParser<'a>,
+    annotations: ValueParser<'a>,
+) -> Result<clap::Command<'a>, AllocError>
+    ensures { IfOk result (IsCommandOf (line.cbor2diag formats.entry annotations.entry)) }
 {
-    let help = "What the CBOR is read as (auto: binary)";
+    let left = "Leave tags of times and addresses as they are";
     let command = clap::Command::new(alloc, "cbor2diag")
         .about("Decodes CBOR into items in EDN")
-        .arg(format(alloc, 'i', "input-format", help))?;
-    with_common(alloc, command)
+        .after_help(DECODING)
+        .arg(format(alloc, 'i', "input-format", formats))?
+        .arg(flag(alloc, "no-annotate-tags", left))?;
+    with_common(alloc, with_edn_output(alloc, command, annotations)?)
 }
 
-fn diag2diag<'a>(alloc: Global) -> Result<clap::Command<'a>, AllocError>
-    ensures { IfOk result (IsCommandOf line.diag2diag) }
+fn diag2diag<'a>(
+    alloc: Global,
+    annotations: ValueParser<'a>,
+) -> Result<clap::Command<'a>, AllocError>
+    ensures { IfOk result (IsCommandOf (line.diag2diag annotations.entry)) }
 {
     let command = clap::Command::new(alloc, "diag2diag")
-        .about("Sets the spaces of items in EDN")
+        .about("Lays out items in EDN anew")
+        .after_help(EDITING);
+    let command = with_edn_output(alloc, with_edn_input(alloc, command)?, annotations)?
         .arg(flag(alloc, "preserve-space", "Leave spaces as they are"))?
         .arg(flag(alloc, "remove-comments", "Leave comments out"))?;
     with_common(alloc, command)
@@ -153,15 +229,27 @@ fn flag<'a>(alloc: Global, name: &'a str, help: &'a str) -> Arg<'a>
         .help(help)
 }
 
-fn format<'a>(alloc: Global, short: char, long: &'a str, help: &'a str) -> Arg<'a>
-    ensures { (names : ValueParser) × line.AreFormats names × IsArgOf (line.format short long.entry.now names) result }
+fn format<'a>(alloc: Global, short: char, long: &'a str, names: ValueParser<'a>) -> Arg<'a>
+    ensures { IsArgOf (line.format short long.entry.now names.entry) result }
 {
     Arg::new(alloc, "format")
         .short(short)
         .long(long)
         .value_name("FORMAT")
-        .value_parser(FORMATS.as_slice())
-        .help(help)
+        .value_parser(names)
+        .hide_possible_values(true)
+        .help("hex, binary or auto (binary) [default: auto]")
+}
+
+fn annotate<'a>(alloc: Global, names: ValueParser<'a>) -> Arg<'a>
+    ensures { IsArgOf (line.annotate names.entry) result }
+{
+    Arg::new(alloc, "annotate")
+        .long("annotate")
+        .value_name("KIND")
+        .value_parser(names)
+        .hide_possible_values(true)
+        .help("Comment maps of this kind: ccs (CWT claims)")
 }
 
 fn max_nesting<'a>(alloc: Global) -> Arg<'a>
@@ -180,13 +268,42 @@ fn file<'a>(alloc: Global, id: &'a str, name: &'a str, help: &'a str) -> Arg<'a>
     Arg::new(alloc, id).value_name(name).help(help)
 }
 
+// A command with what those that read EDN take.
+fn with_edn_input<'a>(
+    alloc: Global,
+    command: clap::Command<'a>,
+) -> Result<clap::Command<'a>, AllocError>
+    ensures { IfOk result (GrowsBy line.edn_input command.entry) }
+{
+    let tags = "Turn tags of times and addresses into literals";
+    let others = "Turn literals that are left into tag 999";
+    command
+        .arg(flag(alloc, "annotate-tags", tags))?
+        .arg(flag(alloc, "apply-999", others))
+}
+
+// A command with what those that write EDN take.
+fn with_edn_output<'a>(
+    alloc: Global,
+    command: clap::Command<'a>,
+    annotations: ValueParser<'a>,
+) -> Result<clap::Command<'a>, AllocError>
+    ensures { IfOk result (GrowsBy (line.edn_output annotations.entry) command.entry) }
+{
+    let literals = "Turn dt'..' and ip'..' into what they stand for";
+    let bignums = "Leave bignums in tags 2 and 3";
+    command
+        .arg(flag(alloc, "aol-to-item", literals))?
+        .arg(flag(alloc, "no-bignum-from-tags", bignums))?
+        .arg(annotate(alloc, annotations))
+}
+
 // A command with what all commands take.
 fn with_common<'a>(
     alloc: Global,
     command: clap::Command<'a>,
 ) -> Result<clap::Command<'a>, AllocError>
-    ensures app { IfOk result (λ c. app_of c ≡ line.with_common (app_of command.entry)) }
-    ensures local { IfOk result (λ c. (out-Command c).has_globals ≡ (out-Command command.entry).has_globals) }
+    ensures { IfOk result (GrowsBy line.common command.entry) }
 {
     command
         .arg(max_nesting(alloc))?

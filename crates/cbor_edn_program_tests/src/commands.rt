@@ -6,7 +6,7 @@ use std::test::Fail;
 
 // What a run by these words answers: its status, what it writes and what it tells. Where the words are no run, the status that they
 // have, and nothing else.
-fn served<'a>(
+pub(crate) fn served<'a>(
     alloc: Global,
     words: &'a [&'a str],
     input: &[u8],
@@ -41,14 +41,6 @@ fn writes<'a>(
 fn tells<'a>(alloc: Global, words: &'a [&'a str], input: &[u8], line: &str) -> Result<bool, Fail> {
     let (status, written, told) = served(alloc, words, input)?;
     Ok(status == 1 && written.is_empty() && told.as_slice().starts_with(line.as_bytes()))
-}
-
-// The status of words that are no run.
-fn refused<'a>(alloc: Global, words: &'a [&'a str]) -> Option<i32> {
-    match options(alloc, words) {
-        Ok(_) => None,
-        Err(error) => Some(error.exit_code()),
-    }
 }
 
 const TO_CBOR: &[&str] = &["cbor-edn", "diag2cbor"];
@@ -199,52 +191,4 @@ fn limits_bytes(rt: HostRuntime) -> Result<(), Fail> {
     let open = "81".repeat(alloc, 100_000)?;
     assert!(rt; tells(alloc, FROM_HEX, open.as_bytes(), DEEP_BYTES)?);
     Ok(())
-}
-
-#[test]
-fn names_of_files(rt: HostRuntime) {
-    for (words, input, output) in [
-        (["cbor-edn", "diag2cbor", "a", "b"].as_slice(), "a", "b"),
-        (["cbor-edn", "diag2cbor", "a"].as_slice(), "a", "-"),
-        (["cbor-edn", "diag2diag"].as_slice(), "-", "-"),
-        (["cbor-edn", "cbor2diag", "-", "b"].as_slice(), "-", "b"),
-        (["cbor-edn", "cbor2diag", "--", "-i"].as_slice(), "-i", "-"),
-    ] {
-        let names = match options(rt.alloc(), words) {
-            Ok((_, first, second)) => (first, second),
-            Err(_) => ("", ""),
-        };
-        assert!(rt; names == (input, output), "{input} {output}");
-    }
-}
-
-#[test]
-fn refuses_words(rt: HostRuntime) {
-    for words in [
-        ["cbor-edn"].as_slice(),
-        ["cbor-edn", "diag2json"].as_slice(),
-        ["cbor-edn", "diag2cbor", "--preserve-space"].as_slice(),
-        ["cbor-edn", "diag2cbor", "-o"].as_slice(),
-        ["cbor-edn", "diag2cbor", "-o", "octal"].as_slice(),
-        ["cbor-edn", "diag2cbor", "-i", "hex"].as_slice(),
-        ["cbor-edn", "diag2diag", "-o", "hex"].as_slice(),
-        ["cbor-edn", "cbor2diag", "--max-nesting", "513"].as_slice(),
-        ["cbor-edn", "cbor2diag", "--max-nesting", "x"].as_slice(),
-        ["cbor-edn", "cbor2diag", "--max-nesting=-1"].as_slice(),
-        ["cbor-edn", "cbor2diag", "--max-nesting", ""].as_slice(),
-        ["cbor-edn", "cbor2diag", "a", "b", "c"].as_slice(),
-    ] {
-        assert_eq!(rt; refused(rt.alloc(), words), Some(2), "{words:?}");
-    }
-}
-
-#[test]
-fn shows_help(rt: HostRuntime) {
-    for words in [
-        ["cbor-edn", "--help"].as_slice(),
-        ["cbor-edn", "--version"].as_slice(),
-        ["cbor-edn", "diag2cbor", "--help"].as_slice(),
-    ] {
-        assert_eq!(rt; refused(rt.alloc(), words), Some(0), "{words:?}");
-    }
 }

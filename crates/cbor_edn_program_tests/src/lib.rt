@@ -9,3 +9,7 @@ mod commands;
 mod recoding;
 #[cfg(test)]
 mod runs;
+#[cfg(test)]
+mod steps;
+#[cfg(test)]
+mod words;

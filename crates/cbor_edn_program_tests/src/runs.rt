@@ -12,7 +12,26 @@ use std::test::Fail;
 const DIAG_TO_CBOR: Options = Options {
     command: Command::Diag2Cbor,
     hex: false,
+    annotate_tags: false,
+    apply_999: false,
+    aol_to_item: false,
+    bignum_from_tags: false,
+    annotate_ccs: false,
     remove_comments: false,
+    preserve_space: false,
+    limit: NESTING_LIMIT,
+};
+
+// All options but the one that would leave spaces as they are.
+const CBOR_TO_DIAG: Options = Options {
+    command: Command::Cbor2Diag,
+    hex: true,
+    annotate_tags: true,
+    apply_999: true,
+    aol_to_item: true,
+    bignum_from_tags: true,
+    annotate_ccs: true,
+    remove_comments: true,
     preserve_space: false,
     limit: NESTING_LIMIT,
 };
@@ -123,37 +142,55 @@ const TEXT: &[u8] = b"[1, 0x1f, []]\n";
 
 const BYTES: &[u8] = b"\x83\x01\x18\x1f\x80";
 
+const DIGITS: &[u8] = b"c2 49 010000000000000000 a1 04 00";
+
+const SHOWN: &[u8] =
+    b"18446744073709551616,\n{4/ exp /: 999([\"dt\", \"1970-01-01T00:00:00+00:00\"])}\n";
+
+// Runs by their options, with what is read and what is written. A call moves few bytes, so each makes more than five.
+const RUNS: &[(&Options, &[u8], &[u8])] = &[
+    (&DIAG_TO_CBOR, TEXT, BYTES),
+    (&CBOR_TO_DIAG, DIGITS, SHOWN),
+];
+
 #[test]
 fn failed_read(rt: HostRuntime) {
-    for k in 0..5 {
-        let mut source = SlowSource::new(TEXT, 4, Some(k));
-        let mut sink = SlowSink::new(rt.alloc(), 1, None);
-        let result = run(rt.alloc(), &DIAG_TO_CBOR, &mut source, &mut sink);
-        assert!(rt; matches!(result, Err(RunError::Read)), "at call {k}");
-        assert_eq!(rt; sink.calls, 0, "at call {k}");
+    for &(options, input, _) in RUNS {
+        for k in 0..5 {
+            let mut source = SlowSource::new(input, 4, Some(k));
+            let mut sink = SlowSink::new(rt.alloc(), 1, None);
+            let result = run(rt.alloc(), options, &mut source, &mut sink);
+            assert!(rt; matches!(result, Err(RunError::Read)), "at call {k}");
+            assert_eq!(rt; sink.calls, 0, "at call {k}");
+        }
     }
 }
 
 #[test]
 fn failed_write(rt: HostRuntime) {
-    for k in 0..5 {
-        let mut source = SlowSource::new(TEXT, 4, None);
-        let mut sink = SlowSink::new(rt.alloc(), 1, Some(k));
-        let result = run(rt.alloc(), &DIAG_TO_CBOR, &mut source, &mut sink);
-        assert!(rt; matches!(result, Err(RunError::Write)), "at call {k}");
-        assert_eq!(rt; sink.taken.as_slice(), &BYTES[..k], "at call {k}");
-        assert_eq!(rt; sink.calls, k + 1, "at call {k}");
+    for &(options, input, output) in RUNS {
+        for k in 0..5 {
+            let mut source = SlowSource::new(input, 4, None);
+            let mut sink = SlowSink::new(rt.alloc(), 1, Some(k));
+            let result = run(rt.alloc(), options, &mut source, &mut sink);
+            assert!(rt; matches!(result, Err(RunError::Write)), "at call {k}");
+            assert_eq!(rt; sink.taken.len(), k, "at call {k}");
+            assert!(rt; output.starts_with(sink.taken.as_slice()), "at call {k}");
+            assert_eq!(rt; sink.calls, k + 1, "at call {k}");
+        }
     }
 }
 
 #[test]
 fn few_bytes_a_call(rt: HostRuntime) {
-    for (read, write) in [(1, 1), (3, 2), (64, 64)] {
-        let mut source = SlowSource::new(TEXT, read, None);
-        let mut sink = SlowSink::new(rt.alloc(), write, None);
-        let result = run(rt.alloc(), &DIAG_TO_CBOR, &mut source, &mut sink);
-        assert!(rt; result.is_ok(), "by {read} and {write}");
-        assert_eq!(rt; sink.taken.as_slice(), BYTES, "by {read} and {write}");
+    for &(options, input, output) in RUNS {
+        for (read, write) in [(1, 1), (3, 2), (64, 64)] {
+            let mut source = SlowSource::new(input, read, None);
+            let mut sink = SlowSink::new(rt.alloc(), write, None);
+            let result = run(rt.alloc(), options, &mut source, &mut sink);
+            assert!(rt; result.is_ok(), "by {read} and {write}");
+            assert_eq!(rt; sink.taken.as_slice(), output, "by {read} and {write}");
+        }
     }
 }
 

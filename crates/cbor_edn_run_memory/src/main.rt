@@ -14,24 +14,36 @@ use std::alloc::Global;
 use std::io;
 
 const TEXT: &str =
-    "[1, 0x10000000000000000, {_ 3: []}, 'a' + <<\"b\">>, (_ h'63', b64'Zg'), 1(simple(32))]";
+    "[1, 0x10000000000000000, {_ 3: []}, 'a' + <<\"b\">>, (_ h'63', b64'Zg'), 1(simple(32)), DT'1970-01-01T00:00:00Z', foo'x'], {4: 0}";
 
 const BYTES: &[u8] =
-    b"\x86\x01\xc2\x49\x01\0\0\0\0\0\0\0\0\xbf\x03\x80\xff\x43aab\x5f\x41c\x41f\xff\xc1\xf8\x20";
+    b"\x88\x01\xc2\x49\x01\0\0\0\0\0\0\0\0\xbf\x03\x80\xff\x43aab\x5f\x41c\x41f\xff\xc1\xf8\x20\xc1\x00\xd9\x03\xe7\x82\x63foo\x61x\xa1\x04\xd9\x03\xe7\x82\x62dt\x78\x191970-01-01T00:00:00+00:00";
 
-// A text on a line, as it is indented.
-const LINE: &str = "[_ 1, {2: -4_0}, \"a\", (_ h'62'), 1(simple(32))]\n";
+// Bytes in hexadecimal digits, and what they are shown as.
+const DIGITS: &str =
+    "9f 01 a1 02 38 03 61 61 5f 41 62 ff c2 49 010000000000000000 d8 34 44 c0000201 ff a1 04 00";
 
-// What the line means, in hexadecimal digits.
-const DIGITS: &str = "9f 01 a1 02 38 03 61 61 5f 41 62 ff c1 f8 20 ff";
+const SHOWN: &str =
+    "[_ 1, {2: -4_0}, \"a\", (_ h'62'), 18446744073709551616, 52(h'c0000201')],\n{4/ exp /: 999([\"dt\", \"1970-01-01T00:00:00+00:00\"])}\n";
+
+// A text before and after.
+const SPACED: &str = "[dt'1970-01-01T00:00:00Z', 2(h'010000000000000000') /c/, foo'x'], {4:0}";
+
+const LAID_OUT: &str =
+    "[0, 18446744073709551616, 999([\"foo\", \"x\"])],\n{4/ exp /: 999([\"dt\", \"1970-01-01T00:00:00+00:00\"])}\n";
 
 const WORDS: &[&str] = &["cbor-edn", "diag2diag", "--max-nesting", "3", "in", "out"];
 
-// A run of a command that leaves comments out and takes CBOR as digits where it reads it.
+// A run of a command with all options but one that would leave spaces as they are. CBOR is taken as digits where it is read.
 fn options_of(command: Command) -> Options {
     Options {
         command,
         hex: command == Command::Cbor2Diag,
+        annotate_tags: true,
+        apply_999: true,
+        aol_to_item: true,
+        bignum_from_tags: true,
+        annotate_ccs: true,
         remove_comments: true,
         preserve_space: false,
         limit: NESTING_LIMIT,
@@ -95,11 +107,11 @@ fn main(rt: HostRuntime) -> io::Result<()> {
         ),
         (
             "run cbor2diag",
-            run_once(rt.alloc(), Command::Cbor2Diag, DIGITS, LINE.as_bytes()),
+            run_once(rt.alloc(), Command::Cbor2Diag, DIGITS, SHOWN.as_bytes()),
         ),
         (
             "run diag2diag",
-            run_once(rt.alloc(), Command::Diag2Diag, LINE, LINE.as_bytes()),
+            run_once(rt.alloc(), Command::Diag2Diag, SPACED, LAID_OUT.as_bytes()),
         ),
         ("words", words(rt.alloc())),
         ("serve", serve_fault(rt.alloc())),

@@ -1,21 +1,29 @@
 //! Uses of `cbor_edn`, as a caller writes them: each contract follows from those of the calls alone.
 #![tactic(auto)]
 
-ghost use Rattle.std.specs.Prelude.{◌≡◌, ◌≤◌, Some, None, IsNone, IfOk, IsErr};
+ghost use Rattle.std.specs.Prelude.{◌≡◌, ◌≤◌, Some, None, IsNone, IfOk, IsErr, OnOk};
 ghost use Rattle.std.specs.Option.{OnSome};
 ghost use Rattle.std.specs.String.{string_bytes};
-ghost use Rattle.cbor_edn_model.specs.Decoded.{items_of};
+ghost use Rattle.cbor_edn_model.specs.Decoded.{items_of, IsDecodedSequence};
 ghost use Rattle.cbor_edn_model.specs.Items.{Items, nesting};
 ghost use Rattle.cbor_edn_core.specs.Lent.{with_tag_content};
 ghost use Rattle.cbor_edn_model.specs.Meaning.{means};
 ghost use Rattle.cbor_edn_model.specs.Paths.{at_sequence, with_at_sequence};
+ghost use Rattle.cbor_edn_model.specs.Seeking.{IsTag, IsApplication};
 ghost use Rattle.cbor_edn_model.specs.Spelling.{SpellsSequence};
-ghost use Rattle.cbor_edn_model.specs.Value.{Values, EncAll};
+ghost use Rattle.cbor_edn_model.specs.Trees.{Tree, Seq, items, text};
+ghost use Rattle.cbor_edn_model.specs.Value.{Values, ValuesFit, EncAll};
+ghost use Rattle.cbor_edn_model.specs.Visits.{whole};
 ghost use Rattle.cbor_edn_core.specs.View.{item_tree, sequence_tree, standalone_tree};
+ghost use Rattle.cbor_edn_conversions.specs.All.{resolve_all, pretty_all};
+ghost use Rattle.cbor_edn_application.specs.Acts.{IsVisited};
+ghost use Rattle.cbor_edn_application.specs.Sequences.{with_claims_sets};
 
+use cbor_edn::application::laws::calls_resolve_again;
+use cbor_edn::application::visits::{annotate_claims_sets, prettify, resolve};
 use cbor_edn::engine::RunError;
 use cbor_edn::{DelimiterPolicy, Item, Sequence, StandaloneItem, TypeMismatch};
-use std::alloc::Global;
+use std::alloc::{AllocError, Global};
 
 /// The CBOR that a text means, as for a commented configuration that ships as CBOR. Fails where the text is no EDN, nests too
 /// deep or means nothing, and where memory runs out.
@@ -58,4 +66,26 @@ pub fn replaced<'a>(sequence: &mut Sequence<'a>, path: &[usize], item: Item<'a>)
         }
         None => None,
     }
+}
+
+/// Shows times, addresses and bignums as people read them, works on the text in between, say, and puts back what they stand for. Where the
+/// items were decoded, they mean what they meant. Fails where memory runs out.
+pub fn prettified_and_resolved(alloc: Global, sequence: &mut Sequence<'_>) -> Result<(), AllocError>
+    ensures visits { OnOk result ((pretty : Tree Seq) × IsVisited IsTag pretty_all (sequence_tree sequence.old) whole pretty × IsVisited IsApplication resolve_all pretty whole (sequence_tree sequence.new)) }
+    ensures meant { OnOk result ((vs : Values) → ValuesFit vs → items (sequence_tree sequence.old) ≡ items_of vs → means (items (sequence_tree sequence.new)) ≡ Some vs) }
+{
+    prettify(alloc, sequence)?;
+    resolve(alloc, sequence)?;
+    calls_resolve_again();
+    Ok(())
+}
+
+/// The text of a token's claims with the names of their keys, and with its times as literals. Fails where the bytes encode nothing that can be
+/// shown or nest too deep, and where memory runs out.
+pub fn inspected(alloc: Global, bytes: &[u8]) -> Result<String, RunError>
+    ensures { IfOk result (λ s. (w : Tree Seq) × IsDecodedSequence 512 bytes.now w × (string_bytes s ≡ text (with_claims_sets w))) }
+{
+    let mut sequence: Sequence<'_> = Sequence::from_cbor(alloc, bytes)?;
+    annotate_claims_sets(alloc, &mut sequence)?;
+    Ok(sequence.serialize(alloc)?)
 }

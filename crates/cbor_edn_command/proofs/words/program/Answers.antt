@@ -12,5 +12,6 @@ returns c =
     let is : app_of top ≡ wants_command (new_app (codes "cbor-edn")) = search rules in
     let local : (out-Command top).has_globals ≡ false = search rules in
     IfOk-weaker c.subcommand-3.result _ _
-    (λ r h. whole top _ _ _ _ _ r (is, local) c.in_ok-subcommand.ensures c.in_ok-diag2cbor.ensures c.in_ok-subcommand-2.ensures c.in_ok-cbor2diag.ensures c.in_ok-diag2diag.ensures h)
+    (λ r h. whole top _ _ _ _ _ r _ _ (search rules) (search rules) (is, local) c.in_ok-subcommand.ensures c.in_ok-diag2cbor.ensures c.in_ok-subcommand-2.ensures c.in_ok-cbor2diag.ensures h
+    c.in_ok-diag2diag.ensures)
     c.subcommand-3.ensures

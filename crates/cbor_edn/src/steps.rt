@@ -1,0 +1,125 @@
+//! What the options of a run make of the items that it reads, step by step.
+ghost use Rattle.std.specs.Prelude.{◌≡◌, not, OnOk};
+ghost use Rattle.cbor_edn_core.specs.View.{sequence_tree};
+ghost use Rattle.cbor_edn_model.specs.Trees.{Tree, Seq};
+ghost use Rattle.cbor_edn_parts.specs.Spacing.{indented};
+ghost use Rattle.cbor_edn_parts.specs.declared.policy.DelimiterPolicy.TheVariants.{DiscardAll};
+ghost use Rattle.cbor_edn_conversions.specs.Addresses.{resolve_address, pretty_address};
+ghost use Rattle.cbor_edn_conversions.specs.Annotations.{comment_lang};
+ghost use Rattle.cbor_edn_conversions.specs.Bignums.{pretty_bignum};
+ghost use Rattle.cbor_edn_conversions.specs.Tag999.{to_tag999};
+ghost use Rattle.cbor_edn_conversions.specs.Times.{resolve_time, pretty_time};
+ghost use Rattle.cbor_edn.specs.RunSteps.{Where, InTurn, IsLaidOut, TagsVisited, LiteralsVisited, HasClaims, StepsGive};
+
+use cbor_edn_application::visits::{
+    annotate_claims_sets, comment_languages, prettify_addresses, prettify_bignums, prettify_times,
+    resolve_addresses, resolve_times, to_999,
+};
+use cbor_edn_command::options::Options;
+use cbor_edn_core::tree::Sequence;
+use cbor_edn_parts::policy::DelimiterPolicy;
+use std::alloc::{AllocError, Global};
+
+/// Takes all steps but the last, which sets the spaces of what is printed.
+pub(crate) fn take(
+    alloc: Global,
+    options: &Options,
+    sequence: &mut Sequence<'_>,
+) -> Result<(), AllocError>
+    ensures { OnOk result ((v : Tree Seq) → Where (not options.now.preserve_space) (IsLaidOut indented) (sequence_tree sequence.new) v → StepsGive options.now (sequence_tree sequence.old) v) }
+{
+    annotate_tags(alloc, options.annotate_tags, sequence)?;
+    remove_comments(alloc, options.remove_comments, sequence)?;
+    resolve_literals(alloc, options.aol_to_item, sequence)?;
+    annotate_claims(alloc, options.annotate_ccs, sequence)?;
+    show_bignums(alloc, options.bignum_from_tags, sequence)?;
+    tag_literals(alloc, options.apply_999, sequence)
+}
+
+/// The last step.
+pub(crate) fn indent(
+    alloc: Global,
+    options: &Options,
+    sequence: &mut Sequence<'_>,
+) -> Result<(), AllocError>
+    ensures { OnOk result (Where (not options.now.preserve_space) (IsLaidOut indented) (sequence_tree sequence.old) (sequence_tree sequence.new)) }
+{
+    if options.preserve_space {
+        Ok(())
+    } else {
+        sequence.set_delimiters(alloc, DelimiterPolicy::indented())
+    }
+}
+
+fn annotate_tags(alloc: Global, asked: bool, sequence: &mut Sequence<'_>) -> Result<(), AllocError>
+    ensures { OnOk result (Where asked (InTurn (TagsVisited pretty_address) (InTurn (TagsVisited pretty_time) (TagsVisited comment_lang))) (sequence_tree sequence.old) (sequence_tree sequence.new)) }
+{
+    if !asked {
+        return Ok(());
+    }
+    prettify_addresses(alloc, sequence)?;
+    prettify_times(alloc, sequence)?;
+    comment_languages(alloc, sequence)
+}
+
+fn remove_comments(
+    alloc: Global,
+    asked: bool,
+    sequence: &mut Sequence<'_>,
+) -> Result<(), AllocError>
+    ensures { OnOk result (Where asked (IsLaidOut DiscardAll) (sequence_tree sequence.old) (sequence_tree sequence.new)) }
+{
+    if asked {
+        sequence.set_delimiters(alloc, DelimiterPolicy::DiscardAll)
+    } else {
+        Ok(())
+    }
+}
+
+fn resolve_literals(
+    alloc: Global,
+    asked: bool,
+    sequence: &mut Sequence<'_>,
+) -> Result<(), AllocError>
+    ensures { OnOk result (Where asked (InTurn (LiteralsVisited resolve_address) (LiteralsVisited resolve_time)) (sequence_tree sequence.old) (sequence_tree sequence.new)) }
+{
+    if !asked {
+        return Ok(());
+    }
+    resolve_addresses(alloc, sequence)?;
+    resolve_times(alloc, sequence)
+}
+
+fn annotate_claims(
+    alloc: Global,
+    asked: bool,
+    sequence: &mut Sequence<'_>,
+) -> Result<(), AllocError>
+    ensures { OnOk result (Where asked HasClaims (sequence_tree sequence.old) (sequence_tree sequence.new)) }
+{
+    if asked {
+        annotate_claims_sets(alloc, sequence)
+    } else {
+        Ok(())
+    }
+}
+
+fn show_bignums(alloc: Global, asked: bool, sequence: &mut Sequence<'_>) -> Result<(), AllocError>
+    ensures { OnOk result (Where asked (TagsVisited pretty_bignum) (sequence_tree sequence.old) (sequence_tree sequence.new)) }
+{
+    if asked {
+        prettify_bignums(alloc, sequence)
+    } else {
+        Ok(())
+    }
+}
+
+fn tag_literals(alloc: Global, asked: bool, sequence: &mut Sequence<'_>) -> Result<(), AllocError>
+    ensures { OnOk result (Where asked (LiteralsVisited to_tag999) (sequence_tree sequence.old) (sequence_tree sequence.new)) }
+{
+    if asked {
+        to_999(alloc, sequence)
+    } else {
+        Ok(())
+    }
+}
