@@ -149,6 +149,8 @@ count 'a pipe by name' is_unanswered 'is no plain file'
 answer 0 '' "${tail_of_try//%s/0}"
 call cbor2diag -i hex --max-nesting 'in edn' 'in edn' out.edn < /dev/null
 count 'names' passed_on cbor2diag -i hex --max-nesting 'in edn' "$work/elsewhere/in edn" "$work/elsewhere/out.edn"
+call diag2diag --annotate-tags --annotate ccs 'in edn' --annotate=ccs < /dev/null
+count 'the value of a flag' passed_on diag2diag --annotate-tags --annotate ccs "$work/elsewhere/in edn" --annotate=ccs
 call diag2diag -- --help - < /dev/null
 count 'a name like a flag' passed_on diag2diag -- "$work/elsewhere/--help" -
 call diag2cbor --flag 'in edn' < /dev/null

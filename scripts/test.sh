@@ -1,7 +1,7 @@
 #!/usr/bin/env bash
 # All tests: where a text is read (a look at the sources), each proof, edit that must fail, test and program (`rt ci`),
 # beside it the calls of each crate *_memory with each of their allocations refused in turn, then the encodings of
-# another implementation, where it is installed, the deepest nesting under small stacks, and the launcher. The last line is
+# another implementation, where it is installed, the examples, the deepest nesting under small stacks, and the launcher. The last line is
 # 'N passed, M failed'. Where nothing failed, the program that was proved is left to ./cbor-edn. `docs/CONTRIBUTING.md`
 # says how the proofs share the processors.
 set -euo pipefail
@@ -118,6 +118,7 @@ for crate in crates/*_memory; do
   add cat "$beside/$(basename "$crate")"
 done
 add scripts/check-outside.sh "$program"
+add scripts/check-examples.sh "$program"
 add scripts/check-launcher.sh "$program"
 add scripts/check-stack.sh "$program" crates/cbor_edn_{text,tree}_tests/out/*_tests_tests
 cat "$times"
