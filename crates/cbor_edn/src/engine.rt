@@ -176,8 +176,13 @@ fn reprinted(alloc: Global, options: &Options, input: &[u8]) -> Result<String, R
     Ok(printed(alloc, options, &mut sequence)?)
 }
 
-// What is written for an input.
-fn output(alloc: Global, options: &Options, input: &[u8]) -> Result<Vec<u8>, RunError>
+/// A run in memory: all that it writes for an input.
+///
+/// The input of `Diag2Cbor` and `Diag2Diag` is a text in UTF-8, that of `Cbor2Diag` is CBOR, or digits where `hex` is set. An
+/// input that the command can't turn is told of as `run` does: by `NotUtf8` or `Parse` where it is a text, by `Cbor` or `Hex`
+/// where it is none, and by `Inconsistent` where its items have no encoding. `Memory` comes where memory runs out. `Read` and
+/// `Write` never come.
+pub fn converted(alloc: Global, options: &Options, input: &[u8]) -> Result<Vec<u8>, RunError>
     ensures ok { IfOk result (λ out. IsOutput options.now input.now out.items) }
     ensures err { IfErr result (IsRefused options.now input.now) }
 {
@@ -220,7 +225,7 @@ pub fn run<R: Source, W: Sink>(
     ensures last_write { EndsWriting result (W.since sink.new) }
 {
     let input = read_all(alloc, source)?;
-    let out = output(alloc, options, &input)?;
+    let out = converted(alloc, options, &input)?;
     match write_all(sink, &out) {
         Ok(()) => Ok(()),
         Err(DeviceFault) => Err(RunError::Write),
