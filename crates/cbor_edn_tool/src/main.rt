@@ -3,17 +3,29 @@
 
 use cbor_edn::engine::{Options, Source, StdSink, StdSource, serve};
 use cbor_edn::words;
-use std::fs::File;
+use std::env;
+use std::fs::{File, OpenOptions};
+use std::io::{self, ErrorKind};
 use std::process::ExitCode;
-use std::{env, io};
 
 // The exit status of a fault.
 const FAULT: u8 = 1;
 
-// Tells of a file that can't be opened.
-fn unopened(rt: &HostRuntime, which: &str) -> u8 {
-    let _ = eprintln!(rt; "cbor-edn: Error opening {which}");
+// The exit status of words that are no command line.
+const MISUSE: u8 = 2;
+
+// Tells of a fault.
+fn fault(rt: &HostRuntime, words: &str) -> u8 {
+    let _ = eprintln!(rt; "cbor-edn: {words}");
     FAULT
+}
+
+// Where a caller closed a standard stream, the next file that is opened takes its place. This one is to take it: what is written there
+// is lost, and a read fails.
+fn in_place_of_stream(rt: &HostRuntime) -> Option<File> {
+    let mut options = OpenOptions::new();
+    options.write(true);
+    options.open(rt, "/dev/null").ok()
 }
 
 // A run to the output of this name, which is created or emptied first.
@@ -23,6 +35,12 @@ fn serve_to<R: Source>(rt: &HostRuntime, options: &Options, source: &mut R, outp
         let mut sink = StdSink::new(rt.stdout());
         return serve(rt.alloc(), options, source, &mut sink, &mut errors);
     }
+    // else a fault would be told into the output
+    let _streams = [
+        in_place_of_stream(rt),
+        in_place_of_stream(rt),
+        in_place_of_stream(rt),
+    ];
     match File::create(rt, output) {
         Ok(file) => serve(
             rt.alloc(),
@@ -31,7 +49,7 @@ fn serve_to<R: Source>(rt: &HostRuntime, options: &Options, source: &mut R, outp
             &mut StdSink::new(file),
             &mut errors,
         ),
-        Err(_) => unopened(rt, "output"),
+        Err(_) => fault(rt, "Error opening output"),
     }
 }
 
@@ -42,25 +60,38 @@ fn serve_files(rt: &HostRuntime, options: &Options, input: &str, output: &str) -
     }
     match File::open(rt, input) {
         Ok(file) => serve_to(rt, options, &mut StdSource::new(file), output),
-        Err(_) => unopened(rt, "input"),
+        Err(_) => fault(rt, "Error opening input"),
     }
 }
 
 // Shows why the words are no run: a fault of theirs, help or the version.
 fn shown(rt: &HostRuntime, error: &clap::Error) -> u8 {
+    let status = u8::try_from(error.exit_code()).unwrap_or(MISUSE);
     match error.print(rt) {
-        Ok(()) => u8::try_from(error.exit_code()).unwrap_or(FAULT),
-        Err(_) => FAULT,
+        Ok(()) => status,
+        Err(_) if status == 0 => fault(rt, "Error writing output"),
+        Err(_) => status,
     }
 }
 
-fn main(rt: HostRuntime) -> io::Result<ExitCode> {
+// The exit status. Fails where the words can't be read.
+fn called(rt: &HostRuntime) -> io::Result<u8> {
     let alloc = rt.alloc();
-    let owned: Vec<String> = env::args(&rt)?.collect(alloc)?;
+    let owned: Vec<String> = env::args(rt)?.collect(alloc)?;
     let words: Vec<&str> = owned.iter().map(|word| word.as_str()).collect(alloc)?;
-    let status = match words::options(alloc, words.as_slice()) {
-        Ok((options, input, output)) => serve_files(&rt, &options, input, output),
-        Err(error) => shown(&rt, &error),
-    };
-    Ok(ExitCode::from(status))
+    Ok(match words::options(alloc, words.as_slice()) {
+        Ok((options, input, output)) => serve_files(rt, &options, input, output),
+        Err(error) => shown(rt, &error),
+    })
+}
+
+fn main(rt: HostRuntime) -> ExitCode {
+    ExitCode::from(match called(&rt) {
+        Ok(status) => status,
+        Err(error) if error.kind() == ErrorKind::OutOfMemory => fault(&rt, "Out of memory"),
+        Err(_) => {
+            fault(&rt, "Error reading the command line: it is not UTF-8");
+            MISUSE
+        }
+    })
 }
