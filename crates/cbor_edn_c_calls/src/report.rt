@@ -1,0 +1,32 @@
+//! What a call tells beside its status.
+ghost use Rattle.std.specs.Prelude.{◌≡◌};
+
+/// What a call tells beside its status. The type of C has the same fields in the same order.
+#[repr(C)]
+#[derive(Drop)]
+pub struct Report {
+    /// How long the output is, in bytes, where there is one: also where there was no room for it. Else 0.
+    pub output_len: usize,
+    /// How long the message of a fault is, in bytes, else 0. As much of it as fits was written.
+    pub message_len: usize,
+    /// The place of a fault of a text, in bytes from 0, else 0.
+    pub offset: usize,
+    /// Its line, from 1, else 0.
+    pub line: usize,
+    /// Its column, in characters from 1, else 0.
+    pub column: usize,
+}
+
+impl Report {
+    pub fn of_output(output_len: usize) -> Report
+        ensures { result ≡ record { output_len = output_len; message_len = 0; offset = 0; line = 0; column = 0 } }
+    {
+        Report {
+            output_len,
+            message_len: 0,
+            offset: 0,
+            line: 0,
+            column: 0,
+        }
+    }
+}
