@@ -1,16 +1,51 @@
-//! The export for callers that are not Rattle, as a static library. `bindings/c/cbor_edn.h` in the repository declares it.
+//! The library's one function for callers that are not Rattle, as a static library. The declarations of `bindings/` repeat it.
 #![tactic(auto)]
 
-ghost use Rattle.std.specs.Prelude.{◌≡◌};
-ghost use Rattle.cbor_edn_c_calls.specs.Calls.{Did};
+ghost use Rattle.std.specs.Prelude.{◌≡◌, length};
+ghost use Rattle.cbor_edn_c.specs.Calls.{Did, IsMessage, call_fault};
+ghost use Rattle.cbor_edn_c_calls.specs.Reports.{TellsPlace};
 ghost use Rattle.cbor_edn_c_calls.specs.Statuses.{status_number};
 ghost use Rattle.cbor_edn_c_calls.specs.declared.status.Status.{Status};
 
-use cbor_edn_c_calls::convert;
+use cbor_edn::engine::{RunError, converted};
+use cbor_edn_c_calls::asked::options_of;
 use cbor_edn_c_calls::report::Report;
+use cbor_edn_c_calls::room::put_whole;
+use cbor_edn_c_calls::status::{CallFault, Status};
+use cbor_edn_c_calls::told::told;
 use std::alloc::Global;
 
+fn call_fault(fault: &RunError) -> CallFault
+    ensures { result ≡ call_fault fault.now }
+{
+    match fault {
+        RunError::NotUtf8 => CallFault::NotUtf8,
+        RunError::Parse(error) => CallFault::InvalidText(*error),
+        RunError::Cbor(_) => CallFault::InvalidCbor,
+        RunError::Hex => CallFault::InvalidHex,
+        RunError::Inconsistent(_) => CallFault::NoEncoding,
+        // No call in memory has a device that fails.
+        RunError::Read | RunError::Write | RunError::Memory(_) => CallFault::OutOfMemory,
+    }
+}
+
+// The place of a fault, and its message as far as there is memory and room.
+fn report_of(alloc: Global, fault: &RunError, message: &mut [u8]) -> Report
+    ensures place { TellsPlace (call_fault fault.now) result }
+    ensures output { result.output_len ≡ 0 }
+    ensures message { IsMessage result.message_len message.old message.new }
+{
+    match fault.to_string(alloc) {
+        Ok(text) => told(&call_fault(fault), text.as_bytes(), message),
+        Err(_) => told(&call_fault(fault), b"", message),
+    }
+}
+
 /// Turns an input into an output, as a run of the program does, and answers the number of a status.
+///
+/// `command` is 0 for `diag2cbor`, 1 for `cbor2diag`, 2 for `diag2diag`. `flags` is a sum of 1 (`hex`), 2 (`annotate_tags`),
+/// 4 (`remove_comments`), 8 (`aol_to_item`), 16 (`annotate_ccs`), 32 (`bignum_from_tags`), 64 (`apply_999`) and 128
+/// (`preserve_space`). `limit` is at most 512. Lengths and places are in bytes. Only at status 0 is `output` written.
 #[unsafe(no_mangle)]
 pub extern "C" fn cbor_edn_convert(
     alloc: Global,
@@ -24,5 +59,22 @@ pub extern "C" fn cbor_edn_convert(
 ) -> u32
     ensures { (s : Status) × (result ≡ status_number s) × Did s command flags limit input.now output.old output.new message.old message.new report.new }
 {
-    convert(alloc, command, flags, limit, input, output, message, report).number()
+    let Some(options) = options_of(command, flags, limit) else {
+        *report = Report::of_output(0);
+        return Status::BadCall.number();
+    };
+    match converted(alloc, &options, input) {
+        Ok(bytes) => {
+            *report = Report::of_output(bytes.len());
+            if put_whole(&bytes, output) {
+                Status::Done.number()
+            } else {
+                Status::NoRoom.number()
+            }
+        }
+        Err(fault) => {
+            *report = report_of(alloc, &fault, message);
+            Status::Fault(call_fault(&fault)).number()
+        }
+    }
 }

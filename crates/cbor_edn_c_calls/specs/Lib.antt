@@ -1,3 +1,4 @@
 pub mod Asked
-pub mod Calls
+pub mod Reports
+pub mod Rooms
 pub mod Statuses

@@ -2,8 +2,8 @@
 ghost use Rattle.std.specs.Prelude.{◌≡◌, ◌+◌, ◌*◌, ◌<◌, IfSome, IsNone};
 ghost use Rattle.cbor_edn_c_calls.specs.Asked.{IsAsked, IsOutOfRange, bit, command_number};
 
-use cbor_edn::NESTING_LIMIT;
-use cbor_edn::engine::{Command, Options};
+use cbor_edn_command::options::{Command, Options};
+use cbor_edn_parts::nesting::NESTING_LIMIT;
 
 fn command_numbered(number: u32) -> Option<Command>
     ensures some { IfSome result (λ c. number ≡ command_number c) }

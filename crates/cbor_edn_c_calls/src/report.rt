@@ -1,5 +1,6 @@
 //! What a call tells beside its status.
 ghost use Rattle.std.specs.Prelude.{◌≡◌};
+ghost use Rattle.cbor_edn_c_calls.specs.Reports.{TellsOutput};
 
 /// What a call tells beside its status. The type of C has the same fields in the same order.
 #[repr(C)]
@@ -18,8 +19,9 @@ pub struct Report {
 }
 
 impl Report {
+    /// Of an output of so many bytes, and no fault.
     pub fn of_output(output_len: usize) -> Report
-        ensures { result ≡ record { output_len = output_len; message_len = 0; offset = 0; line = 0; column = 0 } }
+        ensures { TellsOutput output_len result }
     {
         Report {
             output_len,

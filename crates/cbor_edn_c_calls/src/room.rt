@@ -1,5 +1,6 @@
 //! A caller's room.
-ghost use Rattle.cbor_edn_c_calls.specs.Calls.{IsPutFront};
+ghost use Rattle.std.specs.Prelude.{◌≡◌, true, false};
+ghost use Rattle.cbor_edn_c_calls.specs.Rooms.{HasNoRoom, IsPutFront, IsPutWhole};
 
 /// Writes as many bytes as fit.
 pub fn put_front(bytes: &[u8], room: &mut [u8])
@@ -7,4 +8,16 @@ pub fn put_front(bytes: &[u8], room: &mut [u8])
 {
     let count = bytes.len().min(room.len());
     room[..count].copy_from_slice(&bytes[..count]);
+}
+
+/// Writes bytes where there is room for all of them, and answers whether there was.
+pub fn put_whole(bytes: &[u8], room: &mut [u8]) -> bool
+    ensures whole { result ≡ true → IsPutWhole bytes.now room.old room.new }
+    ensures none { result ≡ false → HasNoRoom bytes.now room.old room.new }
+{
+    if bytes.len() > room.len() {
+        return false;
+    }
+    put_front(bytes, room);
+    true
 }

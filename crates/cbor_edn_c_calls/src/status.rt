@@ -1,17 +1,19 @@
 //! How a call ends.
 ghost use Rattle.std.specs.Prelude.{◌≡◌};
-ghost use Rattle.cbor_edn_c_calls.specs.Statuses.{kind_number, status_number};
+ghost use Rattle.cbor_edn_c_calls.specs.Statuses.{fault_number, status_number};
+
+use cbor_edn_parts::error::ParseError;
 
 /// Why an input has no output.
 #[derive(Clone, Copy, Debug, PartialEq, Eq)]
-pub enum FaultKind {
+pub enum CallFault {
     /// The text is no UTF-8.
     NotUtf8,
     /// The text is no EDN, or nests too deep.
-    InvalidText,
+    InvalidText(ParseError),
     /// The bytes are no encodings, or nest too deep.
     InvalidCbor,
-    /// The digits are no digits, or an odd number of them.
+    /// A character is no hexadecimal digit and no space, or there is an odd number of digits.
     InvalidHex,
     /// What the text says has no encoding.
     NoEncoding,
@@ -29,21 +31,19 @@ pub enum Status {
     /// A number of the call is out of its range.
     BadCall,
     /// The input has no output.
-    Fault(FaultKind),
+    Fault(CallFault),
 }
 
-impl FaultKind {
-    fn number(self) -> u32
-        ensures { result ≡ kind_number self }
-    {
-        match self {
-            FaultKind::NotUtf8 => 3,
-            FaultKind::InvalidText => 4,
-            FaultKind::InvalidCbor => 5,
-            FaultKind::InvalidHex => 6,
-            FaultKind::NoEncoding => 7,
-            FaultKind::OutOfMemory => 8,
-        }
+fn fault_number(fault: CallFault) -> u32
+    ensures { result ≡ fault_number fault }
+{
+    match fault {
+        CallFault::NotUtf8 => 3,
+        CallFault::InvalidText(_) => 4,
+        CallFault::InvalidCbor => 5,
+        CallFault::InvalidHex => 6,
+        CallFault::NoEncoding => 7,
+        CallFault::OutOfMemory => 8,
     }
 }
 
@@ -56,7 +56,7 @@ impl Status {
             Status::Done => 0,
             Status::NoRoom => 1,
             Status::BadCall => 2,
-            Status::Fault(kind) => kind.number(),
+            Status::Fault(fault) => fault_number(fault),
         }
     }
 }

@@ -1,0 +1,43 @@
+-- What a call of the library does, by how it ends.
+use Rattle.std.specs.Prelude.{◌≡◌, ℕ, List, length}
+use Rattle.cbor_edn_command.specs.declared.options.Options.{Options}
+use Rattle.cbor_edn.specs.declared.engine.RunError.{RunError}
+use Rattle.cbor_edn.specs.declared.engine.RunError.TheVariants as run
+use Rattle.cbor_edn.specs.Runs.{IsOutput, IsRefused}
+use Rattle.cbor_edn_c_calls.specs.Asked.{IsAsked, IsOutOfRange}
+use Rattle.cbor_edn_c_calls.specs.Reports.{TellsOutput, TellsPlace}
+use Rattle.cbor_edn_c_calls.specs.Rooms.{HasNoRoom, IsPutFront, IsPutWhole}
+use Rattle.cbor_edn_c_calls.specs.declared.report.Report.{Report}
+use Rattle.cbor_edn_c_calls.specs.declared.status.CallFault.{CallFault}
+use Rattle.cbor_edn_c_calls.specs.declared.status.CallFault.TheVariants.{NotUtf8, InvalidText, InvalidCbor, InvalidHex, NoEncoding, OutOfMemory}
+use Rattle.cbor_edn_c_calls.specs.declared.status.Status.{Status}
+use Rattle.cbor_edn_c_calls.specs.declared.status.Status.TheVariants.{Done, NoRoom, BadCall, Fault}
+
+-- The fault of a run, as a call tells it. In memory no device fails.
+abbrev pub call_fault : RunError → CallFault
+call_fault run.NotUtf8 = NotUtf8
+call_fault (run.Parse e) = InvalidText e
+call_fault (run.Cbor _) = InvalidCbor
+call_fault run.Hex = InvalidHex
+call_fault (run.Inconsistent _) = NoEncoding
+call_fault (run.Memory _) = OutOfMemory
+call_fault run.Read = OutOfMemory
+call_fault run.Write = OutOfMemory
+
+-- a message of n bytes, as far as it fits
+abbrev pub IsMessage : ℕ → List ℕ → List ℕ → Type 0
+IsMessage n old new = (text : List ℕ) × IsPutFront text old new × (n ≡ length text)
+
+-- What a call did that ends so: by the three numbers that ask for options, the input, the room for the output and the room for a message
+-- (each as it was and as it is), and what is told.
+abbrev pub Did : Status → ℕ → ℕ → ℕ → List ℕ → List ℕ → List ℕ → List ℕ → List ℕ → Report → Type 0
+Did Done command flags limit input old new message said r =
+    (o : Options) × IsAsked command flags limit o × ((out : List ℕ) × IsOutput o input out × IsPutWhole out old new × TellsOutput (length out) r)
+    × (said ≡ message)
+Did NoRoom command flags limit input old new message said r =
+    (o : Options) × IsAsked command flags limit o × ((out : List ℕ) × IsOutput o input out × HasNoRoom out old new × TellsOutput (length out) r)
+    × (said ≡ message)
+Did BadCall command flags limit input old new message said r = IsOutOfRange command flags limit × (new ≡ old) × TellsOutput 0 r × (said ≡ message)
+Did (Fault f) command flags limit input old new message said r =
+    (o : Options) × IsAsked command flags limit o × ((e : RunError) × IsRefused o input e × (f ≡ call_fault e)) × (new ≡ old)
+    × (r.output_len ≡ 0) × TellsPlace f r × IsMessage r.message_len message said
