@@ -1,0 +1,124 @@
+//! The one call of the library.
+
+use crate::{Command, Error, ErrorKind, Options, Place};
+
+// As in `cbor_edn.h`.
+#[repr(C)]
+#[derive(Default)]
+struct Report {
+    output_len: usize,
+    message_len: usize,
+    offset: usize,
+    line: usize,
+    column: usize,
+}
+
+extern "C" {
+    fn cbor_edn_convert(
+        command: u32,
+        flags: u32,
+        limit: usize,
+        input: *const u8,
+        input_len: usize,
+        output: *mut u8,
+        output_room: usize,
+        message: *mut u8,
+        message_room: usize,
+        report: *mut Report,
+    ) -> u32;
+}
+
+const DONE: u32 = 0;
+const NO_ROOM: u32 = 1;
+
+// Takes each message.
+const MESSAGE_ROOM: usize = 160;
+
+fn number_of(command: Command) -> u32 {
+    match command {
+        Command::Diag2Cbor => 0,
+        Command::Cbor2Diag => 1,
+        Command::Diag2Diag => 2,
+    }
+}
+
+fn flags_of(options: &Options) -> u32 {
+    let flags = [
+        options.hex,
+        options.annotate_tags,
+        options.remove_comments,
+        options.aol_to_item,
+        options.annotate_ccs,
+        options.bignum_from_tags,
+        options.apply_999,
+        options.preserve_space,
+    ];
+    (0..).zip(flags).map(|(bit, flag)| u32::from(flag) << bit).sum()
+}
+
+fn kind_of(status: u32) -> ErrorKind {
+    match status {
+        2 => ErrorKind::InvalidLimit,
+        3 => ErrorKind::NotUtf8,
+        4 => ErrorKind::InvalidText,
+        5 => ErrorKind::InvalidCbor,
+        6 => ErrorKind::InvalidHex,
+        7 => ErrorKind::NoEncoding,
+        8 => ErrorKind::OutOfMemory,
+        _ => unreachable!("status {status}"),
+    }
+}
+
+fn error_of(status: u32, report: &Report, message: &[u8]) -> Error {
+    let kind = kind_of(status);
+    let place = (kind == ErrorKind::InvalidText).then_some(Place {
+        offset: report.offset,
+        line: report.line,
+        column: report.column,
+    });
+    let shown = &message[..report.message_len.min(message.len())];
+    let mut message = String::from_utf8_lossy(shown).into_owned();
+    if message.is_empty() {
+        message = kind.to_string();
+    }
+    Error { kind, place, message }
+}
+
+/// Calls once, and again where the output is longer than was guessed.
+pub fn convert(command: Command, options: &Options, input: &[u8]) -> Result<Vec<u8>, Error> {
+    let mut output: Vec<u8> = Vec::with_capacity(input.len().saturating_mul(2).saturating_add(16));
+    let mut message = [0; MESSAGE_ROOM];
+    let mut report = Report::default();
+    loop {
+        // SAFETY: each pointer and length are of one value, which is borrowed or owned here until the call ends. No two of them
+        // overlap, and none is null, also where a slice or a vector is empty. The library writes `output` and never reads it, so
+        // its capacity may stand for its length.
+        let status = unsafe {
+            cbor_edn_convert(
+                number_of(command),
+                flags_of(options),
+                options.limit,
+                input.as_ptr(),
+                input.len(),
+                output.as_mut_ptr(),
+                output.capacity(),
+                message.as_mut_ptr(),
+                message.len(),
+                &mut report,
+            )
+        };
+        match status {
+            DONE => {
+                assert!(report.output_len <= output.capacity());
+                // SAFETY: at this status so many bytes were written, and no more than there is room for.
+                unsafe { output.set_len(report.output_len) };
+                return Ok(output);
+            }
+            NO_ROOM => {
+                assert!(report.output_len > output.capacity());
+                output.reserve_exact(report.output_len);
+            }
+            fault => return Err(error_of(fault, &report, &message)),
+        }
+    }
+}

@@ -1,0 +1,82 @@
+#!/usr/bin/env bash
+# Makes the library for callers that are not Rattle, in a folder: libcbor_edn.a, libcbor_edn.so, cbor_edn.h and cbor_edn.pc.
+#
+# usage: scripts/build-c.sh [--after-ci] [FOLDER]
+#
+# FOLDER is out/c if it is not given. The crates are proved first, as far as they are not proved already: from nothing that takes
+# about as long as `./cbor-edn --build`. With --after-ci, as the gate calls it, the library is proved and compiled over the
+# crates that `rt ci` has just proved in this tree, which it leaves without the marks that `rt lib` goes by.
+#
+# Both libraries have one symbol, cbor_edn_convert. They take a C compiler with its binutils (CC; else cc).
+set -euo pipefail
+
+cd "$(dirname "$(readlink -f "$0")")/.."
+cc=${CC:-cc}
+name=cbor_edn_c
+after_ci=
+[ "${1-}" != --after-ci ] || { after_ci=yes; shift; }
+folder=${1:-out/c}
+
+stop() {
+  echo "build-c: $1" >&2
+  exit 1
+}
+
+for tool in rt "$cc" ld ar objcopy; do
+  command -v "$tool" > /dev/null || stop "$tool is not on the PATH"
+done
+kit=$(dirname "$(dirname "$(readlink -f "$(command -v rt)")")")
+
+# The libraries that a crate of the repository uses, directly or not, each once.
+libraries_of() {
+  local line
+  line=$(sed -n "s/^$1\( [a-z]*\)\?: *//p" crates.txt)
+  for library in $line; do
+    echo "$library"
+    libraries_of "$library"
+  done | sort -u
+}
+
+# The words by which `rt ci` checks a static library, and those that have it compiled.
+build_after_ci() {
+  local library words=(--extern "std=$kit/rlibs/std.rlib" -L "dependency=$kit/rlibs")
+  for library in $(sed -n "s/^$name staticlib: *//p" crates.txt); do
+    words+=(--extern "$library=$PWD/crates/$library/out/rlib/$library.rlib")
+  done
+  for library in $(libraries_of "$name"); do
+    [ ! -d "crates/$library" ] || words+=(-L "dependency=$PWD/crates/$library/out/rlib")
+  done
+  words+=(--antt-project "$kit/rattle/logic/antt-project.json" --logic-built "$kit/logic_built")
+  mkdir -p "crates/$name/out"
+  (cd "crates/$name" && "$kit/bin/rattle" build --crate-name "$name" src/lib.rt "${words[@]}" --crate-type staticlib \
+    --toolchain "$kit/toolchain" --backend llvm -o "out/lib$name.a")
+}
+
+if [ -n "$after_ci" ]; then
+  build_after_ci
+else
+  (cd "crates/$name" && rt lib)
+fi
+
+mkdir -p "$folder"
+work=$(mktemp -d)
+trap 'rm -rf "$work"' EXIT
+
+# One object of the library and of the toolchain's calls of malloc, realloc and free, in which other names are its own.
+ld -r -o "$work/cbor_edn.o" --whole-archive "crates/$name/out/lib$name.a" "$kit/c/liblibc_c.a"
+objcopy --keep-global-symbol=cbor_edn_convert "$work/cbor_edn.o"
+rm -f "$folder/libcbor_edn.a"
+ar rcsD "$folder/libcbor_edn.a" "$work/cbor_edn.o"
+"$cc" -shared -s -o "$folder/libcbor_edn.so" "$work/cbor_edn.o" -Wl,-soname,libcbor_edn.so \
+  -Wl,--version-script=bindings/c/cbor_edn.map -Wl,-z,defs -Wl,-z,relro -Wl,-z,now
+cp bindings/c/cbor_edn.h "$folder"
+cat > "$folder/cbor_edn.pc" << PC
+prefix=$(readlink -f "$folder")
+
+Name: cbor_edn
+Description: The Extended Diagnostic Notation (EDN) of CBOR, into CBOR and back
+Version: $(sed -n 's/^version = "\(.*\)"$/\1/p' bindings/rust/Cargo.toml)
+Cflags: -I\${prefix}
+Libs: -L\${prefix} -lcbor_edn
+PC
+echo "build-c: $folder has libcbor_edn.a, libcbor_edn.so, cbor_edn.h and cbor_edn.pc"
