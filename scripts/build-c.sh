@@ -46,7 +46,7 @@ build_after_ci() {
   for library in $(libraries_of "$name"); do
     [ ! -d "crates/$library" ] || words+=(-L "dependency=$PWD/crates/$library/out/rlib")
   done
-  words+=(--antt-project "$kit/rattle/logic/antt-project.json" --logic-built "$kit/logic_built")
+  words+=(--antt-project "$kit/rattle/logic/antt-project.json" --logic-built "$kit/logic_built" --links "$name=")
   mkdir -p "crates/$name/out"
   (cd "crates/$name" && "$kit/bin/rattle" build --crate-name "$name" src/lib.rt "${words[@]}" --crate-type staticlib \
     --toolchain "$kit/toolchain" --backend llvm -o "out/lib$name.a")

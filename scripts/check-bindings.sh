@@ -47,13 +47,13 @@ add() {
   if [[ $(tail -n 1 "$work/said") =~ ^([0-9]+)\ passed,\ ([0-9]+)\ failed$ ]]; then
     passed=$((passed + BASH_REMATCH[1]))
     failed=$((failed + BASH_REMATCH[2]))
-    [ "$status$failed" = 00 ] || { say "$name"; tail -n 20 "$work/said"; }
-    [ "$status" = 0 ] || [ "${BASH_REMATCH[2]}" != 0 ] || failed=$((failed + 1))
+    [ "$status" != 0 ] || [ "${BASH_REMATCH[2]}" != 0 ] || return 0
+    [ "${BASH_REMATCH[2]}" != 0 ] || failed=$((failed + 1))
   else
     failed=$((failed + 1))
-    say "$name gave no count"
-    tail -n 20 "$work/said"
   fi
+  say "$name: $*"
+  tail -n 20 "$work/said"
 }
 
 # Whether a command is there. What CI may install is a fault where it is missing there.
