@@ -73,8 +73,8 @@ int main(void) {
       failed += !is_right;
       if (!is_right) printf("refused: %s: allocation %ld: status %u\n", row->name, number, (unsigned)status);
     }
-    /* most are told, and all are where no message is made and no collection asks again */
-    if (last < 1 || 2 * told < last) {
+    /* A fault may be found before any allocation but that of its message. */
+    if (last < 1 || (row->status == CBOR_EDN_DONE && 2 * told < last)) {
       failed++;
       printf("refused: %s: %ld of %ld allocations were told\n", row->name, told, last);
     }

@@ -5,7 +5,7 @@ ghost use Rattle.cbor_edn_c_calls.specs.Statuses.{fault_number, status_number};
 use cbor_edn_parts::error::ParseError;
 
 /// Why an input has no output.
-#[derive(Clone, Copy, Debug, PartialEq, Eq)]
+#[derive(Clone, Copy)]
 pub enum CallFault {
     /// The text is no UTF-8.
     NotUtf8,
@@ -22,7 +22,7 @@ pub enum CallFault {
 }
 
 /// How a call ended.
-#[derive(Clone, Copy, Debug, PartialEq, Eq)]
+#[derive(Clone, Copy)]
 pub enum Status {
     /// The output was written.
     Done,
