@@ -39,5 +39,5 @@ Did NoRoom command flags limit input old new message said r =
     × (said ≡ message)
 Did BadCall command flags limit input old new message said r = IsOutOfRange command flags limit × (new ≡ old) × TellsOutput 0 r × (said ≡ message)
 Did (Fault f) command flags limit input old new message said r =
-    (o : Options) × IsAsked command flags limit o × ((e : RunError) × IsRefused o input e × (f ≡ call_fault e)) × (new ≡ old)
-    × (r.output_len ≡ 0) × TellsPlace f r × IsMessage r.message_len message said
+    (o : Options) × IsAsked command flags limit o × ((e : RunError) × IsRefused o input e × (f ≡ call_fault e) × TellsPlace (call_fault e) r)
+    × (new ≡ old) × (r.output_len ≡ 0) × IsMessage r.message_len message said
