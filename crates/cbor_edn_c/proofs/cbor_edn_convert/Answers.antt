@@ -4,6 +4,13 @@ use Rattle.cbor_edn_c_calls.specs.declared.status.Status.TheVariants.{Fault}
 use Rattle.cbor_edn_c.proofs.cbor_edn_convert.Goals as goal
 
 pub returns : goal.returns
-returns c =
-    let told = (c.in-Err.fault, c.in-Err.ensures.err, c.call_fault.ensures, c.report_of.ensures.place) in
-    (Fault c.call_fault.result, c.number-in-Err.ensures, c.in-Some.options, c.in-Some.ensures.some, told, refl, c.report_of.ensures.output, c.report_of.ensures.message)
+returns c = (
+  Fault c.call_fault.result,
+  c.number-in-Err.ensures,
+  c.in-Some.options,
+  c.in-Some.ensures.some,
+  (c.in-Err.fault, c.in-Err.ensures.err, c.call_fault.ensures, c.report_of.ensures.place),
+  refl,
+  c.report_of.ensures.output,
+  c.report_of.ensures.message,
+)
