@@ -7,10 +7,12 @@ pub returns : goal.returns
 returns c = (
   Fault c.call_fault.result,
   c.number-in-Err.ensures,
-  c.in-Some.options,
-  c.in-Some.ensures.some,
-  (c.in-Err.fault, c.in-Err.ensures.err, c.call_fault.ensures, c.report_of.ensures.place),
-  refl,
-  c.report_of.ensures.output,
-  c.report_of.ensures.message,
+  (
+    c.in-Some.options,
+    c.in-Some.ensures.some,
+    (c.in-Err.fault, c.in-Err.ensures.err, c.call_fault.ensures, c.report_of.ensures.place),
+    refl,
+    c.report_of.ensures.output,
+    c.report_of.ensures.message,
+  ),
 )
