@@ -31,10 +31,17 @@ static void run_in(void *(*work)(void *), void *argument, pthread_t *thread) {
 
 /* ---- at once */
 
+/* By command: what the program sets, and for diag2diag all that changes items. */
+static const uint32_t FLAGS[] = {
+    CBOR_EDN_DIAG2CBOR_FLAGS,
+    CBOR_EDN_CBOR2DIAG_FLAGS | CBOR_EDN_ANNOTATE_CCS,
+    CBOR_EDN_ANNOTATE_TAGS | CBOR_EDN_REMOVE_COMMENTS | CBOR_EDN_AOL_TO_ITEM | CBOR_EDN_ANNOTATE_CCS | CBOR_EDN_BIGNUM_FROM_TAGS |
+        CBOR_EDN_APPLY_999,
+};
+
 static uint32_t convert(uint32_t command, const char *input, size_t length, uint8_t *output, size_t room, cbor_edn_report *report) {
   uint8_t message[160];
-  uint32_t flags = command == CBOR_EDN_CBOR2DIAG ? CBOR_EDN_CBOR2DIAG_FLAGS : 0;
-  return cbor_edn_convert(command, flags, LIMIT, (const uint8_t *)input, length, output, room, message, sizeof message, report);
+  return cbor_edn_convert(command, FLAGS[command], LIMIT, (const uint8_t *)input, length, output, room, message, sizeof message, report);
 }
 
 static void *take_turns(void *wrong) {
