@@ -6,8 +6,8 @@
 # The program reads a number, makes so many allocations, and then its calls. For each call it prints a line, the call's
 # name with `: done`, `: refused` (it answered want of memory, and left what it must) or `: wrong`. The toolchain
 # refuses the same allocation in each run, the last of a window, and the number moves it back from there: so one build
-# serves for all. A few runs of a large window, which grows until its last run ends without a refusal, tell how large the
-# window of all runs must be.
+# serves for all. The crate's file `window` has the number of runs, more than the calls make allocations. Where it has
+# too few, the window grows until its last runs end without a refusal, and each time costs a build.
 #
 # Where one of the calls' allocations is refused, exactly one line must say so, and no line may say `wrong`. Where none
 # is, each line must say `done`. A collection that reserves by the hint of an iterator asks again for room for one item
@@ -32,25 +32,25 @@ give_up() {
   exit 1
 }
 
-# Runs with each allocation of the window refused in turn, or with one in so many, and as run 0 with none of the calls'.
-# Writes a line for each run, with its number and how often each word came.
+# Runs with each allocation of the window refused in turn, and as run 0 with none of the calls'. Writes a line for each
+# run, with its number and how often each word came.
 sweep() {
-  local window=$1 step=$2 k
+  local window=$1 k
   rm -rf "$work/cases"
   mkdir "$work/cases"
-  for ((k = 0; k <= window; k += step)); do
+  for ((k = 0; k <= window; k++)); do
     echo "$((window - k))" > "$work/cases/$k"
   done
   if ! rt try --fail-alloc "$window" --cases "$work/cases" > "$work/output" 2> "$work/said"; then
     tail -n 20 "$work/said"
     give_up "rt try failed"
   fi
-  awk -v window="$window" -v step="$step" '
+  awk -v window="$window" '
     /^== [0-9]+$/ { run = $2; next }
     /: refused$/ { refused[run]++; next }
     /: done$/ { done[run]++; next }
     { wrong[run]++ }
-    END { for (k = 0; k <= window; k += step) print k, done[k] + 0, refused[k] + 0, wrong[k] + 0 }
+    END { for (k = 0; k <= window; k++) print k, done[k] + 0, refused[k] + 0, wrong[k] + 0 }
   ' "$work/output" > "$work/runs"
 }
 
@@ -59,19 +59,22 @@ show() {
   awk -v run="$1" '/^== /{ on = $2 == run } on' "$work/output"
 }
 
-step=32
-for ((window = 1024; ; window *= 4)); do
-  sweep "$window" "$step"
+# So many runs at the end of the window are to end without a refusal: one or two may do so where a hint is refused.
+margin=16
+window=1024
+[ ! -e window ] || read -r window < window
+for ((;; window *= 2)); do
+  sweep "$window"
   read -r _ calls refused wrong < "$work/runs"
   if [ "$calls" = 0 ] || [ "$refused" != 0 ] || [ "$wrong" != 0 ]; then
     show 0
     give_up "a call fails where no memory is refused"
   fi
-  read -r _ done _ < <(tail -n 1 "$work/runs")
-  [ "$done" != "$calls" ] || break
+  if tail -n "$margin" "$work/runs" | awk -v calls="$calls" '$2 != calls { exit 1 }'; then
+    break
+  fi
   [ "$window" -le 16384 ] || give_up "memory is refused in more than $window runs"
 done
-sweep "$(awk -v calls="$calls" -v step="$step" '$2 != calls { last = $1 } END { print last + step }' "$work/runs")" 1
 
 hints=0
 [ ! -e hints ] || read -r hints < hints

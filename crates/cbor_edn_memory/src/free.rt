@@ -1,0 +1,287 @@
+//! Calls that take no memory: whichever allocation is refused, each is done where its tree could be made.
+use crate::callbacks::{comment_elements, comment_keys};
+use crate::trees::{sequence_of, standalone_of};
+use cbor_edn_core::access::TypeMismatch;
+use cbor_edn_core::tree::{Indicator, Item, Sequence, StandaloneItem};
+use cbor_edn_expect::memory::Failure;
+use cbor_edn_model::word::NamedSimple;
+use cbor_edn_parts::error::Fault;
+use cbor_edn_parts::looks::Looks;
+use cbor_edn_parts::policy::DelimiterPolicy;
+use std::alloc::Global;
+
+#[derive(Clone, Copy)]
+pub(crate) enum Group {
+    Parts,
+    Loans,
+    Comparisons,
+    Discarding,
+    Mismatches,
+    FromItem,
+    Place,
+    Made,
+}
+
+/// A name, and a group of calls.
+pub(crate) type Row = (&'static str, Group);
+
+pub(crate) const FREE: &[Row] = &[
+    ("accessors", Group::Parts),
+    ("at_mut, iterators that lend", Group::Loans),
+    ("==, is_same", Group::Comparisons),
+    ("set_delimiters with DiscardAll", Group::Discarding),
+    ("visits of items of another type", Group::Mismatches),
+    ("From<Item>", Group::FromItem),
+    ("line, column, offset, too_deep", Group::Place),
+    ("indented, Looks::new", Group::Made),
+];
+
+/// Makes the calls of a row.
+pub(crate) fn called(alloc: Global, row: &Row) -> Result<bool, Failure> {
+    match row.1 {
+        Group::Parts => Ok(are_parts_answered(standalone_of(alloc, PARTS)?.item())),
+        Group::Loans => Ok(are_parts_lent(&mut *sequence_of(alloc, LENT)?)),
+        Group::Comparisons => compared(alloc),
+        Group::Discarding => discarded(alloc),
+        Group::Mismatches => mismatched(alloc),
+        Group::FromItem => from_item(alloc),
+        Group::Place => place(alloc),
+        Group::Made => Ok(is_made()),
+    }
+}
+
+const PARTS: &str = "[-8_1, true, 'a', 4_0( 5 ), {2: 3}, [0x1f]]";
+
+fn are_parts_answered(array: &Item<'_>) -> bool {
+    let Ok(mut items) = array.get_array_items() else {
+        return false;
+    };
+    is_number(items.next())
+        && is_word(items.next())
+        && is_string(items.next())
+        && is_tag(items.next())
+        && is_map(items.next())
+        && is_array(items.next())
+        && items.next().is_none()
+}
+
+fn is_number(item: Option<&Item<'_>>) -> bool {
+    match item {
+        Some(item) => {
+            item.get_integer() == Ok(-8)
+                && item.get_number() == Some(("-8", Some(Indicator::Two)))
+                && item.get_tag() == Err(TypeMismatch::TaggedItem)
+        }
+        None => false,
+    }
+}
+
+fn is_word(item: Option<&Item<'_>>) -> bool {
+    match item {
+        Some(item) => {
+            item.get_named() == Some(NamedSimple::True)
+                && item.get_integer() == Err(TypeMismatch::Integer)
+        }
+        None => false,
+    }
+}
+
+fn is_string(item: Option<&Item<'_>>) -> bool {
+    match item {
+        Some(item) => item.is_plain_string() && item.get_number().is_none(),
+        None => false,
+    }
+}
+
+fn is_tag(item: Option<&Item<'_>>) -> bool {
+    match item {
+        Some(item) => {
+            item.get_tag() == Ok(4)
+                && item.get_tag_head() == Some((4, Some(Indicator::One)))
+                && is_five(item.get_tagged())
+        }
+        None => false,
+    }
+}
+
+fn is_five(content: Result<&StandaloneItem<'_>, TypeMismatch>) -> bool {
+    match content {
+        Ok(content) => content.item().get_integer() == Ok(5),
+        Err(_) => false,
+    }
+}
+
+fn is_map(item: Option<&Item<'_>>) -> bool {
+    let Some(item) = item else {
+        return false;
+    };
+    let mut is_found = false;
+    if let Ok(pairs) = item.get_map_items() {
+        for (key, value) in pairs {
+            is_found = key.get_integer() == Ok(2) && value.get_integer() == Ok(3);
+        }
+    }
+    is_found
+}
+
+fn is_array(item: Option<&Item<'_>>) -> bool {
+    let Some(item) = item else {
+        return false;
+    };
+    let mut is_found = false;
+    if let Ok(items) = item.get_array_items() {
+        for item in items {
+            is_found = item.get_integer() == Ok(31);
+        }
+    }
+    is_found
+}
+
+const LENT: &str = "[{2: 3}, 4(5)]";
+
+fn are_parts_lent(sequence: &mut Sequence<'_>) -> bool {
+    are_items_lent(sequence)
+        && are_elements_lent(sequence.at_mut(&[0]))
+        && are_pairs_lent(sequence.at_mut(&[0, 0]))
+        && is_content_lent(sequence.at_mut(&[0, 1]))
+        && sequence.at_mut(&[0, 2]).is_none()
+}
+
+fn are_items_lent(sequence: &mut Sequence<'_>) -> bool {
+    let mut is_lent = false;
+    for item in sequence.get_items_mut() {
+        is_lent = item.get_array_items().is_ok();
+    }
+    is_lent
+}
+
+fn are_elements_lent(array: Option<&mut Item<'_>>) -> bool {
+    let Some(array) = array else {
+        return false;
+    };
+    let mut is_lent = false;
+    if let Ok(items) = array.get_array_items_mut() {
+        for item in items {
+            is_lent = item.get_tagged_mut().is_ok();
+        }
+    }
+    is_lent
+}
+
+fn are_pairs_lent(map: Option<&mut Item<'_>>) -> bool {
+    let Some(map) = map else {
+        return false;
+    };
+    let mut is_lent = false;
+    if let Ok(pairs) = map.get_map_items_mut() {
+        for (key, value) in pairs {
+            is_lent = key.get_integer() == Ok(2) && value.get_integer() == Ok(3);
+        }
+    }
+    is_lent
+}
+
+fn is_content_lent(tag: Option<&mut Item<'_>>) -> bool {
+    let Some(tag) = tag else {
+        return false;
+    };
+    match tag.get_tagged_mut() {
+        Ok(content) => is_lent_five(content.at_mut(&[])),
+        Err(_) => false,
+    }
+}
+
+fn is_lent_five(item: Option<&mut Item<'_>>) -> bool {
+    match item {
+        Some(item) => item.get_integer() == Ok(5) && item.at_mut(&[0]).is_none(),
+        None => false,
+    }
+}
+
+fn compared(alloc: Global) -> Result<bool, Failure> {
+    let alone = standalone_of(alloc, PARTS)?;
+    let sequence = sequence_of(alloc, PARTS)?;
+    Ok(is_itself(&alone) && is_sequence_itself(&sequence))
+}
+
+fn is_itself(alone: &StandaloneItem<'_>) -> bool {
+    alone.is_same(alone)
+        && *alone == *alone
+        && alone.item().is_same(alone.item())
+        && *alone.item() == *alone.item()
+}
+
+fn is_sequence_itself(sequence: &Sequence<'_>) -> bool {
+    sequence.is_same(sequence) && *sequence == *sequence
+}
+
+const SPACED: &str = " [ 1 / a comment of some length / , 2 ] ";
+
+fn discarded(alloc: Global) -> Result<bool, Failure> {
+    let mut sequence = sequence_of(alloc, SPACED)?;
+    let mut alone = standalone_of(alloc, SPACED)?;
+    Ok(
+        sequence
+            .set_delimiters(alloc, DelimiterPolicy::DiscardAll)
+            .is_ok()
+            && is_inside_discarded(alloc, alone.at_mut(&[]))
+            && alone
+                .set_delimiters(alloc, DelimiterPolicy::DiscardAll)
+                .is_ok(),
+    )
+}
+
+fn is_inside_discarded(alloc: Global, item: Option<&mut Item<'_>>) -> bool {
+    match item {
+        Some(item) => item
+            .set_delimiters(alloc, DelimiterPolicy::DiscardAll)
+            .is_ok(),
+        None => false,
+    }
+}
+
+fn mismatched(alloc: Global) -> Result<bool, Failure> {
+    let mut alone = standalone_of(alloc, "0")?;
+    Ok(is_mismatch(alloc, alone.at_mut(&[])))
+}
+
+fn is_mismatch(alloc: Global, item: Option<&mut Item<'_>>) -> bool {
+    match item {
+        Some(item) => {
+            matches!(
+                comment_elements(alloc, item),
+                Err(Fault::Told(TypeMismatch::Array))
+            ) && matches!(
+                comment_keys(alloc, item),
+                Err(Fault::Told(TypeMismatch::Map))
+            )
+        }
+        None => false,
+    }
+}
+
+fn from_item(alloc: Global) -> Result<bool, Failure> {
+    let alone = StandaloneItem::from(Item::new_integer_decimal(alloc, 5)?);
+    Ok(alone.item().get_integer() == Ok(5))
+}
+
+fn place(alloc: Global) -> Result<bool, Failure> {
+    match Sequence::parse(alloc, "1\n,,").err() {
+        Some(Fault::Told(refused)) => Ok(
+            (refused.line(), refused.column(), refused.offset()) == (2, 2, 3)
+                && !refused.too_deep(),
+        ),
+        Some(Fault::Memory(_)) => Err(Failure::Refused),
+        None => Err(Failure::Wrong),
+    }
+}
+
+fn is_made() -> bool {
+    let _ = Looks::new();
+    DelimiterPolicy::indented()
+        == DelimiterPolicy::IndentedRegularSpacing {
+            base_indent: 0,
+            indent_level: 4,
+            max_width: 80,
+        }
+}
