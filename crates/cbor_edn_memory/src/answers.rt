@@ -352,6 +352,14 @@ fn literal_of(alloc: Global, item: &Item<'_>) -> Result<Vec<u8>, Failure> {
 fn outlines(alloc: Global) -> Result<String, Failure> {
     let item = standalone_of(alloc, "{1: 2}")?;
     let sequence = sequence_of(alloc, "1.50, [2], h'00'")?;
+    outlines_of(alloc, &item, &sequence)
+}
+
+fn outlines_of(
+    alloc: Global,
+    item: &StandaloneItem<'_>,
+    sequence: &Sequence<'_>,
+) -> Result<String, Failure> {
     let inner = item.item();
     Ok(format!(in alloc; "{inner:?} {item:?} {sequence:?}")?)
 }
@@ -364,7 +372,10 @@ fn refused_by(alloc: Global, call: RefusedBy) -> Result<String, Failure> {
             let answer: Result<Sequence<'_>, _> = Sequence::from_cbor(alloc, bytes);
             words(alloc, answer)
         }
-        RefusedBy::ItemFromCbor(bytes) => words(alloc, Item::from_cbor(alloc, bytes)),
+        RefusedBy::ItemFromCbor(bytes) => {
+            let answer: Result<Item<'_>, _> = Item::from_cbor(alloc, bytes);
+            words(alloc, answer)
+        }
         RefusedBy::ToCbor(text) => words(alloc, sequence_of(alloc, text)?.to_cbor(alloc)),
         RefusedBy::Content(text) => words(
             alloc,
@@ -377,7 +388,8 @@ fn refused_by(alloc: Global, call: RefusedBy) -> Result<String, Failure> {
                 .get_application_literal(alloc),
         ),
         RefusedBy::Prefix(prefix) => {
-            words(alloc, Item::new_application_literal(alloc, prefix, ""))
+            let answer: Result<Item<'_>, _> = Item::new_application_literal(alloc, prefix, "");
+            words(alloc, answer)
         }
     }
 }
