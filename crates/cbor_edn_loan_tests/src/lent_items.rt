@@ -39,16 +39,9 @@ fn overwrite<'a>(
     lender: Lender,
     new: Option<&mut Item<'a>>,
 ) -> Result<(), Fail> {
-    let Some(new) = new else {
-        return Ok(());
-    };
+    let new = new.ok_or("no item to put")?;
     match lender {
-        Lender::Array => {
-            if let Some(array) = sequence.at_mut(&[0]) {
-                overwrite_array(array, new)?;
-            }
-            Ok(())
-        }
+        Lender::Array => overwrite_array(sequence.at_mut(&[0]).ok_or("no array")?, new),
         Lender::Sequence => overwrite_sequence(sequence, new),
     }
 }

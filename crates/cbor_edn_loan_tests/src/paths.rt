@@ -76,10 +76,9 @@ fn put<'a>(
     path: &[usize],
     new: Option<&mut Item<'a>>,
 ) -> Result<(), Fail> {
-    if let Some(new) = new {
-        if let Some(place) = sequence.at_mut(path) {
-            *place = new.clone()?;
-        }
+    let new = new.ok_or("no item to put")?;
+    if let Some(place) = sequence.at_mut(path) {
+        *place = new.clone()?;
     }
     Ok(())
 }

@@ -1,5 +1,5 @@
 //! Visits of tags and of application literals: which items are called at, and the texts that are left.
-use crate::common::sequence_of;
+use crate::common::{sequence_of, standalone_of};
 use cbor_edn_core::tree::{Item, Sequence, StandaloneItem};
 use cbor_edn_expect::expect_row;
 use cbor_edn_parts::error::CallbackError;
@@ -82,6 +82,27 @@ fn visited_sequence(
     Ok(told)
 }
 
+/// The same of a standalone item.
+fn visited_alone(alloc: Global, text: &'static str, what: Done) -> Result<String, Fail> {
+    let mut item = standalone_of(alloc, text)?;
+    visited_item(&mut item, alloc, what)
+}
+
+fn visited_item(
+    item: &mut StandaloneItem<'static>,
+    alloc: Global,
+    what: Done,
+) -> Result<String, Fail> {
+    let mut told = String::new(alloc);
+    item.visit_tag(
+        alloc,
+        &mut |number, item| act(number, item, alloc, &mut told, what),
+    )?;
+    let text = item.serialize(alloc)?;
+    told.push_str(text.as_str())?;
+    Ok(told)
+}
+
 const TAGS: &[(&str, Done, &str)] = &[
     ("1(2(3))", Done::Comment, "1;2;1(2(3)/ t /)/ t /"),
     ("1(2(3))", Done::Puts(1, "5(2(3))"), "1;2;5(2(3))"),
@@ -113,11 +134,28 @@ const TAGS: &[(&str, Done, &str)] = &[
     ("1(2(3(0)))", Done::Unwraps, "1;3;2(0)"),
 ];
 
+/// The same of standalone items, whose spaces stay.
+const TAGS_ALONE: &[(&str, Done, &str)] = &[
+    (
+        " 1(2(3)) # d\n",
+        Done::Comment,
+        "1;2; 1(2(3)/ t /)/ t / # d\n",
+    ),
+    (" 1(2(3)) ", Done::Puts(1, "5(2(3))"), "1;2; 5(2(3)) "),
+    (" 1(2(3)) ", Done::Puts(1, "4(1(2(3)))"), "1; 4(1(2(3))) "),
+    (" 1(2(3(0))) ", Done::Unwraps, "1;3; 2(0) "),
+    (" [0] ", Done::Comment, " [0] "),
+];
+
 #[test]
 fn tags_are_visited_in_order(rt: HostRuntime) -> Result<(), Fail> {
     let alloc = rt.alloc();
     for &(text, what, wanted) in TAGS {
         expect_row(alloc, text, visited(alloc, text, what)?.as_str(), wanted)?;
+    }
+    for &(text, what, wanted) in TAGS_ALONE {
+        let told = visited_alone(alloc, text, what)?;
+        expect_row(alloc, text, told.as_str(), wanted)?;
     }
     Ok(())
 }
@@ -160,6 +198,31 @@ fn literals_of(
     Ok(told)
 }
 
+/// The same of a standalone item.
+fn literals_alone(
+    alloc: Global,
+    text: &'static str,
+    puts: Option<&'static str>,
+) -> Result<String, Fail> {
+    let mut item = standalone_of(alloc, text)?;
+    literals_of_item(&mut item, alloc, puts)
+}
+
+fn literals_of_item(
+    item: &mut StandaloneItem<'static>,
+    alloc: Global,
+    puts: Option<&'static str>,
+) -> Result<String, Fail> {
+    let mut told = String::new(alloc);
+    item.visit_application_literals(
+        alloc,
+        &mut |prefix, text, item| at_literal((prefix, text), item, alloc, &mut told, puts),
+    )?;
+    let text = item.serialize(alloc)?;
+    told.push_str(text.as_str())?;
+    Ok(told)
+}
+
 const LITERALS: &[(&str, Option<&str>, &str)] = &[
     ("h'00'", None, "h:00;h'00'/ c /"),
     ("'a'", None, "'a'"),
@@ -182,6 +245,27 @@ const LITERALS: &[(&str, Option<&str>, &str)] = &[
         Some("[x'1', x'1']"),
         "x:1;x:2;[[x'1', x'1'], [x'1', x'1']]",
     ),
+    (
+        "[0 /unmodified/, german'zweiundvierzig']",
+        Some("42"),
+        "german:zweiundvierzig;[0 /unmodified/, 42]",
+    ),
+];
+
+/// The same of standalone items, whose spaces stay.
+const LITERALS_ALONE: &[(&str, Option<&str>, &str)] = &[
+    (" x'1' # d\n", None, "x:1; x'1'/ c / # d\n"),
+    (
+        " [x'1', x'2'] ",
+        Some("[x'1', x'1']"),
+        "x:1;x:2; [[x'1', x'1'], [x'1', x'1']] ",
+    ),
+    (
+        "[0 /unmodified/, german'zweiundvierzig']",
+        Some("42"),
+        "german:zweiundvierzig;[0 /unmodified/, 42]",
+    ),
+    (" 1(2) ", None, " 1(2) "),
 ];
 
 #[test]
@@ -189,6 +273,10 @@ fn literals_are_visited_in_order(rt: HostRuntime) -> Result<(), Fail> {
     let alloc = rt.alloc();
     for &(text, puts, wanted) in LITERALS {
         expect_row(alloc, text, literals(alloc, text, puts)?.as_str(), wanted)?;
+    }
+    for &(text, puts, wanted) in LITERALS_ALONE {
+        let told = literals_alone(alloc, text, puts)?;
+        expect_row(alloc, text, told.as_str(), wanted)?;
     }
     Ok(())
 }

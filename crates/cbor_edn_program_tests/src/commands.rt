@@ -37,10 +37,10 @@ fn writes<'a>(
     Ok(status == 0 && written.as_slice() == output && told.is_empty())
 }
 
-// Whether a run ends with a fault whose line begins so, and writes nothing.
+// Whether a run ends with a fault that has this line, and writes nothing.
 fn tells<'a>(alloc: Global, words: &'a [&'a str], input: &[u8], line: &str) -> Result<bool, Fail> {
     let (status, written, told) = served(alloc, words, input)?;
-    Ok(status == 1 && written.is_empty() && told.as_slice().starts_with(line.as_bytes()))
+    Ok(status == 1 && written.is_empty() && told.as_slice() == line.as_bytes())
 }
 
 const TO_CBOR: &[&str] = &["cbor-edn", "diag2cbor"];
@@ -125,7 +125,7 @@ fn tells_faults(rt: HostRuntime) -> Result<(), Fail> {
     assert!(rt; tells(alloc, TO_CBOR, b"1.0", inconsistent)?);
     let unread = "cbor-edn: Error processing input file\n";
     assert!(rt; tells(alloc, TO_DIAG, b"\xff", unread)?);
-    let unparsed = "cbor-edn: Error parsing input data: Invalid EDN in line 1 column ";
+    let unparsed = "cbor-edn: Error parsing input data: Invalid EDN in line 1 column 2 (byte 1)\n";
     assert!(rt; tells(alloc, TO_DIAG, b"[,]", unparsed)?);
     for digits in [b"123".as_slice(), b"1g".as_slice()] {
         let line = "cbor-edn: Error decoding hexadecimal input\n";
@@ -136,8 +136,23 @@ fn tells_faults(rt: HostRuntime) -> Result<(), Fail> {
     Ok(())
 }
 
-const DEEP_TEXT: &str =
-    "cbor-edn: Error parsing input data: EDN nested too deeply in line 1 column ";
+// The line of a text whose first mark past the limit is so many bytes behind its beginning.
+fn deep_text(alloc: Global, at: usize) -> Result<String, Fail> {
+    let words = "cbor-edn: Error parsing input data: EDN nested too deeply in line 1 column";
+    let column = at.saturating_add(1);
+    Ok(format!(in alloc; "{words} {column} (byte {at})\n")?)
+}
+
+// Whether a run tells that a text nests too deeply, and where.
+fn tells_depth<'a>(
+    alloc: Global,
+    words: &'a [&'a str],
+    input: &str,
+    at: usize,
+) -> Result<bool, Fail> {
+    let line = deep_text(alloc, at)?;
+    tells(alloc, words, input.as_bytes(), line.as_str())
+}
 
 const DEEP_BYTES: &str = "cbor-edn: Error decoding input data: Nested too deeply\n";
 
@@ -147,22 +162,37 @@ fn arrays(alloc: Global, depth: usize) -> Result<String, Fail> {
     Ok(text)
 }
 
+// Arrays of one entry, each on a line of its own, and the empty one inside.
+fn indented_arrays(alloc: Global, depth: usize) -> Result<String, Fail> {
+    let mut text = String::new(alloc);
+    for level in 1..depth {
+        let indent = "    ".repeat(alloc, level)?;
+        text.push_str("[\n")?;
+        text.push_str(indent.as_str())?;
+    }
+    text.push_str("[]\n")?;
+    for level in (1..depth).rev() {
+        let indent = "    ".repeat(alloc, level - 1)?;
+        text.push_str(indent.as_str())?;
+        text.push_str("]\n")?;
+    }
+    Ok(text)
+}
+
 #[test]
 fn limits_texts(rt: HostRuntime) -> Result<(), Fail> {
     let alloc = rt.alloc();
     let one = ["cbor-edn", "diag2diag", "--max-nesting", "1"];
     let two = ["cbor-edn", "diag2cbor", "--max-nesting=2"];
-    assert!(rt; tells(alloc, &one, b"[[]]", DEEP_TEXT)?);
+    assert!(rt; tells_depth(alloc, &one, "[[]]", 1)?);
     assert!(rt; writes(alloc, &two, "[[]]", b"\x81\x80")?);
-    assert!(rt; tells(alloc, &one, b"[simple(20)]", DEEP_TEXT)?);
-    assert!(rt; tells(alloc, &one, b"<<[1]>>", DEEP_TEXT)?);
+    assert!(rt; tells_depth(alloc, &one, "[simple(20)]", 7)?);
+    assert!(rt; tells_depth(alloc, &one, "<<[1]>>", 2)?);
     let nested = arrays(alloc, 512)?;
-    let (status, written, _) = served(alloc, TO_CBOR, nested.as_bytes())?;
-    assert_eq!(rt; (status, written.len()), (0, 512));
-    let deeper = arrays(alloc, 513)?;
-    assert!(rt; tells(alloc, TO_CBOR, deeper.as_bytes(), DEEP_TEXT)?);
-    let open = "[".repeat(alloc, 100_000)?;
-    assert!(rt; tells(alloc, TO_DIAG, open.as_bytes(), DEEP_TEXT)?);
+    let shown = indented_arrays(alloc, 512)?;
+    assert!(rt; writes(alloc, TO_DIAG, &nested, shown.as_bytes())?);
+    assert!(rt; tells_depth(alloc, TO_CBOR, &arrays(alloc, 513)?, 512)?);
+    assert!(rt; tells_depth(alloc, TO_DIAG, &"[".repeat(alloc, 100_000)?, 512)?);
     Ok(())
 }
 
@@ -184,8 +214,8 @@ fn limits_bytes(rt: HostRuntime) -> Result<(), Fail> {
     assert!(rt; tells(alloc, &none, b"80", DEEP_BYTES)?);
     let nested = "81".repeat(alloc, 511)?;
     let inner = format!(in alloc; "{nested}80")?;
-    let (status, _, told) = served(alloc, FROM_HEX, inner.as_bytes())?;
-    assert_eq!(rt; (status, told.len()), (0, 0));
+    let shown = indented_arrays(alloc, 512)?;
+    assert!(rt; writes(alloc, FROM_HEX, &inner, shown.as_bytes())?);
     let deeper = format!(in alloc; "81{inner}")?;
     assert!(rt; tells(alloc, FROM_HEX, deeper.as_bytes(), DEEP_BYTES)?);
     let open = "81".repeat(alloc, 100_000)?;

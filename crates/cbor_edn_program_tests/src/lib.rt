@@ -6,6 +6,8 @@ mod callers;
 #[cfg(test)]
 mod commands;
 #[cfg(test)]
+mod devices;
+#[cfg(test)]
 mod recoding;
 #[cfg(test)]
 mod runs;
