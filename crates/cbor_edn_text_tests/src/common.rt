@@ -1,4 +1,5 @@
 //! What the tests compare: texts, bytes in hexadecimal digits, and the names of refusals.
+use crate::failures::Failures;
 use cbor_edn_core::tree::{Item, Sequence, StandaloneItem};
 use cbor_edn_expect::{digits_of, expect_row, name_of};
 use cbor_edn_parts::error::{Fault, ParseError};
@@ -7,19 +8,21 @@ use std::test::Fail;
 
 /// Each text means the bytes, given in digits, or is refused with the name; and each is printed as itself.
 pub(crate) fn all_mean(alloc: Global, rows: &[(&str, &str)]) -> Result<(), Fail> {
+    let mut failures = Failures::new(alloc);
     for &(text, wanted) in rows {
-        expect_row(alloc, text, encoded(alloc, text)?.as_str(), wanted)?;
-        expect_itself(alloc, text)?;
+        failures.row(alloc, text, encoded(alloc, text)?.as_str(), wanted)?;
+        failures.row(alloc, text, printed(alloc, text)?.as_str(), text)?;
     }
-    Ok(())
+    failures.end()
 }
 
 /// Each is no text of items.
 pub(crate) fn all_unparsed(alloc: Global, texts: &[&str]) -> Result<(), Fail> {
+    let mut failures = Failures::new(alloc);
     for &text in texts {
-        expect_row(alloc, text, encoded(alloc, text)?.as_str(), "parse")?;
+        failures.row(alloc, text, encoded(alloc, text)?.as_str(), "parse")?;
     }
-    Ok(())
+    failures.end()
 }
 
 /// A text is accepted, and printed as itself.
@@ -27,9 +30,12 @@ pub(crate) fn expect_itself(alloc: Global, text: &str) -> Result<(), Fail> {
     expect_row(alloc, text, printed(alloc, text)?.as_str(), text)
 }
 
+/// A text as it is printed, or `parse` where it is refused.
 fn printed(alloc: Global, text: &str) -> Result<String, Fail> {
-    let sequence = Sequence::parse(alloc, text)?;
-    Ok(sequence.serialize(alloc)?)
+    match Sequence::parse(alloc, text) {
+        Ok(sequence) => Ok(sequence.serialize(alloc)?),
+        Err(fault) => unparsed(alloc, fault),
+    }
 }
 
 /// The bytes of a text's items in lower case digits, or the name of the refusal: `parse` where the text is refused.
@@ -65,19 +71,26 @@ pub(crate) fn decoded_item(alloc: Global, bytes: &[u8], limit: usize) -> Result<
     }
 }
 
-/// A text means the bytes, is what they are decoded as, and prints itself.
-pub(crate) fn stand_for_each_other(alloc: Global, text: &str, digits: &str) -> Result<(), Fail> {
-    expect_row(alloc, text, encoded(alloc, text)?.as_str(), digits)?;
-    expect_row(alloc, digits, decoded(alloc, digits)?.as_str(), text)?;
-    expect_itself(alloc, text)
+/// A text means the bytes, given in digits, is what they are decoded as, and prints itself.
+pub(crate) fn stand_for_each_other(
+    failures: &mut Failures,
+    alloc: Global,
+    text: &str,
+    digits: &str,
+) -> Result<(), Fail> {
+    failures.row(alloc, text, encoded(alloc, text)?.as_str(), digits)?;
+    failures.row(alloc, digits, decoded(alloc, digits)?.as_str(), text)?;
+    failures.row(alloc, text, printed(alloc, text)?.as_str(), text)?;
+    Ok(())
 }
 
 /// The same of each text and its bytes.
 pub(crate) fn all_stand_for_each_other(alloc: Global, rows: &[(&str, &str)]) -> Result<(), Fail> {
+    let mut failures = Failures::new(alloc);
     for &(text, digits) in rows {
-        stand_for_each_other(alloc, text, digits)?;
+        stand_for_each_other(&mut failures, alloc, text, digits)?;
     }
-    Ok(())
+    failures.end()
 }
 
 /// Why a text is refused whose items may nest so deep, or nothing where it is accepted.

@@ -1,7 +1,10 @@
 //! Bytes, the texts that they are decoded as, and the same bytes back; and bytes that are refused.
 use crate::common::{decoded, decoded_item, repeated, stand_for_each_other};
-use cbor_edn_core::tree::{Item, NESTING_LIMIT, StandaloneItem};
+use crate::failures::Failures;
+use cbor_edn_core::from_cbor::CborError;
+use cbor_edn_core::tree::{Item, NESTING_LIMIT, Sequence, StandaloneItem};
 use cbor_edn_expect::{digits_of, expect, expect_row};
+use cbor_edn_parts::error::Fault;
 use std::alloc::Global;
 use std::test::Fail;
 
@@ -63,10 +66,12 @@ const ROWS: &[(&str, &str)] = &[
 
 #[test]
 fn decodes_rows(rt: HostRuntime) -> Result<(), Fail> {
+    let alloc = rt.alloc();
+    let mut failures = Failures::new(alloc);
     for &(digits, text) in ROWS {
-        stand_for_each_other(rt.alloc(), text, digits)?;
+        stand_for_each_other(&mut failures, alloc, text, digits)?;
     }
-    Ok(())
+    failures.end()
 }
 
 /// Bytes that encode no items, and the name of the refusal.
@@ -121,19 +126,16 @@ fn item_of(alloc: Global, digits: &str, limit: usize) -> Result<String, Fail> {
     decoded_item(alloc, bytes.as_slice(), limit)
 }
 
-fn expect_item(alloc: Global, digits: &str, limit: usize, wanted: &str) -> Result<(), Fail> {
-    let told = item_of(alloc, digits, limit)?;
-    expect_row(alloc, digits, told.as_str(), wanted)
-}
-
 #[test]
 fn refuses_bytes(rt: HostRuntime) -> Result<(), Fail> {
     let alloc = rt.alloc();
+    let mut failures = Failures::new(alloc);
     for &(digits, name) in REFUSED {
-        expect_row(alloc, digits, decoded(alloc, digits)?.as_str(), name)?;
-        expect_item(alloc, digits, NESTING_LIMIT, name)?;
+        failures.row(alloc, digits, decoded(alloc, digits)?.as_str(), name)?;
+        let told = item_of(alloc, digits, NESTING_LIMIT)?;
+        failures.row(alloc, digits, told.as_str(), name)?;
     }
-    Ok(())
+    failures.end()
 }
 
 /// Bytes that are not one item, and the name of the refusal.
@@ -153,10 +155,16 @@ fn refuses_other_than_one_item(rt: HostRuntime) -> Result<(), Fail> {
     Ok(())
 }
 
-/// Bytes of an item no beginning of which is one, and its text.
+/// Bytes no beginning of which is an item, and the text of the item that they encode, or the name of the refusal.
 const WHOLE: &[(&str, &str)] = &[
+    ("9f8201ff", "MisplacedBreak"),
     ("9f820102ff", "[_ [1, 2]]"),
     ("3bffffffffffffffff", "-18446744073709551616"),
+    ("c349010000000000000000", "3(h'010000000000000000')"),
+    (
+        "c250ffffffffffffffffffffffffffffffff",
+        "2(h'ffffffffffffffffffffffffffffffff')",
+    ),
     (
         "5f4668656c6c6f2045776f726c64ff",
         "(_ h'68656c6c6f20', h'776f726c64')",
@@ -170,32 +178,42 @@ const WHOLE: &[(&str, &str)] = &[
     ("d8184100", "24(h'00')"),
 ];
 
-/// Whether bytes are refused for want of more, and not for their nesting.
-fn is_cut(alloc: Global, bytes: &[u8]) -> Result<bool, Fail> {
-    let told = decoded_item(alloc, bytes, NESTING_LIMIT)?;
-    Ok(matches!(
-        told.as_str(),
-        "OutOfData" | "MissingArgument" | "MissingBytes"
-    ))
+/// Why bytes are no item, without a limit of their own.
+fn refused_item(alloc: Global, bytes: &[u8]) -> Option<Fault<CborError>> {
+    Item::from_cbor(alloc, bytes).err()
 }
 
-/// Each beginning of what is given in digits is refused for want of more.
-fn expect_cut(alloc: Global, digits: &str) -> Result<(), Fail> {
+/// Whether bytes are refused for want of more, and for nothing else.
+fn is_cut(alloc: Global, bytes: &[u8]) -> bool {
+    matches!(
+        refused_item(alloc, bytes),
+        Some(Fault::Told(
+            CborError::OutOfData | CborError::MissingArgument | CborError::MissingBytes
+        ))
+    )
+}
+
+/// The first length at which a beginning of what is given in digits is not refused for want of more, or all of it.
+fn first_uncut(alloc: Global, digits: &str) -> Result<usize, Fail> {
     let bytes = hex::decode(alloc, digits)?;
     for length in 0..bytes.len() {
-        expect(digits, is_cut(alloc, &bytes.as_slice()[..length])?)?;
+        if !is_cut(alloc, &bytes.as_slice()[..length]) {
+            return Ok(length);
+        }
     }
-    Ok(())
+    Ok(bytes.len())
 }
 
 #[test]
 fn refuses_beginnings(rt: HostRuntime) -> Result<(), Fail> {
     let alloc = rt.alloc();
+    let mut failures = Failures::new(alloc);
     for &(digits, text) in WHOLE {
-        expect_item(alloc, digits, NESTING_LIMIT, text)?;
-        expect_cut(alloc, digits)?;
+        let told = item_of(alloc, digits, NESTING_LIMIT)?;
+        failures.row(alloc, digits, told.as_str(), text)?;
+        expect(digits, first_uncut(alloc, digits)? == digits.len() / 2)?;
     }
-    Ok(())
+    failures.end()
 }
 
 /// Bytes, how deep their item nests, and its text. Simple values that have names do not nest.
@@ -216,13 +234,16 @@ const NESTED: &[(&str, usize, &str)] = &[
 
 #[test]
 fn counts_what_nests(rt: HostRuntime) -> Result<(), Fail> {
+    let alloc = rt.alloc();
+    let mut failures = Failures::new(alloc);
     for &(digits, depth, text) in NESTED {
         for limit in 0..3 {
             let wanted = if limit < depth { "TooDeep" } else { text };
-            expect_item(rt.alloc(), digits, limit, wanted)?;
+            let told = item_of(alloc, digits, limit)?;
+            failures.row(alloc, digits, told.as_str(), wanted)?;
         }
     }
-    Ok(())
+    failures.end()
 }
 
 /// Arrays of one entry, so many, the innermost of them empty.
@@ -257,20 +278,34 @@ fn refuses_what_is_deeper(rt: HostRuntime) -> Result<(), Fail> {
     Ok(())
 }
 
-/// The text of the item that bytes begin with, which may nest so deep, and the bytes behind it.
-fn first_item(alloc: Global, bytes: &[u8], limit: usize) -> Result<(String, &[u8]), Fail> {
-    match Item::from_cbor_with_rest_within(alloc, bytes, limit) {
-        Ok((item, rest)) => Ok((item.serialize(alloc)?, rest)),
-        Err(_) => Err(Fail::from("refused")),
-    }
+/// The text of the item that bytes begin with, which may nest so deep or have no limit of its own, and the bytes behind it.
+fn first_item(alloc: Global, bytes: &[u8], limit: Option<usize>) -> Result<(String, &[u8]), Fail> {
+    let (item, rest) = match limit {
+        Some(limit) => Item::from_cbor_with_rest_within(alloc, bytes, limit)?,
+        None => Item::from_cbor_with_rest(alloc, bytes)?,
+    };
+    Ok((item.serialize(alloc)?, rest))
 }
 
-/// The same of a standalone item, without a limit of its own.
-fn first_standalone(alloc: Global, bytes: &[u8]) -> Result<(String, &[u8]), Fail> {
-    match StandaloneItem::from_cbor_with_rest(alloc, bytes) {
-        Ok((item, rest)) => Ok((item.serialize(alloc)?, rest)),
-        Err(_) => Err(Fail::from("refused")),
-    }
+/// The same of a standalone item.
+fn first_standalone(
+    alloc: Global,
+    bytes: &[u8],
+    limit: Option<usize>,
+) -> Result<(String, &[u8]), Fail> {
+    let (item, rest) = match limit {
+        Some(limit) => StandaloneItem::from_cbor_with_rest_within(alloc, bytes, limit)?,
+        None => StandaloneItem::from_cbor_with_rest(alloc, bytes)?,
+    };
+    Ok((item.serialize(alloc)?, rest))
+}
+
+/// Whether what bytes begin with nests deeper than the limit, as an item and as a standalone item.
+fn is_first_too_deep(alloc: Global, bytes: &[u8], limit: usize) -> bool {
+    let item = Item::from_cbor_with_rest_within(alloc, bytes, limit).err();
+    let alone = StandaloneItem::from_cbor_with_rest_within(alloc, bytes, limit).err();
+    matches!(item, Some(Fault::Told(CborError::TooDeep)))
+        && matches!(alone, Some(Fault::Told(CborError::TooDeep)))
 }
 
 fn expect_first(alloc: Global, told: (String, &[u8]), text: &str, rest: &[u8]) -> Result<(), Fail> {
@@ -288,23 +323,58 @@ const BEGUN: &[(&[u8], usize, &str, &[u8])] = &[
 fn answers_the_rest(rt: HostRuntime) -> Result<(), Fail> {
     let alloc = rt.alloc();
     for &(bytes, depth, text, rest) in BEGUN {
-        expect_first(alloc, first_item(alloc, bytes, depth)?, text, rest)?;
-        expect_first(alloc, first_standalone(alloc, bytes)?, text, rest)?;
+        for limit in [None, Some(depth)] {
+            expect_first(alloc, first_item(alloc, bytes, limit)?, text, rest)?;
+            expect_first(alloc, first_standalone(alloc, bytes, limit)?, text, rest)?;
+        }
+        if let Some(limit) = depth.checked_sub(1) {
+            expect(text, is_first_too_deep(alloc, bytes, limit))?;
+        }
     }
     Ok(())
 }
 
-/// The bytes of the standalone item that bytes encode.
+/// The bytes of the item that bytes encode.
 fn encoded_again(alloc: Global, bytes: &[u8]) -> Result<String, Fail> {
-    let item: StandaloneItem<'_> = StandaloneItem::from_cbor(alloc, bytes)?;
+    let item: Item<'_> = Item::from_cbor(alloc, bytes)?;
     digits_of(alloc, item.to_cbor(alloc))
 }
 
+/// The same of a standalone item, which may nest so deep or have no limit of its own.
+fn encoded_alone_again(alloc: Global, bytes: &[u8], limit: Option<usize>) -> Result<String, Fail> {
+    let item: StandaloneItem<'_> = match limit {
+        Some(limit) => StandaloneItem::from_cbor_within(alloc, bytes, limit)?,
+        None => StandaloneItem::from_cbor(alloc, bytes)?,
+    };
+    digits_of(alloc, item.to_cbor(alloc))
+}
+
+/// The same of a sequence that may nest so deep.
+fn sequence_encoded_again(alloc: Global, bytes: &[u8], limit: usize) -> Result<String, Fail> {
+    let sequence: Sequence<'_> = Sequence::from_cbor_within(alloc, bytes, limit)?;
+    digits_of(alloc, sequence.to_cbor(alloc))
+}
+
+/// Whether bytes nest deeper than the limit, as a standalone item and as a sequence.
+fn are_too_deep(alloc: Global, bytes: &[u8], limit: usize) -> bool {
+    let alone = StandaloneItem::from_cbor_within(alloc, bytes, limit).err();
+    let sequence = Sequence::from_cbor_within(alloc, bytes, limit).err();
+    matches!(alone, Some(Fault::Told(CborError::TooDeep)))
+        && matches!(sequence, Some(Fault::Told(CborError::TooDeep)))
+}
+
 #[test]
-fn encodes_standalone_items_again(rt: HostRuntime) -> Result<(), Fail> {
+fn encodes_items_again(rt: HostRuntime) -> Result<(), Fail> {
     let alloc = rt.alloc();
     let bytes = b"\x9f\x19\x00\xff\xb8\x02\x01\x38\x00\x03\x80\xff";
     let wanted = "9f1900ffb8020138000380ff";
     let told = encoded_again(alloc, bytes)?;
-    expect_row(alloc, wanted, told.as_str(), wanted)
+    expect_row(alloc, "an item", told.as_str(), wanted)?;
+    for limit in [None, Some(3)] {
+        let told = encoded_alone_again(alloc, bytes, limit)?;
+        expect_row(alloc, "a standalone item", told.as_str(), wanted)?;
+    }
+    let told = sequence_encoded_again(alloc, b"\x80\x81\x80", 2)?;
+    expect_row(alloc, "a sequence", told.as_str(), "808180")?;
+    expect("what nests deeper", are_too_deep(alloc, bytes, 2))
 }

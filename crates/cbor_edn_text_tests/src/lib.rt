@@ -6,6 +6,8 @@ mod common;
 #[cfg(test)]
 mod decoding;
 #[cfg(test)]
+mod failures;
+#[cfg(test)]
 mod limits;
 #[cfg(test)]
 mod refusals;

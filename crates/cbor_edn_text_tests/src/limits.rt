@@ -94,7 +94,9 @@ fn refuses_many_open_arrays(rt: HostRuntime) -> Result<(), Fail> {
 }
 
 fn counts_sequence(alloc: Global, text: &str) -> bool {
-    Sequence::parse_counted(alloc, text, &mut Looks::new()).is_ok()
+    let mut looks = Looks::new();
+    looks.look();
+    Sequence::parse_counted(alloc, text, &mut looks).is_ok()
 }
 
 fn counts_standalone(alloc: Global, text: &str) -> bool {

@@ -1,8 +1,10 @@
 //! The words and the places of refusals.
 use crate::common::{encoded, refusal};
+use crate::failures::Failures;
 use cbor_edn_core::from_cbor::CborError;
+use cbor_edn_core::tree::Item;
 use cbor_edn_expect::{expect, expect_row};
-use cbor_edn_parts::error::{InconsistentEdn, ParseError, ParseErrorKind};
+use cbor_edn_parts::error::{Fault, InconsistentEdn, ParseError, ParseErrorKind};
 use std::alloc::Global;
 use std::test::Fail;
 
@@ -143,42 +145,106 @@ fn words_of_inconsistencies(rt: HostRuntime) -> Result<(), Fail> {
     for &(refused, words) in UNTOLD {
         expect_words(alloc, refused, words)?;
     }
-    Ok(())
+    match u8::try_from(256_u16) {
+        Ok(_) => Err(Fail::new("256 in a byte")),
+        Err(error) => expect_words(
+            alloc,
+            InconsistentEdn::from(error),
+            "Numeric range exceeded",
+        ),
+    }
 }
 
-const CBOR_ERRORS: &[(CborError, &str)] = &[
-    (CborError::OutOfData, "Expected item, out of data"),
-    (CborError::Reserved, "Reserved header byte"),
-    (CborError::MissingArgument, "Missing argument bytes"),
+/// Bytes, given in digits, why they are no item, and its words.
+const CBOR_ERRORS: &[(&str, CborError, &str)] = &[
+    // a count takes no memory before its items are read
     (
+        "9bffffffffffffffff00",
+        CborError::OutOfData,
+        "Expected item, out of data",
+    ),
+    (
+        "bbffffffffffffffff",
+        CborError::OutOfData,
+        "Expected item, out of data",
+    ),
+    ("1c", CborError::Reserved, "Reserved header byte"),
+    ("1901", CborError::MissingArgument, "Missing argument bytes"),
+    (
+        "5f6161ff",
         CborError::OtherChunk,
         "Indefinite length strings can only contain matching items",
     ),
     (
+        "5f5f4161ffff",
         CborError::OpenChunk,
         "Indefinite length strings can only contain definite lengths",
     ),
     (
+        "df",
         CborError::OpenNumber,
         "Integer/Tag with indefinite length encoding is not well-formed",
     ),
     (
+        "a1ff",
         CborError::MisplacedBreak,
         "Break code only expected at end of indefinite length items",
     ),
-    (CborError::InvalidSimple, "Invalid simple value"),
-    (CborError::FloatOutOfScope, "Float value out of scope"),
-    (CborError::MissingBytes, "Announced bytes unavailable"),
-    (CborError::InvalidUtf8, "Text string must be valid UTF-8"),
-    (CborError::DataAfter, "Data after item"),
+    (
+        "bf01ff",
+        CborError::MisplacedBreak,
+        "Break code only expected at end of indefinite length items",
+    ),
+    (
+        "c1ff",
+        CborError::MisplacedBreak,
+        "Break code only expected at end of indefinite length items",
+    ),
+    ("f81f", CborError::InvalidSimple, "Invalid simple value"),
+    (
+        "f97c01",
+        CborError::FloatOutOfScope,
+        "Float value out of scope",
+    ),
+    (
+        "5b7fffffffffffffff",
+        CborError::MissingBytes,
+        "Announced bytes unavailable",
+    ),
+    (
+        "5bffffffffffffffff00",
+        CborError::MissingBytes,
+        "Announced bytes unavailable",
+    ),
+    (
+        "7f61c361a9ff",
+        CborError::InvalidUtf8,
+        "Text string must be valid UTF-8",
+    ),
+    ("010203", CborError::DataAfter, "Data after item"),
 ];
+
+/// Why bytes, given in digits, are no item, or nothing where they are one.
+fn cbor_error(alloc: Global, digits: &str) -> Result<Option<CborError>, Fail> {
+    let bytes = hex::decode(alloc, digits)?;
+    match Item::from_cbor(alloc, bytes.as_slice()) {
+        Ok(_) => Ok(None),
+        Err(Fault::Told(refused)) => Ok(Some(refused)),
+        Err(Fault::Memory(refused)) => Err(Fail::from(refused)),
+    }
+}
 
 #[test]
 fn words_of_cbor_errors(rt: HostRuntime) -> Result<(), Fail> {
     let alloc = rt.alloc();
-    for &(refused, words) in CBOR_ERRORS {
-        expect_row(alloc, words, refused.to_string(alloc)?.as_str(), words)?;
-        expect(words, !refused.too_deep())?;
+    let mut failures = Failures::new(alloc);
+    for &(digits, refused, words) in CBOR_ERRORS {
+        expect(digits, cbor_error(alloc, digits)? == Some(refused))?;
+        expect(digits, !refused.too_deep())?;
+        failures.row(alloc, digits, refused.to_string(alloc)?.as_str(), words)?;
     }
-    expect("too deep", CborError::TooDeep.too_deep())
+    failures.end()?;
+    expect("too deep", CborError::TooDeep.too_deep())?;
+    let words = CborError::TooDeep.to_string(alloc)?;
+    expect_row(alloc, "too deep", words.as_str(), "Nested too deeply")
 }

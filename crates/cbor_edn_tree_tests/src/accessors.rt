@@ -1,8 +1,8 @@
 //! Parts of items.
-use crate::common::{Made, make, tag_of};
+use crate::common::{Made, make, standalone_of, tag_of};
 use cbor_edn_core::access::TypeMismatch;
 use cbor_edn_core::tree::Item;
-use cbor_edn_expect::{expect, expect_text};
+use cbor_edn_expect::{expect, expect_row, expect_text};
 use cbor_edn_parts::error::Fault;
 use std::alloc::Global;
 use std::test::Fail;
@@ -52,6 +52,56 @@ fn tags_are_answered(rt: HostRuntime) -> Result<(), Fail> {
     expect_text(alloc, content.as_str(), " 2 ")?;
     let no_tag = tag(alloc, Made::Decimal(7))?;
     expect("no tag", no_tag == Err(TypeMismatch::TaggedItem))
+}
+
+/// What an item is: the word of a named simple value, a number, a tag's head, a string of plain pieces, or nothing of these.
+fn told_of(item: &Item<'_>, alloc: Global) -> Result<String, Fail> {
+    if let Some(named) = item.get_named() {
+        return Ok(String::from_str(alloc, named.as_str())?);
+    }
+    if let Some((number, indicator)) = item.get_number() {
+        return Ok(format!(in alloc; "number {number} {indicator:?}")?);
+    }
+    if let Some((tag, indicator)) = item.get_tag_head() {
+        return Ok(format!(in alloc; "tag {tag} {indicator:?}")?);
+    }
+    let is_plain = item.is_plain_string();
+    Ok(format!(in alloc; "plain string: {is_plain}")?)
+}
+
+fn told(alloc: Global, text: &str) -> Result<String, Fail> {
+    let item = standalone_of(alloc, text)?;
+    told_of(item.item(), alloc)
+}
+
+/// Texts, and what their items are.
+const TOLD: &[(&str, &str)] = &[
+    ("false", "false"),
+    (" true ", "true"),
+    ("null", "null"),
+    ("undefined", "undefined"),
+    ("0x1f_1", "number 0x1f Some(Two)"),
+    ("-1.50", "number -1.50 None"),
+    ("7_0( 1 )", "tag 7 Some(One)"),
+    ("18446744073709551615(1)", "tag 18446744073709551615 None"),
+    ("h'01' + 'a'", "plain string: true"),
+    ("\"a\"", "plain string: true"),
+    ("h'01'_0", "plain string: false"),
+    ("<<1>>", "plain string: false"),
+    ("...", "plain string: false"),
+    ("(_ 'a')", "plain string: false"),
+    ("simple(21)", "plain string: false"),
+    ("NaN", "plain string: false"),
+    ("[1]", "plain string: false"),
+];
+
+#[test]
+fn forms_are_answered(rt: HostRuntime) -> Result<(), Fail> {
+    let alloc = rt.alloc();
+    for &(text, wanted) in TOLD {
+        expect_row(alloc, text, told(alloc, text)?.as_str(), wanted)?;
+    }
+    Ok(())
 }
 
 /// Appends the text of an item and a semicolon.

@@ -92,6 +92,19 @@ pub(crate) fn tag_of<'a>(alloc: Global, number: u64, text: &'a str) -> Result<Bo
     Ok(Box::new(alloc, content.tagged(alloc, number)?)?)
 }
 
+/// The five policies, the indented one as it is by default.
+pub(crate) const POLICIES: &[DelimiterPolicy] = &[
+    DelimiterPolicy::DiscardAll,
+    DelimiterPolicy::DiscardAllButComments,
+    DelimiterPolicy::SingleLineRegularSpacing,
+    DelimiterPolicy::IndentedRegularSpacing {
+        base_indent: 0,
+        indent_level: 4,
+        max_width: 80,
+    },
+    DelimiterPolicy::SingleSpace,
+];
+
 /// The text of a standalone item that got a comment, if any, and then the spaces of each policy.
 pub(crate) fn edited(
     alloc: Global,

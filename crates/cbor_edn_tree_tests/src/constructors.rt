@@ -1,5 +1,5 @@
 //! Items and sequences that are made from values.
-use crate::common::{Made, all_written, list, make_item, tag_of};
+use crate::common::{Made, all_written, list, make, make_item, tag_of};
 use cbor_edn_core::tree::{Item, Sequence};
 use cbor_edn_expect::expect_text;
 use cbor_edn_parts::error::{Fault, InconsistentEdn};
@@ -108,11 +108,44 @@ fn tagged(alloc: Global, made: Made<'_>, number: u64) -> Result<String, Fail> {
     Ok(item.serialize(alloc)?)
 }
 
+/// The same in the item's place.
+fn put_into_tag(alloc: Global, made: Made<'_>, number: u64) -> Result<String, Fail> {
+    let mut item = make(alloc, made)?;
+    item.put_into_tag(alloc, number)?;
+    Ok(item.serialize(alloc)?)
+}
+
 #[test]
 fn tags_of_arrays_are_written(rt: HostRuntime) -> Result<(), Fail> {
     let alloc = rt.alloc();
     let told = tagged(alloc, Made::Array(&[1, 2]), 24)?;
+    expect_text(alloc, told.as_str(), "24([1,2])")?;
+    let told = put_into_tag(alloc, Made::Array(&[1, 2]), 24)?;
     expect_text(alloc, told.as_str(), "24([1,2])")
+}
+
+/// The number that is written so, or the empty text where it is none.
+fn number(alloc: Global, text: &str) -> Result<String, Fail> {
+    match Item::new_number(alloc, text)? {
+        Some(item) => Ok(item.serialize(alloc)?),
+        None => Ok(String::new(alloc)),
+    }
+}
+
+const NUMBERS: &[&str] = &["1.5", "-0X1.fP-10", "0b101", "+007", "1e1"];
+
+const NO_NUMBERS: &[&str] = &["", "1_1", "NaN", "0b2", "1 ", "0x", "--1"];
+
+#[test]
+fn numbers_are_written_as_told(rt: HostRuntime) -> Result<(), Fail> {
+    let alloc = rt.alloc();
+    for &text in NUMBERS {
+        expect_text(alloc, number(alloc, text)?.as_str(), text)?;
+    }
+    for &text in NO_NUMBERS {
+        expect_text(alloc, number(alloc, text)?.as_str(), "")?;
+    }
+    Ok(())
 }
 
 fn sequence(alloc: Global, numbers: &[i128]) -> Result<String, Fail> {

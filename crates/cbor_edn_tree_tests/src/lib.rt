@@ -12,6 +12,8 @@ mod constructors;
 #[cfg(test)]
 mod contents;
 #[cfg(test)]
+mod deepest;
+#[cfg(test)]
 mod indicators;
 #[cfg(test)]
 mod policies;

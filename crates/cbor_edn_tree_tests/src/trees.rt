@@ -8,11 +8,11 @@ use std::test::Fail;
 fn is_copied(sequence: &Sequence<'_>, alloc: Global, text: &str) -> Result<bool, Fail> {
     let copy = sequence.clone()?;
     let printed = copy.serialize(alloc)?;
-    Ok(copy == *sequence && printed.as_str() == text)
+    Ok(copy == *sequence && copy.is_same(sequence) && printed.as_str() == text)
 }
 
 /// Whether a text's sequence equals its copy, which prints the text.
-fn is_own_copy(alloc: Global, text: &str) -> Result<bool, Fail> {
+pub(crate) fn is_own_copy(alloc: Global, text: &str) -> Result<bool, Fail> {
     let sequence = sequence_of(alloc, text)?;
     is_copied(&sequence, alloc, text)
 }
@@ -24,7 +24,7 @@ fn is_copy_alone<'a>(
     text: &str,
 ) -> Result<bool, Fail> {
     let printed = copy.serialize(alloc)?;
-    Ok(*copy == *item && printed.as_str() == text)
+    Ok(*copy == *item && copy.is_same(item) && printed.as_str() == text)
 }
 
 fn is_copied_alone(item: &StandaloneItem<'_>, alloc: Global, text: &str) -> Result<bool, Fail> {
@@ -45,35 +45,6 @@ fn copies_texts(rt: HostRuntime) -> Result<(), Fail> {
     expect(text, is_own_copy(alloc, text)?)?;
     let text = " {_0 1 : /c/ [(_ 'a', <<2>>)] ,} ";
     expect(text, is_own_copy_alone(alloc, text)?)
-}
-
-/// Openings, what stands inside, and closings, of each form that nests.
-const DEEPEST: &[(&str, &str, &str)] = &[
-    ("[", "", "]"),
-    ("[2,", "1", ",3]"),
-    ("{2:", "1", "}"),
-    ("{", "1", ":2}"),
-    ("{4:", "1", ",5:6}"),
-    ("{", "1", ":2,3:4}"),
-    ("6(", "1", ")"),
-    ("simple(", "1", ")"),
-    ("<<", "1", ">>"),
-    ("'a'+<<", "1", ">>+'b'"),
-    ("(_ <<", "1", ">>)"),
-    ("(_ 'a','b'+<<", "1", ">>,'c')"),
-    ("(_ 'a','b'+<<2,", "1", ",3>>+'d','c')"),
-];
-
-// Under `rt try`, which compiles with checks, this asks for more stack than is common: `ulimit -s hard` gives it.
-#[test]
-fn copies_the_deepest(rt: HostRuntime) -> Result<(), Fail> {
-    let alloc = rt.alloc();
-    for &(open, inside, close) in DEEPEST {
-        let (open, close) = (open.repeat(alloc, 512)?, close.repeat(alloc, 512)?);
-        let deepest = format!(in alloc; "{open}{inside}{close}")?;
-        expect(open.as_str(), is_own_copy(alloc, deepest.as_str())?)?;
-    }
-    Ok(())
 }
 
 // An item of every form that is decoded.
@@ -149,6 +120,13 @@ fn shown(alloc: Global, text: &str) -> Result<String, Fail> {
     Ok(format!(in alloc; "{tree:?}")?)
 }
 
+/// The same of a standalone item, and of its item.
+fn shown_alone(alloc: Global, text: &str) -> Result<String, Fail> {
+    let alone = standalone_of(alloc, text)?;
+    let item = alone.item();
+    Ok(format!(in alloc; "{alone:?} {item:?}")?)
+}
+
 /// Texts, and the outlines of their trees.
 const OUTLINES: &[(&str, &str)] = &[
     (" ", ""),
@@ -165,7 +143,8 @@ fn shows_numbers_words_literals_and_forms(rt: HostRuntime) -> Result<(), Fail> {
     for &(text, outline) in OUTLINES {
         expect_text(alloc, shown(alloc, text)?.as_str(), outline)?;
     }
-    Ok(())
+    expect_text(alloc, shown_alone(alloc, " 1_1 ")?.as_str(), "1 1")?;
+    expect_text(alloc, shown_alone(alloc, "[1] ")?.as_str(), "[..] [..]")
 }
 
 // A list keeps its items side by side, so that each byte of an item counts.

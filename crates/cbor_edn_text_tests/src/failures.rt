@@ -1,0 +1,41 @@
+//! The rows of a table that fail.
+use std::alloc::{AllocError, Global};
+use std::test::Fail;
+
+/// The rows whose answer is not the wanted one, a line each.
+#[derive(Drop)]
+pub(crate) struct Failures {
+    lines: String,
+}
+
+impl Failures {
+    pub(crate) fn new(alloc: Global) -> Failures {
+        Failures {
+            lines: String::new(alloc),
+        }
+    }
+
+    /// Adds the row where its answer is not the wanted one.
+    pub(crate) fn row(
+        &mut self,
+        alloc: Global,
+        row: &str,
+        told: &str,
+        wanted: &str,
+    ) -> Result<(), AllocError> {
+        if told != wanted {
+            let line = format!(in alloc; "{row:?}: {told:?}, and not {wanted:?}; ")?;
+            self.lines.push_str(line.as_str())?;
+        }
+        Ok(())
+    }
+
+    /// Fails with all rows that were added.
+    pub(crate) fn end(self) -> Result<(), Fail> {
+        if self.lines.is_empty() {
+            Ok(())
+        } else {
+            Err(Fail::new(self.lines))
+        }
+    }
+}

@@ -1,0 +1,196 @@
+//! Trees that nest as deep as texts may: copies, encodings, spaces, indicators and visits. `scripts/check-stack.sh` runs
+//! them under a small stack.
+ghost use Rattle.std.specs.Prelude.{⊤};
+
+use crate::common::{Edit, edited_sequence, sequence_of, standalone_of};
+use crate::trees::is_own_copy;
+use cbor_edn_core::tree::{Item, NESTING_LIMIT, Sequence};
+use cbor_edn_core::visitor::MapValueHandler;
+use cbor_edn_expect::expect;
+use cbor_edn_parts::error::{CallbackError, Fault};
+use cbor_edn_parts::policy::DelimiterPolicy;
+use std::alloc::Global;
+use std::test::Fail;
+
+/// Forms that nest round a literal: openings, closings, closings where tags have comments, how many elements or keys the
+/// outermost one has, and whether visits enter it and it has an encoding.
+const FORMS: &[(&str, &str, &str, usize, bool)] = &[
+    ("[", "]", "]", 1, true),
+    ("[2,", ",3]", ",3]", 3, true),
+    ("{2:", "}", "}", 1, true),
+    ("{", ":2}", ":2}", 1, true),
+    ("{4:", ",5:6}", ",5:6}", 2, true),
+    ("{", ":2,3:4}", ":2,3:4}", 2, true),
+    ("6(", ")", ")/ c /", 0, true),
+    ("simple(", ")", ")", 0, false),
+    ("<<", ">>", ">>", 0, true),
+    ("'a'+<<", ">>+'b'", ">>+'b'", 0, true),
+    ("(_ <<", ">>)", ">>)", 0, true),
+    ("(_ 'a','b'+<<", ">>,'c')", ">>,'c')", 0, true),
+    ("(_ 'a','b'+<<2,", ",3>>+'d','c')", ",3>>+'d','c')", 0, true),
+];
+
+const INSIDE: &str = "h'00'";
+
+const COMMENTED: &str = "h'00'/ c /";
+
+fn nested(alloc: Global, open: &str, inside: &str, close: &str) -> Result<String, Fail> {
+    let open = open.repeat(alloc, NESTING_LIMIT)?;
+    let close = close.repeat(alloc, NESTING_LIMIT)?;
+    Ok(format!(in alloc; "{open}{inside}{close}")?)
+}
+
+// Under `rt try`, which compiles with checks, these tests ask for more stack than is common: `ulimit -s hard` gives it.
+
+fn has_encoding(alloc: Global, text: &str) -> Result<bool, Fail> {
+    let sequence = sequence_of(alloc, text)?;
+    match sequence.to_cbor(alloc) {
+        Ok(_) => Ok(true),
+        Err(Fault::Told(_)) => Ok(false),
+        Err(Fault::Memory(refused)) => Err(Fail::from(refused)),
+    }
+}
+
+#[test]
+fn the_deepest_are_copied_and_encoded(rt: HostRuntime) -> Result<(), Fail> {
+    let alloc = rt.alloc();
+    for &(open, close, _, _, is_encoded) in FORMS {
+        let deepest = nested(alloc, open, INSIDE, close)?;
+        expect(open, is_own_copy(alloc, deepest.as_str())?)?;
+        expect(open, has_encoding(alloc, deepest.as_str())? == is_encoded)?;
+    }
+    Ok(())
+}
+
+/// A text's items without spaces and comments between them.
+fn bare(alloc: Global, text: &str) -> Result<String, Fail> {
+    edited_sequence(alloc, text, Edit::LaidOut(DelimiterPolicy::DiscardAll))
+}
+
+/// Each of the deepest keeps its items under the policies.
+fn all_laid_out(alloc: Global, policies: &[DelimiterPolicy]) -> Result<(), Fail> {
+    for &(open, close, _, _, _) in FORMS {
+        let deepest = nested(alloc, open, INSIDE, close)?;
+        let items = bare(alloc, deepest.as_str())?;
+        for &policy in policies {
+            let laid_out = edited_sequence(alloc, deepest.as_str(), Edit::LaidOut(policy))?;
+            expect(open, bare(alloc, laid_out.as_str())? == items)?;
+        }
+    }
+    Ok(())
+}
+
+const ON_ONE_LINE: &[DelimiterPolicy] = &[
+    DelimiterPolicy::DiscardAll,
+    DelimiterPolicy::DiscardAllButComments,
+    DelimiterPolicy::SingleLineRegularSpacing,
+    DelimiterPolicy::SingleSpace,
+];
+
+#[test]
+fn the_deepest_are_laid_out(rt: HostRuntime) -> Result<(), Fail> {
+    all_laid_out(rt.alloc(), ON_ONE_LINE)
+}
+
+/// A small level, since the spaces grow by the square of the depth.
+const INDENTED: DelimiterPolicy = DelimiterPolicy::IndentedRegularSpacing {
+    base_indent: 0,
+    indent_level: 1,
+    max_width: 80,
+};
+
+#[test]
+fn the_deepest_are_indented(rt: HostRuntime) -> Result<(), Fail> {
+    all_laid_out(rt.alloc(), &[INDENTED])
+}
+
+#[test]
+fn the_deepest_lose_their_indicators(rt: HostRuntime) -> Result<(), Fail> {
+    let alloc = rt.alloc();
+    for &(open, close, _, _, _) in FORMS {
+        let deepest = nested(alloc, open, "1_0", close)?;
+        let told = edited_sequence(alloc, deepest.as_str(), Edit::Bare)?;
+        let inside = if open.contains("<<") { "1_0" } else { "1" };
+        expect(open, told == nested(alloc, open, inside, close)?)?;
+    }
+    Ok(())
+}
+
+fn comment(alloc: Global) -> Result<(), CallbackError> {
+    Err(CallbackError::Comment(String::from_str(alloc, "c")?))
+}
+
+/// Answers each tag by a comment.
+fn comment_tags(sequence: &mut Sequence<'_>, alloc: Global) -> Result<String, Fail> {
+    sequence.visit_tag(alloc, &mut |_, _| comment(alloc))?;
+    Ok(sequence.serialize(alloc)?)
+}
+
+/// Answers each literal by a comment.
+fn comment_literals(sequence: &mut Sequence<'_>, alloc: Global) -> Result<String, Fail> {
+    sequence.visit_application_literals(alloc, &mut |_, _, _| comment(alloc))?;
+    Ok(sequence.serialize(alloc)?)
+}
+
+fn tags_commented(alloc: Global, text: &str) -> Result<String, Fail> {
+    let mut sequence = sequence_of(alloc, text)?;
+    comment_tags(&mut sequence, alloc)
+}
+
+fn literals_commented(alloc: Global, text: &str) -> Result<String, Fail> {
+    let mut sequence = sequence_of(alloc, text)?;
+    comment_literals(&mut sequence, alloc)
+}
+
+/// Does nothing at a value.
+#[derive(Drop)]
+struct Passes;
+
+impl<'a> MapValueHandler<'a> for Passes {
+    ghost handles = { λ _ _ _ _. ⊤ };
+
+    fn handle(self, _: Global, _: &mut Item<'a>) -> Result<Option<String>, CallbackError> {
+        Ok(None)
+    }
+}
+
+/// How often the visits of elements and of keys call at an item's entries.
+fn entries_of(item: &mut Item<'_>, alloc: Global) -> usize {
+    let mut calls: usize = 0;
+    let _ = item.visit_array_elements(
+        alloc,
+        &mut |_| {
+            calls = calls.saturating_add(1);
+            Ok(None)
+        },
+    );
+    let _ = item.visit_map_elements(
+        alloc,
+        &mut |_| {
+            calls = calls.saturating_add(1);
+            Ok((None, Some(Passes)))
+        },
+    );
+    calls
+}
+
+fn entries(alloc: Global, text: &str) -> Result<usize, Fail> {
+    let mut item = standalone_of(alloc, text)?;
+    let inner = item.at_mut(&[]).ok_or("no item")?;
+    Ok(entries_of(inner, alloc))
+}
+
+#[test]
+fn visits_enter_the_deepest(rt: HostRuntime) -> Result<(), Fail> {
+    let alloc = rt.alloc();
+    for &(open, close, commented, count, is_entered) in FORMS {
+        let deepest = nested(alloc, open, INSIDE, close)?;
+        let told = tags_commented(alloc, deepest.as_str())?;
+        expect(open, told == nested(alloc, open, INSIDE, commented)?)?;
+        let inside = if is_entered { COMMENTED } else { INSIDE };
+        let told = literals_commented(alloc, deepest.as_str())?;
+        expect(open, told == nested(alloc, open, inside, close)?)?;
+        expect(open, entries(alloc, deepest.as_str())? == count)?;
+    }
+    Ok(())
+}
