@@ -3,7 +3,7 @@ use crate::common::{decoded, decoded_item, repeated, stand_for_each_other};
 use crate::failures::Failures;
 use cbor_edn_core::from_cbor::CborError;
 use cbor_edn_core::tree::{Item, NESTING_LIMIT, Sequence, StandaloneItem};
-use cbor_edn_expect::{digits_of, expect, expect_row};
+use cbor_edn_expect::{digits_of, expect, expect_row, name_of};
 use cbor_edn_parts::error::Fault;
 use std::alloc::Global;
 use std::test::Fail;
@@ -278,13 +278,17 @@ fn refuses_what_is_deeper(rt: HostRuntime) -> Result<(), Fail> {
     Ok(())
 }
 
-/// The text of the item that bytes begin with, which may nest so deep or have no limit of its own, and the bytes behind it.
+/// The text of the item that bytes begin with, which may nest so deep or has no limit of its own, and the bytes behind it; or the
+/// name of the refusal and all the bytes.
 fn first_item(alloc: Global, bytes: &[u8], limit: Option<usize>) -> Result<(String, &[u8]), Fail> {
-    let (item, rest) = match limit {
-        Some(limit) => Item::from_cbor_with_rest_within(alloc, bytes, limit)?,
-        None => Item::from_cbor_with_rest(alloc, bytes)?,
+    let answer = match limit {
+        Some(limit) => Item::from_cbor_with_rest_within(alloc, bytes, limit),
+        None => Item::from_cbor_with_rest(alloc, bytes),
     };
-    Ok((item.serialize(alloc)?, rest))
+    match answer {
+        Ok((item, rest)) => Ok((item.serialize(alloc)?, rest)),
+        Err(fault) => Ok((name_of(alloc, fault)?, bytes)),
+    }
 }
 
 /// The same of a standalone item.
@@ -293,19 +297,14 @@ fn first_standalone(
     bytes: &[u8],
     limit: Option<usize>,
 ) -> Result<(String, &[u8]), Fail> {
-    let (item, rest) = match limit {
-        Some(limit) => StandaloneItem::from_cbor_with_rest_within(alloc, bytes, limit)?,
-        None => StandaloneItem::from_cbor_with_rest(alloc, bytes)?,
+    let answer = match limit {
+        Some(limit) => StandaloneItem::from_cbor_with_rest_within(alloc, bytes, limit),
+        None => StandaloneItem::from_cbor_with_rest(alloc, bytes),
     };
-    Ok((item.serialize(alloc)?, rest))
-}
-
-/// Whether what bytes begin with nests deeper than the limit, as an item and as a standalone item.
-fn is_first_too_deep(alloc: Global, bytes: &[u8], limit: usize) -> bool {
-    let item = Item::from_cbor_with_rest_within(alloc, bytes, limit).err();
-    let alone = StandaloneItem::from_cbor_with_rest_within(alloc, bytes, limit).err();
-    matches!(item, Some(Fault::Told(CborError::TooDeep)))
-        && matches!(alone, Some(Fault::Told(CborError::TooDeep)))
+    match answer {
+        Ok((item, rest)) => Ok((item.serialize(alloc)?, rest)),
+        Err(fault) => Ok((name_of(alloc, fault)?, bytes)),
+    }
 }
 
 fn expect_first(alloc: Global, told: (String, &[u8]), text: &str, rest: &[u8]) -> Result<(), Fail> {
@@ -313,68 +312,86 @@ fn expect_first(alloc: Global, told: (String, &[u8]), text: &str, rest: &[u8]) -
     expect("the rest behind it", told.1 == rest)
 }
 
-/// Bytes, how deep the item nests that they begin with, its text, and the rest.
-const BEGUN: &[(&[u8], usize, &str, &[u8])] = &[
-    (b"\x01\x02\x03", 0, "1", b"\x02\x03"),
-    (b"\x80\x02", 1, "[]", b"\x02"),
+/// Bytes, how deep the item may nest that they begin with, its text, and the rest; or the name of the refusal, and all bytes.
+const BEGUN: &[(&[u8], Option<usize>, &str, &[u8])] = &[
+    (b"\x01\x02\x03", None, "1", b"\x02\x03"),
+    (b"\x01\x02\x03", Some(0), "1", b"\x02\x03"),
+    (b"\x80\x02", None, "[]", b"\x02"),
+    (b"\x80\x02", Some(1), "[]", b"\x02"),
+    (b"\x80\x02", Some(0), "TooDeep", b"\x80\x02"),
+    (b"\x82\x02", None, "OutOfData", b"\x82\x02"),
 ];
 
 #[test]
 fn answers_the_rest(rt: HostRuntime) -> Result<(), Fail> {
     let alloc = rt.alloc();
-    for &(bytes, depth, text, rest) in BEGUN {
-        for limit in [None, Some(depth)] {
-            expect_first(alloc, first_item(alloc, bytes, limit)?, text, rest)?;
-            expect_first(alloc, first_standalone(alloc, bytes, limit)?, text, rest)?;
-        }
-        if let Some(limit) = depth.checked_sub(1) {
-            expect(text, is_first_too_deep(alloc, bytes, limit))?;
-        }
+    for &(bytes, limit, text, rest) in BEGUN {
+        expect_first(alloc, first_item(alloc, bytes, limit)?, text, rest)?;
+        expect_first(alloc, first_standalone(alloc, bytes, limit)?, text, rest)?;
     }
     Ok(())
 }
 
-/// The bytes of the item that bytes encode.
-fn encoded_again(alloc: Global, bytes: &[u8]) -> Result<String, Fail> {
-    let item: Item<'_> = Item::from_cbor(alloc, bytes)?;
-    digits_of(alloc, item.to_cbor(alloc))
+/// The bytes of the item that bytes encode, which may nest so deep, or the name of the refusal.
+fn item_again(alloc: Global, bytes: &[u8], limit: usize) -> Result<String, Fail> {
+    match Item::from_cbor_within(alloc, bytes, limit) {
+        Ok(item) => digits_of(alloc, item.to_cbor(alloc)),
+        Err(fault) => name_of(alloc, fault),
+    }
 }
 
-/// The same of a standalone item, which may nest so deep or have no limit of its own.
-fn encoded_alone_again(alloc: Global, bytes: &[u8], limit: Option<usize>) -> Result<String, Fail> {
-    let item: StandaloneItem<'_> = match limit {
-        Some(limit) => StandaloneItem::from_cbor_within(alloc, bytes, limit)?,
-        None => StandaloneItem::from_cbor(alloc, bytes)?,
-    };
-    digits_of(alloc, item.to_cbor(alloc))
+/// The same of a standalone item.
+fn standalone_again(alloc: Global, bytes: &[u8], limit: usize) -> Result<String, Fail> {
+    match StandaloneItem::from_cbor_within(alloc, bytes, limit) {
+        Ok(item) => digits_of(alloc, item.to_cbor(alloc)),
+        Err(fault) => name_of(alloc, fault),
+    }
 }
 
-/// The same of a sequence that may nest so deep.
-fn sequence_encoded_again(alloc: Global, bytes: &[u8], limit: usize) -> Result<String, Fail> {
-    let sequence: Sequence<'_> = Sequence::from_cbor_within(alloc, bytes, limit)?;
-    digits_of(alloc, sequence.to_cbor(alloc))
+/// The same of a standalone item without a limit of its own.
+fn unlimited_again(alloc: Global, bytes: &[u8]) -> Result<String, Fail> {
+    match StandaloneItem::from_cbor(alloc, bytes) {
+        Ok(item) => digits_of(alloc, item.to_cbor(alloc)),
+        Err(fault) => name_of(alloc, fault),
+    }
 }
 
-/// Whether bytes nest deeper than the limit, as a standalone item and as a sequence.
-fn are_too_deep(alloc: Global, bytes: &[u8], limit: usize) -> bool {
-    let alone = StandaloneItem::from_cbor_within(alloc, bytes, limit).err();
-    let sequence = Sequence::from_cbor_within(alloc, bytes, limit).err();
-    matches!(alone, Some(Fault::Told(CborError::TooDeep)))
-        && matches!(sequence, Some(Fault::Told(CborError::TooDeep)))
+/// The same of a sequence.
+fn sequence_again(alloc: Global, bytes: &[u8], limit: usize) -> Result<String, Fail> {
+    match Sequence::from_cbor_within(alloc, bytes, limit) {
+        Ok(sequence) => digits_of(alloc, sequence.to_cbor(alloc)),
+        Err(fault) => name_of(alloc, fault),
+    }
 }
+
+/// Bytes, how deep their item may nest, and the same bytes or the name of the refusal.
+const AGAIN: &[(&[u8], usize, &str)] = &[
+    (
+        b"\x9f\x19\x00\xff\xb8\x02\x01\x38\x00\x03\x80\xff",
+        3,
+        "9f1900ffb8020138000380ff",
+    ),
+    (
+        b"\x9f\x19\x00\xff\xb8\x02\x01\x38\x00\x03\x80\xff",
+        2,
+        "TooDeep",
+    ),
+    (b"\x9f\x01", 1, "OutOfData"),
+];
 
 #[test]
 fn encodes_items_again(rt: HostRuntime) -> Result<(), Fail> {
     let alloc = rt.alloc();
-    let bytes = b"\x9f\x19\x00\xff\xb8\x02\x01\x38\x00\x03\x80\xff";
-    let wanted = "9f1900ffb8020138000380ff";
-    let told = encoded_again(alloc, bytes)?;
-    expect_row(alloc, "an item", told.as_str(), wanted)?;
-    for limit in [None, Some(3)] {
-        let told = encoded_alone_again(alloc, bytes, limit)?;
+    for &(bytes, limit, wanted) in AGAIN {
+        let told = item_again(alloc, bytes, limit)?;
+        expect_row(alloc, "an item", told.as_str(), wanted)?;
+        let told = standalone_again(alloc, bytes, limit)?;
         expect_row(alloc, "a standalone item", told.as_str(), wanted)?;
+        let told = sequence_again(alloc, bytes, limit)?;
+        expect_row(alloc, "a sequence", told.as_str(), wanted)?;
     }
-    let told = sequence_encoded_again(alloc, b"\x80\x81\x80", 2)?;
-    expect_row(alloc, "a sequence", told.as_str(), "808180")?;
-    expect("what nests deeper", are_too_deep(alloc, bytes, 2))
+    let told = unlimited_again(alloc, b"\x82\x01\x81\x80")?;
+    expect_row(alloc, "a standalone item", told.as_str(), "82018180")?;
+    let told = sequence_again(alloc, b"\x80\x81\x80", 2)?;
+    expect_row(alloc, "a sequence of two", told.as_str(), "808180")
 }
