@@ -1,5 +1,6 @@
 //! What the tests compare: texts, bytes in hexadecimal digits, and the names of refusals.
 use crate::failures::Failures;
+use cbor_edn_core::from_cbor::CborError;
 use cbor_edn_core::tree::{Item, Sequence, StandaloneItem};
 use cbor_edn_expect::{digits_of, expect_row, name_of};
 use cbor_edn_parts::error::{Fault, ParseError};
@@ -68,6 +69,15 @@ pub(crate) fn decoded_item(alloc: Global, bytes: &[u8], limit: usize) -> Result<
     match Item::from_cbor_within(alloc, bytes, limit) {
         Ok(item) => Ok(item.serialize(alloc)?),
         Err(fault) => name_of(alloc, fault),
+    }
+}
+
+/// Why bytes are no item, or nothing where they are one.
+pub(crate) fn cbor_error(alloc: Global, bytes: &[u8]) -> Result<Option<CborError>, Fail> {
+    match Item::from_cbor(alloc, bytes) {
+        Ok(_) => Ok(None),
+        Err(Fault::Told(refused)) => Ok(Some(refused)),
+        Err(Fault::Memory(refused)) => Err(Fail::from(refused)),
     }
 }
 

@@ -1,10 +1,9 @@
 //! Bytes, the texts that they are decoded as, and the same bytes back; and bytes that are refused.
-use crate::common::{decoded, decoded_item, repeated, stand_for_each_other};
+use crate::common::{cbor_error, decoded, decoded_item, repeated, stand_for_each_other};
 use crate::failures::Failures;
 use cbor_edn_core::from_cbor::CborError;
 use cbor_edn_core::tree::{Item, NESTING_LIMIT, Sequence, StandaloneItem};
 use cbor_edn_expect::{digits_of, expect, expect_row, name_of};
-use cbor_edn_parts::error::Fault;
 use std::alloc::Global;
 use std::test::Fail;
 
@@ -178,26 +177,19 @@ const WHOLE: &[(&str, &str)] = &[
     ("d8184100", "24(h'00')"),
 ];
 
-/// Why bytes are no item, without a limit of their own.
-fn refused_item(alloc: Global, bytes: &[u8]) -> Option<Fault<CborError>> {
-    Item::from_cbor(alloc, bytes).err()
-}
-
 /// Whether bytes are refused for want of more, and for nothing else.
-fn is_cut(alloc: Global, bytes: &[u8]) -> bool {
-    matches!(
-        refused_item(alloc, bytes),
-        Some(Fault::Told(
-            CborError::OutOfData | CborError::MissingArgument | CborError::MissingBytes
-        ))
-    )
+fn is_cut(alloc: Global, bytes: &[u8]) -> Result<bool, Fail> {
+    Ok(matches!(
+        cbor_error(alloc, bytes)?,
+        Some(CborError::OutOfData | CborError::MissingArgument | CborError::MissingBytes)
+    ))
 }
 
 /// The first length at which a beginning of what is given in digits is not refused for want of more, or all of it.
 fn first_uncut(alloc: Global, digits: &str) -> Result<usize, Fail> {
     let bytes = hex::decode(alloc, digits)?;
     for length in 0..bytes.len() {
-        if !is_cut(alloc, &bytes.as_slice()[..length]) {
+        if !is_cut(alloc, &bytes.as_slice()[..length])? {
             return Ok(length);
         }
     }

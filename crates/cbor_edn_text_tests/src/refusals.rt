@@ -1,10 +1,9 @@
 //! The words and the places of refusals.
-use crate::common::{encoded, refusal};
+use crate::common::{cbor_error, encoded, refusal};
 use crate::failures::Failures;
 use cbor_edn_core::from_cbor::CborError;
-use cbor_edn_core::tree::Item;
 use cbor_edn_expect::{expect, expect_row};
-use cbor_edn_parts::error::{Fault, InconsistentEdn, ParseError, ParseErrorKind};
+use cbor_edn_parts::error::{InconsistentEdn, ParseError, ParseErrorKind};
 use std::alloc::Global;
 use std::test::Fail;
 
@@ -225,13 +224,9 @@ const CBOR_ERRORS: &[(&str, CborError, &str)] = &[
 ];
 
 /// Why bytes, given in digits, are no item, or nothing where they are one.
-fn cbor_error(alloc: Global, digits: &str) -> Result<Option<CborError>, Fail> {
+fn error_of(alloc: Global, digits: &str) -> Result<Option<CborError>, Fail> {
     let bytes = hex::decode(alloc, digits)?;
-    match Item::from_cbor(alloc, bytes.as_slice()) {
-        Ok(_) => Ok(None),
-        Err(Fault::Told(refused)) => Ok(Some(refused)),
-        Err(Fault::Memory(refused)) => Err(Fail::from(refused)),
-    }
+    cbor_error(alloc, bytes.as_slice())
 }
 
 #[test]
@@ -239,7 +234,7 @@ fn words_of_cbor_errors(rt: HostRuntime) -> Result<(), Fail> {
     let alloc = rt.alloc();
     let mut failures = Failures::new(alloc);
     for &(digits, refused, words) in CBOR_ERRORS {
-        expect(digits, cbor_error(alloc, digits)? == Some(refused))?;
+        expect(digits, error_of(alloc, digits)? == Some(refused))?;
         expect(digits, !refused.too_deep())?;
         failures.row(alloc, digits, refused.to_string(alloc)?.as_str(), words)?;
     }
