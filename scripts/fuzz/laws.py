@@ -1,0 +1,144 @@
+"""What the program must do with an input. Each law raises `Problem` where it is broken."""
+
+import re
+
+import cbor
+import edn
+from runs import Problem, expect, expect_place, fault, run, written
+
+LIMIT = 512
+LINE = 64
+MARK = re.compile(r"[\[{(]|<<")
+# Flags of `diag2diag`, of which the first stands for what is always the same: no bignums.
+EXACT = ["--preserve-space", "--no-bignum-from-tags"]
+CONVERSIONS = {"--annotate-tags", "--apply-999", "--aol-to-item", "--annotate=ccs"}
+
+
+def limited(limit):
+    return [] if limit == LIMIT else [f"--max-nesting={limit}"]
+
+
+def decoded(data):
+    try:
+        return data.decode()
+    except UnicodeDecodeError:
+        return None
+
+
+def refuse(ended, text, items, limit):
+    """The run must have refused a text that the grammar or the limit refuses."""
+    if items is not None:
+        expect_place(ended, text, True)
+    else:
+        expect_place(ended, text, None if len(MARK.findall(text)) > limit else False)
+
+
+def read(data, limit):
+    """The text, its items or None, and whether they are taken."""
+    text = decoded(data)
+    items = None if text is None else edn.read(text)
+    return text, items, items is not None and max(map(edn.nesting, items), default=0) <= limit
+
+
+def keep(data, limit, flags):
+    """`diag2diag` that changes nothing writes what it read, and takes what the grammar has."""
+    text, items, taken = read(data, limit)
+    ended = run(["diag2diag", *EXACT, *limited(limit)], data)
+    if text is None:
+        expect(fault("Error processing input file"), ended)
+    elif taken:
+        expect(written(data), ended)
+    else:
+        refuse(ended, text, items, limit)
+
+
+def hex_lines(data):
+    digits = data.hex()
+    return "".join(digits[at : at + LINE] + "\n" for at in range(0, len(digits), LINE)).encode()
+
+
+def encode(data, limit, flags):
+    """`diag2cbor` writes the encodings of what the items mean, or tells the first that means nothing."""
+    text, items, taken = read(data, limit)
+    ended = run(["diag2cbor", *flags, *limited(limit)], data)
+    if text is None:
+        expect(fault("Error processing input file"), ended)
+    elif not taken:
+        refuse(ended, text, items, limit)
+    else:
+        expect(encoded(items, flags), ended)
+
+
+def encoded(items, flags):
+    try:
+        data = edn.encode(items, "--apply-999" in flags)
+    except edn.Unencoded as why:
+        return fault(f"Error encoding output data: {why}")
+    return written(hex_lines(data) if any("hex" in flag for flag in flags) else data)
+
+
+def is_idempotent(flags):
+    """Whether twice is once. A comment of a conversion that fails is put again each time, unless comments are removed. Claims have
+    times only where these are numbers again in the second run. Removing comments takes the spaces that a conversion made."""
+    flags = set(flags)
+    if {"--remove-comments", "--preserve-space"} <= flags and flags & {"--aol-to-item", "--apply-999"}:
+        return False
+    if "--annotate=ccs" in flags:
+        return {"--aol-to-item", "--remove-comments"} <= flags and "--apply-999" not in flags
+    if "--annotate-tags" in flags:
+        return "--remove-comments" in flags
+    return "--aol-to-item" not in flags or "--remove-comments" in flags or "--apply-999" in flags
+
+
+def lay_out(data, limit, flags):
+    """What `diag2diag` takes it writes as items that it takes again, with the same result where flags allow, and that mean the same."""
+    text, items, taken = read(data, LIMIT)
+    ended = run(["diag2diag", *flags], data)
+    if not taken:
+        return
+    if ended.status != 0:
+        raise Problem(f"the text is of the grammar: {ended}")
+    again = run(["diag2diag", *flags], ended.output)
+    if is_idempotent(flags):
+        expect(ended, again)
+    elif again.status != 0:
+        raise Problem(f"its own output {ended} is refused: {again}")
+    if "--no-bignum-from-tags" in flags and not CONVERSIONS & set(flags) and edn.read(ended.output.decode()) != items:
+        raise Problem(f"the items are others: {ended}")
+    direct = encoded(items, [])
+    if direct.status == 0 and "--apply-999" not in flags:
+        expect(direct, run(["diag2cbor"], ended.output))
+
+
+def annotate(data, limit, flags):
+    """Tags that become literals on the way encode as they did."""
+    text, items, taken = read(data, LIMIT)
+    direct = encoded(items, []) if taken else None
+    ended = run(["diag2cbor", "--annotate-tags"], data)
+    if direct is not None and direct.status == 0:
+        expect(direct, ended)
+
+
+def decode(data, limit, flags):
+    """`cbor2diag` takes the well-formed CBOR of its scope, or tells the first fault; `diag2cbor` gives the bytes back."""
+    items, words = cbor.read(data, limit)
+    ended = run(["cbor2diag", *flags, *limited(limit)], data)
+    if items is None:
+        expect(fault(f"Error decoding input data: {words}"), ended)
+        return
+    if ended.status != 0:
+        raise Problem(f"the bytes are of the scope: {ended}")
+    expect(written(data), run(["diag2cbor", *limited(limit)], ended.output))
+    if {"--no-annotate-tags", "--no-bignum-from-tags"} <= set(flags) and "--annotate=ccs" not in flags:
+        if edn.read(ended.output.decode()) != items:
+            raise Problem(f"the items are others: {ended}")
+
+
+def decode_digits(data, limit, flags):
+    """Hexadecimal input is read as the bytes that it stands for."""
+    digits = data.translate(None, b"\t\n\r ")
+    ended = run(["cbor2diag", "-ihex", *flags, *limited(limit)], data)
+    if re.fullmatch(b"(?:[0-9a-fA-F]{2})*", digits):
+        expect(run(["cbor2diag", *flags, *limited(limit)], bytes.fromhex(digits.decode())), ended)
+    else:
+        expect(fault("Error decoding hexadecimal input"), ended)
