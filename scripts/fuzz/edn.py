@@ -401,10 +401,9 @@ def encode_string(pieces, as_999, is_chunk=False):
 
 
 def encode_stream(strings, as_999):
-    firsts = [pieces[0] for pieces in strings]
-    if any(first[0] == "dots" or is_other(first) for first in firsts):
+    if any(piece[0] == "dots" or is_other(piece) for pieces in strings for piece in pieces):
         raise Unencoded(UNSUPPORTED)
-    kinds = {first[1] == '"' for first in firsts}
+    kinds = {pieces[0][1] == '"' for pieces in strings}
     if len(kinds) > 1:
         raise Unencoded(OTHER_KIND)
     chunks = b"".join(encode_string(pieces, as_999, True) for pieces in strings)

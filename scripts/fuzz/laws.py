@@ -85,9 +85,10 @@ def is_idempotent(flags):
         return False
     if "--annotate=ccs" in flags:
         return {"--aol-to-item", "--remove-comments"} <= flags and "--apply-999" not in flags
-    if "--annotate-tags" in flags:
-        return "--remove-comments" in flags
-    return "--aol-to-item" not in flags or "--remove-comments" in flags or "--apply-999" in flags
+    if "--annotate-tags" in flags and "--remove-comments" not in flags:
+        return False
+    # a literal that fails stays and is told of again, or it becomes a tag 999 and is told of once
+    return "--aol-to-item" not in flags or ("--remove-comments" in flags) != ("--apply-999" in flags)
 
 
 def lay_out(data, limit, flags):
