@@ -1,0 +1,324 @@
+#!/usr/bin/env bash
+# Runs the program on inputs that ask for too much: depths, announced counts, much input, and less memory than there is need of.
+#
+# usage: scripts/check-limits.sh [PROGRAM [MEGABYTES]]
+#
+# Without PROGRAM it is the working tree's. MEGABYTES is the size of each flat input whose memory is measured, 4 without it; 64 takes
+# 7 GB of memory, and some minutes. The last line is 'N passed, M failed'.
+set -euo pipefail
+
+cd "$(dirname "$(readlink -f "$0")")/.."
+# shellcheck source=scripts/program.sh
+. scripts/program.sh "${1-}"
+exec python3 - "$program" "${2-4}" << 'EOF_PYTHON'
+import ctypes
+import os
+import re
+import resource
+import subprocess
+import sys
+import tempfile
+
+PROGRAM, SIZE = sys.argv[1], int(sys.argv[2]) * 1_000_000
+KB = 1024
+LIMIT = 512
+COUNT = 100_000
+# A refusal takes some 5 milliseconds.
+MOST_SECONDS = 0.2
+SUBREAPER = 36  # prctl's word: orphans below this process become its children
+
+TOO_DEEP = "cbor-edn: Error parsing input data: EDN nested too deeply in line 1 column {} (byte {})\n"
+INVALID = "cbor-edn: Error parsing input data: Invalid EDN in line 1 column {} (byte {})\n"
+BYTES_TOO_DEEP = "cbor-edn: Error decoding input data: Nested too deeply\n"
+BYTES = "cbor-edn: Error decoding input data: {}\n"
+NO_ITEM, NO_BYTES = "Expected item, out of data", "Announced bytes unavailable"
+NO_MEMORY = "cbor-edn: Out of memory\n"
+
+passed = failed = 0
+
+
+def count(name, problem):
+    """Counts a row, which passes where nothing is wrong with it."""
+    global passed, failed
+    if problem:
+        failed += 1
+        print(f"check-limits: {name}: {problem}", flush=True)
+    else:
+        passed += 1
+
+
+class Ended:
+    def __init__(self, status, output, said, seconds):
+        self.status, self.output, self.said, self.seconds = status, output, said, seconds
+
+
+def run(words, data, space=None):
+    """Runs the program once, where `space` is given with so many bytes of addresses."""
+    limit = (lambda: resource.setrlimit(resource.RLIMIT_AS, (space, space))) if space else None
+    before = resource.getrusage(resource.RUSAGE_CHILDREN)
+    ended = subprocess.run([PROGRAM, *words], input=data, capture_output=True, check=False, preexec_fn=limit)
+    after = resource.getrusage(resource.RUSAGE_CHILDREN)
+    seconds = after.ru_utime + after.ru_stime - before.ru_utime - before.ru_stime
+    return Ended(ended.returncode, ended.stdout, ended.stderr.decode(errors="replace"), seconds)
+
+
+def refusal(ended, line):
+    """What is wrong with a run that must have been refused with a line."""
+    if (ended.status, ended.output, ended.said) != (1, b"", line):
+        return f"status {ended.status}, {len(ended.output)} bytes written, said {ended.said[:200]!r} and not {line!r}"
+    if ended.seconds > MOST_SECONDS:
+        return f"it takes {ended.seconds:.3f} seconds"
+    return None
+
+
+# What opens, again and again, and the place in a turn of what nests: the byte that is one level too deep is told. Their source is the
+# grammar: arrays, maps, tags, `simple(` and embedded sequences nest, strings of indefinite length do not.
+OPENINGS = [
+    ("[", [0]),
+    ("{", [0]),
+    ("{1:", [0]),
+    ("[1,", [0]),
+    ("[_ ", [0]),
+    ("<<", [0]),
+    ("1(", [1]),
+    ("simple(", [6]),
+    ("'a'+<<", [4]),
+    ("(_ <<", [3]),
+    ("(_ 'a','b'+<<", [11]),
+    ("[{<<1(simple(", [0, 1, 2, 5, 12]),
+]
+# What opens nothing, or can't stand there again: the byte that is told, from the end where it is negative.
+FLOODS = [
+    ("(_ ", 3),
+    ("]", 0),
+    (">>", 0),
+    (")", 0),
+    ("(", 1),
+    (",", 0),
+    ("+", 1),
+    ("_", 0),
+    ("\\", 0),
+    (".. ", 2),
+    ("'a'+", -1),
+    ("'a ", 4),
+    ("1 1,,", 4),
+    ("#", -1),
+    ("[1]:", 3),
+]
+# The encodings that nest.
+OPEN_BYTES = ["81", "9f", "a1", "a101", "bf", "bf01", "c1", "d864", "8201", "9b0000000000000002", "bb00000000000000ff", "819fa1bf01c1"]
+FLAT_BYTES = [
+    ("5f", "Indefinite length strings can only contain definite lengths"),
+    ("7f", "Indefinite length strings can only contain definite lengths"),
+    ("5f61", "Indefinite length strings can only contain matching items"),
+    ("ff", "Break code only expected at end of indefinite length items"),
+    ("1f", "Integer/Tag with indefinite length encoding is not well-formed"),
+    ("f818", "Invalid simple value"),
+    ("1c", "Reserved header byte"),
+    ("f93c00", "Float value out of scope"),
+    ("61ff", "Text string must be valid UTF-8"),
+]
+
+
+def check_depths():
+    for unit, places in OPENINGS:
+        turn, place = divmod(LIMIT, len(places))
+        at = turn * len(unit) + places[place]
+        for command in ("diag2cbor", "diag2diag"):
+            ended = run([command], unit.encode() * COUNT)
+            count(f"{command} of {unit!r} again and again", refusal(ended, TOO_DEEP.format(at + 1, at)))
+    for unit in OPEN_BYTES:
+        ended = run(["cbor2diag"], bytes.fromhex(unit) * COUNT)
+        count(f"cbor2diag of {unit} again and again", refusal(ended, BYTES_TOO_DEEP))
+
+
+def check_floods():
+    for unit, at in FLOODS:
+        ended = run(["diag2diag"], unit.encode() * COUNT)
+        at = at if at >= 0 else len(unit) * COUNT
+        count(f"diag2diag of {unit!r} again and again", refusal(ended, INVALID.format(at + 1, at)))
+    for unit, words in FLAT_BYTES:
+        ended = run(["cbor2diag"], bytes.fromhex(unit) * COUNT)
+        count(f"cbor2diag of {unit} again and again", refusal(ended, BYTES.format(words)))
+
+
+# Counts that memory for them would exceed what there is: RFC 8949, section 3 has the heads.
+ANNOUNCED = [
+    ("5b7fffffffffffffff", NO_BYTES),
+    ("5bffffffffffffffff00", NO_BYTES),
+    ("7b7fffffffffffffff", NO_BYTES),
+    ("7bffffffffffffffff00", NO_BYTES),
+    ("5a7fffffff", NO_BYTES),
+    ("5affffffff00", NO_BYTES),
+    ("7affffffff", NO_BYTES),
+    ("590fffff", NO_BYTES),
+    ("5f5bffffffffffffffff00", NO_BYTES),
+    ("7f7bffffffffffffffff00", NO_BYTES),
+    ("9b7fffffffffffffff", NO_ITEM),
+    ("9bffffffffffffffff00", NO_ITEM),
+    ("9affffffff", NO_ITEM),
+    ("9affffffff00", NO_ITEM),
+    ("99ffff00", NO_ITEM),
+    ("bbffffffffffffffff", NO_ITEM),
+    ("bb7fffffffffffffff0000", NO_ITEM),
+    ("baffffffff", NO_ITEM),
+    ("baffffffff0000", NO_ITEM),
+    ("b9ffff0000", NO_ITEM),
+    ("9b8000000000000000", NO_ITEM),
+    ("9b0800000000000000", NO_ITEM),
+    ("bb0400000000000000", NO_ITEM),
+    ("c29b7fffffffffffffff", NO_ITEM),
+    ("819bffffffffffffffff" * 100, NO_ITEM),
+]
+
+
+def least_space(words):
+    """The addresses, in bytes, that a run of no input takes."""
+    least, enough = 0, 64 * KB
+    while enough - least > 16:
+        middle = (least + enough) // 2
+        if run(words, b"", middle * KB).status == 0:
+            enough = middle
+        else:
+            least = middle
+    return enough * KB
+
+
+def check_counts():
+    for command, form in (("cbor2diag", []), ("cbor2diag", ["-i", "hex"])):
+        space = least_space([command, *form]) + 512 * KB
+        # so little that a list of 65535 entries is too much where they are there
+        ended = run([command], b"\x99\xff\xff" + b"\x01" * 65535, space)
+        count("a list that is too large for the memory", refusal(ended, NO_MEMORY))
+        for digits, words in ANNOUNCED:
+            data = digits.encode() if form else bytes.fromhex(digits)
+            count(f"{command} {' '.join(form)} of {digits[:20]}", refusal(run([command, *form], data, space), BYTES.format(words)))
+
+
+def fill(begin, units, between, end):
+    """Answers what makes a text of about some size: the units, again and again, joined and enclosed."""
+
+    def text(size):
+        row = between.join(units)
+        times = max(1, round(size / len((row + between).encode())))
+        return (begin + between.join([row] * times) + end).encode()
+
+    return text
+
+
+def array(*units):
+    return fill("[", units, ", ", "]")
+
+
+def sequence(*units):
+    return fill("", units, " ", "")
+
+
+WORDS = "true false null undefined simple(0) simple(255) Infinity -Infinity NaN NaN_3".split()
+# The kinds of text that scripts/bench.sh measures, but for those that nest, and what docs/PERFORMANCE.md says that a byte of input
+# takes of memory: in diag2cbor, in diag2diag, and of their encodings in cbor2diag.
+KINDS = {
+    "integers": (array(*(str(digit) * digit for digit in range(1, 10))), 13, 14, 27),
+    "ones": (sequence("1"), 32, 33, 66),
+    "maps": (array("{1: 2, 3: 4}", "{1234: 56789, 6: -7}"), 28, 29, 73),
+    "words": (array(*WORDS), 12, 14, 44),
+    "texts": (array('"a"', '"words of a text"', '"é and \\u00e9, \\"quoted\\"\\n"'), 10, 11, 17),
+    "one text": (fill('"', ["words of a text, é and \\u00e9, "], "", '"'), 4, 4, 5),
+    "byte strings": (array("h'00'", "h'0123456789abcdef'", "h'FEDC BA98'"), 12, 16, 34),
+    "one byte string": (fill("h'", ["0123456789abcdef"], "", "'"), 4, 4, 10),
+    "concatenations": (array("'a' + 'b'"), 24, 26, 60),
+    "one concatenation": (fill("", ["'a'", "h'62'"], " + ", ""), 16, 18, 18),
+    "streams": (array("(_ 'a', 'b')"), 24, 26, 65),
+    "one stream": (fill("(_ ", ["'a'", "'b'"], ", ", ")"), 20, 21, 55),
+    "tags": (array("1(2)"), 29, 31, 92),
+    "embedded": (array("<<1, 2>>"), 36, 38, 59),
+    "comments": (sequence("/ words of a comment /   1 # to the end of the line\n", "2 /c/\t"), 5, 9, None),
+    "one space": (fill("1 ", ["/ words of a comment /", "# a line\n"], " ", ""), 3, 5, None),
+}
+# A vector that has doubled may be half empty, so a little more input may take a half more memory; and the program itself takes some.
+ROOM = 1.6
+PROGRAM_SIZE = 4_000_000
+
+
+def measure(words, source, sink):
+    """Runs the program from file to file. Answers its status and its peak of memory in bytes."""
+    # A peak begins with what the process had before its exec: so setsid starts it, which is small, ends at once and leaves it here.
+    files = [(os.POSIX_SPAWN_OPEN, 0, source, os.O_RDONLY, 0), (os.POSIX_SPAWN_OPEN, 1, sink, os.O_WRONLY | os.O_CREAT | os.O_TRUNC, 0o600)]
+    starter = os.posix_spawnp("setsid", ["setsid", "--fork", PROGRAM, *words], os.environ, file_actions=files)
+    ended = {}
+    while len(ended) < 2:
+        process, status, usage = os.wait4(-1, 0)
+        ended[process] = os.waitstatus_to_exitcode(status), usage.ru_maxrss * KB
+    del ended[starter]
+    return next(iter(ended.values()))
+
+
+def check_memory(work):
+    if ctypes.CDLL(None).prctl(SUBREAPER, 1, 0, 0, 0) != 0:
+        sys.exit("check-limits: prctl refuses")
+    text_file, bytes_file = f"{work}/text", f"{work}/bytes"
+    print(f"{'peak memory':18}" + "".join(f"{command + ', MB':>16}{'per byte':>10}" for command in ("diag2cbor", "diag2diag", "cbor2diag")))
+    for kind, (text, *stated) in KINDS.items():
+        with open(text_file, "wb") as file:
+            file.write(text(SIZE))
+        row = f"{kind:18}"
+        for words, stated_bytes in zip((["diag2cbor"], ["diag2diag"], ["cbor2diag"]), stated):
+            if stated_bytes is None:
+                continue
+            source = bytes_file if words == ["cbor2diag"] else text_file
+            status, peak = measure(words, source, bytes_file if words == ["diag2cbor"] else os.devnull)
+            size = os.path.getsize(source)
+            row += f"{peak / 1e6:16.0f}{peak / size:10.1f}"
+            most = size * stated_bytes * ROOM + PROGRAM_SIZE
+            count(f"{words[0]} of {kind}, {size} bytes", f"status {status}, {peak} bytes of memory" if status != 0 or peak > most else None)
+        print(row, flush=True)
+
+
+# Kinds and flags whose memory is refused at one size after the other.
+STARVED = [
+    (["diag2cbor"], "maps"),
+    (["diag2cbor", "-o", "hex"], "byte strings"),
+    (["diag2cbor", "--annotate-tags", "--apply-999"], "texts"),
+    (["diag2diag"], "comments"),
+    (["diag2diag", "--annotate-tags", "--aol-to-item", "--annotate", "ccs", "--remove-comments"], "tags"),
+    (["diag2diag", "--preserve-space"], "embedded"),
+    (["cbor2diag"], "integers"),
+    (["cbor2diag"], "tags"),
+    (["cbor2diag", "--annotate", "ccs"], "maps"),
+    (["cbor2diag", "-i", "hex"], "streams"),
+]
+STARVED_SIZE = 100_000
+STEP = 32 * KB
+
+
+def check_starved():
+    """From the addresses that a run of no input takes upward: a run that has too few tells it and writes nothing."""
+    for words, kind in STARVED:
+        data = KINDS[kind][0](STARVED_SIZE)
+        if words[0] == "cbor2diag":
+            data = run(["diag2cbor", *(["-o", "hex"] if "hex" in words else [])], data).output
+        whole = run(words, data)
+        space, refused, problem = least_space(words), 0, None
+        while True:
+            ended = run(words, data, space)
+            if (ended.status, ended.output, ended.said) == (whole.status, whole.output, whole.said) and whole.status == 0:
+                break
+            if (ended.status, ended.output, ended.said) != (1, b"", NO_MEMORY):
+                problem = f"in {space} bytes of addresses: status {ended.status}, {len(ended.output)} bytes written, said {ended.said[:200]!r}"
+                break
+            refused += 1
+            space += STEP
+        if problem is None and refused < 5:
+            problem = f"memory was refused {refused} times only"
+        count(f"{' '.join(words)} of {kind}, with too little memory", problem)
+
+
+with tempfile.TemporaryDirectory() as work:
+    check_depths()
+    check_floods()
+    check_counts()
+    check_starved()
+    check_memory(work)
+print(f"{passed} passed, {failed} failed")
+raise SystemExit(failed != 0)
+EOF_PYTHON
