@@ -7,11 +7,8 @@
 set -euo pipefail
 
 cd "$(dirname "$(readlink -f "$0")")/.."
-program=${1-}
-if [ -z "$program" ]; then
-  ./cbor-edn --build
-  program=out/cbor-edn
-fi
+# shellcheck source=scripts/program.sh
+. scripts/program.sh "${1-}"
 
 passed=0
 failed=0

@@ -20,11 +20,8 @@ if ! "$python" -c 'import cbor2' 2> /dev/null; then
   exit
 fi
 
-program=${1-}
-if [ -z "$program" ]; then
-  ./cbor-edn --build
-  program=out/cbor-edn
-fi
+# shellcheck source=scripts/program.sh
+. scripts/program.sh "${1-}"
 exec "$python" - "$program" <<'PYTHON'
 import os
 import random

@@ -12,12 +12,8 @@
 set -euo pipefail
 
 cd "$(dirname "$(readlink -f "$0")")/.."
-program=${1-}
-if [ -z "$program" ]; then
-  ./cbor-edn --build
-  program=out/cbor-edn
-fi
-program=$(readlink -f "$program")
+# shellcheck source=scripts/program.sh
+. scripts/program.sh "${1-}"
 shift || true
 SMALL=1024
 LARGE=hard
@@ -53,7 +49,7 @@ is_wanted() {
 }
 
 is_refused() {
-  [ "$1" = 1 ] && grep -qi 'nested too deeply' "$work/said"
+  [ "$1" = 1 ] && [ ! -s "$work/output" ] && [ "$(cat "$work/said")" = "cbor-edn: $fault" ]
 }
 
 # The output must be that of another file.
@@ -63,11 +59,19 @@ expect() {
   add_run "$name" "$input" is_wanted "$@"
 }
 
-# What nests too deeply must be refused for that.
+# What nests too deeply must be refused in these words.
 expect_refusal() {
-  local name=$1 input=$2
-  shift 2
+  local name=$1 input=$2 fault=$3
+  shift 3
   add_run "$name, a level too deep" "$input" is_refused "$@"
+}
+
+# What is told of an opening again and again: the place of the first mark that is too deep, which is `<<` where a string stands round it.
+too_deep() {
+  local before=${1%%[\[\{(]*} at
+  [[ $1 != *'<<'* ]] || before=${1%%'<<'*}
+  at=$((LIMIT * ${#1} + ${#before}))
+  echo "Error parsing input data: EDN nested too deeply in line 1 column $((at + 1)) (byte $at)"
 }
 
 # Writes so many openings, what stands inside, and so many closings. Each is a format of printf.
@@ -80,7 +84,8 @@ nested() {
 
 # The ways of a text: the bytes are in a file, or the text has none.
 check_text() {
-  local name=$1 bytes=$2 open=$3 inside=$4 close=$5 words
+  local name=$1 bytes=$2 open=$3 inside=$4 close=$5 words fault
+  fault=$(too_deep "$open")
   nested "$LIMIT" "$open" "$inside" "$close" > "$work/text"
   nested $((LIMIT + 1)) "$open" "$inside" "$close" > "$work/deeper"
   expect "$name" "$work/text" "$work/text" diag2diag --preserve-space
@@ -90,10 +95,10 @@ check_text() {
     # shellcheck disable=SC2086
     expect "$name" "$work/text" "$work/wanted" diag2diag $words
   done
-  expect_refusal "$name" "$work/deeper" diag2diag
+  expect_refusal "$name" "$work/deeper" "$fault" diag2diag
   if [ -n "$bytes" ]; then
     expect "$name" "$work/text" "$bytes" diag2cbor
-    expect_refusal "$name" "$work/deeper" diag2cbor
+    expect_refusal "$name" "$work/deeper" "$fault" diag2cbor
   fi
 }
 
@@ -112,7 +117,7 @@ check() {
   nested $((LIMIT + 1)) "$5" "$6" "$7" > "$work/deeper-bytes"
   check_text "$name" "$work/bytes" "$2" "$3" "$4"
   check_bytes "$name" "$work/bytes"
-  expect_refusal "$name" "$work/deeper-bytes" cbor2diag
+  expect_refusal "$name" "$work/deeper-bytes" 'Error decoding input data: Nested too deeply' cbor2diag
 }
 
 check arrays '[' 1 ']' '\x81' '\x01' ''

@@ -1,8 +1,8 @@
 #!/usr/bin/env bash
 # All tests: where a text is read (a look at the sources), each proof, edit that must fail, test and program (`rt ci`),
 # beside it the calls of each crate *_memory with each of their allocations refused in turn, then the encodings of
-# another implementation, where it is installed, the examples, the deepest nesting under small stacks, and the launcher. The last line is
-# 'N passed, M failed'. Where nothing failed, the program that was proved is left to ./cbor-edn. `docs/CONTRIBUTING.md`
+# another implementation, where it is installed, the examples, the help, the lines of faults, devices that fail, inputs past the limits,
+# random inputs, the launcher, and the deepest nesting under small stacks. The last line is 'N passed, M failed'. Where nothing failed, the program that was proved is left to ./cbor-edn. `docs/CONTRIBUTING.md`
 # says how the proofs share the processors.
 set -euo pipefail
 
@@ -119,6 +119,11 @@ for crate in crates/*_memory; do
 done
 add scripts/check-outside.sh "$program"
 add scripts/check-examples.sh "$program"
+add scripts/check-help.sh "$program"
+add scripts/check-faults.sh "$program"
+add scripts/check-devices.sh "$program"
+add scripts/check-limits.sh "$program"
+add scripts/fuzz.sh 8949 30000 "$program"
 add scripts/check-launcher.sh "$program"
 add scripts/check-stack.sh "$program" crates/cbor_edn_{text,tree}_tests/out/*_tests_tests
 cat "$times"

@@ -1,0 +1,25 @@
+#!/usr/bin/env bash
+# Sends random inputs through the three commands by random flags: texts by the grammar, encodings with heads of every width,
+# hexadecimal digits, each whole and damaged, and some of 64 KB or nested to the limit.
+#
+# usage: scripts/fuzz.sh SEED COUNT [PROGRAM]
+#
+# Without PROGRAM it is the working tree's. COUNT is how many inputs, at least, are made; the same SEED makes the same. Each answer is
+# judged by an EDN reader, an encoder and a CBOR reader of the script's own (scripts/fuzz/edn.py and cbor.py): which inputs are taken,
+# what diag2cbor writes, which items cbor2diag shows, and the whole line of a fault, but for the place in a text, which is only looked at
+# to be one. Beside that, what is taken comes back: by `diag2diag --preserve-space --no-bignum-from-tags` as the same text, by cbor2diag
+# and diag2cbor as the same bytes; a layout laid out again stays, where the flags allow that. No run may take more than 2 seconds of
+# processor time, or 64 MB and 4 bytes for each byte that it writes.
+#
+# It takes Python 3.9 and nothing beside, and all processors that it may have. What fails is printed as small as it could be made, with the
+# command that repeats it. The last line is 'N passed, M failed'.
+set -euo pipefail
+
+cd "$(dirname "$(readlink -f "$0")")/.."
+if [[ ! ${1-} =~ ^[0-9]{1,18}$ || ! ${2-} =~ ^[0-9]{1,12}$ ]]; then
+  echo 'usage: scripts/fuzz.sh SEED COUNT [PROGRAM]' >&2
+  exit 2
+fi
+# shellcheck source=scripts/program.sh
+. scripts/program.sh "${3-}"
+exec python3 -B scripts/fuzz "$1" "$2" "$program"
