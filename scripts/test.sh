@@ -1,8 +1,9 @@
 #!/usr/bin/env bash
 # All tests: where a text is read (a look at the sources), each proof, edit that must fail, test and program (`rt ci`),
 # beside it the calls of each crate *_memory with each of their allocations refused in turn, then the encodings of
-# another implementation, where it is installed, the examples, the help, the lines of faults, devices that fail, inputs past the limits,
-# random inputs, the launcher, and the deepest nesting under small stacks. The last line is 'N passed, M failed'. Where nothing failed, the program that was proved is left to ./cbor-edn. `docs/CONTRIBUTING.md`
+# another implementation, where it is installed, the examples, the help, the lines of faults, devices that fail, inputs
+# past the limits, random inputs, the launcher, and the deepest nesting under small stacks. The last line is
+# 'N passed, M failed'. Where nothing failed, the program that was proved is left to ./cbor-edn. `docs/CONTRIBUTING.md`
 # says how the proofs share the processors.
 set -euo pipefail
 

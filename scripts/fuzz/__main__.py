@@ -152,7 +152,7 @@ def told(seed, number, law, data, limit, flags):
 
 def play(job):
     """A round: how many cases passed, what is said of those that failed, and how often the program ran."""
-    seed, number, shrinks = job
+    seed, number = job
     before, passed, failures = runs.count, 0, []
     try:
         cases = Inputs(random.Random((seed << 64) + number), number).all()
@@ -162,7 +162,7 @@ def play(job):
         if problem_of(law, data, limit, flags) is None:
             passed += count
             continue
-        failures.append(told(seed, number, law, shrunk(law, data, limit, flags) if shrinks else data, limit, flags))
+        failures.append(told(seed, number, law, shrunk(law, data, limit, flags), limit, flags))
     return passed, failures, runs.count - before
 
 
@@ -171,8 +171,8 @@ def main():
     sys.setrecursionlimit(1_000_000)
     rounds = -(-count // ROUND)
     passed = failed = ran = 0
-    with multiprocessing.Pool(len(os.sched_getaffinity(0))) as pool:
-        for good, failures, times in pool.imap_unordered(play, ((seed, number, True) for number in range(rounds)), 4):
+    with multiprocessing.get_context("fork").Pool(len(os.sched_getaffinity(0))) as pool:
+        for good, failures, times in pool.imap_unordered(play, ((seed, number) for number in range(rounds)), 4):
             passed, failed, ran = passed + good, failed + len(failures), ran + times
             for failure in failures:
                 print(failure, flush=True)
