@@ -14,6 +14,20 @@ INDICATORS = [None] * 12 + ["", "i", "0", "1", "2", "3"]
 DAMAGE = b"[]{}()<>\"'\\/#_+-.,:0159abehiptux \n\r\t\0\x1b\x7f\x80\xc3\xe2\xf0\xff"
 EDGES = [0, 23, 24, 255, 256, 65535, 65536, 2**32 - 1, 2**32, 2**64 - 1]
 KEYS = [1, 2, 3, 4, 5, 6, 7, 8, 9, 38, 39, 40]
+# the first and the last second that are shown as times, and the second behind each
+SECONDS = [-62167219201, -62167219200, -62135596800, -1, 0, 253402300799, 253402300800]
+# what times are of that are no integers, or hardly
+DECIMALS = ["1.5", "-0.25", ".5", "-.000000001", "1.", "1700000000.123456789", "1.0000000001", "-62167219200.5", "1.50_1", "1e3"]
+
+
+# Bytes of addresses and of bignums, of some size.
+ADDRESSES = [
+    lambda rng, size: rng.randbytes(size),
+    lambda rng, size: bytes(size - size // 3) + rng.randbytes(size // 3),
+    lambda rng, size: rng.randbytes(size // 2) + bytes(size - size // 2),
+    lambda rng, size: (bytes(10) + b"\xff\xff" + rng.randbytes(4))[-size:],
+    lambda rng, size: b"".join(rng.choice([b"\0\0", b"\0\1", rng.randbytes(2)]) for _ in range(size // 2 + 1))[:size],
+]
 
 
 class Texts:
@@ -271,6 +285,18 @@ class Texts:
     def pair(self, key, value):
         return f"{key[0]}{self.space()}:{self.space()}{value[0]}", (key[1], value[1])
 
+    def of_time(self):
+        """A number of seconds, mostly of a time."""
+        rng = self.rng
+        if not self.means and self.often(20):
+            text, _, indicator = rng.choice(DECIMALS).partition("_")
+            return text + ("_" + indicator if indicator else ""), ("number", text, indicator or None)
+        value = rng.choice([rng.choice(SECONDS), rng.getrandbits(32), -rng.getrandbits(40), rng.getrandbits(38)])
+        if self.often(80):
+            return self.of_number(value)
+        spec, indicator = self.spec(value if value >= 0 else -1 - value)
+        return f"{value}{spec}", ("number", str(value), indicator)
+
     def of_number(self, value):
         text = hex(value) if self.often(10) else str(value)
         return text, ("number", text, None)
@@ -281,7 +307,7 @@ class Texts:
         def entry():
             key = self.rng.choice(KEYS)
             if key in (4, 5, 6) and self.often(80):
-                value = self.of_number(self.rng.choice([self.rng.getrandbits(32), -self.rng.getrandbits(40), 253402300799 + self.rng.randrange(2)]))
+                value = self.of_time()
             elif key == 8 and depth > 1 and self.often(80):
                 keys = self.as_list("map", "{", "}", lambda: self.pair(self.of_number(self.rng.randrange(8)), self.of_number(self.rng.randrange(-20, 26))))
                 value = self.as_list("map", "{", "}", lambda: self.pair(self.of_number(self.rng.choice([3, 4])), keys))
@@ -304,26 +330,26 @@ class Texts:
         rng = self.rng
         number = rng.choice([1, 2, 3, 38, 52, 54])
         if number == 1:
-            return self.tagged(1, self.of_number(rng.choice([rng.getrandbits(40), -rng.getrandbits(40)])))
+            return self.tagged(1, self.of_time())
         if number == 38:
             language, words, mark = self.piece(0, '"'), self.piece(0, '"'), self.word(0)
             entries = iter([(text, ("string", [piece])) for text, piece in (language, words)] + [mark])
             text, indicator, items = self.listed("[", "]", lambda: next(entries), 3)
             return self.tagged(38, (text, ("array", indicator, items)))
         size = {52: 4, 54: 16}.get(number, rng.randrange(20))
-        data = rng.choice([rng.randbytes(size), bytes(size - size // 3) + rng.randbytes(size // 3)])
-        quoted = self.quote(self.hexadecimal(data), "'")
-        content = "h" + quoted, ("string", [self.reading(quoted)])
+        data = rng.choice(ADDRESSES)(rng, size)
+        if self.often(20):
+            data = data[: rng.randrange(size + 1)]
+        text = self.hexadecimal(data)
+        spec, indicator = self.spec(len(data)) if self.often(10) else ("", None)
+        content = f"h{self.quote(text, chr(39))}{spec}", ("string", [("quoted", "h", text, indicator)])
         if number > 3 and self.often(50):
-            entries = iter([self.of_number(rng.choice([0, 8, 32, 64, 128, rng.randrange(140)])), content])
+            length = self.of_number(rng.choice([0, 8, 32, 64, 128, rng.randrange(140)]))
+            zone = self.known_tag(depth - 1) if depth > 1 and self.often(50) else self.item(0)
+            entries = iter(rng.choice([[length, content], [content, zone]]))
             text, indicator, items = self.listed("[", "]", lambda: next(entries), 2)
             content = text, ("array", indicator, items)
         return self.tagged(number, content)
-
-    def reading(self, quoted):
-        import edn
-
-        return edn.Reader("h" + quoted).piece()
 
 
 class Bytes:
@@ -378,13 +404,15 @@ class Bytes:
     def known_tag(self):
         rng = self.rng
         number = rng.choice([1, 2, 3, 38, 52, 54])
-        data = rng.randbytes(rng.choice([4, 16, rng.randrange(20)]))
+        size = rng.choice([{52: 4, 54: 16}.get(number, 12), 4, 16, rng.randrange(20)])
+        data = rng.choice(ADDRESSES)(rng, size)
         shortened = data.rstrip(b"\0")
+        seconds = rng.choice([*SECONDS, rng.getrandbits(33), -rng.getrandbits(40)])
         content = rng.choice([
-            self.head(rng.randrange(2), rng.getrandbits(rng.choice([10, 33, 40]))),
+            self.head(0, seconds) if seconds >= 0 else self.head(1, -1 - seconds),
             self.head(2, len(data)) + data,
             b"\x82" + self.head(0, rng.choice([8, 24, 32, 64, 128])) + self.head(2, len(shortened)) + shortened,
-            b"\x82" + self.head(2, len(data)) + data + self.string(3),
+            b"\x82" + self.head(2, len(data)) + data + (self.known_tag() if rng.randrange(2) else self.string(3)),
             b"\x83" + self.string(3) + self.string(3) + rng.choice([b"\xf4", b"\xf5", b"\xf6"]),
         ])
         return self.head(6, number) + content

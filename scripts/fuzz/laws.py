@@ -3,15 +3,15 @@
 import re
 
 import cbor
+import conversions
 import edn
 from runs import Problem, expect, expect_place, fault, run, written
 
 LIMIT = 512
 LINE = 64
 MARK = re.compile(r"[\[{(]|<<")
-# Flags of `diag2diag`, of which the first stands for what is always the same: no bignums.
+# With these flags `diag2diag` changes nothing.
 EXACT = ["--preserve-space", "--no-bignum-from-tags"]
-CONVERSIONS = {"--annotate-tags", "--apply-999", "--aol-to-item", "--annotate=ccs"}
 
 
 def limited(limit):
@@ -94,8 +94,19 @@ def is_idempotent(flags, text):
     return "--aol-to-item" not in flags or ("--remove-comments" in flags) != ("--apply-999" in flags)
 
 
+def converted(items, flags, annotate_tags):
+    bignums = "--no-bignum-from-tags" not in flags
+    return conversions.converted(items, annotate_tags, "--aol-to-item" in flags, "--annotate=ccs" in flags, bignums, "--apply-999" in flags)
+
+
+def expect_items(items, ended):
+    shown = edn.read(ended.output.decode())
+    if shown != items:
+        raise Problem(f"the items are others: {ended}; and not {items}"[:2000])
+
+
 def lay_out(data, limit, flags):
-    """What `diag2diag` takes it writes as items that it takes again, with the same result where flags allow, and that mean the same."""
+    """`diag2diag` writes the items that the flags make, and takes them again, with the same result where flags allow; they mean the same."""
     text, items, taken = read(data, LIMIT)
     ended = run(["diag2diag", *flags], data)
     if not taken:
@@ -107,8 +118,7 @@ def lay_out(data, limit, flags):
         expect(ended, again)
     elif again.status != 0:
         raise Problem(f"its own output {ended} is refused: {again}")
-    if "--no-bignum-from-tags" in flags and not CONVERSIONS & set(flags) and edn.read(ended.output.decode()) != items:
-        raise Problem(f"the items are others: {ended}")
+    expect_items(converted(items, flags, "--annotate-tags" in flags), ended)
     direct = encoded(items, [])
     if direct.status == 0 and "--apply-999" not in flags:
         expect(direct, run(["diag2cbor"], ended.output))
@@ -133,9 +143,7 @@ def decode(data, limit, flags):
     if ended.status != 0:
         raise Problem(f"the bytes are of the scope: {ended}")
     expect(written(data), run(["diag2cbor", *limited(limit)], ended.output))
-    if {"--no-annotate-tags", "--no-bignum-from-tags"} <= set(flags) and "--annotate=ccs" not in flags:
-        if edn.read(ended.output.decode()) != items:
-            raise Problem(f"the items are others: {ended}")
+    expect_items(converted(items, flags, "--no-annotate-tags" not in flags), ended)
 
 
 def decode_digits(data, limit, flags):
