@@ -47,7 +47,8 @@ class Inputs:
     def add_text(self, data, cases):
         self.add(laws.keep, data, cases=cases)
         self.add(laws.encode, data, self.rng.choice(FORMATS) + self.some(["--apply-999"]))
-        self.add(laws.lay_out, data, self.some(DIAG2DIAG))
+        layouts = ["--no-bignum-from-tags", *self.some(["--remove-comments", "--preserve-space"])]
+        self.add(laws.lay_out, data, self.some(DIAG2DIAG) if self.rng.randrange(2) else layouts)
 
     def text(self, means, count):
         """A text of so many items, which the reader of these scripts must read as what was generated."""

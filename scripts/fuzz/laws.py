@@ -5,6 +5,7 @@ import re
 import cbor
 import conversions
 import edn
+import layout
 from runs import Problem, expect, expect_place, fault, run, written
 
 LIMIT = 512
@@ -12,6 +13,8 @@ LINE = 64
 MARK = re.compile(r"[\[{(]|<<")
 # With these flags `diag2diag` changes nothing.
 EXACT = ["--preserve-space", "--no-bignum-from-tags"]
+# With one of these it makes spaces or comments of its own.
+CONVERSIONS = {"--annotate-tags", "--apply-999", "--aol-to-item", "--annotate=ccs"}
 
 
 def limited(limit):
@@ -119,6 +122,10 @@ def lay_out(data, limit, flags):
     elif again.status != 0:
         raise Problem(f"its own output {ended} is refused: {again}")
     expect_items(converted(items, flags, "--annotate-tags" in flags), ended)
+    if "--no-bignum-from-tags" in flags and not CONVERSIONS & set(flags):
+        text = layout.without_comments(text) if "--remove-comments" in flags else text
+        text = text if "--preserve-space" in flags else layout.laid_out(text)
+        expect(written(text.encode()), ended)
     direct = encoded(items, [])
     if direct.status == 0 and "--apply-999" not in flags:
         expect(direct, run(["diag2cbor"], ended.output))
@@ -143,7 +150,11 @@ def decode(data, limit, flags):
     if ended.status != 0:
         raise Problem(f"the bytes are of the scope: {ended}")
     expect(written(data), run(["diag2cbor", *limited(limit)], ended.output))
-    expect_items(converted(items, flags, "--no-annotate-tags" not in flags), ended)
+    items = converted(items, flags, "--no-annotate-tags" not in flags)
+    expect_items(items, ended)
+    # what can't be converted has a comment
+    if "--no-annotate-tags" in flags and "--annotate=ccs" not in flags:
+        expect(written(layout.laid_out(",".join(map(layout.text_of, items))).encode()), ended)
 
 
 def decode_digits(data, limit, flags):
