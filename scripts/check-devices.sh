@@ -18,7 +18,8 @@ cd "$work"
 passed=0
 failed=0
 words=()
-LARGE=300000
+# times what is repeated is more than a pipe holds
+LARGE=30000
 
 # The program by the words of the command at hand, and by those of the row.
 run() {

@@ -313,11 +313,18 @@ def check_starved():
         count(f"{' '.join(words)} of {kind}, with too little memory", problem)
 
 
+def check_endless():
+    """Input without an end is read until memory is refused."""
+    for command in ("diag2cbor", "diag2diag", "cbor2diag"):
+        count(f"{command} of an endless input", refusal(run([command, "/dev/zero"], b"", 64_000 * KB), NO_MEMORY))
+
+
 with tempfile.TemporaryDirectory() as work:
     check_depths()
     check_floods()
     check_counts()
     check_starved()
+    check_endless()
     check_memory(work)
 print(f"{passed} passed, {failed} failed")
 raise SystemExit(failed != 0)
