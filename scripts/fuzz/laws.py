@@ -82,15 +82,15 @@ def encoded(items, flags):
 
 def is_idempotent(flags, text):
     """Whether twice is once. A comment of a conversion that fails is put again each time, unless comments are removed, which none is in
-    an embedded sequence. Claims have times only where these are numbers again in the second run. Removing comments takes the spaces
-    that a conversion made."""
+    an embedded sequence. Claims have times only where these are numbers again in the second run, and a bignum is no number in the first.
+    Removing comments takes the spaces that a conversion made."""
     flags = set(flags)
     if "<<" in text and flags & {"--annotate-tags", "--aol-to-item"}:
         return False
     if {"--remove-comments", "--preserve-space"} <= flags and flags & {"--aol-to-item", "--apply-999"}:
         return False
     if "--annotate=ccs" in flags:
-        return {"--aol-to-item", "--remove-comments"} <= flags and "--apply-999" not in flags
+        return {"--aol-to-item", "--remove-comments", "--no-bignum-from-tags"} <= flags and "--apply-999" not in flags
     if "--annotate-tags" in flags and "--remove-comments" not in flags:
         return False
     # a literal that fails stays and is told of again, or it becomes a tag 999 and is told of once
