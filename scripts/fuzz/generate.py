@@ -408,14 +408,34 @@ class Bytes:
         data = rng.choice(ADDRESSES)(rng, size)
         shortened = data.rstrip(b"\0")
         seconds = rng.choice([*SECONDS, rng.getrandbits(33), -rng.getrandbits(40)])
-        content = rng.choice([
-            self.head(0, seconds) if seconds >= 0 else self.head(1, -1 - seconds),
-            self.head(2, len(data)) + data,
-            b"\x82" + self.head(0, rng.choice([8, 24, 32, 64, 128])) + self.head(2, len(shortened)) + shortened,
-            b"\x82" + self.head(2, len(data)) + data + (self.known_tag() if rng.randrange(2) else self.string(3)),
-            b"\x83" + self.string(3) + self.string(3) + rng.choice([b"\xf4", b"\xf5", b"\xf6"]),
-        ])
-        return self.head(6, number) + content
+        address = self.head(2, len(data)) + data
+        contents = [
+            lambda: self.head(0, seconds) if seconds >= 0 else self.head(1, -1 - seconds),
+            lambda: address,
+            lambda: b"\x82" + self.head(0, rng.choice([8, 24, 32, 64, 128])) + self.head(2, len(shortened)) + shortened,
+            lambda: b"\x82" + self.head(0, rng.randrange(200)) + rng.choice([address, self.string(3)]),
+            lambda: b"\x82" + address + (self.known_tag() if rng.randrange(2) else self.string(3)),
+            lambda: self.array([address, self.string(3), self.string(2)]),
+            lambda: self.array([self.string(3), address]),
+            lambda: self.array([self.head(0, 8), address, address]),
+            lambda: b"\x83" + self.string(3) + self.string(3) + rng.choice([b"\xf4", b"\xf5", b"\xf6", b"\x01"]),
+        ]
+        return self.head(6, number) + rng.choice(contents)()
+
+    def array(self, entries):
+        """An array of the first few of some items."""
+        entries = entries[: self.rng.randrange(len(entries) + 1)]
+        return self.head(4, len(entries)) + b"".join(entries)
+
+    def keys(self, most, value):
+        """A map of small keys, and of some other now and then."""
+        rng = self.rng
+        keys = [self.string(3) if rng.randrange(8) == 0 else self.head(0, rng.randrange(most)) for _ in range(rng.randrange(5))]
+        return self.head(5, len(keys)) + b"".join(key + value() for key in keys)
+
+    def algorithm(self):
+        number = self.rng.randrange(-20, 26)
+        return self.head(0, number) if number >= 0 else self.head(1, -1 - number)
 
     def claims(self, depth):
         rng = self.rng
@@ -424,8 +444,9 @@ class Bytes:
         for _ in range(count):
             key = rng.choice(KEYS)
             value = self.head(rng.randrange(2), rng.getrandbits(rng.choice([31, 38]))) if key in (4, 5, 6) else self.item(depth - 1)
-            if key == 8 and rng.randrange(2):
-                value = b"\xa1\x04\xa2\x03" + self.head(rng.randrange(2), rng.randrange(30)) + b"\x04" + self.item(0)
+            if key == 8 and rng.randrange(4):
+                oscore = lambda: self.keys(8, lambda: self.algorithm() if rng.randrange(4) else self.item(0))  # noqa: E731
+                value = self.keys(6, lambda: oscore() if rng.randrange(4) else self.item(0))
             entries += self.head(0, key) + value
         return self.head(5, count) + entries
 

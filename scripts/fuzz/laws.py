@@ -2,6 +2,7 @@
 
 import re
 
+import annotations
 import cbor
 import conversions
 import edn
@@ -97,15 +98,9 @@ def is_idempotent(flags, text):
     return "--aol-to-item" not in flags or ("--remove-comments" in flags) != ("--apply-999" in flags)
 
 
-def converted(items, flags, annotate_tags):
-    bignums = "--no-bignum-from-tags" not in flags
-    return conversions.converted(items, annotate_tags, "--aol-to-item" in flags, "--annotate=ccs" in flags, bignums, "--apply-999" in flags)
-
-
-def expect_items(items, ended):
-    shown = edn.read(ended.output.decode())
-    if shown != items:
-        raise Problem(f"the items are others: {ended}; and not {items}"[:2000])
+def steps(flags, annotate_tags):
+    """Which steps the flags ask for, in their order."""
+    return annotate_tags, "--aol-to-item" in flags, "--annotate=ccs" in flags, "--no-bignum-from-tags" not in flags
 
 
 def lay_out(data, limit, flags):
@@ -121,7 +116,9 @@ def lay_out(data, limit, flags):
         expect(ended, again)
     elif again.status != 0:
         raise Problem(f"its own output {ended} is refused: {again}")
-    expect_items(converted(items, flags, "--annotate-tags" in flags), ended)
+    made = conversions.converted(items, *steps(flags, "--annotate-tags" in flags), "--apply-999" in flags)
+    if edn.read(ended.output.decode()) != made:
+        raise Problem(f"the items are others: {ended}; and not {made}"[:2000])
     if "--no-bignum-from-tags" in flags and not CONVERSIONS & set(flags):
         text = layout.without_comments(text) if "--remove-comments" in flags else text
         text = text if "--preserve-space" in flags else layout.laid_out(text)
@@ -141,7 +138,7 @@ def annotate(data, limit, flags):
 
 
 def decode(data, limit, flags):
-    """`cbor2diag` takes the well-formed CBOR of its scope, or tells the first fault; `diag2cbor` gives the bytes back."""
+    """`cbor2diag` writes the text of the well-formed CBOR of its scope, or tells the first fault; `diag2cbor` gives the bytes back."""
     items, words = cbor.read(data, limit)
     ended = run(["cbor2diag", *flags, *limited(limit)], data)
     if items is None:
@@ -150,11 +147,8 @@ def decode(data, limit, flags):
     if ended.status != 0:
         raise Problem(f"the bytes are of the scope: {ended}")
     expect(written(data), run(["diag2cbor", *limited(limit)], ended.output))
-    items = converted(items, flags, "--no-annotate-tags" not in flags)
-    expect_items(items, ended)
-    # what can't be converted has a comment
-    if "--no-annotate-tags" in flags and "--annotate=ccs" not in flags:
-        expect(written(layout.laid_out(",".join(map(layout.text_of, items))).encode()), ended)
+    items = annotations.annotated(items, *steps(flags, "--no-annotate-tags" not in flags))
+    expect(written(layout.laid_out(",".join(map(layout.text_of, items))).encode()), ended)
 
 
 def decode_digits(data, limit, flags):

@@ -245,6 +245,8 @@ def spec(indicator):
 def text_of(item):
     """A text of an item that was decoded or converted, which a layout may be set of."""
     form = item[0]
+    if form == "noted":
+        return text_of(item[1]) + item[2]
     if form in ("number", "float"):
         return item[1] + spec(item[2])
     if form == "word":
