@@ -427,10 +427,10 @@ class Bytes:
         entries = entries[: self.rng.randrange(len(entries) + 1)]
         return self.head(4, len(entries)) + b"".join(entries)
 
-    def keys(self, most, value):
-        """A map of small keys, and of some other now and then."""
+    def keys(self, numbers, value):
+        """A map of some of these keys, and of another one now and then."""
         rng = self.rng
-        keys = [self.string(3) if rng.randrange(8) == 0 else self.head(0, rng.randrange(most)) for _ in range(rng.randrange(5))]
+        keys = [self.string(3) if rng.randrange(8) == 0 else self.head(0, rng.choice(numbers)) for _ in range(rng.randrange(5))]
         return self.head(5, len(keys)) + b"".join(key + value() for key in keys)
 
     def algorithm(self):
@@ -442,11 +442,11 @@ class Bytes:
         count = rng.randrange(4)
         entries = b""
         for _ in range(count):
-            key = rng.choice(KEYS)
+            key = rng.choice(KEYS + [8] * 6)
             value = self.head(rng.randrange(2), rng.getrandbits(rng.choice([31, 38]))) if key in (4, 5, 6) else self.item(depth - 1)
             if key == 8 and rng.randrange(4):
-                oscore = lambda: self.keys(8, lambda: self.algorithm() if rng.randrange(4) else self.item(0))  # noqa: E731
-                value = self.keys(6, lambda: oscore() if rng.randrange(4) else self.item(0))
+                oscore = lambda: self.keys(range(8), lambda: self.algorithm() if rng.randrange(4) else self.item(0))  # noqa: E731
+                value = self.keys([2, 3, 4, 4, 4, 4], lambda: oscore() if rng.randrange(4) else self.item(0))
             entries += self.head(0, key) + value
         return self.head(5, count) + entries
 
