@@ -165,8 +165,9 @@ fb7ff8000000000001|Float value out of scope
 62c31b|Text string must be valid UTF-8
 7f61c361a9ff|Text string must be valid UTF-8
 END
-  expect "cbor2diag $form --max-nesting 0" "$([ -n "$form" ] && echo e4 || echo '\xe4')" 1 '' 'cbor-edn: Error decoding input data: Nested too deeply\n'
 done
+faults 'cbor2diag --max-nesting 0' 'Error decoding input data: ' <<< '\xe4|Nested too deeply'
+faults 'cbor2diag -i hex --max-nesting 0' 'Error decoding input data: ' <<< 'e4|Nested too deeply'
 faults 'cbor2diag -i hex' 'Error decoding hexadecimal input' << 'END'
 8|
 8g|

@@ -2,6 +2,7 @@
 
 import os
 import re
+import resource
 import signal
 
 MB = 1 << 20
@@ -75,8 +76,9 @@ def run(words, data):
     seconds = usage.ru_utime + usage.ru_stime
     if seconds > MOST_SECONDS:
         raise Problem(f"it takes {seconds} seconds")
-    # A peak begins with what this process has, which is less than what is allowed.
-    if usage.ru_maxrss * 1024 > MOST_MEMORY + MOST_MEMORY_FOR_EACH_BYTE_WRITTEN * len(output):
+    # A peak begins with what this process has.
+    own = resource.getrusage(resource.RUSAGE_SELF).ru_maxrss * 1024
+    if usage.ru_maxrss * 1024 > max(own, MOST_MEMORY + MOST_MEMORY_FOR_EACH_BYTE_WRITTEN * len(output)):
         raise Problem(f"it takes {usage.ru_maxrss} KB of memory")
     if ended.status not in (0, 1) or (ended.said != b"" if ended.status == 0 else ended.output != b""):
         raise Problem(str(ended))
