@@ -319,12 +319,35 @@ def check_endless():
         count(f"{command} of an endless input", refusal(run([command, "/dev/zero"], b"", 64_000 * KB), NO_MEMORY))
 
 
+# The slowest inputs of 64 KB that are known: a list in so many tags, each of which is compared with the literal that would stand for it.
+# Their time is the size times the depth. They take 2 to 3 seconds.
+MOST_SECONDS_OF_SLOWEST = 8
+WIDE = "[" + ",".join(["1"] * 30_000) + "]"
+SLOWEST = [
+    ("addresses in tags 52", 250, "52([h'00000000',", "])"),
+    ("addresses in tags 54", 250, "54([h'00000000000000000000000000000000',", "])"),
+    ("tags 1", 510, "1(", ")"),
+    ("embedded sequences in tags 52", 250, "52(<<", ">>)"),
+]
+
+
+def check_slowest():
+    for name, depth, opening, closing in SLOWEST:
+        text = (opening * depth + WIDE + closing * depth).encode()
+        encoded = run(["diag2cbor"], text)
+        for words, data in ((["diag2cbor", "--annotate-tags"], text), (["diag2diag", "--annotate-tags", "--preserve-space"], text), (["cbor2diag"], encoded.output)):
+            ended = run(words, data)
+            seconds = f"it takes {ended.seconds:.1f} seconds" if ended.seconds > MOST_SECONDS_OF_SLOWEST else None
+            count(f"{' '.join(words)} of {name}, {depth} deep", seconds if ended.status == 0 else f"status {ended.status}, said {ended.said[:200]!r}")
+
+
 with tempfile.TemporaryDirectory() as work:
     check_depths()
     check_floods()
     check_counts()
     check_starved()
     check_endless()
+    check_slowest()
     check_memory(work)
 print(f"{passed} passed, {failed} failed")
 raise SystemExit(failed != 0)
