@@ -12,6 +12,8 @@ import laws
 import runs
 
 CHECKS_OF_A_SHRINK = 1500
+# Of each process: what fails beyond that is told as it is.
+MOST_SHRINKS = 3
 # Of a round: inputs of each kind.
 VALUES, OTHERS, DAMAGED, ENCODINGS, DAMAGED_ENCODINGS, DIGITS = 12, 6, 10, 12, 8, 2
 ROUND = VALUES + OTHERS + DAMAGED + ENCODINGS + DAMAGED_ENCODINGS + DIGITS
@@ -23,6 +25,9 @@ CBOR2DIAG = ["--no-annotate-tags", "--aol-to-item", "--no-bignum-from-tags", "--
 FORMATS = [[], [], ["-o", "hex"], ["-ohex"], ["--output-format=hex"], ["-o", "binary"], ["--output-format", "auto"]]
 OPENINGS = [("[", "]"), ("{1:", "}"), ("{", ":1}"), ("1(", ")"), ("<<", ">>"), ("[_ ", "]"), ("(_ <<", ">>)"), ("simple(", ")"), ("'a'+<<", ">>")]
 OPEN_BYTES = [(b"\x81", b""), (b"\xa1\x01", b""), (b"\xa1", b"\x01"), (b"\x9f", b"\xff"), (b"\xbf\x01", b"\xff"), (b"\xd8\x64", b"")]
+
+
+shrinks = 0
 
 
 class Inputs:
@@ -126,6 +131,10 @@ def problem_of(law, data, limit, flags):
 
 def shrunk(law, data, limit, flags):
     """The bytes without chunks that the problem does not need."""
+    global shrinks
+    shrinks += 1
+    if shrinks > MOST_SHRINKS:
+        return data
     left, size = CHECKS_OF_A_SHRINK, len(data)
     while size > 0 and left > 0:
         at = 0
