@@ -1,25 +1,37 @@
 //! Comments at the keys of claims sets.
-use cbor_edn_application::comment_ccs;
+use cbor_edn_application::visits::annotate_claims;
 use cbor_edn_core::tree::{Item, StandaloneItem};
 use cbor_edn_expect::expect_row;
+use cbor_edn_parts::error::Fault;
 use std::alloc::Global;
 use std::test::Fail;
 
-fn annotate(alloc: Global, item: Option<&mut Item<'_>>) -> Result<(), Fail> {
-    match item {
-        Some(item) => Ok(item.visit_map_elements(alloc, &mut |key| comment_ccs(alloc, key))?),
-        None => Ok(()),
+/// False where the item is no map.
+fn annotate(alloc: Global, item: Option<&mut Item<'_>>) -> Result<bool, Fail> {
+    let Some(item) = item else {
+        return Err(Fail::new("no item"));
+    };
+    match annotate_claims(alloc, item) {
+        Ok(()) => Ok(true),
+        Err(Fault::Told(_)) => Ok(false),
+        Err(Fault::Memory(refused)) => Err(Fail::from(refused)),
     }
 }
 
 fn annotated(alloc: Global, text: &str) -> Result<String, Fail> {
     let mut item = Box::new(alloc, StandaloneItem::parse(alloc, text)?)?;
-    annotate(alloc, item.at_mut(&[]))?;
-    Ok(item.serialize(alloc)?)
+    if annotate(alloc, item.at_mut(&[]))? {
+        Ok(item.serialize(alloc)?)
+    } else {
+        Ok(String::from_str(alloc, "no map")?)
+    }
 }
 
 /// RFC 8392, section 3 and appendix A.1, RFC 8747, section 3.1, and RFC 9203, section 3.2.1, with names of the IANA registries.
 const ROWS: &[(&str, &str)] = &[
+    ("{1: 2}", "{1/ iss /: 2}"),
+    ("[{1: 2}]", "no map"),
+    ("3", "no map"),
     (
         "{4: 1700000000}",
         "{4/ exp /: dt'2023-11-14T22:13:20+00:00'}",

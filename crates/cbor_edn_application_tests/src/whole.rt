@@ -1,8 +1,7 @@
-//! Whole visits of a sequence, each once.
+//! Whole visits of a sequence, each once, and how rows are held against them.
 use cbor_edn_application::visits::{
-    annotate_claims, annotate_claims_sets, comment_languages, comment_tags, prettify,
-    prettify_addresses, prettify_bignums, prettify_times, resolve, resolve_addresses,
-    resolve_times, to_999,
+    annotate_claims_sets, comment_languages, comment_tags, prettify, prettify_addresses,
+    prettify_bignums, prettify_times, resolve, resolve_addresses, resolve_times, to_999,
 };
 use cbor_edn_core::tree::Sequence;
 use cbor_edn_expect::expect_row;
@@ -10,7 +9,7 @@ use std::alloc::{AllocError, Global};
 use std::test::Fail;
 
 #[derive(Clone, Copy)]
-enum Visit {
+pub(crate) enum Visit {
     Prettify,
     PrettifyAddresses,
     PrettifyTimes,
@@ -44,6 +43,14 @@ fn visited(alloc: Global, text: &str, by: Visit) -> Result<String, Fail> {
     let mut sequence = Box::new(alloc, Sequence::parse(alloc, text)?)?;
     apply(alloc, &mut sequence, by)?;
     Ok(sequence.serialize(alloc)?)
+}
+
+pub(crate) fn expect_rows(alloc: Global, rows: &[(Visit, &str, &str)]) -> Result<(), Fail> {
+    for &(by, text, wanted) in rows {
+        let told = visited(alloc, text, by)?;
+        expect_row(alloc, text, told.as_str(), wanted)?;
+    }
+    Ok(())
 }
 
 const TAGS: &str = "1(42), 52(h'c0000201'), 2(h'010000000000000000')";
@@ -100,24 +107,5 @@ const ROWS: &[(Visit, &str, &str)] = &[
 
 #[test]
 fn whole_visits(rt: HostRuntime) -> Result<(), Fail> {
-    let alloc = rt.alloc();
-    for &(by, text, wanted) in ROWS {
-        let told = visited(alloc, text, by)?;
-        expect_row(alloc, text, told.as_str(), wanted)?;
-    }
-    Ok(())
-}
-
-#[test]
-fn claims_of_an_item(rt: HostRuntime) -> Result<(), Fail> {
-    let alloc = rt.alloc();
-    let mut sequence = Box::new(alloc, Sequence::parse(alloc, "{1: 2}, 3")?)?;
-    if let Some(item) = sequence.at_mut(&[0]) {
-        annotate_claims(alloc, item)?;
-    }
-    if let Some(item) = sequence.at_mut(&[1]) {
-        assert!(rt; annotate_claims(alloc, item).is_err());
-    }
-    let told = sequence.serialize(alloc)?;
-    expect_row(alloc, "{1: 2}, 3", told.as_str(), "{1/ iss /: 2}, 3")
+    expect_rows(rt.alloc(), ROWS)
 }
