@@ -5,3 +5,4 @@ pub mod Refused
 pub mod Sequences
 pub mod TimeSteps
 pub mod Laws
+pub mod VisitActs

@@ -1,11 +1,12 @@
 //! Whole visits with the functions of the crate.
 ghost use Rattle.std.specs.Prelude.{◌≡◌, None, OnOk};
+ghost use Rattle.std.specs.String.{string_bytes};
 ghost use Rattle.cbor_edn_parts.specs.Refusals.{IfTold};
 ghost use Rattle.cbor_edn_core.specs.Callbacks.{ending, IfVisited};
 ghost use Rattle.cbor_edn_core.specs.Sought.{told_answer};
 ghost use Rattle.cbor_edn_core.specs.View.{item_tree, sequence_tree};
 ghost use Rattle.cbor_edn_model.specs.Accessed.{map_items};
-ghost use Rattle.cbor_edn_model.specs.Seeking.{IsTag, IsApplication, number as tag_told};
+ghost use Rattle.cbor_edn_model.specs.Seeking.{IsTag, IsApplication, number as tag_told, prefix_and_text};
 ghost use Rattle.cbor_edn_model.specs.Trees.{items};
 ghost use Rattle.cbor_edn_conversions.specs.Addresses.{resolve_address, pretty_address};
 ghost use Rattle.cbor_edn_conversions.specs.All.{resolve_all, pretty_all};
@@ -16,6 +17,7 @@ ghost use Rattle.cbor_edn_conversions.specs.Tag999.{to_tag999};
 ghost use Rattle.cbor_edn_conversions.specs.Times.{resolve_time, pretty_time};
 ghost use Rattle.cbor_edn_application.specs.Acts.{ActsBy, IsVisited};
 ghost use Rattle.cbor_edn_application.specs.Handlers.{AreKeysVisited};
+ghost use Rattle.cbor_edn_application.specs.VisitActs.{tag_act, literal_act};
 
 use crate::address::{ip_aol_to_item, ip_tag_to_aol};
 use crate::all::{all_aol_to_item, all_tag_prettify};
@@ -30,75 +32,134 @@ use cbor_edn_core::tree::{Item, Sequence};
 use cbor_edn_parts::error::{CallbackError, Fault};
 use std::alloc::{AllocError, Global};
 
+/// What is called at each tag. A visit has one closure for all of these: a proof of one more costs half a minute.
+#[derive(Clone, Copy)]
+pub(crate) enum TagAct<'c> {
+    Prettify,
+    Addresses,
+    Times,
+    Bignums,
+    Languages,
+    Comment(&'c str),
+}
+
+/// What is called at each literal.
+#[derive(Clone, Copy)]
+pub(crate) enum LiteralAct {
+    Resolve,
+    Addresses,
+    Times,
+    To999,
+}
+
+fn visit_tags(alloc: Global, sequence: &mut Sequence<'_>, act: TagAct<'_>) -> Result<(), AllocError>
+    ensures { IsVisited IsTag (tag_act act) (sequence_tree sequence.old) (ending result) (sequence_tree sequence.new) }
+{
+    sequence.visit_tag(alloc, &mut |tag, item| at_tag(alloc, act, tag, item))
+}
+
+fn visit_literals(
+    alloc: Global,
+    sequence: &mut Sequence<'_>,
+    act: LiteralAct,
+) -> Result<(), AllocError>
+    ensures { IsVisited IsApplication (literal_act act) (sequence_tree sequence.old) (ending result) (sequence_tree sequence.new) }
+{
+    sequence.visit_application_literals(
+        alloc,
+        &mut |prefix, text, item| at_literal(alloc, act, prefix, text, item),
+    )
+}
+
+fn at_tag(
+    alloc: Global,
+    act: TagAct<'_>,
+    tag: u64,
+    item: &mut Item<'_>,
+) -> Result<(), CallbackError>
+    ensures { ActsBy (tag_act act) (tag_told tag) (item_tree item.old) (told_answer result) (item_tree item.new) }
+{
+    match act {
+        TagAct::Prettify => all_tag_prettify(alloc, tag, item),
+        TagAct::Addresses => ip_tag_to_aol(alloc, tag, item),
+        TagAct::Times => dt_tag_to_aol(alloc, tag, item),
+        TagAct::Bignums => tag23_to_edn_integer(alloc, tag, item),
+        TagAct::Languages => comment_lang_tag(alloc, tag, item),
+        TagAct::Comment(comment) => comment_tag(alloc, comment, tag, item),
+    }
+}
+
+fn at_literal(
+    alloc: Global,
+    act: LiteralAct,
+    prefix: String,
+    text: String,
+    item: &mut Item<'_>,
+) -> Result<(), CallbackError>
+    ensures { ActsBy (literal_act act) (prefix_and_text (string_bytes prefix) (string_bytes text)) (item_tree item.old) (told_answer result) (item_tree item.new) }
+{
+    match act {
+        LiteralAct::Resolve => all_aol_to_item(alloc, prefix, text, item),
+        LiteralAct::Addresses => ip_aol_to_item(alloc, prefix, text, item),
+        LiteralAct::Times => dt_aol_to_item(alloc, prefix, text, item),
+        LiteralAct::To999 => any_aol_to_tag999(alloc, prefix, text, item),
+    }
+}
+
 /// Calls [`all_tag_prettify`] at each tag: times, addresses and bignums become what people read.
 pub fn prettify(alloc: Global, sequence: &mut Sequence<'_>) -> Result<(), AllocError>
     ensures { IsVisited IsTag pretty_all (sequence_tree sequence.old) (ending result) (sequence_tree sequence.new) }
 {
-    sequence.visit_tag(alloc, &mut |tag, item| all_tag_prettify(alloc, tag, item))
+    visit_tags(alloc, sequence, TagAct::Prettify)
 }
 
 /// Calls [`all_aol_to_item`] at each literal: times and addresses become what they stand for.
 pub fn resolve(alloc: Global, sequence: &mut Sequence<'_>) -> Result<(), AllocError>
     ensures { IsVisited IsApplication resolve_all (sequence_tree sequence.old) (ending result) (sequence_tree sequence.new) }
 {
-    sequence.visit_application_literals(
-        alloc,
-        &mut |prefix, text, item| all_aol_to_item(alloc, prefix, text, item),
-    )
+    visit_literals(alloc, sequence, LiteralAct::Resolve)
 }
 
 /// Calls [`ip_tag_to_aol`] at each tag.
 pub fn prettify_addresses(alloc: Global, sequence: &mut Sequence<'_>) -> Result<(), AllocError>
     ensures { IsVisited IsTag pretty_address (sequence_tree sequence.old) (ending result) (sequence_tree sequence.new) }
 {
-    sequence.visit_tag(alloc, &mut |tag, item| ip_tag_to_aol(alloc, tag, item))
+    visit_tags(alloc, sequence, TagAct::Addresses)
 }
 
 /// Calls [`dt_tag_to_aol`] at each tag.
 pub fn prettify_times(alloc: Global, sequence: &mut Sequence<'_>) -> Result<(), AllocError>
     ensures { IsVisited IsTag pretty_time (sequence_tree sequence.old) (ending result) (sequence_tree sequence.new) }
 {
-    sequence.visit_tag(alloc, &mut |tag, item| dt_tag_to_aol(alloc, tag, item))
+    visit_tags(alloc, sequence, TagAct::Times)
 }
 
 /// Calls [`tag23_to_edn_integer`] at each tag.
 pub fn prettify_bignums(alloc: Global, sequence: &mut Sequence<'_>) -> Result<(), AllocError>
     ensures { IsVisited IsTag pretty_bignum (sequence_tree sequence.old) (ending result) (sequence_tree sequence.new) }
 {
-    sequence.visit_tag(
-        alloc,
-        &mut |tag, item| tag23_to_edn_integer(alloc, tag, item),
-    )
+    visit_tags(alloc, sequence, TagAct::Bignums)
 }
 
 /// Calls [`ip_aol_to_item`] at each literal.
 pub fn resolve_addresses(alloc: Global, sequence: &mut Sequence<'_>) -> Result<(), AllocError>
     ensures { IsVisited IsApplication resolve_address (sequence_tree sequence.old) (ending result) (sequence_tree sequence.new) }
 {
-    sequence.visit_application_literals(
-        alloc,
-        &mut |prefix, text, item| ip_aol_to_item(alloc, prefix, text, item),
-    )
+    visit_literals(alloc, sequence, LiteralAct::Addresses)
 }
 
 /// Calls [`dt_aol_to_item`] at each literal.
 pub fn resolve_times(alloc: Global, sequence: &mut Sequence<'_>) -> Result<(), AllocError>
     ensures { IsVisited IsApplication resolve_time (sequence_tree sequence.old) (ending result) (sequence_tree sequence.new) }
 {
-    sequence.visit_application_literals(
-        alloc,
-        &mut |prefix, text, item| dt_aol_to_item(alloc, prefix, text, item),
-    )
+    visit_literals(alloc, sequence, LiteralAct::Times)
 }
 
 /// Puts tags of their prefix and their text in the place of literals.
 pub fn to_999(alloc: Global, sequence: &mut Sequence<'_>) -> Result<(), AllocError>
     ensures { IsVisited IsApplication to_tag999 (sequence_tree sequence.old) (ending result) (sequence_tree sequence.new) }
 {
-    sequence.visit_application_literals(
-        alloc,
-        &mut |prefix, text, item| any_aol_to_tag999(alloc, prefix, text, item),
-    )
+    visit_literals(alloc, sequence, LiteralAct::To999)
 }
 
 /// Puts a comment behind each tag.
@@ -110,10 +171,7 @@ pub fn comment_tags(
     ensures visited { IsVisited IsTag (commenting comment.now) (sequence_tree sequence.old) (ending result) (sequence_tree sequence.new) }
     ensures items { items (sequence_tree sequence.new) ≡ items (sequence_tree sequence.old) }
 {
-    sequence.visit_tag(
-        alloc,
-        &mut |tag, item| comment_tag(alloc, comment, tag, item),
-    )
+    visit_tags(alloc, sequence, TagAct::Comment(comment))
 }
 
 /// Answers the comment, whatever the tag.
@@ -134,7 +192,7 @@ pub fn comment_languages(alloc: Global, sequence: &mut Sequence<'_>) -> Result<(
     ensures visited { IsVisited IsTag comment_lang (sequence_tree sequence.old) (ending result) (sequence_tree sequence.new) }
     ensures items { items (sequence_tree sequence.new) ≡ items (sequence_tree sequence.old) }
 {
-    sequence.visit_tag(alloc, &mut |tag, item| comment_lang_tag(alloc, tag, item))
+    visit_tags(alloc, sequence, TagAct::Languages)
 }
 
 /// Puts the comments of a claims set into a map. Fails with `Map` where the item is none.

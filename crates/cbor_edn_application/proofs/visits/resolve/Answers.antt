@@ -1,7 +1,0 @@
-use Rattle.std.proofs.Common.{rules}
-use Rattle.cbor_edn_conversions.specs.All.{resolve_all}
-use Rattle.cbor_edn_application.proofs.Visiting.{literals_visited}
-use Rattle.cbor_edn_application.proofs.visits.resolve.Goals as goal
-
-pub returns : goal.returns
-returns c = literals_visited resolve_all (λ _. Unit {0}) _ _ _ _ _ _ tt _ (λ p q a b x y z keeps s. search rules) c.visit_application_literals.ensures.visited

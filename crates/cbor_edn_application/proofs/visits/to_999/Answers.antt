@@ -1,7 +1,0 @@
-use Rattle.std.proofs.Common.{rules}
-use Rattle.cbor_edn_conversions.specs.Tag999.{to_tag999}
-use Rattle.cbor_edn_application.proofs.Visiting.{literals_visited}
-use Rattle.cbor_edn_application.proofs.visits.to_999.Goals as goal
-
-pub returns : goal.returns
-returns c = literals_visited to_tag999 (λ _. Unit {0}) _ _ _ _ _ _ tt _ (λ p q a b x y z keeps s. search rules) c.visit_application_literals.ensures.visited
