@@ -1,25 +1,35 @@
 //! Edits as tables hold them, and sequences whose texts are read again.
-use cbor_edn_core::tree::{Item, Sequence};
+use cbor_edn_core::tree::{Item, Sequence, StandaloneItem};
 use cbor_edn_expect::{digits_of, expect_row};
 use cbor_edn_parts::policy::DelimiterPolicy;
 use cbor_edn_script::Edit;
 use std::alloc::Global;
 use std::test::Fail;
 
-/// An edit as a table holds it: the item that is put somewhere is the first one of a text.
+/// An edit as a table holds it: the item that is put somewhere is that of a text.
 #[derive(Clone, Copy)]
-pub(crate) enum Step {
+pub(crate) enum Step<'p> {
     Delimit(DelimiterPolicy),
     Discard,
-    Replace(&'static [usize], &'static str),
-    TagAt(&'static [usize], u64),
+    Replace(&'p [usize], &'static str),
+    TagAt(&'p [usize], u64),
     CommentTags(&'static str),
     Prettify,
     Resolve,
     To999,
 }
 
-pub(crate) fn edit_of<'a>(alloc: Global, step: Step) -> Result<Edit<'a>, Fail> {
+/// Puts one more edit behind the others.
+pub(crate) fn push_edit(
+    alloc: Global,
+    edits: &mut Vec<Edit<'_>>,
+    step: Step<'_>,
+) -> Result<(), Fail> {
+    edits.push(edit_of(alloc, step)?)?;
+    Ok(())
+}
+
+fn edit_of<'a>(alloc: Global, step: Step<'_>) -> Result<Edit<'a>, Fail> {
     match step {
         Step::Delimit(policy) => Ok(Edit::Delimit(policy)),
         Step::Discard => Ok(Edit::Discard),
@@ -32,21 +42,13 @@ pub(crate) fn edit_of<'a>(alloc: Global, step: Step) -> Result<Edit<'a>, Fail> {
     }
 }
 
-/// An edit that puts the first item of a text where a path leads.
-pub(crate) fn replacement<'a>(
-    alloc: Global,
-    path: &[usize],
-    text: &'a str,
-) -> Result<Edit<'a>, Fail> {
-    Ok(Edit::Replace(path.to_vec(alloc)?, first_item(alloc, text)?))
+fn replacement<'a>(alloc: Global, path: &[usize], text: &'a str) -> Result<Edit<'a>, Fail> {
+    Ok(Edit::Replace(path.to_vec(alloc)?, item_of(alloc, text)?))
 }
 
-fn first_item<'a>(alloc: Global, text: &'a str) -> Result<Item<'a>, Fail> {
-    let mut sequence = sequence_of(alloc, text)?;
-    match sequence.at_mut(&[0]) {
-        Some(item) => Ok(item.clone()?),
-        None => Err(Fail::new("no item")),
-    }
+fn item_of<'a>(alloc: Global, text: &'a str) -> Result<Item<'a>, Fail> {
+    let item = Box::new(alloc, StandaloneItem::parse(alloc, text)?)?;
+    Ok(item.item().clone()?)
 }
 
 // Trees stand in boxes: a proof writes out what a function holds, and of a box only that it is one.

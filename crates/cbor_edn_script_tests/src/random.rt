@@ -1,5 +1,5 @@
 //! Scripts made at random over sequences made at random: what is printed then is read as the same items, with the same encoding.
-use crate::common::{Step, edit_of, expect_read_back, replacement, sequence_of};
+use crate::common::{Step, expect_read_back, push_edit, sequence_of};
 use cbor_edn_parts::policy::DelimiterPolicy;
 use cbor_edn_script::{Edit, run};
 use std::alloc::{AllocError, Global};
@@ -142,42 +142,30 @@ fn path(alloc: Global, random: &mut Random) -> Result<Vec<usize>, AllocError> {
     Ok(path)
 }
 
-fn tag<'a>(alloc: Global, random: &mut Random) -> Result<Edit<'a>, Fail> {
-    let path = path(alloc, random)?;
-    let number = random.below(60) as u64;
-    Ok(Edit::TagAt(path, number))
-}
-
-fn put<'a>(alloc: Global, random: &mut Random) -> Result<Edit<'a>, Fail> {
-    let path = path(alloc, random)?;
-    let text: &'a str = random.one_of(ITEMS);
-    replacement(alloc, path.as_slice(), text)
-}
-
-/// An edit without a path.
-fn step(random: &mut Random) -> Step {
-    match random.below(6) {
-        0 => Step::Delimit(policy(random)),
-        1 => Step::Discard,
-        2 => Step::CommentTags(random.one_of(COMMENTS)),
-        3 => Step::Prettify,
-        4 => Step::Resolve,
+/// An edit; one with a path has this one.
+fn step<'p>(random: &mut Random, path: &'p [usize]) -> Step<'p> {
+    match random.below(12) {
+        0 | 1 => Step::TagAt(path, random.below(60) as u64),
+        2..=5 => Step::Replace(path, random.one_of(ITEMS)),
+        6 => Step::Delimit(policy(random)),
+        7 => Step::Discard,
+        8 => Step::CommentTags(random.one_of(COMMENTS)),
+        9 => Step::Prettify,
+        10 => Step::Resolve,
         _ => Step::To999,
     }
 }
 
-fn edit<'a>(alloc: Global, random: &mut Random) -> Result<Edit<'a>, Fail> {
-    match random.below(12) {
-        0 | 1 => tag(alloc, random),
-        2..=5 => put(alloc, random),
-        _ => edit_of(alloc, step(random)),
-    }
+fn push_step(alloc: Global, random: &mut Random, edits: &mut Vec<Edit<'_>>) -> Result<(), Fail> {
+    let path = path(alloc, random)?;
+    let step = step(random, path.as_slice());
+    push_edit(alloc, edits, step)
 }
 
 fn script<'a>(alloc: Global, random: &mut Random) -> Result<Vec<Edit<'a>>, Fail> {
     let mut edits: Vec<Edit<'a>> = Vec::new(alloc);
     for _ in 0..random.below(8) {
-        edits.push(edit(alloc, random)?)?;
+        push_step(alloc, random, &mut edits)?;
     }
     Ok(edits)
 }

@@ -2,7 +2,7 @@
 use crate::common::Step::{
     self, CommentTags, Delimit, Discard, Prettify, Replace, Resolve, TagAt, To999,
 };
-use crate::common::{edit_of, encoding, expect_read_back, sequence_of};
+use crate::common::{encoding, expect_read_back, push_edit, sequence_of};
 use cbor_edn_core::tree::Sequence;
 use cbor_edn_expect::expect_row;
 use cbor_edn_parts::policy::DelimiterPolicy;
@@ -10,10 +10,10 @@ use cbor_edn_script::{Edit, run};
 use std::alloc::Global;
 use std::test::Fail;
 
-fn edits_of<'a>(alloc: Global, steps: &[Step]) -> Result<Vec<Edit<'a>>, Fail> {
+fn edits_of<'a>(alloc: Global, steps: &[Step<'_>]) -> Result<Vec<Edit<'a>>, Fail> {
     let mut edits: Vec<Edit<'a>> = Vec::new(alloc);
     for &step in steps {
-        edits.push(edit_of(alloc, step)?)?;
+        push_edit(alloc, &mut edits, step)?;
     }
     Ok(edits)
 }
@@ -22,7 +22,7 @@ fn edits_of<'a>(alloc: Global, steps: &[Step]) -> Result<Vec<Edit<'a>>, Fail> {
 fn expect_edited(
     alloc: Global,
     text: &str,
-    steps: &[Step],
+    steps: &[Step<'_>],
     wanted: &str,
     bytes: &str,
 ) -> Result<(), Fail> {
@@ -45,7 +45,7 @@ fn expect_left(
     expect_read_back(alloc, row, sequence)
 }
 
-fn expect_rows(alloc: Global, rows: &[(&str, &[Step], &str, &str)]) -> Result<(), Fail> {
+fn expect_rows(alloc: Global, rows: &[(&str, &[Step<'_>], &str, &str)]) -> Result<(), Fail> {
     for &(text, steps, wanted, bytes) in rows {
         expect_edited(alloc, text, steps, wanted, bytes)?;
     }
@@ -53,7 +53,7 @@ fn expect_rows(alloc: Global, rows: &[(&str, &[Step], &str, &str)]) -> Result<()
 }
 
 /// Items that are put where paths lead: their own spaces come with them, and the spaces round them stay.
-const REPLACED: &[(&str, &[Step], &str, &str)] = &[
+const REPLACED: &[(&str, &[Step<'static>], &str, &str)] = &[
     (
         "[\"a\" 1]",
         &[Replace(&[0, 1], "+1")],
@@ -89,7 +89,7 @@ const REPLACED: &[(&str, &[Step], &str, &str)] = &[
 ];
 
 /// Tags that are put round items, and paths that lead nowhere.
-const TAGGED: &[(&str, &[Step], &str, &str)] = &[
+const TAGGED: &[(&str, &[Step<'static>], &str, &str)] = &[
     ("[1 2]", &[TagAt(&[0, 1], 24)], "[1 24(2)]", "8201d81802"),
     (
         "[1 2]",
@@ -112,7 +112,7 @@ const TAGGED: &[(&str, &[Step], &str, &str)] = &[
 ];
 
 /// Comments and conversions, which enter embedded sequences, and policies and removal of indicators, which do not.
-const VISITED: &[(&str, &[Step], &str, &str)] = &[
+const VISITED: &[(&str, &[Step<'static>], &str, &str)] = &[
     (
         "1(0), [_ 2]",
         &[CommentTags("t"), Prettify, Discard],
