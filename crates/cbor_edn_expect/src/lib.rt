@@ -1,6 +1,7 @@
 //! What the tests hold answers to: whether something holds, texts, and bytes as digits.
 #![tactic(auto)]
 
+pub mod failures;
 pub mod memory;
 
 ghost use Rattle.std.specs.Prelude.{◌≡◌, IsTrue, OnOk};

@@ -1,5 +1,5 @@
 //! Address texts, what they are refused with, and the bytes of addresses.
-use crate::failures::Failures;
+use cbor_edn_expect::failures::Failures;
 use cbor_edn_literals::address::{
     IpVersion, filled_address, print_address, read_address, shown_bytes,
 };

@@ -6,6 +6,4 @@
 #[cfg(test)]
 mod addresses;
 #[cfg(test)]
-mod failures;
-#[cfg(test)]
 mod times;

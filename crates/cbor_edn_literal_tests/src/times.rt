@@ -2,7 +2,7 @@
 ghost use Rattle.std.specs.Prelude.{IfOk};
 ghost use Rattle.cbor_edn_literals.specs.Time.{IsTimeStamp};
 
-use crate::failures::Failures;
+use cbor_edn_expect::failures::Failures;
 use cbor_edn_literals::time::{
     Instant, NotTime, number_text, printed_time, read_decimal, read_integer, read_time,
 };

@@ -1,7 +1,7 @@
 //! What the tests compare: texts, bytes in hexadecimal digits, and the names of refusals.
-use crate::failures::Failures;
 use cbor_edn_core::from_cbor::CborError;
 use cbor_edn_core::tree::{Item, Sequence, StandaloneItem};
+use cbor_edn_expect::failures::Failures;
 use cbor_edn_expect::{digits_of, expect_row, name_of};
 use cbor_edn_parts::error::{Fault, ParseError};
 use std::alloc::Global;

@@ -1,8 +1,8 @@
 //! Bytes, the texts that they are decoded as, and the same bytes back; and bytes that are refused.
 use crate::common::{cbor_error, decoded, decoded_item, repeated, stand_for_each_other};
-use crate::failures::Failures;
 use cbor_edn_core::from_cbor::CborError;
 use cbor_edn_core::tree::{Item, NESTING_LIMIT, Sequence, StandaloneItem};
+use cbor_edn_expect::failures::Failures;
 use cbor_edn_expect::{digits_of, expect, expect_row, name_of};
 use std::alloc::Global;
 use std::test::Fail;

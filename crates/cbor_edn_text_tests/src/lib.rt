@@ -6,8 +6,6 @@ mod common;
 #[cfg(test)]
 mod decoding;
 #[cfg(test)]
-mod failures;
-#[cfg(test)]
 mod limits;
 #[cfg(test)]
 mod refusals;

@@ -1,7 +1,7 @@
 //! The words and the places of refusals.
 use crate::common::{cbor_error, encoded, refusal};
-use crate::failures::Failures;
 use cbor_edn_core::from_cbor::CborError;
+use cbor_edn_expect::failures::Failures;
 use cbor_edn_expect::{expect, expect_row};
 use cbor_edn_parts::error::{InconsistentEdn, ParseError, ParseErrorKind};
 use std::alloc::Global;
