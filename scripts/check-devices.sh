@@ -162,6 +162,12 @@ check() {
   row 1 '' '' 'run bad out 2>&-'
   left out ''
   left bad "$fault"
+  row 1 '' '' 'run - out < bad 2>&-'
+  left out ''
+  row 1 '' '' 'run bad out <&- 2>&-'
+  left out ''
+  row 1 '' '' 'run bad out >&- 2>&-'
+  left out ''
   row 1 '' '' 'unread 2 run bad'
   row 0 "$output" '' 'run in 2>&-'
   row 0 "$output" '' 'run in 2> /dev/full'
@@ -186,12 +192,17 @@ for ask in '--help' '--version' 'diag2cbor --help' 'cbor2diag --help' 'diag2diag
   status=0
   # shellcheck disable=SC2086
   unread 1 run $ask > output 2> said || status=$?
-  count "$ask to a pipe that nobody reads" test "$status" = 1
+  count "$ask to a pipe that nobody reads" ended 1 '' "$WRITING"
   status=0
+  : > output
   # shellcheck disable=SC2086
   run $ask > /dev/full 2> said || status=$?
-  count "$ask to a full device" test "$status" = 1
+  count "$ask to a full device" ended 1 '' "$WRITING"
 done
+
+# Words that are no command line have their own status, whatever became of the line.
+row 2 '' '' 'run --none 2> /dev/full'
+row 2 '' 'cbor-edn: Error reading the command line: it is not UTF-8' "run diag2diag \$'\\xff'"
 
 echo "$passed passed, $failed failed"
 [ "$failed" = 0 ]

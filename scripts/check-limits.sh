@@ -4,7 +4,7 @@
 # usage: scripts/check-limits.sh [PROGRAM [MEGABYTES]]
 #
 # Without PROGRAM it is the working tree's. MEGABYTES is the size of each flat input whose memory is measured, 4 without it; 64 takes
-# 7 GB of memory, and some minutes. The last line is 'N passed, M failed'.
+# 3 GB of memory, and some minutes. The last line is 'N passed, M failed'.
 set -euo pipefail
 
 cd "$(dirname "$(readlink -f "$0")")/.."

@@ -1,8 +1,8 @@
 #!/usr/bin/env bash
-# All tests: where a text is read (a look at the sources), each proof, edit that must fail, test and program (`rt ci`),
+# All tests: where a text is read and which public calls are tested (two looks at the sources), each proof, edit that must fail, test and program (`rt ci`),
 # beside it the calls of each crate *_memory with each of their allocations refused in turn, then the encodings of
 # another implementation, where it is installed, the examples, the help, the lines of faults, devices that fail, inputs
-# past the limits, random inputs, the launcher, and the deepest nesting under small stacks. The last line is
+# past the limits, random inputs, the launcher, the deepest nesting under small stacks, and calls from other languages. The last line is
 # 'N passed, M failed'. Where nothing failed, the program that was proved is left to ./cbor-edn. `docs/CONTRIBUTING.md`
 # says how the proofs share the processors.
 set -euo pipefail
@@ -101,6 +101,7 @@ say_minutes() {
 program=crates/cbor_edn_tool/out/cbor_edn_tool
 gives_way=()
 add scripts/check-reads.sh
+add scripts/check-surface.sh
 # Refused memory needs builds, and no proof: in a tree of its own it takes the time that proofs leave.
 mkdir "$beside/tree"
 tar -c --exclude=out --exclude=.git . | tar -x -C "$beside/tree"
@@ -127,6 +128,7 @@ add scripts/check-limits.sh "$program"
 add scripts/fuzz.sh 8949 30000 "$program"
 add scripts/check-launcher.sh "$program"
 add scripts/check-stack.sh "$program" crates/cbor_edn_{text,tree}_tests/out/*_tests_tests
+add scripts/check-bindings.sh --after-ci
 cat "$times"
 say_minutes
 [ "$failed" != 0 ] || leave_program "$program"
