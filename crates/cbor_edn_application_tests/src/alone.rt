@@ -1,10 +1,12 @@
 //! Functions that are called alone, at one item.
 use cbor_edn_application::{
-    IpVersion, dt_aol_to_item, dt_item_to_aol, dt_tag_to_aol, ip_item_to_aol, ip_tag_to_aol,
+    CcsHandler, IpVersion, all_aol_to_item, all_tag_prettify, any_aol_to_tag999, comment_ccs,
+    comment_lang_tag, dt_aol_to_item, dt_item_to_aol, dt_tag_to_aol, ip_aol_to_item,
+    ip_item_to_aol, ip_tag_to_aol, tag23_to_edn_integer,
 };
 use cbor_edn_core::tree::{Item, StandaloneItem};
-use cbor_edn_expect::expect_row;
-use cbor_edn_parts::error::Fault;
+use cbor_edn_expect::{expect, expect_row};
+use cbor_edn_parts::error::{CallbackError, Fault};
 use std::alloc::Global;
 use std::test::Fail;
 
@@ -111,4 +113,100 @@ fn others(rt: HostRuntime) -> Result<(), Fail> {
         expect_row(alloc, text, told.as_str(), text)?;
     }
     Ok(())
+}
+
+/// A function of a visit, with the number, or the prefix and the text, that it is told.
+#[derive(Clone, Copy)]
+enum Call {
+    Prettify(u64),
+    Bignum(u64),
+    Language(u64),
+    Resolve(&'static str, &'static str),
+    Address(&'static str, &'static str),
+    Tag999(&'static str, &'static str),
+}
+
+fn call_at(alloc: Global, call: Call, item: &mut Item<'_>) -> Result<(), CallbackError> {
+    match call {
+        Call::Prettify(tag) => all_tag_prettify(alloc, tag, item),
+        Call::Bignum(tag) => tag23_to_edn_integer(alloc, tag, item),
+        Call::Language(tag) => comment_lang_tag(alloc, tag, item),
+        Call::Resolve(prefix, told) => all_aol_to_item(
+            alloc,
+            String::from_str(alloc, prefix)?,
+            String::from_str(alloc, told)?,
+            item,
+        ),
+        Call::Address(prefix, told) => ip_aol_to_item(
+            alloc,
+            String::from_str(alloc, prefix)?,
+            String::from_str(alloc, told)?,
+            item,
+        ),
+        Call::Tag999(prefix, told) => any_aol_to_tag999(
+            alloc,
+            String::from_str(alloc, prefix)?,
+            String::from_str(alloc, told)?,
+            item,
+        ),
+    }
+}
+
+const CALLS: &[(&str, Call, &str)] = &[
+    ("1(42)", Call::Prettify(1), "DT'1970-01-01T00:00:42+00:00'"),
+    (
+        "2(h'010000000000000000')",
+        Call::Bignum(2),
+        "18446744073709551616",
+    ),
+    (
+        "38([\"he\", \"x\", true])",
+        Call::Language(38),
+        "38([\"he\", \"x\", true/ Right-to-left /])",
+    ),
+    (
+        "dt'1970-01-01T00:00:23Z'",
+        Call::Resolve("dt", "1970-01-01T00:00:23Z"),
+        "23",
+    ),
+    (
+        "ip'192.0.2.42'",
+        Call::Address("ip", "192.0.2.42"),
+        "h'c000022a'",
+    ),
+    (
+        "foo'bar'",
+        Call::Tag999("foo", "bar"),
+        "999([\"foo\", \"bar\"])",
+    ),
+];
+
+#[test]
+fn calls(rt: HostRuntime) -> Result<(), Fail> {
+    let alloc = rt.alloc();
+    for &(text, call, wanted) in CALLS {
+        let mut item = Box::new(alloc, StandaloneItem::parse(alloc, text)?)?;
+        match item.at_mut(&[]) {
+            Some(place) => call_at(alloc, call, place)?,
+            None => return Err(Fail::new(text)),
+        }
+        expect_row(alloc, text, item.serialize(alloc)?.as_str(), wanted)?;
+    }
+    Ok(())
+}
+
+/// The key of an expiration time is answered its name, and its value is a time.
+#[test]
+fn key_of_a_claim(rt: HostRuntime) -> Result<(), Fail> {
+    let alloc = rt.alloc();
+    let mut key = Box::new(alloc, StandaloneItem::parse(alloc, "4")?)?;
+    let Some(place) = key.at_mut(&[]) else {
+        return Err(Fail::new("no key"));
+    };
+    let (name, handler) = comment_ccs(alloc, place)?;
+    expect(
+        "name",
+        matches!(&name, Some(name) if name.as_str() == "exp"),
+    )?;
+    expect("handler", matches!(&handler, Some(CcsHandler::Timestamp)))
 }

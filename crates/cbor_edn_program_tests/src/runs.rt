@@ -1,6 +1,6 @@
 //! Runs over devices that fail, or that move few bytes at a time.
 use crate::devices::{Failure, SlowReader, SlowSink, SlowSource, SlowWriter};
-use cbor_edn::engine::{Command, Options, RunError, StdSink, StdSource, run, serve};
+use cbor_edn::engine::{Command, Options, RunError, StdSink, StdSource, converted, run, serve};
 use cbor_edn::{CborError, InconsistentEdn, NESTING_LIMIT, ParseError};
 use cbor_edn_expect::{expect, expect_row};
 use cbor_edn_parts::error::ParseErrorKind;
@@ -51,6 +51,23 @@ const RUNS: &[(Command, bool, &[u8], &[u8])] = &[
     (Command::Diag2Diag, false, b"[1,0x1f , []]", TEXT),
     (Command::Diag2Diag, true, RICH, RICH_TEXT),
 ];
+
+fn is_converted(alloc: Global, options: &Options, input: &[u8], output: &[u8]) -> bool {
+    match converted(alloc, options, input) {
+        Ok(bytes) => bytes.as_slice() == output,
+        Err(_) => false,
+    }
+}
+
+#[test]
+fn converted_in_memory(rt: HostRuntime) -> Result<(), Fail> {
+    let alloc = rt.alloc();
+    for &(command, are_on, input, output) in RUNS {
+        let is_right = is_converted(alloc, &options_of(command, are_on), input, output);
+        expect("a run in memory", is_right)?;
+    }
+    Ok(())
+}
 
 // More calls than a run of these makes of a device.
 const CALLS: usize = 200;

@@ -17,6 +17,10 @@ fn print_runs(rt: &HostRuntime) -> io::Result<()> {
         let told = word(runs::run_once(rt.alloc(), row));
         println!(rt; "{}: {told}", row.name)?;
     }
+    for row in runs::CONVERTED {
+        let told = word(runs::converted_once(rt.alloc(), row));
+        println!(rt; "{}: {told}", row.name)?;
+    }
     for row in runs::THERE_AND_BACK {
         let told = word(runs::recoded_bytes(rt.alloc(), row));
         println!(rt; "{}: {told}", row.0)?;

@@ -1,5 +1,5 @@
 //! Runs, and bytes that are decoded and encoded again.
-use cbor_edn::engine::{Command, Options, RunError, StdSink, StdSource, run};
+use cbor_edn::engine::{Command, Options, RunError, StdSink, StdSource, converted, run};
 use cbor_edn::laws::recode::{item, recoded, recoded_by_text};
 use cbor_edn::{DelimiterPolicy, NESTING_LIMIT};
 use cbor_edn_expect::memory::Failure;
@@ -106,6 +106,16 @@ pub(crate) const RUNS: &[Case] = &[
     },
 ];
 
+/// Runs in memory.
+pub(crate) const CONVERTED: &[Case] = &[Case {
+    name: "engine::converted",
+    command: Command::Cbor2Diag,
+    hex: true,
+    preserve_space: false,
+    input: DIGITS,
+    output: SHOWN,
+}];
+
 /// Every option but these.
 pub(crate) fn options_of(command: Command, hex: bool, preserve_space: bool) -> Options {
     Options {
@@ -142,6 +152,16 @@ pub(crate) fn run_once(alloc: Global, row: &Case) -> Result<bool, Failure> {
     match result {
         Ok(()) => Ok(written.as_slice() == row.output),
         Err(RunError::Memory(_)) if written.is_empty() => Err(Failure::Refused),
+        Err(_) => Ok(false),
+    }
+}
+
+/// Makes a run in memory.
+pub(crate) fn converted_once(alloc: Global, row: &Case) -> Result<bool, Failure> {
+    let options = options_of(row.command, row.hex, row.preserve_space);
+    match converted(alloc, &options, row.input) {
+        Ok(output) => Ok(output.as_slice() == row.output),
+        Err(RunError::Memory(_)) => Err(Failure::Refused),
         Err(_) => Ok(false),
     }
 }
