@@ -15,7 +15,7 @@ failed=0
 stands_in() {
   local what=$1 found
   shift
-  found=$(grep -rlF --include='*.rt' -- "$what" crates/*/src | grep -v '^crates/cbor_edn_[a-z]*_tests/' | sort)
+  found=$(grep -rlF --include='*.rt' -- "$what" crates/*/src | grep -Ev '^crates/cbor_edn_([a-z_]*_)?(tests|memory)/' | sort)
   if [ "$found" = "$(printf '%s\n' "$@" | sort)" ]; then
     passed=$((passed + 1))
   else
