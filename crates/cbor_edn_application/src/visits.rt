@@ -53,7 +53,7 @@ pub(crate) enum LiteralAct {
 }
 
 fn visit_tags(alloc: Global, sequence: &mut Sequence<'_>, act: TagAct<'_>) -> Result<(), AllocError>
-    ensures { IsVisited IsTag (tag_act act) (sequence_tree sequence.old) (ending result) (sequence_tree sequence.new) }
+    ensures { IsVisited IsTag (tag_act act.entry) (sequence_tree sequence.old) (ending result) (sequence_tree sequence.new) }
 {
     sequence.visit_tag(alloc, &mut |tag, item| at_tag(alloc, act, tag, item))
 }
@@ -77,7 +77,7 @@ fn at_tag(
     tag: u64,
     item: &mut Item<'_>,
 ) -> Result<(), CallbackError>
-    ensures { ActsBy (tag_act act) (tag_told tag) (item_tree item.old) (told_answer result) (item_tree item.new) }
+    ensures { ActsBy (tag_act act.entry) (tag_told tag) (item_tree item.old) (told_answer result) (item_tree item.new) }
 {
     match act {
         TagAct::Prettify => all_tag_prettify(alloc, tag, item),
