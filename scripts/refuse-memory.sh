@@ -3,11 +3,12 @@
 #
 # usage: scripts/refuse-memory.sh CRATE
 #
-# The program reads a number, makes so many allocations, and then its calls. For each call it prints a line, the call's
-# name with `: done`, `: refused` (it answered want of memory, and left what it must) or `: wrong`. The toolchain
-# refuses the same allocation in each run, the last of a window, and the number moves it back from there: so one build
-# serves for all. The crate's file `window` has the number of runs, more than the calls make allocations. Where it has
-# too few, the window grows until its last runs end without a refusal, and each time costs a build.
+# The program makes calls and prints a line for each, its name with `: done`, `: refused` (it answered want of memory, and left
+# what it must) or `: wrong`. It reads a number. The last four digits say how many allocations it makes before its calls. The
+# digits before them name the part of the calls to make, eight of them from 1 on, or all of them where there are none. The
+# toolchain refuses the same allocation in each run, the last of a window, and the number moves it back from there: so one
+# build serves for all runs, and a run makes few calls. A few runs of each part tell how many allocations it makes; where one
+# makes more than the window has, the window grows.
 #
 # Where one of the calls' allocations is refused, exactly one line must say so, and no line may say `wrong`. Where none
 # is, each line must say `done`. A collection that reserves by the hint of an iterator asks again for room for one item
@@ -32,26 +33,33 @@ give_up() {
   exit 1
 }
 
-# Runs with each allocation of the window refused in turn, and as run 0 with none of the calls'. Writes a line for each
-# run, with its number and how often each word came.
+calls=$(wc -l < stdout)
+parts=$(((calls + 7) / 8))
+step=32
+window=512
+
+# Runs of each part, one for each line `part last` of a file: with none of its allocations refused, and with each one up to the
+# last, or one in so many. Writes a line for each run: its part, the allocation, and how often each word came.
 sweep() {
-  local window=$1 k
+  local by=$1 lasts=$2 part last k
   rm -rf "$work/cases"
   mkdir "$work/cases"
-  for ((k = 0; k <= window; k++)); do
-    echo "$((window - k))" > "$work/cases/$k"
-  done
+  while read -r part last; do
+    for ((k = 0; k <= last; k += by)); do
+      echo "$((part * 10000 + window - k))" > "$work/cases/$part-$k"
+    done
+  done < "$lasts"
   if ! rt try --fail-alloc "$window" --cases "$work/cases" > "$work/output" 2> "$work/said"; then
     tail -n 20 "$work/said"
     give_up "rt try failed"
   fi
-  awk -v window="$window" '
-    /^== [0-9]+$/ { run = $2; next }
+  awk '
+    /^== [0-9]+-[0-9]+$/ { run = $2; runs[run] = 1; next }
     /: refused$/ { refused[run]++; next }
     /: done$/ { done[run]++; next }
     { wrong[run]++ }
-    END { for (k = 0; k <= window; k++) print k, done[k] + 0, refused[k] + 0, wrong[k] + 0 }
-  ' "$work/output" > "$work/runs"
+    END { for (run in runs) { split(run, at, "-"); print at[1], at[2], done[run] + 0, refused[run] + 0, wrong[run] + 0 } }
+  ' "$work/output" | sort -n -k 1,1 -k 2,2 > "$work/runs"
 }
 
 # Prints what the calls of a run said.
@@ -59,43 +67,51 @@ show() {
   awk -v run="$1" '/^== /{ on = $2 == run } on' "$work/output"
 }
 
-# So many runs at the end of the window are to end without a refusal: one or two may do so where a hint is refused.
-margin=16
-window=1024
-[ ! -e window ] || read -r window < window
+# How many allocations a part makes, rounded up to what a step shows. Writes a line `part last` for each.
 for ((;; window *= 2)); do
-  sweep "$window"
-  read -r _ calls refused wrong < "$work/runs"
-  if [ "$calls" = 0 ] || [ "$refused" != 0 ] || [ "$wrong" != 0 ]; then
-    show 0
+  for ((part = 1; part <= parts; part++)); do echo "$part $window"; done > "$work/all"
+  sweep "$step" "$work/all"
+  found=$(awk '$2 == 0 && $4 + $5 == 0 { found += $3 } END { print found + 0 }' "$work/runs")
+  if [ "$found" != "$calls" ]; then
+    awk '$2 == 0' "$work/runs"
     give_up "a call fails where no memory is refused"
   fi
-  if tail -n "$margin" "$work/runs" | awk -v calls="$calls" '$2 != calls { exit 1 }'; then
+  if awk -v window="$window" -v step="$step" '
+    $2 == 0 { calls[$1] = $3 }
+    $3 != calls[$1] { last[$1] = $2 }
+    END { for (part in calls) { print part, last[part] + step; if (last[part] + step >= window) over = 1 } exit over }
+  ' "$work/runs" > "$work/lasts"; then
     break
   fi
-  [ "$window" -le 16384 ] || give_up "memory is refused in more than $window runs"
+  [ "$window" -lt 8192 ] || give_up "memory is refused in more than $window runs"
 done
+sweep 1 "$work/lasts"
 
 hints=0
 [ ! -e hints ] || read -r hints < hints
 
-# The runs behind the last refusal are all alike, and are run 0 again.
-awk -v calls="$calls" -v hints="$hints" '
-  { done[$1] = $2; refused[$1] = $3; wrong[$1] = $4 }
-  $3 > 0 || $4 > 0 { last = $1 }
+# The runs of a part behind its last refusal are all alike, and are run 0 again.
+awk -v hints="$hints" '
+  $2 == 0 { calls[$1] = $3; parts++ }
+  { runs[$1, $2] = $0 }
+  $4 > 0 || $5 > 0 { last[$1] = $2 }
   END {
-    for (k = 0; k <= last; k++) {
-      if (wrong[k] == 0 && refused[k] == (k > 0) && done[k] + refused[k] == calls) passed++
-      else if (k > 0 && done[k] == calls) { again++; told = told " " k }
-      else { failed++; print "allocation " k ": " done[k] " done, " refused[k] " refused, " wrong[k] " wrong, of " calls " calls" }
+    for (part = 1; part <= parts; part++) {
+      for (k = 0; k <= last[part] + 0; k++) {
+        split(runs[part, k], at, " ")
+        if (at[5] == 0 && at[4] == (k > 0) && at[3] + at[4] == calls[part]) passed++
+        else if (k > 0 && at[3] == calls[part]) { again++; told = told " " part "-" k }
+        else { failed++; print "run " part "-" k ": " at[3] " done, " at[4] " refused, " at[5] " wrong, of " calls[part] " calls" }
+      }
+      refused += last[part]
     }
-    if (last == 0) { failed++; print "no allocation was refused" }
-    if (again == hints) passed += again
+    if (refused == 0) { failed++; print "no allocation was refused" }
+    if (again + 0 == hints) passed += again
     else { failed++; print again + 0 " allocations were refused and all calls done, and not " hints ":" told }
     print passed + 0 " passed, " failed + 0 " failed"
   }
 ' "$work/runs" > "$work/verdict"
-sed -n 's/^allocation \([0-9]*\):.*/\1/p' "$work/verdict" | head -n 3 | while read -r run; do
+sed -n 's/^run \([0-9-]*\):.*/\1/p' "$work/verdict" | head -n 3 | while read -r run; do
   show "$run"
 done
 echo "refuse-memory: $crate: each allocation refused in turn"

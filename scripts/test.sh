@@ -54,8 +54,9 @@ add() {
 refuse_memory() {
   local tree=$1 crate
   for crate in "$tree"/crates/*_memory; do
-    nice -n 19 "$tree/scripts/refuse-memory.sh" "$(basename "$crate")" > "$tree/../$(basename "$crate")" 2>&1 || true
+    nice -n 19 "$tree/scripts/refuse-memory.sh" "$(basename "$crate")" > "$tree/../$(basename "$crate")" 2>&1 &
   done
+  wait
 }
 
 # Whether `rt ci` takes what an earlier one proved. The kits that keep that let `rt ci` name crates too, and say both in their help or on

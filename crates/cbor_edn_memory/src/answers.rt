@@ -307,13 +307,16 @@ fn sequence_by<'a>(alloc: Global, call: SequenceBy) -> Result<Box<Sequence<'a>>,
             copy_of_sequence(alloc, &sequence)
         }
         SequenceBy::CopyOfDecoded(bytes) => {
-            let sequence = decoded(alloc, bytes)?;
+            let sequence: Box<Sequence<'a>> = decoded(alloc, bytes)?;
             copy_of_sequence(alloc, &sequence)
         }
-        SequenceBy::Made(integers) => {
-            boxed(alloc, Sequence::new(alloc, integers_of(alloc, integers)?))
-        }
+        SequenceBy::Made(integers) => made(alloc, integers),
     }
+}
+
+fn made<'a>(alloc: Global, integers: &[i128]) -> Result<Box<Sequence<'a>>, Failure> {
+    let items: Vec<Item<'a>> = integers_of(alloc, integers)?;
+    boxed(alloc, Sequence::new(alloc, items))
 }
 
 fn decoded<'a>(alloc: Global, bytes: &[u8]) -> Result<Box<Sequence<'a>>, Failure> {

@@ -25,12 +25,27 @@ pub(crate) trait Tree: Drop {
 
     fn change(&mut self, alloc: Global, change: Change) -> Result<(), Failure>;
 
-    /// Whether the text is read as the tree's items. The spaces of the tree are discarded, which takes no memory.
+    /// The text without spaces, which is that of these items alone. The spaces of the tree are discarded.
+    fn plain_text(&mut self, alloc: Global) -> Result<String, AllocError>;
+
+    /// Whether the text is read as the tree's items.
     fn is_read_from(&mut self, alloc: Global, text: &str) -> bool;
+}
+
+fn are_same(one: Result<String, AllocError>, other: Result<String, AllocError>) -> bool {
+    match (one, other) {
+        (Ok(one), Ok(other)) => one == other,
+        _ => false,
+    }
 }
 
 impl Tree for Sequence<'_> {
     fn text(&self, alloc: Global) -> Result<String, AllocError> {
+        self.serialize(alloc)
+    }
+
+    fn plain_text(&mut self, alloc: Global) -> Result<String, AllocError> {
+        self.set_delimiters(alloc, DelimiterPolicy::DiscardAll)?;
         self.serialize(alloc)
     }
 
@@ -40,14 +55,7 @@ impl Tree for Sequence<'_> {
 
     fn is_read_from(&mut self, alloc: Global, text: &str) -> bool {
         match sequence_of(alloc, text) {
-            Ok(mut read) => {
-                self.set_delimiters(alloc, DelimiterPolicy::DiscardAll)
-                    .is_ok()
-                    && read
-                        .set_delimiters(alloc, DelimiterPolicy::DiscardAll)
-                        .is_ok()
-                    && *read == *self
-            }
+            Ok(mut read) => are_same(self.plain_text(alloc), read.plain_text(alloc)),
             Err(_) => false,
         }
     }
@@ -58,20 +66,18 @@ impl Tree for StandaloneItem<'_> {
         self.serialize(alloc)
     }
 
+    fn plain_text(&mut self, alloc: Global) -> Result<String, AllocError> {
+        self.set_delimiters(alloc, DelimiterPolicy::DiscardAll)?;
+        self.serialize(alloc)
+    }
+
     fn change(&mut self, alloc: Global, change: Change) -> Result<(), Failure> {
         change_standalone(alloc, self, change)
     }
 
     fn is_read_from(&mut self, alloc: Global, text: &str) -> bool {
         match standalone_of(alloc, text) {
-            Ok(mut read) => {
-                self.set_delimiters(alloc, DelimiterPolicy::DiscardAll)
-                    .is_ok()
-                    && read
-                        .set_delimiters(alloc, DelimiterPolicy::DiscardAll)
-                        .is_ok()
-                    && *read == *self
-            }
+            Ok(mut read) => are_same(self.plain_text(alloc), read.plain_text(alloc)),
             Err(_) => false,
         }
     }
