@@ -1,7 +1,7 @@
 //! The library's one function for callers that are not Rattle, as a static library. The declarations of `bindings/` repeat it.
 #![tactic(auto)]
 
-ghost use Rattle.std.specs.Prelude.{◌≡◌, length};
+ghost use Rattle.std.specs.Prelude.{◌≡◌};
 ghost use Rattle.cbor_edn_c.specs.Calls.{Did, IsMessage, call_fault};
 ghost use Rattle.cbor_edn_c_calls.specs.Reports.{TellsPlace};
 ghost use Rattle.cbor_edn_c_calls.specs.Statuses.{status_number};
