@@ -1,28 +1,23 @@
 #!/usr/bin/env bash
 # Refuses each allocation of a program of calls in turn, and looks at what the calls answer then.
 #
-# usage: scripts/refuse-memory.sh CRATE
+# usage: scripts/refuse-memory.sh CRATE [PROGRAM]
 #
 # The program makes calls and prints a line for each, its name with `: done`, `: refused` (it answered want of memory, and left
-# what it must) or `: wrong`. It reads a number. The last four digits say how many allocations it makes before its calls. The
-# digits before them name the part of the calls to make, eight of them from 1 on, or all of them where there are none. The
-# toolchain refuses the same allocation in each run, the last of a window, and the number moves it back from there: so one
-# build serves for all runs, and a run makes few calls. A few runs of each part tell how many allocations it makes; where one
-# makes more than the window has, the window grows.
+# what it must) or `: wrong`. Without its path it is proved and built first. A small library stands in front of malloc
+# (scripts/refuse/refusing.c): in each run it refuses another allocation, from the first to the last.
 #
-# Where one of the calls' allocations is refused, exactly one line must say so, and no line may say `wrong`. Where none
-# is, each line must say `done`. A collection that reserves by the hint of an iterator asks again for room for one item
-# where that is refused, so that all is done then too: the crate's file `hints` has the number of such runs, none where
-# there is no file. The last line is 'N passed, M failed', over the runs.
+# Where an allocation is refused, exactly one line must say so, and no line may say `wrong`. Where none is, each line must say
+# `done`. A collection that reserves by the hint of an iterator asks again for room for one item where that is refused, so that
+# all is done then too: the crate's file `hints` has the number of such runs, none where there is no file. The last line is 'N
+# passed, M failed', over the runs.
 set -euo pipefail
 
 cd "$(dirname "$(readlink -f "$0")")/.."
-crate=${1:?usage: scripts/refuse-memory.sh CRATE}
-cd "crates/$crate"
-if ! command -v rt >/dev/null; then
-  echo "refuse-memory: the Rattle toolchain (the command rt) must be on the PATH" >&2
-  exit 1
-fi
+crate=${1:?usage: scripts/refuse-memory.sh CRATE [PROGRAM]}
+calls=$(wc -l < "crates/$crate/stdout")
+hints=0
+[ ! -e "crates/$crate/hints" ] || read -r hints < "crates/$crate/hints"
 
 work=$(mktemp -d)
 trap 'rm -rf "$work"' EXIT
@@ -33,86 +28,45 @@ give_up() {
   exit 1
 }
 
-calls=$(wc -l < stdout)
-parts=$(((calls + 7) / 8))
-step=32
-window=512
+if [ -z "${2-}" ]; then
+  (cd "crates/$crate" && rt run > /dev/null) || give_up "it is not proved, or not built"
+fi
+program=$(readlink -f "${2-crates/$crate/out/$crate}")
+cc -O2 -fPIC -shared -o "$work/refusing.so" scripts/refuse/refusing.c || give_up "a C compiler (cc) must be on the PATH"
 
-# Runs of each part, one for each line `part last` of a file: with none of its allocations refused, and with each one up to the
-# last, or one in so many. Writes a line for each run: its part, the allocation, and how often each word came.
-sweep() {
-  local by=$1 lasts=$2 part last k
-  rm -rf "$work/cases"
-  mkdir "$work/cases"
-  while read -r part last; do
-    for ((k = 0; k <= last; k += by)); do
-      echo "$((part * 10000 + window - k))" > "$work/cases/$part-$k"
-    done
-  done < "$lasts"
-  if ! rt try --fail-alloc "$window" --cases "$work/cases" > "$work/output" 2> "$work/said"; then
-    tail -n 20 "$work/said"
-    give_up "rt try failed"
-  fi
-  awk '
-    /^== [0-9]+-[0-9]+$/ { run = $2; runs[run] = 1; next }
-    /: refused$/ { refused[run]++; next }
-    /: done$/ { done[run]++; next }
-    { wrong[run]++ }
-    END { for (run in runs) { split(run, at, "-"); print at[1], at[2], done[run] + 0, refused[run] + 0, wrong[run] + 0 } }
-  ' "$work/output" | sort -n -k 1,1 -k 2,2 > "$work/runs"
+# Runs the program with one allocation refused, or with none by 0. What it says goes to a file of that number.
+mkdir "$work/runs"
+refuse() {
+  REFUSED=$1 LD_PRELOAD=$work/refusing.so ALLOCATIONS=$work/allocations "$program" > "$work/runs/$1"
 }
 
-# Prints what the calls of a run said.
-show() {
-  awk -v run="$1" '/^== /{ on = $2 == run } on' "$work/output"
-}
-
-# How many allocations a part makes, rounded up to what a step shows. Writes a line `part last` for each.
-for ((;; window *= 2)); do
-  for ((part = 1; part <= parts; part++)); do echo "$part $window"; done > "$work/all"
-  sweep "$step" "$work/all"
-  found=$(awk '$2 == 0 && $4 + $5 == 0 { found += $3 } END { print found + 0 }' "$work/runs")
-  if [ "$found" != "$calls" ]; then
-    awk '$2 == 0' "$work/runs"
-    give_up "a call fails where no memory is refused"
-  fi
-  if awk -v window="$window" -v step="$step" '
-    $2 == 0 { calls[$1] = $3 }
-    $3 != calls[$1] { last[$1] = $2 }
-    END { for (part in calls) { print part, last[part] + step; if (last[part] + step >= window) over = 1 } exit over }
-  ' "$work/runs" > "$work/lasts"; then
-    break
-  fi
-  [ "$window" -lt 8192 ] || give_up "memory is refused in more than $window runs"
+refuse 0 || give_up "a call fails where no memory is refused"
+diff "crates/$crate/stdout" "$work/runs/0" || give_up "a call is not done where no memory is refused"
+read -r allocations < "$work/allocations"
+for ((k = 1; k <= allocations; k++)); do
+  refuse "$k" || echo "the program ended with status $?: wrong" >> "$work/runs/$k"
 done
-sweep 1 "$work/lasts"
 
-hints=0
-[ ! -e hints ] || read -r hints < hints
-
-# The runs of a part behind its last refusal are all alike, and are run 0 again.
-awk -v hints="$hints" '
-  $2 == 0 { calls[$1] = $3; parts++ }
-  { runs[$1, $2] = $0 }
-  $4 > 0 || $5 > 0 { last[$1] = $2 }
+(cd "$work/runs" && awk -v calls="$calls" -v allocations="$allocations" -v hints="$hints" '
+  /: done$/ { done[FILENAME]++; next }
+  /: refused$/ { refused[FILENAME]++; next }
+  { wrong[FILENAME]++ }
   END {
-    for (part = 1; part <= parts; part++) {
-      for (k = 0; k <= last[part] + 0; k++) {
-        split(runs[part, k], at, " ")
-        if (at[5] == 0 && at[4] == (k > 0) && at[3] + at[4] == calls[part]) passed++
-        else if (k > 0 && at[3] == calls[part]) { again++; told = told " " part "-" k }
-        else { failed++; print "run " part "-" k ": " at[3] " done, " at[4] " refused, " at[5] " wrong, of " calls[part] " calls" }
-      }
-      refused += last[part]
+    passed = 1
+    if (allocations == 0) { failed++; print "no allocation was refused" }
+    for (k = 1; k <= allocations; k++) {
+      if (wrong[k] == 0 && refused[k] == 1 && done[k] + 1 == calls) passed++
+      else if (done[k] == calls && wrong[k] + refused[k] == 0) { again++; told = told " " k }
+      else { failed++; print "run " k ": " done[k] + 0 " done, " refused[k] + 0 " refused, " wrong[k] + 0 " wrong, of " calls " calls" }
     }
-    if (refused == 0) { failed++; print "no allocation was refused" }
     if (again + 0 == hints) passed += again
     else { failed++; print again + 0 " allocations were refused and all calls done, and not " hints ":" told }
     print passed + 0 " passed, " failed + 0 " failed"
   }
-' "$work/runs" > "$work/verdict"
-sed -n 's/^run \([0-9-]*\):.*/\1/p' "$work/verdict" | head -n 3 | while read -r run; do
-  show "$run"
+' * > "$work/verdict")
+sed -n 's/^run \([0-9]*\):.*/\1/p' "$work/verdict" | head -n 3 | while read -r run; do
+  echo "== allocation $run"
+  grep -v ': done$' "$work/runs/$run" || true
 done
 echo "refuse-memory: $crate: each allocation refused in turn"
 cat "$work/verdict"

@@ -1,6 +1,6 @@
 #!/usr/bin/env bash
-# All tests: where a text is read and which public calls are tested (two looks at the sources), each proof, edit that must fail, test and program (`rt ci`),
-# beside it the calls of each crate *_memory with each of their allocations refused in turn, then the encodings of
+# All tests: where a text is read and which public calls are tested (two looks at the sources), each proof, edit that must fail, test and program (`rt ci`,
+# in two parts side by side), each allocation of the calls of the crates *_memory refused in turn, then the encodings of
 # another implementation, where it is installed, the examples, the help, the lines of faults, devices that fail, inputs
 # past the limits, random inputs, the launcher, the deepest nesting under small stacks, and calls from other languages. The last line is
 # 'N passed, M failed'. Where nothing failed, the program that was proved is left to ./cbor-edn. `docs/CONTRIBUTING.md`
@@ -39,7 +39,7 @@ stamp() {
 # Runs a command whose last line is 'N passed, M failed', and adds both. A command that fails in silence counts as one.
 add() {
   local status=0
-  "$@" 2>&1 | stamp | tee "$log" || status=$?
+  "$@" 2>&1 | tee "$log" || status=$?
   printf '%4d min  end of %s\n' $((SECONDS / 60)) "$*" >> "$times"
   if [[ $(tail -n 1 "$log") =~ ^([0-9]+)\ passed,\ ([0-9]+)\ failed$ ]]; then
     passed=$((passed + BASH_REMATCH[1]))
@@ -50,34 +50,9 @@ add() {
   fi
 }
 
-# Runs refuse-memory.sh for each crate *_memory of the tree. Each one's output goes to a file of its name beside the tree.
-refuse_memory() {
-  local tree=$1 crate
-  for crate in "$tree"/crates/*_memory; do
-    nice -n 19 "$tree/scripts/refuse-memory.sh" "$(basename "$crate")" > "$tree/../$(basename "$crate")" 2>&1 &
-  done
-  wait
-}
-
-# Whether `rt ci` takes what an earlier one proved. The kits that keep that let `rt ci` name crates too, and say both in their help or on
-# the page to read first; others prove all from nothing each time.
-keeps_proofs() {
-  { rt help || true; cat "$(rt doc)"; } 2>&1 | grep -Ei 'rt ci \[?NAME|checksum' > /dev/null
-}
-
-# Proves crates, the lowest first, in a tree that lists no others: so `rt ci` gives each proof all processors that it may have. The
-# whole `rt ci` then takes these proofs, which it knows by what they read, and proves what is not there by itself.
-prove_ahead() {
-  local tree=$1 crate
-  shift
-  mkdir -p "$tree/crates"
-  cp HANDLES "$tree"
-  for crate in "$@"; do
-    grep "^$crate:" crates.txt >> "$tree/crates.txt"
-    mkdir "$tree/crates/$crate"
-    cp -r "crates/$crate/"{src,specs,proofs} "$tree/crates/$crate"
-  done
-  (cd "$tree" && rt ci) 2>&1 | stamp > "$tree.log" || true
+# Proves the crates of a tree, by a command that may stand in front.
+prove() {
+  (cd "$1" && "${@:2}" rt ci) 2>&1 | stamp
 }
 
 # Leaves the program to ./cbor-edn as its own build does: a source that has changed since this run began is newer.
@@ -99,26 +74,23 @@ say_minutes() {
   }' "$log"
 }
 
-program=crates/cbor_edn_tool/out/cbor_edn_tool
-gives_way=()
 add scripts/check-reads.sh
 add scripts/check-surface.sh
-# Refused memory needs builds, and no proof: in a tree of its own it takes the time that proofs leave.
-mkdir "$beside/tree"
-tar -c --exclude=out --exclude=.git . | tar -x -C "$beside/tree"
-refuse_memory "$beside/tree" &
-if keeps_proofs; then
-  # Nearly all waits for the crate of trees, whose proof is by far the longest.
-  prove_ahead "$beside/ahead" cbor_edn_parts cbor_edn_model cbor_edn_core &
-  # it begins with a proof that `rt ci` would begin with too
-  sleep 10
-  gives_way=(nice -n 10)
-fi
-# One check for each processor: by itself, rt holds checks back for memory that they do not need.
-RT_JOBS=$(nproc) add "${gives_way[@]}" rt ci
+scripts/part-crates.py "$beside"
+trees=$beside/trees
+# What does not use the crate of trees takes half of the processors, each check one of them, and gives way. It begins once the other
+# run has seen how much memory there is.
+{
+  sleep 30
+  RT_JOBS=$((($(nproc) + 1) / 2)) prove "$beside/below" nice -n 10
+} > "$beside/below.said" 2>&1 &
+add prove "$trees"
 wait
+add cat "$beside/below.said"
+program=$trees/crates/cbor_edn_tool/out/cbor_edn_tool
 for crate in crates/*_memory; do
-  add cat "$beside/$(basename "$crate")"
+  crate=$(basename "$crate")
+  add scripts/refuse-memory.sh "$crate" "$trees/crates/$crate/out/$crate"
 done
 add scripts/check-outside.sh "$program"
 add scripts/check-examples.sh "$program"
@@ -128,8 +100,8 @@ add scripts/check-devices.sh "$program"
 add scripts/check-limits.sh "$program"
 add scripts/fuzz.sh 8949 30000 "$program"
 add scripts/check-launcher.sh "$program"
-add scripts/check-stack.sh "$program" crates/cbor_edn_{text,tree}_tests/out/*_tests_tests
-add scripts/check-bindings.sh --after-ci
+add scripts/check-stack.sh "$program" "$trees"/crates/cbor_edn_{text,tree}_tests/out/*_tests_tests
+add "$trees/scripts/check-bindings.sh" --after-ci
 cat "$times"
 say_minutes
 [ "$failed" != 0 ] || leave_program "$program"

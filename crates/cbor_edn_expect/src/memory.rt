@@ -3,8 +3,6 @@ ghost use Rattle.std.specs.Prelude.{◌≡◌};
 
 use cbor_edn_parts::error::{CallbackError, Fault};
 use std::alloc::{AllocError, AllocFailed, Global};
-use std::io;
-use std::io::Read;
 
 /// Why a call is not done: memory was refused, and it left what it must, or it answered otherwise than it must.
 #[derive(Clone, Copy, Debug, PartialEq, Eq)]
@@ -82,25 +80,4 @@ pub fn is_one_of(texts: &[&'static str], text: &str) -> bool {
         }
     }
     is_found
-}
-
-/// The number that the input begins with, in decimal digits. Fails where the input cannot be read.
-pub fn number(reader: &mut impl Read) -> io::Result<u32> {
-    let mut bytes = [0u8; 8];
-    let n = reader.read(&mut bytes)?;
-    Ok(
-        bytes[..n]
-            .iter()
-            .take_while(|b| b.is_ascii_digit())
-            .fold(0u32, |sum, b| {
-                sum.wrapping_mul(10).wrapping_add(u32::from(*b & 15))
-            }),
-    )
-}
-
-/// Makes so many allocations. The one that is refused may be among them.
-pub fn spend(alloc: Global, allocations: u32) {
-    for _ in 0..allocations {
-        let _ = Vec::<u8>::with_capacity(alloc, 1);
-    }
 }
