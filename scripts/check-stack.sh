@@ -6,9 +6,9 @@
 #
 # Without PROGRAM it is the working tree's. TESTS are programs of tests, as of trees that are copied and compared: all
 # tests of each must pass. Each input is of one kind of nesting. Of a text at the limit, diag2cbor must
-# write the bytes that stand here, diag2diag --preserve-space the text itself, and the other ways of diag2diag what they
-# write under the largest stack there is. Of the bytes cbor2diag must write what it writes there, which diag2cbor must read back.
-# What nests one level deeper must be refused. The last line is 'N passed, M failed'.
+# write the bytes that stand here, with all flags that visit too, diag2diag --preserve-space the text itself, and the other ways
+# of diag2diag what they write under the largest stack there is. Of the bytes cbor2diag must write what it writes there, by its
+# flags too, and diag2cbor must read that back. What nests one level deeper must be refused. The last line is 'N passed, M failed'.
 set -euo pipefail
 
 cd "$(dirname "$(readlink -f "$0")")/.."
@@ -89,7 +89,7 @@ check_text() {
   nested "$LIMIT" "$open" "$inside" "$close" > "$work/text"
   nested $((LIMIT + 1)) "$open" "$inside" "$close" > "$work/deeper"
   expect "$name" "$work/text" "$work/text" diag2diag --preserve-space
-  for words in '' --remove-comments; do
+  for words in '' --remove-comments '--annotate-tags --apply-999 --aol-to-item --annotate ccs'; do
     # shellcheck disable=SC2086
     under "$LARGE" diag2diag $words < "$work/text" > "$work/wanted"
     # shellcheck disable=SC2086
@@ -98,16 +98,21 @@ check_text() {
   expect_refusal "$name" "$work/deeper" "$fault" diag2diag
   if [ -n "$bytes" ]; then
     expect "$name" "$work/text" "$bytes" diag2cbor
+    expect "$name" "$work/text" "$bytes" diag2cbor --annotate-tags --apply-999
     expect_refusal "$name" "$work/deeper" "$fault" diag2cbor
   fi
 }
 
 # The ways of bytes.
 check_bytes() {
-  local name=$1 bytes=$2
-  under "$LARGE" cbor2diag < "$bytes" > "$work/wanted"
-  expect "$name" "$bytes" "$work/wanted" cbor2diag
-  expect "$name" "$work/wanted" "$bytes" diag2cbor
+  local name=$1 bytes=$2 words
+  for words in '' '--aol-to-item --annotate ccs'; do
+    # shellcheck disable=SC2086
+    under "$LARGE" cbor2diag $words < "$bytes" > "$work/wanted"
+    # shellcheck disable=SC2086
+    expect "$name" "$bytes" "$work/wanted" cbor2diag $words
+    expect "$name" "$work/wanted" "$bytes" diag2cbor
+  done
 }
 
 # A kind of nesting: openings, inside and closings as text, and as bytes.
@@ -128,6 +133,13 @@ check 'keys of maps' '{' 1 ': 2}' '\xa1' '\x01' '\x02'
 check 'values of open maps' '{_ 2: ' 1 '}' '\xbf\x02' '\x01' '\xff'
 check 'keys of open maps' '{_ ' 1 ': 2}' '\xbf' '\x01' '\x02\xff'
 check tags '6(' 1 ')' '\xc6' '\x01' ''
+# Where tags are annotated the innermost of the first two is written as a literal, and each of the others gets a comment.
+check 'tags of times' '1(' 1 ')' '\xc1' '\x01' ''
+check 'tags of addresses' '52(' "h'c0000201'" ')' '\xd8\x34' '\x44\xc0\x00\x02\x01' ''
+check 'tags of languages' '38(' 1 ')' '\xd8\x26' '\x01' ''
+# The innermost becomes a number.
+nested "$LIMIT" '\xc2' '\x49\x01\x00\x00\x00\x00\x00\x00\x00\x00' '' > "$work/bytes"
+check_bytes 'tags of bignums' "$work/bytes"
 
 # What `simple(..)` may nest has no bytes.
 check_text simple '' 'simple(' 1 ')'

@@ -100,8 +100,8 @@ add scripts/check-devices.sh "$program"
 add scripts/check-limits.sh "$program"
 add scripts/fuzz.sh 8949 30000 "$program"
 add scripts/check-launcher.sh "$program"
-add scripts/check-stack.sh "$program" "$trees"/crates/cbor_edn_{text,tree}_tests/out/*_tests_tests
-add "$trees/scripts/check-bindings.sh" --after-ci
+add scripts/check-stack.sh "$program" crates/cbor_edn_{text,tree,loan}_tests/out/*_tests_tests
+add scripts/check-bindings.sh --after-ci
 cat "$times"
 say_minutes
 [ "$failed" != 0 ] || leave_program "$program"

@@ -4,6 +4,8 @@
 #[cfg(test)]
 mod common;
 #[cfg(test)]
+mod deepest;
+#[cfg(test)]
 mod lent_items;
 #[cfg(test)]
 mod paths;

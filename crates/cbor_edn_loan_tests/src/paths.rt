@@ -223,6 +223,15 @@ const LITERALS: &[(&str, &str)] = &[
         "h'00' + h'01'",
         "Expected single application-oriented literal",
     ),
+    (
+        "'a' + ip'x'",
+        "Expected single application-oriented literal",
+    ),
+    (
+        "ip'x' + 'a'",
+        "Expected single application-oriented literal",
+    ),
+    ("(_ ip'x')", "Expected application-oriented literal"),
 ];
 
 #[test]

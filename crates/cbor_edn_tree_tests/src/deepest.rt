@@ -12,31 +12,55 @@ use cbor_edn_parts::policy::DelimiterPolicy;
 use std::alloc::Global;
 use std::test::Fail;
 
-/// Forms that nest round a literal: openings, closings, closings where tags have comments, how many elements or keys the
-/// outermost one has, and whether visits enter it and it has an encoding.
-const FORMS: &[(&str, &str, &str, usize, bool)] = &[
-    ("[", "]", "]", 1, true),
-    ("[2,", ",3]", ",3]", 3, true),
-    ("{2:", "}", "}", 1, true),
-    ("{", ":2}", ":2}", 1, true),
-    ("{4:", ",5:6}", ",5:6}", 2, true),
-    ("{", ":2,3:4}", ":2,3:4}", 2, true),
-    ("6(", ")", ")/ c /", 0, true),
-    ("simple(", ")", ")", 0, false),
-    ("<<", ">>", ">>", 0, true),
-    ("'a'+<<", ">>+'b'", ">>+'b'", 0, true),
-    ("(_ <<", ">>)", ">>)", 0, true),
-    ("(_ 'a','b'+<<", ">>,'c')", ">>,'c')", 0, true),
-    ("(_ 'a','b'+<<2,", ",3>>+'d','c')", ",3>>+'d','c')", 0, true),
+/// Forms that nest round a literal: how many levels openings have, openings, closings, closings where tags have comments,
+/// how many elements or keys the outermost one has, and whether visits enter it and it has an encoding.
+const FORMS: &[(usize, &str, &str, &str, usize, bool)] = &[
+    (1, "[", "]", "]", 1, true),
+    (1, "[2,", ",3]", ",3]", 3, true),
+    (1, "{2:", "}", "}", 1, true),
+    (1, "{", ":2}", ":2}", 1, true),
+    (1, "{4:", ",5:6}", ",5:6}", 2, true),
+    (1, "{", ":2,3:4}", ":2,3:4}", 2, true),
+    (1, "6(", ")", ")/ c /", 0, true),
+    (1, "simple(", ")", ")", 0, false),
+    (1, "<<", ">>", ">>", 0, true),
+    (1, "'a'+<<", ">>+'b'", ">>+'b'", 0, true),
+    (1, "(_ <<", ">>)", ">>)", 0, true),
+    (1, "(_ 'a','b'+<<", ">>,'c')", ">>,'c')", 0, true),
+    (
+        1,
+        "(_ 'a','b'+<<2,",
+        ",3>>+'d','c')",
+        ",3>>+'d','c')",
+        0,
+        true,
+    ),
+    (4, "[{2:6(<<", ">>)}]", ">>)/ c /}]", 1, true),
+    (
+        4,
+        "{6([(_ 'a'+<<",
+        ",3>>,'c')]):2}",
+        ",3>>,'c')])/ c /:2}",
+        1,
+        true,
+    ),
 ];
 
 const INSIDE: &str = "h'00'";
 
 const COMMENTED: &str = "h'00'/ c /";
 
-fn nested(alloc: Global, open: &str, inside: &str, close: &str) -> Result<String, Fail> {
-    let open = open.repeat(alloc, NESTING_LIMIT)?;
-    let close = close.repeat(alloc, NESTING_LIMIT)?;
+/// As many levels as texts may have.
+fn nested(
+    alloc: Global,
+    levels: usize,
+    open: &str,
+    inside: &str,
+    close: &str,
+) -> Result<String, Fail> {
+    let turns = NESTING_LIMIT.checked_div(levels).ok_or("no level")?;
+    let open = open.repeat(alloc, turns)?;
+    let close = close.repeat(alloc, turns)?;
     Ok(format!(in alloc; "{open}{inside}{close}")?)
 }
 
@@ -54,8 +78,8 @@ fn has_encoding(alloc: Global, text: &str) -> Result<bool, Fail> {
 #[test]
 fn the_deepest_are_copied_and_encoded(rt: HostRuntime) -> Result<(), Fail> {
     let alloc = rt.alloc();
-    for &(open, close, _, _, is_encoded) in FORMS {
-        let deepest = nested(alloc, open, INSIDE, close)?;
+    for &(levels, open, close, _, _, is_encoded) in FORMS {
+        let deepest = nested(alloc, levels, open, INSIDE, close)?;
         expect(open, is_own_copy(alloc, deepest.as_str())?)?;
         expect(open, has_encoding(alloc, deepest.as_str())? == is_encoded)?;
     }
@@ -69,8 +93,8 @@ fn bare(alloc: Global, text: &str) -> Result<String, Fail> {
 
 /// Each of the deepest keeps its items under the policies.
 fn all_laid_out(alloc: Global, policies: &[DelimiterPolicy]) -> Result<(), Fail> {
-    for &(open, close, _, _, _) in FORMS {
-        let deepest = nested(alloc, open, INSIDE, close)?;
+    for &(levels, open, close, _, _, _) in FORMS {
+        let deepest = nested(alloc, levels, open, INSIDE, close)?;
         let items = bare(alloc, deepest.as_str())?;
         for &policy in policies {
             let laid_out = edited_sequence(alloc, deepest.as_str(), Edit::LaidOut(policy))?;
@@ -107,11 +131,11 @@ fn the_deepest_are_indented(rt: HostRuntime) -> Result<(), Fail> {
 #[test]
 fn the_deepest_lose_their_indicators(rt: HostRuntime) -> Result<(), Fail> {
     let alloc = rt.alloc();
-    for &(open, close, _, _, _) in FORMS {
-        let deepest = nested(alloc, open, "1_0", close)?;
+    for &(levels, open, close, _, _, _) in FORMS {
+        let deepest = nested(alloc, levels, open, "1_0", close)?;
         let told = edited_sequence(alloc, deepest.as_str(), Edit::Bare)?;
         let inside = if open.contains("<<") { "1_0" } else { "1" };
-        expect(open, told == nested(alloc, open, inside, close)?)?;
+        expect(open, told == nested(alloc, levels, open, inside, close)?)?;
     }
     Ok(())
 }
@@ -183,13 +207,16 @@ fn entries(alloc: Global, text: &str) -> Result<usize, Fail> {
 #[test]
 fn visits_enter_the_deepest(rt: HostRuntime) -> Result<(), Fail> {
     let alloc = rt.alloc();
-    for &(open, close, commented, count, is_entered) in FORMS {
-        let deepest = nested(alloc, open, INSIDE, close)?;
+    for &(levels, open, close, commented, count, is_entered) in FORMS {
+        let deepest = nested(alloc, levels, open, INSIDE, close)?;
         let told = tags_commented(alloc, deepest.as_str())?;
-        expect(open, told == nested(alloc, open, INSIDE, commented)?)?;
+        expect(
+            open,
+            told == nested(alloc, levels, open, INSIDE, commented)?,
+        )?;
         let inside = if is_entered { COMMENTED } else { INSIDE };
         let told = literals_commented(alloc, deepest.as_str())?;
-        expect(open, told == nested(alloc, open, inside, close)?)?;
+        expect(open, told == nested(alloc, levels, open, inside, close)?)?;
         expect(open, entries(alloc, deepest.as_str())? == count)?;
     }
     Ok(())

@@ -1,0 +1,108 @@
+//! Paths and visits where trees nest as deep as texts may. `scripts/check-stack.sh` runs them under a small stack.
+use crate::common::standalone_of;
+use cbor_edn_core::tree::{NESTING_LIMIT, StandaloneItem};
+use cbor_edn_expect::expect;
+use cbor_edn_parts::error::CallbackError;
+use std::alloc::Global;
+use std::test::Fail;
+
+/// Forms that nest round a literal: openings, closings, closings where tags have comments, and a path through the openings.
+const FORMS: &[(&str, &str, &str, &[usize])] = &[
+    ("[", "]", "]", &[0]),
+    ("[2,", ",3]", ",3]", &[1]),
+    ("{", ":2}", ":2}", &[0]),
+    ("{2:3,4:", ",5:6}", ",5:6}", &[3]),
+    ("6(", ")", ")/ c /", &[0]),
+    ("<<", ">>", ">>", &[0]),
+    ("'a'+<<2,", ",3>>+<<4>>", ",3>>+<<4>>", &[1]),
+    ("(_ <<2>>,'b'+<<3,", ">>,'c')", ">>,'c')", &[2]),
+    ("[{2:6(<<", ">>)}]", ">>)/ c /}]", &[0, 1, 0, 0]),
+    (
+        "{6([(_ <<2>>+<<",
+        ",3>>,'c')]):4}",
+        ",3>>,'c')])/ c /:4}",
+        &[0, 0, 0, 1],
+    ),
+];
+
+const INSIDE: &str = "h'00'";
+
+const COMMENTED: &str = "h'00'/ c /";
+
+/// How often openings of so many levels stand in one another.
+fn turns(levels: usize) -> Result<usize, Fail> {
+    Ok(NESTING_LIMIT.checked_div(levels).ok_or("no level")?)
+}
+
+fn nested(
+    alloc: Global,
+    turns: usize,
+    open: &str,
+    inside: &str,
+    close: &str,
+) -> Result<String, Fail> {
+    let open = open.repeat(alloc, turns)?;
+    let close = close.repeat(alloc, turns)?;
+    Ok(format!(in alloc; "{open}{inside}{close}")?)
+}
+
+// Under `rt try`, which compiles with checks, these tests ask for more stack than is common: `ulimit -s hard` gives it.
+
+fn text_at(alloc: Global, text: &str, path: &[usize]) -> Result<String, Fail> {
+    let mut item = standalone_of(alloc, text)?;
+    let inner = item.at_mut(path).ok_or("no item")?;
+    Ok(inner.serialize(alloc)?)
+}
+
+#[test]
+fn paths_lead_to_the_deepest(rt: HostRuntime) -> Result<(), Fail> {
+    let alloc = rt.alloc();
+    for &(open, close, _, steps) in FORMS {
+        let turns = turns(steps.len())?;
+        let deepest = nested(alloc, turns, open, INSIDE, close)?;
+        let path = steps.repeat(alloc, turns)?;
+        let told = text_at(alloc, deepest.as_str(), path.as_slice())?;
+        expect(open, told.as_str() == INSIDE)?;
+    }
+    Ok(())
+}
+
+fn comment(alloc: Global) -> Result<(), CallbackError> {
+    Err(CallbackError::Comment(String::from_str(alloc, "c")?))
+}
+
+/// Answers each tag by a comment.
+fn comment_tags(item: &mut StandaloneItem<'_>, alloc: Global) -> Result<String, Fail> {
+    item.visit_tag(alloc, &mut |_, _| comment(alloc))?;
+    Ok(item.serialize(alloc)?)
+}
+
+/// Answers each literal by a comment.
+fn comment_literals(item: &mut StandaloneItem<'_>, alloc: Global) -> Result<String, Fail> {
+    item.visit_application_literals(alloc, &mut |_, _, _| comment(alloc))?;
+    Ok(item.serialize(alloc)?)
+}
+
+fn tags_commented(alloc: Global, text: &str) -> Result<String, Fail> {
+    let mut item = standalone_of(alloc, text)?;
+    comment_tags(&mut item, alloc)
+}
+
+fn literals_commented(alloc: Global, text: &str) -> Result<String, Fail> {
+    let mut item = standalone_of(alloc, text)?;
+    comment_literals(&mut item, alloc)
+}
+
+#[test]
+fn visits_enter_the_deepest(rt: HostRuntime) -> Result<(), Fail> {
+    let alloc = rt.alloc();
+    for &(open, close, commented, steps) in FORMS {
+        let turns = turns(steps.len())?;
+        let deepest = nested(alloc, turns, open, INSIDE, close)?;
+        let told = tags_commented(alloc, deepest.as_str())?;
+        expect(open, told == nested(alloc, turns, open, INSIDE, commented)?)?;
+        let told = literals_commented(alloc, deepest.as_str())?;
+        expect(open, told == nested(alloc, turns, open, COMMENTED, close)?)?;
+    }
+    Ok(())
+}
