@@ -114,11 +114,14 @@ echo "old: ${names[0]}"
 echo "new: ${names[1]}"
 echo "command: $command"
 
-python3 - "$work" "$runs" "$scale" "$command" "$beside" << 'EOF_PYTHON'
+python3 -B - "$work" "$runs" "$scale" "$command" "$beside" "$root/scripts" << 'EOF_PYTHON'
 import ctypes
 import os
 import signal
 import sys
+
+sys.path.insert(0, sys.argv[6])
+from inputs import FLAT, sequence
 
 MB = 1_000_000
 SIDES = ("old", "new")
@@ -134,48 +137,13 @@ BESIDE = {
 JSON = ("integers", "texts", "one text")
 
 
-def fill(begin, units, between, end):
-    """Answers what makes a text of about some size: the units, again and again, joined and enclosed."""
-
-    def text(size):
-        row = between.join(units)
-        count = round(size / len((row + between).encode()))
-        return (begin + between.join([row] * count) + end).encode()
-
-    return text
-
-
-def array(*units):
-    return fill("[", units, ", ", "]")
-
-
-def sequence(*units):
-    return fill("", units, " ", "")
-
-
 # as many arrays in one another as are read: laid out on lines of their own they are written as about 1 MB
 DEEP = 512
-WORDS = "true false null undefined simple(0) simple(255) Infinity -Infinity NaN NaN_3".split()
 KINDS = {
-    "integers": array(*(str(digit) * digit for digit in range(1, 10))),
-    "ones": sequence("1"),
-    "maps": array("{1: 2, 3: 4}", "{1234: 56789, 6: -7}"),
-    "texts": array('"a"', '"words of a text"', '"é and \\u00e9, \\"quoted\\"\\n"'),
-    "one text": fill('"', ["words of a text, é and \\u00e9, "], "", '"'),
-    "byte strings": array("h'00'", "h'0123456789abcdef'", "h'FEDC BA98'"),
-    "one byte string": fill("h'", ["0123456789abcdef"], "", "'"),
-    "concatenations": array("'a' + 'b'"),
-    "one concatenation": fill("", ["'a'", "h'62'"], " + ", ""),
-    "streams": array("(_ 'a', 'b')"),
-    "one stream": fill("(_ ", ["'a'", "'b'"], ", ", ")"),
-    "tags": array("1(2)"),
-    "embedded": array("<<1, 2>>"),
-    "comments": sequence("/ words of a comment /   1 # to the end of the line\n", "2 /c/\t"),
-    "one space": fill("1 ", ["/ words of a comment /", "# a line\n"], " ", ""),
+    **FLAT,
     "maps, 512 deep": sequence("{1: " * DEEP + "2" + "}" * DEEP),
     "arrays, 512 deep": sequence("[" * DEEP + "]" * DEEP),
     "embedded, 512 deep": sequence("<<" * DEEP + ">>" * DEEP),
-    "words": array(*WORDS),
 }
 
 

@@ -11,12 +11,12 @@ set -euo pipefail
 cd "$(dirname "$(readlink -f "$0")")/.."
 # shellcheck source=scripts/program.sh
 . scripts/program.sh "${1-}"
+# shellcheck source=scripts/count.sh
+. scripts/count.sh
 
 work=$(mktemp -d)
 trap 'rm -rf "$work"' EXIT
 cd "$work"
-passed=0
-failed=0
 words=()
 # times what is repeated is more than a pipe holds
 LARGE=30000
@@ -26,15 +26,8 @@ run() {
   "$program" "${words[@]}" "$@"
 }
 
-count() {
-  local name=$1
-  shift
-  if "$@"; then
-    passed=$((passed + 1))
-  else
-    failed=$((failed + 1))
-    echo "check-devices: ${words[*]}: $name: status $status, output $(head -c 100 output | od -An -c | tr -s ' \n' ' '), it said: $(head -c 300 said)"
-  fi
+details() {
+  echo " (${words[*]}): status $status, output $(head -c 100 output | od -An -c | tr -s ' \n' ' '), it said: $(head -c 300 said)"
 }
 
 # A row: its status, what is on standard output and what is on standard error, and what bash runs for it.
@@ -204,5 +197,4 @@ done
 row 2 '' '' 'run --none 2> /dev/full'
 row 2 '' 'cbor-edn: Error reading the command line: it is not UTF-8' "run diag2diag \$'\\xff'"
 
-echo "$passed passed, $failed failed"
-[ "$failed" = 0 ]
+end

@@ -9,19 +9,17 @@ set -euo pipefail
 cd "$(dirname "$(readlink -f "$0")")/.."
 # shellcheck source=scripts/program.sh
 . scripts/program.sh "${1-}"
+# shellcheck source=scripts/count.sh
+. scripts/count.sh
 
-passed=0
-failed=0
+writes_its_output() {
+  local words
+  read -ra words < "$1/command" && "$program" "${words[@]}" < "$1/input" | diff "$1/output" - > /dev/null
+}
+
 for example in examples/*/; do
-  read -ra words < "$example/command"
-  if "$program" "${words[@]}" < "$example/input" | diff "$example/output" - > /dev/null; then
-    passed=$((passed + 1))
-  else
-    echo "check-examples: $example differs"
-    failed=$((failed + 1))
-  fi
+  count "$example differs" writes_its_output "$example"
 done
 # an empty folder is no success
 [ "$passed" != 0 ] || failed=$((failed + 1))
-echo "$passed passed, $failed failed"
-[ "$failed" = 0 ]
+end

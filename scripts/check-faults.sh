@@ -10,24 +10,28 @@ set -euo pipefail
 cd "$(dirname "$(readlink -f "$0")")/.."
 # shellcheck source=scripts/program.sh
 . scripts/program.sh "${1-}"
+# shellcheck source=scripts/count.sh
+. scripts/count.sh
 
 work=$(mktemp -d)
 trap 'rm -rf "$work"' EXIT
-passed=0
-failed=0
 
 # Runs the words on an input, and counts whether status, output and what is said are these. `\` has its meaning in all but the words.
 expect() {
-  local words=$1 input=$2 wanted_status=$3 output=$4 said=$5 status=0
+  local words=$1 input=$2 wanted_status=$3 output=$4 said=$5
+  status=0
   # shellcheck disable=SC2086
   printf '%b' "$input" | "$program" $words > "$work/output" 2> "$work/said" || status=$?
-  if [ "$status" = "$wanted_status" ] && printf '%b' "$output" | cmp -s - "$work/output" && printf '%b' "$said" | cmp -s - "$work/said"; then
-    passed=$((passed + 1))
-  else
-    failed=$((failed + 1))
-    echo "check-faults: $words of '$input': status $status, it wrote and said:"
-    cat -v "$work/output" "$work/said"
-  fi
+  count "$words of '$input'" ended "$wanted_status" "$output" "$said"
+}
+
+ended() {
+  [ "$status" = "$1" ] && printf '%b' "$2" | cmp -s - "$work/output" && printf '%b' "$3" | cmp -s - "$work/said"
+}
+
+details() {
+  echo ": status $status, it wrote and said:"
+  cat -v "$work/output" "$work/said"
 }
 
 # Rows of an input and words, for a command: the run is at fault and says so in one line.
@@ -228,5 +232,4 @@ for name in $'\e[31m' $'\r' $'\u202e'; do
   done
 done
 
-echo "$passed passed, $failed failed"
-[ "$failed" = 0 ]
+end

@@ -10,28 +10,17 @@ set -euo pipefail
 cd "$(dirname "$(readlink -f "$0")")/.."
 # shellcheck source=scripts/program.sh
 . scripts/program.sh "${1-}"
+# shellcheck source=scripts/count.sh
+. scripts/count.sh
 LINES_OF_SCREEN=24
 COLUMNS_OF_SCREEN=80
 
 work=$(mktemp -d)
 trap 'rm -rf "$work"' EXIT
-passed=0
-failed=0
 
 # The program by the name that users call it by, which its help shows.
 cbor-edn() {
   (exec -a cbor-edn "$program" "$@")
-}
-
-count() {
-  local name=$1
-  shift
-  if "$@"; then
-    passed=$((passed + 1))
-  else
-    failed=$((failed + 1))
-    echo "check-help: $name"
-  fi
 }
 
 # Runs the program, with what it says in files.
@@ -130,5 +119,4 @@ diag2diag --max-nesting 99999999999999999999
 diag2diag --max-nesting 1e2
 END
 
-echo "$passed passed, $failed failed"
-[ "$failed" = 0 ]
+end

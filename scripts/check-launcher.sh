@@ -10,12 +10,12 @@ set -euo pipefail
 
 cd "$(dirname "$(readlink -f "$0")")/.."
 program=$(readlink -f "$1")
+# shellcheck source=scripts/count.sh
+. scripts/count.sh
 work=$(mktemp -d)
 trap 'rm -rf "$work"' EXIT
 tree="$work/the tree"
 reply=$work/reply
-passed=0
-failed=0
 mkdir "$tree" "$reply" "$work/stand-in" "$work/no-rt" "$work/elsewhere"
 tar -c --exclude=out --exclude=.git . | tar -x -C "$tree"
 
@@ -67,16 +67,9 @@ answer() {
   printf '%b' "$3" > "$reply/said"
 }
 
-count() {
-  local name=$1
-  shift
-  if "$@"; then
-    passed=$((passed + 1))
-  else
-    failed=$((failed + 1))
-    echo "check-launcher: $name: status $status; output: $(head -c 100 "$work/output" | tr '\0' ' '); it said:"
-    head -c 1000 "$work/said"
-  fi
+details() {
+  echo ": status $status; output: $(head -c 100 "$work/output" | tr '\0' ' '); it said:"
+  head -c 1000 "$work/said"
 }
 
 # The status, the output and what is said of a run of the program.
@@ -193,5 +186,4 @@ answer 0 'new' "\\n${tail_of_try//%s/0}"
 call --version < /dev/null
 count 'an old program' ended_unproved 0 new ''
 
-echo "$passed passed, $failed failed"
-[ "$failed" = 0 ]
+end

@@ -10,14 +10,16 @@ set -euo pipefail
 cd "$(dirname "$(readlink -f "$0")")/.."
 # shellcheck source=scripts/program.sh
 . scripts/program.sh "${1-}"
-exec python3 - "$program" "${2-4}" << 'EOF_PYTHON'
+exec python3 -B - "$program" "${2-4}" << 'EOF_PYTHON'
 import ctypes
 import os
-import re
 import resource
 import subprocess
 import sys
 import tempfile
+
+sys.path.insert(0, "scripts")
+from inputs import FLAT
 
 PROGRAM, SIZE = sys.argv[1], int(sys.argv[2]) * 1_000_000
 KB = 1024
@@ -195,45 +197,25 @@ def check_counts():
             count(f"{command} {' '.join(form)} of {digits[:20]}", refusal(run([command, *form], data, space), BYTES.format(words)))
 
 
-def fill(begin, units, between, end):
-    """Answers what makes a text of about some size: the units, again and again, joined and enclosed."""
-
-    def text(size):
-        row = between.join(units)
-        times = max(1, round(size / len((row + between).encode())))
-        return (begin + between.join([row] * times) + end).encode()
-
-    return text
-
-
-def array(*units):
-    return fill("[", units, ", ", "]")
-
-
-def sequence(*units):
-    return fill("", units, " ", "")
-
-
-WORDS = "true false null undefined simple(0) simple(255) Infinity -Infinity NaN NaN_3".split()
-# The kinds of text that scripts/bench.sh measures, but for those that nest, and what docs/PERFORMANCE.md says that a byte of input
-# takes of memory: in diag2cbor, in diag2diag, and of their encodings in cbor2diag.
-KINDS = {
-    "integers": (array(*(str(digit) * digit for digit in range(1, 10))), 13, 14, 27),
-    "ones": (sequence("1"), 32, 33, 66),
-    "maps": (array("{1: 2, 3: 4}", "{1234: 56789, 6: -7}"), 28, 29, 73),
-    "words": (array(*WORDS), 12, 14, 44),
-    "texts": (array('"a"', '"words of a text"', '"é and \\u00e9, \\"quoted\\"\\n"'), 10, 11, 17),
-    "one text": (fill('"', ["words of a text, é and \\u00e9, "], "", '"'), 4, 4, 5),
-    "byte strings": (array("h'00'", "h'0123456789abcdef'", "h'FEDC BA98'"), 12, 16, 34),
-    "one byte string": (fill("h'", ["0123456789abcdef"], "", "'"), 4, 4, 10),
-    "concatenations": (array("'a' + 'b'"), 24, 26, 60),
-    "one concatenation": (fill("", ["'a'", "h'62'"], " + ", ""), 16, 18, 18),
-    "streams": (array("(_ 'a', 'b')"), 24, 26, 65),
-    "one stream": (fill("(_ ", ["'a'", "'b'"], ", ", ")"), 20, 21, 55),
-    "tags": (array("1(2)"), 29, 31, 92),
-    "embedded": (array("<<1, 2>>"), 36, 38, 59),
-    "comments": (sequence("/ words of a comment /   1 # to the end of the line\n", "2 /c/\t"), 5, 9, None),
-    "one space": (fill("1 ", ["/ words of a comment /", "# a line\n"], " ", ""), 3, 5, None),
+# What docs/PERFORMANCE.md says that a byte of input takes of memory, by kind: in diag2cbor, in diag2diag, and of their encodings
+# in cbor2diag.
+STATED = {
+    "integers": (13, 14, 27),
+    "ones": (32, 33, 66),
+    "maps": (28, 29, 73),
+    "words": (12, 14, 44),
+    "texts": (10, 11, 17),
+    "one text": (4, 4, 5),
+    "byte strings": (12, 16, 34),
+    "one byte string": (4, 4, 10),
+    "concatenations": (24, 26, 60),
+    "one concatenation": (16, 18, 18),
+    "streams": (24, 26, 65),
+    "one stream": (20, 21, 55),
+    "tags": (29, 31, 92),
+    "embedded": (36, 38, 59),
+    "comments": (5, 9, None),
+    "one space": (3, 5, None),
 }
 # A vector that has doubled may be half empty, so a little more input may take a half more memory; and the program itself takes some.
 ROOM = 1.6
@@ -258,11 +240,11 @@ def check_memory(work):
         sys.exit("check-limits: prctl refuses")
     text_file, bytes_file = f"{work}/text", f"{work}/bytes"
     print(f"{'peak memory':18}" + "".join(f"{command + ', MB':>16}{'per byte':>10}" for command in ("diag2cbor", "diag2diag", "cbor2diag")))
-    for kind, (text, *stated) in KINDS.items():
+    for kind, text in FLAT.items():
         with open(text_file, "wb") as file:
             file.write(text(SIZE))
         row = f"{kind:18}"
-        for words, stated_bytes in zip((["diag2cbor"], ["diag2diag"], ["cbor2diag"]), stated):
+        for words, stated_bytes in zip((["diag2cbor"], ["diag2diag"], ["cbor2diag"]), STATED[kind]):
             if stated_bytes is None:
                 continue
             source = bytes_file if words == ["cbor2diag"] else text_file
@@ -294,7 +276,7 @@ STEP = 32 * KB
 def check_starved():
     """From the addresses that a run of no input takes upward: a run that has too few tells it and writes nothing."""
     for words, kind in STARVED:
-        data = KINDS[kind][0](STARVED_SIZE)
+        data = FLAT[kind](STARVED_SIZE)
         if words[0] == "cbor2diag":
             data = run(["diag2cbor", *(["-o", "hex"] if "hex" in words else [])], data).output
         whole = run(words, data)

@@ -8,20 +8,15 @@
 set -euo pipefail
 
 cd "$(dirname "$(readlink -f "$0")")/.."
-passed=0
-failed=0
+# shellcheck source=scripts/count.sh
+. scripts/count.sh
 
 # The files below crates/ in which a text stands, in each library and program, must be these.
 stands_in() {
   local what=$1 found
   shift
   found=$(grep -rlF --include='*.rt' -- "$what" crates/*/src | grep -Ev '^crates/cbor_edn_([a-z_]*_)?(tests|memory)/' | sort)
-  if [ "$found" = "$(printf '%s\n' "$@" | sort)" ]; then
-    passed=$((passed + 1))
-  else
-    failed=$((failed + 1))
-    echo "check-reads: '$what' stands in" $found
-  fi
+  count "'$what' stands in ${found//$'\n'/ }" test "$found" = "$(printf '%s\n' "$@" | sort)"
 }
 
 # A parse begins its own count, and makes the text that is read.
@@ -37,12 +32,6 @@ crates/cbor_edn_core/proofs/tree/InnerItemOf/+reach/Proof.antt
 crates/cbor_edn_core/proofs/tree/ItemOf/at_mut/Proof.antt
 crates/cbor_edn_parts/proofs/looks/Looks/new/Proof.antt
 crates/cbor_edn_parts/proofs/looks/Looks/next/Proof.antt'
-if [ "$by_hand" = "$wanted" ]; then
-  passed=$((passed + 1))
-else
-  failed=$((failed + 1))
-  echo "check-reads: proofs by hand:" $by_hand
-fi
+count "proofs by hand: ${by_hand//$'\n'/ }" test "$by_hand" = "$wanted"
 
-echo "$passed passed, $failed failed"
-[ "$failed" = 0 ]
+end

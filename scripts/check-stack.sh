@@ -15,14 +15,14 @@ cd "$(dirname "$(readlink -f "$0")")/.."
 # shellcheck source=scripts/program.sh
 . scripts/program.sh "${1-}"
 shift || true
+# shellcheck source=scripts/count.sh
+. scripts/count.sh
 SMALL=1024
 LARGE=hard
 LIMIT=512
 
 work=$(mktemp -d)
 trap 'rm -rf "$work"' EXIT
-passed=0
-failed=0
 
 # Runs the program under a stack of so many KB, or `hard` for as many as there may be.
 under() {
@@ -33,23 +33,23 @@ under() {
 
 # Adds a run of the words on a file, and counts it by a test of its status, its output and what it said.
 add_run() {
-  local name=$1 input=$2 is_right=$3 status=0
+  local name=$1 input=$2 is_right=$3
   shift 3
+  status=0
   under "$SMALL" "$@" < "$input" > "$work/output" 2> "$work/said" || status=$?
-  if "$is_right" "$status"; then
-    passed=$((passed + 1))
-  else
-    failed=$((failed + 1))
-    echo "check-stack: $name: $*: status $status $(head -c 200 "$work/said")"
-  fi
+  count "$name: $*" "$is_right"
+}
+
+details() {
+  echo ": status $status $(tail -n 20 "$work/said")"
 }
 
 is_wanted() {
-  [ "$1" = 0 ] && cmp -s "$work/output" "$wanted"
+  [ "$status" = 0 ] && cmp -s "$work/output" "$wanted"
 }
 
 is_refused() {
-  [ "$1" = 1 ] && [ ! -s "$work/output" ] && [ "$(cat "$work/said")" = "cbor-edn: $fault" ]
+  [ "$status" = 1 ] && [ ! -s "$work/output" ] && [ "$(cat "$work/said")" = "cbor-edn: $fault" ]
 }
 
 # The output must be that of another file.
@@ -158,15 +158,15 @@ check_embedded 'pieces of strings' "'a' + <<" 1 ">> + 'b'"
 check_embedded 'chunks of streams' '(_ <<' 1 '>>)'
 check_embedded 'pieces of chunks of streams' "(_ 'a', 'b' + <<" 1 ">>, 'c')"
 
+# Runs a program of tests.
+test_under() {
+  status=0
+  (ulimit -S -s "$1" && exec "$(dirname "$(readlink -f "$(command -v rt)")")/rattle-test" --seconds 60 "$2") > "$work/said" 2>&1 || status=$?
+  [ "$status" = 0 ]
+}
+
 for tests in "$@"; do
-  if (ulimit -S -s "$SMALL" && exec "$(dirname "$(readlink -f "$(command -v rt)")")/rattle-test" --seconds 60 "$tests") > "$work/output" 2>&1; then
-    passed=$((passed + 1))
-  else
-    failed=$((failed + 1))
-    echo "check-stack: $tests"
-    tail -n 20 "$work/output"
-  fi
+  count "$tests" test_under "$SMALL" "$tests"
 done
 
-echo "$passed passed, $failed failed"
-[ "$failed" = 0 ]
+end
