@@ -30,6 +30,15 @@ impl Failures {
         Ok(())
     }
 
+    /// Adds the row where it does not hold.
+    pub fn holds(&mut self, alloc: Global, row: &str, holds: bool) -> Result<(), AllocError> {
+        if !holds {
+            let line = format!(in alloc; "{row:?} does not hold; ")?;
+            self.lines.push_str(line.as_str())?;
+        }
+        Ok(())
+    }
+
     /// Fails with all rows that were added.
     pub fn end(self) -> Result<(), Fail> {
         if self.lines.is_empty() {
