@@ -1,6 +1,7 @@
 //! The three commands, as their words ask for them: outputs, fault lines, limits and statuses.
 use cbor_edn::engine::{StdSink, StdSource, serve};
 use cbor_edn::words::options;
+use cbor_edn_expect::failures::Failures;
 use std::alloc::Global;
 use std::test::Fail;
 
@@ -45,13 +46,13 @@ fn tells<'a>(alloc: Global, words: &'a [&'a str], input: &[u8], line: &str) -> R
 
 const TO_CBOR: &[&str] = &["cbor-edn", "diag2cbor"];
 
-const TO_HEX: &[&str] = &["cbor-edn", "diag2cbor", "-o", "hex"];
+pub(crate) const TO_HEX: &[&str] = &["cbor-edn", "diag2cbor", "-o", "hex"];
 
 const FROM_CBOR: &[&str] = &["cbor-edn", "cbor2diag"];
 
-const FROM_HEX: &[&str] = &["cbor-edn", "cbor2diag", "-i", "hex"];
+pub(crate) const FROM_HEX: &[&str] = &["cbor-edn", "cbor2diag", "-i", "hex"];
 
-const TO_DIAG: &[&str] = &["cbor-edn", "diag2diag"];
+pub(crate) const TO_DIAG: &[&str] = &["cbor-edn", "diag2diag"];
 
 #[test]
 fn encodes(rt: HostRuntime) -> Result<(), Fail> {
@@ -99,6 +100,30 @@ fn decodes(rt: HostRuntime) -> Result<(), Fail> {
     Ok(())
 }
 
+// Bytes that are no text in UTF-8, and what they are shown as, by docs/SUPPORTED.md ("Times and addresses").
+const SHOWN_BYTES: &[(&[u8], &str)] = &[
+    (
+        b"\xc2\x49\x01\x00\x00\x00\x00\x00\x00\x00\x00",
+        "18446744073709551616\n",
+    ),
+    (
+        b"\xc1\x1a\x65\x53\xf1\x00",
+        "DT'2023-11-14T22:13:20+00:00'\n",
+    ),
+];
+
+#[test]
+fn decodes_bytes(rt: HostRuntime) -> Result<(), Fail> {
+    let alloc = rt.alloc();
+    let mut failures = Failures::new(alloc);
+    for &(bytes, wanted) in SHOWN_BYTES {
+        let (status, written, told) = served(alloc, FROM_CBOR, bytes)?;
+        let holds = status == 0 && written.as_slice() == wanted.as_bytes() && told.is_empty();
+        failures.holds(alloc, wanted, holds)?;
+    }
+    failures.end()
+}
+
 #[test]
 fn sets_spaces(rt: HostRuntime) -> Result<(), Fail> {
     let alloc = rt.alloc();
@@ -127,13 +152,24 @@ fn tells_faults(rt: HostRuntime) -> Result<(), Fail> {
     assert!(rt; tells(alloc, TO_DIAG, b"\xff", unread)?);
     let unparsed = "cbor-edn: Error parsing input data: Invalid EDN in line 1 column 2 (byte 1)\n";
     assert!(rt; tells(alloc, TO_DIAG, b"[,]", unparsed)?);
-    for digits in [b"123".as_slice(), b"1g".as_slice()] {
-        let line = "cbor-edn: Error decoding hexadecimal input\n";
-        assert!(rt; tells(alloc, FROM_HEX, digits, line)?);
-    }
     let missing = "cbor-edn: Error decoding input data: Missing argument bytes\n";
     assert!(rt; tells(alloc, FROM_CBOR, b"\x19\x01", missing)?);
     Ok(())
+}
+
+// No pairs of hexadecimal digits (`specs/Hexadecimal.antt` of `cbor_edn_command`): an odd count of them, and a letter that is none.
+const NO_DIGITS: &[&str] = &["123", "1g"];
+
+#[test]
+fn tells_digits(rt: HostRuntime) -> Result<(), Fail> {
+    let alloc = rt.alloc();
+    let line = "cbor-edn: Error decoding hexadecimal input\n";
+    let mut failures = Failures::new(alloc);
+    for &digits in NO_DIGITS {
+        let told = tells(alloc, FROM_HEX, digits.as_bytes(), line)?;
+        failures.holds(alloc, digits, told)?;
+    }
+    failures.end()
 }
 
 // The line of a text whose first mark past the limit is so many bytes behind its beginning.
