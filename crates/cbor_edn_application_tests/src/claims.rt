@@ -1,7 +1,7 @@
 //! Comments at the keys of claims sets.
 use cbor_edn_application::visits::annotate_claims;
 use cbor_edn_core::tree::{Item, StandaloneItem};
-use cbor_edn_expect::expect_row;
+use cbor_edn_expect::failures::Failures;
 use cbor_edn_parts::error::Fault;
 use std::alloc::Global;
 use std::test::Fail;
@@ -61,11 +61,12 @@ const ROWS: &[(&str, &str)] = &[
 #[test]
 fn claims(rt: HostRuntime) -> Result<(), Fail> {
     let alloc = rt.alloc();
+    let mut failures = Failures::new(alloc);
     for &(text, wanted) in ROWS {
         let told = annotated(alloc, text)?;
-        expect_row(alloc, text, told.as_str(), wanted)?;
+        failures.row(alloc, text, told.as_str(), wanted)?;
     }
-    Ok(())
+    failures.end()
 }
 
 /// The names of algorithms in the registry of COSE, each at the number that it has there.
@@ -109,19 +110,26 @@ fn noted(alloc: Global, name: &str) -> Result<String, Fail> {
     }
 }
 
-fn expect_algorithm(alloc: Global, number: &str, name: &str) -> Result<(), Fail> {
+fn see_algorithm(
+    failures: &mut Failures,
+    alloc: Global,
+    number: &str,
+    name: &str,
+) -> Result<(), Fail> {
     let text = format!(in alloc; "{{8:{{4:{{4:{number}}}}}}}")?;
     let comment = noted(alloc, name)?;
     let wanted = format!(in alloc; "{{8/ cnf /:{{4/ osc /:{{4/ alg /:{number}{comment}}}}}}}")?;
     let told = annotated(alloc, text.as_str())?;
-    expect_row(alloc, text.as_str(), told.as_str(), wanted.as_str())
+    failures.row(alloc, text.as_str(), told.as_str(), wanted.as_str())?;
+    Ok(())
 }
 
 #[test]
 fn algorithms(rt: HostRuntime) -> Result<(), Fail> {
     let alloc = rt.alloc();
+    let mut failures = Failures::new(alloc);
     for &(number, name) in ALGORITHMS {
-        expect_algorithm(alloc, number, name)?;
+        see_algorithm(&mut failures, alloc, number, name)?;
     }
-    Ok(())
+    failures.end()
 }

@@ -4,11 +4,11 @@ use cbor_edn_application::visits::{
     prettify_bignums, prettify_times, resolve, resolve_addresses, resolve_times, to_999,
 };
 use cbor_edn_core::tree::Sequence;
-use cbor_edn_expect::expect_row;
+use cbor_edn_expect::failures::Failures;
 use std::alloc::{AllocError, Global};
 use std::test::Fail;
 
-#[derive(Clone, Copy)]
+#[derive(Clone, Copy, Debug)]
 pub(crate) enum Visit {
     Prettify,
     PrettifyAddresses,
@@ -46,17 +46,20 @@ fn visited(alloc: Global, text: &str, by: Visit) -> Result<String, Fail> {
 }
 
 pub(crate) fn expect_rows(alloc: Global, rows: &[(Visit, &str, &str)]) -> Result<(), Fail> {
+    let mut failures = Failures::new(alloc);
     for &(by, text, wanted) in rows {
+        let row = format!(in alloc; "{by:?} {text}")?;
         let told = visited(alloc, text, by)?;
-        expect_row(alloc, text, told.as_str(), wanted)?;
+        failures.row(alloc, row.as_str(), told.as_str(), wanted)?;
     }
-    Ok(())
+    failures.end()
 }
 
 const TAGS: &str = "1(42), 52(h'c0000201'), 2(h'010000000000000000')";
 
 const LITERALS: &str = "dt'1970-01-01T00:00:42Z', [<<ip'192.0.2.1'>>]";
 
+/// The same rules as those of the rows of `visited.rt` and `claims.rt`; which items are claims sets, by the repository's `README.md`.
 const ROWS: &[(Visit, &str, &str)] = &[
     (
         Visit::Prettify,
