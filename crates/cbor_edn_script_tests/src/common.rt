@@ -1,13 +1,14 @@
 //! Edits as tables hold them, and sequences whose texts are read again.
 use cbor_edn_core::tree::{Item, Sequence, StandaloneItem};
-use cbor_edn_expect::{digits_of, expect_row};
+use cbor_edn_expect::failures::Failures;
+use cbor_edn_expect::{digits_of, name_of};
 use cbor_edn_parts::policy::DelimiterPolicy;
 use cbor_edn_script::Edit;
 use std::alloc::Global;
 use std::test::Fail;
 
 /// An edit as a table holds it: the item that is put somewhere is that of a text.
-#[derive(Clone, Copy)]
+#[derive(Clone, Copy, Debug)]
 pub(crate) enum Step<'p> {
     Delimit(DelimiterPolicy),
     Discard,
@@ -61,25 +62,33 @@ pub(crate) fn encoding(alloc: Global, sequence: &Sequence<'_>) -> Result<String,
     digits_of(alloc, sequence.to_cbor(alloc))
 }
 
-/// Fails where the printed text of a sequence is read as other items, or as items with another encoding. Leaves the sequence without its
-/// spaces: by what is printed then, items are compared.
-pub(crate) fn expect_read_back(
+/// Adds the row where the printed text of a sequence is read as other items, or as items with another encoding. Leaves the sequence
+/// without its spaces: by what is printed then, items are compared.
+pub(crate) fn see_read_back(
+    failures: &mut Failures,
     alloc: Global,
     row: &str,
     sequence: &mut Sequence<'_>,
 ) -> Result<(), Fail> {
     let text = sequence.serialize(alloc)?;
     let bytes = encoding(alloc, sequence)?;
-    let bare = text_of_items(alloc, sequence)?;
-    expect_same(alloc, row, text.as_str(), bytes.as_str(), bare.as_str())
+    let items = text_of_items(alloc, sequence)?;
+    let again = bytes_and_items(alloc, text.as_str())?;
+    failures.row(alloc, row, again.0.as_str(), bytes.as_str())?;
+    failures.row(alloc, row, again.1.as_str(), items.as_str())?;
+    Ok(())
 }
 
-fn expect_same(alloc: Global, row: &str, text: &str, bytes: &str, items: &str) -> Result<(), Fail> {
-    let mut again = sequence_of(alloc, text)?;
-    let told = encoding(alloc, &again)?;
-    expect_row(alloc, row, told.as_str(), bytes)?;
-    let told = text_of_items(alloc, &mut again)?;
-    expect_row(alloc, row, told.as_str(), items)
+/// The bytes that a text means, in digits, and the text of its items with the least spaces; or the name of the refusal.
+fn bytes_and_items(alloc: Global, text: &str) -> Result<(String, String), Fail> {
+    match Sequence::parse(alloc, text) {
+        Ok(sequence) => {
+            let mut sequence = Box::new(alloc, sequence)?;
+            let bytes = encoding(alloc, &sequence)?;
+            Ok((bytes, text_of_items(alloc, &mut sequence)?))
+        }
+        Err(fault) => Ok((name_of(alloc, fault)?, String::new(alloc))),
+    }
 }
 
 /// The text of the items with the least spaces.

@@ -1,5 +1,6 @@
 //! Scripts made at random over sequences made at random: what is printed then is read as the same items, with the same encoding.
-use crate::common::{Step, expect_read_back, push_edit, sequence_of};
+use crate::common::{Step, push_edit, see_read_back, sequence_of};
+use cbor_edn_expect::failures::Failures;
 use cbor_edn_parts::policy::DelimiterPolicy;
 use cbor_edn_script::{Edit, run};
 use std::alloc::{AllocError, Global};
@@ -28,7 +29,7 @@ impl Random {
     }
 }
 
-/// Items of each form, some of which conversions change and some of which mean nothing.
+/// Items made by the forms of `docs/SUPPORTED.md`, some of which conversions change and some of which mean nothing.
 const ITEMS: &[&str] = &[
     "0",
     "+1",
@@ -74,7 +75,7 @@ const ITEMS: &[&str] = &[
     "{ 1 : 2 , \"a\":{} }",
 ];
 
-/// What may stand round an item.
+/// What may stand round an item by the same forms.
 const ROUND: &[(&str, &str)] = &[
     ("[", "]"),
     ("[_ ", " , 1,]"),
@@ -92,10 +93,13 @@ const ROUND: &[(&str, &str)] = &[
     ("(_ 'a', <<", ">> , 'b')"),
 ];
 
+/// Blanks and comments, by the same forms.
 const SPACES: &[&str] = &["", " ", "/c/", " # c\n"];
 
+/// What may stand between two items, by the same forms.
 const SEPARATORS: &[&str] = &[",", ", ", " ", "/c/", "\n", " /c/ , # d\n ", "\t,\r"];
 
+/// Comments of tags: a short and an empty one, and such as have a slash, line feeds, a control character, or more than ASCII.
 const COMMENTS: &[&str] = &["t", "", "a/b", "# c\n", "\u{1}\n", "\u{e9}"];
 
 fn item_text(alloc: Global, random: &mut Random) -> Result<String, AllocError> {
@@ -170,18 +174,26 @@ fn script<'a>(alloc: Global, random: &mut Random) -> Result<Vec<Edit<'a>>, Fail>
     Ok(edits)
 }
 
-fn expect_script(alloc: Global, random: &mut Random) -> Result<(), Fail> {
+fn see_script(
+    failures: &mut Failures,
+    alloc: Global,
+    number: usize,
+    random: &mut Random,
+) -> Result<(), Fail> {
     let text = sequence_text(alloc, random)?;
+    let row = format!(in alloc; "script {number} of {text}")?;
     let mut sequence = sequence_of(alloc, text.as_str())?;
     run(alloc, &mut sequence, script(alloc, random)?)?;
-    expect_read_back(alloc, text.as_str(), &mut sequence)
+    see_read_back(failures, alloc, row.as_str(), &mut sequence)
 }
 
 #[test]
 fn random_scripts_are_read_back(rt: HostRuntime) -> Result<(), Fail> {
+    let alloc = rt.alloc();
+    let mut failures = Failures::new(alloc);
     let mut random = Random(1);
-    for _ in 0..2000 {
-        expect_script(rt.alloc(), &mut random)?;
+    for number in 0..2000 {
+        see_script(&mut failures, alloc, number, &mut random)?;
     }
-    Ok(())
+    failures.end()
 }

@@ -2,11 +2,12 @@
 use crate::common::Step::{
     self, CommentTags, Delimit, Discard, Prettify, Replace, Resolve, TagAt, To999,
 };
-use crate::common::{encoding, expect_read_back, push_edit, sequence_of};
+use crate::common::{encoding, push_edit, see_read_back, sequence_of};
 use cbor_edn_core::tree::Sequence;
-use cbor_edn_expect::expect_row;
+use cbor_edn_expect::expect_text;
+use cbor_edn_expect::failures::Failures;
 use cbor_edn_parts::policy::DelimiterPolicy;
-use cbor_edn_script::{Edit, run};
+use cbor_edn_script::{Edit, ScriptError, run};
 use std::alloc::Global;
 use std::test::Fail;
 
@@ -18,41 +19,42 @@ fn edits_of<'a>(alloc: Global, steps: &[Step<'_>]) -> Result<Vec<Edit<'a>>, Fail
     Ok(edits)
 }
 
-/// Does the edits, and holds the text and the bytes of what they leave against the wanted ones.
-fn expect_edited(
-    alloc: Global,
-    text: &str,
-    steps: &[Step<'_>],
-    wanted: &str,
-    bytes: &str,
-) -> Result<(), Fail> {
+/// The sequence of a text behind the edits.
+fn edited<'a>(alloc: Global, text: &'a str, steps: &[Step<'_>]) -> Result<Box<Sequence<'a>>, Fail> {
     let mut sequence = sequence_of(alloc, text)?;
     run(alloc, &mut sequence, edits_of(alloc, steps)?)?;
-    expect_left(alloc, text, &mut sequence, wanted, bytes)
+    Ok(sequence)
 }
 
-fn expect_left(
+/// Holds the text of a sequence and its bytes against the wanted ones.
+fn see_left(
+    failures: &mut Failures,
     alloc: Global,
     row: &str,
-    sequence: &mut Sequence<'_>,
+    sequence: &Sequence<'_>,
     wanted: &str,
     bytes: &str,
 ) -> Result<(), Fail> {
     let told = sequence.serialize(alloc)?;
-    expect_row(alloc, row, told.as_str(), wanted)?;
+    failures.row(alloc, row, told.as_str(), wanted)?;
     let told = encoding(alloc, sequence)?;
-    expect_row(alloc, row, told.as_str(), bytes)?;
-    expect_read_back(alloc, row, sequence)
-}
-
-fn expect_rows(alloc: Global, rows: &[(&str, &[Step<'_>], &str, &str)]) -> Result<(), Fail> {
-    for &(text, steps, wanted, bytes) in rows {
-        expect_edited(alloc, text, steps, wanted, bytes)?;
-    }
+    failures.row(alloc, row, told.as_str(), bytes)?;
     Ok(())
 }
 
-/// Items that are put where paths lead: their own spaces come with them, and the spaces round them stay.
+fn expect_rows(alloc: Global, rows: &[(&str, &[Step<'_>], &str, &str)]) -> Result<(), Fail> {
+    let mut failures = Failures::new(alloc);
+    for &(text, steps, wanted, bytes) in rows {
+        let row = format!(in alloc; "{text} by {steps:?}")?;
+        let mut sequence = edited(alloc, text, steps)?;
+        see_left(&mut failures, alloc, row.as_str(), &sequence, wanted, bytes)?;
+        see_read_back(&mut failures, alloc, row.as_str(), &mut sequence)?;
+    }
+    failures.end()
+}
+
+/// Items that are put where paths lead: their own spaces come with them, and the spaces round them stay. Texts by the words of `Edit`;
+/// here and below, bytes by hand, by RFC 8949.
 const REPLACED: &[(&str, &[Step<'static>], &str, &str)] = &[
     (
         "[\"a\" 1]",
@@ -88,7 +90,7 @@ const REPLACED: &[(&str, &[Step<'static>], &str, &str)] = &[
     ("", &[Replace(&[0], "2")], "", ""),
 ];
 
-/// Tags that are put round items, and paths that lead nowhere.
+/// Tags that are put round items, and paths that lead nowhere. Texts by the words of `Edit`.
 const TAGGED: &[(&str, &[Step<'static>], &str, &str)] = &[
     ("[1 2]", &[TagAt(&[0, 1], 24)], "[1 24(2)]", "8201d81802"),
     (
@@ -111,7 +113,8 @@ const TAGGED: &[(&str, &[Step<'static>], &str, &str)] = &[
     ),
 ];
 
-/// Comments and conversions, which enter embedded sequences, and policies and removal of indicators, which do not.
+/// Comments and conversions, which enter embedded sequences, and policies and removal of indicators, which do not, as
+/// `docs/DECISIONS.md` says. Literals by `docs/SUPPORTED.md`, tags 999 by the repository's `README.md`.
 const VISITED: &[(&str, &[Step<'static>], &str, &str)] = &[
     (
         "1(0), [_ 2]",
@@ -167,6 +170,15 @@ const VISITED: &[(&str, &[Step<'static>], &str, &str)] = &[
         "a10102449f1801ff",
     ),
 ];
+
+/// A refusal says how many edits were done.
+#[test]
+fn words_of_a_refusal(rt: HostRuntime) -> Result<(), Fail> {
+    let alloc = rt.alloc();
+    let refused = ScriptError { done: 2 };
+    let words = refused.to_string(alloc)?;
+    expect_text(alloc, words.as_str(), "Out of memory after 2 edits")
+}
 
 #[test]
 fn replaces(rt: HostRuntime) -> Result<(), Fail> {
