@@ -39,19 +39,20 @@ check() {
   fi
 }
 
-# Adds what a command counts in its last line, which says 'N passed, M failed'.
+# Adds what a command counts in its last line, which says 'N passed, M failed'. Where it fails in silence or tests nothing, that is a
+# failure too.
 add() {
-  local name=$1 status=0
+  local name=$1 status=0 good=0 bad=0
   shift
   "$@" > "$work/said" 2>&1 || status=$?
   if [[ $(tail -n 1 "$work/said") =~ ^([0-9]+)\ passed,\ ([0-9]+)\ failed$ ]]; then
-    passed=$((passed + BASH_REMATCH[1]))
-    failed=$((failed + BASH_REMATCH[2]))
-    [ "$status" != 0 ] || [ "${BASH_REMATCH[2]}" != 0 ] || return 0
-    [ "${BASH_REMATCH[2]}" != 0 ] || failed=$((failed + 1))
-  else
-    failed=$((failed + 1))
+    good=${BASH_REMATCH[1]}
+    bad=${BASH_REMATCH[2]}
   fi
+  passed=$((passed + good))
+  failed=$((failed + bad))
+  [ "$status" != 0 ] || [ "$bad" != 0 ] || [ "$good" = 0 ] || return 0
+  [ "$bad" != 0 ] || failed=$((failed + 1))
   say "$name: $*"
   tail -n 20 "$work/said"
 }
@@ -186,7 +187,7 @@ python_test() {
   PYTHONDONTWRITEBYTECODE=1 PYTHONPATH=bindings/python python3 "$@" > "$work/tests" 2>&1 || status=$?
   cat "$work/tests"
   awk -v failed=$((status != 0)) '/^Ran [0-9]+ test/ { ran = $2 } match($0, /skipped=[0-9]+/) { ran -= substr($0, RSTART + 8, RLENGTH - 8) }
-    END { print ran - failed " passed, " failed " failed" }' "$work/tests"
+    END { print (ran > failed ? ran - failed : 0) " passed, " failed " failed" }' "$work/tests"
   return "$status"
 }
 

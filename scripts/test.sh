@@ -36,18 +36,22 @@ stamp() {
   done
 }
 
-# Runs a command whose last line is 'N passed, M failed', and adds both. A command that fails in silence counts as one.
+# Runs a command whose last line is 'N passed, M failed', and adds both. A command that fails in silence counts as one, and so does one
+# that tests nothing.
 add() {
-  local status=0
+  local status=0 good=0 bad=0
   "$@" 2>&1 | tee "$log" || status=$?
   printf '%4d min  end of %s\n' $((SECONDS / 60)) "$*" >> "$times"
   if [[ $(tail -n 1 "$log") =~ ^([0-9]+)\ passed,\ ([0-9]+)\ failed$ ]]; then
-    passed=$((passed + BASH_REMATCH[1]))
-    failed=$((failed + BASH_REMATCH[2]))
-    [ "$status" = 0 ] || [ "${BASH_REMATCH[2]}" != 0 ] || failed=$((failed + 1))
-  else
-    failed=$((failed + 1))
+    good=${BASH_REMATCH[1]}
+    bad=${BASH_REMATCH[2]}
   fi
+  if [ "$bad" = 0 ] && { [ "$good" = 0 ] || [ "$status" != 0 ]; }; then
+    echo "test: $*: it tested nothing, or it failed and counted no failure" | tee -a "$times"
+    bad=1
+  fi
+  passed=$((passed + good))
+  failed=$((failed + bad))
 }
 
 # Proves the crates of a tree, by a command that may stand in front.
