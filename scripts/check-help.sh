@@ -115,6 +115,8 @@ diag2diag --annotate
 diag2diag --max-nesting
 diag2diag --max-nesting 513
 diag2diag --max-nesting -1
+diag2diag --max-nesting +5
+diag2diag --max-nesting=+0
 diag2diag --max-nesting 99999999999999999999
 diag2diag --max-nesting 1e2
 END

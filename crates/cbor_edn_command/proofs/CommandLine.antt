@@ -1,13 +1,13 @@
 -- From what the calls of `clap` answer to what is read off a command line.
-use Rattle.std.proofs.Common.{◌≡◌, ℕ, Bool, true, false, List, [], ◌∷◌, ◌++◌, Option, Some, None, refl, ap, ap₂, ◌∙◌, append_assoc}
-use Rattle.std.specs.Prelude.{◌||◌, not, Box, codes, unwrap_or, option_map}
+use Rattle.std.proofs.Common.{◌≡◌, ℕ, Bool, true, false, List, [], ◌∷◌, ◌++◌, Option, Some, None, refl, sym, subst, ap, ap₂, ◌∙◌, append_assoc}
+use Rattle.std.specs.Prelude.{◌||◌, ◌==◌, cond, drop, not, slice_index, Box, codes, unwrap_or, option_map}
 use Rattle.std.specs.Box.{box_value}
 use Rattle.std.specs.Option.{option_map_or}
 use Rattle.std.specs.Str.{bytes_eq}
-use Rattle.std.specs.Str.Parse.{digits_value, without_leading_plus}
+use Rattle.std.specs.Str.Parse.{IsNumeral, digits_value, without_leading_plus}
 use Rattle.clap.specs.Matches.{first_value, one_text}
 use Rattle.clap.specs.declared.parser.matches.Found.{Found}
-use Rattle.clap.specs.Words.{AddsArg, AddsSubcommand, App, Row, Rule, Text, app_of, is_simple, new_app, rows_of, subcommand_rows, with_rule, with_subcommand}
+use Rattle.clap.specs.Words.{AddsArg, AddsSubcommand, App, Row, Rule, Text, app_of, first_of, is_simple, new_app, rows_of, subcommand_rows, with_rule, with_subcommand}
 use Rattle.clap.specs.declared.builder.arg.Arg.{Arg}
 use Rattle.clap.specs.declared.builder.command.Command.{Command}
 use Rattle.clap.specs.declared.builder.command.Command.TheViews.{out-Command}
@@ -37,17 +37,16 @@ value_given f id value name b same is = same ∙ ap (names value) (is ∙ first_
 pub value_left_out : (f : Found) (id value : Text) → None ≡ first_value f id → false ≡ line.is_value id value (rows_of f)
 value_left_out f id value is = ap (names value) (is ∙ first_value-rows f id)
 
-abbrev number_of : Option Text → ℕ
-number_of o = option_map_or (λ t. digits_value 10 (without_leading_plus t)) o NESTING_LIMIT
+pub limit_left_out : (f : Found) → None ≡ first_value f (codes "max-nesting") → line.IsLimit (first_of (codes "max-nesting") (rows_of f)) NESTING_LIMIT
+limit_left_out f is = rw (sym (is ∙ first_value-rows f (codes "max-nesting"))) refl
 
-module _ (f : Found) (n : ℕ) (none : one_text f (codes "max-nesting") ≡ None → n ≡ NESTING_LIMIT)
-    (some : (t : Text) → one_text f (codes "max-nesting") ≡ Some t → n ≡ digits_value 10 (without_leading_plus t)) where
-  limit_at : (o : Option Text) → one_text f (codes "max-nesting") ≡ o → n ≡ number_of o
-  limit_at None e = none e
-  limit_at (Some t) e = some t e
-
-  pub limit_read : n ≡ line.limit_of (rows_of f)
-  limit_read = limit_at _ refl ∙ ap number_of (one_text-rows f (codes "max-nesting"))
+-- a number that was read is that of digits alone, where no plus sign stands in front
+pub limit_read : (f : Found) (word : Text) (limit : ℕ) (plus : Bool) → Some word ≡ first_value f (codes "max-nesting")
+    → IsNumeral 10 (without_leading_plus word) → limit ≡ digits_value 10 (without_leading_plus word) → plus ≡ (slice_index word 0 == 43) → plus ≡ false
+    → line.IsLimit (first_of (codes "max-nesting") (rows_of f)) limit
+limit_read f word limit plus is numeral value looked none =
+    let same : without_leading_plus word ≡ word = ap (λ b. drop (cond b 1 0) word) (sym looked ∙ none) in
+    rw (sym (is ∙ first_value-rows f (codes "max-nesting"))) (subst (IsNumeral 10) same numeral, value ∙ ap (digits_value 10) same)
 
 pub flag_read : (f : Found) (id : Text) (b : Bool) → (one_text f id ≡ None → b ≡ false) → (one_text f id ≡ Some (codes "true") → b ≡ true)
     → (one_text f id ≡ Some (codes "false") → b ≡ false) → line.IsFlag id (rows_of f) b

@@ -1,7 +1,7 @@
 -- The program's command line, as `clap` sees it, and what is read off the entries that `clap` finds for the words.
 use Rattle.std.specs.Prelude.{◌≡◌, ℕ, Bool, true, false, not, List, [], ◌∷◌, ◌++◌, map, codes, Option, Some, None, unwrap_or, if◌then◌else◌}
 use Rattle.std.specs.Str.{bytes_eq}
-use Rattle.std.specs.Str.Parse.{digits_value, without_leading_plus}
+use Rattle.std.specs.Str.Parse.{IsNumeral, digits_value}
 use Rattle.std.specs.Option.{option_map_or}
 use Rattle.clap.specs.Words.{App, Row, Rule, Text, first_of, new_app, new_rule, one_of, subcommand_of, with_subcommand}
 use Rattle.clap.specs.declared.builder.action.ArgAction.TheVariants.{SetTrue}
@@ -85,8 +85,10 @@ command_named name =
 abbrev pub is_value : Text → Text → List Row → Bool
 is_value id value rows = option_map_or (λ t. bytes_eq t value) (first_of id rows) false
 
-abbrev pub limit_of : List Row → ℕ
-limit_of rows = option_map_or (λ t. digits_value 10 (without_leading_plus t)) (one_of (codes "max-nesting") rows) NESTING_LIMIT
+-- How deep items may nest, by the word of `--max-nesting`: the number of a word that is digits alone. `+5` is none.
+abbrev pub IsLimit : Option Text → ℕ → Type 0
+IsLimit (Some word) limit = IsNumeral 10 word × (limit ≡ digits_value 10 word)
+IsLimit None limit = limit ≡ NESTING_LIMIT
 
 -- the name of a file, or `-`
 abbrev pub file_of : Text → List Row → Text
@@ -165,7 +167,7 @@ pub record AreSet (rows : List Row) (o : Options) : Type 0 where
 pub record IsReadOff (found : Text × List Row) (o : Options) (source target : Text) : Type 0 where
   pub command : command_named found.0 ≡ Some o.command
   pub flags : AreSet found.1 o
-  pub limit : o.limit ≡ limit_of found.1
+  pub limit : IsLimit (first_of (codes "max-nesting") found.1) o.limit
   pub input : source ≡ file_of (codes "input") found.1
   pub output : target ≡ file_of (codes "output") found.1
 

@@ -1,6 +1,6 @@
 //! The words of a command line.
-ghost use Rattle.std.specs.Prelude.{◌≡◌, IfOk, IfSome, map};
-ghost use Rattle.clap.specs.Words.{found_of, rows_of};
+ghost use Rattle.std.specs.Prelude.{◌≡◌, IfOk, codes, map};
+ghost use Rattle.clap.specs.Words.{first_of, found_of, rows_of};
 ghost use Rattle.cbor_edn_command.specs.CommandLine as line;
 ghost use Rattle.cbor_edn_command.specs.Steps.{GrowsBy, IsArgOf, IsCommandOf, IsProgram};
 
@@ -59,8 +59,14 @@ pub fn options<'a>(
     let Some(command) = command_named(name) else {
         return Err(program.error(ErrorKind::InvalidSubcommand, "no such command")?);
     };
-    let Some(limit) = limit_of(found) else {
-        return Err(program.error(ErrorKind::ValueValidation, "no such limit")?);
+    let limit = match limit_of(found) {
+        Ok(limit) => limit,
+        Err(word) => {
+            let fault = format!(in alloc;
+                "invalid value '{word}' for '--max-nesting <N>': invalid digit found in string"
+            )?;
+            return Err(program.error(ErrorKind::ValueValidation, fault.as_str())?);
+        }
     };
     let options = options_of(command, found, limit);
     Ok((options, file_of(found, "input"), file_of(found, "output")))
@@ -140,14 +146,17 @@ fn is_value(found: &ArgMatches<'_>, flag: &str, value: &str) -> bool
     }
 }
 
-// How deep items may nest, unless the word is no number.
-fn limit_of(found: &ArgMatches<'_>) -> Option<usize>
-    ensures { IfSome result (λ n. n ≡ line.limit_of (rows_of (found_of found.now))) }
+// How deep items may nest, or the word that is not of digits alone: the kit's parsers of numbers take a plus sign.
+fn limit_of<'a>(found: &ArgMatches<'a>) -> Result<usize, &'a str>
+    ensures { IfOk result (line.IsLimit (first_of (codes "max-nesting")
+        (rows_of (found_of found.now)))) }
 {
-    match found.try_get_one::<usize>("max-nesting") {
-        Ok(Some(limit)) => Some(limit),
-        Ok(None) => Some(NESTING_LIMIT),
-        Err(_) => None,
+    let Some(word) = found.get_str("max-nesting") else {
+        return Ok(NESTING_LIMIT);
+    };
+    match word.parse() {
+        Ok(limit) if !word.starts_with('+') => Ok(limit),
+        _ => Err(word),
     }
 }
 

@@ -102,6 +102,7 @@ const LIMITS: &[(&[&str], usize)] = &[
     (&["diag2cbor", "--max-nesting", "0"], 0),
     (&["cbor2diag", "--max-nesting=512"], 512),
     (&["diag2diag", "--max-nesting", "7"], 7),
+    (&["diag2diag", "--max-nesting=007"], 7),
 ];
 
 // The options in their order.
@@ -273,6 +274,8 @@ fn refuses_words(rt: HostRuntime) {
         ["cbor-edn", "cbor2diag", "--max-nesting", "513"].as_slice(),
         ["cbor-edn", "cbor2diag", "--max-nesting", "x"].as_slice(),
         ["cbor-edn", "cbor2diag", "--max-nesting=-1"].as_slice(),
+        ["cbor-edn", "diag2diag", "--max-nesting", "+5"].as_slice(),
+        ["cbor-edn", "diag2cbor", "--max-nesting=+0"].as_slice(),
         ["cbor-edn", "cbor2diag", "--max-nesting", ""].as_slice(),
         ["cbor-edn", "cbor2diag", "a", "b", "c"].as_slice(),
     ] {

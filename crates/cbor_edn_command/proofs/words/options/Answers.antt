@@ -1,5 +1,6 @@
-use Rattle.std.proofs.Common.{◌∙◌, Some, sym, ap, map}
+use Rattle.std.proofs.Common.{◌∙◌, Some, sym, subst, ap, map}
 use Rattle.clap.specs.Words.{found_of, is_simple, subcommand_of, rows_of}
+use Rattle.cbor_edn_command.specs.CommandLine.{IsLimit}
 use Rattle.cbor_edn_command.proofs.CommandLine.{entered, program_simple}
 use Rattle.cbor_edn_command.proofs.words.options.Goals as goal
 
@@ -18,7 +19,7 @@ returns c =
       record {
         command = sym c.in-Some-command_named.ensures ∙ ap Some (sym c.options_of-options.ensures.given.0);
         flags = c.options_of-options.ensures.flags;
-        limit = c.options_of-options.ensures.given.1 ∙ c.in-Some-limit_of.ensures;
+        limit = subst (IsLimit _) (sym c.options_of-options.ensures.given.1) c.in-Ok.ensures;
         input = c.file_of.ensures;
         output = c.file_of-2.ensures;
       },
