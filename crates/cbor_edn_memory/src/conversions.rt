@@ -5,7 +5,8 @@ use crate::spaces::PAIR;
 use crate::trees::Row;
 use cbor_edn_application::{CcsHandler, CnfHandler, OscHandler};
 
-/// Visits: a refused one has made a beginning of its calls, the last one's comment perhaps missing.
+/// Visits: a refused one has made a beginning of its calls, the last one's comment perhaps missing (`docs/DECISIONS.md`). What conversions
+/// and comments leave has the sources of the tables of `cbor_edn_application_tests`.
 pub(crate) const VISITS: &[Row] = &[
     (
         "Sequence::visit_tag",
@@ -195,7 +196,8 @@ pub(crate) const VISITS: &[Row] = &[
     ),
 ];
 
-/// Functions on one item: a refused one leaves it, and so its text, as it was. A comment that it answers is put in front of it.
+/// Functions on one item: a refused one leaves it, and so its text, as it was. A comment that it answers is put in front of it. The same
+/// sources.
 pub(crate) const ACTS: &[Row] = &[
     (
         "dt_aol_to_item",

@@ -30,6 +30,7 @@ enum Step {
     To999,
 }
 
+/// What each edit leaves, by the words of `Edit`, the table of policies and the sources of the conversions.
 pub(crate) const SCRIPTS: &[Script] = &[
     Script {
         name: "script::run, each edit",

@@ -25,6 +25,8 @@ pub(crate) enum Group {
 /// A name, and a group of calls.
 pub(crate) type Row = (&'static str, Group);
 
+/// What must be answered stands in the functions of the groups: parts by the forms of `docs/SUPPORTED.md`, a place by the words of
+/// `ParseError`.
 pub(crate) const FREE: &[Row] = &[
     ("accessors", Group::Parts),
     ("at_mut, iterators that lend", Group::Loans),

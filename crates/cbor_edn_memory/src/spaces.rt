@@ -11,7 +11,7 @@ pub(crate) const PAIR: &str =
 const NOTED: &str =
     "[_ / a comment of some length / 1 # to the end of this line\n, 'a' / in front of a plus sign / + 'b', {2: / in front of the value / 3}, (_ / in front of the chunk / 'c'), 4(5 / in front of the parenthesis /)]";
 
-/// Delimiter policies.
+/// Delimiter policies: the texts by their table, `specs/Spacing.antt` of `cbor_edn_parts`, and by `docs/DECISIONS.md`.
 pub(crate) const SPACES: &[Row] = &[
     (
         "Sequence::set_delimiters, discard all",
@@ -203,7 +203,7 @@ pub(crate) const SPACES: &[Row] = &[
     ),
 ];
 
-/// Comments, tags and encoding indicators.
+/// Comments, tags and encoding indicators, by the words of the calls and by `docs/DECISIONS.md`.
 pub(crate) const COMMENTS_AND_INDICATORS: &[Row] = &[
     (
         "StandaloneItem::set_comment",

@@ -17,6 +17,8 @@ const ENCODED: &[u8] =
 const MANY: &[u8] =
     b"\x88\x01\x02\x03\x04\x05\x06\xa2\x07\x08\x09\x0ax\x18a comment of some length";
 
+/// Texts by the forms of `docs/SUPPORTED.md`, and for what is made and for `Debug` by `docs/DECISIONS.md`; bytes by RFC 8949; words of
+/// refusals by the declarations of these.
 pub(crate) const ANSWERS: &[Row] = &[
     (
         "Item::new_integer_decimal",

@@ -13,6 +13,7 @@ pub(crate) type Line = (
     Result<Options, ErrorKind>,
 );
 
+/// By the flags of the repository's `README.md`.
 pub(crate) const LINES: &[Line] = &[
     (
         "words::options, diag2cbor",

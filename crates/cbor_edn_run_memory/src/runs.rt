@@ -47,6 +47,7 @@ const LAID_OUT: &[u8] =
 const NOT_LAID_OUT: &[u8] =
     b"[0,18446744073709551616,999([\"foo\", \"x\"])],{4/ exp /:999([\"dt\", \"1970-01-01T00:00:00+00:00\"])}";
 
+/// Bytes by RFC 8949, texts by `docs/SUPPORTED.md`, and the order of the options' steps by the words of `Options`.
 pub(crate) const RUNS: &[Case] = &[
     Case {
         name: "engine::run, diag2cbor",
@@ -106,7 +107,7 @@ pub(crate) const RUNS: &[Case] = &[
     },
 ];
 
-/// Runs in memory.
+/// Runs in memory, by the same rules.
 pub(crate) const CONVERTED: &[Case] = &[Case {
     name: "engine::converted",
     command: Command::Cbor2Diag,
@@ -173,7 +174,7 @@ pub(crate) enum Recoding {
     ItemByText,
 }
 
-/// Bytes that must come back.
+/// Bytes that must come back: encodings by RFC 8949.
 pub(crate) const THERE_AND_BACK: &[(&str, Recoding, &[u8])] = &[
     ("recode::recoded", Recoding::Direct, BYTES),
     ("recode::recoded_by_text", Recoding::ByText, BYTES),

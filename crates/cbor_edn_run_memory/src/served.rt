@@ -13,6 +13,7 @@ pub(crate) struct Service {
     line: &'static [u8],
 }
 
+/// Outputs and statuses by the repository's `README.md`, lines by the words of the faults.
 pub(crate) const SERVED: &[Service] = &[
     Service {
         name: "engine::serve",
