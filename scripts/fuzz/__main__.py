@@ -40,8 +40,7 @@ class Inputs:
 
     def add(self, law, data, flags=(), cases=0, limit=None):
         if limit is None:
-            small = law not in (laws.lay_out, laws.annotate) and self.rng.randrange(10) == 0
-            limit = self.rng.randrange(9) if small else laws.LIMIT
+            limit = self.rng.randrange(9) if self.rng.randrange(10) == 0 else laws.LIMIT
         self.cases.append((law, data, limit, list(flags), cases))
 
     def some(self, flags):
@@ -55,6 +54,9 @@ class Inputs:
         layouts = ["--no-bignum-from-tags", *self.some(["--remove-comments", "--preserve-space"])]
         self.add(laws.lay_out, data, self.some(DIAG2DIAG) if self.rng.randrange(2) else layouts)
 
+    def add_annotated(self, data):
+        self.add(laws.annotate, data, self.rng.choice(FORMATS) + self.some(["--apply-999"]))
+
     def text(self, means, count):
         """A text of so many items, which the reader of these scripts must read as what was generated."""
         texts = generate.Texts(self.rng, means)
@@ -66,14 +68,15 @@ class Inputs:
     def add_texts(self):
         data = self.text(True, VALUES)
         self.add_text(data, VALUES)
-        self.add(laws.annotate, data)
+        self.add_annotated(data)
         others = [self.text(False, 1) for _ in range(OTHERS)]
         self.add_text(b" ".join(others), OTHERS)
         for other in others:
             self.add(laws.encode, other, self.some(["--apply-999"]))
+            self.add_annotated(other)
         for _ in range(DAMAGED):
             source = self.rng.choice(others) if self.rng.randrange(2) else self.text(False, self.rng.randrange(1, 4))
-            self.add(self.rng.choice([laws.keep, laws.encode]), generate.damaged(self.rng, source), cases=1)
+            self.add(self.rng.choice([laws.keep, laws.encode, laws.lay_out, laws.annotate]), generate.damaged(self.rng, source), cases=1)
 
     def add_bytes(self):
         encodings = generate.Bytes(self.rng)

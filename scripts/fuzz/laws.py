@@ -105,9 +105,13 @@ def steps(flags, annotate_tags):
 
 def lay_out(data, limit, flags):
     """`diag2diag` writes the items that the flags make, and takes them again, with the same result where flags allow; they mean the same."""
-    text, items, taken = read(data, LIMIT)
-    ended = run(["diag2diag", *flags], data)
+    text, items, taken = read(data, limit)
+    ended = run(["diag2diag", *flags, *limited(limit)], data)
+    if text is None:
+        expect(fault("Error processing input file"), ended)
+        return
     if not taken:
+        refuse(ended, text, items, limit)
         return
     if ended.status != 0:
         raise Problem(f"the text is of the grammar: {ended}")
@@ -129,12 +133,18 @@ def lay_out(data, limit, flags):
 
 
 def annotate(data, limit, flags):
-    """Tags that become literals on the way encode as they did."""
-    text, items, taken = read(data, LIMIT)
-    direct = encoded(items, []) if taken else None
-    ended = run(["diag2cbor", "--annotate-tags"], data)
-    if direct is not None and direct.status == 0:
-        expect(direct, ended)
+    """`diag2cbor --annotate-tags` writes the encodings of the items that the step makes. What has an encoding without it has the same."""
+    text, items, taken = read(data, limit)
+    ended = run(["diag2cbor", "--annotate-tags", *flags, *limited(limit)], data)
+    if text is None:
+        expect(fault("Error processing input file"), ended)
+    elif not taken:
+        refuse(ended, text, items, limit)
+    else:
+        direct = encoded(items, flags)
+        if direct.status == 0:
+            expect(direct, ended)
+        expect(encoded(conversions.converted(items, True, False, False, False, False), flags), ended)
 
 
 def decode(data, limit, flags):

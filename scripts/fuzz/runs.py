@@ -12,6 +12,8 @@ MOST_MEMORY = 64 * MB
 MOST_MEMORY_FOR_EACH_BYTE_WRITTEN = 4
 PATIENCE = 120
 
+# The line of a fault: no control character of an input reaches a terminal by it.
+FAULT = re.compile(rb"cbor-edn: [^\x00-\x1f\x7f]+\n")
 PLACE = re.compile(rb"cbor-edn: Error parsing input data: (Invalid EDN|EDN nested too deeply) in line ([0-9]+) column ([0-9]+) \(byte ([0-9]+)\)\n")
 
 program = ""
@@ -80,7 +82,8 @@ def run(words, data):
     own = resource.getrusage(resource.RUSAGE_SELF).ru_maxrss * 1024
     if usage.ru_maxrss * 1024 > max(own, MOST_MEMORY + MOST_MEMORY_FOR_EACH_BYTE_WRITTEN * len(output)):
         raise Problem(f"it takes {usage.ru_maxrss} KB of memory")
-    if ended.status not in (0, 1) or (ended.said != b"" if ended.status == 0 else ended.output != b""):
+    fits = ended.said == b"" if ended.status == 0 else ended.output == b"" and FAULT.fullmatch(ended.said) is not None
+    if ended.status not in (0, 1) or not fits:
         raise Problem(str(ended))
     return ended
 
