@@ -1,5 +1,6 @@
 #!/usr/bin/env bash
-# Runs the program on files and streams that fail: none there, folders, a full device, pipes that nobody reads, closed streams.
+# Runs the program on files and streams that fail: none there, folders, a full device, one that fills later, pipes that
+# nobody reads, closed streams.
 #
 # usage: scripts/check-devices.sh [PROGRAM]
 #
@@ -40,7 +41,7 @@ row() {
 }
 
 ended() {
-  [ "$status" = "$1" ] && printf '%b' "$2" | cmp -s - output && [ "$(cat said)" = "$3" ]
+  [ "$status" = "$1" ] && printf '%b' "$2" | cmp -s - output && { [ -z "$3" ] || printf '%s\n' "$3"; } | cmp -s - said
 }
 
 # What the row before left in a file, or that it left no file.
@@ -50,6 +51,17 @@ left() {
 
 holds() {
   printf '%b' "$2" | cmp -s - "$1"
+}
+
+# What the row before left in a file is a beginning of another file, and not all of it.
+begins() {
+  count "the file $1" is_beginning "$1" "$2"
+}
+
+is_beginning() {
+  local size
+  size=$(stat -c %s "$1")
+  [ "$size" -gt 0 ] && [ "$size" -lt "$(stat -c %s "$2")" ] && head -c "$size" "$2" | cmp -s - "$1"
 }
 
 left_none() {
@@ -127,6 +139,13 @@ check() {
   row 1 '' "$WRITING" 'run in >&-'
   row 1 '' "$WRITING" 'run < in >&-'
   row 1 '' "$line" 'run bad >&-'
+
+  # a disk that fills later: a file may have 8 KB
+  run large > whole
+  row 1 '' "$WRITING" 'trap "" XFSZ; ulimit -f 8; run large out'
+  begins out whole
+  row 1 '' "$WRITING" 'trap "" XFSZ; ulimit -f 8; run large > out'
+  begins out whole
 
   # pipes: a signal would end the program in silence, by default, so it takes none
   row 1 '' "$WRITING" 'unread 1 run in'
