@@ -4,7 +4,8 @@
 # usage: scripts/check-limits.sh [PROGRAM [MEGABYTES]]
 #
 # Without PROGRAM it is the working tree's. MEGABYTES is the size of each flat input whose memory is measured, 4 without it; 64 takes
-# 3 GB of memory, and some minutes. The last line is 'N passed, M failed'.
+# 3 GB of memory, and some minutes. The bounds are the tables of docs/PERFORMANCE.md: of 1 MB, from 64 on of 64 MB. The last line is
+# 'N passed, M failed'.
 set -euo pipefail
 
 cd "$(dirname "$(readlink -f "$0")")/.."
@@ -89,7 +90,8 @@ OPENINGS = [
     ("(_ 'a','b'+<<", [11]),
     ("[{<<1(simple(", [0, 1, 2, 5, 12]),
 ]
-# What opens nothing, or can't stand there again: the byte that is told, from the end where it is negative.
+# What opens nothing, or can't stand there again: the byte that is told, from the end where it is negative. Their source is the grammar, in
+# the table of texts of docs/SUPPORTED.md: the byte is the first that no text goes on with.
 FLOODS = [
     ("(_ ", 3),
     ("]", 0),
@@ -107,8 +109,9 @@ FLOODS = [
     ("#", -1),
     ("[1]:", 3),
 ]
-# The encodings that nest.
+# The encodings that nest, by the heads of RFC 8949, section 3: arrays and maps of both kinds of length, at the key or at the value, and tags.
 OPEN_BYTES = ["81", "9f", "a1", "a101", "bf", "bf01", "c1", "d864", "8201", "9b0000000000000002", "bb00000000000000ff", "819fa1bf01c1"]
+# Encodings that go on with nothing, by RFC 8949, section 3 (3.2 on indefinite lengths, 3.3 on simple values) and docs/SUPPORTED.md (numbers).
 FLAT_BYTES = [
     ("5f", "Indefinite length strings can only contain definite lengths"),
     ("7f", "Indefinite length strings can only contain definite lengths"),
@@ -197,29 +200,55 @@ def check_counts():
             count(f"{command} {' '.join(form)} of {digits[:20]}", refusal(run([command, *form], data, space), BYTES.format(words)))
 
 
-# What docs/PERFORMANCE.md says that a byte of input takes of memory, by kind: in diag2cbor, in diag2diag, and of their encodings
-# in cbor2diag.
-STATED = {
-    "integers": (13, 14, 27),
-    "ones": (32, 33, 66),
-    "maps": (28, 29, 73),
-    "words": (12, 14, 44),
-    "texts": (10, 11, 17),
-    "one text": (4, 4, 5),
-    "byte strings": (12, 16, 34),
-    "one byte string": (4, 4, 10),
-    "concatenations": (24, 26, 60),
-    "one concatenation": (16, 18, 18),
-    "streams": (24, 26, 65),
-    "one stream": (20, 21, 55),
-    "tags": (29, 31, 92),
-    "embedded": (36, 38, 59),
-    "comments": (5, 9, None),
-    "one space": (3, 5, None),
+# Each kind of flat input as the tables of docs/PERFORMANCE.md begin its name, in their order.
+NAMES = {
+    "integers": "integers",
+    "ones": "`1 1 1`",
+    "maps": "small maps",
+    "words": "words",
+    "texts": "short texts",
+    "one text": "one text",
+    "byte strings": "short byte strings",
+    "one byte string": "one",
+    "concatenations": "`'a' + 'b'`",
+    "one concatenation": "one concatenation",
+    "streams": "`(_ 'a', 'b')`",
+    "one stream": "one",
+    "tags": "tags",
+    "embedded": "embedded sequences",
+    "comments": "comments",
+    "one space": "one space",
 }
-# A vector that has doubled may be half empty, so a little more input may take a half more memory; and the program itself takes some.
-ROOM = 1.6
+# The table of inputs of 1 MB and that of 64 MB: its columns for diag2cbor, diag2diag, and their encodings in cbor2diag, and how much more
+# an input may take. A vector that has doubled may be half empty, so a little more input than 1 MB may take a half more memory.
+TABLES = [([2, 4, 6], 1.6), ([1, 2, 3], 1.1)]
+COLUMNS, ROOM = TABLES[SIZE >= 64_000_000]
+# What the program itself takes.
 PROGRAM_SIZE = 4_000_000
+
+
+def stated():
+    """What docs/PERFORMANCE.md says that a byte of input takes of memory: for each kind three numbers, or None for a dash."""
+    tables, rows = [], None
+    with open("docs/PERFORMANCE.md", encoding="utf-8") as file:
+        for line in file:
+            cells = [cell.strip() for cell in line.strip().strip("|").split("|")]
+            if not line.startswith("|"):
+                rows = None
+            elif cells[0] == "input":
+                rows = []
+                tables.append(rows)
+            elif rows is not None and not cells[0].startswith("---"):
+                rows.append(cells)
+    found = []
+    for cells in tables[TABLES.index((COLUMNS, ROOM))]:
+        names, *numbers = (cells[column].split("; ") for column in [0, *COLUMNS])
+        for at, name in enumerate(names):
+            found.append((name, [None if number == ["–"] else float(number[at]) for number in numbers]))
+    # the inputs that nest stand behind the flat ones
+    if len(found) < len(NAMES) or not all(name.startswith(begin) for (name, _), begin in zip(found, NAMES.values())):
+        sys.exit(f"check-limits: docs/PERFORMANCE.md has other rows: {[name for name, _ in found]}")
+    return dict(zip(NAMES, (numbers for _, numbers in found)))
 
 
 def measure(words, source, sink):
@@ -238,13 +267,14 @@ def measure(words, source, sink):
 def check_memory(work):
     if ctypes.CDLL(None).prctl(SUBREAPER, 1, 0, 0, 0) != 0:
         sys.exit("check-limits: prctl refuses")
+    numbers = stated()
     text_file, bytes_file = f"{work}/text", f"{work}/bytes"
     print(f"{'peak memory':18}" + "".join(f"{command + ', MB':>16}{'per byte':>10}" for command in ("diag2cbor", "diag2diag", "cbor2diag")))
     for kind, text in FLAT.items():
         with open(text_file, "wb") as file:
             file.write(text(SIZE))
         row = f"{kind:18}"
-        for words, stated_bytes in zip((["diag2cbor"], ["diag2diag"], ["cbor2diag"]), STATED[kind]):
+        for words, stated_bytes in zip((["diag2cbor"], ["diag2diag"], ["cbor2diag"]), numbers[kind]):
             if stated_bytes is None:
                 continue
             source = bytes_file if words == ["cbor2diag"] else text_file
