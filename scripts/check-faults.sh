@@ -50,8 +50,10 @@ writes() {
   done
 }
 
-# Texts that the grammar refuses: the place is that of the character that can't stand there, or the end. A line ends at a line feed
-# alone, a column counts characters, a byte those of UTF-8.
+# Texts that the grammar refuses, by docs/SUPPORTED.md ("Texts"): the place is that of the character that can't stand there, or the end. A
+# line ends at a line feed alone, a column counts characters, a byte those of UTF-8. Bytes that are no UTF-8 by RFC 3629, section 3: a
+# byte that begins nothing, a sequence cut short, a surrogate, a zero in two bytes. What nests is named under "Texts" too: the place is
+# that of the opening that is one too many, behind the number of a tag and behind the word of `simple(`.
 for command in diag2diag 'diag2diag --preserve-space --no-bignum-from-tags' diag2cbor 'diag2cbor -o hex --annotate-tags --apply-999'; do
   faults "$command" 'Error parsing input data: Invalid EDN in ' << 'END'
 [1, |line 1 column 5 (byte 4)
@@ -107,7 +109,7 @@ END
 END
 done
 
-# Items that mean nothing: the first in the text is told, an item before its parts.
+# Items that mean nothing, by the column "means" of docs/SUPPORTED.md: the first in the text is told, an item before its parts.
 for command in diag2cbor 'diag2cbor -o hex'; do
   faults "$command" 'Error encoding output data: ' << 'END'
 1.0|Number has no encoding
@@ -170,8 +172,10 @@ fb7ff8000000000001|Float value out of scope
 7f61c361a9ff|Text string must be valid UTF-8
 END
 done
+# A simple value nests one deep (docs/SUPPORTED.md, "CBOR").
 faults 'cbor2diag --max-nesting 0' 'Error decoding input data: ' <<< '\xe4|Nested too deeply'
 faults 'cbor2diag -i hex --max-nesting 0' 'Error decoding input data: ' <<< 'e4|Nested too deeply'
+# Digits come in pairs, with blanks anywhere, and nothing else is taken (crates/cbor_edn_command/specs/Hexadecimal.antt).
 faults 'cbor2diag -i hex' 'Error decoding hexadecimal input' << 'END'
 8|
 8g|
@@ -214,6 +218,7 @@ writes cbor2diag << 'END'
 \xa1\x61\x1b\x61\x0d|{"\\u{1b}": "\\r"}\n
 \xd8\x26\x83\x61\x1b\x61\x07\xf5|38(["\\u{1b}", "\\u{7}", true/ Right-to-left /])\n
 END
+# Such controls in a literal that becomes a tag 999: its text is shown as a decoded one is.
 writes 'diag2diag --apply-999' << 'END'
 foo'\\u{1b}[31m'|999(["foo", "\\u{1b}[31m"])\n
 END
