@@ -1,11 +1,11 @@
 -- What was written, by what was read.
-use Rattle.std.proofs.Common.{◌≡◌, List, ℕ, Option, Some, None, Result, Ok, Err, IfSome, OnOk, IfErr, sym, subst, ◌∙◌, ap, append-nil, ◌++◌, [], ◌∷◌, refl}
-use Rattle.std.specs.Prelude.{◌≢◌}
+use Rattle.std.proofs.Common.{◌≡◌, List, ℕ, Option, Some, None, Result, Ok, Err, IfSome, OnOk, IfErr, sym, subst, ◌∙◌, ap, append-nil, arith, inl, inr, ◌+◌, ◌++◌, [], ◌∷◌, refl}
+use Rattle.std.specs.Prelude.{◌≢◌, is_err, if◌then◌else◌}
 use Rattle.std.proofs.lemmas.List.Elements.{All-nil, All-cons}
-use Rattle.std.proofs.KnownBytes.{Appends-nil}
+use Rattle.std.proofs.KnownBytes.{Appends-nil, Keeps-refl}
 use Rattle.std.specs.Io.KnownBytes.{Consumes, IsAtEnd, Appends}
 use Rattle.cbor_edn_command.specs.Devices.{AppendsBeginning}
-use Rattle.cbor_edn.specs.Runs.{IsOutput, IsFaultLine, IsTold, Wrote}
+use Rattle.cbor_edn.specs.Runs.{IsOutput, IsFaultLine, IsTold, IsToldWhole, Wrote}
 use Rattle.cbor_edn_command.specs.declared.options.Options.{Options}
 
 -- what was read to the end is what was known
@@ -29,3 +29,13 @@ pub told : {E : Type 0} (r : Result (Unit {0}) E) (old new : Option (List ℕ)) 
     → bytes ≡ line → IsFaultLine line → IsTold old new
 told (Ok _) old new bytes line all some is fault = (line, fault, (bytes, [], sym is ∙ sym (append-nil bytes), all))
 told (Err e) old new bytes line all some is fault = (line, fault, subst (AppendsBeginning old new) is some)
+
+-- where the sink did not fail
+pub nothing_told_whole : (known : Option (List ℕ)) → IsToldWhole known known
+nothing_told_whole known = inl (Keeps-refl known)
+
+pub told_whole : {E : Type 0} (r : Result (Unit {0}) E) (before after : ℕ) (old new : Option (List ℕ)) (bytes line : List ℕ)
+    → OnOk r (Appends old new bytes) → after ≡ before + (if is_err r then 1 else 0) → after ≡ before
+    → bytes ≡ line → IsFaultLine line → IsToldWhole old new
+told_whole (Ok _) before after old new bytes line all counted same is fault = inr (line, fault, subst (Appends old new) is all)
+told_whole (Err e) before after old new bytes line all counted same is fault = absurd (omega (arith, counted, same))

@@ -1,5 +1,5 @@
 -- What a run writes, what it answers, and what it leaves.
-use Rattle.std.specs.Prelude.{◌≡◌, ◌≢◌, ℕ, ◌≤◌, ◌++◌, ◌∷◌, [], List, All, codes, Bool, not, if◌then◌else◌, Option, Some, None, Result, Ok, Err, IfSome, IsErr}
+use Rattle.std.specs.Prelude.{◌≡◌, ◌≢◌, ℕ, ◌≤◌, ◌++◌, ◌∷◌, [], List, All, codes, Bool, not, ◌⊎◌, if◌then◌else◌, Option, Some, None, Result, Ok, Err, IfSome, IsErr}
 use Rattle.std.specs.Str.{IsUtf8}
 use Rattle.std.specs.Io.KnownBytes.{Appends, Keeps}
 use Rattle.cbor_edn_parts.specs.declared.error.Fault.{Fault}
@@ -178,6 +178,10 @@ IsFaultLine line = (words : List ℕ) × (words ≢ []) × All (λ b. b ≢ 10) 
 -- a sink took a beginning of such a line, which may be all of it or none of it
 abbrev pub IsTold : Option (List ℕ) → Option (List ℕ) → Type 0
 IsTold old new = (line : List ℕ) × IsFaultLine line × AppendsBeginning old new line
+
+-- a sink took nothing, or the whole of such a line
+abbrev pub IsToldWhole : Option (List ℕ) → Option (List ℕ) → Type 0
+IsToldWhole old new = Keeps old new ⊎ ((line : List ℕ) × IsFaultLine line × Appends old new line)
 
 -- what a call is refused by as a fault of the run
 abbrev pub told_as : {E : Type 0} → (E → RunError) → Fault E → RunError

@@ -4,7 +4,7 @@ ghost use Rattle.std.specs.Io.KnownBytes.{IsAtEnd, Keeps};
 ghost use Rattle.cbor_edn_model.specs.Trees.{Tree, Seq};
 ghost use Rattle.cbor_edn_core.specs.View.{sequence_tree};
 ghost use Rattle.cbor_edn_command.specs.Devices.{FailsAtMostOnce};
-ghost use Rattle.cbor_edn.specs.Runs.{IsOutput, IsRefused, Wrote, HasReadAll, EndsReading, EndsWriting, IsFaultLine, IsTold, read_faults, write_faults, status, told_as};
+ghost use Rattle.cbor_edn.specs.Runs.{IsOutput, IsRefused, Wrote, HasReadAll, EndsReading, EndsWriting, IsFaultLine, IsTold, IsToldWhole, read_faults, write_faults, status, told_as};
 ghost use Rattle.cbor_edn.specs.Runs.{IsReadAs, IsUnread, IsPrintedAs};
 ghost use Rattle.cbor_edn.specs.RunSteps.{StepsGive};
 ghost use Rattle.cbor_edn.specs.Steps.{IsEncoded, IsUnencoded, IsDiagnosed, IsUndiagnosed, IsReprinted};
@@ -247,6 +247,7 @@ fn fault_line(alloc: Global, fault: &RunError) -> Option<String>
 // Tells of a fault, as far as there is memory and the sink takes it.
 fn tell<E: Sink>(alloc: Global, fault: &RunError, errors: &mut E)
     ensures told { IsTold (E.contents errors.old) (E.contents errors.new) }
+    ensures whole { E.failures errors.new ≡ E.failures errors.old → IsToldWhole (E.contents errors.old) (E.contents errors.new) }
     ensures counted { FailsAtMostOnce (E.failures errors.old) (E.failures errors.new) (E.since errors.new) }
 {
     if let Some(line) = fault_line(alloc, fault) {
@@ -256,8 +257,8 @@ fn tell<E: Sink>(alloc: Global, fault: &RunError, errors: &mut E)
 
 /// A run as a program does it: its exit status is 0 where all was written, and 1 at a fault.
 ///
-/// A fault is told to the last sink, as a line of `cbor-edn: ` and its words. That is given up where memory runs out or
-/// that sink fails.
+/// A fault is told to the last sink, as a line of `cbor-edn: ` and its words. That sink takes the whole line, nothing where
+/// memory for it runs out, or a beginning where the sink fails.
 pub fn serve<R: Source, W: Sink, E: Sink>(
     alloc: Global,
     options: &Options,
@@ -274,6 +275,7 @@ pub fn serve<R: Source, W: Sink, E: Sink>(
         × EndsWriting r (W.since sink.new) }
     ensures quiet { result ≡ 0 → Keeps (E.contents errors.old) (E.contents errors.new) × (E.failures errors.new ≡ E.failures errors.old) }
     ensures told { result ≡ 1 → IsTold (E.contents errors.old) (E.contents errors.new) × FailsAtMostOnce (E.failures errors.old) (E.failures errors.new) (E.since errors.new) }
+    ensures whole { result ≡ 1 → E.failures errors.new ≡ E.failures errors.old → IsToldWhole (E.contents errors.old) (E.contents errors.new) }
 {
     match run(alloc, options, source, sink) {
         Ok(()) => 0,

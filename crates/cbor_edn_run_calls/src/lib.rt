@@ -5,7 +5,7 @@
 ghost use Rattle.std.specs.Prelude.{◌≡◌, ◌+◌, Result, IfOk, IfErr};
 ghost use Rattle.std.specs.Io.KnownBytes.{IsAtEnd, Keeps};
 ghost use Rattle.cbor_edn_command.specs.Devices.{FailsAtMostOnce};
-ghost use Rattle.cbor_edn.specs.Runs.{IsOutput, IsRefused, Wrote, HasReadAll, EndsReading, EndsWriting, IsTold, read_faults, write_faults, status};
+ghost use Rattle.cbor_edn.specs.Runs.{IsOutput, IsRefused, Wrote, HasReadAll, EndsReading, EndsWriting, IsTold, IsToldWhole, read_faults, write_faults, status};
 ghost use Rattle.cbor_edn.specs.declared.engine.RunError.{RunError};
 
 use cbor_edn::engine::{self, Options, RunError, Sink, Source};
@@ -53,6 +53,7 @@ pub fn serve<R: Source, W: Sink, E: Sink>(
         × EndsWriting r (W.since sink.new) }
     ensures quiet { result ≡ 0 → Keeps (E.contents errors.old) (E.contents errors.new) × (E.failures errors.new ≡ E.failures errors.old) }
     ensures told { result ≡ 1 → IsTold (E.contents errors.old) (E.contents errors.new) × FailsAtMostOnce (E.failures errors.old) (E.failures errors.new) (E.since errors.new) }
+    ensures whole { result ≡ 1 → E.failures errors.new ≡ E.failures errors.old → IsToldWhole (E.contents errors.old) (E.contents errors.new) }
 {
     engine::serve(alloc, options, source, sink, errors)
 }

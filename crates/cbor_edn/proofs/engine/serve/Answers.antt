@@ -8,6 +8,7 @@ returns-in-Ok g c = record {
   ran = (c.run.result, sym (ap status c.in-Ok.is), c.run.ensures.writes, c.run.ensures.end, c.run.ensures.read, c.run.ensures.write, c.run.ensures.last_read, c.run.ensures.last_write);
   quiet = search rules;
   told = λ e. absurd (omega (arith, e));
+  whole = λ e. absurd (omega (arith, e));
 }
 
 pub returns-in-Err : goal.returns-in-Err
@@ -15,4 +16,5 @@ returns-in-Err g c = record {
   ran = (c.run.result, sym (ap status c.in-Err.is), c.run.ensures.writes, c.run.ensures.end, c.run.ensures.read, c.run.ensures.write, c.run.ensures.last_read, c.run.ensures.last_write);
   quiet = λ e. absurd (omega (arith, e));
   told = λ e. (c.tell.ensures.told, c.tell.ensures.counted);
+  whole = λ e. c.tell.ensures.whole;
 }
