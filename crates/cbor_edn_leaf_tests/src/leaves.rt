@@ -1,4 +1,5 @@
 //! The leaves of a tree at a place of a text: spaces and encoding indicators, and the places of refusals.
+use cbor_edn_expect::failures::Failures;
 use cbor_edn_expect::{expect, expect_row};
 use cbor_edn_parts::error::Refusal;
 use cbor_edn_parts::indicator::{Indicator, indicator_at};
@@ -95,7 +96,8 @@ fn plain_spaces_as_mandatory_ones(_rt: HostRuntime) -> Result<(), Fail> {
     expect("no comma", Soc::empty().into_msc() == None)
 }
 
-/// Texts, a column, and the space and the mandatory space that they begin with by it.
+/// Texts, a column, and the space and the mandatory space that they begin with by it, from the table of
+/// `parts/specs/Spacing.antt`.
 const SPACES: &[(&str, Spacing, &str, &str)] = &[
     (" /a/ # b\n\n ", Spacing::Least, "", " "),
     (" /a/ # b\n\n ", Spacing::Comments, "/a/ # b\n", "/a/ # b\n"),
@@ -128,16 +130,18 @@ const SPACES: &[(&str, Spacing, &str, &str)] = &[
 #[test]
 fn columns_of_space(rt: HostRuntime) -> Result<(), Fail> {
     let alloc = rt.alloc();
+    let mut failures = Failures::new(alloc);
     for &(text, spacing, optional, mandatory) in SPACES {
+        let row = format!(in alloc; "{text} by {spacing:?}")?;
         let told = space_of(text)?.spaced(alloc, spacing)?;
-        expect_row(alloc, text, told.as_str(), optional)?;
+        failures.row(alloc, row.as_str(), told.as_str(), optional)?;
         let told = mandatory_of(text)?.spaced(alloc, spacing)?;
-        expect_row(alloc, text, told.as_str(), mandatory)?;
+        failures.row(alloc, row.as_str(), told.as_str(), mandatory)?;
     }
-    Ok(())
+    failures.end()
 }
 
-/// Texts, a column, and the separator at an end and between two items that they begin with by it.
+/// Texts, a column, and the separator at an end and between two items that they begin with by it, from the same table.
 const SEPARATORS: &[(&str, Spacing, &str, &str)] = &[
     (" /a/ , # b\n ", Spacing::Least, "", ","),
     (" /a/ , # b\n ", Spacing::Comments, "/a/# b\n", "/a/,# b\n"),
@@ -165,13 +169,15 @@ const SEPARATORS: &[(&str, Spacing, &str, &str)] = &[
 #[test]
 fn columns_of_separators(rt: HostRuntime) -> Result<(), Fail> {
     let alloc = rt.alloc();
+    let mut failures = Failures::new(alloc);
     for &(text, spacing, end, between) in SEPARATORS {
+        let row = format!(in alloc; "{text} by {spacing:?}")?;
         let told = separator_of(text)?.spaced(alloc, spacing)?;
-        expect_row(alloc, text, told.as_str(), end)?;
+        failures.row(alloc, row.as_str(), told.as_str(), end)?;
         let told = between_of(text)?.spaced(alloc, spacing)?;
-        expect_row(alloc, text, told.as_str(), between)?;
+        failures.row(alloc, row.as_str(), told.as_str(), between)?;
     }
-    Ok(())
+    failures.end()
 }
 
 // Where there is no memory for so many spaces, that is told before any of them is written.
@@ -185,7 +191,7 @@ fn endless_indents(rt: HostRuntime) -> Result<(), Fail> {
     expect("Soc", Soc::empty().spaced(alloc, spacing).is_err())
 }
 
-/// Comments, and how they are written.
+/// Comments, and how they are written, by `parts/specs/Notes.antt`.
 const NOTES: &[(&str, &str)] = &[
     ("c", "/ c /"),
     ("", "/  /"),
@@ -200,11 +206,12 @@ const NOTES: &[(&str, &str)] = &[
 #[test]
 fn notes(rt: HostRuntime) -> Result<(), Fail> {
     let alloc = rt.alloc();
+    let mut failures = Failures::new(alloc);
     for &(comment, wanted) in NOTES {
         let note = S::note(alloc, comment)?;
-        expect_row(alloc, comment, note.as_str(), wanted)?;
+        failures.row(alloc, comment, note.as_str(), wanted)?;
     }
-    Ok(())
+    failures.end()
 }
 
 #[test]
@@ -273,7 +280,7 @@ fn indicator_of(text: &str) -> (Option<Indicator>, usize) {
     indicator_at(&text, text.start(), &mut Looks::new())
 }
 
-/// Texts, the indicator that they begin with, and its text.
+/// Texts, the indicator that they begin with, and its text, by the indicators of `docs/SUPPORTED.md`.
 const INDICATORS: &[(&str, Indicator, &str)] = &[
     ("_ 1", Indicator::Indefinite, "_"),
     ("_i,", Indicator::Immediate, "_i"),
@@ -287,10 +294,14 @@ const INDICATORS: &[(&str, Indicator, &str)] = &[
 
 #[test]
 fn indicators(rt: HostRuntime) -> Result<(), Fail> {
+    let alloc = rt.alloc();
+    let mut failures = Failures::new(alloc);
     for &(text, indicator, word) in INDICATORS {
-        expect_row(rt.alloc(), text, indicator.as_str(), word)?;
-        expect(text, indicator_of(text) == (Some(indicator), word.len()))?;
+        failures.row(alloc, text, indicator.as_str(), word)?;
+        let is_read = indicator_of(text) == (Some(indicator), word.len());
+        failures.holds(alloc, text, is_read)?;
     }
+    failures.end()?;
     expect("another letter", indicator_of("i") == (None, 0))?;
     expect("no text", indicator_of("") == (None, 0))
 }
@@ -317,7 +328,8 @@ fn refusal_of(leaf: Leaf, text: &str) -> Option<Refusal> {
     }
 }
 
-/// Leaves, texts that begin with none, and the byte where that is seen.
+/// Leaves, texts that begin with none, and the byte where that is seen, by the rule of `docs/DECISIONS.md`: where a token
+/// can't go on, or the end of the text.
 const REFUSALS: &[(Leaf, &str, usize)] = &[
     (Leaf::Number, "0x", 2),
     (Leaf::Space, "/\u{e9}\u{1}/", 3),
@@ -327,9 +339,12 @@ const REFUSALS: &[(Leaf, &str, usize)] = &[
 ];
 
 #[test]
-fn places_of_refusals(_rt: HostRuntime) -> Result<(), Fail> {
+fn places_of_refusals(rt: HostRuntime) -> Result<(), Fail> {
+    let alloc = rt.alloc();
+    let mut failures = Failures::new(alloc);
     for &(leaf, text, at) in REFUSALS {
-        expect(text, refusal_of(leaf, text) == Some(Refusal::invalid(at)))?;
+        let is_there = refusal_of(leaf, text) == Some(Refusal::invalid(at));
+        failures.holds(alloc, text, is_there)?;
     }
-    Ok(())
+    failures.end()
 }
