@@ -3,10 +3,12 @@ use crate::common::{cbor_error, decoded, decoded_item, repeated, stand_for_each_
 use cbor_edn_core::from_cbor::CborError;
 use cbor_edn_core::tree::{Item, NESTING_LIMIT, Sequence, StandaloneItem};
 use cbor_edn_expect::failures::Failures;
-use cbor_edn_expect::{digits_of, expect, expect_row, name_of};
+use cbor_edn_expect::{digits_of, expect_row, name_of};
 use std::alloc::Global;
 use std::test::Fail;
 
+/// Bytes of RFC 8949, section 3, given in digits, and the text that they are decoded as, by the tables of `docs/SUPPORTED.md` and,
+/// between quotes, by `docs/DECISIONS.md`.
 const ROWS: &[(&str, &str)] = &[
     ("", ""),
     ("8301181f80", "[1, 31, []]"),
@@ -73,7 +75,8 @@ fn decodes_rows(rt: HostRuntime) -> Result<(), Fail> {
     failures.end()
 }
 
-/// Bytes that encode no items, and the name of the refusal.
+/// Bytes that encode no items by RFC 8949, section 3 and appendix F, or are out of scope by `docs/SUPPORTED.md`, and the name of
+/// the refusal.
 const REFUSED: &[(&str, &str)] = &[
     ("82", "OutOfData"),
     ("8201", "OutOfData"),
@@ -137,24 +140,25 @@ fn refuses_bytes(rt: HostRuntime) -> Result<(), Fail> {
     failures.end()
 }
 
-/// Bytes that are not one item, and the name of the refusal.
-const NOT_ONE: &[(&[u8], &str)] = &[
-    (b"", "OutOfData"),
-    (b"\0\0", "DataAfter"),
-    (b"\x01\x02\x03", "DataAfter"),
+/// Bytes, given in digits, that are not one item of RFC 8949, section 3, and the name of the refusal.
+const NOT_ONE: &[(&str, &str)] = &[
+    ("", "OutOfData"),
+    ("0000", "DataAfter"),
+    ("010203", "DataAfter"),
 ];
 
 #[test]
 fn refuses_other_than_one_item(rt: HostRuntime) -> Result<(), Fail> {
     let alloc = rt.alloc();
-    for &(bytes, name) in NOT_ONE {
-        let told = decoded_item(alloc, bytes, NESTING_LIMIT)?;
-        expect_row(alloc, "not one item", told.as_str(), name)?;
+    let mut failures = Failures::new(alloc);
+    for &(digits, name) in NOT_ONE {
+        let told = item_of(alloc, digits, NESTING_LIMIT)?;
+        failures.row(alloc, digits, told.as_str(), name)?;
     }
-    Ok(())
+    failures.end()
 }
 
-/// Bytes no beginning of which is an item, and the text of the item that they encode, or the name of the refusal.
+/// Bytes of RFC 8949, section 3, no beginning of which is an item, and the text of the item that they encode, or the name of the refusal.
 const WHOLE: &[(&str, &str)] = &[
     ("9f8201ff", "MisplacedBreak"),
     ("9f820102ff", "[_ [1, 2]]"),
@@ -203,12 +207,13 @@ fn refuses_beginnings(rt: HostRuntime) -> Result<(), Fail> {
     for &(digits, text) in WHOLE {
         let told = item_of(alloc, digits, NESTING_LIMIT)?;
         failures.row(alloc, digits, told.as_str(), text)?;
-        expect(digits, first_uncut(alloc, digits)? == digits.len() / 2)?;
+        let is_cut_before = first_uncut(alloc, digits)? == digits.len() / 2;
+        failures.holds(alloc, digits, is_cut_before)?;
     }
     failures.end()
 }
 
-/// Bytes, how deep their item nests, and its text. Simple values that have names do not nest.
+/// Bytes, how deep their item nests, and its text, by `docs/SUPPORTED.md`. Simple values that have names do not nest.
 const NESTED: &[(&str, usize, &str)] = &[
     ("f5", 0, "true"),
     ("80", 1, "[]"),
@@ -231,8 +236,9 @@ fn counts_what_nests(rt: HostRuntime) -> Result<(), Fail> {
     for &(digits, depth, text) in NESTED {
         for limit in 0..3 {
             let wanted = if limit < depth { "TooDeep" } else { text };
+            let row = format!(in alloc; "{digits} at {limit}")?;
             let told = item_of(alloc, digits, limit)?;
-            failures.row(alloc, digits, told.as_str(), wanted)?;
+            failures.row(alloc, row.as_str(), told.as_str(), wanted)?;
         }
     }
     failures.end()
@@ -257,17 +263,20 @@ fn accepts_the_deepest(rt: HostRuntime) -> Result<(), Fail> {
     expect_row(alloc, "the deepest", told.as_str(), text.as_str())
 }
 
+/// Depths above the limit of `docs/SUPPORTED.md`.
 const DEEPER: &[usize] = &[NESTING_LIMIT + 1, 100_001];
 
 #[test]
 fn refuses_what_is_deeper(rt: HostRuntime) -> Result<(), Fail> {
     let alloc = rt.alloc();
+    let mut failures = Failures::new(alloc);
     for &depth in DEEPER {
         let bytes = nested(alloc, depth)?;
+        let row = format!(in alloc; "{depth} arrays")?;
         let told = decoded_item(alloc, bytes.as_slice(), NESTING_LIMIT)?;
-        expect_row(alloc, "deeper", told.as_str(), "TooDeep")?;
+        failures.row(alloc, row.as_str(), told.as_str(), "TooDeep")?;
     }
-    Ok(())
+    failures.end()
 }
 
 /// The text of the item that bytes begin with, which may nest so deep or has no limit of its own, and the bytes behind it; or the
@@ -299,12 +308,20 @@ fn first_standalone(
     }
 }
 
-fn expect_first(alloc: Global, told: (String, &[u8]), text: &str, rest: &[u8]) -> Result<(), Fail> {
-    expect_row(alloc, "the first item", told.0.as_str(), text)?;
-    expect("the rest behind it", told.1 == rest)
+fn see_first(
+    failures: &mut Failures,
+    alloc: Global,
+    row: &str,
+    told: (String, &[u8]),
+    wanted: (&str, &[u8]),
+) -> Result<(), Fail> {
+    failures.row(alloc, row, told.0.as_str(), wanted.0)?;
+    failures.holds(alloc, row, told.1 == wanted.1)?;
+    Ok(())
 }
 
-/// Bytes, how deep the item may nest that they begin with, its text, and the rest; or the name of the refusal, and all bytes.
+/// Bytes of RFC 8949, section 3, how deep the item may nest that they begin with, its text, and the rest; or the name of the refusal,
+/// and all bytes.
 const BEGUN: &[(&[u8], Option<usize>, &str, &[u8])] = &[
     (b"\x01\x02\x03", None, "1", b"\x02\x03"),
     (b"\x01\x02\x03", Some(0), "1", b"\x02\x03"),
@@ -317,11 +334,15 @@ const BEGUN: &[(&[u8], Option<usize>, &str, &[u8])] = &[
 #[test]
 fn answers_the_rest(rt: HostRuntime) -> Result<(), Fail> {
     let alloc = rt.alloc();
+    let mut failures = Failures::new(alloc);
     for &(bytes, limit, text, rest) in BEGUN {
-        expect_first(alloc, first_item(alloc, bytes, limit)?, text, rest)?;
-        expect_first(alloc, first_standalone(alloc, bytes, limit)?, text, rest)?;
+        let row = format!(in alloc; "{bytes:?} within {limit:?}")?;
+        let told = first_item(alloc, bytes, limit)?;
+        see_first(&mut failures, alloc, row.as_str(), told, (text, rest))?;
+        let told = first_standalone(alloc, bytes, limit)?;
+        see_first(&mut failures, alloc, row.as_str(), told, (text, rest))?;
     }
-    Ok(())
+    failures.end()
 }
 
 /// The bytes of the item that bytes encode, which may nest so deep, or the name of the refusal.
@@ -356,7 +377,7 @@ fn sequence_again(alloc: Global, bytes: &[u8], limit: usize) -> Result<String, F
     }
 }
 
-/// Bytes, how deep their item may nest, and the same bytes or the name of the refusal.
+/// Bytes of RFC 8949, section 3, how deep their item may nest, and the same bytes or the name of the refusal.
 const AGAIN: &[(&[u8], usize, &str)] = &[
     (
         b"\x9f\x19\x00\xff\xb8\x02\x01\x38\x00\x03\x80\xff",
@@ -374,14 +395,17 @@ const AGAIN: &[(&[u8], usize, &str)] = &[
 #[test]
 fn encodes_items_again(rt: HostRuntime) -> Result<(), Fail> {
     let alloc = rt.alloc();
+    let mut failures = Failures::new(alloc);
     for &(bytes, limit, wanted) in AGAIN {
+        let row = format!(in alloc; "{bytes:?} within {limit}")?;
         let told = item_again(alloc, bytes, limit)?;
-        expect_row(alloc, "an item", told.as_str(), wanted)?;
+        failures.row(alloc, row.as_str(), told.as_str(), wanted)?;
         let told = standalone_again(alloc, bytes, limit)?;
-        expect_row(alloc, "a standalone item", told.as_str(), wanted)?;
+        failures.row(alloc, row.as_str(), told.as_str(), wanted)?;
         let told = sequence_again(alloc, bytes, limit)?;
-        expect_row(alloc, "a sequence", told.as_str(), wanted)?;
+        failures.row(alloc, row.as_str(), told.as_str(), wanted)?;
     }
+    failures.end()?;
     let told = unlimited_again(alloc, b"\x82\x01\x81\x80")?;
     expect_row(alloc, "a standalone item", told.as_str(), "82018180")?;
     let told = sequence_again(alloc, b"\x80\x81\x80", 2)?;

@@ -2,6 +2,7 @@
 use crate::common::{encoded, expect_itself, refusal, repeated};
 use cbor_edn_core::tree::{NESTING_LIMIT, Sequence, StandaloneItem};
 use cbor_edn_expect::expect;
+use cbor_edn_expect::failures::Failures;
 use cbor_edn_parts::looks::Looks;
 use std::alloc::Global;
 use std::mem::size_of;
@@ -30,7 +31,7 @@ fn accepts_standalone(alloc: Global, text: &str, limit: usize) -> bool {
     StandaloneItem::parse_within(alloc, text, limit).is_ok()
 }
 
-/// Texts, and how deep their items nest: each item of a sequence by itself, and words not at all.
+/// Texts, and how deep their items nest, by the rule in `docs/SUPPORTED.md`: each item of a sequence by itself, and words not at all.
 const NESTED: &[(&str, usize)] = &[
     ("1", 0),
     ("[]", 1),
@@ -51,6 +52,8 @@ const NESTED: &[(&str, usize)] = &[
 
 #[test]
 fn counts_what_nests(rt: HostRuntime) -> Result<(), Fail> {
+    let alloc = rt.alloc();
+    let mut failures = Failures::new(alloc);
     for &(text, depth) in NESTED {
         for limit in 0..4 {
             let wanted = if limit < depth {
@@ -58,10 +61,13 @@ fn counts_what_nests(rt: HostRuntime) -> Result<(), Fail> {
             } else {
                 Answer::Accepted
             };
-            expect_answer(rt.alloc(), text, limit, wanted)?;
+            let row = format!(in alloc; "{text} at {limit}")?;
+            let is_wanted = answer_of(alloc, text, limit)? == wanted;
+            failures.holds(alloc, row.as_str(), is_wanted)?;
         }
     }
-    expect_answer(rt.alloc(), ",1", 0, Answer::Invalid)
+    failures.end()?;
+    expect_answer(alloc, ",1", 0, Answer::Invalid)
 }
 
 #[test]

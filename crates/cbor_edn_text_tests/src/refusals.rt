@@ -10,7 +10,8 @@ use std::test::Fail;
 /// Where a text is refused: the byte, the line and the column.
 type Place = (usize, usize, usize);
 
-fn expect_refusal(
+fn see_refusal(
+    failures: &mut Failures,
     alloc: Global,
     refused: &ParseError,
     place: Place,
@@ -18,12 +19,14 @@ fn expect_refusal(
     words: &str,
 ) -> Result<(), Fail> {
     let told: Place = (refused.offset(), refused.line(), refused.column());
-    expect(words, told == place)?;
-    expect(words, refused.too_deep() == is_deep)?;
-    expect_row(alloc, words, refused.to_string(alloc)?.as_str(), words)
+    failures.holds(alloc, words, told == place)?;
+    failures.holds(alloc, words, refused.too_deep() == is_deep)?;
+    failures.row(alloc, words, refused.to_string(alloc)?.as_str(), words)?;
+    Ok(())
 }
 
-/// Texts whose items may nest so deep, and where and why they are refused.
+/// Texts whose items may nest so deep, and where and why they are refused: the places by `docs/DECISIONS.md`, the words are
+/// this project's choice.
 const PLACES: &[(&str, usize, Place, bool, &str)] = &[
     // two lines, and a character of two bytes in front of the fault
     (
@@ -45,18 +48,25 @@ const PLACES: &[(&str, usize, Place, bool, &str)] = &[
 #[test]
 fn names_its_place(rt: HostRuntime) -> Result<(), Fail> {
     let alloc = rt.alloc();
+    let mut failures = Failures::new(alloc);
     for &(text, limit, place, is_deep, words) in PLACES {
-        let refused = refusal(alloc, text, limit)?.ok_or("accepted")?;
-        expect_refusal(alloc, &refused, place, is_deep, words)?;
+        match refusal(alloc, text, limit)? {
+            Some(refused) => {
+                see_refusal(&mut failures, alloc, &refused, place, is_deep, words)?;
+            }
+            None => failures.row(alloc, text, "accepted", words)?,
+        }
     }
-    Ok(())
+    failures.end()
 }
 
 #[test]
 fn words_of_parse_errors(rt: HostRuntime) -> Result<(), Fail> {
     let alloc = rt.alloc();
+    let mut failures = Failures::new(alloc);
     let invalid = ParseError::new(ParseErrorKind::Invalid, 7, 2, 3);
-    expect_refusal(
+    see_refusal(
+        &mut failures,
         alloc,
         &invalid,
         (7, 2, 3),
@@ -64,16 +74,18 @@ fn words_of_parse_errors(rt: HostRuntime) -> Result<(), Fail> {
         "Invalid EDN in line 2 column 3 (byte 7)",
     )?;
     let deep = ParseError::new(ParseErrorKind::TooDeep, 0, 1, 1);
-    expect_refusal(
+    see_refusal(
+        &mut failures,
         alloc,
         &deep,
         (0, 1, 1),
         true,
         "EDN nested too deeply in line 1 column 1 (byte 0)",
-    )
+    )?;
+    failures.end()
 }
 
-/// Texts, why they are refused, and its words.
+/// Texts of the grammar in `docs/SUPPORTED.md`, why they mean nothing by it, and the words for that, which are this project's choice.
 const INCONSISTENT: &[(&str, InconsistentEdn, &str)] = &[
     (
         "1.0",
@@ -117,7 +129,7 @@ const INCONSISTENT: &[(&str, InconsistentEdn, &str)] = &[
     ),
 ];
 
-/// Refusals of other calls, and their words.
+/// Refusals of other calls, and the words for them, which are this project's choice.
 const UNTOLD: &[(InconsistentEdn, &str)] = &[
     (
         InconsistentEdn::InvalidIdentifier,
@@ -129,32 +141,43 @@ const UNTOLD: &[(InconsistentEdn, &str)] = &[
     ),
 ];
 
-fn expect_words(alloc: Global, refused: InconsistentEdn, words: &str) -> Result<(), Fail> {
-    expect_row(alloc, words, refused.to_string(alloc)?.as_str(), words)
+fn see_words(
+    failures: &mut Failures,
+    alloc: Global,
+    refused: InconsistentEdn,
+    words: &str,
+) -> Result<(), Fail> {
+    failures.row(alloc, words, refused.to_string(alloc)?.as_str(), words)?;
+    Ok(())
 }
 
 #[test]
 fn words_of_inconsistencies(rt: HostRuntime) -> Result<(), Fail> {
     let alloc = rt.alloc();
+    let mut failures = Failures::new(alloc);
     for &(text, refused, words) in INCONSISTENT {
         let name = format!(in alloc; "{refused:?}")?;
-        expect_row(alloc, text, encoded(alloc, text)?.as_str(), name.as_str())?;
-        expect_words(alloc, refused, words)?;
+        failures.row(alloc, text, encoded(alloc, text)?.as_str(), name.as_str())?;
+        see_words(&mut failures, alloc, refused, words)?;
     }
     for &(refused, words) in UNTOLD {
-        expect_words(alloc, refused, words)?;
+        see_words(&mut failures, alloc, refused, words)?;
     }
-    match u8::try_from(256_u16) {
-        Ok(_) => Err(Fail::new("256 in a byte")),
-        Err(error) => expect_words(
-            alloc,
-            InconsistentEdn::from(error),
-            "Numeric range exceeded",
-        ),
-    }
+    failures.end()
 }
 
-/// Bytes, given in digits, why they are no item, and its words.
+#[test]
+fn words_of_numbers_out_of_range(rt: HostRuntime) -> Result<(), Fail> {
+    let alloc = rt.alloc();
+    let Err(error) = u8::try_from(256_u16) else {
+        return Err(Fail::new("256 in a byte"));
+    };
+    let words = InconsistentEdn::from(error).to_string(alloc)?;
+    expect_row(alloc, "256", words.as_str(), "Numeric range exceeded")
+}
+
+/// Bytes, given in digits, why they are no item by RFC 8949, section 3 and appendix F, or out of scope by `docs/SUPPORTED.md`, and
+/// the words for that, which are this project's choice.
 const CBOR_ERRORS: &[(&str, CborError, &str)] = &[
     // a count takes no memory before its items are read
     (
@@ -234,8 +257,9 @@ fn words_of_cbor_errors(rt: HostRuntime) -> Result<(), Fail> {
     let alloc = rt.alloc();
     let mut failures = Failures::new(alloc);
     for &(digits, refused, words) in CBOR_ERRORS {
-        expect(digits, error_of(alloc, digits)? == Some(refused))?;
-        expect(digits, !refused.too_deep())?;
+        let is_refused = error_of(alloc, digits)? == Some(refused);
+        failures.holds(alloc, digits, is_refused)?;
+        failures.holds(alloc, digits, !refused.too_deep())?;
         failures.row(alloc, digits, refused.to_string(alloc)?.as_str(), words)?;
     }
     failures.end()?;

@@ -1,8 +1,9 @@
 //! Texts of numbers, arrays and maps, and the bytes that they mean.
 use crate::common::{all_mean, all_unparsed, encoded_alone};
-use cbor_edn_expect::expect_row;
+use cbor_edn_expect::failures::Failures;
 use std::test::Fail;
 
+/// Texts of the grammar in `docs/SUPPORTED.md`, and the bytes of RFC 8949, section 3, that they mean.
 const ENCODED: &[(&str, &str)] = &[
     ("[1, 0x1f, []]", "8301181f80"),
     ("-0x10", "2f"),
@@ -70,6 +71,7 @@ fn encodes_rows(rt: HostRuntime) -> Result<(), Fail> {
     all_mean(rt.alloc(), ENCODED)
 }
 
+/// The same of standalone items, or the name of the refusal.
 const ALONE: &[(&str, &str)] = &[
     (" [1, 0x1f, []] # c\n", "8301181f80"),
     ("", "parse"),
@@ -80,12 +82,14 @@ const ALONE: &[(&str, &str)] = &[
 #[test]
 fn encodes_standalone_items(rt: HostRuntime) -> Result<(), Fail> {
     let alloc = rt.alloc();
+    let mut failures = Failures::new(alloc);
     for &(text, wanted) in ALONE {
-        expect_row(alloc, text, encoded_alone(alloc, text)?.as_str(), wanted)?;
+        failures.row(alloc, text, encoded_alone(alloc, text)?.as_str(), wanted)?;
     }
-    Ok(())
+    failures.end()
 }
 
+/// Texts of the grammar in `docs/SUPPORTED.md` that mean nothing by it, and the name of the refusal.
 const REFUSED: &[(&str, &str)] = &[
     (
         "340282366920938463463374607431768211456",
@@ -134,6 +138,7 @@ fn refuses_what_means_nothing(rt: HostRuntime) -> Result<(), Fail> {
     all_mean(rt.alloc(), REFUSED)
 }
 
+/// Texts that the grammar in `docs/SUPPORTED.md` does not have.
 #[test]
 fn refuses_texts(rt: HostRuntime) -> Result<(), Fail> {
     all_unparsed(

@@ -3,6 +3,8 @@ use crate::common::{all_mean, all_unparsed, encoded, expect_itself, repeated};
 use cbor_edn_expect::{expect, expect_row};
 use std::test::Fail;
 
+/// Texts of the grammar in `docs/SUPPORTED.md`, and the bytes of RFC 8949, section 3, that they mean; what `b64`, `b32` and `h32` stand
+/// for by RFC 4648.
 const ENCODED: &[(&str, &str)] = &[
     ("\"a\" + 'b'", "626162"),
     ("'a' + \"b\"", "426162"),
@@ -69,6 +71,8 @@ fn encodes_strings(rt: HostRuntime) -> Result<(), Fail> {
     all_mean(rt.alloc(), ENCODED)
 }
 
+/// Texts of the grammar in `docs/SUPPORTED.md` that mean nothing by it, and the name of the refusal; which of several is told
+/// by `docs/DECISIONS.md`.
 const REFUSED: &[(&str, &str)] = &[
     ("'a'_0 + 'b'", "IndicatorOnPiece"),
     ("e'x'", "UnsupportedLiteral"),
@@ -117,6 +121,7 @@ fn refuses_strings_without_encoding(rt: HostRuntime) -> Result<(), Fail> {
     all_mean(rt.alloc(), REFUSED)
 }
 
+/// Texts that the grammar in `docs/SUPPORTED.md` does not have.
 #[test]
 fn refuses_texts_of_strings(rt: HostRuntime) -> Result<(), Fail> {
     all_unparsed(

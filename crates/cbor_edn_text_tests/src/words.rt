@@ -2,6 +2,7 @@
 use crate::common::{all_mean, all_unparsed};
 use std::test::Fail;
 
+/// Texts of the grammar in `docs/SUPPORTED.md`, and the bytes of RFC 8949, section 3, that they mean.
 const ENCODED: &[(&str, &str)] = &[
     ("1(2)", "c102"),
     ("1_0(2)", "d80102"),
@@ -28,6 +29,8 @@ fn encodes_words(rt: HostRuntime) -> Result<(), Fail> {
     all_mean(rt.alloc(), ENCODED)
 }
 
+/// Texts of the grammar in `docs/SUPPORTED.md` that mean nothing by it, and the name of the refusal; which of several is told
+/// by `docs/DECISIONS.md`.
 const REFUSED: &[(&str, &str)] = &[
     ("simple(24)", "InvalidSimple"),
     ("simple(31)", "InvalidSimple"),
@@ -55,6 +58,7 @@ fn refuses_words_without_encoding(rt: HostRuntime) -> Result<(), Fail> {
     all_mean(rt.alloc(), REFUSED)
 }
 
+/// Texts that the grammar in `docs/SUPPORTED.md` does not have.
 #[test]
 fn refuses_texts_of_words(rt: HostRuntime) -> Result<(), Fail> {
     all_unparsed(
