@@ -1,12 +1,13 @@
 //! Paths and visits where trees nest as deep as texts may. `scripts/check-stack.sh` runs them under a small stack.
 use crate::common::standalone_of;
 use cbor_edn_core::tree::{NESTING_LIMIT, StandaloneItem};
-use cbor_edn_expect::expect;
+use cbor_edn_expect::failures::Failures;
 use cbor_edn_parts::error::CallbackError;
 use std::alloc::Global;
 use std::test::Fail;
 
-/// Forms that nest round a literal: openings, closings, closings where tags have comments, and a path through the openings.
+/// Forms that nest round a literal: openings, closings, closings where tags have comments, and a path through the openings:
+/// by hand from the grammar in `docs/SUPPORTED.md` and the docstrings of `at_mut` and of the visits.
 const FORMS: &[(&str, &str, &str, &[usize])] = &[
     ("[", "]", "]", &[0]),
     ("[2,", ",3]", ",3]", &[1]),
@@ -57,14 +58,15 @@ fn text_at(alloc: Global, text: &str, path: &[usize]) -> Result<String, Fail> {
 #[test]
 fn paths_lead_to_the_deepest(rt: HostRuntime) -> Result<(), Fail> {
     let alloc = rt.alloc();
+    let mut failures = Failures::new(alloc);
     for &(open, close, _, steps) in FORMS {
         let turns = turns(steps.len())?;
         let deepest = nested(alloc, turns, open, INSIDE, close)?;
         let path = steps.repeat(alloc, turns)?;
         let told = text_at(alloc, deepest.as_str(), path.as_slice())?;
-        expect(open, told.as_str() == INSIDE)?;
+        failures.row(alloc, open, told.as_str(), INSIDE)?;
     }
-    Ok(())
+    failures.end()
 }
 
 fn comment(alloc: Global) -> Result<(), CallbackError> {
@@ -96,13 +98,16 @@ fn literals_commented(alloc: Global, text: &str) -> Result<String, Fail> {
 #[test]
 fn visits_enter_the_deepest(rt: HostRuntime) -> Result<(), Fail> {
     let alloc = rt.alloc();
+    let mut failures = Failures::new(alloc);
     for &(open, close, commented, steps) in FORMS {
         let turns = turns(steps.len())?;
         let deepest = nested(alloc, turns, open, INSIDE, close)?;
         let told = tags_commented(alloc, deepest.as_str())?;
-        expect(open, told == nested(alloc, turns, open, INSIDE, commented)?)?;
+        let is_wanted = told == nested(alloc, turns, open, INSIDE, commented)?;
+        failures.holds(alloc, open, is_wanted)?;
         let told = literals_commented(alloc, deepest.as_str())?;
-        expect(open, told == nested(alloc, turns, open, COMMENTED, close)?)?;
+        let is_wanted = told == nested(alloc, turns, open, COMMENTED, close)?;
+        failures.holds(alloc, open, is_wanted)?;
     }
-    Ok(())
+    failures.end()
 }

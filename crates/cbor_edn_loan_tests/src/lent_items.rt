@@ -2,7 +2,7 @@
 use crate::common::sequence_of;
 use cbor_edn_core::access::TypeMismatch;
 use cbor_edn_core::tree::{Item, Sequence};
-use cbor_edn_expect::expect_text;
+use cbor_edn_expect::failures::Failures;
 use std::alloc::Global;
 use std::mem::swap;
 use std::test::Fail;
@@ -64,6 +64,7 @@ fn overwritten(alloc: Global, text: &str, lender: Lender) -> Result<String, Fail
     text_after(alloc, &mut sequence, lender)
 }
 
+/// Texts whose items but the first are overwritten: by hand from the grammar in `docs/SUPPORTED.md`, what is not lent as it was.
 const OVERWRITTEN: &[(Lender, &str, &str)] = &[
     (Lender::Array, "[\"a\" 1]", "[\"a\" +1]"),
     (
@@ -82,11 +83,13 @@ const OVERWRITTEN: &[(Lender, &str, &str)] = &[
 
 #[test]
 fn items_are_lent_in_turn(rt: HostRuntime) -> Result<(), Fail> {
+    let alloc = rt.alloc();
+    let mut failures = Failures::new(alloc);
     for &(lender, text, wanted) in OVERWRITTEN {
-        let told = overwritten(rt.alloc(), text, lender)?;
-        expect_text(rt.alloc(), told.as_str(), wanted)?;
+        let told = overwritten(alloc, text, lender)?;
+        failures.row(alloc, text, told.as_str(), wanted)?;
     }
-    Ok(())
+    failures.end()
 }
 
 /// Exchanges each key of a map and its value.
@@ -110,6 +113,7 @@ fn exchanged(alloc: Global, text: &str) -> Result<String, Fail> {
     text_exchanged(alloc, sequence.at_mut(&[0]))
 }
 
+/// Maps whose keys and values change places: by hand, with heads, spaces and separators as they were.
 const EXCHANGED: &[(&str, &str)] = &[
     (
         "{_ 1: 2 , \"a\" :[3] /c/ {}:4,}",
@@ -123,11 +127,12 @@ const EXCHANGED: &[(&str, &str)] = &[
 
 #[test]
 fn pairs_are_lent_in_turn(rt: HostRuntime) -> Result<(), Fail> {
+    let alloc = rt.alloc();
+    let mut failures = Failures::new(alloc);
     for &(text, wanted) in EXCHANGED {
-        let told = exchanged(rt.alloc(), text)?;
-        expect_text(rt.alloc(), told.as_str(), wanted)?;
+        failures.row(alloc, text, exchanged(alloc, text)?.as_str(), wanted)?;
     }
-    Ok(())
+    failures.end()
 }
 
 /// What an item is told where it lends no items as an array and as a map, and its text afterwards.
@@ -153,6 +158,7 @@ fn unlent(alloc: Global, text: &str) -> Result<String, Fail> {
     unlent_in(alloc, sequence.at_mut(&[0]))
 }
 
+/// Texts of each form of item, by the docstrings of `get_array_items_mut` and `get_map_items_mut`.
 const UNLENT: &[(&str, &str)] = &[
     ("[1]", ";Expected map;[1]"),
     ("[ ]", ";Expected map;[ ]"),
@@ -170,8 +176,10 @@ const UNLENT: &[(&str, &str)] = &[
 
 #[test]
 fn other_items_lend_none(rt: HostRuntime) -> Result<(), Fail> {
+    let alloc = rt.alloc();
+    let mut failures = Failures::new(alloc);
     for &(text, wanted) in UNLENT {
-        expect_text(rt.alloc(), unlent(rt.alloc(), text)?.as_str(), wanted)?;
+        failures.row(alloc, text, unlent(alloc, text)?.as_str(), wanted)?;
     }
-    Ok(())
+    failures.end()
 }

@@ -2,7 +2,7 @@
 use crate::common::{sequence_of, standalone_of};
 use cbor_edn_core::access::TypeMismatch;
 use cbor_edn_core::tree::{Item, Sequence};
-use cbor_edn_expect::{expect, expect_text};
+use cbor_edn_expect::failures::Failures;
 use cbor_edn_parts::error::Fault;
 use std::alloc::Global;
 use std::test::Fail;
@@ -25,6 +25,7 @@ fn text_in_item(alloc: Global, text: &str, path: &[usize]) -> Result<String, Fai
     text_of(alloc, item.at_mut(path))
 }
 
+/// Texts, paths, and the texts of the items where they lead, or the empty text of none, by the docstring of `at_mut`.
 const REACHED: &[(&str, &[usize], &str)] = &[
     ("1, [2]", &[1, 0], "2"),
     ("1, [2]", &[], ""),
@@ -49,25 +50,29 @@ const REACHED: &[(&str, &[usize], &str)] = &[
 
 #[test]
 fn paths_lead_to_items(rt: HostRuntime) -> Result<(), Fail> {
+    let alloc = rt.alloc();
+    let mut failures = Failures::new(alloc);
     for &(text, path, wanted) in REACHED {
-        expect_text(
-            rt.alloc(),
-            text_at(rt.alloc(), text, path)?.as_str(),
-            wanted,
-        )?;
+        let row = format!(in alloc; "{path:?} of {text}")?;
+        let told = text_at(alloc, text, path)?;
+        failures.row(alloc, row.as_str(), told.as_str(), wanted)?;
     }
-    Ok(())
+    failures.end()
 }
 
+/// Paths from one standalone item, by the same docstring.
 const REACHED_IN_ITEM: &[(&[usize], &str)] = &[(&[], "[0, {1: 2}]"), (&[1, 1], "2"), (&[1, 2], "")];
 
 #[test]
 fn paths_lead_from_an_item(rt: HostRuntime) -> Result<(), Fail> {
+    let alloc = rt.alloc();
+    let mut failures = Failures::new(alloc);
     for &(path, wanted) in REACHED_IN_ITEM {
-        let told = text_in_item(rt.alloc(), " [0, {1: 2}] ", path)?;
-        expect_text(rt.alloc(), told.as_str(), wanted)?;
+        let row = format!(in alloc; "{path:?}")?;
+        let told = text_in_item(alloc, " [0, {1: 2}] ", path)?;
+        failures.row(alloc, row.as_str(), told.as_str(), wanted)?;
     }
-    Ok(())
+    failures.end()
 }
 
 /// Puts a copy of an item where a path leads.
@@ -110,6 +115,7 @@ fn replaced(alloc: Global, text: &str, path: &[usize], new: &str) -> Result<Stri
     text_with(alloc, &mut sequence, path, new)
 }
 
+/// Texts, paths, the texts of items that are put there, and the texts then: by hand, with all else as it was.
 const REPLACED: &[(&str, &[usize], &str, &str)] = &[
     ("[\"a\" 1]", &[0, 1], "+1", "[\"a\" +1]"),
     ("[1 2]", &[0, 1], "(_ 'x')", "[1 (_ 'x')]"),
@@ -133,11 +139,14 @@ const REPLACED: &[(&str, &[usize], &str, &str)] = &[
 
 #[test]
 fn items_are_replaced(rt: HostRuntime) -> Result<(), Fail> {
+    let alloc = rt.alloc();
+    let mut failures = Failures::new(alloc);
     for &(text, path, new, wanted) in REPLACED {
-        let told = replaced(rt.alloc(), text, path, new)?;
-        expect_text(rt.alloc(), told.as_str(), wanted)?;
+        let row = format!(in alloc; "{new} at {path:?} of {text}")?;
+        let told = replaced(alloc, text, path, new)?;
+        failures.row(alloc, row.as_str(), told.as_str(), wanted)?;
     }
-    Ok(())
+    failures.end()
 }
 
 /// The integer of an item, and none of no item.
@@ -153,6 +162,7 @@ fn integer_of(alloc: Global, text: &str) -> Result<Result<i128, TypeMismatch>, F
     Ok(integer_in(sequence.at_mut(&[0])))
 }
 
+/// Numbers, and the integers of these, by the docstring of `get_integer`.
 const INTEGERS: &[(&str, Result<i128, TypeMismatch>)] = &[
     ("-0x80000000000000000000000000000000", Ok(i128::MIN)),
     (
@@ -165,10 +175,13 @@ const INTEGERS: &[(&str, Result<i128, TypeMismatch>)] = &[
 
 #[test]
 fn integers_of_texts_are_answered(rt: HostRuntime) -> Result<(), Fail> {
+    let alloc = rt.alloc();
+    let mut failures = Failures::new(alloc);
     for &(text, wanted) in INTEGERS {
-        expect(text, integer_of(rt.alloc(), text)? == wanted)?;
+        let is_wanted = integer_of(alloc, text)? == wanted;
+        failures.holds(alloc, text, is_wanted)?;
     }
-    Ok(())
+    failures.end()
 }
 
 /// The bytes of an item, and none of no item.
@@ -184,6 +197,7 @@ fn bytes_of(alloc: Global, text: &str) -> Result<Vec<u8>, Fail> {
     bytes_in(alloc, sequence.at_mut(&[0]))
 }
 
+/// Strings, and the bytes of these, by the docstring of `get_bytes`.
 const BYTES: &[(&str, &[u8])] = &[
     ("(_ 'a', h'62' + 'c')", b"abc"),
     ("<<1, 2>>_1 + 'x'", b"\x01\x02x"),
@@ -191,10 +205,13 @@ const BYTES: &[(&str, &[u8])] = &[
 
 #[test]
 fn bytes_of_texts_are_answered(rt: HostRuntime) -> Result<(), Fail> {
+    let alloc = rt.alloc();
+    let mut failures = Failures::new(alloc);
     for &(text, wanted) in BYTES {
-        expect(text, bytes_of(rt.alloc(), text)?.as_slice() == wanted)?;
+        let is_wanted = bytes_of(alloc, text)?.as_slice() == wanted;
+        failures.holds(alloc, text, is_wanted)?;
     }
-    Ok(())
+    failures.end()
 }
 
 /// The prefix and the text of an item with an equals sign between them, or the word of its refusal.
@@ -214,6 +231,7 @@ fn literal_of(alloc: Global, text: &str) -> Result<String, Fail> {
     literal_in(alloc, sequence.at_mut(&[0]))
 }
 
+/// Strings, and the prefix and the text of these, or the word of the refusal, by the docstring of `get_application_literal`.
 const LITERALS: &[(&str, &str)] = &[
     ("ip'x'_0", "ip=x"),
     ("h'00'", "h=00"),
@@ -236,8 +254,10 @@ const LITERALS: &[(&str, &str)] = &[
 
 #[test]
 fn literals_of_texts_are_answered(rt: HostRuntime) -> Result<(), Fail> {
+    let alloc = rt.alloc();
+    let mut failures = Failures::new(alloc);
     for &(text, wanted) in LITERALS {
-        expect_text(rt.alloc(), literal_of(rt.alloc(), text)?.as_str(), wanted)?;
+        failures.row(alloc, text, literal_of(alloc, text)?.as_str(), wanted)?;
     }
-    Ok(())
+    failures.end()
 }

@@ -1,7 +1,7 @@
 //! Visits of tags and of application literals: which items are called at, and the texts that are left.
 use crate::common::{sequence_of, standalone_of};
 use cbor_edn_core::tree::{Item, Sequence, StandaloneItem};
-use cbor_edn_expect::expect_row;
+use cbor_edn_expect::failures::Failures;
 use cbor_edn_parts::error::CallbackError;
 use std::alloc::Global;
 use std::test::Fail;
@@ -103,6 +103,8 @@ fn visited_item(
     Ok(told)
 }
 
+/// Texts, what a callback does at their tags, and the numbers that it is told and the text then: by hand from the docstring
+/// of `visit_tag`.
 const TAGS: &[(&str, Done, &str)] = &[
     ("1(2(3))", Done::Comment, "1;2;1(2(3)/ t /)/ t /"),
     ("1(2(3))", Done::Puts(1, "5(2(3))"), "1;2;5(2(3))"),
@@ -150,14 +152,15 @@ const TAGS_ALONE: &[(&str, Done, &str)] = &[
 #[test]
 fn tags_are_visited_in_order(rt: HostRuntime) -> Result<(), Fail> {
     let alloc = rt.alloc();
+    let mut failures = Failures::new(alloc);
     for &(text, what, wanted) in TAGS {
-        expect_row(alloc, text, visited(alloc, text, what)?.as_str(), wanted)?;
+        failures.row(alloc, text, visited(alloc, text, what)?.as_str(), wanted)?;
     }
     for &(text, what, wanted) in TAGS_ALONE {
         let told = visited_alone(alloc, text, what)?;
-        expect_row(alloc, text, told.as_str(), wanted)?;
+        failures.row(alloc, text, told.as_str(), wanted)?;
     }
-    Ok(())
+    failures.end()
 }
 
 /// The call at a literal: it tells what it is given, and puts what a text says in its place, or answers a comment.
@@ -223,6 +226,8 @@ fn literals_of_item(
     Ok(told)
 }
 
+/// Texts, what a callback puts at their literals, and the literals that it is told and the text then: by hand from the
+/// docstring of `visit_application_literals`.
 const LITERALS: &[(&str, Option<&str>, &str)] = &[
     ("h'00'", None, "h:00;h'00'/ c /"),
     ("'a'", None, "'a'"),
@@ -271,12 +276,13 @@ const LITERALS_ALONE: &[(&str, Option<&str>, &str)] = &[
 #[test]
 fn literals_are_visited_in_order(rt: HostRuntime) -> Result<(), Fail> {
     let alloc = rt.alloc();
+    let mut failures = Failures::new(alloc);
     for &(text, puts, wanted) in LITERALS {
-        expect_row(alloc, text, literals(alloc, text, puts)?.as_str(), wanted)?;
+        failures.row(alloc, text, literals(alloc, text, puts)?.as_str(), wanted)?;
     }
     for &(text, puts, wanted) in LITERALS_ALONE {
         let told = literals_alone(alloc, text, puts)?;
-        expect_row(alloc, text, told.as_str(), wanted)?;
+        failures.row(alloc, text, told.as_str(), wanted)?;
     }
-    Ok(())
+    failures.end()
 }

@@ -5,6 +5,7 @@ use crate::common::standalone_of;
 use cbor_edn_core::access::TypeMismatch;
 use cbor_edn_core::tree::{Item, StandaloneItem};
 use cbor_edn_core::visitor::MapValueHandler;
+use cbor_edn_expect::failures::Failures;
 use cbor_edn_expect::{expect, expect_text};
 use cbor_edn_parts::error::{CallbackError, Fault};
 use std::alloc::{AllocError, Global};
@@ -99,6 +100,7 @@ fn visited_item(item: &mut Item<'_>, alloc: Global, visit: Visit) -> Result<Stri
     Ok(told)
 }
 
+/// Texts, visits, and the calls and the text then: by hand from the docstrings of `visit_array_elements` and `visit_map_elements`.
 const VISITED: &[(&str, Visit, &str)] = &[
     ("[1, 2]", Visit::Elements, "1;2;[1/ e /, 2/ e /]"),
     (
@@ -124,14 +126,12 @@ const VISITED: &[(&str, Visit, &str)] = &[
 
 #[test]
 fn visits_call_in_order(rt: HostRuntime) -> Result<(), Fail> {
+    let alloc = rt.alloc();
+    let mut failures = Failures::new(alloc);
     for &(text, visit, wanted) in VISITED {
-        expect_text(
-            rt.alloc(),
-            visited(rt.alloc(), text, visit)?.as_str(),
-            wanted,
-        )?;
+        failures.row(alloc, text, visited(alloc, text, visit)?.as_str(), wanted)?;
     }
-    Ok(())
+    failures.end()
 }
 
 /// A visit ends with the first answer that says so, and says it too.
