@@ -2,7 +2,8 @@
 use crate::common::{Made, make, standalone_of, tag_of};
 use cbor_edn_core::access::TypeMismatch;
 use cbor_edn_core::tree::Item;
-use cbor_edn_expect::{expect, expect_row, expect_text};
+use cbor_edn_expect::failures::Failures;
+use cbor_edn_expect::{expect, expect_text};
 use cbor_edn_parts::error::Fault;
 use std::alloc::Global;
 use std::test::Fail;
@@ -12,6 +13,7 @@ fn integer(alloc: Global, made: Made<'_>) -> Result<Result<i128, TypeMismatch>, 
     Ok(item.get_integer())
 }
 
+/// Items, and their integers or the refusal, by the docstring of `get_integer`.
 const INTEGERS: &[(Made<'static>, Result<i128, TypeMismatch>)] = &[
     (Made::Decimal(i128::MIN), Ok(i128::MIN)),
     (Made::Hex(255), Ok(255)),
@@ -21,10 +23,14 @@ const INTEGERS: &[(Made<'static>, Result<i128, TypeMismatch>)] = &[
 
 #[test]
 fn integers_are_answered(rt: HostRuntime) -> Result<(), Fail> {
+    let alloc = rt.alloc();
+    let mut failures = Failures::new(alloc);
     for &(made, wanted) in INTEGERS {
-        expect("integer", integer(rt.alloc(), made)? == wanted)?;
+        let row = format!(in alloc; "{wanted:?}")?;
+        let is_wanted = integer(alloc, made)? == wanted;
+        failures.holds(alloc, row.as_str(), is_wanted)?;
     }
-    Ok(())
+    failures.end()
 }
 
 /// The number of a tag, and the text of what stands between its parentheses.
@@ -74,7 +80,7 @@ fn told(alloc: Global, text: &str) -> Result<String, Fail> {
     told_of(item.item(), alloc)
 }
 
-/// Texts, and what their items are.
+/// Texts, and what their items are by the docstrings of `get_named`, `get_number`, `get_tag_head` and `is_plain_string`.
 const TOLD: &[(&str, &str)] = &[
     ("false", "false"),
     (" true ", "true"),
@@ -98,10 +104,11 @@ const TOLD: &[(&str, &str)] = &[
 #[test]
 fn forms_are_answered(rt: HostRuntime) -> Result<(), Fail> {
     let alloc = rt.alloc();
+    let mut failures = Failures::new(alloc);
     for &(text, wanted) in TOLD {
-        expect_row(alloc, text, told(alloc, text)?.as_str(), wanted)?;
+        failures.row(alloc, text, told(alloc, text)?.as_str(), wanted)?;
     }
-    Ok(())
+    failures.end()
 }
 
 /// Appends the text of an item and a semicolon.
@@ -158,38 +165,54 @@ fn bytes_of(alloc: Global, made: Made<'_>) -> Result<Option<Vec<u8>>, Fail> {
     }
 }
 
-const BYTES: &[(Made<'static>, &[u8])] = &[
-    (Made::Decoded(b"\x43abc"), b"abc"),
-    (Made::Decoded(b"\x5f\x41a\x42bc\xff"), b"abc"),
-    (Made::Literal("b64", "Yg=="), b"b"),
+/// Items, and the bytes that they have by the docstring of `get_bytes`; those of `b64` by RFC 4648.
+const BYTES: &[(&str, Made<'static>, &[u8])] = &[
+    ("a byte string", Made::Decoded(b"\x43abc"), b"abc"),
+    ("two chunks", Made::Decoded(b"\x5f\x41a\x42bc\xff"), b"abc"),
+    ("a literal", Made::Literal("b64", "Yg=="), b"b"),
 ];
 
 #[test]
 fn bytes_are_answered(rt: HostRuntime) -> Result<(), Fail> {
     let alloc = rt.alloc();
-    for &(made, wanted) in BYTES {
-        let bytes = bytes_of(alloc, made)?.ok_or("no bytes")?;
-        expect("bytes", bytes.as_slice() == wanted)?;
+    let mut failures = Failures::new(alloc);
+    for &(name, made, wanted) in BYTES {
+        let is_wanted = match bytes_of(alloc, made)? {
+            Some(bytes) => bytes.as_slice() == wanted,
+            None => false,
+        };
+        failures.holds(alloc, name, is_wanted)?;
     }
-    Ok(())
+    failures.end()
 }
 
-const NO_BYTES: &[Made<'static>] = &[
-    // a text, a string of indefinite length of texts, an array of a byte string
-    Made::Decoded(b"\x61a"),
-    Made::Decoded(b"\x7f\x61a\xff"),
-    Made::Decoded(b"\x81\x41a"),
-    // a literal that stands for no bytes, and one of a prefix that has no meaning here
-    Made::Literal("h", "0"),
-    Made::Literal("dt", "2024"),
+/// Items that have no bytes by the same docstring.
+const NO_BYTES: &[(&str, Made<'static>)] = &[
+    ("a text", Made::Decoded(b"\x61a")),
+    (
+        "a string of indefinite length of texts",
+        Made::Decoded(b"\x7f\x61a\xff"),
+    ),
+    ("an array of a byte string", Made::Decoded(b"\x81\x41a")),
+    (
+        "a literal that stands for no bytes",
+        Made::Literal("h", "0"),
+    ),
+    (
+        "a literal of a prefix that has no meaning here",
+        Made::Literal("dt", "2024"),
+    ),
 ];
 
 #[test]
 fn other_items_have_no_bytes(rt: HostRuntime) -> Result<(), Fail> {
-    for &made in NO_BYTES {
-        expect("no bytes", bytes_of(rt.alloc(), made)?.is_none())?;
+    let alloc = rt.alloc();
+    let mut failures = Failures::new(alloc);
+    for &(name, made) in NO_BYTES {
+        let has_none = bytes_of(alloc, made)?.is_none();
+        failures.holds(alloc, name, has_none)?;
     }
-    Ok(())
+    failures.end()
 }
 
 fn parts_of(alloc: Global, made: Made<'_>) -> Result<String, Fail> {
@@ -201,18 +224,23 @@ fn parts_of(alloc: Global, made: Made<'_>) -> Result<String, Fail> {
     }
 }
 
-/// Items, and their prefix and content, or the words of the refusal.
-const PARTS: &[(Made<'static>, &str)] = &[
-    (Made::Literal("b64", "a'b"), "b64 a'b"),
-    (Made::Literal("DT1", "\u{e4}\"\\\n"), "DT1 \u{e4}\"\\\n"),
-    (Made::Literal("h", ""), "h "),
-    // a byte string, a text, an array
-    (Made::Decoded(b"\x41\0"), "h 00"),
+/// Items, and their prefix and content, or the words of the refusal, by the docstring of `get_application_literal`.
+const PARTS: &[(&str, Made<'static>, &str)] = &[
+    ("b64", Made::Literal("b64", "a'b"), "b64 a'b"),
     (
+        "DT1",
+        Made::Literal("DT1", "\u{e4}\"\\\n"),
+        "DT1 \u{e4}\"\\\n",
+    ),
+    ("h", Made::Literal("h", ""), "h "),
+    ("a byte string", Made::Decoded(b"\x41\0"), "h 00"),
+    (
+        "a text",
         Made::Decoded(b"\x61x"),
         "Expected application-oriented literal",
     ),
     (
+        "an array",
         Made::Decoded(b"\x80"),
         "Expected application-oriented literal",
     ),
@@ -221,10 +249,11 @@ const PARTS: &[(Made<'static>, &str)] = &[
 #[test]
 fn application_literals_are_answered(rt: HostRuntime) -> Result<(), Fail> {
     let alloc = rt.alloc();
-    for &(made, wanted) in PARTS {
-        expect_text(alloc, parts_of(alloc, made)?.as_str(), wanted)?;
+    let mut failures = Failures::new(alloc);
+    for &(name, made, wanted) in PARTS {
+        failures.row(alloc, name, parts_of(alloc, made)?.as_str(), wanted)?;
     }
-    Ok(())
+    failures.end()
 }
 
 /// What an item is told to be no array, and no map, with.
@@ -245,6 +274,7 @@ fn numbers_have_no_items(rt: HostRuntime) -> Result<(), Fail> {
     expect("no map", no_map == Some(TypeMismatch::Map))
 }
 
+/// Refusals, and the words for them, which are this project's choice.
 const WORDS: &[(TypeMismatch, &str)] = &[
     (
         TypeMismatch::ApplicationLiteral,
@@ -268,9 +298,10 @@ const WORDS: &[(TypeMismatch, &str)] = &[
 #[test]
 fn mismatches_have_words(rt: HostRuntime) -> Result<(), Fail> {
     let alloc = rt.alloc();
+    let mut failures = Failures::new(alloc);
     for &(mismatch, wanted) in WORDS {
         let words = format!(in alloc; "{mismatch}")?;
-        expect_text(alloc, words.as_str(), wanted)?;
+        failures.row(alloc, wanted, words.as_str(), wanted)?;
     }
-    Ok(())
+    failures.end()
 }

@@ -2,6 +2,7 @@
 use crate::common::edited;
 use cbor_edn_core::tree::{Item, StandaloneItem};
 use cbor_edn_expect::expect_text;
+use cbor_edn_expect::failures::Failures;
 use std::alloc::Global;
 use std::test::Fail;
 
@@ -16,7 +17,7 @@ fn with_decoded(alloc: Global, bytes: &[u8], comment: &str) -> Result<String, Fa
     Ok(item.serialize(alloc)?)
 }
 
-/// Texts, comments, and the texts behind these comments.
+/// Texts, comments, and the texts behind these comments, by the docstring of `with_comment`.
 const COMMENTED: &[(&str, &str, &str)] = &[
     ("0", "a/b\nc", "# a/b\n# c\n0"),
     ("0", "\u{1}", "/   /0"),
@@ -28,14 +29,14 @@ const COMMENTED: &[(&str, &str, &str)] = &[
 #[test]
 fn comments_stand_in_front(rt: HostRuntime) -> Result<(), Fail> {
     let alloc = rt.alloc();
+    let mut failures = Failures::new(alloc);
     for &(text, comment, wanted) in COMMENTED {
-        expect_text(
-            alloc,
-            edited(alloc, text, Some(comment), &[])?.as_str(),
-            wanted,
-        )?;
-        expect_text(alloc, with(alloc, text, comment)?.as_str(), wanted)?;
+        let told = edited(alloc, text, Some(comment), &[])?;
+        failures.row(alloc, comment, told.as_str(), wanted)?;
+        let told = with(alloc, text, comment)?;
+        failures.row(alloc, comment, told.as_str(), wanted)?;
     }
+    failures.end()?;
     let told = with_decoded(alloc, b"\x01", "one")?;
     expect_text(alloc, told.as_str(), "/ one /1")
 }

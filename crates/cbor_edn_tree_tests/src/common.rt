@@ -1,6 +1,7 @@
 //! How the tests make items, and how they compare texts.
 use cbor_edn_core::tree::{Item, Sequence, StandaloneItem};
-use cbor_edn_expect::{expect, expect_text};
+use cbor_edn_expect::expect;
+use cbor_edn_expect::failures::Failures;
 use cbor_edn_parts::policy::DelimiterPolicy;
 use std::alloc::Global;
 use std::test::Fail;
@@ -75,10 +76,11 @@ fn pairs<'a>(alloc: Global, numbers: &[(i128, i128)]) -> Result<Vec<(Item<'a>, I
 
 /// Each item is written so.
 pub(crate) fn all_written(alloc: Global, rows: &[(Made<'_>, &str)]) -> Result<(), Fail> {
+    let mut failures = Failures::new(alloc);
     for &(made, wanted) in rows {
-        expect_text(alloc, text_of(alloc, made)?.as_str(), wanted)?;
+        failures.row(alloc, wanted, text_of(alloc, made)?.as_str(), wanted)?;
     }
-    Ok(())
+    failures.end()
 }
 
 fn text_of(alloc: Global, made: Made<'_>) -> Result<String, Fail> {
@@ -153,6 +155,11 @@ fn edit_sequence(sequence: &mut Sequence<'_>, alloc: Global, edit: Edit) -> Resu
     };
     expect("edit of a sequence", answer.is_ok() == is_done)?;
     Ok(sequence.serialize(alloc)?)
+}
+
+/// A text's items without spaces and comments between them.
+pub(crate) fn bare(alloc: Global, text: &str) -> Result<String, Fail> {
+    edited_sequence(alloc, text, Edit::LaidOut(DelimiterPolicy::DiscardAll))
 }
 
 /// The text of an item after that.

@@ -2,10 +2,12 @@
 use crate::common::{Made, all_written, list, make, make_item, tag_of};
 use cbor_edn_core::tree::{Item, Sequence};
 use cbor_edn_expect::expect_text;
+use cbor_edn_expect::failures::Failures;
 use cbor_edn_parts::error::{Fault, InconsistentEdn};
 use std::alloc::Global;
 use std::test::Fail;
 
+/// By the docstrings of `new_integer_decimal` and `new_integer_hex`.
 #[test]
 fn numbers_are_written(rt: HostRuntime) -> Result<(), Fail> {
     all_written(
@@ -28,6 +30,7 @@ fn numbers_are_written(rt: HostRuntime) -> Result<(), Fail> {
     )
 }
 
+/// By the docstrings of `new_bytes_hex` and `new_text`.
 #[test]
 fn strings_are_written(rt: HostRuntime) -> Result<(), Fail> {
     all_written(
@@ -43,6 +46,7 @@ fn strings_are_written(rt: HostRuntime) -> Result<(), Fail> {
     )
 }
 
+/// By the docstring of `new_array`.
 #[test]
 fn arrays_are_written(rt: HostRuntime) -> Result<(), Fail> {
     all_written(
@@ -51,6 +55,7 @@ fn arrays_are_written(rt: HostRuntime) -> Result<(), Fail> {
     )
 }
 
+/// By the docstring of `new_map`.
 #[test]
 fn maps_are_written(rt: HostRuntime) -> Result<(), Fail> {
     all_written(
@@ -73,7 +78,8 @@ fn literal(alloc: Global, prefix: &str, text: &str) -> Result<String, Fail> {
     }
 }
 
-/// Prefixes, contents, and the literals of them.
+/// Prefixes, contents, and the literals of them: the prefixes by the grammar in `docs/SUPPORTED.md`, the texts by
+/// `docs/DECISIONS.md`.
 const LITERALS: &[(&str, &str, &str)] = &[
     ("b64", "a'b", "b64'a\\'b'"),
     ("true", "x", "true'x'"),
@@ -86,10 +92,12 @@ const LITERALS: &[(&str, &str, &str)] = &[
 #[test]
 fn literals_are_written_behind_prefixes_alone(rt: HostRuntime) -> Result<(), Fail> {
     let alloc = rt.alloc();
+    let mut failures = Failures::new(alloc);
     for &(prefix, text, wanted) in LITERALS {
-        expect_text(alloc, literal(alloc, prefix, text)?.as_str(), wanted)?;
+        let told = literal(alloc, prefix, text)?;
+        failures.row(alloc, prefix, told.as_str(), wanted)?;
     }
-    Ok(())
+    failures.end()
 }
 
 fn tagged_text(alloc: Global, text: &str, number: u64) -> Result<String, Fail> {
@@ -132,20 +140,23 @@ fn number(alloc: Global, text: &str) -> Result<String, Fail> {
     }
 }
 
+/// Numbers of the grammar in `docs/SUPPORTED.md`.
 const NUMBERS: &[&str] = &["1.5", "-0X1.fP-10", "0b101", "+007", "1e1"];
 
+/// Texts that are no numbers of it.
 const NO_NUMBERS: &[&str] = &["", "1_1", "NaN", "0b2", "1 ", "0x", "--1"];
 
 #[test]
 fn numbers_are_written_as_told(rt: HostRuntime) -> Result<(), Fail> {
     let alloc = rt.alloc();
+    let mut failures = Failures::new(alloc);
     for &text in NUMBERS {
-        expect_text(alloc, number(alloc, text)?.as_str(), text)?;
+        failures.row(alloc, text, number(alloc, text)?.as_str(), text)?;
     }
     for &text in NO_NUMBERS {
-        expect_text(alloc, number(alloc, text)?.as_str(), "")?;
+        failures.row(alloc, text, number(alloc, text)?.as_str(), "")?;
     }
-    Ok(())
+    failures.end()
 }
 
 fn sequence(alloc: Global, numbers: &[i128]) -> Result<String, Fail> {

@@ -2,18 +2,19 @@
 //! them under a small stack.
 ghost use Rattle.std.specs.Prelude.{⊤};
 
-use crate::common::{Edit, edited_sequence, sequence_of, standalone_of};
+use crate::common::{Edit, bare, edited_sequence, sequence_of, standalone_of};
 use crate::trees::is_own_copy;
 use cbor_edn_core::tree::{Item, NESTING_LIMIT, Sequence};
 use cbor_edn_core::visitor::MapValueHandler;
-use cbor_edn_expect::expect;
+use cbor_edn_expect::failures::Failures;
 use cbor_edn_parts::error::{CallbackError, Fault};
 use cbor_edn_parts::policy::DelimiterPolicy;
 use std::alloc::Global;
 use std::test::Fail;
 
 /// Forms that nest round a literal: how many levels openings have, openings, closings, closings where tags have comments,
-/// how many elements or keys the outermost one has, and whether visits enter it and it has an encoding.
+/// how many elements or keys the outermost one has, and whether visits enter it and it has an encoding:
+/// by hand from the grammar in `docs/SUPPORTED.md` and the docstrings of the visits.
 const FORMS: &[(usize, &str, &str, &str, usize, bool)] = &[
     (1, "[", "]", "]", 1, true),
     (1, "[2,", ",3]", ",3]", 3, true),
@@ -78,30 +79,31 @@ fn has_encoding(alloc: Global, text: &str) -> Result<bool, Fail> {
 #[test]
 fn the_deepest_are_copied_and_encoded(rt: HostRuntime) -> Result<(), Fail> {
     let alloc = rt.alloc();
+    let mut failures = Failures::new(alloc);
     for &(levels, open, close, _, _, is_encoded) in FORMS {
         let deepest = nested(alloc, levels, open, INSIDE, close)?;
-        expect(open, is_own_copy(alloc, deepest.as_str())?)?;
-        expect(open, has_encoding(alloc, deepest.as_str())? == is_encoded)?;
+        let is_copied = is_own_copy(alloc, deepest.as_str())?;
+        failures.holds(alloc, open, is_copied)?;
+        let is_wanted = has_encoding(alloc, deepest.as_str())? == is_encoded;
+        failures.holds(alloc, open, is_wanted)?;
     }
-    Ok(())
-}
-
-/// A text's items without spaces and comments between them.
-fn bare(alloc: Global, text: &str) -> Result<String, Fail> {
-    edited_sequence(alloc, text, Edit::LaidOut(DelimiterPolicy::DiscardAll))
+    failures.end()
 }
 
 /// Each of the deepest keeps its items under the policies.
 fn all_laid_out(alloc: Global, policies: &[DelimiterPolicy]) -> Result<(), Fail> {
+    let mut failures = Failures::new(alloc);
     for &(levels, open, close, _, _, _) in FORMS {
         let deepest = nested(alloc, levels, open, INSIDE, close)?;
         let items = bare(alloc, deepest.as_str())?;
         for &policy in policies {
+            let row = format!(in alloc; "{open} by {policy:?}")?;
             let laid_out = edited_sequence(alloc, deepest.as_str(), Edit::LaidOut(policy))?;
-            expect(open, bare(alloc, laid_out.as_str())? == items)?;
+            let has_items = bare(alloc, laid_out.as_str())? == items;
+            failures.holds(alloc, row.as_str(), has_items)?;
         }
     }
-    Ok(())
+    failures.end()
 }
 
 const ON_ONE_LINE: &[DelimiterPolicy] = &[
@@ -131,13 +133,15 @@ fn the_deepest_are_indented(rt: HostRuntime) -> Result<(), Fail> {
 #[test]
 fn the_deepest_lose_their_indicators(rt: HostRuntime) -> Result<(), Fail> {
     let alloc = rt.alloc();
+    let mut failures = Failures::new(alloc);
     for &(levels, open, close, _, _, _) in FORMS {
         let deepest = nested(alloc, levels, open, "1_0", close)?;
         let told = edited_sequence(alloc, deepest.as_str(), Edit::Bare)?;
         let inside = if open.contains("<<") { "1_0" } else { "1" };
-        expect(open, told == nested(alloc, levels, open, inside, close)?)?;
+        let is_wanted = told == nested(alloc, levels, open, inside, close)?;
+        failures.holds(alloc, open, is_wanted)?;
     }
-    Ok(())
+    failures.end()
 }
 
 fn comment(alloc: Global) -> Result<(), CallbackError> {
@@ -207,17 +211,18 @@ fn entries(alloc: Global, text: &str) -> Result<usize, Fail> {
 #[test]
 fn visits_enter_the_deepest(rt: HostRuntime) -> Result<(), Fail> {
     let alloc = rt.alloc();
+    let mut failures = Failures::new(alloc);
     for &(levels, open, close, commented, count, is_entered) in FORMS {
         let deepest = nested(alloc, levels, open, INSIDE, close)?;
         let told = tags_commented(alloc, deepest.as_str())?;
-        expect(
-            open,
-            told == nested(alloc, levels, open, INSIDE, commented)?,
-        )?;
+        let is_wanted = told == nested(alloc, levels, open, INSIDE, commented)?;
+        failures.holds(alloc, open, is_wanted)?;
         let inside = if is_entered { COMMENTED } else { INSIDE };
         let told = literals_commented(alloc, deepest.as_str())?;
-        expect(open, told == nested(alloc, levels, open, inside, close)?)?;
-        expect(open, entries(alloc, deepest.as_str())? == count)?;
+        let is_wanted = told == nested(alloc, levels, open, inside, close)?;
+        failures.holds(alloc, open, is_wanted)?;
+        let is_wanted = entries(alloc, deepest.as_str())? == count;
+        failures.holds(alloc, open, is_wanted)?;
     }
-    Ok(())
+    failures.end()
 }

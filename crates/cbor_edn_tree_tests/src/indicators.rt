@@ -1,8 +1,11 @@
 //! Removal of encoding indicators.
 use crate::common::{Edit, Made, edited_item, edited_sequence};
 use cbor_edn_expect::expect_text;
+use cbor_edn_expect::failures::Failures;
 use std::test::Fail;
 
+/// Texts, and the texts without indicators: by hand from the docstring of `discard_encoding_indicators`, with the spaces by
+/// `docs/DECISIONS.md`.
 const BARE: &[(&str, &str)] = &[
     ("[_ 3]", "[3]"),
     ("[_  1_1]", "[  1]"),
@@ -17,14 +20,12 @@ const BARE: &[(&str, &str)] = &[
 #[test]
 fn indicators_go(rt: HostRuntime) -> Result<(), Fail> {
     let alloc = rt.alloc();
+    let mut failures = Failures::new(alloc);
     for &(text, wanted) in BARE {
-        expect_text(
-            alloc,
-            edited_sequence(alloc, text, Edit::Bare)?.as_str(),
-            wanted,
-        )?;
+        let told = edited_sequence(alloc, text, Edit::Bare)?;
+        failures.row(alloc, text, told.as_str(), wanted)?;
     }
-    Ok(())
+    failures.end()
 }
 
 #[test]

@@ -1,6 +1,7 @@
 //! Spaces by delimiter policies.
-use crate::common::{Edit, Made, POLICIES, edited, edited_item, edited_sequence};
-use cbor_edn_expect::{expect_row, expect_text};
+use crate::common::{Edit, Made, POLICIES, bare, edited, edited_item, edited_sequence};
+use cbor_edn_expect::expect_text;
+use cbor_edn_expect::failures::Failures;
 use cbor_edn_parts::policy::DelimiterPolicy;
 use std::alloc::Global;
 use std::test::Fail;
@@ -13,16 +14,25 @@ fn indented(base_indent: usize, indent_level: usize, max_width: usize) -> Delimi
     }
 }
 
-/// The text of a standalone item after a policy, and after the same once more.
-fn laid_out(alloc: Global, text: &str, policy: DelimiterPolicy) -> Result<String, Fail> {
+/// The text of a standalone item after a policy is the wanted one, and so it is after the same once more.
+fn see_laid_out(
+    failures: &mut Failures,
+    alloc: Global,
+    text: &str,
+    policy: DelimiterPolicy,
+    wanted: &str,
+) -> Result<(), Fail> {
+    let row = format!(in alloc; "{text} by {policy:?}")?;
     let once = edited(alloc, text, None, &[policy])?;
+    failures.row(alloc, row.as_str(), once.as_str(), wanted)?;
     let twice = edited(alloc, text, None, &[policy, policy])?;
-    expect_text(alloc, twice.as_str(), once.as_str())?;
-    Ok(once)
+    failures.row(alloc, row.as_str(), twice.as_str(), wanted)?;
+    Ok(())
 }
 
 const SPACED: &str = " [ 1 , 2 /c/ , ] ";
 
+/// Texts, a policy, and the texts by it: by hand from the table of `parts/specs/Spacing.antt`.
 const LAID_OUT: &[(&str, DelimiterPolicy, &str)] = &[
     (SPACED, DelimiterPolicy::DiscardAll, "[1,2]"),
     (SPACED, DelimiterPolicy::DiscardAllButComments, "[1,2/c/]"),
@@ -39,13 +49,14 @@ const LAID_OUT: &[(&str, DelimiterPolicy, &str)] = &[
 #[test]
 fn items_are_laid_out(rt: HostRuntime) -> Result<(), Fail> {
     let alloc = rt.alloc();
+    let mut failures = Failures::new(alloc);
     for &(text, policy, wanted) in LAID_OUT {
-        expect_text(alloc, laid_out(alloc, text, policy)?.as_str(), wanted)?;
+        see_laid_out(&mut failures, alloc, text, policy, wanted)?;
     }
-    Ok(())
+    failures.end()
 }
 
-/// Texts, an indent, a level and a width, and the texts by these.
+/// Texts, an indent, a level and a width, and the texts by these: by hand from the same table and `parts/specs/LayoutColumns.antt`.
 const INDENTED: &[(&str, (usize, usize, usize), &str)] = &[
     (SPACED, (0, 2, 10), "[1, 2/c/]"),
     (SPACED, (0, 2, 9), "[\n  1,\n  2\n/c/]"),
@@ -58,13 +69,15 @@ const INDENTED: &[(&str, (usize, usize, usize), &str)] = &[
 #[test]
 fn items_are_indented(rt: HostRuntime) -> Result<(), Fail> {
     let alloc = rt.alloc();
+    let mut failures = Failures::new(alloc);
     for &(text, (base, level, width), wanted) in INDENTED {
-        let told = laid_out(alloc, text, indented(base, level, width))?;
-        expect_text(alloc, told.as_str(), wanted)?;
+        let policy = indented(base, level, width);
+        see_laid_out(&mut failures, alloc, text, policy, wanted)?;
     }
-    Ok(())
+    failures.end()
 }
 
+/// Texts, and the texts on a single line, by the same two.
 const REGULAR: &[(&str, &str)] = &[
     ("1 # c\n", "1# c\n"),
     ("{1:2}", "{1: 2}"),
@@ -79,11 +92,12 @@ const REGULAR: &[(&str, &str)] = &[
 #[test]
 fn lines_are_regular(rt: HostRuntime) -> Result<(), Fail> {
     let alloc = rt.alloc();
+    let mut failures = Failures::new(alloc);
+    let policy = DelimiterPolicy::SingleLineRegularSpacing;
     for &(text, wanted) in REGULAR {
-        let told = laid_out(alloc, text, DelimiterPolicy::SingleLineRegularSpacing)?;
-        expect_text(alloc, told.as_str(), wanted)?;
+        see_laid_out(&mut failures, alloc, text, policy, wanted)?;
     }
-    Ok(())
+    failures.end()
 }
 
 #[test]
@@ -98,7 +112,7 @@ fn sequences_are_laid_out(rt: HostRuntime) -> Result<(), Fail> {
     expect_text(alloc, told.as_str(), "")
 }
 
-/// Bytes, an indent, a level and a width, and the text of the item by these.
+/// Bytes, an indent, a level and a width, and the text of the item by these: by hand from the same two.
 const DECODED_INDENTED: &[(&[u8], (usize, usize, usize), &str)] = &[
     (b"\x82\x01\x02", (0, 4, 0), "[\n    1,\n    2\n]"),
     (
@@ -109,6 +123,7 @@ const DECODED_INDENTED: &[(&[u8], (usize, usize, usize), &str)] = &[
     (b"\x01", (usize::MAX, 4, 80), "1"),
 ];
 
+/// Bytes, a policy, and the text of the item by it: by hand from the same two.
 const DECODED: &[(&[u8], DelimiterPolicy, &str)] = &[
     (b"\x82\x01\x02", DelimiterPolicy::SingleSpace, "[ 1 ,2 ]"),
     (
@@ -121,28 +136,32 @@ const DECODED: &[(&[u8], DelimiterPolicy, &str)] = &[
 #[test]
 fn decoded_items_are_laid_out(rt: HostRuntime) -> Result<(), Fail> {
     let alloc = rt.alloc();
+    let mut failures = Failures::new(alloc);
     for &(bytes, policy, wanted) in DECODED {
-        let told = edited_item(alloc, Made::Decoded(bytes), Edit::LaidOut(policy))?;
-        expect_text(alloc, told.as_str(), wanted)?;
+        see_decoded(&mut failures, alloc, bytes, policy, wanted)?;
     }
     for &(bytes, (base, level, width), wanted) in DECODED_INDENTED {
-        let told = edited_item(
-            alloc,
-            Made::Decoded(bytes),
-            Edit::LaidOut(indented(base, level, width)),
-        )?;
-        expect_text(alloc, told.as_str(), wanted)?;
+        let policy = indented(base, level, width);
+        see_decoded(&mut failures, alloc, bytes, policy, wanted)?;
     }
+    failures.end()
+}
+
+fn see_decoded(
+    failures: &mut Failures,
+    alloc: Global,
+    bytes: &[u8],
+    policy: DelimiterPolicy,
+    wanted: &str,
+) -> Result<(), Fail> {
+    let row = format!(in alloc; "{bytes:?} by {policy:?}")?;
+    let told = edited_item(alloc, Made::Decoded(bytes), Edit::LaidOut(policy))?;
+    failures.row(alloc, row.as_str(), told.as_str(), wanted)?;
     Ok(())
 }
 
-/// A text has these items, without spaces and comments between them.
-fn expect_items(alloc: Global, text: &str, wanted: &str) -> Result<(), Fail> {
-    let items = edited_sequence(alloc, text, Edit::LaidOut(DelimiterPolicy::DiscardAll))?;
-    expect_row(alloc, text, items.as_str(), wanted)
-}
-
-/// Texts, an indent, a level and a width of lines that no machine has memory for, and the texts' items.
+/// Texts, an indent, a level and a width of lines that no machine has memory for, and the texts' items, which stay by
+/// `docs/DECISIONS.md`.
 const ENDLESS: &[(&str, (usize, usize, usize), &str)] = &[
     ("[[1]]", (0, usize::MAX, 0), "[[1]]"),
     ("[1]", (usize::MAX, 4, 80), "[1]"),
@@ -159,38 +178,51 @@ const DECODED_ENDLESS: &[(&[u8], (usize, usize, usize), &str)] = &[
 #[test]
 fn greatest_indents_are_refused(rt: HostRuntime) -> Result<(), Fail> {
     let alloc = rt.alloc();
+    let mut failures = Failures::new(alloc);
     for &(text, (base, level, width), items) in ENDLESS {
         let left = edited_sequence(alloc, text, Edit::Refused(indented(base, level, width)))?;
-        expect_items(alloc, left.as_str(), items)?;
+        failures.row(alloc, text, bare(alloc, left.as_str())?.as_str(), items)?;
     }
     for &(bytes, (base, level, width), items) in DECODED_ENDLESS {
         let edit = Edit::Refused(indented(base, level, width));
         let left = edited_item(alloc, Made::Decoded(bytes), edit)?;
-        expect_items(alloc, left.as_str(), items)?;
+        failures.row(alloc, items, bare(alloc, left.as_str())?.as_str(), items)?;
     }
-    Ok(())
+    failures.end()
 }
 
-/// The characters that may need care in a comment.
+/// The characters that may need care in a comment: those below U+0020, and the slash.
 const CHARACTERS: &str =
     "\0\u{1}\u{2}\u{3}\u{4}\u{5}\u{6}\u{7}\u{8}\t\n\u{b}\u{c}\r\u{e}\u{f}\u{10}\u{11}\u{12}\u{13}\u{14}\u{15}\u{16}\u{17}\u{18}\u{19}\u{1a}\u{1b}\u{1c}\u{1d}\u{1e}\u{1f}/";
 
 /// Each of them, and none, stays a comment under the policy.
-fn all_stay_comments(alloc: Global, policy: DelimiterPolicy) -> Result<(), Fail> {
+fn see_comments_stay(
+    failures: &mut Failures,
+    alloc: Global,
+    policy: DelimiterPolicy,
+) -> Result<(), Fail> {
     for at in 0..=CHARACTERS.len() {
         let comment = CHARACTERS
             .get(at..(at + 1).min(CHARACTERS.len()))
             .unwrap_or("");
         let text = edited(alloc, "0", Some(comment), &[policy])?;
-        expect_items(alloc, text.as_str(), "0")?;
+        let row = format!(in alloc; "{comment} by {policy:?}")?;
+        failures.row(
+            alloc,
+            row.as_str(),
+            bare(alloc, text.as_str())?.as_str(),
+            "0",
+        )?;
     }
     Ok(())
 }
 
 #[test]
 fn comments_stay_comments(rt: HostRuntime) -> Result<(), Fail> {
+    let alloc = rt.alloc();
+    let mut failures = Failures::new(alloc);
     for &policy in POLICIES {
-        all_stay_comments(rt.alloc(), policy)?;
+        see_comments_stay(&mut failures, alloc, policy)?;
     }
-    Ok(())
+    failures.end()
 }

@@ -1,6 +1,7 @@
 //! Copies and comparisons of trees, and trees that are made of others.
 use crate::common::{Made, make, make_item, sequence_of, standalone_of};
 use cbor_edn_core::tree::{Item, Sequence, StandaloneItem};
+use cbor_edn_expect::failures::Failures;
 use cbor_edn_expect::{expect, expect_text};
 use std::alloc::Global;
 use std::test::Fail;
@@ -83,6 +84,7 @@ fn are_equal_items(alloc: Global, one: &[u8], other: &[u8]) -> Result<bool, Fail
     is_decoded(&one, alloc, other)
 }
 
+/// Bytes of RFC 8949, section 3, and whether their items are equal: only where the bytes are the same.
 const COMPARED: &[(&[u8], &[u8], bool)] = &[
     (MIXED, MIXED, true),
     (MIXED, b"\xa0", false),
@@ -93,14 +95,13 @@ const COMPARED: &[(&[u8], &[u8], bool)] = &[
 #[test]
 fn compares_items(rt: HostRuntime) -> Result<(), Fail> {
     let alloc = rt.alloc();
+    let mut failures = Failures::new(alloc);
     for &(one, other, are_equal) in COMPARED {
         let row = format!(in alloc; "{one:?} and {other:?}")?;
-        expect(
-            row.as_str(),
-            are_equal_items(alloc, one, other)? == are_equal,
-        )?;
+        let is_wanted = are_equal_items(alloc, one, other)? == are_equal;
+        failures.holds(alloc, row.as_str(), is_wanted)?;
     }
-    Ok(())
+    failures.end()
 }
 
 fn printed_alone(alloc: Global, bytes: &[u8]) -> Result<String, Fail> {
@@ -127,7 +128,7 @@ fn shown_alone(alloc: Global, text: &str) -> Result<String, Fail> {
     Ok(format!(in alloc; "{alone:?} {item:?}")?)
 }
 
-/// Texts, and the outlines of their trees.
+/// Texts, and the outlines of their trees, as `docs/DECISIONS.md` says what `Debug` shows.
 const OUTLINES: &[(&str, &str)] = &[
     (" ", ""),
     ("12_1", "12"),
@@ -140,9 +141,11 @@ const OUTLINES: &[(&str, &str)] = &[
 #[test]
 fn shows_numbers_words_literals_and_forms(rt: HostRuntime) -> Result<(), Fail> {
     let alloc = rt.alloc();
+    let mut failures = Failures::new(alloc);
     for &(text, outline) in OUTLINES {
-        expect_text(alloc, shown(alloc, text)?.as_str(), outline)?;
+        failures.row(alloc, text, shown(alloc, text)?.as_str(), outline)?;
     }
+    failures.end()?;
     expect_text(alloc, shown_alone(alloc, " 1_1 ")?.as_str(), "1 1")?;
     expect_text(alloc, shown_alone(alloc, "[1] ")?.as_str(), "[..] [..]")
 }
@@ -164,7 +167,7 @@ fn are_equal<'a>(alloc: Global, one: &'a str, other: &'a str) -> Result<bool, Fa
     is_parsed(&one, alloc, other)
 }
 
-/// Texts whose trees differ.
+/// Texts of the grammar in `docs/SUPPORTED.md`; all differ, and so do their trees.
 const APART: &[&str] = &[
     "[1,2]",
     "[1 2]",
@@ -213,11 +216,13 @@ const APART: &[&str] = &[
 #[test]
 fn spaces_tell_trees_apart(rt: HostRuntime) -> Result<(), Fail> {
     let alloc = rt.alloc();
+    let mut failures = Failures::new(alloc);
     for (i, &one) in APART.iter().enumerate() {
         for (j, &other) in APART.iter().enumerate() {
             let row = format!(in alloc; "{one:?} and {other:?}")?;
-            expect(row.as_str(), are_equal(alloc, one, other)? == (i == j))?;
+            let is_wanted = are_equal(alloc, one, other)? == (i == j);
+            failures.holds(alloc, row.as_str(), is_wanted)?;
         }
     }
-    Ok(())
+    failures.end()
 }
