@@ -29,11 +29,13 @@ abbrev pub after : {s : Rule} → List DelimiterPolicy → Tree s → Tree s
 after [] w = w
 after (policy ∷ policies) w = after policies (laid_out policy w)
 
--- Decoded items have the same value after any policies: whatever the text then spells means the value that was decoded.
+-- Decoded items have the same value after any policies: whatever the text then spells means the value that was decoded. The
+-- last is of an item alone, whose text is read as one with spaces round it.
 abbrev pub MeansTheSame : Type 0
 MeansTheSame =
     ((policies : List DelimiterPolicy) (v : Value) (w : Tree Standalone) (x : Node Item) → Fits v → Valid w → items w ≡ item_of v → SpellsOne x (text (after policies w)) → means x ≡ Some v)
     × ((policies : List DelimiterPolicy) (vs : Values) (w : Tree Seq) (x : Items) → ValuesFit vs → Valid w → items w ≡ items_of vs → SpellsSequence x (text (after policies w)) → means x ≡ Some vs)
+    × ((policies : List DelimiterPolicy) (v : Value) (w : Tree OneItem) (x : Node Item) → Fits v → Valid w → items w ≡ item_of v → SpellsOne x (text (after policies w)) → means x ≡ Some v)
 
 -- every policy but the first
 abbrev pub KeepsAllComments : DelimiterPolicy → Type 0
