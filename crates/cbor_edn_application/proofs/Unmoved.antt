@@ -32,7 +32,7 @@ module _ (Sought : Tree OneItem → Told → Type 0) where
     item_unmoved (entered {c = c} {cs = cs} s had d a) all = parts_unmoved a (All-tail Unmoved c cs all) ∙ All-head Unmoved c cs all
     item_unmoved (stayed {c = c} s had d) all = All-head Unmoved c [] all
     item_unmoved (refused {c = c} s f) all = All-head Unmoved c [] all
-    item_unmoved not_called all = refl
+    item_unmoved (not_called s) all = refl
 
     pub parts_unmoved : {k : Rule} {w v : Tree k} {cs : List SoughtCall} {r : Ending} → VisitParts Sought k w cs v r → All Unmoved cs → items v ≡ items w
     parts_unmoved of_number all = refl

@@ -59,7 +59,7 @@ module _ (Sought : Tree OneItem → Told → Type 0) (act : Act) where
     item_whole (entered {c = c} {cs = cs} s had d a) is all = All-cons (AnswersBy act) c cs (answers c had (All-head (Acted act) c cs all)) (parts_whole a is (All-tail (Acted act) c cs all))
     item_whole (stayed {c = c} s had d) is all = All-cons (AnswersBy act) c [] (answers c had (All-head (Acted act) c [] all)) (All-nil (AnswersBy act))
     item_whole (refused s f) is all = absurd cc
-    item_whole not_called is all = absurd cc
+    item_whole (not_called s) is all = absurd cc
 
     parts_whole : {k : Rule} {w v : Tree k} {cs : List SoughtCall} {r : Ending} → VisitParts Sought k w cs v r → r ≡ whole → All (Acted act) cs → All (AnswersBy act) cs
     parts_whole of_number is all = All-nil (AnswersBy act)

@@ -48,8 +48,8 @@ module _ (IsSought : Tree OneItem → Told → Type 0) where
       -- want of memory, of the call itself or for its comment
       refused : {c : SoughtCall} {s : List ℕ}
           → IsSought c.before c.told → c.answer ≢ fine → VisitItem c.before s (c ∷ []) c.after s cut
-      -- before the call
-      not_called : {w : Tree OneItem} {s : List ℕ} → VisitItem w s [] w s cut
+      -- before the call, which only a sought one has
+      not_called : {a : Told} {w : Tree OneItem} {s : List ℕ} → IsSought w a → VisitItem w s [] w s cut
 
     -- What stands in a part of a tree, in text order, parents before children.
     pub data VisitParts : (k : Rule) → Tree k → List SoughtCall → Tree k → Ending → Type 0 where

@@ -22,7 +22,7 @@ ghost use Rattle.cbor_edn_model.specs.Seeking.{SoughtCall, VisitParts, IsTag, Is
 ghost use Rattle.cbor_edn_model.specs.Trees.{ListTree, NumberTree, text};
 ghost use Rattle.cbor_edn_model.specs.Visits.{Call, KeyCall, Chain, VisitArray, VisitMap};
 ghost use Rattle.cbor_edn_parts.specs.Number.{IsNumber};
-ghost use Rattle.cbor_edn_parts.specs.Refusals.{IfTold};
+ghost use Rattle.cbor_edn_parts.specs.Refusals.{IfTold, OnMemory};
 ghost use Rattle.cbor_edn_tree_calls.specs.Callable.{AlwaysCallable};
 
 use cbor_edn_core::access::{
@@ -138,6 +138,7 @@ pub fn get_application_literal(
 ) -> Result<(String, String), Fault<TypeMismatch>>
     ensures found { IfOk result (λ p. IsApplicationItem (item_tree item.now) (string_bytes p.0) (string_bytes p.1)) }
     ensures refused { IfTold result (λ e. (e ≡ literal_mismatch (string_tree (item_tree item.now))) × ((p v : List ℕ) → IsApplicationItem (item_tree item.now) p v → ⊥)) }
+    ensures no_memory { OnMemory result ((p v : List ℕ) × IsApplicationItem (item_tree item.now) p v) }
 {
     item.get_application_literal(alloc)
 }

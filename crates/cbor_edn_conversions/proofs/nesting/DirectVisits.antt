@@ -28,7 +28,7 @@ module _ (Sought : Tree OneItem → Told → Type 0) where
     item_stays (entered {c = c} {cs = cs} s f l a) all d = parts_stay a (All-tail StaysDirect c cs all) (All-head StaysDirect c cs all d)
     item_stays (stayed {c = c} s f l) all d = All-head StaysDirect c [] all d
     item_stays (refused {c = c} s f) all d = All-head StaysDirect c [] all d
-    item_stays not_called all d = d
+    item_stays (not_called s) all d = d
 
     parts_stay : {k : Rule} {w v : Tree k} {cs : List SoughtCall} {r : Ending} → VisitParts Sought k w cs v r → All StaysDirect cs → DirectOf k (items w) → DirectOf k (items v)
     parts_stay of_number all d = d

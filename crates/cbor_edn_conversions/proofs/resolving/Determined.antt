@@ -96,7 +96,7 @@ module _ (Sought : Tree OneItem → Told → Type 0) where
   came (entered a f d b) is = enters refl a d b
   came (stayed a f d) is = stays refl a d
   came (refused a f) is = absurd cc
-  came not_called is = absurd cc
+  came (not_called s) is = absurd cc
 
   -- ---- one result
 
@@ -145,7 +145,7 @@ module _ (Sought : Tree OneItem → Told → Type 0) where
       item_once (entered {c = c} {v = v} {s = s} {cs = cs} h f d a) end all u x ds q b is others = entered_once c v s cs h d (All-head Good c cs all) (parts_once a end (All-tail Good c cs all)) (came b is) is others
       item_once (stayed {c = c} {s = s} h f d) end all u x ds q b is others = stayed_once c s h d (All-head Good c [] all) (came b is) is others
       item_once (refused h f) end all u x ds q b is others = absurd cc
-      item_once not_called end all u x ds q b is others = absurd cc
+      item_once (not_called s) end all u x ds q b is others = absurd cc
 
       pub parts_once : {k : Rule} {w v : Tree k} {cs : List SoughtCall} {r : Ending} → VisitParts Sought k w cs v r → r ≡ whole → All Good cs → PartsOnce w cs v
       parts_once of_number end all u ds q b is others = let h = inverted b is in (sym h.0, sym h.1)

@@ -135,7 +135,7 @@ module _ (Rel : (A : Type 0) → Option A → Option A → Type 0) (relates : Re
         item_kept (entered {c = c} {v = v} {cs = cs} {r = r} is f d a) all done = premises.entering c v cs r (All-head Good c cs all) is d a (parts_kept a (All-tail Good c cs all) done)
         item_kept (stayed {c = c} is f d) all done = premises.called c (All-head Good c [] all) is
         item_kept (refused {c = c} is f) all done = premises.called c (All-head Good c [] all) is
-        item_kept (not_called {w = w}) all done = premises.untouched (items w) done
+        item_kept (not_called {w = w} is) all done = premises.untouched (items w) done
 
         pub parts_kept : {k : Rule} {w v : Tree k} {cs : List SoughtCall} {r : Ending} → VisitParts Sought k w cs v r → All Good cs → Done r → KeptOf Rel B A k (items w) (items v)
         parts_kept of_number all done = λ agree. relates.same Value _

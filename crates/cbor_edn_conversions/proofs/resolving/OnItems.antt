@@ -155,7 +155,7 @@ module _ (Sought : Tree OneItem → Told → Type 0) (SoughtNode : Node Item →
     item_visited (tree.stayed {c = c} s f d) is all =
         stayed c.told ((sought c.before c.told).0 s) (steps c (All-head Good c [] all)) (let x = item_depth c.before in let y = item_depth c.after in omega (arith, x, y, d))
     item_visited (tree.refused s f) is all = absurd cc
-    item_visited tree.not_called is all = absurd cc
+    item_visited (tree.not_called s) is all = absurd cc
 
     pub parts_visited : {k : Rule} {w v : Tree k} {cs : List SoughtCall} {r : Ending} → VisitParts Sought k w cs v r → r ≡ whole → All Good cs → VisitedOf k (items w) (items v)
     parts_visited of_number is all = number

@@ -20,7 +20,7 @@ module _ {IsSought : Tree OneItem → Told → Type 0} where
   then_if false x ds r (stays is a d) v = rw (v.0, v.1, v.2) (stayed is a d)
 
   pub failed : {E : Type 0} {w v : Tree OneItem} {s t : List ℕ} {cs : List SoughtCall} {e : E} → Reaches IsSought w s cs v t (Err e) → VisitItem IsSought w s cs v t cut
-  failed fails_before = not_called
+  failed (fails_before is) = not_called is
   failed (fails_after is a) = refused is a
 
   pub measure_if-le : {E : Type 0} {w v : Tree OneItem} {s t : List ℕ} {cs : List SoughtCall} (b : Bool) → Reaches {E = E} IsSought w s cs v t (Ok b) → measure_if b v ≤ 16 * depth w + 6
@@ -33,9 +33,9 @@ module _ {IsSought : Tree OneItem → Told → Type 0} where
       → (cs : List SoughtCall) × Chain Step f cs f × Reaches {E = E} IsSought w s cs w s (Ok true)
   reached_not n = ([], no_calls, passes n)
 
-  pub reached_never : {E F : Type 0} {Step : F → SoughtCall → F → Type 0} {f : F} {w : Tree OneItem} {s : List ℕ} {e : E}
+  pub reached_never : {E F : Type 0} {Step : F → SoughtCall → F → Type 0} {f : F} {w : Tree OneItem} {s : List ℕ} {e : E} (a : Told) → IsSought w a
       → (cs : List SoughtCall) × Chain Step f cs f × Reaches IsSought w s cs w s (Err e)
-  reached_never = ([], no_calls, fails_before)
+  reached_never a is = ([], no_calls, fails_before {a = a} is)
 
   pub reached_err : {E F : Type 0} {Step : F → SoughtCall → F → Type 0} {f g : F} {s t : List ℕ} (c : SoughtCall) (r : Result Bool E) → IsErr r → IsSought c.before c.told → Step f c g → c.answer ≢ fine → t ≡ s
       → (cs : List SoughtCall) × Chain Step f cs g × Reaches IsSought c.before s cs c.after t r

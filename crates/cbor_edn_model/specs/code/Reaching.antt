@@ -14,7 +14,7 @@ pub data Reaches {E : Type 0} (IsSought : Tree OneItem → Told → Type 0) : Tr
       → Reaches IsSought c.before s (c ∷ []) c.after (answered c.answer s) (Ok true)
   stays : {c : SoughtCall} {s : List ℕ} → IsSought c.before c.told → c.answer ≢ no_memory → depth c.before < depth c.after
       → Reaches IsSought c.before s (c ∷ []) c.after (answered c.answer s) (Ok false)
-  fails_before : {w : Tree OneItem} {s : List ℕ} {e : E} → Reaches IsSought w s [] w s (Err e)
+  fails_before : {a : Told} {w : Tree OneItem} {s : List ℕ} {e : E} → IsSought w a → Reaches IsSought w s [] w s (Err e)
   fails_after : {c : SoughtCall} {s : List ℕ} {e : E} → IsSought c.before c.told → c.answer ≢ fine → Reaches IsSought c.before s (c ∷ []) c.after s (Err e)
 
 module _ (IsSought : Tree OneItem → Told → Type 0) where

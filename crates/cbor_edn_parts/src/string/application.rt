@@ -1,5 +1,5 @@
 //! Literals of a prefix and a text.
-ghost use Rattle.std.specs.Prelude.{◌≡◌, ◌++◌, IfOk, IfSome, OnOk, None, List, ℕ, encode_utf8, string_bytes};
+ghost use Rattle.std.specs.Prelude.{◌≡◌, ◌++◌, IfOk, IfSome, OnOk, OnErr, None, List, ℕ, encode_utf8, string_bytes};
 ghost use Rattle.cbor_edn_parts.specs.Leaves.{literal_bytes};
 ghost use Rattle.cbor_edn_parts.specs.Literal.{IsPrefix, IsLiteral, Prefixed};
 ghost use Rattle.cbor_edn_parts.specs.code.Prefixes as prefixes;
@@ -40,10 +40,11 @@ impl<'a> Literal<'a> {
 
 impl Literal<'_> {
     /// The prefix and the text of a literal with a prefix, as `b64` and `a'b` of `b64'a\'b'`: none where it has no prefix. Fails
-    /// where memory runs out.
+    /// where memory runs out, which only a literal with a prefix takes.
     pub fn application_parts(&self, alloc: Global) -> Result<Option<(String, String)>, AllocError>
         ensures found { IfOk result (λ o. IfSome o (λ p. IsLiteral (Prefixed (string_bytes p.0)) (string_bytes p.1) (literal_bytes self.now))) }
         ensures none { IfOk result (λ o. o ≡ None → (p v : List ℕ) → IsLiteral (Prefixed p) v (literal_bytes self.now) → ⊥) }
+        ensures prefixed { OnErr result ((p v : List ℕ) × IsLiteral (Prefixed p) v (literal_bytes self.now)) }
     {
         let prefix = self.prefix();
         if prefix.is_empty() {

@@ -1,5 +1,6 @@
-use Rattle.std.proofs.Common.{ℕ, List, ◌∙◌, ap, rules}
+use Rattle.std.proofs.Common.{ℕ, List, ◌∙◌, ap, rules, string_bytes}
 use Rattle.cbor_edn_model.specs.Accessed.{IsApplicationItem}
+use Rattle.cbor_edn_model.specs.Seeking.{prefix_and_text}
 use Rattle.cbor_edn_model.specs.Visits.{answered, one_call, no_calls}
 use Rattle.cbor_edn_model.proofs.code.Reaching.{reached_not, reached_never, reached_err, reached_in, reached_out}
 use Rattle.cbor_edn_core.specs.View.{item_tree}
@@ -12,10 +13,12 @@ returns-in-Err-Told-clause-reached g c =
     reached_not (untold_literal (item_tree c.args.item.now) none)
 
 pub returns-in-Err-Memory-clause-reached : goal.returns-in-Err-Memory-clause-reached
-returns-in-Err-Memory-clause-reached g c = reached_never
+returns-in-Err-Memory-clause-reached g c =
+    let some : (p v : List ℕ) × IsApplicationItem (item_tree c.args.item.now) p v = search rules in
+    reached_never (prefix_and_text some.0 some.1) some.2
 
 pub returns-then-before-clause-reached : goal.returns-then-before-clause-reached
-returns-then-before-clause-reached g c = reached_never
+returns-then-before-clause-reached g c = reached_never (prefix_and_text (string_bytes c.in-Ok.literal.0) (string_bytes c.in-Ok.literal.1)) c.in-Ok.ensures.found
 
 pub returns-in_err-put_answer-clause-callable_after : goal.returns-in_err-put_answer-clause-callable_after
 returns-in_err-put_answer-clause-callable_after g c = literals_after item_tree _ c.requires.callable (one_call c.call_literal-answer.ensures.called no_calls)

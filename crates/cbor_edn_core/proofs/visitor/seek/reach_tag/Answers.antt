@@ -1,4 +1,5 @@
 use Rattle.std.proofs.Common.{◌∙◌, ap}
+use Rattle.cbor_edn_model.specs.Seeking.{number}
 use Rattle.cbor_edn_model.specs.Visits.{answered, one_call, no_calls}
 use Rattle.cbor_edn_model.proofs.code.Reaching.{reached_not, reached_never, reached_err, reached_in, reached_out}
 use Rattle.cbor_edn_core.specs.View.{item_tree}
@@ -9,7 +10,7 @@ pub returns-in_default-clause-reached : goal.returns-in_default-clause-reached
 returns-in_default-clause-reached g c = reached_not (untold (item_tree c.args.item.now) c.in_default.ensures.refused.1)
 
 pub returns-then-before-clause-reached : goal.returns-then-before-clause-reached
-returns-then-before-clause-reached g c = reached_never
+returns-then-before-clause-reached g c = reached_never (number c.in-Ok.tag) c.in-Ok.ensures.found
 
 pub returns-in_err-put_answer-clause-callable_after : goal.returns-in_err-put_answer-clause-callable_after
 returns-in_err-put_answer-clause-callable_after g c = tags_after item_tree _ c.requires.callable (one_call c.call_tag-answer.ensures.called no_calls)

@@ -1,4 +1,5 @@
-use Rattle.std.proofs.Common.{◌≡◌, ◌≢◌, ℕ, List, [], true, false, refl, sym, ap, subst, ◌∙◌, eqb, length, Vec, Global, string_bytes, arith}
+use Rattle.std.proofs.Common.{◌≡◌, ◌≢◌, ℕ, List, [], true, false, Result, Ok, Err, refl, sym, ap, subst, ◌∙◌, eqb, length, Vec, Global, string_bytes, arith}
+use Rattle.std.specs.Result.{OnErr}
 use Rattle.std.proofs.lemmas.Bool.Decides.{nat_tests}
 use Rattle.std.proofs.lemmas.List.{nil_from_length}
 use Rattle.cbor_edn_parts.specs.Leaves.{literal_bytes}
@@ -16,6 +17,11 @@ none p e = nil_from_length p (grind (arith, nat_tests))
 some : (p : List ℕ) → false ≡ eqb (length p) 0 → p ≢ []
 some p e empty = let zero : length p ≡ 0 = rw empty refl in absurd (grind (arith, nat_tests))
 
+-- Memory is asked for behind a prefix alone.
+on_err : {A E : Type 0} (t p v : List ℕ) (r : Result A E) → IsLiteral (Prefixed p) v t → OnErr r ((p v : List ℕ) × IsLiteral (Prefixed p) v t)
+on_err t p v (Ok x) read = tt
+on_err t p v (Err e) read = (p, v, read)
+
 pub returns-then-is_empty-clause-none : goal.returns-then-is_empty-clause-none
 returns-then-is_empty-clause-none c e = unprefixed_read (literal_bytes c.args.self.now) (sym c.prefix-prefix.ensures ∙ none c.prefix-prefix.result.now c.if-is_empty.ensures)
 
@@ -32,3 +38,13 @@ returns-clause-found c =
     let prefix : string_bytes c.in_ok-prefix.prefix ≡ prefix_of t = c.in_ok-prefix.ensures.ok ∙ c.prefix-prefix.ensures in
     let text : string_bytes c.unwrap-text.result ≡ decoded Single Between (behind_quote t) = ap (λ (v : Vec ℕ Global). v.items) (rw (c.unwrap-text.ensures) at c.from_utf8.ensures.ok) ∙ (c.in_ok-text.ensures ∙ ap (decoded Single Between) c.quoted.ensures) in
     subst (λ p. IsLiteral (Prefixed p) (string_bytes c.unwrap-text.result) t) (sym prefix) (subst (λ v. IsLiteral (Prefixed (prefix_of t)) v t) (sym text) read)
+
+pub returns-in_err-text-clause-prefixed : goal.returns-in_err-text-clause-prefixed
+returns-in_err-text-clause-prefixed c =
+    let t = literal_bytes c.args.self.now in
+    on_err t (prefix_of t) _ _ (prefixed_read t (rw (← c.prefix-prefix.ensures) (some c.prefix-prefix.result.now c.if-is_empty.ensures)) c.args.self.now.spelled)
+
+pub returns-in_err-prefix-clause-prefixed : goal.returns-in_err-prefix-clause-prefixed
+returns-in_err-prefix-clause-prefixed c =
+    let t = literal_bytes c.args.self.now in
+    on_err t (prefix_of t) _ _ (prefixed_read t (rw (← c.prefix-prefix.ensures) (some c.prefix-prefix.result.now c.if-is_empty.ensures)) c.args.self.now.spelled)
