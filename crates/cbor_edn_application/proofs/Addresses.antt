@@ -1,13 +1,14 @@
 -- Conversions of addresses, by the texts that they take.
-use Rattle.std.proofs.Common.{◌≡◌, ℕ, ℤ, Bool, false, codes, List, [], ◌∷◌, Option, Some, None, Result, Ok, Err, refl, sym, ap, ◌∙◌, subst}
-use Rattle.std.specs.Prelude.{option_map}
-use Rattle.cbor_edn_model.specs.Accessed.{item_bytes}
+use Rattle.std.proofs.Common.{◌≡◌, ℕ, ℤ, Bool, true, false, cond, codes, List, [], ◌∷◌, Option, Some, None, Result, Ok, Err, refl, sym, ap, ◌∙◌, subst}
+use Rattle.std.specs.Prelude.{option_map, is_some}
+use Rattle.cbor_edn_model.specs.Accessed.{item_bytes, array_items}
 use Rattle.cbor_edn_model.specs.Trees.{Tree, OneItem}
 use Rattle.cbor_edn_model.specs.Visits.{Answer}
 use Rattle.cbor_edn_literals.specs.declared.address.IpVersion.{IpVersion}
 use Rattle.cbor_edn_conversions.specs.Integers.{item_integer}
-use Rattle.cbor_edn_conversions.specs.Conversions.{Words, Conversion, reply}
-use Rattle.cbor_edn_conversions.specs.Addresses.{whole_text, prefix_text, as_literal, by_length, by_others}
+use Rattle.cbor_edn_conversions.specs.Conversions.{Words, Conversion, reply, converted, changed_encoding, item_encoding, mean_the_same, literal_tree}
+use Rattle.cbor_edn_conversions.specs.Addresses.{whole_text, prefix_text, address_prefix, if_same, as_literal, with_first, as_first, by_length, by_others, by_first, by_elements}
+use Rattle.cbor_edn_conversions.proofs.conversions.FirstElements.{first_literal_is}
 use Rattle.std.specs.declared.net.ip_addr.IpAddr.{IpAddr}
 use Rattle.cbor_edn_parts.specs.code.ContentReading.{same}
 use Rattle.cbor_edn_literals.specs.declared.address.AddressError.{AddressError}
@@ -18,6 +19,9 @@ use Rattle.cbor_edn_application.specs.Acts.{ActsSo}
 
 abbrev pub refused : Words → Conversion
 refused e = Err e
+
+abbrev pub becomes : Tree OneItem → Conversion
+becomes w = Ok w
 
 pub other_prefix : (p t : List ℕ) → same p (codes "ip") ≡ false → same p (codes "IP") ≡ false → address_of_literal p t ≡ None
 other_prefix p t e f = rw (e, f) refl
@@ -60,3 +64,38 @@ resolved p q t u wrap e f is = ap (λ t. Some (address_item wrap t)) f ∙ sym (
 
 pub unresolved : (p q u : List ℕ) → p ≡ q → ((t : List ℕ) → address_of_literal p t ≡ None) → None ≡ address_of_literal q u
 unresolved p q u e is = sym (subst (λ p. address_of_literal p u ≡ None) e (is u))
+
+-- the literal of a first element that is bytes
+module _ (version : IpVersion) (wrap : Bool) (w e : Tree OneItem) (es : List (Tree OneItem)) (t : List ℕ) (are : array_items w ≡ Some (e ∷ es)) where
+  first_is : as_first version wrap w (Ok t) ≡ cond (is_some (item_encoding w)) (converted (as_literal version false e (Ok t)) (λ l. Ok (with_first version wrap w l))) (Err changed_encoding)
+  first_is = first_literal_is version wrap w e es are t
+
+  pub first_put : (l : Tree OneItem) (bs : List ℕ) → as_literal version false e (Ok t) ≡ Ok l → Some bs ≡ item_encoding w → as_first version wrap w (Ok t) ≡ becomes (with_first version wrap w l)
+  first_put l bs is means = first_is ∙ (ap (λ o. cond (is_some o) (converted (as_literal version false e (Ok t)) (λ l. becomes (with_first version wrap w l))) (Err changed_encoding)) (sym means) ∙ ap (λ c. converted c (λ l. becomes (with_first version wrap w l))) is)
+
+  pub first_meaningless : None ≡ item_encoding w → as_first version wrap w (Ok t) ≡ refused changed_encoding
+  first_meaningless none = first_is ∙ ap (λ o. cond (is_some o) (converted (as_literal version false e (Ok t)) (λ l. becomes (with_first version wrap w l))) (refused changed_encoding)) (sym none)
+
+  -- the only refusal
+  same_words : (new : Tree OneItem) (c : Conversion) (x : Words) → if_same version false e new c ≡ refused x → changed_encoding ≡ x
+  same_words new (Err y) x is = cc
+  same_words new (Ok back) x is = by (mean_the_same e back) is
+    where
+      by : (b : Bool) → cond b (becomes new) (refused changed_encoding) ≡ refused x → changed_encoding ≡ x
+      by true f = absurd cc
+      by false f = cc
+
+  pub first_refused : (x : Words) → as_literal version false e (Ok t) ≡ refused x → as_first version wrap w (Ok t) ≡ refused x
+  first_refused x is = first_is ∙ by (is_some (item_encoding w))
+    where
+      by : (b : Bool) → cond b (converted (as_literal version false e (Ok t)) (λ l. becomes (with_first version wrap w l))) (refused changed_encoding) ≡ refused x
+      by true = ap (λ c. converted c (λ l. becomes (with_first version wrap w l))) is
+      by false = ap refused (same_words (literal_tree (address_prefix false) t) (address_item false t) x is)
+
+  by_text : (o : Option (List ℕ)) → option_map (whole_text version) o ≡ Some (text t) → by_first version wrap w o e es ≡ as_first version wrap w (text t)
+  by_text (Some bs) is = ap (as_first version wrap w) (text_is (whole_text version bs) (text t) is)
+  by_text None is = absurd cc
+
+  -- what stands for an array with such an element
+  pub by_first_text : option_map (whole_text version) (item_bytes e) ≡ Some (text t) → by_elements version wrap w (array_items w) ≡ as_first version wrap w (text t)
+  by_first_text is = ap (by_elements version wrap w) are ∙ by_text (item_bytes e) is

@@ -1,9 +1,18 @@
--- An item with another first item below it.
-use Rattle.std.proofs.Common.{◌≡◌, ◌-◌, List, [], ◌∷◌, ◌++◌, length, refl, sym, ap, ◌∙◌, subst}
+-- An item with another first item below it, and a tag with another content.
+use Rattle.std.proofs.Common.{◌≡◌, ◌-◌, ◌==◌, ℕ, Bool, true, false, Option, Some, None, List, [], ◌∷◌, ◌++◌, length, refl, sym, ap, ◌∙◌, subst}
 use Rattle.std.specs.Prelude.{if◌then◌else◌, ltb, slice_get, option_map, unwrap_or}
 use Rattle.cbor_edn_model.specs.declared.label.LabelKind.TheVariants as label
-use Rattle.cbor_edn_model.specs.Paths.{items_in, with_item, with_at, at_standalone, with_at_standalone}
+use Rattle.cbor_edn_parts.specs.declared.indicator.Indicator.{Indicator}
+use Rattle.cbor_edn_model.specs.Accessed.{tag_content}
+use Rattle.cbor_edn_model.specs.Decoded.{alone}
+use Rattle.cbor_edn_model.specs.Paths.{items_in, at, with_item, with_at, at_standalone, with_at_standalone}
 use Rattle.cbor_edn_model.specs.Trees.{Rule, Tree, OneItem, Standalone, NumberTree, FloatTree, NamedTree, EnclosedTree, ListTree, StringTree, StreamTree, LiteralTree, DotsTree, EmbeddedTree, LastPieceTree, PlusTree, ElementTree, PairTree, ChunkTree, EmptyTree, FullTree, LastTree, MoreTree, NothingTree, SequenceTree, StandaloneTree}
+use Rattle.cbor_edn_model.specs.Seeking.{number}
+use Rattle.cbor_edn_model.proofs.meaning.MeaningSteps.{some_is}
+use Rattle.cbor_edn_core.specs.Constructed.{tagged_tree}
+use Rattle.cbor_edn_core.specs.Lent.{with_tag_content}
+use Rattle.cbor_edn_conversions.specs.Conversions.{told_tag, tag_tree}
+use Rattle.cbor_edn_application.proofs.TagParts.{parts}
 
 none_in_two : {A : Type 0} (xs ys : List A) → xs ++ ys ≡ [] → (xs ≡ []) × (ys ≡ [])
 none_in_two [] ys e = (refl, e)
@@ -51,3 +60,51 @@ first_put x w = by_items (items_in w) refl
 pub first_by : (w v x r y : Tree OneItem) (s t : Tree Standalone) → w ≡ v → s ≡ StandaloneTree [] w [] → t ≡ with_at_standalone (0 ∷ []) x s → r ≡ unwrap_or (at_standalone [] t) y → r ≡ with_item 0 x v
 first_by w v x r y s t same alone put is =
     is ∙ (ap (λ t. unwrap_or (at_standalone [] t) y) (put ∙ ap (λ s. with_at_standalone (0 ∷ []) x s) alone) ∙ (first_put x w ∙ ap (λ w. with_item 0 x w) same))
+
+-- ---- a tag with another content
+
+-- the tag that is told, without its spaces
+record IsTagOf (n : ℕ) (i : Option Indicator) (w old : Tree OneItem) : Type 0 where
+  pub before : List ℕ
+  pub behind : List ℕ
+  pub is : old ≡ EnclosedTree (label.Tag i n) (StandaloneTree before w behind)
+
+abbrev tag_of : Option Indicator → ℕ → List ℕ → Tree OneItem → List ℕ → Tree OneItem
+tag_of i n s w t = EnclosedTree (label.Tag i n) (StandaloneTree s w t)
+
+told_by : (b : Bool) (m n : ℕ) (j i : Option Indicator) (s t : List ℕ) (v w : Tree OneItem) → (if b then Some (parts m j v) else None) ≡ Some (parts n i w) → IsTagOf n i w (EnclosedTree (label.Tag j m) (StandaloneTree s v t))
+told_by true m n j i s t v w e =
+    let same = some_is (parts m j v) (parts n i w) e in
+    record { before = s; behind = t; is = by (ap (λ (p : ℕ × Option Indicator × Tree OneItem). p.0) same) (ap (λ (p : ℕ × Option Indicator × Tree OneItem). p.1) same) (ap (λ (p : ℕ × Option Indicator × Tree OneItem). p.2) same) }
+  where
+    by : {m n : ℕ} {j i : Option Indicator} {v w : Tree OneItem} → m ≡ n → j ≡ i → v ≡ w → tag_of j m s v t ≡ tag_of i n s w t
+    by a b c = cc
+told_by false m n j i s t v w e = absurd cc
+
+is_tag_of : (k n : ℕ) (i : Option Indicator) (w old : Tree OneItem) → told_tag (number k) old ≡ Some (n, i, w) → IsTagOf n i w old
+is_tag_of k n i w (EnclosedTree (label.Tag j m) (StandaloneTree s v t)) e = told_by (k == m) m n j i s t v w e
+is_tag_of k n i w (EnclosedTree label.Simple c) e = absurd cc
+is_tag_of k n i w (NumberTree x j) e = absurd cc
+is_tag_of k n i w (FloatTree f j) e = absurd cc
+is_tag_of k n i w (NamedTree b) e = absurd cc
+is_tag_of k n i w (ListTree l c) e = absurd cc
+is_tag_of k n i w (StringTree c) e = absurd cc
+is_tag_of k n i w (StreamTree s m) e = absurd cc
+
+-- the content, once x stands in the place of its first item
+pub content_with_first : (n : ℕ) (i : Option Indicator) (w old x y : Tree OneItem) → told_tag (number n) old ≡ Some (n, i, w) → unwrap_or (at (0 ∷ []) (with_at (0 ∷ 0 ∷ []) x old)) y ≡ with_item 0 x w
+content_with_first n i w old x y told = ap (λ o. unwrap_or (at (0 ∷ []) (with_at (0 ∷ 0 ∷ []) x o)) y) (is_tag_of n n i w old told).is ∙ first_put x w
+
+-- what a loan of the content leaves and gives
+module _ (n : ℕ) (w old : Tree OneItem) (is : old ≡ tag_tree n w) (s : Tree Standalone) (content : Some s ≡ tag_content old) (path : List ℕ) (x : Tree OneItem) where
+  content_is : s ≡ alone w
+  content_is = let e : Some s ≡ Some (alone w) = content ∙ ap tag_content is in cc
+
+  pub inside_put : (v : Tree OneItem) (t : Tree Standalone) → v ≡ with_tag_content t old → t ≡ with_at_standalone path x s → v ≡ tag_tree n (with_at path x w)
+  inside_put v t left put = left ∙ (ap (with_tag_content t) is ∙ ap (tagged_tree n) (put ∙ ap (with_at_standalone path x) content_is))
+
+  pub inside_before : (r : Tree OneItem) → r ≡ unwrap_or (at_standalone path s) x → r ≡ unwrap_or (at path w) x
+  inside_before r before = before ∙ ap (λ s. unwrap_or (at_standalone path s) x) content_is
+
+pub has_content : (n : ℕ) (w old : Tree OneItem) → old ≡ tag_tree n w → tag_content old ≡ None → ⊥
+has_content n w old is none = let e : Some (alone w) ≡ None = sym (ap tag_content is) ∙ none in cc

@@ -14,7 +14,7 @@ use Rattle.cbor_edn_application.specs.Handlers.{ValueAnswers}
 abbrev err : {X : Type 0} → Fault X → Result (Unit {0}) (Fault X)
 err x = Err x
 
-refusal_acts : (f : Tree OneItem → Reply) (w v : Tree OneItem) (words : List ℕ) (a : Answer) → f w ≡ (comment words, w) → v ≡ w → AnswersSo (comment words) a → ActsSo f w a v
+pub refusal_acts : (f : Tree OneItem → Reply) (w v : Tree OneItem) (words : List ℕ) (a : Answer) → f w ≡ (comment words, w) → v ≡ w → AnswersSo (comment words) a → ActsSo f w a v
 refusal_acts f w v words fine is same h = (h ∙ sym (ap (λ p. p.0) is), same ∙ sym (ap (λ p. p.1) is))
 refusal_acts f w v words (comment c) is same h = (h ∙ sym (ap (λ p. p.0) is), same ∙ sym (ap (λ p. p.1) is))
 refusal_acts f w v words no_memory is same h = same

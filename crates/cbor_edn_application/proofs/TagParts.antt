@@ -11,7 +11,7 @@ use Rattle.cbor_edn_conversions.specs.Conversions.{told_tag}
 abbrev head : ℕ → Option Indicator → ℕ × Option Indicator
 head n i = (n, i)
 
-abbrev parts : ℕ → Option Indicator → Tree OneItem → ℕ × Option Indicator × Tree OneItem
+abbrev pub parts : ℕ → Option Indicator → Tree OneItem → ℕ × Option Indicator × Tree OneItem
 parts n i w = (n, i, w)
 
 pub no_tag : (n : ℕ) (w : Tree OneItem) → tag_head w ≡ None → told_tag (number n) w ≡ None

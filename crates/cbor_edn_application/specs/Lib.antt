@@ -6,3 +6,4 @@ pub mod Sequences
 pub mod TimeSteps
 pub mod Laws
 pub mod VisitActs
+pub mod Placing

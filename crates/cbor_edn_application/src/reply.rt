@@ -32,7 +32,7 @@ pub(crate) fn reply<'a>(
 }
 
 /// The words of a refusal as a comment, or want of memory.
-fn refusal(alloc: Global, fault: Fault<&'static str>) -> CallbackError
+pub(crate) fn refusal(alloc: Global, fault: Fault<&'static str>) -> CallbackError
     ensures { AnswersFault fault.entry (λ e. e.now) (error_answer result) }
 {
     match fault {

@@ -26,7 +26,7 @@ pub(crate) fn mean_the_same(
 }
 
 /// The encoding of an item, or none where it means nothing.
-fn encoding(alloc: Global, item: &Item<'_>) -> Result<Option<Vec<u8>>, AllocError>
+pub(crate) fn encoding(alloc: Global, item: &Item<'_>) -> Result<Option<Vec<u8>>, AllocError>
     ensures { IfOk result (λ o. option_map (λ v. v.items) o ≡ item_encoding (item_tree item.now)) }
 {
     match item.to_cbor(alloc) {

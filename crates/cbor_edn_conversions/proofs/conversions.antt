@@ -5,6 +5,7 @@ pub mod AnswersGiven
 pub mod Calls
 pub mod ClaimsKept
 pub mod ConversionsKept
+pub mod FirstElements
 pub mod ItemBytes
 pub mod Literals
 pub mod LiteralsResolved

@@ -6,10 +6,11 @@ ghost use Rattle.cbor_edn_model.specs.Trees.{Tree, OneItem};
 ghost use Rattle.cbor_edn_core.specs.Iterated.{items_left};
 ghost use Rattle.cbor_edn_core.specs.View.{item_tree};
 ghost use Rattle.cbor_edn_conversions.specs.Conversions.{Words};
+ghost use Rattle.cbor_edn_application.specs.Placing.{with_placed};
 ghost use Rattle.cbor_edn_conversions.specs.Integers.{item_integer};
 ghost use Rattle.cbor_edn_conversions.specs.Addresses.{refusal_words, whole_text, prefix_text, as_literal, by_length, by_others, by_elements, address_literal};
 
-use super::placing::{first_literal, whole_literal};
+use super::placing::{Placed, first_literal, whole_literal, with_first};
 use crate::integers::integer_of;
 use cbor_edn_conversions::steps::{NoAddress, prefix_text, whole_text};
 use cbor_edn_core::access::ArrayItems;
@@ -21,7 +22,6 @@ use std::alloc::{AllocError, Global};
 /// The address literal that stands for an item: for bytes, or for an array of a prefix length and bytes. Of an array whose first
 /// element is bytes, the array with the literal of these in its place. With `wrap` the item is the content of the version's tag,
 /// and what is given stands for the tag.
-#[tactic(auto, unfolding(cbor_edn_conversions::specs::Addresses::address_literal))]
 pub fn ip_item_to_aol<'a>(
     alloc: Global,
     item: &Item<'a>,
@@ -31,8 +31,28 @@ pub fn ip_item_to_aol<'a>(
     ensures converted { IfOk result (λ t. address_literal (item_tree item.now) version wrap ≡ Ok (item_tree t)) }
     ensures refused { IfTold result (λ e. address_literal (item_tree item.now) version wrap ≡ Err e.now) }
 {
+    match placed_literal(alloc, item, version, wrap)? {
+        Placed::Whole(literal) => Ok(literal),
+        Placed::First(literal) => Ok(with_first(alloc, item, version, wrap, literal)?),
+    }
+}
+
+/// The literal that is to stand in the place of an item, or in that of its first element.
+#[tactic(auto, unfolding(cbor_edn_conversions::specs::Addresses::address_literal))]
+pub(super) fn placed_literal<'a>(
+    alloc: Global,
+    item: &Item<'_>,
+    version: IpVersion,
+    wrap: bool,
+) -> Result<Placed<'a>, Fault<&'static str>>
+    ensures converted { IfOk result (λ p. address_literal (item_tree item.now) version wrap ≡ Ok (with_placed version wrap (item_tree item.now) p)) }
+    ensures refused { IfTold result (λ e. address_literal (item_tree item.now) version wrap ≡ Err e.now) }
+{
     match bytes_text(alloc, version, item)? {
-        Some(text) => whole_literal(alloc, item, version, wrap, text.as_str()),
+        Some(text) => {
+            let literal = whole_literal(alloc, item, version, wrap, text.as_str())?;
+            Ok(Placed::Whole(literal))
+        }
         None => array_literal(alloc, item, version, wrap),
     }
 }
@@ -40,11 +60,11 @@ pub fn ip_item_to_aol<'a>(
 /// The same of an array.
 fn array_literal<'a>(
     alloc: Global,
-    array: &Item<'a>,
+    array: &Item<'_>,
     version: IpVersion,
     wrap: bool,
-) -> Result<Item<'a>, Fault<&'static str>>
-    ensures converted { IfOk result (λ t. by_elements version wrap (item_tree array.now) (array_items (item_tree array.now)) ≡ Ok (item_tree t)) }
+) -> Result<Placed<'a>, Fault<&'static str>>
+    ensures converted { IfOk result (λ p. by_elements version wrap (item_tree array.now) (array_items (item_tree array.now)) ≡ Ok (with_placed version wrap (item_tree array.now) p)) }
     ensures refused { IfTold result (λ e. by_elements version wrap (item_tree array.now) (array_items (item_tree array.now)) ≡ Err e.now) }
 {
     let Ok(mut elements) = array.get_array_items() else {
@@ -54,15 +74,21 @@ fn array_literal<'a>(
         return Err(Fault::Told("Array too short for IP tag"));
     };
     match bytes_text(alloc, version, first)? {
-        Some(text) => first_literal(alloc, array, version, wrap, text.as_str()),
-        None => others_literal(alloc, array, version, wrap, first, elements),
+        Some(text) => {
+            let literal = first_literal(alloc, array, first, version, text.as_str())?;
+            Ok(Placed::First(literal))
+        }
+        None => {
+            let literal = others_literal(alloc, array, version, wrap, first, elements)?;
+            Ok(Placed::Whole(literal))
+        }
     }
 }
 
 /// The literal of an array whose first element is no bytes, and that has these others.
 fn others_literal<'a>(
     alloc: Global,
-    array: &Item<'a>,
+    array: &Item<'_>,
     version: IpVersion,
     wrap: bool,
     first: &Item<'_>,

@@ -1,14 +1,19 @@
 //! Literals in the place of items, where what they stand for means the same bytes.
-ghost use Rattle.std.specs.Prelude.{◌≡◌, false, Ok, Err, IfOk, OnOk, unwrap_or};
+ghost use Rattle.std.specs.Prelude.{◌≡◌, ℕ, ◌∷◌, true, false, List, Bool, Option, Some, Ok, Err, IfOk, IfErr, OnOk, unwrap_or};
+ghost use Rattle.cbor_edn_parts.specs.declared.indicator.Indicator.{Indicator};
 ghost use Rattle.cbor_edn_parts.specs.Refusals.{IfTold};
-ghost use Rattle.cbor_edn_model.specs.Paths.{with_item, at_standalone, with_at_standalone};
+ghost use Rattle.cbor_edn_model.specs.Accessed.{array_items};
+ghost use Rattle.cbor_edn_model.specs.Paths.{at, with_at, with_item, at_standalone, with_at_standalone};
+ghost use Rattle.cbor_edn_model.specs.Seeking.{number};
 ghost use Rattle.cbor_edn_model.specs.Trees.{Tree, OneItem};
 ghost use Rattle.cbor_edn_core.specs.View.{item_tree, standalone_tree};
-ghost use Rattle.cbor_edn_conversions.specs.Conversions.{Conversion, converted, literal_tree, in_tag, mean_the_same};
-ghost use Rattle.cbor_edn_conversions.specs.Addresses.{address_prefix, address_tag, address_item, if_same, as_literal, as_first, with_first};
+ghost use Rattle.cbor_edn_conversions.specs.Conversions.{Conversion, literal_tree, told_tag, in_tag, tag_tree, mean_the_same};
+ghost use Rattle.cbor_edn_conversions.specs.Addresses.{address_prefix, address_tag, if_same, as_literal, as_first, with_first};
+ghost use Rattle.cbor_edn_application.specs.Placing.{with_placed};
 
 use super::items::{address_item, in_tag};
-use crate::same::mean_the_same;
+use crate::same::{encoding, mean_the_same};
+use cbor_edn_conversions::steps::address_tag;
 use cbor_edn_core::tree::{Item, StandaloneItem};
 use cbor_edn_literals::address::IpVersion;
 use cbor_edn_parts::error::Fault;
@@ -18,10 +23,19 @@ use std::mem;
 /// What is told where a literal would not stand for the bytes that an item means.
 pub(super) const CHANGED_ENCODING: &str = "Conversion would change the encoding";
 
+/// A literal for an item.
+#[derive(Drop)]
+pub(super) enum Placed<'a> {
+    /// in the place of all of it
+    Whole(Item<'a>),
+    /// in that of its first element
+    First(Item<'a>),
+}
+
 /// The literal of a text in the place of an item.
 pub(super) fn whole_literal<'a>(
     alloc: Global,
-    item: &Item<'a>,
+    item: &Item<'_>,
     version: IpVersion,
     wrap: bool,
     text: &str,
@@ -33,36 +47,25 @@ pub(super) fn whole_literal<'a>(
     Ok(literal(alloc, wrap, text)?)
 }
 
-/// The array with the literal of a text in the place of its first element, with `wrap` in the tag of the version.
+/// The literal of a text in the place of the first element of an array.
 pub(super) fn first_literal<'a>(
     alloc: Global,
-    array: &Item<'a>,
+    array: &Item<'_>,
+    first: &Item<'_>,
     version: IpVersion,
-    wrap: bool,
     text: &str,
 ) -> Result<Item<'a>, Fault<&'static str>>
-    ensures converted { IfOk result (λ t. as_first version wrap (item_tree array.now) (Ok text.now) ≡ Ok (item_tree t)) }
-    ensures refused { IfTold result (λ e. as_first version wrap (item_tree array.now) (Ok text.now) ≡ Err e.now) }
+    ensures converted { (wrap : Bool) (es : List (Tree OneItem)) → array_items (item_tree array.now) ≡ Some (item_tree first.now ∷ es)
+        → IfOk result (λ t. as_first version wrap (item_tree array.now) (Ok text.now) ≡ Ok (with_first version wrap (item_tree array.now) (item_tree t))) }
+    ensures refused { (wrap : Bool) (es : List (Tree OneItem)) → array_items (item_tree array.now) ≡ Some (item_tree first.now ∷ es)
+        → IfTold result (λ e. as_first version wrap (item_tree array.now) (Ok text.now) ≡ Err e.now) }
 {
-    let back = first_back(alloc, array, version, wrap, text);
-    keep_encoding(alloc, array, version, wrap, back)?;
-    let literal = literal(alloc, false, text)?;
-    Ok(with_first(alloc, array, version, wrap, literal)?)
-}
-
-/// The array that this one stands for: its first element is what the literal of the text stands for.
-fn first_back<'a>(
-    alloc: Global,
-    array: &Item<'a>,
-    version: IpVersion,
-    wrap: bool,
-    text: &str,
-) -> Result<Item<'a>, Fault<&'static str>>
-    ensures converted { IfOk result (λ t. converted (address_item false text.now) (λ x. Ok (with_first version wrap (item_tree array.now) x)) ≡ Ok (item_tree t)) }
-    ensures refused { IfTold result (λ e. converted (address_item false text.now) (λ x. Ok (with_first version wrap (item_tree array.now) x)) ≡ Err e.now) }
-{
-    let first = address_item(alloc, false, text)?;
-    Ok(with_first(alloc, array, version, wrap, first)?)
+    let literal = whole_literal(alloc, first, version, false, text)?;
+    // The other bytes stay, where the array means some.
+    match encoding(alloc, array)? {
+        Some(_) => Ok(literal),
+        None => Err(Fault::Told(CHANGED_ENCODING)),
+    }
 }
 
 /// Fails where the item that is given means other bytes than this one, with `wrap` in the tag of the version.
@@ -122,7 +125,7 @@ fn prefix_of(wrap: bool) -> &'static str
 }
 
 /// A copy of the array with another first element, with `wrap` in the tag of the version.
-fn with_first<'a>(
+pub(super) fn with_first<'a>(
     alloc: Global,
     array: &Item<'a>,
     version: IpVersion,
@@ -143,6 +146,56 @@ fn first_replaced<'a>(item: &Item<'a>, first: Item<'a>) -> Result<Item<'a>, Allo
     let replaced = replace(&mut copy, &[0], first);
     // It takes the place of the copy in turn.
     Ok(replace(&mut copy, &[], replaced))
+}
+
+/// Puts a literal in the place of a tag of the version, or of the first element in it. Where memory is refused the tag stays.
+pub(super) fn put<'a>(
+    alloc: Global,
+    version: IpVersion,
+    tag: &mut Item<'a>,
+    placed: Placed<'a>,
+) -> Result<(), AllocError>
+    ensures put { (i : Option Indicator) (w : Tree OneItem) → told_tag (number (address_tag version)) (item_tree tag.old) ≡ Some (address_tag version, i, w)
+        → OnOk result (item_tree tag.new ≡ with_placed version true w placed.entry) }
+    ensures refused { IfErr result (λ _. item_tree tag.new ≡ item_tree tag.old) }
+{
+    match placed {
+        Placed::Whole(literal) => {
+            *tag = literal;
+            Ok(())
+        }
+        Placed::First(literal) => put_first(alloc, version, tag, literal),
+    }
+}
+
+/// Puts a literal in the place of the first element in a tag of the version, and makes the tag anew: without indicator and inner space.
+fn put_first<'a>(
+    alloc: Global,
+    version: IpVersion,
+    tag: &mut Item<'a>,
+    literal: Item<'a>,
+) -> Result<(), AllocError>
+    ensures put { (i : Option Indicator) (w : Tree OneItem) → told_tag (number (address_tag version)) (item_tree tag.old) ≡ Some (address_tag version, i, w)
+        → OnOk result (item_tree tag.new ≡ with_first version true w (item_tree literal.entry)) }
+    ensures refused { IfErr result (λ _. item_tree tag.new ≡ item_tree tag.old) }
+{
+    tag.put_into_tag(alloc, address_tag(version))?;
+    // Nothing is refused from here on. The old tag is left with the element, and dropped.
+    let first = replace_inside(tag, &[0, 0], literal);
+    let content = replace_inside(tag, &[0], first);
+    replace_inside(tag, &[], content);
+    Ok(())
+}
+
+/// Puts an item where the path leads from the content of a tag, as [`replace`] does.
+fn replace_inside<'a>(tag: &mut Item<'a>, path: &[usize], item: Item<'a>) -> Item<'a>
+    ensures put { (n : ℕ) (w : Tree OneItem) → item_tree tag.old ≡ tag_tree n w → item_tree tag.new ≡ tag_tree n (with_at path.now (item_tree item.entry) w) }
+    ensures before { (n : ℕ) (w : Tree OneItem) → item_tree tag.old ≡ tag_tree n w → item_tree result ≡ unwrap_or (at path.now w) (item_tree item.entry) }
+{
+    match tag.get_tagged_mut() {
+        Ok(content) => replace(content, path, item),
+        Err(_) => item,
+    }
 }
 
 /// Puts an item where the path leads, and gives the one that stood there, or the same item where it leads nowhere.
