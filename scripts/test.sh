@@ -1,6 +1,6 @@
 #!/usr/bin/env bash
-# All tests: where a text is read and which public calls are tested (two looks at the sources), each proof, edit that must fail, test and program (`rt ci`,
-# in two parts side by side), each allocation of the calls of the crates *_memory refused in turn, then the encodings of
+# All tests: where a text is read and which public calls are tested (two looks at the sources), each proof, edit that must fail, test and program (`rt ci`),
+# each allocation of the calls of the crates *_memory refused in turn, then the encodings of
 # another implementation, where it is installed, the examples, the help, the lines of faults, devices that fail, inputs
 # past the limits, random inputs, the launcher, the deepest nesting under small stacks, and calls from other languages. The last line is
 # 'N passed, M failed'. Where nothing failed, the program that was proved is left to ./cbor-edn. `docs/CONTRIBUTING.md`
@@ -59,6 +59,27 @@ prove() {
   (cd "$1" && "${@:2}" rt ci) 2>&1 | stamp
 }
 
+# Whether `rt ci` takes what an earlier one proved. The kits that keep that let `rt ci` name crates too, and say both in their help or on
+# the page to read first; others prove all from nothing each time.
+keeps_proofs() {
+  { rt help || true; cat "$(rt doc)"; } 2>&1 | grep -Ei 'rt ci \[?NAME|checksum' > /dev/null
+}
+
+# Proves crates, the lowest first, in a tree that lists no others: so `rt ci` gives each proof all processors that it may have. The
+# whole `rt ci` then takes these proofs, which it knows by what they read, and proves what is not there by itself.
+prove_ahead() {
+  local tree=$1 crate
+  shift
+  mkdir -p "$tree/crates"
+  cp HANDLES "$tree"
+  for crate in "$@"; do
+    grep "^$crate:" crates.txt >> "$tree/crates.txt"
+    mkdir "$tree/crates/$crate"
+    cp -r "crates/$crate/"{src,specs,proofs} "$tree/crates/$crate"
+  done
+  prove "$tree" > "$tree.log" || true
+}
+
 # Leaves the program to ./cbor-edn as its own build does: a source that has changed since this run began is newer.
 leave_program() {
   local made=$1
@@ -78,23 +99,23 @@ say_minutes() {
   }' "$log"
 }
 
+program=crates/cbor_edn_tool/out/cbor_edn_tool
+gives_way=()
 add scripts/check-reads.sh
 add scripts/check-surface.sh
-scripts/part-crates.py "$beside"
-trees=$beside/trees
-# What does not use the crate of trees takes half of the processors, each check one of them, and gives way. It begins once the other
-# run has seen how much memory there is.
-{
-  sleep 30
-  RT_JOBS=$((($(nproc) + 1) / 2)) prove "$beside/below" nice -n 10
-} > "$beside/below.said" 2>&1 &
-add prove "$trees"
+if keeps_proofs; then
+  # Nearly all waits for the crate of trees, whose proof is by far the longest.
+  prove_ahead "$beside/ahead" cbor_edn_parts cbor_edn_model cbor_edn_core &
+  # it begins with a proof that `rt ci` would begin with too
+  sleep 10
+  gives_way=(nice -n 10)
+fi
+# One check for each processor: by itself, rt holds checks back for memory that they do not need.
+RT_JOBS=$(nproc) add prove . "${gives_way[@]}"
 wait
-add cat "$beside/below.said"
-program=$trees/crates/cbor_edn_tool/out/cbor_edn_tool
 for crate in crates/*_memory; do
   crate=$(basename "$crate")
-  add scripts/refuse-memory.sh "$crate" "$trees/crates/$crate/out/$crate"
+  add scripts/refuse-memory.sh "$crate" "crates/$crate/out/$crate"
 done
 add scripts/check-outside.sh "$program"
 add scripts/check-examples.sh "$program"
