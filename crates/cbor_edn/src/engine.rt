@@ -176,12 +176,9 @@ fn reprinted(alloc: Global, options: &Options, input: &[u8]) -> Result<String, R
     Ok(printed(alloc, options, &mut sequence)?)
 }
 
-/// A run in memory: all that it writes for an input.
-///
-/// The input of `Diag2Cbor` and `Diag2Diag` is a text in UTF-8, that of `Cbor2Diag` is CBOR, or digits where `hex` is set. An
-/// input that the command can't turn is told of as `run` does: by `NotUtf8` or `Parse` where it is a text, by `Cbor` or `Hex`
-/// where it is none, and by `Inconsistent` where its items have no encoding. `Memory` comes where memory runs out. `Read` and
-/// `Write` never come.
+/// A run in memory: all that it writes for an input, which is a text in UTF-8 for `Diag2Cbor` and `Diag2Diag`, CBOR for `Cbor2Diag`, or
+/// digits of CBOR where `hex` is set there. Fails with `NotUtf8` or `Parse` where the input is a text, with `Cbor` or `Hex` where it is
+/// none, with `Inconsistent` where its items have no encoding, and with `Memory`. `Read` and `Write` never come.
 pub fn converted(alloc: Global, options: &Options, input: &[u8]) -> Result<Vec<u8>, RunError>
     ensures ok { IfOk result (λ out. IsOutput options.now input.now out.items) }
     ensures err { IfErr result (IsRefused options.now input.now) }

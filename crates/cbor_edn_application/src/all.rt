@@ -13,7 +13,8 @@ use cbor_edn_core::tree::Item;
 use cbor_edn_parts::error::CallbackError;
 use std::alloc::Global;
 
-/// Puts what they stand for in the place of the time and address literals `dt'..'`, `DT'..'`, `ip'..'` and `IP'..'`.
+/// Puts what they stand for in the place of the time and address literals `dt'..'`, `DT'..'`, `ip'..'` and `IP'..'`. Literals of other
+/// prefixes stay. Answers a comment where the text is no time or no address; where memory runs out the item is as before.
 pub fn all_aol_to_item<'a>(
     alloc: Global,
     prefix: String,
@@ -28,7 +29,8 @@ pub fn all_aol_to_item<'a>(
     }
 }
 
-/// Puts time and address literals in the place of tags 1, 52 and 54, and integers in that of bignums.
+/// Puts time and address literals in the place of tags 1, 52 and 54, and integers in that of bignums, tags 2 and 3. Other tags stay.
+/// Answers a comment where there is no literal for a tag 1, 52 or 54; where memory runs out the item is as before.
 pub fn all_tag_prettify<'a>(
     alloc: Global,
     tag: u64,

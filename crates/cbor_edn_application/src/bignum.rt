@@ -14,8 +14,9 @@ use cbor_edn_core::tree::Item;
 use cbor_edn_parts::error::{CallbackError, Fault};
 use std::alloc::{AllocError, Global};
 
-/// Puts the integer `18446744073709551616` in the place of the bignum `2(h'010000000000000000')`, and so on, where both mean the same
-/// bytes. Anything else stays, without a comment.
+/// Puts the integer in the place of a bignum, tag 2 or 3 (RFC 8949, section 3.4.3), where both mean the same bytes:
+/// `18446744073709551616` for `2(h'010000000000000000')`. Anything else stays, without a comment, and so does the item where memory runs
+/// out.
 pub fn tag23_to_edn_integer<'a>(
     alloc: Global,
     tag: u64,

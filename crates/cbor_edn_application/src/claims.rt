@@ -17,16 +17,17 @@ use cbor_edn_core::visitor::MapValueHandler;
 use cbor_edn_parts::error::CallbackError;
 use std::alloc::Global;
 
-/// What is done with the value of a claim.
+/// What is done with the value of a claim, as [`comment_ccs`] answers it.
 #[derive(Clone, Copy, Debug, PartialEq, Eq)]
 pub enum CcsHandler {
-    /// A time becomes a time literal.
+    /// A number that is a time becomes a time literal `dt'..'`. Else the value stays, and has a comment that says why.
     Timestamp,
-    /// The keys of a map get the names of confirmation methods.
+    /// The keys of a map get the names of confirmation methods (RFC 8747) as comments. A value that is no map has a comment.
     Cnf,
 }
 
-/// The comment at a key of a claims set: the name of its claim, and what is done with its value.
+/// The comment at a key of a claims set (RFC 8392): the name of its claim, as `exp` of 4, and what is done with its value. None at other
+/// keys. It fails only where memory runs out.
 pub fn comment_ccs<'a>(
     alloc: Global,
     key: &mut Item<'a>,

@@ -12,7 +12,8 @@ use cbor_edn_core::tree::{Item, Sequence};
 use cbor_edn_parts::error::Fault;
 use std::alloc::{AllocError, Global};
 
-/// Puts the comments of a claims set into each item that is a map. Other items are passed over.
+/// Puts the comments of a claims set (RFC 8392) into each item of a sequence that is a map, and literals in the place of its times. Other
+/// items are passed over, with maps in them too. Fails where memory runs out; what is annotated by then stays.
 pub fn annotate_claims_sets(alloc: Global, sequence: &mut Sequence<'_>) -> Result<(), AllocError>
     ensures { OnOk result (sequence_tree sequence.new ≡ with_claims_sets (sequence_tree sequence.old)) }
 {

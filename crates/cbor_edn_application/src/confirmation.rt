@@ -14,10 +14,10 @@ use cbor_edn_core::visitor::MapValueHandler;
 use cbor_edn_parts::error::CallbackError;
 use std::alloc::Global;
 
-/// What is done with the value of a confirmation method.
+/// What is done with the value of a confirmation method (RFC 8747).
 #[derive(Clone, Copy, Debug, PartialEq, Eq)]
 pub enum CnfHandler {
-    /// The keys of a map get the names of OSCORE parameters.
+    /// The keys of a map get the names of OSCORE parameters (RFC 9203) as comments. A value that is no map has a comment.
     Osc,
 }
 

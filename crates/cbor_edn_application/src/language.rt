@@ -38,8 +38,8 @@ impl Place {
     }
 }
 
-/// Puts a comment behind the third element of the array in a tag 38: the direction of its text. Answers a comment where the tag holds no
-/// array.
+/// Puts a comment behind the third element of the array in a tag 38 (RFC 9290, appendix A): the direction of its text, as `Right-to-left`
+/// of `true`. Other tags stay. Answers a comment where the tag holds no array; where memory runs out the item is as before.
 pub fn comment_lang_tag(alloc: Global, tag: u64, item: &mut Item<'_>) -> Result<(), CallbackError>
     ensures { ActsBy comment_lang (tag_told tag) (item_tree item.old) (told_answer result) (item_tree item.new) }
 {

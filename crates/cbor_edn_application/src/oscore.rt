@@ -19,10 +19,10 @@ use cbor_edn_core::visitor::MapValueHandler;
 use cbor_edn_parts::error::CallbackError;
 use std::alloc::Global;
 
-/// What is done with the value of an OSCORE parameter.
+/// What is done with the value of an OSCORE parameter (RFC 9203).
 #[derive(Clone, Copy, Debug, PartialEq, Eq)]
 pub enum OscHandler {
-    /// It gets the name of a COSE algorithm.
+    /// It gets the name of a COSE algorithm as a comment, as `AES-CCM-16-64-128` of 10. A number without a name gets none.
     Algorithm,
 }
 

@@ -15,8 +15,9 @@ use cbor_edn_parts::error::CallbackError;
 use cbor_edn_parts::policy::DelimiterPolicy;
 use std::alloc::{AllocError, Global};
 
-/// Puts `999(["prefix", "text"])` in the place of a literal, whose encoding indicator is dropped. Literals of the prefixes `h`, `b64`,
-/// `b32` and `h32` stay.
+/// Puts `999(["foo", "bar"])` in the place of the literal `foo'bar'`, whose encoding indicator is dropped (tag 999 of
+/// draft-ietf-cbor-edn-literals). Literals of the prefixes `h`, `b64`, `b32` and `h32` stay. It fails only where memory runs out, and the
+/// item is as before then.
 pub fn any_aol_to_tag999<'a>(
     alloc: Global,
     prefix: String,

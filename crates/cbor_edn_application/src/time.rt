@@ -18,7 +18,8 @@ use std::alloc::Global;
 mod literal;
 mod number;
 
-/// Puts the number that a time literal stands for in its place, in tag 1 for `DT'..'`. Other literals stay.
+/// Puts the number that a time literal stands for in its place, for `DT'..'` in tag 1: `1(23)` for `DT'1970-01-01T00:00:23Z'`. Literals
+/// of other prefixes stay. Answers a comment where the text is no time; where memory runs out the item is as before.
 pub fn dt_aol_to_item(
     alloc: Global,
     prefix: String,
@@ -46,7 +47,9 @@ fn is_tag_wanted(prefix: &str) -> Option<bool>
     }
 }
 
-/// The literal of the time that a number stands for: `DT'..'` where it is to stand for the number in tag 1, else `dt'..'`.
+/// The literal of the time that a number of seconds stands for: `dt'..'`, or with `wrap` `DT'..'`, which stands for the number in tag 1.
+/// Fails with words where the item is no number, no time of the years 0000 to 9999, or marked so that its encoding would change, and
+/// where memory runs out.
 pub fn dt_item_to_aol<'a>(
     alloc: Global,
     item: &Item<'_>,
@@ -61,7 +64,8 @@ pub fn dt_item_to_aol<'a>(
     }
 }
 
-/// Puts the literal of a time in the place of the number in tag 1. Other tags stay.
+/// Puts `DT'1970-01-01T00:00:42+00:00'` in the place of `1(42)` (RFC 8949, section 3.4.2). Other tags stay. Answers a comment where
+/// [`dt_item_to_aol`] refuses the content, or the tag's indicator would be lost; where memory runs out the item is as before.
 pub fn dt_tag_to_aol(alloc: Global, tag: u64, item: &mut Item<'_>) -> Result<(), CallbackError>
     ensures { ActsBy pretty_time (number tag) (item_tree item.old) (told_answer result) (item_tree item.new) }
 {

@@ -106,63 +106,70 @@ fn at_literal(
     }
 }
 
-/// Calls [`all_tag_prettify`] at each tag: times, addresses and bignums become what people read.
+/// Calls [`all_tag_prettify`] at each tag: times, addresses and bignums become what people read. Fails where memory runs out; the calls
+/// up to there are made then.
 pub fn prettify(alloc: Global, sequence: &mut Sequence<'_>) -> Result<(), AllocError>
     ensures { IsVisited IsTag pretty_all (sequence_tree sequence.old) (ending result) (sequence_tree sequence.new) }
 {
     visit_tags(alloc, sequence, TagAct::Prettify)
 }
 
-/// Calls [`all_aol_to_item`] at each literal: times and addresses become what they stand for.
+/// Calls [`all_aol_to_item`] at each literal with a prefix: times and addresses become what they stand for. Fails where memory runs out;
+/// the calls up to there are made then.
 pub fn resolve(alloc: Global, sequence: &mut Sequence<'_>) -> Result<(), AllocError>
     ensures { IsVisited IsApplication resolve_all (sequence_tree sequence.old) (ending result) (sequence_tree sequence.new) }
 {
     visit_literals(alloc, sequence, LiteralAct::Resolve)
 }
 
-/// Calls [`ip_tag_to_aol`] at each tag.
+/// Calls [`ip_tag_to_aol`] at each tag: tags 52 and 54 become address literals. Fails where memory runs out; the calls up to there are
+/// made then.
 pub fn prettify_addresses(alloc: Global, sequence: &mut Sequence<'_>) -> Result<(), AllocError>
     ensures { IsVisited IsTag pretty_address (sequence_tree sequence.old) (ending result) (sequence_tree sequence.new) }
 {
     visit_tags(alloc, sequence, TagAct::Addresses)
 }
 
-/// Calls [`dt_tag_to_aol`] at each tag.
+/// Calls [`dt_tag_to_aol`] at each tag: tags 1 become time literals. Fails where memory runs out; the calls up to there are made then.
 pub fn prettify_times(alloc: Global, sequence: &mut Sequence<'_>) -> Result<(), AllocError>
     ensures { IsVisited IsTag pretty_time (sequence_tree sequence.old) (ending result) (sequence_tree sequence.new) }
 {
     visit_tags(alloc, sequence, TagAct::Times)
 }
 
-/// Calls [`tag23_to_edn_integer`] at each tag.
+/// Calls [`tag23_to_edn_integer`] at each tag: bignums become integers. Fails where memory runs out; the calls up to there are made then.
 pub fn prettify_bignums(alloc: Global, sequence: &mut Sequence<'_>) -> Result<(), AllocError>
     ensures { IsVisited IsTag pretty_bignum (sequence_tree sequence.old) (ending result) (sequence_tree sequence.new) }
 {
     visit_tags(alloc, sequence, TagAct::Bignums)
 }
 
-/// Calls [`ip_aol_to_item`] at each literal.
+/// Calls [`ip_aol_to_item`] at each literal with a prefix: address literals become what they stand for. Fails where memory runs out; the
+/// calls up to there are made then.
 pub fn resolve_addresses(alloc: Global, sequence: &mut Sequence<'_>) -> Result<(), AllocError>
     ensures { IsVisited IsApplication resolve_address (sequence_tree sequence.old) (ending result) (sequence_tree sequence.new) }
 {
     visit_literals(alloc, sequence, LiteralAct::Addresses)
 }
 
-/// Calls [`dt_aol_to_item`] at each literal.
+/// Calls [`dt_aol_to_item`] at each literal with a prefix: time literals become numbers. Fails where memory runs out; the calls up to
+/// there are made then.
 pub fn resolve_times(alloc: Global, sequence: &mut Sequence<'_>) -> Result<(), AllocError>
     ensures { IsVisited IsApplication resolve_time (sequence_tree sequence.old) (ending result) (sequence_tree sequence.new) }
 {
     visit_literals(alloc, sequence, LiteralAct::Times)
 }
 
-/// Puts tags of their prefix and their text in the place of literals.
+/// Calls [`any_aol_to_tag999`] at each literal with a prefix: `foo'bar'` becomes `999(["foo", "bar"])`. Fails where memory runs out; the
+/// calls up to there are made then.
 pub fn to_999(alloc: Global, sequence: &mut Sequence<'_>) -> Result<(), AllocError>
     ensures { IsVisited IsApplication to_tag999 (sequence_tree sequence.old) (ending result) (sequence_tree sequence.new) }
 {
     visit_literals(alloc, sequence, LiteralAct::To999)
 }
 
-/// Puts a comment behind each tag.
+/// Puts a comment behind each tag: of `1(2)` and `c` it makes `1(2)/ c /`. Fails where memory runs out; the tags before that one have the
+/// comment then.
 pub fn comment_tags(
     alloc: Global,
     sequence: &mut Sequence<'_>,
@@ -187,7 +194,8 @@ fn comment_tag(
     Err(CallbackError::Comment(comment))
 }
 
-/// Puts the comments of tags 38.
+/// Calls [`comment_lang_tag`] at each tag: the texts of tags 38 get their direction as a comment. Fails where memory runs out; the calls
+/// up to there are made then.
 pub fn comment_languages(alloc: Global, sequence: &mut Sequence<'_>) -> Result<(), AllocError>
     ensures visited { IsVisited IsTag comment_lang (sequence_tree sequence.old) (ending result) (sequence_tree sequence.new) }
     ensures items { items (sequence_tree sequence.new) ≡ items (sequence_tree sequence.old) }
@@ -195,7 +203,8 @@ pub fn comment_languages(alloc: Global, sequence: &mut Sequence<'_>) -> Result<(
     visit_tags(alloc, sequence, TagAct::Languages)
 }
 
-/// Puts the comments of a claims set into a map. Fails with `Map` where the item is none.
+/// Puts the comments of a claims set (RFC 8392) into a map: `{4: 1700000000}` becomes `{4/ exp /: dt'2023-11-14T22:13:20+00:00'}`. Fails
+/// with `Map` where the item is none, and where memory runs out; the keys up to there are done then.
 pub fn annotate_claims(alloc: Global, item: &mut Item<'_>) -> Result<(), Fault<TypeMismatch>>
     ensures claims { OnOk result (item_tree item.new ≡ (with_claims (item_tree item.old)).1) }
     ensures visited { IfVisited result (λ r. AreKeysVisited claim_key (item_tree item.old) r (item_tree item.new)) }

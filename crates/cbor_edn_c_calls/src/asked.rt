@@ -24,7 +24,8 @@ fn split(flags: u32) -> (bool, u32)
     (flags % 2 == 1, flags / 2)
 }
 
-/// The options, unless a number is out of its range.
+/// The options that the three numbers of a call ask for, unless one is out of its range: a command of 0 to 2, flags below 256, and a
+/// limit of at most 512 levels.
 pub fn options_of(command: u32, flags: u32, limit: usize) -> Option<Options>
     ensures some { IfSome result (IsAsked command flags limit) }
     ensures none { IsNone result → IsOutOfRange command flags limit }

@@ -19,7 +19,7 @@ pub struct Report {
 }
 
 impl Report {
-    /// Of an output of so many bytes, and no fault.
+    /// The report of an output of so many bytes, and of no fault.
     pub fn of_output(output_len: usize) -> Report
         ensures { TellsOutput output_len result }
     {

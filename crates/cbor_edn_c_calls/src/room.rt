@@ -2,7 +2,7 @@
 ghost use Rattle.std.specs.Prelude.{◌≡◌, true, false};
 ghost use Rattle.cbor_edn_c_calls.specs.Rooms.{HasNoRoom, IsPutFront, IsPutWhole};
 
-/// Writes as many bytes as fit.
+/// Writes as many bytes as fit at the front of a room, and leaves the rest of it.
 pub fn put_front(bytes: &[u8], room: &mut [u8])
     ensures { IsPutFront bytes.now room.old room.new }
 {
@@ -10,7 +10,7 @@ pub fn put_front(bytes: &[u8], room: &mut [u8])
     room[..count].copy_from_slice(&bytes[..count]);
 }
 
-/// Writes bytes where there is room for all of them, and answers whether there was.
+/// Writes bytes at the front of a room where all of them fit, and answers whether they did; else the room stays.
 pub fn put_whole(bytes: &[u8], room: &mut [u8]) -> bool
     ensures whole { result ≡ true → IsPutWhole bytes.now room.old room.new }
     ensures none { result ≡ false → HasNoRoom bytes.now room.old room.new }

@@ -48,7 +48,7 @@ fn fault_number(fault: CallFault) -> u32
 }
 
 impl Status {
-    /// What a caller in C is answered.
+    /// The number that a caller in C is answered: 0 for `Done`, 1 for `NoRoom`, 2 for `BadCall`, and 3 to 8 for a fault.
     pub fn number(self) -> u32
         ensures { result ≡ status_number self }
     {

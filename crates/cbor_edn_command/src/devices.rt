@@ -6,11 +6,11 @@ ghost use Rattle.std.specs.Io.KnownBytes.{ReadConsumes, WriteAppends};
 use crate::count::Count;
 use std::io::{Read, Write};
 
-/// A device that failed.
+/// A device that failed: a call gave or took no byte. It does not say why.
 #[derive(Debug, Clone, Copy, PartialEq, Eq)]
 pub struct DeviceFault;
 
-/// Where bytes come from.
+/// Where bytes come from. A caller may implement it, as for a socket; [`StdSource`] is of any reader of std.
 pub trait Source {
     /// The bytes that are left, where they are known.
     ghost remaining: { Self → Option (List ℕ) };
@@ -21,7 +21,7 @@ pub trait Source {
     /// How many calls succeeded since the last that failed, or since the beginning.
     ghost since: { Self → ℕ };
 
-    /// Gives some bytes at the front of the buffer. `Ok(0)` for a buffer with room is the end of the input.
+    /// Gives some bytes at the front of the buffer, and answers how many. `Ok(0)` for a buffer with room is the end of the input.
     fn read(&mut self, buffer: &mut [u8]) -> Result<usize, DeviceFault>
         ensures bound { ReadsAtMost result buffer.new }
         // A call that fails gave no byte.
@@ -30,7 +30,7 @@ pub trait Source {
         ensures last { since self.new ≡ (if is_err result then 0 else since self.old + 1) };
 }
 
-/// Where bytes go.
+/// Where bytes go. A caller may implement it, as for a socket; [`StdSink`] is of any writer of std.
 pub trait Sink {
     /// The bytes that were taken, where they are known.
     ghost contents: { Self → Option (List ℕ) };
@@ -41,7 +41,7 @@ pub trait Sink {
     /// How many calls succeeded since the last that failed, or since the beginning.
     ghost since: { Self → ℕ };
 
-    /// Takes some bytes from the front, at least one. There are some to take: a sink that takes none has failed.
+    /// Takes some bytes from the front, at least one, and answers how many. There are some to take: a sink that takes none has failed.
     fn write(&mut self, bytes: &[u8]) -> Result<usize, DeviceFault>
         requires { 0 < length bytes.now }
         ensures bound { WritesAtMost result bytes.now }
@@ -52,7 +52,7 @@ pub trait Sink {
         ensures last { since self.new ≡ (if is_err result then 0 else since self.old + 1) };
 }
 
-/// Any reader of std.
+/// Any reader of std as a source. Its errors are told as [`DeviceFault`].
 #[derive(Drop)]
 pub struct StdSource<R> {
     inner: R,
@@ -61,6 +61,7 @@ pub struct StdSource<R> {
 }
 
 impl<R> StdSource<R> {
+    /// A source that reads from here.
     pub fn new(inner: R) -> StdSource<R>
         ensures { (result.inner ≡ inner) × (result.failed.total ≡ 0) × (result.since.total ≡ 0) }
     {
@@ -94,7 +95,7 @@ impl<R: Read> Source for StdSource<R> {
     }
 }
 
-/// Any writer of std.
+/// Any writer of std as a sink. Its errors are told as [`DeviceFault`], and so is a write of no byte.
 #[derive(Drop)]
 pub struct StdSink<W> {
     inner: W,
@@ -103,6 +104,7 @@ pub struct StdSink<W> {
 }
 
 impl<W> StdSink<W> {
+    /// A sink that writes to here. It has no buffer of its own.
     pub fn new(inner: W) -> StdSink<W>
         ensures { (result.inner ≡ inner) × (result.failed.total ≡ 0) × (result.since.total ≡ 0) }
     {
@@ -115,7 +117,7 @@ impl<W> StdSink<W> {
 }
 
 impl<W> StdSink<W> {
-    /// The writer.
+    /// The writer, with what was written to it, and not flushed.
     pub fn into_inner(self) -> W
         ensures { result ≡ self.inner }
     {

@@ -34,7 +34,8 @@ fn without_blanks(alloc: Global, input: &[u8]) -> Result<Vec<u8>, AllocError>
     Ok(digits)
 }
 
-/// The bytes of a text of digits.
+/// The bytes of a text of hexadecimal digits in either case, with spaces, tabs, LF and CR anywhere: `c1 00` becomes two bytes. Fails
+/// where another character stands there or the digits are odd in number, and where memory runs out.
 pub fn decoded(alloc: Global, input: &[u8]) -> Result<Vec<u8>, Fault<NotHex>>
     ensures ok { IfOk result (λ v. hex_bytes input.now ≡ Ok v.items) }
     ensures refused { IfTold result (λ _. IsErr (hex_bytes input.now)) }
@@ -47,7 +48,8 @@ pub fn decoded(alloc: Global, input: &[u8]) -> Result<Vec<u8>, Fault<NotHex>>
     }
 }
 
-/// The digits of some bytes, in lines.
+/// The hexadecimal digits of some bytes, in lower case, in lines of at most 64 digits, each with LF at its end. Fails where memory runs
+/// out.
 pub fn encoded(alloc: Global, bytes: &[u8]) -> Result<Vec<u8>, AllocError>
     ensures { IfOk result (λ v. v.items ≡ hex_lines bytes.now) }
 {

@@ -17,6 +17,7 @@ pub enum Command {
 /// `apply_999`, and then their spaces. What can't be changed stays, some of it with a comment that says why.
 #[derive(Clone, Copy, Debug, PartialEq, Eq)]
 pub struct Options {
+    /// What is turned into what.
     pub command: Command,
     /// CBOR stands in hexadecimal digits, in the output of `Diag2Cbor` and in the input of `Cbor2Diag`.
     pub hex: bool,
@@ -37,6 +38,6 @@ pub struct Options {
     pub remove_comments: bool,
     /// Spaces stay as they are, where else items are indented.
     pub preserve_space: bool,
-    /// How deep items may nest.
+    /// How deep items may nest, in levels: each takes stack.
     pub limit: usize,
 }

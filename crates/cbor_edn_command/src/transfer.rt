@@ -8,7 +8,8 @@ use crate::devices::{DeviceFault, Sink, Source};
 use cbor_edn_parts::error::Fault;
 use std::alloc::Global;
 
-/// All that the source has left.
+/// All that the source has left, up to its end, in turns of at most 4,096 bytes. Fails at the first call that fails, and where memory
+/// runs out; what was read by then is lost.
 pub fn read_all<R: Source>(alloc: Global, source: &mut R) -> Result<Vec<u8>, Fault<DeviceFault>>
     ensures bytes { IfOk result (λ v. Consumes (R.remaining source.old) (R.remaining source.new) v.items) }
     ensures end { OnOk result (IsAtEnd (R.remaining source.new)) }
@@ -26,7 +27,7 @@ pub fn read_all<R: Source>(alloc: Global, source: &mut R) -> Result<Vec<u8>, Fau
     }
 }
 
-/// Writes all the bytes.
+/// Writes all the bytes, in as many turns as the sink wants. Fails at the first call that fails: the sink took a beginning then.
 pub fn write_all<W: Sink>(sink: &mut W, bytes: &[u8]) -> Result<(), DeviceFault>
     ensures ok { OnOk result (Appends (W.contents sink.old) (W.contents sink.new) bytes.now) }
     ensures err { IfErr result (λ _. AppendsBeginning (W.contents sink.old) (W.contents sink.new) bytes.now) }

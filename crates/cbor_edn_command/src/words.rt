@@ -42,9 +42,9 @@ Example:
   echo '{4: 1700000000}' | cbor-edn diag2diag --annotate ccs
   # {4/ exp /: dt'2023-11-14T22:13:20+00:00'}";
 
-/// What a run is to do by the words of a command line, of which the first is the program's name, and the names of its input and
-/// its output: `-` stands for the standard streams, also where a name is left out. An error is a fault of the words, or the
-/// help or the version that they ask for, with the text to show.
+/// What a run is to do by the words of a command line, of which the first is the program's name, and the names of its input and its
+/// output. `-` stands for the standard streams, also where a name is left out. The error is a fault of the words, or the help or the
+/// version that they ask for, with the text to show.
 pub fn options<'a>(
     alloc: Global,
     words: &'a [&'a str],

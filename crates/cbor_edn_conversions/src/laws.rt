@@ -156,7 +156,7 @@ pub fn calls_keep_direct()
     ensures others { CallsKeepDirect to_tag999 }
 {}
 
-/// So do annotations.
+/// Comments at claims and at the direction of texts leave direct items direct.
 pub fn annotations_keep_direct()
     ensures claims { ClaimsKeepDirect }
     ensures comments { CallsKeepDirect comment_lang }

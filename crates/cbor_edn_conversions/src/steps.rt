@@ -12,7 +12,8 @@ use cbor_edn_parts::error::Fault;
 use cbor_edn_parts::indicator::Indicator;
 use std::alloc::{AllocError, Global};
 
-/// Whether there is no indicator, or the one of the shortest head of this argument: `_0` for 52.
+/// Whether there is no indicator, or the one of the shortest head of this argument, as `_0` of 52. Such a one may go: the encoding stays
+/// the same.
 pub fn is_narrowest(indicator: Option<Indicator>, argument: u64) -> bool
     ensures { result ≡ is_narrowest indicator argument }
 {
@@ -27,7 +28,7 @@ pub fn is_narrowest(indicator: Option<Indicator>, argument: u64) -> bool
     }
 }
 
-/// The tag of addresses of this version.
+/// The number of the tag of addresses of this version: 52 or 54 (RFC 9164).
 pub fn address_tag(version: IpVersion) -> u64
     ensures { result ≡ address_tag version }
 {
@@ -49,6 +50,7 @@ pub enum NoAddress {
 }
 
 impl NoAddress {
+    /// The words of the reason, as a comment has them.
     pub fn as_str(self) -> &'static str
         ensures { result.now ≡ refusal_words self }
     {
@@ -60,7 +62,8 @@ impl NoAddress {
     }
 }
 
-/// The text of a whole address.
+/// The text of a whole address of 4 or 16 bytes, as `192.0.2.1`. Fails with `TooLong` or `TooShort` for other numbers of bytes, and where
+/// memory runs out.
 pub fn whole_text(
     alloc: Global,
     version: IpVersion,
@@ -80,7 +83,8 @@ pub fn whole_text(
     Ok(text)
 }
 
-/// The text of an address with a prefix length, whose bytes are filled with zeros.
+/// The text of an address with a prefix length in bits, as `192.0.2.0/24` of 24 and 3 bytes, which are filled with zeros. Fails with
+/// `TooLong`, with `LengthTooLarge`, and where memory runs out.
 pub fn prefix_text(
     alloc: Global,
     version: IpVersion,
@@ -113,7 +117,8 @@ fn size_of(version: IpVersion) -> usize
     }
 }
 
-/// The integer of a bignum in decimal: of tag 2 its number, and of tag 3 the integer that lies one further below zero.
+/// The integer of a bignum in decimal (RFC 8949, section 3.4.3): of tag 2 its number, and of tag 3 the integer that lies one further
+/// below zero, as `-1` of 0. None of other tags. Fails where memory runs out.
 pub fn bignum_text(alloc: Global, tag: u64, number: u128) -> Result<Option<String>, AllocError>
     requires { tag ≡ 3 → number + 1 < 2 ^ 128 }
     ensures { IfOk result (λ o. option_map string_bytes o ≡ option_map signed_decimal (bignum_integer tag number)) }

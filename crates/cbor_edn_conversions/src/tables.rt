@@ -25,7 +25,8 @@ pub enum ParameterValue {
     Algorithm,
 }
 
-/// The claims of a CBOR Web Token (IANA "CBOR Web Token (CWT) Claims").
+/// The claims of a CBOR Web Token that are named (RFC 8392; IANA "CBOR Web Token (CWT) Claims"): the key, the name, and what the value
+/// is.
 pub const CLAIMS: [(i128, &str, Option<ClaimValue>); 12] = [
     (1, "iss", None),
     (2, "sub", None),
@@ -41,13 +42,14 @@ pub const CLAIMS: [(i128, &str, Option<ClaimValue>); 12] = [
     (40, "exi", None),
 ];
 
-/// Methods that confirm a key (IANA "CWT Confirmation Methods").
+/// Methods that confirm a key (RFC 8747; IANA "CWT Confirmation Methods"): the key, the name, and what the value is.
 pub const CONFIRMATIONS: [(i128, &str, Option<ConfirmationValue>); 2] = [
     (3, "kid", None),
     (4, "osc", Some(ConfirmationValue::Oscore)),
 ];
 
-/// The parameters of an OSCORE security context (IANA "OSCORE Security Context Parameters").
+/// The parameters of an OSCORE security context (RFC 9203; IANA "OSCORE Security Context Parameters"): the key, the name, and what the
+/// value is.
 pub const PARAMETERS: [(i128, &str, Option<ParameterValue>); 7] = [
     (0, "id", None),
     (1, "version", None),
@@ -58,7 +60,7 @@ pub const PARAMETERS: [(i128, &str, Option<ParameterValue>); 7] = [
     (6, "contextId", None),
 ];
 
-/// Algorithms (IANA "COSE Algorithms").
+/// Algorithms (IANA "COSE Algorithms"): the number and the name.
 pub const ALGORITHMS: [(i128, &str); 31] = [
     (-18, "SHAKE128"),
     (-17, "SHA-512/256"),
@@ -120,7 +122,7 @@ fn find_name(table: &[(i128, &'static str)], number: i128) -> Option<&'static st
     None
 }
 
-/// The name of a claim, and what its value is.
+/// The name of a claim by its key, as `exp` by 4, and what its value is. None of a key that is not in [`CLAIMS`].
 pub fn claim(number: i128) -> Option<(&'static str, Option<ClaimValue>)>
     ensures { option_map (λ p. (p.0.now, p.1)) result ≡ found claims number }
 {
@@ -130,7 +132,7 @@ pub fn claim(number: i128) -> Option<(&'static str, Option<ClaimValue>)>
     }
 }
 
-/// The name of a confirmation method, and what its value is.
+/// The name of a confirmation method by its key, as `kid` by 3, and what its value is. None of a key that is not in [`CONFIRMATIONS`].
 pub fn confirmation(number: i128) -> Option<(&'static str, Option<ConfirmationValue>)>
     ensures { option_map (λ p. (p.0.now, p.1)) result ≡ found confirmations number }
 {
@@ -140,7 +142,7 @@ pub fn confirmation(number: i128) -> Option<(&'static str, Option<ConfirmationVa
     }
 }
 
-/// The name of an OSCORE parameter, and what its value is.
+/// The name of an OSCORE parameter by its key, as `salt` by 5, and what its value is. None of a key that is not in [`PARAMETERS`].
 pub fn parameter(number: i128) -> Option<(&'static str, Option<ParameterValue>)>
     ensures { option_map (λ p. (p.0.now, p.1)) result ≡ found parameters number }
 {
@@ -150,7 +152,7 @@ pub fn parameter(number: i128) -> Option<(&'static str, Option<ParameterValue>)>
     }
 }
 
-/// The name of an algorithm.
+/// The name of an algorithm by its number, as `ES256` by -7. None of a number that is not in [`ALGORITHMS`].
 pub fn algorithm(number: i128) -> Option<&'static str>
     ensures { option_map (λ name. name.now) result ≡ found algorithms number }
 {

@@ -25,29 +25,37 @@ mod bytes;
 mod iterators;
 mod lending;
 
-/// What an item was expected to be, and is not.
+/// What an item was expected to be, and is not. The item is unchanged then.
 #[derive(Clone, Copy, Debug, PartialEq, Eq, Error)]
 pub enum TypeMismatch {
+    /// A string that is one literal with a prefix, as `dt'..'`.
     #[error("Expected application-oriented literal")]
     ApplicationLiteral,
+    /// One literal with a prefix, where the item is a string of several pieces, as `h'00' + h'01'`.
     #[error("Expected single application-oriented literal")]
     SingleApplicationLiteral,
+    /// A string each piece of which means bytes.
     #[error("Expected byte literal")]
     Bytes,
+    /// A tag.
     #[error("Expected tagged item")]
     TaggedItem,
+    /// An integer literal.
     #[error("Expected integer")]
     Integer,
+    /// An integer in the range of `i128`: the item is an integer literal beyond it.
     #[error("Expected integer in i128 range")]
     IntegerInRange,
+    /// An array.
     #[error("Expected array")]
     Array,
+    /// A map.
     #[error("Expected map")]
     Map,
 }
 
 impl<'a> Item<'a> {
-    /// The number of a tag. Fails with `TaggedItem` where the item is none.
+    /// The number of a tag, as 1 of `1(2)`. Fails with `TaggedItem` where the item is none.
     pub fn get_tag(&self) -> Result<u64, TypeMismatch>
         ensures found { IfOk result (λ n. tag_number (item_tree self.now) ≡ Some n) }
         ensures refused { IfErr result (λ e. (e ≡ TypeMismatch.TaggedItem) × (tag_number (item_tree self.now) ≡ None)) }
@@ -58,7 +66,7 @@ impl<'a> Item<'a> {
         }
     }
 
-    /// The number of a tag and its encoding indicator, or none where the item is no tag.
+    /// The number of a tag and its encoding indicator, as 1 and `_0` of `1_0(2)`, or none where the item is no tag.
     #[tactic(auto, using(crate::proofs::code::Views::view_string_is, crate::proofs::code::Views::view_stream_is))]
     pub fn get_tag_head(&self) -> Option<(u64, Option<Indicator>)>
         ensures { result ≡ tag_head (item_tree self.now) }
@@ -78,7 +86,7 @@ impl<'a> Item<'a> {
         }
     }
 
-    /// What stands between the parentheses of a tag. Fails with `TaggedItem` where the item is none.
+    /// What stands between the parentheses of a tag, the spaces there included. Fails with `TaggedItem` where the item is none.
     pub fn get_tagged(&self) -> Result<&StandaloneItem<'a>, TypeMismatch>
         ensures found { IfOk result (λ w. tag_content (item_tree self.now) ≡ Some (standalone_tree w.now)) }
         ensures refused { IfErr result (λ e. (e ≡ TypeMismatch.TaggedItem) × (tag_content (item_tree self.now) ≡ None)) }
@@ -140,7 +148,7 @@ impl<'a> Item<'a> {
         }
     }
 
-    /// The items of an array, in text order. Fails with `Array` where the item is none.
+    /// The items of an array, in text order. It takes no memory, and fails with `Array` where the item is none.
     pub fn get_array_items(&self) -> Result<ArrayItems<'_, 'a>, TypeMismatch>
         ensures found { IfOk result (λ it. array_items (item_tree self.now) ≡ Some (map item_tree (items_left it))) }
         ensures refused { IfErr result (λ e. (e ≡ TypeMismatch.Array) × (array_items (item_tree self.now) ≡ None)) }
@@ -152,7 +160,8 @@ impl<'a> Item<'a> {
         }
     }
 
-    /// The items of an array, lent in text order. Fails with `Array` where the item is none.
+    /// The items of an array, lent in text order, each to be changed or replaced. It takes no memory, and fails with `Array` where the
+    /// item is none.
     pub fn get_array_items_mut(&mut self) -> Result<ArrayItemsMut<'_, 'a>, TypeMismatch>
         ensures found { IfOk result (λ it. array_items (item_tree self.old) ≡ Some (map item_tree (items_to_lend it))) }
         ensures refused { IfErr result (λ e. (e ≡ TypeMismatch.Array) × (array_items (item_tree self.old) ≡ None)) }
@@ -164,7 +173,8 @@ impl<'a> Item<'a> {
         }
     }
 
-    /// The keys of a map with their values, in text order. Fails with `Map` where the item is none.
+    /// The keys of a map with their values, in text order, also keys that come twice. It takes no memory, and fails with `Map` where the
+    /// item is none.
     pub fn get_map_items(&self) -> Result<MapItems<'_, 'a>, TypeMismatch>
         ensures found { IfOk result (λ it. map_items (item_tree self.now) ≡ Some (map both_trees (pairs_left it))) }
         ensures refused { IfErr result (λ e. (e ≡ TypeMismatch.Map) × (map_items (item_tree self.now) ≡ None)) }
@@ -176,7 +186,8 @@ impl<'a> Item<'a> {
         }
     }
 
-    /// The keys of a map with their values, lent in text order. Fails with `Map` where the item is none.
+    /// The keys of a map with their values, lent in text order, each to be changed or replaced. It takes no memory, and fails with `Map`
+    /// where the item is none.
     pub fn get_map_items_mut(&mut self) -> Result<MapItemsMut<'_, 'a>, TypeMismatch>
         ensures found { IfOk result (λ it. map_items (item_tree self.old) ≡ Some (map both_trees (pairs_to_lend it))) }
         ensures refused { IfErr result (λ e. (e ≡ TypeMismatch.Map) × (map_items (item_tree self.old) ≡ None)) }
@@ -190,7 +201,7 @@ impl<'a> Item<'a> {
 }
 
 impl<'a> StandaloneItem<'a> {
-    /// The item between the spaces.
+    /// The item between the spaces, without them.
     pub fn item(&self) -> &Item<'a>
         ensures { item_tree result.now ≡ inner_item (standalone_tree self.now) }
     {
@@ -199,7 +210,7 @@ impl<'a> StandaloneItem<'a> {
 }
 
 impl<'a> Sequence<'a> {
-    /// The items of a sequence, lent in text order.
+    /// The items of a sequence, lent in text order, each to be changed or replaced. It takes no memory.
     pub fn get_items_mut(&mut self) -> SequenceItemsMut<'_, 'a>
         ensures { map item_tree (sequence_items_to_lend result) ≡ items_in (sequence_tree self.old) }
     {

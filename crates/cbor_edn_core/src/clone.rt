@@ -19,7 +19,7 @@ use cbor_edn_parts::string::{Dots, Literal};
 use std::alloc::{AllocError, Global};
 
 impl<'a> Item<'a> {
-    /// The same item. Fails where memory runs out.
+    /// A copy of the item, with the spaces in it. What is borrowed from a text is borrowed by the copy too. Fails where memory runs out.
     pub fn clone(&self) -> Result<Item<'a>, AllocError>
         ensures { IfOk result (λ t. item_tree t ≡ item_tree self.now) }
     {
@@ -28,7 +28,8 @@ impl<'a> Item<'a> {
 }
 
 impl<'a> StandaloneItem<'a> {
-    /// The same item, with the same spaces round it. Fails where memory runs out.
+    /// A copy of the item, with the spaces round it. What is borrowed from a text is borrowed by the copy too. Fails where memory runs
+    /// out.
     pub fn clone(&self) -> Result<StandaloneItem<'a>, AllocError>
         ensures { IfOk result (λ t. standalone_tree t ≡ standalone_tree self.now) }
     {
@@ -37,7 +38,8 @@ impl<'a> StandaloneItem<'a> {
 }
 
 impl<'a> Sequence<'a> {
-    /// The same items, with the same spaces round them. Fails where memory runs out.
+    /// A copy of the items, with the spaces round them. What is borrowed from a text is borrowed by the copy too. Fails where memory runs
+    /// out.
     pub fn clone(&self) -> Result<Sequence<'a>, AllocError>
         ensures { IfOk result (λ t. sequence_tree t ≡ sequence_tree self.now) }
     {

@@ -270,7 +270,7 @@ fn same_pair(a: &Kp<'_>, b: &Kp<'_>) -> bool
 }
 
 impl<'a> Item<'a> {
-    /// Whether the items are the same and are written the same, as `==` tests.
+    /// Whether two items are written the same, the spaces in them included, as `==` tests: not `1` and `0x1`, nor `[1]` and `[ 1]`.
     #[tactic(auto, using(cbor_edn_model::specs::code::Same::same_are, cbor_edn_model::specs::code::Same::same_if))]
     pub fn is_same(&self, other: &Item<'a>) -> bool
         ensures { IsTrue result ↔ (item_tree self.now ≡ item_tree other.now) }
@@ -280,7 +280,7 @@ impl<'a> Item<'a> {
 }
 
 impl<'a> StandaloneItem<'a> {
-    /// Whether the items and the spaces round them are written the same, as `==` tests.
+    /// Whether two items are written the same, the spaces round them included, as `==` tests.
     pub fn is_same(&self, other: &StandaloneItem<'a>) -> bool
         ensures { IsTrue result ↔ (standalone_tree self.now ≡ standalone_tree other.now) }
     {
@@ -289,7 +289,7 @@ impl<'a> StandaloneItem<'a> {
 }
 
 impl<'a> Sequence<'a> {
-    /// Whether the items and the spaces round them are written the same, as `==` tests.
+    /// Whether two sequences are written the same, all spaces included, as `==` tests.
     #[tactic(auto, using(cbor_edn_model::specs::code::Same::same_are, cbor_edn_model::specs::code::Same::same_if))]
     pub fn is_same(&self, other: &Sequence<'a>) -> bool
         ensures { IsTrue result ↔ (sequence_tree self.now ≡ sequence_tree other.now) }

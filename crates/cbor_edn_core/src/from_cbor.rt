@@ -22,8 +22,8 @@ mod special;
 mod strings;
 
 impl<'a> Item<'a> {
-    /// The item that the bytes encode, with the spaces of a single line: nested at most [`NESTING_LIMIT`] deep. Fails where the bytes
-    /// are not one such item, and where memory runs out.
+    /// The item that the bytes encode, with the spaces of a single line: nested at most [`NESTING_LIMIT`] deep. Fails where the bytes are
+    /// not one such item, and where memory runs out.
     pub fn from_cbor(alloc: Global, bytes: &[u8]) -> Result<Item<'a>, Fault<CborError>>
         ensures accepted { IfOk result (λ t. IsDecoded NESTING_LIMIT (Enc bytes.now) (item_tree t)) }
         ensures refused { IfTold result (λ e. e ≢ CborError.TooDeep → NoneIs (Enc bytes.now)) }
@@ -32,7 +32,8 @@ impl<'a> Item<'a> {
         Item::from_cbor_within(alloc, bytes, NESTING_LIMIT)
     }
 
-    /// The same with a limit of its own: arrays, maps, tags and `simple(..)` may nest so deep.
+    /// The item that the bytes encode, with the spaces of a single line: arrays, maps, tags and `simple(..)` may nest `limit` deep. Fails
+    /// as [`Item::from_cbor`] does. The stack has to hold that many levels.
     pub fn from_cbor_within(
         alloc: Global,
         bytes: &[u8],
@@ -50,7 +51,8 @@ impl<'a> Item<'a> {
         }
     }
 
-    /// The item that the bytes begin with, nested at most [`NESTING_LIMIT`] deep, and the bytes behind it.
+    /// The item that the bytes begin with, nested at most [`NESTING_LIMIT`] deep, and the bytes behind it. Fails where they begin with no
+    /// such item, and where memory runs out.
     pub fn from_cbor_with_rest(
         alloc: Global,
         bytes: &[u8],
@@ -62,7 +64,8 @@ impl<'a> Item<'a> {
         Item::from_cbor_with_rest_within(alloc, bytes, NESTING_LIMIT)
     }
 
-    /// The same with a limit of its own.
+    /// The item that the bytes begin with, and the bytes behind it: arrays, maps, tags and `simple(..)` may nest `limit` deep. Fails as
+    /// [`Item::from_cbor_with_rest`] does. The stack has to hold that many levels.
     pub fn from_cbor_with_rest_within(
         alloc: Global,
         bytes: &[u8],
@@ -87,7 +90,8 @@ impl<'a> StandaloneItem<'a> {
         StandaloneItem::from_cbor_within(alloc, bytes, NESTING_LIMIT)
     }
 
-    /// The same with a limit of its own: arrays, maps, tags and `simple(..)` may nest so deep.
+    /// The item that the bytes encode, with no space round it: arrays, maps, tags and `simple(..)` may nest `limit` deep. Fails as
+    /// [`StandaloneItem::from_cbor`] does. The stack has to hold that many levels.
     pub fn from_cbor_within(
         alloc: Global,
         bytes: &[u8],
@@ -101,7 +105,8 @@ impl<'a> StandaloneItem<'a> {
         Ok(StandaloneItem::from(item))
     }
 
-    /// The item that the bytes begin with, nested at most [`NESTING_LIMIT`] deep, and the bytes behind it.
+    /// The item that the bytes begin with, with no space round it and nested at most [`NESTING_LIMIT`] deep, and the bytes behind it.
+    /// Fails where they begin with no such item, and where memory runs out.
     pub fn from_cbor_with_rest(
         alloc: Global,
         bytes: &[u8],
@@ -113,7 +118,8 @@ impl<'a> StandaloneItem<'a> {
         StandaloneItem::from_cbor_with_rest_within(alloc, bytes, NESTING_LIMIT)
     }
 
-    /// The same with a limit of its own.
+    /// The item that the bytes begin with, with no space round it, and the bytes behind it: arrays, maps, tags and `simple(..)` may nest
+    /// `limit` deep. Fails as [`StandaloneItem::from_cbor_with_rest`] does. The stack has to hold that many levels.
     pub fn from_cbor_with_rest_within(
         alloc: Global,
         bytes: &[u8],
@@ -129,8 +135,8 @@ impl<'a> StandaloneItem<'a> {
 }
 
 impl<'a> Sequence<'a> {
-    /// The items whose encodings the bytes are, with the spaces of a single line: each nested at most [`NESTING_LIMIT`] deep. Fails
-    /// where the bytes are no such items, and where memory runs out.
+    /// The items whose encodings the bytes are, one behind the other (RFC 8742), with the spaces of a single line: each nested at most
+    /// [`NESTING_LIMIT`] deep. Without bytes there are none. Fails where the bytes are no such items, and where memory runs out.
     pub fn from_cbor(alloc: Global, bytes: &[u8]) -> Result<Sequence<'a>, Fault<CborError>>
         ensures accepted { IfOk result (λ t. IsDecodedSequence NESTING_LIMIT bytes.now (sequence_tree t)) }
         ensures refused { IfTold result (λ e. e ≢ CborError.TooDeep → NoSequence bytes.now) }
@@ -139,7 +145,8 @@ impl<'a> Sequence<'a> {
         Sequence::from_cbor_within(alloc, bytes, NESTING_LIMIT)
     }
 
-    /// The same with a limit of its own: arrays, maps, tags and `simple(..)` may nest so deep.
+    /// The items whose encodings the bytes are, with the spaces of a single line: arrays, maps, tags and `simple(..)` may nest `limit`
+    /// deep. Fails as [`Sequence::from_cbor`] does. The stack has to hold that many levels.
     pub fn from_cbor_within(
         alloc: Global,
         bytes: &[u8],

@@ -39,7 +39,7 @@ pub fn item_spells(item: &Item<'_>)
     let _ = item;
 }
 
-/// The same of an item with the spaces round it.
+/// However an item with spaces round it was made, its text spells the item: known without memory, which printing takes.
 #[tactic(auto, using(crate::proofs::code::Printable::standalone_spelled))]
 pub fn standalone_spells(item: &StandaloneItem<'_>)
     ensures { SpellsOne (items (standalone_tree item.now)) (text (standalone_tree item.now)) }
@@ -47,7 +47,7 @@ pub fn standalone_spells(item: &StandaloneItem<'_>)
     let _ = item;
 }
 
-/// The same of a sequence.
+/// However a sequence was made, its text spells its items: known without memory, which printing takes.
 #[tactic(auto, using(crate::proofs::code::Printable::sequence_spelled))]
 pub fn sequence_spells(sequence: &Sequence<'_>)
     ensures { SpellsSequence (items (sequence_tree sequence.now)) (text (sequence_tree sequence.now)) }
@@ -55,7 +55,8 @@ pub fn sequence_spells(sequence: &Sequence<'_>)
     let _ = sequence;
 }
 
-/// One byte string encodes at most one value, one value has at most one encoding, and no encoding begins another.
+/// One byte string encodes at most one value, one value has at most one encoding, and no encoding begins another. A value has the width
+/// of each head.
 pub fn one_encoding()
     ensures { OneEncoding }
 {}
@@ -65,7 +66,7 @@ pub fn item_means()
     ensures { ItemMeans }
 {}
 
-/// Whatever is spelled like the item of a value means this value; the same for lists.
+/// Whatever is spelled like the item of a value means this value, and whatever is spelled like the items of values means these.
 pub fn spelled_means()
     ensures { SpelledMeans }
 {}

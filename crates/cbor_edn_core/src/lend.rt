@@ -12,7 +12,8 @@ use crate::access::TypeMismatch;
 use crate::tree::{InnerItemOf, ItemOf, LabelKind, StandaloneItemOf};
 
 impl<O: Drop, M: Drop, C: Drop, E: Drop, N: Drop, L: Drop, D: Drop> ItemOf<O, M, C, E, N, L, D> {
-    /// What stands between the parentheses of a tag. Fails with `TaggedItem` where the item is none.
+    /// What stands between the parentheses of a tag, the spaces there included, lent to be changed. Fails with `TaggedItem` where the
+    /// item is none.
     pub fn get_tagged_mut(
         &mut self,
     ) -> Result<&mut StandaloneItemOf<O, M, C, E, N, L, D>, TypeMismatch>

@@ -21,7 +21,8 @@ use cbor_edn_parts::text::Text;
 use std::alloc::Global;
 
 impl<'a> Sequence<'a> {
-    /// The items of a text, with their spaces: what nests may do so [`NESTING_LIMIT`] deep.
+    /// The items of a text, with their spaces: what nests may do so [`NESTING_LIMIT`] deep. Nothing of the text is copied. Fails where it
+    /// is no sequence of the grammar or nests deeper, and where memory runs out.
     pub fn parse(alloc: Global, input: &'a str) -> Result<Sequence<'a>, Fault<ParseError>>
         ensures parsed { IfOk result (ParsedSequence NESTING_LIMIT input.now) }
         ensures refused { IfTold result (Unparsed SpellsSequence NESTING_LIMIT input.now) }
@@ -29,7 +30,8 @@ impl<'a> Sequence<'a> {
         Sequence::parse_within(alloc, input, NESTING_LIMIT)
     }
 
-    /// The same for what nests `limit` deep at most. The stack has to hold that many levels.
+    /// The items of a text, with their spaces: what nests may do so `limit` deep. The stack has to hold that many levels, of about 2 KB
+    /// each. Fails as [`Sequence::parse`] does.
     pub fn parse_within(
         alloc: Global,
         input: &'a str,
@@ -41,7 +43,8 @@ impl<'a> Sequence<'a> {
         Sequence::parse_looking(alloc, input, limit, &mut Looks::new())
     }
 
-    /// As `parse`, with a look for each read of a byte: at most 16 for each byte of the text and 16 more.
+    /// The items of a text, as [`Sequence::parse`] reads them, with a look for each read of a byte: at most 16 for each byte of the text
+    /// and 16 more. Only proofs see the count.
     pub fn parse_counted(
         alloc: Global,
         input: &'a str,
@@ -78,7 +81,8 @@ impl<'a> Sequence<'a> {
 }
 
 impl<'a> StandaloneItem<'a> {
-    /// The one item of a text, with its spaces: what nests may do so [`NESTING_LIMIT`] deep.
+    /// The one item of a text, with its spaces: what nests may do so [`NESTING_LIMIT`] deep. Nothing of the text is copied. Fails where
+    /// it is not one item of the grammar or nests deeper, and where memory runs out.
     pub fn parse(alloc: Global, input: &'a str) -> Result<StandaloneItem<'a>, Fault<ParseError>>
         ensures parsed { IfOk result (ParsedStandalone NESTING_LIMIT input.now) }
         ensures refused { IfTold result (Unparsed SpellsOne NESTING_LIMIT input.now) }
@@ -86,7 +90,8 @@ impl<'a> StandaloneItem<'a> {
         StandaloneItem::parse_within(alloc, input, NESTING_LIMIT)
     }
 
-    /// The same for what nests `limit` deep at most. The stack has to hold that many levels.
+    /// The one item of a text, with its spaces: what nests may do so `limit` deep. The stack has to hold that many levels, of about 2 KB
+    /// each. Fails as [`StandaloneItem::parse`] does.
     pub fn parse_within(
         alloc: Global,
         input: &'a str,
@@ -98,7 +103,8 @@ impl<'a> StandaloneItem<'a> {
         StandaloneItem::parse_looking(alloc, input, limit, &mut Looks::new())
     }
 
-    /// As `parse`, with a look for each read of a byte: at most 16 for each byte of the text and 16 more.
+    /// The one item of a text, as [`StandaloneItem::parse`] reads it, with a look for each read of a byte: at most 16 for each byte of
+    /// the text and 16 more. Only proofs see the count.
     pub fn parse_counted(
         alloc: Global,
         input: &'a str,

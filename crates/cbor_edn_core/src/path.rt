@@ -15,9 +15,9 @@ use crate::tree::{
 };
 
 impl<O: Drop, M: Drop, C: Drop, E: Drop, N: Drop, L: Drop, D: Drop> ItemOf<O, M, C, E, N, L, D> {
-    /// The item where a path leads, and itself where the path is empty. A number goes to an element of an array, `2k` and `2k + 1`
-    /// to the k-th key of a map and its value, 0 to the content of a tag, and k to the k-th item of the sequences that are
-    /// embedded in a string, counted over all its pieces and chunks.
+    /// The item where a path leads, itself where the path is empty: of `[1, {2: 3}]` the path `[1, 1]` leads to 3. A number, from 0, goes
+    /// to an element of an array, and 0 to the content of a tag. `2k` and `2k + 1` go to the k-th key of a map and its value, k to the
+    /// k-th item of the sequences that are embedded in a string, counted over all its pieces and chunks.
     pub fn at_mut(&mut self, path: &[usize]) -> Option<&mut ItemOf<O, M, C, E, N, L, D>>
         ensures* lent { sem 𝓛 (LendsAt O.row M.row C.row E.row N.row L.row D.row self.entry path.now result) }
         ensures value { (leaves : Ghosts O M C E N L D) → option_map (λ w. view_item leaves w.now) result ≡ at_path path.now (view_item leaves self.old) }

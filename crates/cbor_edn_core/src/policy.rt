@@ -24,7 +24,10 @@ use cbor_edn_parts::space::S;
 use std::alloc::{AllocError, Global};
 
 impl<'a> Item<'a> {
-    /// Gives the item the spaces of a policy, as the same call of a `StandaloneItem` does.
+    /// Gives the item the spaces of a policy: each space text is a column of the policy's table, cut from the text that stood there;
+    /// embedded sequences stay. Fails where memory runs out: the items are the same then, and some spaces may be those of the policy
+    /// already. `DiscardAll` takes no memory, the indented policy a table meanwhile, of 8 bytes for each string, list, tag and
+    /// `simple(..)`.
     #[tactic(auto, using(cbor_edn_model::proofs::layout::Laying::laid_ready))]
     pub fn set_delimiters(
         &mut self,
@@ -40,7 +43,8 @@ impl<'a> Item<'a> {
         lay_item(self, alloc, layout, &mut table)
     }
 
-    /// The item with a comment in front of it. Fails where memory runs out; the item is dropped then.
+    /// The item with a comment in front of it: `/ a /1`, or lines behind `#` where the comment has a slash itself. Control characters but
+    /// tabs and line ends become spaces. Fails where memory runs out; the item is dropped then.
     pub fn with_comment(
         self,
         alloc: Global,
@@ -53,9 +57,10 @@ impl<'a> Item<'a> {
 }
 
 impl<'a> StandaloneItem<'a> {
-    /// Gives the item the spaces of a policy: each space text is a column of the policy's table, cut from the text that
-    /// stood there, and what stands in embedded sequences stays. Fails where memory runs out: the items are the same then,
-    /// and some spaces may be those of the policy already. `DiscardAll` takes no memory.
+    /// Gives the item, and the spaces round it, those of a policy: each space text is a column of the policy's table, cut from the text
+    /// that stood there; embedded sequences stay. Fails where memory runs out: the items are the same then, and some spaces may be those
+    /// of the policy already. `DiscardAll` takes no memory, the indented policy a table meanwhile, of 8 bytes for each string, list, tag
+    /// and `simple(..)`.
     #[tactic(auto, using(cbor_edn_model::proofs::layout::Laying::laid_ready))]
     pub fn set_delimiters(
         &mut self,
@@ -85,7 +90,8 @@ impl<'a> StandaloneItem<'a> {
         Ok(self)
     }
 
-    /// Puts the comment there, as `with_comment` does. Fails where memory runs out, and leaves the item as it was then.
+    /// Puts a comment in place of all space in front of the item, written as by [`StandaloneItem::with_comment`]. Fails where memory runs
+    /// out, and leaves the item as it was then.
     pub fn set_comment(&mut self, alloc: Global, comment: &str) -> Result<(), AllocError>
         ensures commented { OnOk result (standalone_tree self.new ≡ commented comment.now (standalone_tree self.old)) }
         ensures refused { IfErr result (λ _. standalone_tree self.new ≡ standalone_tree self.old) }
@@ -96,8 +102,9 @@ impl<'a> StandaloneItem<'a> {
 }
 
 impl<'a> Sequence<'a> {
-    /// Gives the items of the sequence the spaces of a policy, as the same call of a `StandaloneItem` does; under the
-    /// indented policy each of them begins a line.
+    /// Gives the sequence the spaces of a policy, between its items and in them; embedded sequences stay. Under the indented policy each
+    /// item begins a line. Fails where memory runs out: the items are the same then, and some spaces may be those of the policy already.
+    /// `DiscardAll` takes no memory, the indented policy a table meanwhile, of 8 bytes for each string, list, tag and `simple(..)`.
     #[tactic(auto, using(cbor_edn_model::proofs::layout::Laying::laid_ready))]
     pub fn set_delimiters(
         &mut self,

@@ -16,7 +16,7 @@ use cbor_edn_parts::space::{Msc, S};
 use std::alloc::{AllocError, Global};
 
 impl Item<'_> {
-    /// The text of the item, in the order of its parts. Fails where memory runs out.
+    /// The text of the item, without space round it: that which was read, where nothing was changed. Fails where memory runs out.
     pub fn serialize(&self, alloc: Global) -> Result<String, AllocError>
         ensures text { IfOk result (λ s. string_bytes s ≡ text (item_tree self.now)) }
         ensures spells { IfOk result (λ s. Spells (items (item_tree self.now)) (string_bytes s)) }
@@ -28,7 +28,7 @@ impl Item<'_> {
 }
 
 impl StandaloneItem<'_> {
-    /// The text of the item, with the spaces round it. Fails where memory runs out.
+    /// The text of the item, with the spaces round it: that which was read, where nothing was changed. Fails where memory runs out.
     pub fn serialize(&self, alloc: Global) -> Result<String, AllocError>
         ensures text { IfOk result (λ s. string_bytes s ≡ text (standalone_tree self.now)) }
         ensures spells { IfOk result (λ s. SpellsOne (items (standalone_tree self.now)) (string_bytes s)) }
@@ -40,7 +40,7 @@ impl StandaloneItem<'_> {
 }
 
 impl Sequence<'_> {
-    /// The text of the items, with the spaces round them. Fails where memory runs out.
+    /// The text of the items, with the spaces round them: that which was read, where nothing was changed. Fails where memory runs out.
     pub fn serialize(&self, alloc: Global) -> Result<String, AllocError>
         ensures text { IfOk result (λ s. string_bytes s ≡ text (sequence_tree self.now)) }
         ensures spells { IfOk result (λ s. SpellsSequence (items (sequence_tree self.now)) (string_bytes s)) }

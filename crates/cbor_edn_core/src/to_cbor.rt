@@ -29,7 +29,8 @@ use cbor_edn_parts::string::{Literal, StringKind};
 use std::alloc::Global;
 
 impl Item<'_> {
-    /// The encoding of the value that the item means. Fails where it means none, and where memory runs out.
+    /// The encoding of the value that the item means: `[1, "a"]` becomes `82016161`. Fails where it means none, and where memory runs
+    /// out. The bytes of an embedded sequence are copied once for each level that it nests in.
     #[tactic(auto, unfolding(cbor_edn_model::specs::Trees::items))]
     pub fn to_cbor(&self, alloc: Global) -> Result<Vec<u8>, Fault<InconsistentEdn>>
         ensures bytes { IfOk result (λ b. (v : Value) × (means (trees.items (item_tree self.now)) ≡ Some v) × Enc b.items v) }
@@ -43,7 +44,8 @@ impl Item<'_> {
 }
 
 impl StandaloneItem<'_> {
-    /// The encoding of the value that the item means. Fails where it means none, and where memory runs out.
+    /// The encoding of the value that the item between the spaces means: ` 24 / a /` becomes `1818`. Fails where it means none, and where
+    /// memory runs out. The bytes of an embedded sequence are copied once for each level that it nests in.
     #[tactic(auto, unfolding(cbor_edn_model::specs::Trees::items))]
     pub fn to_cbor(&self, alloc: Global) -> Result<Vec<u8>, Fault<InconsistentEdn>>
         ensures bytes { IfOk result (λ b. (v : Value) × (means (trees.items (standalone_tree self.now)) ≡ Some v) × Enc b.items v) }
@@ -57,8 +59,8 @@ impl StandaloneItem<'_> {
 }
 
 impl Sequence<'_> {
-    /// The encodings of the values that the items mean, one behind the other. Fails where an item means none, and where
-    /// memory runs out.
+    /// The encodings of the values that the items mean, one behind the other (RFC 8742): `1, 2` becomes `0102`. Fails where an item means
+    /// none, and where memory runs out. The bytes of an embedded sequence are copied once for each level that it nests in.
     #[tactic(auto, unfolding(cbor_edn_model::specs::Trees::items))]
     pub fn to_cbor(&self, alloc: Global) -> Result<Vec<u8>, Fault<InconsistentEdn>>
         ensures bytes { IfOk result (λ b. (v : Values) × (means (trees.items (sequence_tree self.now)) ≡ Some v) × EncAll b.items v) }

@@ -12,10 +12,11 @@ use cbor_edn_parts::number::Number;
 use cbor_edn_parts::space::{Ms, Msc, S, Soc};
 use cbor_edn_parts::string::{Dots, Literal};
 
-/// An item.
+/// An item of a text, with the spaces in it and none round it: a number, a word, a string, an array, a map, a tag or `simple(..)`.
 pub type Item<'a> = ItemOf<S<'a>, Ms<'a>, Msc<'a>, Soc<'a>, Number<'a>, Literal<'a>, Dots<'a>>;
 
-/// An item with the spaces round it.
+/// An item with the spaces and comments round it, as ` [1] # a`: a whole text of one item, or what stands between the parentheses of a
+/// tag.
 pub type StandaloneItem<'a> = StandaloneItemOf<
     S<'a>,
     Ms<'a>,
@@ -26,7 +27,7 @@ pub type StandaloneItem<'a> = StandaloneItemOf<
     Dots<'a>,
 >;
 
-/// A CBOR sequence: any number of items, with the spaces round them.
+/// A CBOR sequence (RFC 8742): any number of items, also none, with the spaces round them, as `1, 2 3`.
 pub type Sequence<'a> = SequenceOf<
     S<'a>,
     Ms<'a>,
@@ -37,6 +38,7 @@ pub type Sequence<'a> = SequenceOf<
     Dots<'a>,
 >;
 
+/// The forms of items, at the leaves of a text.
 pub type InnerItem<'a> = InnerItemOf<
     S<'a>,
     Ms<'a>,
@@ -47,6 +49,7 @@ pub type InnerItem<'a> = InnerItemOf<
     Dots<'a>,
 >;
 
+/// A string, at the leaves of a text: one piece, or more that plus signs join.
 pub type CborString<'a> = CborStringOf<
     S<'a>,
     Ms<'a>,
@@ -57,10 +60,13 @@ pub type CborString<'a> = CborStringOf<
     Dots<'a>,
 >;
 
+/// A piece of a string, at the leaves of a text, as `'a'` of `'a' + h'62'`.
 pub type Piece<'a> = PieceOf<S<'a>, Ms<'a>, Msc<'a>, Soc<'a>, Number<'a>, Literal<'a>, Dots<'a>>;
 
+/// A string of indefinite length, at the leaves of a text: what stands between its parentheses, behind the underscore.
 pub type Stream<'a> = StreamOf<S<'a>, Ms<'a>, Msc<'a>, Soc<'a>, Number<'a>, Literal<'a>, Dots<'a>>;
 
+/// The strings of a stream, at the leaves of a text, with the separators behind them.
 pub type Strings<'a> = StringsOf<
     S<'a>,
     Ms<'a>,
@@ -71,6 +77,7 @@ pub type Strings<'a> = StringsOf<
     Dots<'a>,
 >;
 
+/// What stands between the brackets of an array, at the leaves of a text.
 pub type ItemList<'a> = ItemListOf<
     S<'a>,
     Ms<'a>,
@@ -81,10 +88,13 @@ pub type ItemList<'a> = ItemListOf<
     Dots<'a>,
 >;
 
+/// The items of an array or a sequence, one or more, at the leaves of a text, with the separators behind them.
 pub type Items<'a> = ItemsOf<S<'a>, Ms<'a>, Msc<'a>, Soc<'a>, Number<'a>, Literal<'a>, Dots<'a>>;
 
+/// A key of a map with its value, at the leaves of a text, and the spaces round the colon.
 pub type Kp<'a> = KpOf<S<'a>, Ms<'a>, Msc<'a>, Soc<'a>, Number<'a>, Literal<'a>, Dots<'a>>;
 
+/// What stands between the braces of a map, at the leaves of a text.
 pub type PairList<'a> = PairListOf<
     S<'a>,
     Ms<'a>,
@@ -95,6 +105,7 @@ pub type PairList<'a> = PairListOf<
     Dots<'a>,
 >;
 
+/// The keys of a map with their values, one pair or more, at the leaves of a text, with the separators behind them.
 pub type Pairs<'a> = PairsOf<S<'a>, Ms<'a>, Msc<'a>, Soc<'a>, Number<'a>, Literal<'a>, Dots<'a>>;
 
 /// An item over any leaves.
@@ -117,8 +128,11 @@ pub enum InnerItemOf<O: Drop, M: Drop, C: Drop, E: Drop, N: Drop, L: Drop, D: Dr
     Named(NamedSimple),
     /// An item between parentheses, and what stands in front of them.
     Enclosed(Label, Box<StandaloneItemOf<O, M, C, E, N, L, D>>),
+    /// An array, by what stands between its brackets.
     Array(Box<ItemListOf<O, M, C, E, N, L, D>>),
+    /// A map, by what stands between its braces.
     Map(Box<PairListOf<O, M, C, E, N, L, D>>),
+    /// A string that is no stream: of definite length, or an empty one of indefinite length.
     String(Box<CborStringOf<O, M, C, E, N, L, D>>),
     /// A string of indefinite length.
     Stream(Box<StreamOf<O, M, C, E, N, L, D>>),
@@ -165,12 +179,14 @@ pub struct StringsOf<O: Drop, M: Drop, C: Drop, E: Drop, N: Drop, L: Drop, D: Dr
 #[cycle(tree)]
 #[derive(Drop)]
 pub enum ItemListOf<O: Drop, M: Drop, C: Drop, E: Drop, N: Drop, L: Drop, D: Drop> {
+    /// One item or more, behind the space `s`.
     Present {
         /// The array's encoding indicator and the space behind it.
         head: Option<(Indicator, M)>,
         s: O,
         items: ItemsOf<O, M, C, E, N, L, D>,
     },
+    /// No item: an indicator, if there is one, and space.
     Absent {
         indicator: Option<Indicator>,
         s: O,
@@ -200,12 +216,14 @@ pub struct KpOf<O: Drop, M: Drop, C: Drop, E: Drop, N: Drop, L: Drop, D: Drop> {
 #[cycle(tree)]
 #[derive(Drop)]
 pub enum PairListOf<O: Drop, M: Drop, C: Drop, E: Drop, N: Drop, L: Drop, D: Drop> {
+    /// One pair or more, behind the space `s`.
     Present {
         /// The map's encoding indicator and the space behind it.
         head: Option<(Indicator, M)>,
         s: O,
         pairs: PairsOf<O, M, C, E, N, L, D>,
     },
+    /// No pair: an indicator, if there is one, and space.
     Absent {
         indicator: Option<Indicator>,
         s: O,

@@ -43,10 +43,10 @@ fn put_answer<S: TakesComment>(
 }
 
 impl<'a> StandaloneItem<'a> {
-    /// Calls `f` at each tag, with its number, in text order and the outer ones first. A text in the answer
-    /// `CallbackError::Comment` becomes a comment in front of the space that follows the tag; no other space changes. What a
-    /// call left is entered where it nests no deeper than the tag did; embedded sequences are entered too, `simple(..)` is not.
-    /// Fails at the first answer `CallbackError::Memory`, or where memory runs out: the calls up to there are made then.
+    /// Calls `f` at each tag, with its number, in text order and the outer ones first. A text in the answer `CallbackError::Comment`
+    /// becomes a comment in front of the space that follows the tag. What a call left is entered where it nests no deeper than the tag
+    /// did; embedded sequences are entered too, `simple(..)` is not. Fails at the first answer `CallbackError::Memory`, or where memory
+    /// runs out: the calls up to there are made then.
     pub fn visit_tag<F: FnMut(u64, &mut Item<'a>) -> Result<(), CallbackError>>(
         &mut self,
         alloc: Global,
@@ -68,8 +68,8 @@ impl<'a> StandaloneItem<'a> {
         >(self, alloc, f)
     }
 
-    /// Calls `f` at each string that is one literal with a prefix, with the prefix and the text, as [`StandaloneItem::visit_tag`]
-    /// does at tags.
+    /// Calls `f` at each string that is one literal with a prefix, as `dt'..'`, with the prefix and the text, which take memory. Order,
+    /// comments, what is entered and what fails are as in [`StandaloneItem::visit_tag`].
     pub fn visit_application_literals<
         F: FnMut(String, String, &mut Item<'a>) -> Result<(), CallbackError>,
     >(&mut self, alloc: Global, f: &mut F) -> Result<(), AllocError>
@@ -91,7 +91,8 @@ impl<'a> StandaloneItem<'a> {
 }
 
 impl<'a> Sequence<'a> {
-    /// The same of all items, as [`StandaloneItem::visit_tag`].
+    /// Calls `f` at each tag of all items, with its number, in text order and the outer ones first. Comments, what is entered and what
+    /// fails are as in [`StandaloneItem::visit_tag`]. Time grows with the size of the items times how deep tags nest.
     pub fn visit_tag<F: FnMut(u64, &mut Item<'a>) -> Result<(), CallbackError>>(
         &mut self,
         alloc: Global,
@@ -113,7 +114,8 @@ impl<'a> Sequence<'a> {
         >(self, alloc, f)
     }
 
-    /// The same of all items, as [`StandaloneItem::visit_application_literals`].
+    /// Calls `f` at each string of all items that is one literal with a prefix, with the prefix and the text, which take memory. Order,
+    /// comments, what is entered and what fails are as in [`Sequence::visit_tag`].
     pub fn visit_application_literals<
         F: FnMut(String, String, &mut Item<'a>) -> Result<(), CallbackError>,
     >(&mut self, alloc: Global, f: &mut F) -> Result<(), AllocError>

@@ -14,7 +14,7 @@ use cbor_edn_parts::number::Integer;
 use cbor_edn_parts::string::StringKind;
 use std::alloc::AllocError;
 
-/// Where the argument of a head stands.
+/// Where the argument of a head stands (RFC 8949, section 3).
 #[derive(Clone, Copy, Debug, PartialEq, Eq)]
 pub enum Width {
     /// In the first byte: below 24.
@@ -57,7 +57,8 @@ pub fn shortest_width(argument: u64) -> Width
     }
 }
 
-/// Writes a head at the end.
+/// Writes a head at the end: the major type and the argument, the high byte first (RFC 8949, section 3). Fails where memory runs out, and
+/// a part of it may stand then.
 #[tactic(auto, unfolding(crate::specs::Value::head))]
 pub fn push_head(
     out: &mut Vec<u8>,
@@ -88,7 +89,8 @@ pub fn push_head(
     Ok(())
 }
 
-/// Writes a head at the end, as the indicator says. Fails where the argument does not fit, and where memory runs out.
+/// Writes a head at the end, as the indicator says. Fails with `IndicatorDoesNotFit` where the argument does not fit, and where memory
+/// runs out.
 pub fn push_marked_head(
     out: &mut Vec<u8>,
     major: u8,
@@ -103,7 +105,8 @@ pub fn push_marked_head(
     Ok(())
 }
 
-/// The width that the indicator names, or without one the narrowest. Fails where the argument does not fit.
+/// The width that the indicator names, or without one the narrowest. Fails with `IndicatorDoesNotFit` where the argument does not fit,
+/// and for `_`.
 pub fn width_of(
     indicator: Option<Indicator>,
     argument: u64,
@@ -131,7 +134,8 @@ fn fitting(width: Width, argument: u64) -> Result<Width, Fault<InconsistentEdn>>
     }
 }
 
-/// The width of the length of a list of so many entries, or none for indefinite length. Fails where the length does not fit.
+/// The width of the length of a list of so many entries, or none for indefinite length. Fails with `IndicatorDoesNotFit` where the length
+/// does not fit.
 pub fn length_of(
     indicator: Option<Indicator>,
     count: u64,
@@ -145,7 +149,8 @@ pub fn length_of(
     Ok(Some(width))
 }
 
-/// Writes what stands before the entries of a list.
+/// Writes what stands before the entries of a list: a head with their count, or for indefinite length one byte without a count. Fails
+/// where memory runs out.
 pub fn push_list_head(
     out: &mut Vec<u8>,
     major: u8,
@@ -165,7 +170,8 @@ pub fn push_list_head(
     }
 }
 
-/// Writes what stands behind the entries of a list.
+/// Writes what stands behind the entries of a list: the break byte `ff` behind one of indefinite length, else nothing. Fails where memory
+/// runs out.
 pub fn push_list_end(out: &mut Vec<u8>, width: Option<Width>) -> Result<(), AllocError>
     ensures { OnOk result (out.new.items ≡ out.old.items ++ list_end width) }
 {
@@ -175,7 +181,8 @@ pub fn push_list_end(out: &mut Vec<u8>, width: Option<Width>) -> Result<(), Allo
     Ok(())
 }
 
-/// Writes a string at the end. An empty one that is marked as indefinite has no chunks.
+/// Writes a string at the end. An empty one that is marked as indefinite has no chunks: `''_` becomes `5fff`. Fails with
+/// `IndicatorDoesNotFit`, with `InvalidUtf8` for text that is none, and where memory runs out.
 pub fn push_string(
     out: &mut Vec<u8>,
     kind: StringKind,
@@ -192,7 +199,8 @@ pub fn push_string(
     push_chunk(out, kind, indicator, content)
 }
 
-/// Writes a string of definite length. It has no encoding where it is a text and its bytes are not UTF-8.
+/// Writes a string of definite length. Fails with `InvalidUtf8` where it is a text and its bytes are not UTF-8, with
+/// `IndicatorDoesNotFit` where its length does not fit, and where memory runs out.
 pub fn push_chunk(
     out: &mut Vec<u8>,
     kind: StringKind,
@@ -209,7 +217,8 @@ pub fn push_chunk(
     Ok(())
 }
 
-/// Writes a floating-point number that is not finite, in two bytes without an indicator.
+/// Writes a floating-point number that is not finite, in two bytes without an indicator: `Infinity` becomes `f97c00`. Fails with
+/// `IndicatorDoesNotFit` for others than `_1`, `_2` and `_3`, and where memory runs out.
 pub fn push_float(
     out: &mut Vec<u8>,
     float: NonFinite,
@@ -234,7 +243,8 @@ fn float_width(indicator: Option<Indicator>) -> Result<Width, Fault<Inconsistent
     }
 }
 
-/// The bits of a floating-point number in so many bytes (IEEE 754).
+/// The bits of a floating-point number in two, four or eight bytes (IEEE 754), and 0 for other widths. NaN is the one without sign and
+/// payload.
 pub fn float_bits(width: Width, float: NonFinite) -> u64
     ensures bits { result ≡ values.float_bits width float }
     ensures fits { values.IsFloatWidth width → ArgumentFits width result }
@@ -253,7 +263,7 @@ pub fn float_bits(width: Width, float: NonFinite) -> u64
     }
 }
 
-/// Writes a simple value.
+/// Writes a simple value, in one byte below 24, else in two. Fails where memory runs out.
 pub fn push_simple(out: &mut Vec<u8>, number: u8) -> Result<(), AllocError>
     ensures { OnOk result (out.new.items ≡ out.old.items ++ encoding (values.simple number)) }
 {
@@ -265,7 +275,7 @@ pub fn push_simple(out: &mut Vec<u8>, number: u8) -> Result<(), AllocError>
     push_head(out, 7, width, u64::from(number))
 }
 
-/// The number of a simple value that has a name.
+/// The number of a simple value that has a name: 20 to 23 (RFC 8949, section 3.3).
 pub fn simple_number(name: NamedSimple) -> u8
     ensures { result ≡ meaning.named_number name }
 {
@@ -286,7 +296,7 @@ fn is_content(kind: StringKind, content: &[u8]) -> bool
     }
 }
 
-/// The major type of a string.
+/// The major type of a string: 2 of bytes, 3 of text.
 pub fn string_major(kind: StringKind) -> u8
     ensures major { result ≡ values.string_major kind }
     ensures small { result < 8 }
@@ -297,6 +307,7 @@ pub fn string_major(kind: StringKind) -> u8
     }
 }
 
+/// Whether both kinds are bytes, or both are text.
 pub fn same_kind(kind: StringKind, other: StringKind) -> bool
     ensures { result ≡ meaning.same_kind kind other }
 {
@@ -306,8 +317,8 @@ pub fn same_kind(kind: StringKind, other: StringKind) -> bool
     }
 }
 
-/// Writes an integer at the end, with a head as the indicator says. It has no encoding where its magnitude is 2^128 or more, and from
-/// 2^64 on and below -2^64 none with an indicator.
+/// Writes an integer at the end, with a head as the indicator says, or as a bignum (RFC 8949, section 3.4.3). It has no encoding where
+/// its magnitude is 2^128 or more, and from 2^64 on and below -2^64 none with an indicator.
 pub fn push_integer(
     out: &mut Vec<u8>,
     number: Integer,

@@ -5,7 +5,7 @@ ghost use Rattle.cbor_edn_parts.specs.Leaves.{s_bytes};
 use cbor_edn_parts::space::S;
 use std::alloc::AllocError;
 
-/// Two spaces. Fails where memory runs out.
+/// Copies of the space before and the space after an item. Fails where memory runs out.
 pub fn clone_spaces<'a>(before: &S<'a>, after: &S<'a>) -> Result<(S<'a>, S<'a>), AllocError>
     ensures { IfOk result (λ p. (s_bytes p.0 ≡ s_bytes before.now) × (s_bytes p.1 ≡ s_bytes after.now)) }
 {

@@ -17,6 +17,7 @@ pub enum LabelKind {
 /// A label whose number is below 2^64, which proofs of the text know.
 #[derive(Clone, Copy, Debug)]
 pub struct Label {
+    /// The number and the indicator of a tag, or the word `simple`.
     pub kind: LabelKind,
     ghost fits: { IsLabel kind } by { IsLabel-prop kind },
 }
@@ -24,6 +25,7 @@ pub struct Label {
 impl Label {
     ghost use Rattle.cbor_edn_model.specs.declared.label.LabelKind.TheVariants.{Tag, Simple};
 
+    /// The label of a tag, with its encoding indicator if there is one: `1_0` of `1_0(2)`.
     pub fn tag(number: u64, indicator: Option<Indicator>) -> Label
         ensures { result.kind ≡ Tag indicator number }
     {
@@ -32,6 +34,7 @@ impl Label {
         }
     }
 
+    /// The label of a simple value without a name, the word `simple`.
     pub fn simple() -> Label
         ensures { result.kind ≡ Simple }
     {
@@ -40,7 +43,7 @@ impl Label {
         }
     }
 
-    /// The same without an encoding indicator.
+    /// The label without an encoding indicator: `1` of `1_0`.
     pub fn without_indicator(self) -> Label
         ensures { result.kind ≡ bare_label self.kind }
     {

@@ -16,7 +16,7 @@ use cbor_edn_parts::layout::{Layout, Place, lay_mandatory};
 use cbor_edn_parts::space::Ms;
 use std::alloc::{AllocError, Global};
 
-/// The same. Fails where memory runs out.
+/// A copy of the indicator of a list and the space behind it, if they are there. Fails where memory runs out.
 pub fn clone_list_head<'a>(
     head: &Option<(Indicator, Ms<'a>)>,
 ) -> Result<Option<(Indicator, Ms<'a>)>, AllocError>
@@ -31,7 +31,7 @@ pub fn clone_list_head<'a>(
     }
 }
 
-/// Whether they have the same indicator and the same space.
+/// Whether two lists have the same indicator and the same space behind it, or both have none.
 pub fn have_same_head(a: &Option<(Indicator, Ms<'_>)>, b: &Option<(Indicator, Ms<'_>)>) -> bool
     ensures { result ≡ same_head (view_list_head texts a.now) (view_list_head texts b.now) }
 {
@@ -42,7 +42,8 @@ pub fn have_same_head(a: &Option<(Indicator, Ms<'_>)>, b: &Option<(Indicator, Ms
     }
 }
 
-/// Writes it at the end of a text. Fails where memory runs out.
+/// Writes the indicator of a list and the space behind it at the end of a text: what stands behind the bracket of `[_0 1]`. Fails where
+/// memory runs out.
 pub fn push_list_head(
     out: &mut String,
     head: &Option<(Indicator, Ms<'_>)>,
@@ -58,7 +59,7 @@ pub fn push_list_head(
     }
 }
 
-/// The indicator of a list with entries.
+/// The indicator of a list with entries, if it has one.
 pub fn mark_of(head: &Option<(Indicator, Ms<'_>)>) -> Option<Indicator>
     ensures { result ≡ trees.mark (view_list_head texts head.now) }
 {
@@ -68,7 +69,7 @@ pub fn mark_of(head: &Option<(Indicator, Ms<'_>)>) -> Option<Indicator>
     }
 }
 
-/// Lays out the space behind the indicator. Fails where memory runs out.
+/// Lays out the space behind the indicator of a list. Fails where memory runs out, and leaves the space then.
 pub fn lay_head<'a>(
     head: &mut Option<(Indicator, Ms<'a>)>,
     alloc: Global,
@@ -84,7 +85,7 @@ pub fn lay_head<'a>(
     }
 }
 
-/// One space behind an indicator.
+/// An indicator with one space behind it, as in front of the entries of a decoded list, or nothing without one.
 pub fn head_space<'a>(indicator: Option<Indicator>) -> Option<(Indicator, Ms<'a>)>
     ensures { view_list_head texts result ≡ spaced_list_head indicator }
 {

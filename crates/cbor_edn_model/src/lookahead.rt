@@ -22,7 +22,7 @@ use cbor_edn_parts::looks::Looks;
 use cbor_edn_parts::space::{Ms, S};
 use cbor_edn_parts::text::Text;
 
-/// Whether an ASCII byte stands at a place.
+/// Whether an ASCII byte stands at a place, for one look.
 pub fn is_at(text: &Text<'_>, at: usize, byte: u8, looks: &mut Looks) -> bool
     requires { byte < 128 }
     ensures yes { result ≡ true → (drop at (text_bytes text.now) ≡ byte ∷ drop (at + 1) (text_bytes text.now)) × IsCharBoundary (text_bytes text.now) (at + 1) }
@@ -35,20 +35,24 @@ pub fn is_at(text: &Text<'_>, at: usize, byte: u8, looks: &mut Looks) -> bool
     }
 }
 
-/// What begins with an item.
+/// What an item begins with, as the parser looks for it.
 #[derive(Clone, Copy, Debug, PartialEq)]
 pub enum Opening {
+    /// An array: `[`.
     Array,
+    /// A map: `{`.
     Map,
-    /// A string of indefinite length.
+    /// A string of indefinite length: `(`.
     Stream,
     /// A word, and the place behind it.
     Word(Word, usize),
+    /// A string: a quote, a prefix, dots or `<`.
     String,
+    /// A number or a tag, and anything that begins no item.
     Number,
 }
 
-/// What an item at a place is, by its first byte, and by two where it begins with a dot.
+/// What an item at a place is, by its first byte, by two where it begins with a dot, and by more where it begins as a word.
 pub fn opening_at(text: &Text<'_>, at: usize, looks: &mut Looks) -> Opening
     requires { IsCharBoundary (text_bytes text.now) at }
     ensures opens { Opens (text_bytes text.now) at result }
@@ -196,7 +200,7 @@ fn starts_number(text: &Text<'_>, at: usize, looks: &mut Looks) -> bool
     }
 }
 
-/// The first spaces of a list that has entries: behind an indicator the space is its own, and may not be missing.
+/// The first spaces of a list that has entries: behind an indicator the space is its own, and may not be missing. None where it is.
 pub fn marked<'a>(
     indicator: Option<Indicator>,
     s: S<'a>,
@@ -214,7 +218,7 @@ pub fn marked<'a>(
     }
 }
 
-/// Whether a list is at its end: the end of the text or a closing byte.
+/// Whether a list is at its end: the end of the text, or a closing byte, whichever list that closes.
 pub fn closes(text: &Text<'_>, at: usize, looks: &mut Looks) -> bool
     ensures closed { result ≡ is_closed (drop at (text_bytes text.now)) }
     ensures count { looks.new.count ≡ looks.old.count + 1 }
@@ -231,7 +235,7 @@ fn is_closing(byte: u8) -> bool
     matches!(Kind::of(byte), Kind::Close)
 }
 
-/// Refuses what stands behind a place.
+/// Refuses what stands behind a place, as invalid at that place: a text must end there.
 pub fn ends(text: &Text<'_>, at: usize) -> Result<(), Fault<Refusal>>
     requires { IsCharBoundary (text_bytes text.now) at }
     ensures end { OnOk result (drop at (text_bytes text.now) ≡ []) }

@@ -6,6 +6,7 @@ use crate::label::LabelKind;
 use crate::word::{NamedSimple, NonFinite};
 use cbor_edn_parts::indicator::Indicator;
 
+/// Whether two encoding indicators are the same.
 pub fn have_same_word(a: Indicator, b: Indicator) -> bool
     ensures { result ≡ same_word a b }
 {
@@ -20,6 +21,7 @@ pub fn have_same_word(a: Indicator, b: Indicator) -> bool
     }
 }
 
+/// Whether two simple values have the same name.
 pub fn have_same_name(a: NamedSimple, b: NamedSimple) -> bool
     ensures { result ≡ same_named a b }
 {
@@ -32,6 +34,7 @@ pub fn have_same_name(a: NamedSimple, b: NamedSimple) -> bool
     }
 }
 
+/// Whether two floating-point numbers that are not finite have the same word. `NaN` is the same as `NaN` here.
 pub fn have_same_float(a: NonFinite, b: NonFinite) -> bool
     ensures { result ≡ same_float a b }
 {
@@ -43,6 +46,7 @@ pub fn have_same_float(a: NonFinite, b: NonFinite) -> bool
     }
 }
 
+/// Whether two items have the same encoding indicator, or both have none.
 pub fn have_same_indicator(a: Option<Indicator>, b: Option<Indicator>) -> bool
     ensures { result ≡ same_indicator a b }
 {
@@ -53,6 +57,7 @@ pub fn have_same_indicator(a: Option<Indicator>, b: Option<Indicator>) -> bool
     }
 }
 
+/// Whether two labels are written the same, with their indicators.
 pub fn have_same_label(a: LabelKind, b: LabelKind) -> bool
     ensures { result ≡ same_label a b }
 {

@@ -14,7 +14,7 @@ use cbor_edn_parts::indicator::Indicator;
 use cbor_edn_parts::number::{Integer, Number};
 use cbor_edn_parts::string::{Literal, StringKind};
 
-/// The number of a simple value, where it is one, and its indicator the shortest.
+/// The simple value of an integer literal: 0 to 23 or 32 to 255, with no indicator or that of the shortest head. None for anything else.
 #[tactic(auto, using(cbor_edn_parts::proofs::NumberParts::integer_reads))]
 pub fn simple_of(number: &Number<'_>, indicator: Option<Indicator>) -> Option<u8>
     ensures { result ≡ meaning.simple_of (number_bytes number.now) indicator }
@@ -27,7 +27,7 @@ pub fn simple_of(number: &Number<'_>, indicator: Option<Indicator>) -> Option<u8
     }
 }
 
-/// Whether the indicator, if there is one, is that of the shortest head.
+/// Whether the indicator, if there is one, is that of the shortest head: `_i` below 24, else `_0`.
 pub fn is_shortest(indicator: Option<Indicator>, number: u8) -> bool
     ensures { result ≡ meaning.is_shortest indicator number }
 {
@@ -39,6 +39,8 @@ pub fn is_shortest(indicator: Option<Indicator>, number: u8) -> bool
     }
 }
 
+/// Writes the encoding of an integer literal. Fails with `NumberWithoutEncoding` for other numbers and for integers whose magnitude is
+/// 2^128 or more, with `IndicatorDoesNotFit`, and where memory runs out.
 pub fn push_number(
     out: &mut Vec<u8>,
     number: &Number<'_>,
@@ -52,7 +54,8 @@ pub fn push_number(
     }
 }
 
-/// Writes a list without entries.
+/// Writes a list without entries, of major type 4 or 5: `[]` becomes `80`, and `[_]` becomes `9fff`. It fails as [`length_of`] does, and
+/// where memory runs out.
 pub fn push_empty(
     out: &mut Vec<u8>,
     major: u8,
@@ -67,6 +70,8 @@ pub fn push_empty(
     Ok(())
 }
 
+/// Writes the bytes that a literal stands for, without a head, and answers their kind. They are copied once more on the way. Fails as
+/// [`Literal::content`] does.
 #[tactic(auto, using(cbor_edn_parts::proofs::ContentTexts::content_reads))]
 pub fn push_literal(
     out: &mut Vec<u8>,

@@ -27,7 +27,7 @@ pub enum Spaces {
 }
 
 impl Spaces {
-    /// Those round a plus sign and behind a colon.
+    /// The spaces to count round a plus sign and behind a colon.
     pub fn wide(self) -> Spaces
         ensures { result ≡ widths.wide self }
     {
@@ -37,7 +37,7 @@ impl Spaces {
         }
     }
 
-    /// Those in the strings of a stream.
+    /// The spaces to count in the strings of a stream.
     pub fn in_stream(self) -> Spaces
         ensures { result ≡ widths.in_stream self }
     {
@@ -48,6 +48,7 @@ impl Spaces {
     }
 }
 
+/// How many bytes an optional space counts. The greatest number stands for any that is more.
 pub fn s_len(spaces: Spaces, space: &S<'_>) -> usize
     ensures { result ≡ capped (space_width kind.S spaces (s_bytes space.now)) }
 {
@@ -57,6 +58,7 @@ pub fn s_len(spaces: Spaces, space: &S<'_>) -> usize
     }
 }
 
+/// How many bytes a mandatory space counts. The greatest number stands for any that is more.
 pub fn ms_len(spaces: Spaces, space: &Ms<'_>) -> usize
     ensures { result ≡ capped (space_width kind.MS spaces (ms_bytes space.now)) }
 {
@@ -66,6 +68,7 @@ pub fn ms_len(spaces: Spaces, space: &Ms<'_>) -> usize
     }
 }
 
+/// How many bytes a separator counts. The greatest number stands for any that is more.
 pub fn msc_len(spaces: Spaces, space: &Msc<'_>) -> usize
     ensures { result ≡ capped (space_width kind.MSC spaces (msc_bytes space.now)) }
 {
@@ -75,6 +78,7 @@ pub fn msc_len(spaces: Spaces, space: &Msc<'_>) -> usize
     }
 }
 
+/// How many bytes the end of a list counts. The greatest number stands for any that is more.
 pub fn soc_len(spaces: Spaces, space: &Soc<'_>) -> usize
     ensures { result ≡ capped (space_width kind.SOC spaces (soc_bytes space.now)) }
 {
@@ -84,6 +88,7 @@ pub fn soc_len(spaces: Spaces, space: &Soc<'_>) -> usize
     }
 }
 
+/// How many bytes the indicator of a list and the space behind it count, 0 without one. The greatest number stands for any that is more.
 pub fn head_len(spaces: Spaces, head: &Option<(Indicator, Ms<'_>)>) -> usize
     ensures { result ≡ capped (head_width spaces (view_list_head texts head.now)) }
 {
@@ -95,6 +100,7 @@ pub fn head_len(spaces: Spaces, head: &Option<(Indicator, Ms<'_>)>) -> usize
     }
 }
 
+/// How many bytes an encoding indicator has, with its underscore: 2 for `_1`, and 0 for none.
 pub fn indicator_len(indicator: Option<Indicator>) -> usize
     ensures { result ≡ length (indicator_text indicator) }
 {
@@ -104,6 +110,7 @@ pub fn indicator_len(indicator: Option<Indicator>) -> usize
     }
 }
 
+/// How many bytes a label has: 3 for `1_0`, and 6 for `simple`.
 pub fn label_len(label: LabelKind) -> usize
     ensures { result ≡ capped (length (label_text label)) }
 {
@@ -115,7 +122,7 @@ pub fn label_len(label: LabelKind) -> usize
     }
 }
 
-/// How many digits a number has.
+/// How many decimal digits a number has: 1 for 0.
 #[tactic(auto, using(crate::proofs::code::Digits::one_digit, crate::proofs::code::Digits::more_digits, crate::proofs::code::Digits::few_digits))]
 pub fn decimal_len(number: u64) -> usize
     ensures { result ≡ length (decimal number) }
@@ -127,7 +134,8 @@ pub fn decimal_len(number: u64) -> usize
     }
 }
 
-/// Puts a width on the stack where a single line is measured, and answers it.
+/// Puts a width on the stack where a single line is measured, and answers it. Fails where memory runs out: each width that is kept takes
+/// 8 bytes.
 #[tactic(auto, using(crate::proofs::layout::Widths::stack_push))]
 pub fn push_width(table: &mut Vec<usize>, spaces: Spaces, width: usize) -> Result<usize, AllocError>
     ensures widths { IfOk result (λ _. stack table.new.items ≡ pushed spaces width (stack table.old.items)) }
@@ -139,7 +147,7 @@ pub fn push_width(table: &mut Vec<usize>, spaces: Spaces, width: usize) -> Resul
     Ok(width)
 }
 
-/// Takes a width from the table. A layout that has no tests needs no widths.
+/// Takes a width from the table: 0 from an empty one, since a layout that has no tests needs no widths.
 pub fn pop_width(table: &mut Vec<usize>) -> usize
     ensures width { result ≡ top (stack table.old.items) }
     ensures rest { stack table.new.items ≡ others (stack table.old.items) }

@@ -5,31 +5,40 @@ ghost use Rattle.cbor_edn_model.specs.Words as words;
 /// The simple values that have names (RFC 8949, section 3.3).
 #[derive(Clone, Copy, Debug, PartialEq, Eq)]
 pub enum NamedSimple {
+    /// `false`, the simple value 20.
     False,
+    /// `true`, the simple value 21.
     True,
+    /// `null`, the simple value 22.
     Null,
+    /// `undefined`, the simple value 23.
     Undefined,
 }
 
-/// The floating-point numbers that are not finite.
+/// The floating-point numbers that are not finite, in any width.
 #[derive(Clone, Copy, Debug, PartialEq, Eq)]
 pub enum NonFinite {
+    /// `Infinity`, above all numbers.
     Infinity,
+    /// `-Infinity`, below all numbers.
     NegativeInfinity,
+    /// `NaN`, the one without sign and payload.
     NaN,
 }
 
 /// A word that an item begins with.
 #[derive(Clone, Copy, Debug, PartialEq)]
 pub enum Word {
+    /// The name of a simple value.
     Named(NamedSimple),
     /// `simple`, behind which an item stands between parentheses.
     Simple,
+    /// The word of a floating-point number.
     NonFinite(NonFinite),
 }
 
 impl NamedSimple {
-    /// The word.
+    /// The word as it is written, as `true`.
     pub fn as_str(self) -> &'static str
         ensures { result.now ≡ words.named_text self }
     {
@@ -43,7 +52,7 @@ impl NamedSimple {
 }
 
 impl NonFinite {
-    /// The word.
+    /// The word as it is written, as `-Infinity`.
     pub fn as_str(self) -> &'static str
         ensures { result.now ≡ words.non_finite_text self }
     {
@@ -56,6 +65,7 @@ impl NonFinite {
 }
 
 impl Word {
+    /// The word as it is written, as `simple`.
     pub fn as_str(self) -> &'static str
         ensures { result.now ≡ words.word_text self }
     {

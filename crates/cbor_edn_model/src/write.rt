@@ -8,6 +8,7 @@ use crate::label::LabelKind;
 use cbor_edn_parts::indicator::Indicator;
 use std::alloc::AllocError;
 
+/// Writes an encoding indicator with its underscore at the end of a text, if there is one. Fails where memory runs out.
 pub fn push_indicator(out: &mut String, indicator: Option<Indicator>) -> Result<(), AllocError>
     ensures { OnOk result (string_bytes out.new ≡ string_bytes out.old ++ indicator_text indicator) }
 {
@@ -17,6 +18,7 @@ pub fn push_indicator(out: &mut String, indicator: Option<Indicator>) -> Result<
     }
 }
 
+/// Writes a label at the end of a text: `1_0` or `simple`. Fails where memory runs out, and a part of it may stand then.
 pub fn push_label(out: &mut String, label: LabelKind) -> Result<(), AllocError>
     ensures { OnOk result (string_bytes out.new ≡ string_bytes out.old ++ label_text label) }
 {

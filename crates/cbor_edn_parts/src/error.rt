@@ -6,10 +6,12 @@ use std::alloc::{AllocError, AllocFailed};
 use std::num::TryFromIntError;
 use thiserror::Error;
 
-/// What stops a call that takes memory: memory ran out, or it has an answer of its own.
+/// What stops a call that takes memory: memory ran out, or the call has an answer of its own. `?` makes it of an `AllocError`.
 #[derive(Debug, Drop)]
 pub enum Fault<E> {
+    /// Memory ran out. What is left then, the call's own words say.
     Memory(AllocError),
+    /// The call's own refusal, as a [`ParseError`] of `parse`.
     Told(E),
 }
 
@@ -37,8 +39,10 @@ impl<T: Drop, E> From<AllocFailed<T>> for Fault<E> {
 /// What a callback answers in place of its result: a comment all the same, or want of memory, which ends a visit.
 #[derive(Debug, Drop, Error)]
 pub enum CallbackError {
+    /// The text of a comment, which the visit puts in front of the space that follows the item.
     #[error("{0}")]
     Comment(String),
+    /// Memory ran out: the visit ends here, and answers so.
     #[error("{0}")]
     Memory(AllocError),
 }
@@ -53,11 +57,13 @@ impl From<AllocError> for CallbackError {
     }
 }
 
-/// Why a text is refused.
+/// Why a text is refused. The words of a [`ParseError`] begin with its words.
 #[derive(Clone, Copy, Debug, PartialEq, Eq, Error)]
 pub enum ParseErrorKind {
+    /// The text is none of the grammar.
     #[error("Invalid EDN")]
     Invalid,
+    /// The text nests deeper than the limit of the call, as far as it was read.
     #[error("EDN nested too deeply")]
     TooDeep,
 }
@@ -65,11 +71,14 @@ pub enum ParseErrorKind {
 /// Where a reader of a text stopped, in bytes, and why.
 #[derive(Clone, Copy, Debug, PartialEq, Eq)]
 pub struct Refusal {
+    /// Why the text is refused.
     pub kind: ParseErrorKind,
+    /// The place in bytes, from 0.
     pub at: usize,
 }
 
 impl Refusal {
+    /// The refusal of a text that is none of the grammar, at a place in bytes.
     pub fn invalid(at: usize) -> Refusal
         ensures { result ≡ record { kind = ParseErrorKind.Invalid; at = at } }
     {
@@ -79,6 +88,7 @@ impl Refusal {
         }
     }
 
+    /// The refusal of a text that nests deeper than the limit, at a place in bytes.
     pub fn too_deep(at: usize) -> Refusal
         ensures { result ≡ record { kind = ParseErrorKind.TooDeep; at = at } }
     {
@@ -99,7 +109,7 @@ impl From<Refusal> for Fault<Refusal> {
     }
 }
 
-/// Where and why a text is not accepted as EDN.
+/// Where and why a text is not accepted as EDN. Its words are such as `Invalid EDN in line 1 column 4 (byte 3)`.
 #[derive(Clone, Copy, Debug, PartialEq, Eq, Error)]
 #[error("{kind} in line {line} column {column} (byte {offset})")]
 pub struct ParseError {
@@ -110,7 +120,8 @@ pub struct ParseError {
 }
 
 impl ParseError {
-    /// A refusal at a place: lines and columns count from 1, the offset from 0.
+    /// A refusal at a place: the offset in bytes from 0, the line from 1, the column in characters from 1. Nothing tests that they are of
+    /// one place.
     pub fn new(kind: ParseErrorKind, offset: usize, line: usize, column: usize) -> ParseError
         ensures kind { error_kind result ≡ kind }
         ensures offset { error_offset result ≡ offset }
@@ -125,7 +136,7 @@ impl ParseError {
         }
     }
 
-    /// Whether the text was refused for its nesting alone, as far as it was read.
+    /// Whether the text was refused for its nesting alone, as far as it was read: with a higher limit it may be accepted.
     pub fn too_deep(&self) -> bool
         ensures { IsTrue result ↔ (error_kind self.now ≡ ParseErrorKind.TooDeep) }
     {
@@ -139,14 +150,14 @@ impl ParseError {
         self.offset
     }
 
-    /// One more than the line feeds before the place.
+    /// The line of the place, from 1: one more than the line feeds before the place.
     pub fn line(&self) -> usize
         ensures { result ≡ error_line self.now }
     {
         self.line
     }
 
-    /// One more than the characters since the last line feed before the place.
+    /// The column of the place in characters, from 1: one more than the characters since the last line feed before the place.
     pub fn column(&self) -> usize
         ensures { result ≡ error_column self.now }
     {
@@ -154,34 +165,39 @@ impl ParseError {
     }
 }
 
-/// Why items have no encoding.
+/// Why items have no encoding, or no literal can be made of a prefix and a text.
 #[derive(Clone, Copy, Debug, PartialEq, Eq, Error)]
 pub enum InconsistentEdn {
-    /// A number that CBOR does not have, or not in the scope of this crate.
+    /// A number that CBOR does not have, or not in the scope of this crate: with a point or an exponent, or an integer whose magnitude is
+    /// 2^128 or more.
     #[error("Number has no encoding")]
     NumberWithoutEncoding,
-    /// An encoding indicator on a number, a string or a list whose argument it does not fit.
+    /// An encoding indicator that does not fit the argument of its number, string, tag or list, as in `256_0`. A bignum takes none.
     #[error("Encoding indicator does not fit")]
     IndicatorDoesNotFit,
-    /// `simple(..)` over anything but an integer literal of 0 to 23 or 32 to 255 with the shortest head.
+    /// `simple(..)` over anything but an integer literal of 0 to 23 or 32 to 255 with the shortest head (RFC 8949, section 3.3).
     #[error("Invalid simple value")]
     InvalidSimple,
+    /// An encoding indicator on one of several pieces that plus signs join, as in `'a'_0 + 'b'`.
     #[error("Encoding indicators present on string expressed in multiple EDN chunks")]
     IndicatorOnPiece,
-    /// Dots, or a literal with a prefix that stands for no bytes.
+    /// Dots, or a literal with a prefix that stands for no bytes: another one than `h`, `b64`, `b32` and `h32`.
     #[error("Unsupported application oriented literal or ellipsis")]
     UnsupportedLiteral,
-    /// A literal whose text is not one of its prefix, as `h'0'`.
+    /// A literal whose text is not one of its prefix, as `h'0'`, or as `b64'A'` by RFC 4648.
     #[error("String content can not be decoded")]
     UndecodableContent,
+    /// Joined pieces of a text string whose bytes are not UTF-8, as `"a" + h'ff'`.
     #[error("Concatenated text string is not valid UTF-8")]
     InvalidUtf8,
+    /// A string of indefinite length with byte strings and text strings in it, as `(_ "a", 'b')` (RFC 8949, section 3.2.3).
     #[error("Chunk of another kind in indefinite length string")]
     OtherChunk,
-    /// The prefix of a literal that is to be built, where it is none of the grammar.
+    /// The prefix of a literal that is to be made, where it is none of the grammar: a letter, then letters and digits, all letters in one
+    /// case.
     #[error("Identifier is not a valid application string identifier")]
     InvalidIdentifier,
-    /// A number too large for its type.
+    /// A number too large for its type, which `?` makes of a `TryFromIntError`.
     #[error("Numeric range exceeded")]
     NumericRangeExceeded,
 }

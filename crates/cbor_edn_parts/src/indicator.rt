@@ -6,7 +6,8 @@ pub use read::indicator_at;
 
 mod read;
 
-/// How an item is encoded: the word behind an underscore.
+/// An encoding indicator: how the head of an item is encoded, by a word behind an underscore (RFC 8949, section 8.1, and `_i` by the EDN
+/// draft, draft-ietf-cbor-edn-literals).
 #[derive(Clone, Copy, Debug, PartialEq, Eq)]
 pub enum Indicator {
     /// `_`: indefinite length.
@@ -24,7 +25,7 @@ pub enum Indicator {
 }
 
 impl Indicator {
-    /// The text with its underscore.
+    /// The text with its underscore, as `_1`.
     pub fn as_str(self) -> &'static str
         ensures { result.now ≡ indicator_text (Some self) }
     {

@@ -14,8 +14,8 @@ use std::alloc::{AllocError, Global};
 pub enum Layout {
     /// On a single line, or without regard to lines: one column of the table for all.
     Inline(Spacing),
-    /// On lines of their own: a line begins with `base` spaces, the one behind the last entry with `end` spaces, and an
-    /// item in it whose single line is too long for `width` has lines that begin with `level` more spaces than `base`.
+    /// On lines of their own. A line begins with `base` spaces, the one behind the last entry with `end` spaces. An item in it whose
+    /// single line is too long for `width` has lines that begin with `level` more spaces than `base`.
     Lines {
         base: usize,
         end: usize,
@@ -33,8 +33,11 @@ pub enum Place {
     Between,
     /// Behind the last entry.
     Last,
+    /// In front of a plus sign that joins two pieces of a string.
     BeforePlus,
+    /// Behind a plus sign that joins two pieces of a string.
     AfterPlus,
+    /// Behind the colon between a key and its value.
     AfterColon,
     /// Before a colon, behind the indicator of a list that has entries, in a list that has none, round an item that stands
     /// alone or between parentheses, and in front of a sequence.
@@ -42,6 +45,7 @@ pub enum Place {
 }
 
 impl Layout {
+    /// The layout that a policy begins with: of the whole that is laid out. Indented text begins with lines at `base_indent`.
     pub fn of(policy: DelimiterPolicy) -> Layout
         ensures { result ≡ spec.layout policy }
     {
@@ -63,7 +67,7 @@ impl Layout {
         }
     }
 
-    /// The column of the table for a place.
+    /// What is done with the space text at a place: the column of the table of spaces.
     pub fn spacing(self, place: Place) -> Spacing
         ensures { result ≡ spec.spacing self place }
     {
@@ -81,7 +85,8 @@ impl Layout {
         }
     }
 
-    /// The layout of the parts of an item that is so many bytes wide on a single line.
+    /// The layout of the parts of an item that is so many bytes wide on a single line: one line where it fits, else lines one level
+    /// further in.
     pub fn of_parts(self, measured: usize) -> Layout
         ensures { result ≡ spec.of_parts self measured }
     {
@@ -107,7 +112,7 @@ impl Layout {
         }
     }
 
-    /// The layout of the strings of a stream.
+    /// The layout of the strings of a stream: on a single line no space stands round the plus signs in them.
     pub fn in_chunk(self) -> Layout
         ensures { result ≡ spec.in_chunk self }
     {
@@ -118,6 +123,7 @@ impl Layout {
     }
 }
 
+/// Lays out an optional space at its place. Fails where memory runs out, and leaves the text then; the layout of `DiscardAll` takes none.
 pub fn lay_space<'a>(
     space: &mut S<'a>,
     alloc: Global,
@@ -131,6 +137,8 @@ pub fn lay_space<'a>(
     Ok(())
 }
 
+/// Lays out a mandatory space at its place; it does not become empty. Fails where memory runs out, and leaves the text then; the layout
+/// of `DiscardAll` takes none.
 pub fn lay_mandatory<'a>(
     space: &mut Ms<'a>,
     alloc: Global,
@@ -144,6 +152,8 @@ pub fn lay_mandatory<'a>(
     Ok(())
 }
 
+/// Lays out the separator between two entries. Fails where memory runs out, and leaves the text then; the layout of `DiscardAll` takes
+/// none.
 pub fn lay_separator<'a>(
     separator: &mut Msc<'a>,
     alloc: Global,
@@ -156,6 +166,8 @@ pub fn lay_separator<'a>(
     Ok(())
 }
 
+/// Lays out the end of a list, behind its last entry. Fails where memory runs out, and leaves the text then; the layout of `DiscardAll`
+/// takes none.
 pub fn lay_end<'a>(end: &mut Soc<'a>, alloc: Global, layout: Layout) -> Result<(), AllocError>
     ensures laid { OnOk result (soc_bytes end.new ≡ respaced kind.SOC spec.Last layout (soc_bytes end.old)) }
     ensures least { layout ≡ least → IsOk result }

@@ -13,8 +13,11 @@ const ROOM: usize = 22;
 /// The text of a leaf: a part of what was read, or one of its own. A short one of its own takes no memory, as that of most numbers.
 #[derive(Drop)]
 pub enum LeafText<'a> {
+    /// A part of the text that was read, of which nothing is copied.
     Borrowed(&'a str),
+    /// A text of its own that stands in the leaf.
     Short(ShortText),
+    /// A text of its own behind a pointer.
     Long(Box<String>),
 }
 
@@ -70,7 +73,7 @@ fn put(bytes: &mut [u8; ROOM], at: usize, text: &str)
 impl<'a> LeafText<'a> {
     ghost use Rattle.cbor_edn_parts.specs.LeafTexts.{leaf_bytes};
 
-    /// A text of its own.
+    /// The text as one of its own. Fails where memory runs out, which at most 22 bytes don't need.
     pub fn own(alloc: Global, text: String) -> Result<LeafText<'a>, AllocError>
         ensures { IfOk result (λ t. leaf_bytes t ≡ string_bytes text) }
     {
@@ -80,7 +83,7 @@ impl<'a> LeafText<'a> {
         Ok(LeafText::Long(Box::new(alloc, text)?))
     }
 
-    /// Two texts, one behind the other, as a text of its own.
+    /// Two texts, one behind the other, as a text of its own. Fails where memory runs out, which at most 22 bytes don't need.
     pub fn joined(alloc: Global, first: &str, second: &str) -> Result<LeafText<'a>, AllocError>
         ensures bytes { IfOk result (λ t. leaf_bytes t ≡ first.now ++ second.now) }
         ensures free { length first.now + length second.now ≤ 22 → IsOk result }
@@ -92,6 +95,7 @@ impl<'a> LeafText<'a> {
         Ok(LeafText::Long(Box::new(alloc, text)?))
     }
 
+    /// The text, wherever it stands.
     #[inline(always)]
     pub fn as_str(&self) -> &str
         ensures { result.now ≡ leaf_bytes self.now }
@@ -114,7 +118,7 @@ impl<'a> LeafText<'a> {
         }
     }
 
-    /// The same text. Fails where memory runs out.
+    /// A copy of the text. Fails where memory runs out, which a text that is borrowed or of at most 22 bytes doesn't need.
     pub fn clone(&self) -> Result<LeafText<'a>, AllocError>
         ensures { IfOk result (λ t. leaf_bytes t ≡ leaf_bytes self.now) }
     {

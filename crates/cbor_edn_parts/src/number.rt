@@ -275,7 +275,7 @@ impl State for Reached {
 impl<'a> Number<'a> {
     ghost use Rattle.cbor_edn_parts.specs.Leaves.{number_bytes, integer, HasMagnitude};
 
-    /// The text as it is written.
+    /// The text as it is written, without an encoding indicator.
     #[inline]
     pub fn as_str(&self) -> &str
         ensures { result.now ≡ number_bytes self.now }
@@ -290,7 +290,7 @@ impl<'a> Number<'a> {
         self.text.len()
     }
 
-    /// The same text. Fails where memory runs out.
+    /// A copy of the text. Fails where memory runs out, which a text that is borrowed or of at most 22 bytes doesn't need.
     pub fn clone(&self) -> Result<Number<'a>, AllocError>
         ensures { IfOk result (λ t. number_bytes t ≡ number_bytes self.now) }
     {

@@ -68,7 +68,7 @@ impl<'a> S<'a> {
         S { text }
     }
 
-    /// The text as it is written.
+    /// The text as it is written, comments and all.
     #[inline]
     pub fn as_str(&self) -> &str
         ensures { result.now ≡ s_bytes self.now }
@@ -76,7 +76,7 @@ impl<'a> S<'a> {
         self.text.as_str()
     }
 
-    /// The same text. Fails where memory runs out.
+    /// A copy of the text. Fails where memory runs out, which a text that is borrowed or of at most 22 bytes doesn't need.
     pub fn clone(&self) -> Result<S<'a>, AllocError>
         ensures { IfOk result (λ t. s_bytes t ≡ s_bytes self.now) }
     {
@@ -111,7 +111,7 @@ impl<'a> Ms<'a> {
         Ms { text }
     }
 
-    /// The text as it is written.
+    /// The text as it is written, comments and all.
     #[inline]
     pub fn as_str(&self) -> &str
         ensures { result.now ≡ ms_bytes self.now }
@@ -119,7 +119,7 @@ impl<'a> Ms<'a> {
         self.text.as_str()
     }
 
-    /// The same text. Fails where memory runs out.
+    /// A copy of the text. Fails where memory runs out, which a text that is borrowed or of at most 22 bytes doesn't need.
     pub fn clone(&self) -> Result<Ms<'a>, AllocError>
         ensures { IfOk result (λ t. ms_bytes t ≡ ms_bytes self.now) }
     {
@@ -149,7 +149,7 @@ impl<'a> Msc<'a> {
         Msc { text }
     }
 
-    /// The text as it is written.
+    /// The text as it is written, comments and all.
     #[inline]
     pub fn as_str(&self) -> &str
         ensures { result.now ≡ msc_bytes self.now }
@@ -157,7 +157,7 @@ impl<'a> Msc<'a> {
         self.text.as_str()
     }
 
-    /// The same text. Fails where memory runs out.
+    /// A copy of the text. Fails where memory runs out, which a text that is borrowed or of at most 22 bytes doesn't need.
     pub fn clone(&self) -> Result<Msc<'a>, AllocError>
         ensures { IfOk result (λ t. msc_bytes t ≡ msc_bytes self.now) }
     {
@@ -177,7 +177,7 @@ impl<'a> Soc<'a> {
         Soc { text }
     }
 
-    /// The text as it is written.
+    /// The text as it is written, comments and all.
     #[inline]
     pub fn as_str(&self) -> &str
         ensures { result.now ≡ soc_bytes self.now }
@@ -185,7 +185,7 @@ impl<'a> Soc<'a> {
         self.text.as_str()
     }
 
-    /// The same text. Fails where memory runs out.
+    /// A copy of the text. Fails where memory runs out, which a text that is borrowed or of at most 22 bytes doesn't need.
     pub fn clone(&self) -> Result<Soc<'a>, AllocError>
         ensures { IfOk result (λ t. soc_bytes t ≡ soc_bytes self.now) }
     {

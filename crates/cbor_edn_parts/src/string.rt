@@ -37,14 +37,18 @@ pub struct Dots<'a> {
 /// The kind of a CBOR string.
 #[derive(Clone, Copy, Debug, PartialEq, Eq)]
 pub enum StringKind {
+    /// A byte string, major type 2.
     Bytes,
+    /// A text string, major type 3, whose bytes are UTF-8.
     Text,
 }
 
 /// What a text is quoted with.
 #[derive(Clone, Copy, Debug, PartialEq)]
 pub enum Quote {
+    /// `'`, in literals of bytes and behind a prefix.
     Single,
+    /// `"`, in literals of text.
     Double,
 }
 
@@ -97,7 +101,7 @@ pub(crate) enum Ended {
 impl<'a> Literal<'a> {
     ghost use Rattle.cbor_edn_parts.specs.Leaves.{literal_bytes};
 
-    /// The text as it is written.
+    /// The text as it is written, with prefix, quotes and escapes.
     #[inline]
     pub fn as_str(&self) -> &str
         ensures { result.now ≡ literal_bytes self.now }
@@ -112,7 +116,7 @@ impl<'a> Literal<'a> {
         self.text.len()
     }
 
-    /// The same text. Fails where memory runs out.
+    /// A copy of the text. Fails where memory runs out, which a text that is borrowed or of at most 22 bytes doesn't need.
     pub fn clone(&self) -> Result<Literal<'a>, AllocError>
         ensures { IfOk result (λ t. literal_bytes t ≡ literal_bytes self.now) }
     {
@@ -124,7 +128,7 @@ impl<'a> Literal<'a> {
 impl<'a> Dots<'a> {
     ghost use Rattle.cbor_edn_parts.specs.Leaves.{dots_bytes};
 
-    /// The text as it is written.
+    /// The dots as they are written.
     #[inline]
     pub fn as_str(&self) -> &str
         ensures { result.now ≡ dots_bytes self.now }
@@ -139,7 +143,7 @@ impl<'a> Dots<'a> {
         self.text.len()
     }
 
-    /// The same text. Fails where memory runs out.
+    /// A copy of the text. Fails where memory runs out, which a text that is borrowed or of at most 22 bytes doesn't need.
     pub fn clone(&self) -> Result<Dots<'a>, AllocError>
         ensures { IfOk result (λ t. dots_bytes t ≡ dots_bytes self.now) }
     {

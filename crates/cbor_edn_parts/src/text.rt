@@ -13,12 +13,14 @@ pub struct Text<'a> {
 }
 
 impl<'a> Text<'a> {
+    /// A text that is to be read. The leaves that are read from it borrow from it.
     pub fn new(all: &'a str) -> Text<'a>
         ensures { text_bytes result ≡ all.now }
     {
         Text { all }
     }
 
+    /// The length of the text in bytes, for no look.
     pub fn len(&self) -> usize
         ensures len { result ≡ length (text_bytes self.now) }
         ensures small { result < 2 ^ 63 }
@@ -26,7 +28,7 @@ impl<'a> Text<'a> {
         self.as_str().as_bytes().len()
     }
 
-    /// The place in front.
+    /// The place in front of the text, where reading begins.
     pub fn start(&self) -> usize
         ensures zero { result ≡ 0 }
         ensures place { IsCharBoundary (text_bytes self.now) result }
@@ -41,7 +43,7 @@ impl<'a> Text<'a> {
         self.all
     }
 
-    /// The byte at a place, for one look.
+    /// The byte at a place, for one look, or none behind the end of the text.
     pub fn byte(&self, at: usize, looks: &mut Looks) -> Option<u8>
         ensures value { IsAt (text_bytes self.now) at result }
         ensures behind { IfSome result (λ c. c < 128 → IsCharBoundary (text_bytes self.now) (at + 1)) }
@@ -51,7 +53,7 @@ impl<'a> Text<'a> {
         byte_of(self.as_str(), at)
     }
 
-    /// A piece, for no look.
+    /// The piece between two places, for no look. Each place is where a character begins, or the end.
     pub fn slice(&self, from: usize, to: usize) -> &'a str
         requires order { from ≤ to }
         requires starts { IsCharBoundary (text_bytes self.now) from }

@@ -25,14 +25,16 @@ pub fn sequence_reads_back(sequence: &Sequence<'_>)
     let _ = sequence;
 }
 
-/// The same of an item with the spaces round it.
+/// However it was made or edited: the text of an item with the spaces round it spells the item, and is read back as it. The parser that
+/// is handed a limit which holds its nesting does not refuse it.
 pub fn standalone_reads_back(item: &StandaloneItem<'_>)
     ensures { ReadsBackStandalone (standalone_tree item.now) }
 {
     let _ = item;
 }
 
-/// The same of an item alone, which is read as a standalone one.
+/// However it was made or edited: the text of an item alone spells the item, and is read back as it, as a standalone one. The parser that
+/// is handed a limit which holds its nesting does not refuse it.
 pub fn item_reads_back(item: &Item<'_>)
     ensures { ReadsBackItem (item_tree item.now) }
 {

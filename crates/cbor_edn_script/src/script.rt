@@ -24,13 +24,13 @@ pub enum Edit<'a> {
     Replace(Vec<usize>, Item<'a>),
     /// Puts the item where the path leads into a tag of this number. Nothing changes where it leads nowhere.
     TagAt(Vec<usize>, u64),
-    /// Puts the comment behind each tag.
+    /// Puts the comment behind each tag, also in embedded sequences.
     CommentTags(String),
     /// Puts time and address literals in the place of tags 1, 52 and 54, and integers in that of bignums.
     Prettify,
     /// Puts what they stand for in the place of time and address literals.
     Resolve,
-    /// Puts tags 999 in the place of literals whose prefix means no bytes.
+    /// Puts tags 999 in the place of literals whose prefix means no bytes: `999(["foo", "bar"])` for `foo'bar'`.
     To999,
 }
 
@@ -38,7 +38,7 @@ pub enum Edit<'a> {
 #[derive(Clone, Copy, Debug, PartialEq, Eq, Error)]
 #[error("Out of memory after {done} edits")]
 pub struct ScriptError {
-    /// How many edits were done before.
+    /// How many edits were done before the one that was refused.
     pub done: usize,
 }
 

@@ -19,7 +19,8 @@ use std::alloc::{AllocError, Global};
 
 pub mod item;
 
-/// The bytes that the items of an encoding are encoded as. Fails as `Sequence::from_cbor` does, and where memory runs out.
+/// The bytes that the items of an encoding are encoded as: those that were given. Fails as `Sequence::from_cbor` does, and where memory
+/// runs out.
 pub fn recoded(alloc: Global, bytes: &[u8]) -> Result<Vec<u8>, Fault<CborError>>
     ensures same { IfOk result (λ b. b.items ≡ bytes.now) }
     ensures refused { IfTold result (λ e. e ≢ CborError.TooDeep → NoSequence bytes.now) }
@@ -29,7 +30,8 @@ pub fn recoded(alloc: Global, bytes: &[u8]) -> Result<Vec<u8>, Fault<CborError>>
     Ok(encoded(alloc, &sequence)?)
 }
 
-/// The same by way of the items' text, which has the spaces of each policy in turn and is parsed again.
+/// The bytes that the items of an encoding are encoded as by way of their text, which has the spaces of each policy in turn and is parsed
+/// again: those that were given. Fails as `Sequence::from_cbor` does, and where memory runs out.
 pub fn recoded_by_text(
     alloc: Global,
     bytes: &[u8],

@@ -21,8 +21,9 @@ use cbor_edn_parts::policy::DelimiterPolicy;
 use std::alloc::{AllocError, Global};
 use std::net::IpAddr;
 
-/// Puts the item that an address literal stands for in its place: the bytes of the address, behind their prefix length if there is
-/// one, and for `IP` in the tag of the version. Literals of other prefixes stay. Answers a comment where the text is no address.
+/// Puts the item that an address literal stands for in its place: the bytes of the address, behind their prefix length if there is one,
+/// and for `IP` in the tag of the version (RFC 9164). Literals of other prefixes stay. Answers a comment where the text is no address;
+/// where memory runs out the item is as before.
 pub fn ip_aol_to_item<'a>(
     alloc: Global,
     prefix: String,

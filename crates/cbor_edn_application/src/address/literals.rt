@@ -19,9 +19,10 @@ use cbor_edn_literals::address::IpVersion;
 use cbor_edn_parts::error::Fault;
 use std::alloc::{AllocError, Global};
 
-/// The address literal that stands for an item: for bytes, or for an array of a prefix length and bytes. Of an array whose first
-/// element is bytes, the array with the literal of these in its place. With `wrap` the item is the content of the version's tag,
-/// and what is given stands for the tag.
+/// The address literal for bytes, or for an array of a prefix length and bytes: `ip'192.0.2.0/24'` for `[24, h'c00002']`. Of an array
+/// whose first element is bytes, the array with the literal of these in its place. With `wrap` the item is the content of the version's
+/// tag, and what is given stands for the tag. Fails with words where there is no literal or it would mean other bytes, and where memory
+/// runs out.
 pub fn ip_item_to_aol<'a>(
     alloc: Global,
     item: &Item<'a>,

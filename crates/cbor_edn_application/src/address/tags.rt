@@ -21,8 +21,9 @@ use cbor_edn_literals::address::IpVersion;
 use cbor_edn_parts::error::{CallbackError, Fault};
 use std::alloc::Global;
 
-/// Puts an address literal in the place of a tag 52 or 54, as [`ip_item_to_aol`] gives it for the content. Other tags stay. Answers
-/// a comment where there is none, and where the tag's indicator would be lost.
+/// Puts `IP'192.0.2.1'` in the place of `52(h'c0000201')`, and so on for tags 52 and 54 (RFC 9164), as `ip_item_to_aol` gives it for the
+/// content. Other tags stay. Answers a comment where there is no literal, and where the tag's indicator would be lost; where memory runs
+/// out the item is as before.
 pub fn ip_tag_to_aol<'a>(alloc: Global, tag: u64, item: &mut Item<'a>) -> Result<(), CallbackError>
     ensures { ActsBy pretty_address (number tag) (item_tree item.old) (told_answer result) (item_tree item.new) }
 {

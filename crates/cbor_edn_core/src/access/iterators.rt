@@ -3,14 +3,14 @@ use crate::tree::{Item, Items, Kp, Pairs};
 use cbor_edn_parts::space::Msc;
 use std::slice::Iter;
 
-/// The items of an array, in text order.
+/// The items of an array that are left, in text order, as [`Item::get_array_items`] answers them.
 #[derive(Drop)]
 pub struct ArrayItems<'t, 'a> {
     row: Option<Iter<'t, (Item<'a>, Msc<'a>)>>,
     last: Option<&'t Item<'a>>,
 }
 
-/// The keys of a map with their values, in text order.
+/// The keys of a map that are left, with their values, in text order, as [`Item::get_map_items`] answers them.
 #[derive(Drop)]
 pub struct MapItems<'t, 'a> {
     row: Option<Iter<'t, (Kp<'a>, Msc<'a>)>>,

@@ -3,7 +3,7 @@ use crate::tree::{Item, Items, Kp, Pairs, Sequence};
 use cbor_edn_parts::space::Msc;
 use std::slice::IterMut;
 
-/// The items of an array, lent in text order.
+/// The items of an array that are left to lend, in text order, as [`Item::get_array_items_mut`] answers them.
 #[derive(Drop)]
 pub struct ArrayItemsMut<'t, 'a> {
     row: Option<IterMut<'t, (Item<'a>, Msc<'a>)>>,
@@ -55,7 +55,7 @@ impl<'t, 'a> Iterator for ArrayItemsMut<'t, 'a> {
     }
 }
 
-/// The keys of a map with their values, lent in text order.
+/// The keys of a map that are left to lend, with their values, in text order, as [`Item::get_map_items_mut`] answers them.
 #[derive(Drop)]
 pub struct MapItemsMut<'t, 'a> {
     row: Option<IterMut<'t, (Kp<'a>, Msc<'a>)>>,
@@ -109,7 +109,7 @@ impl<'t, 'a> Iterator for MapItemsMut<'t, 'a> {
     }
 }
 
-/// The items of a sequence, lent in text order.
+/// The items of a sequence that are left to lend, in text order, as `Sequence::get_items_mut` answers them.
 #[derive(Drop)]
 pub struct SequenceItemsMut<'t, 'a> {
     items: ArrayItemsMut<'t, 'a>,

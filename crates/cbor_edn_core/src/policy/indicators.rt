@@ -31,7 +31,9 @@ impl<'a> Item<'a> {
 }
 
 impl<'a> Sequence<'a> {
-    /// Takes every encoding indicator of the items away, as it is done of one item.
+    /// Takes every encoding indicator of the items away but those inside embedded sequences; `(_` of a stream stays. Where the items
+    /// meant values, they mean ones that are the same but for their heads (`laws::bare_items`). Fails where memory runs out; some
+    /// indicators may be gone then.
     pub fn discard_encoding_indicators(&mut self, alloc: Global) -> Result<(), AllocError>
         ensures without_indicators { OnOk result (sequence_tree self.new ≡ without_indicators (sequence_tree self.old)) }
         ensures fewer { Fewer (items (sequence_tree self.old)) (items (sequence_tree self.new)) }

@@ -20,12 +20,13 @@ use cbor_edn_parts::error::{CallbackError, Fault};
 use cbor_edn_parts::space::{Msc, TakesComment};
 use std::alloc::{AllocError, Global};
 
-/// What is done with the value of a key, once.
+/// What a visit of a map does with the value of a key, once: it is in the answer at that key, and spent on the value.
 pub trait MapValueHandler<'a>: Drop {
     // what it may answer at an item, and leave of it
     ghost handles: { Self → Item → Result (Option (String Global)) CallbackError → Item → Type 0 };
 
-    /// Changes the value. A text in the answer, also one in `CallbackError::Comment`, becomes a comment behind the value.
+    /// Changes the value. A text in the answer, also one in `CallbackError::Comment`, becomes a comment behind the value;
+    /// `CallbackError::Memory` ends the visit.
     fn handle(self, alloc: Global, value: &mut Item<'a>) -> Result<Option<String>, CallbackError>
         ensures { handles self value.old result value.new };
 }
@@ -125,11 +126,10 @@ fn visit_list<
 }
 
 impl<'a> Item<'a> {
-    /// Calls `f` at each key of a map in text order. Where its answer has a handler, this is spent on the key's value before the
-    /// next key; other values are passed over. A text in an answer, also one in `CallbackError::Comment`, becomes a comment: that of
-    /// a key in front of the space before the colon, that of a handler in front of the space that follows the value. Fails with
-    /// `Map` before any call where the item is none, and at the first answer `CallbackError::Memory`, or where memory runs out for a
-    /// comment: the calls up to there are made then.
+    /// Calls `f` at each key of a map in text order. A handler in its answer is spent on the key's value before the next key; other
+    /// values are passed over. A text in an answer, also one in `CallbackError::Comment`, becomes a comment: a key's in front of the
+    /// space before the colon, a handler's in front of the space behind the value. Fails with `Map` before any call where the item is
+    /// none, and at the first want of memory: the calls up to there are made then.
     pub fn visit_map_elements<
         H: MapValueHandler<'a>,
         F: FnMut(&mut Item<'a>) -> Result<(Option<String>, Option<H>), CallbackError>,

@@ -7,7 +7,7 @@ use crate::cbor::{Width, float_bits};
 use crate::word::NonFinite;
 use cbor_edn_parts::indicator::Indicator;
 
-/// The number with these bits, where it is one of the three.
+/// The number with these bits in two, four or eight bytes: an infinity, or the NaN without sign and payload. None for any other.
 pub fn non_finite(width: Width, bits: u64) -> Option<NonFinite>
     ensures { result ≡ reading.float_of width bits }
 {
@@ -22,7 +22,7 @@ pub fn non_finite(width: Width, bits: u64) -> Option<NonFinite>
     }
 }
 
-/// The indicator of a floating-point number, which is always printed.
+/// The indicator of a floating-point number of two, four or eight bytes, which is always printed: `_1`, `_2` or `_3`.
 pub fn float_indicator(width: Width) -> Option<Indicator>
     ensures { result ≡ decoded.float_indicator width }
 {

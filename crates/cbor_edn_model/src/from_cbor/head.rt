@@ -9,11 +9,14 @@ use crate::cbor::Width;
 use cbor_edn_parts::error::Fault;
 use cbor_edn_parts::indicator::Indicator;
 
+/// The argument of a head and the bytes that it takes, or none for indefinite length and for a break.
 pub type Argument = Option<(Width, u64)>;
 
+/// A head: the major type, 0 to 7, and the argument (RFC 8949, section 3).
 pub type Head = (u8, Argument);
 
-/// The head at the front.
+/// The head at the front, and the bytes behind it. Fails with `OutOfData` where there are no bytes, with `MissingArgument` where they end
+/// inside the argument, and with `Reserved`.
 #[tactic(auto, unfolding(crate::specs::code::CborReading::head_at))]
 pub fn head_of(bytes: &[u8]) -> Result<(Head, &[u8]), Fault<CborError>>
     ensures exact { DecoderGives (λ x. (x.0, x.1.now)) result (head_at bytes.now) }
@@ -76,7 +79,7 @@ pub enum Stop {
     EndOfData,
 }
 
-/// What follows the end of a row, where it stands at the front.
+/// The bytes behind the end of a row, where that end stands at the front, else none.
 pub fn past_stop(stop: Stop, bytes: &[u8]) -> Option<&[u8]>
     ensures value { option_map (λ x. x.now) result ≡ reading.past stop bytes.now }
     ensures shorter { IfSome result (λ x. length x.now ≤ length bytes.now) }
@@ -88,7 +91,7 @@ pub fn past_stop(stop: Stop, bytes: &[u8]) -> Option<&[u8]>
     }
 }
 
-/// The indicator of a head: none where no narrower one would do.
+/// The indicator that a head is shown with: `_` for indefinite length, and none where no narrower head would do.
 pub fn indicator_of(argument: Argument) -> Option<Indicator>
     ensures { result ≡ argument_indicator argument }
 {

@@ -14,7 +14,7 @@ use crate::looks::Looks;
 use crate::scan::scan;
 use crate::text::Text;
 
-/// The number at a place, and the place behind it.
+/// The longest number at a place, and the place behind it. Refused as invalid where none stands there, at the byte that leads no further.
 pub fn number_at<'a>(
     text: &Text<'a>,
     from: usize,

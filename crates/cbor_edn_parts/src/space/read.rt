@@ -48,7 +48,9 @@ pub fn separator<'a>(
 /// Where an item ends, and where the space behind it does, if that is read.
 #[derive(Clone, Copy)]
 pub struct End {
+    /// The place behind the item, in bytes.
     pub item: usize,
+    /// The place behind the optional space that follows the item, in bytes, if it is known.
     pub space: Option<usize>,
 }
 

@@ -13,8 +13,8 @@ use crate::leaf_text::LeafText;
 use std::alloc::{AllocError, Global};
 
 impl<'a> Literal<'a> {
-    /// A prefix, and a text between single quotes: line feeds and what is from U+0020 upward as they are, but for `'`, `\` and
-    /// `"`. Fails where the prefix is none of the grammar, and where memory runs out.
+    /// The literal of a prefix, and of a text between single quotes: line feeds and what is from U+0020 upward as they are, but for `'`,
+    /// `\` and `"`. Fails with `InvalidIdentifier` where the prefix is none of the grammar, and where memory runs out.
     pub fn application(
         alloc: Global,
         prefix: &str,

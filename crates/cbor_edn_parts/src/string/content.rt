@@ -13,8 +13,9 @@ use crate::error::{Fault, InconsistentEdn};
 use std::alloc::{AllocError, Global};
 
 impl Literal<'_> {
-    /// The kind and the bytes of the string that the literal stands for. Fails where its prefix is not one of `h`, `b64`,
-    /// `b32` and `h32`, where its text is not one of its prefix, and where memory runs out.
+    /// The kind and the bytes of the string that the literal stands for: those of `b64`, `b32` and `h32` by RFC 4648. Fails with
+    /// `UnsupportedLiteral` for any prefix but these and `h`, with `UndecodableContent` where the text is not one of its prefix, and
+    /// where memory runs out.
     pub fn content(&self, alloc: Global) -> Result<(StringKind, Vec<u8>), Fault<InconsistentEdn>>
         ensures content { IfOk result (λ p. HasContent (literal_bytes self.now) p.0 p.1.items) }
         ensures none { IfTold result (λ e. NoContent (literal_bytes self.now)) }
@@ -56,7 +57,7 @@ impl Literal<'_> {
         is_supported_prefix(self.prefix())
     }
 
-    /// The kind of the string that the literal stands for, where it stands for one.
+    /// The kind of the string that the literal stands for: text between double quotes, else bytes.
     pub fn kind(&self) -> StringKind
         ensures { result ≡ reading.literal_kind (literal_bytes self.now) }
     {

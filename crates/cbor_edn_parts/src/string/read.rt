@@ -14,7 +14,7 @@ use crate::looks::Looks;
 use crate::scan::scan;
 use crate::text::Text;
 
-/// The literal at a place, and the place behind it.
+/// The literal at a place, and the place behind it. Refused as invalid where none stands there, at the byte that leads no further.
 pub fn literal_at<'a>(
     text: &Text<'a>,
     from: usize,
@@ -31,7 +31,7 @@ pub fn literal_at<'a>(
     Ok((Literal { text }, to))
 }
 
-/// The dots at a place, all that stand there, and the place behind them.
+/// The dots at a place, all that stand there, and the place behind them. Refused as invalid where fewer than three stand there.
 pub fn dots_at<'a>(
     text: &Text<'a>,
     from: usize,

@@ -1,4 +1,4 @@
-//! The same of bytes that encode one item.
+//! Bytes that encode one item: decoded and encoded again, which gives the same bytes.
 ghost use Rattle.std.specs.Prelude.{◌≡◌, ◌≢◌, ℕ, List, Some, IfOk};
 ghost use Rattle.std.specs.String.{string_bytes};
 ghost use Rattle.cbor_edn_parts.specs.Refusals.{IfTold};
@@ -17,8 +17,8 @@ use cbor_edn_parts::error::Fault;
 use cbor_edn_parts::policy::DelimiterPolicy;
 use std::alloc::{AllocError, Global};
 
-/// The bytes that the item of an encoding is encoded as, by way of its text, which has the spaces of each policy in turn and is
-/// parsed again. Fails as `StandaloneItem::from_cbor` does, and where memory runs out.
+/// The bytes that the item of an encoding is encoded as by way of its text, which has the spaces of each policy in turn and is parsed
+/// again: those that were given. Fails as `StandaloneItem::from_cbor` does, and where memory runs out.
 pub fn recoded_by_text(
     alloc: Global,
     bytes: &[u8],
