@@ -329,6 +329,8 @@ const NO_RUNS: &[&[&str]] = &[
     &["cbor-edn", "cbor2diag", "--max-nesting", "513"],
     &["cbor-edn", "cbor2diag", "--max-nesting", "x"],
     &["cbor-edn", "cbor2diag", "--max-nesting=-1"],
+    &["cbor-edn", "diag2diag", "--max-nesting", "+5"],
+    &["cbor-edn", "diag2cbor", "--max-nesting=+0"],
     &["cbor-edn", "cbor2diag", "--max-nesting", ""],
     &["cbor-edn", "cbor2diag", "a", "b", "c"],
 ];
