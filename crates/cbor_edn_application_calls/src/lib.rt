@@ -1,12 +1,11 @@
-//! Public calls of literals, annotations and lists of edits, under their own clauses. Bodies that these clauses refuse stand in
+//! Public calls of literals and annotations, under their own clauses. Bodies that these clauses refuse stand in
 //! `must-fail/`: a check here is that of a small crate, and what a clause refuses here it refuses where the call is written.
 #![tactic(auto)]
 
-ghost use Rattle.std.specs.Prelude.{◌≡◌, Ok, Err, IfOk, IfErr, OnOk, option_map};
+ghost use Rattle.std.specs.Prelude.{◌≡◌, Ok, Err, IfOk, OnOk, option_map};
 ghost use Rattle.std.specs.String.{string_bytes};
 ghost use Rattle.cbor_edn_parts.specs.Refusals.{IfTold};
 ghost use Rattle.cbor_edn_model.specs.Seeking.{number, prefix_and_text};
-ghost use Rattle.cbor_edn_model.specs.Trees.{items};
 ghost use Rattle.cbor_edn_core.specs.Callbacks.{answer_of, handler_of, key_answer};
 ghost use Rattle.cbor_edn_core.specs.Sought.{told_answer};
 ghost use Rattle.cbor_edn_core.specs.View.{item_tree, sequence_tree};
@@ -19,15 +18,11 @@ ghost use Rattle.cbor_edn_conversions.specs.Times.{pretty_time};
 ghost use Rattle.cbor_edn_application.specs.Acts.{ActsBy};
 ghost use Rattle.cbor_edn_application.specs.Handlers.{at_claim, KeyAnswers, ValueAnswers};
 ghost use Rattle.cbor_edn_application.specs.Sequences.{with_claims_sets};
-ghost use Rattle.cbor_edn_script.specs.EditedItems.{Edited};
-ghost use Rattle.cbor_edn_script.specs.Edits.{AreEdited, AreBegun};
-ghost use Rattle.cbor_edn_script.specs.ReadingBack.{ReadsBackSequence};
 
 use cbor_edn_application::{CcsHandler, IpVersion};
 use cbor_edn_core::tree::{Item, Sequence};
 use cbor_edn_core::visitor::MapValueHandler;
 use cbor_edn_parts::error::{CallbackError, Fault};
-use cbor_edn_script::{Edit, ScriptError};
 use std::alloc::{AllocError, Global};
 
 /// `ip_aol_to_item`.
@@ -118,18 +113,4 @@ pub fn annotate_claims_sets(alloc: Global, sequence: &mut Sequence<'_>) -> Resul
     ensures { OnOk result (sequence_tree sequence.new ≡ with_claims_sets (sequence_tree sequence.old)) }
 {
     cbor_edn_application::visits::annotate_claims_sets(alloc, sequence)
-}
-
-/// `run`.
-pub fn run<'a>(
-    alloc: Global,
-    sequence: &mut Sequence<'a>,
-    edits: Vec<Edit<'a>>,
-) -> Result<(), ScriptError>
-    ensures edited { OnOk result (AreEdited edits.entry.items (sequence_tree sequence.old) (sequence_tree sequence.new)) }
-    ensures items { OnOk result (Edited edits.entry.items (items (sequence_tree sequence.old)) (items (sequence_tree sequence.new))) }
-    ensures refused { IfErr result (λ e. AreBegun edits.entry.items e.done (sequence_tree sequence.old) (sequence_tree sequence.new)) }
-    ensures read_back { ReadsBackSequence (sequence_tree sequence.new) }
-{
-    cbor_edn_script::run(alloc, sequence, edits)
 }

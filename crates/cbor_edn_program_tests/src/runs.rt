@@ -134,16 +134,17 @@ fn by_source(alloc: Global, row: &Row, call: usize) -> (bool, bool) {
 }
 
 // The same of a reader of std.
-fn by_reader(alloc: Global, row: &Row, failure: Failure, call: usize) -> (bool, bool) {
-    let &(command, are_on, input, output) = row;
+fn by_reader(
+    alloc: Global,
+    options: &Options,
+    input: &[u8],
+    output: &[u8],
+    failure: Failure,
+    call: usize,
+) -> (bool, bool) {
     let mut reader = SlowReader::new(input, STEP, failure, call);
     let mut sink = StdSink::new(Vec::new(alloc));
-    let result = run(
-        alloc,
-        &options_of(command, are_on),
-        &mut StdSource::new(&mut reader),
-        &mut sink,
-    );
+    let result = run(alloc, options, &mut StdSource::new(&mut reader), &mut sink);
     let written = sink.into_inner();
     match result {
         Err(RunError::Read) => (
@@ -208,7 +209,17 @@ fn by_device(alloc: Global, row: &Row, device: Device, call: usize) -> (bool, bo
     match device {
         Device::Source => by_source(alloc, row, call),
         Device::Sink => by_sink(alloc, row, call),
-        Device::Reader(failure) => by_reader(alloc, row, failure, call),
+        Device::Reader(failure) => {
+            let &(command, are_on, input, output) = row;
+            by_reader(
+                alloc,
+                &options_of(command, are_on),
+                input,
+                output,
+                failure,
+                call,
+            )
+        }
         Device::Writer(failure) => by_writer(alloc, row, failure, call),
     }
 }
