@@ -1,10 +1,11 @@
 //! Functions that are called alone, at one item.
 use cbor_edn_application::{
-    CcsHandler, IpVersion, all_aol_to_item, all_tag_prettify, any_aol_to_tag999, comment_ccs,
-    comment_lang_tag, dt_aol_to_item, dt_item_to_aol, dt_tag_to_aol, ip_aol_to_item,
-    ip_item_to_aol, ip_tag_to_aol, tag23_to_edn_integer,
+    CcsHandler, CnfHandler, IpVersion, OscHandler, all_aol_to_item, all_tag_prettify,
+    any_aol_to_tag999, comment_ccs, comment_lang_tag, dt_aol_to_item, dt_item_to_aol,
+    dt_tag_to_aol, ip_aol_to_item, ip_item_to_aol, ip_tag_to_aol, tag23_to_edn_integer,
 };
 use cbor_edn_core::tree::{Item, StandaloneItem};
+use cbor_edn_core::visitor::MapValueHandler;
 use cbor_edn_expect::failures::Failures;
 use cbor_edn_expect::{expect, expect_text};
 use cbor_edn_parts::error::{CallbackError, Fault};
@@ -245,4 +246,89 @@ fn key_of_a_claim(rt: HostRuntime) -> Result<(), Fail> {
         matches!(&name, Some(name) if name.as_str() == "exp"),
     )?;
     expect("handler", matches!(&handler, Some(CcsHandler::Timestamp)))
+}
+
+/// A handler of a value.
+#[derive(Clone, Copy, Debug)]
+enum Handler {
+    Claim(CcsHandler),
+    Confirmation(CnfHandler),
+    Parameter(OscHandler),
+}
+
+fn handle(
+    alloc: Global,
+    by: Handler,
+    value: &mut Item<'_>,
+) -> Result<Option<String>, CallbackError> {
+    match by {
+        Handler::Claim(handler) => handler.handle(alloc, value),
+        Handler::Confirmation(handler) => handler.handle(alloc, value),
+        Handler::Parameter(handler) => handler.handle(alloc, value),
+    }
+}
+
+/// The comment that a handler answers, or nothing. Fails where there is no value, and where the handler fails.
+fn answer_of(
+    alloc: Global,
+    by: Handler,
+    value: Option<&mut Item<'_>>,
+) -> Result<Option<String>, Fail> {
+    let Some(value) = value else {
+        return Err(Fail::new("no value"));
+    };
+    match handle(alloc, by, value) {
+        Ok(comment) => Ok(comment),
+        Err(CallbackError::Comment(comment)) => Err(Fail::new(comment)),
+        Err(CallbackError::Memory(refused)) => Err(Fail::from(refused)),
+    }
+}
+
+/// The text of a value behind its handler, and the comment that this answers.
+fn handled(alloc: Global, text: &str, by: Handler) -> Result<String, Fail> {
+    let mut value = Box::new(alloc, StandaloneItem::parse(alloc, text)?)?;
+    let comment = answer_of(alloc, by, value.at_mut(&[]))?;
+    let mut told = value.serialize(alloc)?;
+    if let Some(comment) = comment {
+        told.push_str(" ")?;
+        told.push_str(comment.as_str())?;
+    }
+    Ok(told)
+}
+
+/// RFC 8392, section 3 (times), RFC 8747, section 3.1, and RFC 9203, section 3.2.1, with names of the IANA registries.
+const HANDLED: &[(&str, Handler, &str)] = &[
+    (
+        "42",
+        Handler::Claim(CcsHandler::Timestamp),
+        "dt'1970-01-01T00:00:42+00:00'",
+    ),
+    (
+        "{3: h'01', 4: {4: 10}}",
+        Handler::Claim(CcsHandler::Cnf),
+        "{3/ kid /: h'01', 4/ osc /: {4/ alg /: 10/ AES-CCM-16-64-128 /}}",
+    ),
+    (
+        "{0: h'01', 5: h'02'}",
+        Handler::Confirmation(CnfHandler::Osc),
+        "{0/ id /: h'01', 5/ salt /: h'02'}",
+    ),
+    (
+        "10",
+        Handler::Parameter(OscHandler::Algorithm),
+        "10 AES-CCM-16-64-128",
+    ),
+    ("9", Handler::Parameter(OscHandler::Algorithm), "9"),
+];
+
+#[test]
+fn handlers(rt: HostRuntime) -> Result<(), Fail> {
+    let alloc = rt.alloc();
+    let mut failures = Failures::new(alloc);
+    for &(text, by, wanted) in HANDLED {
+        let row = format!(in alloc; "{by:?} at {text}")?;
+        let told = handled(alloc, text, by)?;
+        failures.row(alloc, row.as_str(), told.as_str(), wanted)?;
+    }
+    failures.end()
 }

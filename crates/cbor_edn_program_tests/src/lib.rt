@@ -8,6 +8,8 @@ mod commands;
 #[cfg(test)]
 mod devices;
 #[cfg(test)]
+mod ends;
+#[cfg(test)]
 mod recoding;
 #[cfg(test)]
 mod runs;
