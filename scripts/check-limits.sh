@@ -3,21 +3,21 @@
 #
 # usage: scripts/check-limits.sh [PROGRAM [MEGABYTES]]
 #
-# Without PROGRAM it is the working tree's. MEGABYTES is the size of each flat input whose memory is measured, 4 without it; 64 takes
-# 3 GB of memory, and some minutes. The bounds are the tables of docs/PERFORMANCE.md: of 1 MB, from 64 on of 64 MB. The last line is
-# 'N passed, M failed'.
+# Without PROGRAM it is the working tree's. MEGABYTES is the size of each flat input whose memory is measured, 64 without it: that takes
+# 2.5 CPU minutes, and up to 7 GB of memory, since three kinds are measured side by side. The bounds are the tables of
+# docs/PERFORMANCE.md: from 64 on that of 64 MB, below that of 1 MB. The last line is 'N passed, M failed'.
 set -euo pipefail
 
 cd "$(dirname "$(readlink -f "$0")")/.."
 # shellcheck source=scripts/program.sh
 . scripts/program.sh "${1-}"
-exec python3 -B - "$program" "${2-4}" << 'EOF_PYTHON'
-import ctypes
+exec python3 -B - "$program" "${2-64}" << 'EOF_PYTHON'
 import os
 import resource
 import subprocess
 import sys
 import tempfile
+from concurrent.futures import ThreadPoolExecutor
 
 sys.path.insert(0, "scripts")
 from inputs import FLAT
@@ -28,7 +28,6 @@ LIMIT = 512
 COUNT = 100_000
 # A refusal takes some 5 milliseconds.
 MOST_SECONDS = 0.2
-SUBREAPER = 36  # prctl's word: orphans below this process become its children
 
 TOO_DEEP = "cbor-edn: Error parsing input data: EDN nested too deeply in line 1 column {} (byte {})\n"
 INVALID = "cbor-edn: Error parsing input data: Invalid EDN in line 1 column {} (byte {})\n"
@@ -253,37 +252,51 @@ def stated():
 
 def measure(words, source, sink):
     """Runs the program from file to file. Answers its status and its peak of memory in bytes."""
-    # A peak begins with what the process had before its exec: so setsid starts it, which is small, ends at once and leaves it here.
     files = [(os.POSIX_SPAWN_OPEN, 0, source, os.O_RDONLY, 0), (os.POSIX_SPAWN_OPEN, 1, sink, os.O_WRONLY | os.O_CREAT | os.O_TRUNC, 0o600)]
-    starter = os.posix_spawnp("setsid", ["setsid", "--fork", PROGRAM, *words], os.environ, file_actions=files)
-    ended = {}
-    while len(ended) < 2:
-        process, status, usage = os.wait4(-1, 0)
-        ended[process] = os.waitstatus_to_exitcode(status), usage.ru_maxrss * KB
-    del ended[starter]
-    return next(iter(ended.values()))
+    _, status, usage = os.wait4(os.posix_spawn(PROGRAM, [PROGRAM, *words], os.environ, file_actions=files), 0)
+    return os.waitstatus_to_exitcode(status), usage.ru_maxrss * KB
 
 
-def check_memory(work):
-    if ctypes.CDLL(None).prctl(SUBREAPER, 1, 0, 0, 0) != 0:
-        sys.exit("check-limits: prctl refuses")
-    numbers = stated()
-    text_file, bytes_file = f"{work}/text", f"{work}/bytes"
-    print(f"{'peak memory':18}" + "".join(f"{command + ', MB':>16}{'per byte':>10}" for command in ("diag2cbor", "diag2diag", "cbor2diag")))
-    for kind, text in FLAT.items():
+COMMANDS = ["diag2cbor", "diag2diag", "cbor2diag"]
+# Kinds that are measured side by side, as far as there are processors. The three that take most take 6.7 GB together, of 64 MB each.
+SIDE_BY_SIDE = 3
+
+
+def measure_kind(kind, numbers):
+    """Runs each command on a kind, where a number is stated. Answers its input's size, the number, the status and the peak, or None."""
+    found = []
+    with tempfile.TemporaryDirectory() as work:
+        text_file, bytes_file = f"{work}/text", f"{work}/bytes"
         with open(text_file, "wb") as file:
-            file.write(text(SIZE))
-        row = f"{kind:18}"
-        for words, stated_bytes in zip((["diag2cbor"], ["diag2diag"], ["cbor2diag"]), numbers[kind]):
-            if stated_bytes is None:
+            subprocess.run([sys.executable, "-B", "scripts/inputs.py", kind, str(SIZE)], stdout=file, check=True)
+        for command, number in zip(COMMANDS, numbers):
+            if number is None:
+                found.append(None)
                 continue
-            source = bytes_file if words == ["cbor2diag"] else text_file
-            status, peak = measure(words, source, bytes_file if words == ["diag2cbor"] else os.devnull)
-            size = os.path.getsize(source)
-            row += f"{peak / 1e6:16.0f}{peak / size:10.1f}"
-            most = size * stated_bytes * ROOM + PROGRAM_SIZE
-            count(f"{words[0]} of {kind}, {size} bytes", f"status {status}, {peak} bytes of memory" if status != 0 or peak > most else None)
-        print(row, flush=True)
+            source = bytes_file if command == "cbor2diag" else text_file
+            status, peak = measure([command], source, bytes_file if command == "diag2cbor" else os.devnull)
+            found.append((os.path.getsize(source), number, status, peak))
+    return found
+
+
+def check_memory():
+    """Holds each peak of memory against the number that is stated.
+
+    A peak begins with what the process had that starts the program, some 16 MB here, so a smaller one is not seen. This comes first,
+    and other processes make the texts, so that it is no more."""
+    numbers = stated()
+    print(f"{'peak memory':18}" + "".join(f"{command + ', MB':>16}{'per byte':>10}" for command in COMMANDS))
+    with ThreadPoolExecutor(min(SIDE_BY_SIDE, os.cpu_count() or 1)) as pool:
+        for kind, found in zip(FLAT, pool.map(measure_kind, FLAT, (numbers[kind] for kind in FLAT))):
+            row = f"{kind:18}"
+            for command, one in zip(COMMANDS, found):
+                if one is None:
+                    continue
+                size, number, status, peak = one
+                row += f"{peak / 1e6:16.0f}{peak / size:10.1f}"
+                most = size * number * ROOM + PROGRAM_SIZE
+                count(f"{command} of {kind}, {size} bytes", f"status {status}, {peak} bytes of memory" if status != 0 or peak > most else None)
+            print(row, flush=True)
 
 
 # Kinds and flags whose memory is refused at one size after the other.
@@ -353,14 +366,13 @@ def check_slowest():
             count(f"{' '.join(words)} of {name}, {depth} deep", seconds if ended.status == 0 else f"status {ended.status}, said {ended.said[:200]!r}")
 
 
-with tempfile.TemporaryDirectory() as work:
-    check_depths()
-    check_floods()
-    check_counts()
-    check_starved()
-    check_endless()
-    check_slowest()
-    check_memory(work)
+check_memory()
+check_depths()
+check_floods()
+check_counts()
+check_starved()
+check_endless()
+check_slowest()
 print(f"{passed} passed, {failed} failed")
 raise SystemExit(failed != 0)
 EOF_PYTHON

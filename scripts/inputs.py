@@ -1,4 +1,8 @@
-"""The kinds of flat text that scripts/bench.sh and scripts/check-limits.sh measure."""
+"""The kinds of flat text that scripts/bench.sh and scripts/check-limits.sh measure.
+
+Called as a program, with a kind and a size in bytes, it writes one."""
+
+import sys
 
 
 def fill(begin, units, between, end):
@@ -39,3 +43,7 @@ FLAT = {
     "comments": sequence("/ words of a comment /   1 # to the end of the line\n", "2 /c/\t"),
     "one space": fill("1 ", ["/ words of a comment /", "# a line\n"], " ", ""),
 }
+
+
+if __name__ == "__main__":
+    sys.stdout.buffer.write(FLAT[sys.argv[1]](int(sys.argv[2])))
