@@ -1,6 +1,7 @@
 #!/usr/bin/env bash
 # Lists the public calls of the library from its sources, and looks that a crate of tests makes each of them, and that a crate
-# *_memory, in which scripts/refuse-memory.sh refuses allocations, makes each of those that take memory.
+# *_memory, in which scripts/refuse-memory.sh refuses allocations, makes each of those that take memory. Those that take none stand in its
+# file free.rt, in which all requests are refused, but for what prints or moves bytes by something of the caller's.
 #
 # usage: scripts/check-surface.sh [--list]
 #
@@ -17,32 +18,34 @@ cd "$(dirname "$(readlink -f "$0")")/../crates"
 exec python3 - "$@" <<'PYTHON'
 import glob, os, re, sys
 
+
+# What going over the parts that a call lends looks like.
+def over(call):
+    return rf"\bin \w+\.{call}\(|= \w+\.{call}\([^}}]*(\bitems\.next\(|\bin (items|pairs)\b)"
+
+
 # Calls that have no name of their own in the text, as those by a trait or a `?`, or one that other types have too: what each looks like.
-# A second word is the file to look in, for what a crate of tests reaches by another call only.
 SHAPES = {
-    "PartialEq for Item": r"\*item == \*other", "PartialEq for StandaloneItem": r"\*copy == \*item", "PartialEq for Sequence": r"\bcopy == \*sequence",
+    "PartialEq for Item": r"\*item == \*other|\*alone\.item\(\) == \*alone\.item\(\)",
+    "PartialEq for StandaloneItem": r"\*copy == \*item|\*alone == \*alone\b", "PartialEq for Sequence": r"\bcopy == \*sequence|\*sequence == \*sequence",
     "Debug for Item": r"\{item:\?\}", "Debug for StandaloneItem": r"\{alone:\?\}", "Debug for Sequence": r"\{tree:\?\}",
-    "Iterator for ArrayItems": r"\bin \w+\.get_array_items\(", "Iterator for ArrayItemsMut": r"= array\.get_array_items_mut\([^}]*\bitems\.next\(",
-    "Iterator for MapItems": r"\bin \w+\.get_map_items\(", "Iterator for MapItemsMut": r"\bin \w+\.get_map_items_mut\(",
-    "Iterator for SequenceItemsMut": r"= sequence\.get_items_mut\([^}]*\bitems\.next\(",
+    "Iterator for ArrayItems": over("get_array_items"), "Iterator for ArrayItemsMut": over("get_array_items_mut"),
+    "Iterator for MapItems": over("get_map_items"), "Iterator for MapItemsMut": over("get_map_items_mut"),
+    "Iterator for SequenceItemsMut": over("get_items_mut"),
     "Source for StdSource": r"\brun\([^;]*\bStdSource::new\(", "Sink for StdSink": r"\brun\([^;]*\bStdSink::new\(",
     "From<Item> for StandaloneItem": r"\bStandaloneItem::from\(", "From<TryFromIntError> for InconsistentEdn": r"\bInconsistentEdn::from\(",
-    "From<AllocError> for CallbackError": r"-> Result<[^{;]*\bCallbackError>\s*\{[^}]*\?",
-    "From<AllocError> for Fault": r"-> Result<[^{;]*\bFault<\w+>> \{[^}]*\?",
-    "From<AllocFailed<T>> for Fault": (r"\bfound\.push\(\w+\)\?", "cbor_edn_core/src/from_cbor/reader.rt"),
-    "From<AllocError> for RunError": (r"sequence\.serialize\(alloc\)\?", "cbor_edn_uses/src/lib.rt"),
-    "From<Fault<CborError>> for RunError": (r"Sequence::from_cbor\(alloc, bytes\)\?", "cbor_edn_uses/src/lib.rt"),
-    "From<Fault<ParseError>> for RunError": (r"\bSequence::parse\(alloc, text\)\?", "cbor_edn_uses/src/lib.rt"),
-    "From<Fault<InconsistentEdn>> for RunError": (r"\bsequence\.to_cbor\(alloc\)\?", "cbor_edn_uses/src/lib.rt"),
-    "From<Fault<DeviceFault>> for RunError": (r"\bread_all\(.*\)\?", "cbor_edn/src/engine.rt"),
+    "From<AllocError> for CallbackError": r"-> Result<[^{;]*\bCallbackError>\s*\{[^}]*\?|\bCallbackError::from\(AllocError\)",
+    "From<AllocError> for Fault": r"-> Result<[^{;]*\bFault<\w+>> \{[^}]*\?|\bFault::from\(AllocError\)",
+    "From<AllocFailed<T>> for Fault": r"\bFault::from\(AllocFailed \{", "From<AllocError> for RunError": r"\bRunError::from\(AllocError\)",
+    **{f"From<Fault<{fault}>> for RunError": rf"\bfault: Fault<{fault}> = [^}}]*?\bRunError::from\(fault\)"
+       for fault in ("CborError", "ParseError", "InconsistentEdn", "DeviceFault")},
     "Display for ParseError": r"\brefused\.too_deep\([^}]*\brefused\.to_string\(", "Display for InconsistentEdn": r"refused: InconsistentEdn,[^}]*\brefused\.to_string\(",
     "Display for CborError": r"\bCborError::TooDeep\.to_string\(", "Display for TypeMismatch": r"\bno_array\.to_string\(",
     "Display for CallbackError": r"\blet comment = CallbackError::Comment\([^}]*\bcomment\.to_string\(",
     "Display for ScriptError": r"\bScriptError \{ done: 2 \}[^}]*\brefused\.to_string\(",
     "Display for RunError": r"\(RunError::[^]]*\][^}]*\bfault\.to_string\(",
-    "MapValueHandler for CcsHandler": (r"\bAct::Claim\(handler\) => handler\.handle\(", "cbor_edn_memory/src/acts.rt"),
-    "MapValueHandler for CnfHandler": (r"\bAct::Confirmation\(handler\) => handler\.handle\(", "cbor_edn_memory/src/acts.rt"),
-    "MapValueHandler for OscHandler": (r"\bAct::Parameter\(handler\) => handler\.handle\(", "cbor_edn_memory/src/acts.rt"),
+    "MapValueHandler for CcsHandler": r"::Claim\(handler\) => handler\.handle\(", "MapValueHandler for CnfHandler": r"::Confirmation\(handler\) => handler\.handle\(",
+    "MapValueHandler for OscHandler": r"::Parameter\(handler\) => handler\.handle\(",
     "Indicator::as_str": r"\bindicator\.as_str\(", "NamedSimple::as_str": r"\bnamed\.as_str\(",
     "ParseError::too_deep": r"\brefused\.too_deep\(", "CborError::too_deep": r"\bCborError::TooDeep\.too_deep\(",
     "ParseError::offset": r"\brefused\.offset\(", "ParseError::line": r"\brefused\.line\(", "ParseError::column": r"\brefused\.column\(",
@@ -274,15 +277,12 @@ def type_of(expression, known, local):
 
 # Whether a source shows what SHAPES says of a call.
 def is_shown(name, text):
-    return isinstance(SHAPES.get(name), str) and re.search(SHAPES[name], text) is not None
+    return name in SHAPES and re.search(SHAPES[name], text) is not None
 
 
 # The names of the calls that the sources of some crates make.
 def calls(pattern):
     made = set()
-    for name, shape in SHAPES.items():
-        if isinstance(shape, tuple) and ("memory" in shape[1] or "memory" not in pattern) and re.search(shape[0], "\n".join(lines_of(shape[1]))):
-            made.add(name)
     for path in glob.glob(pattern):
         found = list(functions(path))
         text = "\n".join(lines_of(path))
@@ -316,13 +316,17 @@ def calls(pattern):
     return made
 
 
-tested, refused = calls("cbor_edn_*_tests/src/*.rt"), calls("cbor_edn_*memory/src/*.rt")
+# What takes no memory but what a caller's reader, writer or formatter takes.
+DEVICES_AND_WORDS = r"(Debug|Display|Source|Sink) for |(Source|Sink|StdSource|StdSink|Count)::"
+tested, refused, free = calls("cbor_edn_*_tests/src/*.rt"), calls("cbor_edn_*memory/src/*.rt"), calls("cbor_edn_*memory/src/free.rt")
 passed, failed = 0, len(problems)
 for problem in problems:
     print(f"check-surface: {problem}")
 for name, (signature, _) in sorted(surface.items()):
     takes_memory = re.search(r"\balloc: |\bAllocError\b|\bFault<", signature)
     missing = ["no crate of tests"] * (name not in tested) + ["no crate *_memory"] * bool(takes_memory and name not in refused)
+    takes_none = not takes_memory and not re.match(DEVICES_AND_WORDS, name) or name.endswith("::set_delimiters")
+    missing += ["no free.rt of a crate *_memory"] * (takes_none and name not in free)
     passed, failed = passed + (not missing), failed + bool(missing)
     if missing or "--list" in sys.argv:
         print(f"check-surface: {name}: {' and '.join(missing) + ' makes this call' if missing else 'made'}")

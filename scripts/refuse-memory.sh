@@ -1,5 +1,5 @@
 #!/usr/bin/env bash
-# Refuses each allocation of a program of calls in turn, and looks at what the calls answer then.
+# Refuses each allocation of a program of calls in turn, then all of those that take none, and looks at what the calls answer then.
 #
 # usage: scripts/refuse-memory.sh CRATE [PROGRAM]
 #
@@ -9,13 +9,17 @@
 #
 # Where an allocation is refused, exactly one line must say so, and no line may say `wrong`. Where none is, each line must say
 # `done`. A collection that reserves by the hint of an iterator asks again for room for one item where that is refused, so that
-# all is done then too: the crate's file `hints` has the number of such runs, none where there is no file. The last line is 'N
-# passed, M failed', over the runs.
+# all is done then too: the crate's file `hints` has the number of such runs, none where there is no file.
+#
+# Calls that take no memory print a line `: ready` first. In one run each request from such a line to the next is refused: they are done
+# all the same, and make none. One call among them takes memory, and must say `refused`: so they were refused. The last line is 'N passed,
+# M failed', over the runs, and over these calls.
 set -euo pipefail
 
 cd "$(dirname "$(readlink -f "$0")")/.."
 crate=${1:?usage: scripts/refuse-memory.sh CRATE [PROGRAM]}
-calls=$(wc -l < "crates/$crate/stdout")
+calls=$(grep -c ': done$' "crates/$crate/stdout")
+control='a call that takes memory'
 hints=0
 [ ! -e "crates/$crate/hints" ] || read -r hints < "crates/$crate/hints"
 
@@ -42,17 +46,30 @@ refuse() {
 
 refuse 0 || give_up "a call fails where no memory is refused"
 diff "crates/$crate/stdout" "$work/runs/0" || give_up "a call is not done where no memory is refused"
-read -r allocations < "$work/allocations"
+read -r allocations _ < "$work/allocations"
+
+grep -qx "$control: ready" "crates/$crate/stdout" || give_up "no line says '$control: ready'"
+free=$(($(grep -c ': ready$' "crates/$crate/stdout") - 1))
+[ "$free" -gt 0 ] || give_up "no call that takes no memory is made"
+refuse ready || give_up "a call fails where each request is refused"
+mv "$work/runs/ready" "$work/ready"
+sed "s/^$control: done\$/$control: refused/" "crates/$crate/stdout" | diff - "$work/ready" \
+  || give_up "a call that takes no memory is not done where each request is refused, or none was refused"
+read -r _ refused < "$work/allocations"
+[ "$refused" = 1 ] || give_up "calls that take no memory asked for some: $refused requests were refused, and not one"
+
 for ((k = 1; k <= allocations; k++)); do
   refuse "$k" || echo "the program ended with status $?: wrong" >> "$work/runs/$k"
 done
 
-(cd "$work/runs" && awk -v calls="$calls" -v allocations="$allocations" -v hints="$hints" '
+(cd "$work/runs" && awk -v free="$free" -v calls="$calls" -v allocations="$allocations" -v hints="$hints" '
+  /: ready$/ { next }
   /: done$/ { done[FILENAME]++; next }
   /: refused$/ { refused[FILENAME]++; next }
   { wrong[FILENAME]++ }
   END {
-    passed = 1
+    # the run without a refusal, and the calls that were made with all refused
+    passed = 1 + free
     if (allocations == 0) { failed++; print "no allocation was refused" }
     for (k = 1; k <= allocations; k++) {
       if (wrong[k] == 0 && refused[k] == 1 && done[k] + 1 == calls) passed++
@@ -68,6 +85,6 @@ sed -n 's/^run \([0-9]*\):.*/\1/p' "$work/verdict" | head -n 3 | while read -r r
   echo "== allocation $run"
   grep -v ': done$' "$work/runs/$run" || true
 done
-echo "refuse-memory: $crate: each allocation refused in turn"
+echo "refuse-memory: $crate: each allocation refused in turn, then all of them in $free lines of calls that take none"
 cat "$work/verdict"
 tail -n 1 "$work/verdict" | grep -q ' 0 failed$'

@@ -1,6 +1,6 @@
 #!/usr/bin/env bash
 # All tests: where a text is read and which public calls are tested (two looks at the sources), each proof, edit that must fail, test and program (`rt ci`),
-# each allocation of the calls of the crates *_memory refused in turn, then the encodings of
+# each allocation of the calls of the crates *_memory refused in turn and all of them where none is taken, then the encodings of
 # another implementation, where it is installed, the examples, the help, the lines of faults, devices that fail, inputs
 # past the limits, random inputs, the launcher, the deepest nesting under small stacks, and calls from other languages. The last line is
 # 'N passed, M failed'. Where nothing failed, the program that was proved is left to ./cbor-edn. `docs/CONTRIBUTING.md`

@@ -1,14 +1,15 @@
-//! Calls that take no memory: whichever allocation is refused, each is done where its tree could be made.
+//! Calls that take no memory: each is done while every request for memory is refused.
 use crate::callbacks::{comment_elements, comment_keys};
 use crate::trees::{sequence_of, standalone_of};
 use cbor_edn_core::access::TypeMismatch;
+use cbor_edn_core::from_cbor::CborError;
 use cbor_edn_core::tree::{Indicator, Item, Sequence, StandaloneItem};
-use cbor_edn_expect::memory::Failure;
+use cbor_edn_expect::memory::{Failure, boxed};
 use cbor_edn_model::word::NamedSimple;
-use cbor_edn_parts::error::Fault;
+use cbor_edn_parts::error::{CallbackError, Fault, InconsistentEdn, ParseError, ParseErrorKind};
 use cbor_edn_parts::looks::Looks;
 use cbor_edn_parts::policy::DelimiterPolicy;
-use std::alloc::Global;
+use std::alloc::{AllocError, AllocFailed, Global};
 
 #[derive(Clone, Copy)]
 pub(crate) enum Group {
@@ -18,8 +19,11 @@ pub(crate) enum Group {
     Discarding,
     Mismatches,
     FromItem,
-    Place,
+    Refusals,
     Made,
+    Conversions,
+    /// A call that takes memory, by which it is seen that requests are refused.
+    Control,
 }
 
 /// A name, and a group of calls.
@@ -34,21 +38,69 @@ pub(crate) const FREE: &[Row] = &[
     ("set_delimiters with DiscardAll", Group::Discarding),
     ("visits of items of another type", Group::Mismatches),
     ("From<Item>", Group::FromItem),
-    ("line, column, offset, too_deep", Group::Place),
-    ("indented, Looks::new", Group::Made),
+    ("line, column, offset, too_deep", Group::Refusals),
+    ("indented, Looks, as_str", Group::Made),
+    ("From<AllocError> and the like", Group::Conversions),
+    ("a call that takes memory", Group::Control),
 ];
 
-/// Makes the calls of a row.
-pub(crate) fn called(alloc: Global, row: &Row) -> Result<bool, Failure> {
+/// What the calls of a row are made on. It is made before the first of them.
+#[derive(Drop)]
+pub(crate) enum Ready<'a> {
+    Parts(Box<StandaloneItem<'a>>),
+    Loans(Box<Sequence<'a>>),
+    Comparisons(Box<StandaloneItem<'a>>, Box<Sequence<'a>>),
+    Discarding(Box<StandaloneItem<'a>>, Box<Sequence<'a>>),
+    Mismatches(Box<StandaloneItem<'a>>),
+    FromItem(Box<Item<'a>>),
+    Refusals(ParseError),
+    Made,
+    Conversions,
+    Control,
+}
+
+/// Makes what the calls of a row are made on.
+pub(crate) fn prepared<'a>(alloc: Global, row: &Row) -> Result<Ready<'a>, Failure> {
     match row.1 {
-        Group::Parts => Ok(are_parts_answered(standalone_of(alloc, PARTS)?.item())),
-        Group::Loans => Ok(are_parts_lent(&mut *sequence_of(alloc, LENT)?)),
-        Group::Comparisons => compared(alloc),
-        Group::Discarding => discarded(alloc),
-        Group::Mismatches => mismatched(alloc),
-        Group::FromItem => from_item(alloc),
-        Group::Place => place(alloc),
-        Group::Made => Ok(is_made()),
+        Group::Parts => Ok(Ready::Parts(standalone_of(alloc, PARTS)?)),
+        Group::Loans => Ok(Ready::Loans(sequence_of(alloc, LENT)?)),
+        Group::Comparisons => {
+            let alone = standalone_of(alloc, PARTS)?;
+            Ok(Ready::Comparisons(alone, sequence_of(alloc, PARTS)?))
+        }
+        Group::Discarding => {
+            let alone = standalone_of(alloc, SPACED)?;
+            Ok(Ready::Discarding(alone, sequence_of(alloc, SPACED)?))
+        }
+        Group::Mismatches => Ok(Ready::Mismatches(standalone_of(alloc, "0")?)),
+        Group::FromItem => {
+            let item = boxed(alloc, Item::new_integer_decimal(alloc, 5))?;
+            Ok(Ready::FromItem(item))
+        }
+        Group::Refusals => Ok(Ready::Refusals(refusal(alloc)?)),
+        Group::Made => Ok(Ready::Made),
+        Group::Conversions => Ok(Ready::Conversions),
+        Group::Control => Ok(Ready::Control),
+    }
+}
+
+/// Makes the calls of a row.
+pub(crate) fn called(alloc: Global, ready: Ready<'_>) -> Result<bool, Failure> {
+    match ready {
+        Ready::Parts(alone) => Ok(are_parts_answered(alone.item())),
+        Ready::Loans(mut sequence) => Ok(are_parts_lent(&mut sequence)),
+        Ready::Comparisons(alone, sequence) => {
+            Ok(is_itself(&alone) && is_sequence_itself(&sequence))
+        }
+        Ready::Discarding(mut alone, mut sequence) => {
+            Ok(is_discarded(alloc, &mut alone) && is_sequence_discarded(alloc, &mut sequence))
+        }
+        Ready::Mismatches(mut alone) => Ok(is_mismatch(alloc, alone.at_mut(&[]))),
+        Ready::FromItem(item) => Ok(is_five_alone(Box::into_inner(item))),
+        Ready::Refusals(refused) => Ok(is_told(&refused)),
+        Ready::Made => Ok(is_made()),
+        Ready::Conversions => Ok(is_converted()),
+        Ready::Control => control(alloc),
     }
 }
 
@@ -200,12 +252,6 @@ fn is_lent_five(item: Option<&mut Item<'_>>) -> bool {
     }
 }
 
-fn compared(alloc: Global) -> Result<bool, Failure> {
-    let alone = standalone_of(alloc, PARTS)?;
-    let sequence = sequence_of(alloc, PARTS)?;
-    Ok(is_itself(&alone) && is_sequence_itself(&sequence))
-}
-
 fn is_itself(alone: &StandaloneItem<'_>) -> bool {
     alone.is_same(alone)
         && *alone == *alone
@@ -219,18 +265,17 @@ fn is_sequence_itself(sequence: &Sequence<'_>) -> bool {
 
 const SPACED: &str = " [ 1 / a comment of some length / , 2 ] ";
 
-fn discarded(alloc: Global) -> Result<bool, Failure> {
-    let mut sequence = sequence_of(alloc, SPACED)?;
-    let mut alone = standalone_of(alloc, SPACED)?;
-    Ok(
-        sequence
+fn is_discarded(alloc: Global, alone: &mut StandaloneItem<'_>) -> bool {
+    is_inside_discarded(alloc, alone.at_mut(&[]))
+        && alone
             .set_delimiters(alloc, DelimiterPolicy::DiscardAll)
             .is_ok()
-            && is_inside_discarded(alloc, alone.at_mut(&[]))
-            && alone
-                .set_delimiters(alloc, DelimiterPolicy::DiscardAll)
-                .is_ok(),
-    )
+}
+
+fn is_sequence_discarded(alloc: Global, sequence: &mut Sequence<'_>) -> bool {
+    sequence
+        .set_delimiters(alloc, DelimiterPolicy::DiscardAll)
+        .is_ok()
 }
 
 fn is_inside_discarded(alloc: Global, item: Option<&mut Item<'_>>) -> bool {
@@ -240,11 +285,6 @@ fn is_inside_discarded(alloc: Global, item: Option<&mut Item<'_>>) -> bool {
             .is_ok(),
         None => false,
     }
-}
-
-fn mismatched(alloc: Global) -> Result<bool, Failure> {
-    let mut alone = standalone_of(alloc, "0")?;
-    Ok(is_mismatch(alloc, alone.at_mut(&[])))
 }
 
 fn is_mismatch(alloc: Global, item: Option<&mut Item<'_>>) -> bool {
@@ -262,28 +302,59 @@ fn is_mismatch(alloc: Global, item: Option<&mut Item<'_>>) -> bool {
     }
 }
 
-fn from_item(alloc: Global) -> Result<bool, Failure> {
-    let alone = StandaloneItem::from(Item::new_integer_decimal(alloc, 5)?);
-    Ok(alone.item().get_integer() == Ok(5))
+fn is_five_alone(item: Item<'_>) -> bool {
+    let alone = StandaloneItem::from(item);
+    alone.item().get_integer() == Ok(5)
 }
 
-fn place(alloc: Global) -> Result<bool, Failure> {
+fn refusal(alloc: Global) -> Result<ParseError, Failure> {
     match Sequence::parse(alloc, "1\n,,").err() {
-        Some(Fault::Told(refused)) => Ok(
-            (refused.line(), refused.column(), refused.offset()) == (2, 2, 3)
-                && !refused.too_deep(),
-        ),
+        Some(Fault::Told(refused)) => Ok(refused),
         Some(Fault::Memory(_)) => Err(Failure::Refused),
         None => Err(Failure::Wrong),
     }
 }
 
+fn is_told(refused: &ParseError) -> bool {
+    (refused.line(), refused.column(), refused.offset()) == (2, 2, 3)
+        && !refused.too_deep()
+        && *refused == ParseError::new(ParseErrorKind::Invalid, 3, 2, 2)
+        && CborError::TooDeep.too_deep()
+}
+
 fn is_made() -> bool {
-    let _ = Looks::new();
-    DelimiterPolicy::indented()
-        == DelimiterPolicy::IndentedRegularSpacing {
-            base_indent: 0,
-            indent_level: 4,
-            max_width: 80,
-        }
+    let mut looks = Looks::new();
+    looks.look();
+    let indicator = Indicator::Two;
+    let named = NamedSimple::Undefined;
+    indicator.as_str() == "_1"
+        && named.as_str() == "undefined"
+        && DelimiterPolicy::indented()
+            == DelimiterPolicy::IndentedRegularSpacing {
+                base_indent: 0,
+                indent_level: 4,
+                max_width: 80,
+            }
+}
+
+fn is_converted() -> bool {
+    let fault: Fault<ParseError> = Fault::from(AllocError);
+    let of_block: Fault<ParseError> = Fault::from(AllocFailed { value: true });
+    let error = CallbackError::from(AllocError);
+    matches!(&fault, Fault::Memory(_))
+        && matches!(&of_block, Fault::Memory(_))
+        && matches!(&error, CallbackError::Memory(_))
+        && is_out_of_range()
+}
+
+fn is_out_of_range() -> bool {
+    match u8::try_from(256_u16) {
+        Ok(_) => false,
+        Err(error) => InconsistentEdn::from(error) == InconsistentEdn::NumericRangeExceeded,
+    }
+}
+
+fn control(alloc: Global) -> Result<bool, Failure> {
+    let item = boxed(alloc, Item::new_text(alloc, "a text of some length"))?;
+    Ok(item.is_plain_string())
 }

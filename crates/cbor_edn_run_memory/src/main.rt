@@ -1,9 +1,10 @@
 //! Runs of the commands, one after the other, for a script that has each of their allocations refused in turn.
 //!
 //! Each call prints its name and what came of it: `done` where it answered as it must, `refused` where it answered want of memory and
-//! nothing was written, and `wrong` at any other answer.
+//! nothing was written, and `wrong` at any other answer. Those that take no memory print `ready` before it.
 #![tactic(auto)]
 
+mod free;
 mod lines;
 mod runs;
 mod served;
@@ -27,8 +28,19 @@ fn print_runs(rt: &HostRuntime) -> io::Result<()> {
     Ok(())
 }
 
+/// Prints that a row is ready, too: a script has all requests for memory refused from that line to the next.
+fn print_free(rt: &HostRuntime) -> io::Result<()> {
+    for row in free::FREE {
+        println!(rt; "{}: ready", row.0)?;
+        let told = word(free::called(rt.alloc(), row));
+        println!(rt; "{}: {told}", row.0)?;
+    }
+    Ok(())
+}
+
 fn main(rt: HostRuntime) -> io::Result<()> {
     print_runs(&rt)?;
+    print_free(&rt)?;
     for row in served::SERVED {
         let told = word(served::serve_once(rt.alloc(), row));
         println!(rt; "{}: {told}", row.name)?;

@@ -1,0 +1,59 @@
+//! Calls that take no memory: each is done while every request for memory is refused.
+use crate::runs::roomy_sink;
+use cbor_edn::engine::{DeviceFault, RunError};
+use cbor_edn::{CborError, Fault, InconsistentEdn, ParseError};
+use cbor_edn_expect::memory::Failure;
+use std::alloc::{AllocError, Global};
+
+#[derive(Clone, Copy)]
+pub(crate) enum Group {
+    Ends,
+    /// A call that takes memory, by which it is seen that requests are refused.
+    Control,
+}
+
+/// A name, and a group of calls.
+pub(crate) type Row = (&'static str, Group);
+
+/// Ends of runs by the words of `RunError`.
+pub(crate) const FREE: &[Row] = &[
+    ("From<..> for RunError", Group::Ends),
+    ("a call that takes memory", Group::Control),
+];
+
+/// Makes the calls of a row.
+pub(crate) fn called(alloc: Global, row: &Row) -> Result<bool, Failure> {
+    match row.1 {
+        Group::Ends => Ok(is_memory() && is_text() && is_cbor() && is_inconsistent() && is_read()),
+        Group::Control => Ok(roomy_sink(alloc)?.into_inner().is_empty()),
+    }
+}
+
+fn is_memory() -> bool {
+    let end = RunError::from(AllocError);
+    matches!(&end, RunError::Memory(_))
+}
+
+fn is_text() -> bool {
+    let fault: Fault<ParseError> = Fault::Memory(AllocError);
+    let end = RunError::from(fault);
+    matches!(&end, RunError::Memory(_))
+}
+
+fn is_cbor() -> bool {
+    let fault: Fault<CborError> = Fault::Told(CborError::TooDeep);
+    let end = RunError::from(fault);
+    matches!(&end, RunError::Cbor(CborError::TooDeep))
+}
+
+fn is_inconsistent() -> bool {
+    let fault: Fault<InconsistentEdn> = Fault::Told(InconsistentEdn::InvalidSimple);
+    let end = RunError::from(fault);
+    matches!(&end, RunError::Inconsistent(InconsistentEdn::InvalidSimple))
+}
+
+fn is_read() -> bool {
+    let fault: Fault<DeviceFault> = Fault::Told(DeviceFault);
+    let end = RunError::from(fault);
+    matches!(&end, RunError::Read)
+}
