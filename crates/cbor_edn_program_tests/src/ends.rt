@@ -90,6 +90,6 @@ fn ends_of_runs(rt: HostRuntime) -> Result<(), Fail> {
 // A block that is refused, with the value that it was for.
 #[test]
 fn refused_block() -> Result<(), Fail> {
-    let fault: Fault<ParseError> = Fault::from(AllocFailed { value: 5 });
+    let fault: Fault<ParseError> = Fault::from(AllocFailed { value: true });
     expect("want of memory", matches!(&fault, Fault::Memory(_)))
 }

@@ -25,7 +25,7 @@ pub(crate) const FREE: &[Row] = &[
 pub(crate) fn called(alloc: Global, row: &Row) -> Result<bool, Failure> {
     match row.1 {
         Group::Ends => Ok(is_memory() && is_text() && is_cbor() && is_inconsistent() && is_read()),
-        Group::Control => Ok(roomy_sink(alloc)?.into_inner().is_empty()),
+        Group::Control => control(alloc),
     }
 }
 
@@ -56,4 +56,10 @@ fn is_read() -> bool {
     let fault: Fault<DeviceFault> = Fault::Told(DeviceFault);
     let end = RunError::from(fault);
     matches!(&end, RunError::Read)
+}
+
+fn control(alloc: Global) -> Result<bool, Failure> {
+    let sink = roomy_sink(alloc)?;
+    let written = sink.into_inner();
+    Ok(written.is_empty())
 }
