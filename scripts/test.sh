@@ -90,6 +90,28 @@ leave_program() {
   mv out/cbor-edn.new out/cbor-edn
 }
 
+# Begins a command beside those that follow. What it says is kept until it has ended.
+declare -A running
+begin() {
+  local name=$1
+  shift
+  "$@" > "$beside/$name" 2>&1 &
+  running[$name]=$!
+}
+
+# Hands on what a command said that was begun so, with its status.
+replay() {
+  cat "$beside/$1"
+  return "$2"
+}
+
+# Waits for a command that was begun beside others, and adds what it counted.
+finish() {
+  local status=0
+  wait "${running[$1]}" || status=$?
+  add replay "$1" "$status"
+}
+
 # Says what the whole run took, by the clock and on all processors.
 say_minutes() {
   times > "$log"
@@ -113,6 +135,8 @@ fi
 # One check for each processor: by itself, rt holds checks back for memory that they do not need.
 RT_JOBS=$(nproc) add prove . "${gives_way[@]}"
 wait
+# by far the longest of what follows, and on one processor
+begin check-launcher scripts/check-launcher.sh "$program"
 for crate in crates/*_memory; do
   crate=$(basename "$crate")
   add scripts/refuse-memory.sh "$crate" "crates/$crate/out/$crate"
@@ -124,9 +148,9 @@ add scripts/check-faults.sh "$program"
 add scripts/check-devices.sh "$program"
 add scripts/check-limits.sh "$program"
 add scripts/fuzz.sh 8949 30000 "$program"
-add scripts/check-launcher.sh "$program"
 add scripts/check-stack.sh "$program" crates/cbor_edn_{text,tree,loan}_tests/out/*_tests_tests
 add scripts/check-bindings.sh --after-ci
+finish check-launcher
 cat "$times"
 say_minutes
 [ "$failed" != 0 ] || leave_program "$program"
