@@ -84,8 +84,11 @@ def encoded(items, flags):
 def is_idempotent(flags, text):
     """Whether twice is once. A comment of a conversion that fails is put again each time, unless comments are removed, which none is in
     an embedded sequence. Claims have times only where these are numbers again in the second run, and a bignum is no number in the first.
-    Removing comments takes the spaces that a conversion made."""
+    Removing comments takes the spaces that a conversion made. An address in a tag with a literal that means nothing stays, until the literal
+    is a tag 999."""
     flags = set(flags)
+    if {"--annotate-tags", "--apply-999"} <= flags:
+        return False
     if "<<" in text and flags & {"--annotate-tags", "--aol-to-item"}:
         return False
     if {"--remove-comments", "--preserve-space"} <= flags and flags & {"--aol-to-item", "--apply-999"}:
