@@ -12,8 +12,9 @@
 # 1 there is no second size). Seconds are of user and system time, in the quickest run. Memory is the peak resident
 # set, the largest of the runs. A program whose time is linear takes the same seconds per MB at both sizes.
 #
-# With --beside it also times what Debian's packages have for the same, each on 1 MB and 3 times: jq and Python's json.tool on the
-# kinds that are JSON, beside diag2diag, and node-cbor on bytes, beside cbor2diag. What is not installed has no column.
+# With --beside it also times what Debian's packages have for the same, each on 1 MB and 3 times: jq, Python's json.tool and serde_json
+# (scripts/beside, built by cargo over librust-serde-json-dev) on the kinds that are JSON, beside diag2diag, and node-cbor on bytes, beside
+# cbor2diag. What is not installed has no column, and is told.
 #
 # Status 0: measured, whatever came out. Status 1: the programs wrote different bytes, or one failed; such inputs have
 # no row. Status 2: other words on the command line.
@@ -107,6 +108,15 @@ if [ ${#words[@]} = 1 ]; then
   names+=("the working tree")
   binaries+=("$root/out/cbor-edn")
 fi
+if [ -n "$beside" ]; then
+  # a directory of Debian's stands for the registry
+  registry=/usr/share/cargo/registry
+  cp -r "$root/scripts/beside" "$work/beside"
+  cargo build --quiet --release --offline --manifest-path "$work/beside/Cargo.toml" \
+    --config 'source.crates-io.replace-with="packages"' --config "source.packages.directory='$registry'" \
+    && cp "$work/beside/target/release/serde_json" "$work/serde_json" \
+    || echo "bench: serde_json is left out: cargo or Debian's package librust-serde-json-dev is missing" >&2
+fi
 # copies, so that a build in the meantime changes nothing
 cp "${binaries[0]}" "$work/old"
 cp "${binaries[1]}" "$work/new"
@@ -121,7 +131,7 @@ import signal
 import sys
 
 sys.path.insert(0, sys.argv[6])
-from inputs import FLAT, sequence
+from inputs import FLAT, array, sequence
 
 MB = 1_000_000
 SIDES = ("old", "new")
@@ -131,16 +141,17 @@ work, runs, scale = sys.argv[1], int(sys.argv[2]), int(sys.argv[3])
 COMMAND = sys.argv[4].split()
 # Programs of Debian's packages that do the same as a command, and the kinds that they read: all, or those that are JSON.
 BESIDE = {
-    "diag2diag": {"jq": ["/usr/bin/jq", "."], "json.tool": ["/usr/bin/python3", "-m", "json.tool"]},
+    "diag2diag": {"jq": ["/usr/bin/jq", "."], "json.tool": ["/usr/bin/python3", "-m", "json.tool"], "serde_json": [f"{work}/serde_json"]},
     "cbor2diag": {"node-cbor": ["/usr/bin/env", "NODE_PATH=/usr/share/nodejs", "/usr/bin/cbor2diag", "-"]},
 }
-JSON = ("integers", "texts", "one text")
+JSON = ("integers", "texts", "one text", "maps of texts")
 
 
 # as many arrays in one another as are read: laid out on lines of their own they are written as about 1 MB
 DEEP = 512
 KINDS = {
     **FLAT,
+    "maps of texts": array('{"name": "a", "value": "words of a text"}', '{"key": "1234"}'),
     "maps, 512 deep": sequence("{1: " * DEEP + "2" + "}" * DEEP),
     "arrays, 512 deep": sequence("[" * DEEP + "]" * DEEP),
     "embedded, 512 deep": sequence("<<" * DEEP + ">>" * DEEP),
@@ -233,7 +244,7 @@ def ratio(old, new):
 
 def measure_beside(inputs):
     """Prints the seconds that the programs of other packages take, beside those of the new one."""
-    others = {name: words for name, words in BESIDE.get(COMMAND[0], {}).items() if all(os.path.exists(word) for word in words if word.startswith("/usr/bin/"))}
+    others = {name: words for name, words in BESIDE.get(COMMAND[0], {}).items() if all(os.path.exists(word) for word in words if word.startswith("/"))}
     if not others:
         print(f"beside {COMMAND[0]}: no other program is installed")
         return

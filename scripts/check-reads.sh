@@ -20,10 +20,10 @@ stands_in() {
 }
 
 # A parse begins its own count, and makes the text that is read.
-stands_in 'Looks::new(' crates/cbor_edn_core/src/parse.rt
-stands_in 'Text::new(' crates/cbor_edn_core/src/parse.rt
+stands_in 'Looks::new(' crates/cbor_edn_core/src/text/parse.rt
+stands_in 'Text::new(' crates/cbor_edn_core/src/text/parse.rt
 # Pieces of a text are cut where scans and spaces have seen them byte by byte, for leaves.
-stands_in '.slice(' crates/cbor_edn_parts/src/scan.rt crates/cbor_edn_parts/src/space/read.rt
+stands_in '.slice(' crates/cbor_edn_parts/src/number/start.rt crates/cbor_edn_parts/src/scan.rt crates/cbor_edn_parts/src/space/read.rt
 
 by_hand=$(find crates -path '*/out' -prune -o -name Proof.antt -print | sort)
 wanted='crates/cbor_edn_command/proofs/count/Count/after/Proof.antt

@@ -26,8 +26,8 @@ def over(call):
 
 # Calls that have no name of their own in the text, as those by a trait or a `?`, or one that other types have too: what each looks like.
 SHAPES = {
-    "PartialEq for Item": r"\*item == \*other|\*alone\.item\(\) == \*alone\.item\(\)",
-    "PartialEq for StandaloneItem": r"\*copy == \*item|\*alone == \*alone\b", "PartialEq for Sequence": r"\bcopy == \*sequence|\*sequence == \*sequence",
+    "PartialEq for Item": r"\*item == \*other|\*alone\.item\(\) == \*copy\.item\(\)",
+    "PartialEq for StandaloneItem": r"\*copy == \*item|\*alone == \*copy\b", "PartialEq for Sequence": r"\bcopy == \*sequence|\*sequence == \*copy\b",
     "Debug for Item": r"\{item:\?\}", "Debug for StandaloneItem": r"\{alone:\?\}", "Debug for Sequence": r"\{tree:\?\}",
     "Iterator for ArrayItems": over("get_array_items"), "Iterator for ArrayItemsMut": over("get_array_items_mut"),
     "Iterator for MapItems": over("get_map_items"), "Iterator for MapItemsMut": over("get_map_items_mut"),

@@ -6,16 +6,16 @@ use Rattle.cbor_edn_parts.specs.declared.error.ParseError.{ParseError}
 use Rattle.cbor_edn_parts.specs.declared.error.ParseErrorKind.{ParseErrorKind}
 use Rattle.cbor_edn_parts.specs.declared.error.ParseErrorKind.TheVariants as parse
 use Rattle.cbor_edn_parts.specs.Errors.{error_kind}
-use Rattle.cbor_edn_model.specs.declared.from_cbor.CborError.{CborError}
-use Rattle.cbor_edn_model.specs.declared.from_cbor.CborError.TheVariants as cbor
-use Rattle.cbor_edn_model.specs.Items.{nesting}
-use Rattle.cbor_edn_model.specs.Meaning.{means}
-use Rattle.cbor_edn_model.specs.Spelling.{SpellsSequence}
-use Rattle.cbor_edn_model.specs.Trees.{Tree, Seq, items}
-use Rattle.cbor_edn_model.specs.Value.{Values}
-use Rattle.cbor_edn_model.proofs.meaning.MeaningSteps.{some_is}
-use Rattle.cbor_edn_core.specs.Parsing.{Unparsed}
-use Rattle.cbor_edn_core.proofs.text.GrammarLaws.{spelled_by_trees}
+use Rattle.cbor_edn_model.specs.declared.cbor.decode.CborError.{CborError}
+use Rattle.cbor_edn_model.specs.declared.cbor.decode.CborError.TheVariants as cbor
+use Rattle.cbor_edn_model.specs.tree.Items.{nesting}
+use Rattle.cbor_edn_model.specs.cbor.Meaning.{means}
+use Rattle.cbor_edn_model.specs.text.Spelling.{SpellsSequence}
+use Rattle.cbor_edn_model.specs.tree.Trees.{Tree, Seq, items}
+use Rattle.cbor_edn_model.specs.cbor.Value.{Values}
+use Rattle.cbor_edn_model.proofs.lemmas.cbor.MeaningSteps.{some_is}
+use Rattle.cbor_edn_core.specs.text.Parsing.{Unparsed}
+use Rattle.cbor_edn_core.proofs.lemmas.text.GrammarLaws.{spelled_by_trees}
 use Rattle.cbor_edn_command.specs.Hexadecimal.{input_bytes}
 use Rattle.cbor_edn_command.specs.declared.options.Command.{Command}
 use Rattle.cbor_edn_command.specs.declared.options.Command.TheVariants.{Diag2Cbor, Cbor2Diag, Diag2Diag}

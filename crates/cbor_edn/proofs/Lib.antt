@@ -1,8 +1,8 @@
 mod Faults
 mod Loading
-mod Recoding
+mod RecodedTexts
 mod Returns
 mod RunsOnce
 mod ShownNesting
 mod StepsKept
-mod Written
+mod WrittenOutput

@@ -1,17 +1,17 @@
 -- From what a call of the tree answers to what a run says.
 use Rattle.std.proofs.Common.{◌≡◌, ℕ, List, Some, Bool, true, false, not, refl, ap, sym, subst, ◌∙◌}
 use Rattle.std.specs.Str.{IsUtf8}
-use Rattle.cbor_edn_core.specs.Parsing.{ParsedSequence}
-use Rattle.cbor_edn_model.specs.Decoded.{IsDecodedSequence}
-use Rattle.cbor_edn_model.specs.Layout.{laid_out}
-use Rattle.cbor_edn_model.specs.Meaning.{means}
-use Rattle.cbor_edn_model.specs.Trees.{Tree, Seq, items, text}
-use Rattle.cbor_edn_model.specs.Value.{Values, EncAll}
-use Rattle.cbor_edn_core.specs.View.{Sequence, sequence_tree}
-use Rattle.cbor_edn_core.proofs.code.Printable.{sequence_valid}
-use Rattle.cbor_edn_core.proofs.layout.Layouts.{keeps_items}
+use Rattle.cbor_edn_core.specs.text.Parsing.{ParsedSequence}
+use Rattle.cbor_edn_model.specs.cbor.Decoded.{IsDecodedSequence}
+use Rattle.cbor_edn_model.specs.layout.Layout.{laid_out}
+use Rattle.cbor_edn_model.specs.cbor.Meaning.{means}
+use Rattle.cbor_edn_model.specs.tree.Trees.{Tree, Seq, Valid, items, text}
+use Rattle.cbor_edn_model.specs.cbor.Value.{Values, EncAll}
+use Rattle.cbor_edn_core.specs.tree.View.{Sequence, sequence_tree}
+use Rattle.cbor_edn_core.proofs.lemmas.text.Printable.{sequence_valid}
+use Rattle.cbor_edn_core.proofs.lemmas.layout.Layouts.{keeps_items, stays_valid}
 use Rattle.cbor_edn_parts.specs.Spacing.{indented}
-use Rattle.cbor_edn_model.proofs.text.Tested.{valid}
+use Rattle.cbor_edn_model.proofs.lemmas.text.Tested.{valid}
 use Rattle.std.proofs.lemmas.Str.{IsUtf8-string_bytes}
 use Rattle.std.specs.Prelude.{Result, Ok, Err, IfOk, string_bytes}
 use Rattle.std.specs.declared.alloc.AllocError.{AllocError}
@@ -21,7 +21,7 @@ use Rattle.cbor_edn_parts.specs.Refusals.{IfTold}
 use Rattle.cbor_edn_parts.specs.declared.error.Fault.{Fault}
 use Rattle.cbor_edn_parts.specs.declared.error.Fault.TheVariants.{Memory, Told}
 use Rattle.cbor_edn_parts.specs.declared.error.InconsistentEdn.{InconsistentEdn}
-use Rattle.cbor_edn_model.specs.Meaning.{NoEncoding}
+use Rattle.cbor_edn_model.specs.cbor.Meaning.{NoEncoding}
 use Rattle.cbor_edn_command.specs.Hexadecimal.{input_bytes}
 use Rattle.cbor_edn.specs.Runs.{IsReadAs, IsDecodedAs, IsPrintedAs, IsRefused, told_as}
 use Rattle.cbor_edn.specs.RunSteps.{Where, IsLaidOut, StepsGive}
@@ -68,10 +68,14 @@ same_items false w = refl
 abbrev pub IsShownAs : Options → Tree Seq → List ℕ → Type 0
 IsShownAs o w out = (v : Tree Seq) × StepsGive o w v × IsPrintedAs v out
 
-pub printed_text : (o : Options) (w : Tree Seq) (between after : Sequence) (r : Result (String Global) AllocError) → ((v : Tree Seq) → Last o (sequence_tree between) v → StepsGive o w v)
-    → Last o (sequence_tree between) (sequence_tree after) → IfOk r (λ out. string_bytes out ≡ text (sequence_tree after)) → IfOk r (λ out. IsShownAs o w (string_bytes out))
-printed_text o w between after (Ok out) give laid is = (sequence_tree after, give (sequence_tree after) laid, (valid (sequence_tree after) (sequence_valid after), IsUtf8-string_bytes out, is))
-printed_text o w between after (Err e) give laid is = tt
+shown_valid : (asked : Bool) (w v : Tree Seq) → Where asked (IsLaidOut indented) w v → Valid w → Valid v
+shown_valid true w v laid is = subst Valid (sym laid) (stays_valid Seq indented w is)
+shown_valid false w v same is = subst Valid (sym same) is
+
+pub printed_text : (o : Options) (w : Tree Seq) (between : Sequence) (r : Result (String Global) AllocError) → ((v : Tree Seq) → Last o (sequence_tree between) v → StepsGive o w v)
+    → IfOk r (λ out. (v : Tree Seq) × Last o (sequence_tree between) v × (string_bytes out ≡ text v)) → IfOk r (λ out. IsShownAs o w (string_bytes out))
+printed_text o w between (Ok out) give (v, laid, is) = (v, give v laid, (shown_valid (not o.preserve_space) (sequence_tree between) v laid (valid (sequence_tree between) (sequence_valid between)), IsUtf8-string_bytes out, is))
+printed_text o w between (Err e) give is = tt
 
 -- a tree that is printed where it is lent
 pub printed_as : (o : Options) (out : List ℕ) (lent x : Sequence) → lent ≡ x → IsShownAs o (sequence_tree lent) out → IsShownAs o (sequence_tree x) out

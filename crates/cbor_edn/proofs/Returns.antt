@@ -1,10 +1,10 @@
 -- What is decoded and shown is read and encoded as the same bytes.
 use Rattle.std.proofs.Common.{◌≡◌, ℕ, List, sym, ap, subst, ◌∙◌, arith}
 use Rattle.std.specs.Prelude.{if◌then◌else◌}
-use Rattle.cbor_edn_model.specs.Items.{nesting}
-use Rattle.cbor_edn_model.specs.Spelling.{SpellsSequence}
-use Rattle.cbor_edn_model.specs.Trees.{Tree, Seq, items}
-use Rattle.cbor_edn_core.proofs.text.GrammarLaws.{spelled_by_trees}
+use Rattle.cbor_edn_model.specs.tree.Items.{nesting}
+use Rattle.cbor_edn_model.specs.text.Spelling.{SpellsSequence}
+use Rattle.cbor_edn_model.specs.tree.Trees.{Tree, Seq, items}
+use Rattle.cbor_edn_core.proofs.lemmas.text.GrammarLaws.{spelled_by_trees}
 use Rattle.cbor_edn_conversions.specs.Resolvers.{literal_resolver}
 use Rattle.cbor_edn_conversions.specs.Resolving.{means_by}
 use Rattle.cbor_edn_conversions.proofs.conversions.Literals.{all_no_content}

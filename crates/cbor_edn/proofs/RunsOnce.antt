@@ -3,13 +3,13 @@ use Rattle.std.proofs.Common.{◌≡◌, ℕ, List, [], ◌∷◌, ◌++◌, Boo
 use Rattle.std.specs.Prelude.{not, if◌then◌else◌, None, Result, Ok}
 use Rattle.cbor_edn_parts.specs.declared.policy.DelimiterPolicy.TheVariants.{DiscardAll}
 use Rattle.cbor_edn_parts.specs.Spacing.{indented}
-use Rattle.cbor_edn_model.specs.Decoded.{items_of}
-use Rattle.cbor_edn_model.specs.Trees.{Tree, Seq}
-use Rattle.cbor_edn_model.specs.Value.{Value, array, Values, encodings, break, open_head, EncAll}
-use Rattle.cbor_edn_model.proofs.bytes.CborOneValue.{one_encoding_holds}
-use Rattle.cbor_edn_model.proofs.layout.RegularTrees.{one_single_line}
-use Rattle.cbor_edn_model.proofs.meaning.MeaningSteps.{some_is}
-use Rattle.cbor_edn_core.proofs.text.GrammarLaws.{unique_spaces}
+use Rattle.cbor_edn_model.specs.cbor.Decoded.{items_of}
+use Rattle.cbor_edn_model.specs.tree.Trees.{Tree, Seq}
+use Rattle.cbor_edn_model.specs.cbor.Value.{Value, array, Values, encodings, break, open_head, EncAll}
+use Rattle.cbor_edn_model.proofs.lemmas.cbor.CborOneValue.{one_encoding_holds}
+use Rattle.cbor_edn_model.proofs.lemmas.layout.RegularTrees.{one_single_line}
+use Rattle.cbor_edn_model.proofs.lemmas.cbor.MeaningSteps.{some_is}
+use Rattle.cbor_edn_core.proofs.lemmas.text.GrammarLaws.{unique_spaces}
 use Rattle.cbor_edn_conversions.specs.Addresses.{resolve_address, pretty_address}
 use Rattle.cbor_edn_conversions.specs.Annotations.{comment_lang}
 use Rattle.cbor_edn_conversions.specs.Bignums.{pretty_bignum}

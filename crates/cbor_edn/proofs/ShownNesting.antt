@@ -1,10 +1,10 @@
 -- What is shown nests no deeper than what was decoded.
 use Rattle.std.proofs.Common.{◌≤◌, ℕ, List, sym, subst, le_trans}
 use Rattle.std.proofs.lemmas.List.Elements.{All-weaker}
-use Rattle.cbor_edn_model.specs.Items.{Elements, Items, nesting}
-use Rattle.cbor_edn_model.specs.Seeking.{Told, IsTag, IsApplication}
-use Rattle.cbor_edn_model.specs.Trees.{Tree, OneItem, Rest, Seq, ElementTree, LastTree, MoreTree, NothingTree, SequenceTree, items}
-use Rattle.cbor_edn_model.specs.Visits.{whole}
+use Rattle.cbor_edn_model.specs.tree.Items.{Elements, Items, nesting}
+use Rattle.cbor_edn_model.specs.visit.Seeking.{CallArguments, IsTag, IsApplication}
+use Rattle.cbor_edn_model.specs.tree.Trees.{Tree, OneItem, Rest, Seq, ElementTree, LastTree, MoreTree, NothingTree, SequenceTree, items}
+use Rattle.cbor_edn_model.specs.visit.Visits.{whole}
 use Rattle.cbor_edn_conversions.specs.Addresses.{resolve_address, pretty_address}
 use Rattle.cbor_edn_conversions.specs.Bignums.{pretty_bignum}
 use Rattle.cbor_edn_conversions.specs.Claims.{with_claims}
@@ -31,7 +31,7 @@ abbrev Direct : Items → Type 0
 Direct x = IsDirect x
 
 -- whole visits by a function whose calls leave direct items direct
-visit_direct : (IsSought : Tree OneItem → Told → Type 0) → VisitKeepsDirect IsSought → (act : Act) → CallsKeepDirect act → Keeps Direct (λ w v. IsVisited IsSought act w whole v)
+visit_direct : (IsSought : Tree OneItem → CallArguments → Type 0) → VisitKeepsDirect IsSought → (act : Act) → CallsKeepDirect act → Keeps Direct (λ w v. IsVisited IsSought act w whole v)
 visit_direct IsSought keep act calls w v h = (keep h.0 whole (All-weaker (AnswersBy act) StaysDirect calls h.0 h.1)).1 w v h.2
 
 row_direct : (m : Tree (Rest Elements)) → IsDirect (items m) → IsDirect (items (each_item (λ w. (with_claims w).1) m))

@@ -4,14 +4,14 @@ use Rattle.std.specs.Prelude.{not}
 use Rattle.cbor_edn_parts.specs.declared.policy.DelimiterPolicy.{DelimiterPolicy}
 use Rattle.cbor_edn_parts.specs.declared.policy.DelimiterPolicy.TheVariants.{DiscardAll}
 use Rattle.cbor_edn_parts.specs.Spacing.{indented}
-use Rattle.cbor_edn_model.specs.Items.{Items}
-use Rattle.cbor_edn_model.specs.Layout.{laid_out}
-use Rattle.cbor_edn_model.specs.Meaning.{means}
-use Rattle.cbor_edn_model.specs.Seeking.{IsApplication}
-use Rattle.cbor_edn_model.specs.Trees.{Tree, Seq, items}
-use Rattle.cbor_edn_model.specs.Value.{Values}
-use Rattle.cbor_edn_model.specs.Visits.{whole}
-use Rattle.cbor_edn_core.proofs.layout.Layouts.{keeps_items}
+use Rattle.cbor_edn_model.specs.tree.Items.{Items}
+use Rattle.cbor_edn_model.specs.layout.Layout.{laid_out}
+use Rattle.cbor_edn_model.specs.cbor.Meaning.{means}
+use Rattle.cbor_edn_model.specs.visit.Seeking.{IsApplication}
+use Rattle.cbor_edn_model.specs.tree.Trees.{Tree, Seq, items}
+use Rattle.cbor_edn_model.specs.cbor.Value.{Values}
+use Rattle.cbor_edn_model.specs.visit.Visits.{whole}
+use Rattle.cbor_edn_core.proofs.lemmas.layout.Layouts.{keeps_items}
 use Rattle.cbor_edn_conversions.specs.Addresses.{resolve_address, pretty_address}
 use Rattle.cbor_edn_conversions.specs.Annotations.{comment_lang}
 use Rattle.cbor_edn_conversions.specs.Bignums.{pretty_bignum}

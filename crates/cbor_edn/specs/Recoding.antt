@@ -1,9 +1,9 @@
 -- Texts of what bytes encode.
 use Rattle.std.specs.Prelude.{ℕ, List, ◌≡◌, ◌≤◌, Some}
-use Rattle.cbor_edn_model.specs.Items.{Sort, Node, nesting}
-use Rattle.cbor_edn_model.specs.Spelling.{SpellsOne, SpellsSequence}
-use Rattle.cbor_edn_model.specs.Value.{Enc, EncAll}
-use Rattle.cbor_edn_model.specs.Meaning.{MeaningOf, means}
+use Rattle.cbor_edn_model.specs.tree.Items.{Sort, Node, nesting}
+use Rattle.cbor_edn_model.specs.text.Spelling.{SpellsOne, SpellsSequence}
+use Rattle.cbor_edn_model.specs.cbor.Value.{Enc, EncAll}
+use Rattle.cbor_edn_model.specs.cbor.Meaning.{MeaningOf, means}
 
 -- The text spells what nests no deeper than the limit, and the bytes are the encoding of what that means.
 abbrev pub IsTextOf : {s : Sort} → (Node s → List ℕ → Type 0) → (List ℕ → MeaningOf s → Type 0) → ℕ → List ℕ → List ℕ → Type 0

@@ -1,6 +1,6 @@
 -- The laws of whole runs, as contracts name them.
 use Rattle.std.specs.Prelude.{◌≡◌, ℕ, List, Option, Some, None, true, false}
-use Rattle.cbor_edn_model.specs.Trees.{Tree, Seq}
+use Rattle.cbor_edn_model.specs.tree.Trees.{Tree, Seq}
 use Rattle.cbor_edn_command.specs.declared.options.Command.TheVariants.{Diag2Cbor, Cbor2Diag}
 use Rattle.cbor_edn_command.specs.declared.options.Options.{Options}
 use Rattle.cbor_edn.specs.RunSteps.{StepsGive}

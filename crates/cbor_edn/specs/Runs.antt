@@ -4,15 +4,15 @@ use Rattle.std.specs.Str.{IsUtf8}
 use Rattle.std.specs.Io.KnownBytes.{Appends, Keeps}
 use Rattle.cbor_edn_parts.specs.declared.error.Fault.{Fault}
 use Rattle.cbor_edn_parts.specs.declared.error.Fault.TheVariants as fault
-use Rattle.cbor_edn_model.specs.declared.from_cbor.CborError.{CborError}
-use Rattle.cbor_edn_model.specs.declared.from_cbor.CborError.TheVariants.{TooDeep}
-use Rattle.cbor_edn_model.specs.Items.{nesting}
-use Rattle.cbor_edn_model.specs.Spelling.{SpellsSequence}
-use Rattle.cbor_edn_core.specs.Parsing.{Unparsed}
-use Rattle.cbor_edn_model.specs.Trees.{Tree, Seq, Valid, Merged, items, text}
-use Rattle.cbor_edn_model.specs.Meaning.{means}
-use Rattle.cbor_edn_model.specs.Value.{Values, EncAll}
-use Rattle.cbor_edn_model.specs.Decoded.{IsDecodedSequence, NoSequence, IsTooDeepSequence}
+use Rattle.cbor_edn_model.specs.declared.cbor.decode.CborError.{CborError}
+use Rattle.cbor_edn_model.specs.declared.cbor.decode.CborError.TheVariants.{TooDeep}
+use Rattle.cbor_edn_model.specs.tree.Items.{nesting}
+use Rattle.cbor_edn_model.specs.text.Spelling.{SpellsSequence}
+use Rattle.cbor_edn_core.specs.text.Parsing.{Unparsed}
+use Rattle.cbor_edn_model.specs.tree.Trees.{Tree, Seq, Valid, Merged, items, text}
+use Rattle.cbor_edn_model.specs.cbor.Meaning.{means}
+use Rattle.cbor_edn_model.specs.cbor.Value.{Values, EncAll}
+use Rattle.cbor_edn_model.specs.cbor.Decoded.{IsDecodedSequence, NoSequence, IsTooDeepSequence}
 use Rattle.cbor_edn_command.specs.Devices.{AppendsBeginning}
 use Rattle.cbor_edn_command.specs.Hexadecimal.{input_bytes, hex_lines}
 use Rattle.cbor_edn_command.specs.declared.options.Command.{Command}
@@ -176,12 +176,12 @@ abbrev pub IsFaultLine : List ℕ → Type 0
 IsFaultLine line = (words : List ℕ) × (words ≢ []) × All (λ b. b ≢ 10) words × (line ≡ codes "cbor-edn: " ++ (words ++ (10 ∷ [])))
 
 -- a sink took a beginning of such a line, which may be all of it or none of it
-abbrev pub IsTold : Option (List ℕ) → Option (List ℕ) → Type 0
-IsTold old new = (line : List ℕ) × IsFaultLine line × AppendsBeginning old new line
+abbrev pub IsReported : Option (List ℕ) → Option (List ℕ) → Type 0
+IsReported old new = (line : List ℕ) × IsFaultLine line × AppendsBeginning old new line
 
 -- a sink took nothing, or the whole of such a line
-abbrev pub IsToldWhole : Option (List ℕ) → Option (List ℕ) → Type 0
-IsToldWhole old new = Keeps old new ⊎ ((line : List ℕ) × IsFaultLine line × Appends old new line)
+abbrev pub IsReportedWhole : Option (List ℕ) → Option (List ℕ) → Type 0
+IsReportedWhole old new = Keeps old new ⊎ ((line : List ℕ) × IsFaultLine line × Appends old new line)
 
 -- what a call is refused by as a fault of the run
 abbrev pub told_as : {E : Type 0} → (E → RunError) → Fault E → RunError

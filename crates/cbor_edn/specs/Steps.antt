@@ -1,8 +1,8 @@
 -- What only clauses of private functions cite: the steps of a run, which together give its output.
 use Rattle.std.specs.Prelude.{◌≡◌, ℕ, List, Some, None}
-use Rattle.cbor_edn_model.specs.Trees.{Tree, Seq, items}
-use Rattle.cbor_edn_model.specs.Meaning.{means}
-use Rattle.cbor_edn_model.specs.Value.{Values, EncAll}
+use Rattle.cbor_edn_model.specs.tree.Trees.{Tree, Seq, items}
+use Rattle.cbor_edn_model.specs.cbor.Meaning.{means}
+use Rattle.cbor_edn_model.specs.cbor.Value.{Values, EncAll}
 use Rattle.cbor_edn.specs.Runs.{IsReadAs, IsDecodedAs, IsPrintedAs, IsUnread, IsUndecoded}
 use Rattle.cbor_edn.specs.RunSteps.{StepsGive}
 use Rattle.cbor_edn_command.specs.declared.options.Options.{Options}

@@ -1,10 +1,10 @@
 //! A whole run: from a reader, through a tree of items, to a writer.
 ghost use Rattle.std.specs.Prelude.{◌≡◌, ◌+◌, Result, IfOk, IfErr, IfSome, string_bytes};
 ghost use Rattle.std.specs.Io.KnownBytes.{IsAtEnd, Keeps};
-ghost use Rattle.cbor_edn_model.specs.Trees.{Tree, Seq};
-ghost use Rattle.cbor_edn_core.specs.View.{sequence_tree};
+ghost use Rattle.cbor_edn_model.specs.tree.Trees.{Tree, Seq};
+ghost use Rattle.cbor_edn_core.specs.tree.View.{sequence_tree};
 ghost use Rattle.cbor_edn_command.specs.Devices.{FailsAtMostOnce};
-ghost use Rattle.cbor_edn.specs.Runs.{IsOutput, IsRefused, Wrote, HasReadAll, EndsReading, EndsWriting, IsFaultLine, IsTold, IsToldWhole, read_faults, write_faults, status, told_as};
+ghost use Rattle.cbor_edn.specs.Runs.{IsOutput, IsRefused, Wrote, HasReadAll, EndsReading, EndsWriting, IsFaultLine, IsReported, IsReportedWhole, read_faults, write_faults, status, told_as};
 ghost use Rattle.cbor_edn.specs.Runs.{IsReadAs, IsUnread, IsPrintedAs};
 ghost use Rattle.cbor_edn.specs.RunSteps.{StepsGive};
 ghost use Rattle.cbor_edn.specs.Steps.{IsEncoded, IsUnencoded, IsDiagnosed, IsUndiagnosed, IsReprinted};
@@ -18,7 +18,7 @@ pub use cbor_edn_command::devices::{DeviceFault, Sink, Source, StdSink, StdSourc
 use cbor_edn_command::hexadecimal::{self, NotHex};
 pub use cbor_edn_command::options::{Command, Options};
 use cbor_edn_command::transfer::{read_all, write_all};
-use cbor_edn_core::from_cbor::CborError;
+use cbor_edn_core::cbor::decode::CborError;
 use cbor_edn_core::tree::Sequence;
 use cbor_edn_parts::error::{Fault, InconsistentEdn, ParseError};
 use simdutf8::basic::from_utf8;
@@ -151,8 +151,7 @@ fn printed(
     ensures { IfOk result (λ t. (v : Tree Seq) × StepsGive options.now (sequence_tree sequence.old) v × IsPrintedAs v (string_bytes t)) }
 {
     steps::take(alloc, options, sequence)?;
-    steps::indent(alloc, options, sequence)?;
-    sequence.serialize(alloc)
+    steps::spaced_text(alloc, options, sequence)
 }
 
 // The text of the items that bytes encode.
@@ -243,8 +242,8 @@ fn fault_line(alloc: Global, fault: &RunError) -> Option<String>
 
 // Tells of a fault, as far as there is memory and the sink takes it.
 fn tell<E: Sink>(alloc: Global, fault: &RunError, errors: &mut E)
-    ensures told { IsTold (E.contents errors.old) (E.contents errors.new) }
-    ensures whole { E.failures errors.new ≡ E.failures errors.old → IsToldWhole (E.contents errors.old) (E.contents errors.new) }
+    ensures reported { IsReported (E.contents errors.old) (E.contents errors.new) }
+    ensures whole { E.failures errors.new ≡ E.failures errors.old → IsReportedWhole (E.contents errors.old) (E.contents errors.new) }
     ensures counted { FailsAtMostOnce (E.failures errors.old) (E.failures errors.new) (E.since errors.new) }
 {
     if let Some(line) = fault_line(alloc, fault) {
@@ -254,7 +253,7 @@ fn tell<E: Sink>(alloc: Global, fault: &RunError, errors: &mut E)
 
 /// A run as a program does it: its exit status is 0 where all was written, and 1 at a fault.
 ///
-/// A fault is told to the last sink, as a line of `cbor-edn: ` and its words. That sink takes the whole line, nothing where
+/// A fault is told to the last sink, as a line of `cbor-edn: ` and its message. That sink takes the whole line, nothing where
 /// memory for it runs out, or a beginning where the sink fails.
 pub fn serve<R: Source, W: Sink, E: Sink>(
     alloc: Global,
@@ -271,8 +270,8 @@ pub fn serve<R: Source, W: Sink, E: Sink>(
         × EndsReading r (R.since source.new)
         × EndsWriting r (W.since sink.new) }
     ensures quiet { result ≡ 0 → Keeps (E.contents errors.old) (E.contents errors.new) × (E.failures errors.new ≡ E.failures errors.old) }
-    ensures told { result ≡ 1 → IsTold (E.contents errors.old) (E.contents errors.new) × FailsAtMostOnce (E.failures errors.old) (E.failures errors.new) (E.since errors.new) }
-    ensures whole { result ≡ 1 → E.failures errors.new ≡ E.failures errors.old → IsToldWhole (E.contents errors.old) (E.contents errors.new) }
+    ensures reported { result ≡ 1 → IsReported (E.contents errors.old) (E.contents errors.new) × FailsAtMostOnce (E.failures errors.old) (E.failures errors.new) (E.since errors.new) }
+    ensures whole { result ≡ 1 → E.failures errors.new ≡ E.failures errors.old → IsReportedWhole (E.contents errors.old) (E.contents errors.new) }
 {
     match run(alloc, options, source, sink) {
         Ok(()) => 0,

@@ -12,10 +12,10 @@ pub use cbor_edn_command::words;
 pub use cbor_edn_core::access::{
     ArrayItems, ArrayItemsMut, MapItems, MapItemsMut, SequenceItemsMut, TypeMismatch,
 };
-pub use cbor_edn_core::from_cbor::CborError;
+pub use cbor_edn_core::cbor::decode::CborError;
 pub use cbor_edn_core::tree::{Item, NESTING_LIMIT, Sequence, StandaloneItem};
-pub use cbor_edn_core::visitor::MapValueHandler;
-pub use cbor_edn_model::word::NamedSimple;
+pub use cbor_edn_core::visit::MapValueHandler;
+pub use cbor_edn_model::text::keyword::NamedSimple;
 pub use cbor_edn_parts::error::{CallbackError, Fault, InconsistentEdn, ParseError};
 pub use cbor_edn_parts::indicator::Indicator;
 pub use cbor_edn_parts::looks::Looks;

@@ -1,7 +1,8 @@
 //! What the options of a run make of the items that it reads, step by step.
-ghost use Rattle.std.specs.Prelude.{◌≡◌, not, OnOk};
-ghost use Rattle.cbor_edn_core.specs.View.{sequence_tree};
-ghost use Rattle.cbor_edn_model.specs.Trees.{Tree, Seq};
+ghost use Rattle.std.specs.Prelude.{◌≡◌, not, OnOk, IfOk};
+ghost use Rattle.std.specs.String.{string_bytes};
+ghost use Rattle.cbor_edn_core.specs.tree.View.{sequence_tree};
+ghost use Rattle.cbor_edn_model.specs.tree.Trees.{Tree, Seq, text};
 ghost use Rattle.cbor_edn_parts.specs.Spacing.{indented};
 ghost use Rattle.cbor_edn_parts.specs.declared.policy.DelimiterPolicy.TheVariants.{DiscardAll};
 ghost use Rattle.cbor_edn_conversions.specs.Addresses.{resolve_address, pretty_address};
@@ -36,18 +37,18 @@ pub(crate) fn take(
     tag_literals(alloc, options.apply_999, sequence)
 }
 
-/// The last step.
-pub(crate) fn indent(
+/// The text after the last step, whose spaces the tree itself does not get.
+pub(crate) fn spaced_text(
     alloc: Global,
     options: &Options,
-    sequence: &mut Sequence<'_>,
-) -> Result<(), AllocError>
-    ensures { OnOk result (Where (not options.now.preserve_space) (IsLaidOut indented) (sequence_tree sequence.old) (sequence_tree sequence.new)) }
+    sequence: &Sequence<'_>,
+) -> Result<String, AllocError>
+    ensures { IfOk result (λ t. (v : Tree Seq) × Where (not options.now.preserve_space) (IsLaidOut indented) (sequence_tree sequence.now) v × (string_bytes t ≡ text v)) }
 {
     if options.preserve_space {
-        Ok(())
+        sequence.serialize(alloc)
     } else {
-        sequence.set_delimiters(alloc, DelimiterPolicy::indented())
+        sequence.serialize_laid_out(alloc, DelimiterPolicy::indented())
     }
 }
 

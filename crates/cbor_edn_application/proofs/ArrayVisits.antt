@@ -4,45 +4,45 @@ use Rattle.std.specs.Fn.{Called}
 use Rattle.std.specs.declared.string.String.{String}
 use Rattle.std.specs.declared.alloc.Global.{Global}
 use Rattle.cbor_edn_parts.specs.declared.error.CallbackError.{CallbackError}
-use Rattle.cbor_edn_core.specs.Callbacks.{Callback, IsCall, answer_of}
-use Rattle.cbor_edn_core.specs.View.{Item, item_tree}
-use Rattle.cbor_edn_model.specs.Accessed.{array_items, element}
-use Rattle.cbor_edn_model.specs.Items.{Elements, Array, Map}
-use Rattle.cbor_edn_model.specs.Trees.{Tree, OneItem, OneEntry, Rest, NumberTree, FloatTree, NamedTree, EnclosedTree, ListTree, StringTree, StreamTree, FullTree, LastTree, MoreTree, ElementTree}
-use Rattle.cbor_edn_model.specs.Visits as visits
-use Rattle.cbor_edn_model.specs.Visits.{Answer, fine, comment, no_memory, answered, Call, Ending, whole, cut, VisitElement, VisitEntries, last, more, stops, full, empty, VisitArray, elements, Chain}
+use Rattle.cbor_edn_core.specs.visit.Callbacks.{Callback, IsCall, answer_of}
+use Rattle.cbor_edn_core.specs.tree.View.{Item, item_tree}
+use Rattle.cbor_edn_model.specs.access.Accessed.{array_items, element}
+use Rattle.cbor_edn_model.specs.tree.Items.{Elements, Array, Map}
+use Rattle.cbor_edn_model.specs.tree.Trees.{Tree, OneItem, OneEntry, Rest, NumberTree, FloatTree, NamedTree, EnclosedTree, ListTree, StringTree, StreamTree, FullTree, LastTree, MoreTree, ElementTree}
+use Rattle.cbor_edn_model.specs.visit.Visits as visits
+use Rattle.cbor_edn_model.specs.visit.Visits.{Answer, fine, comment, no_memory, answered, Call, Ending, whole, cut, VisitElement, VisitEntries, last, more, stops, full, empty, VisitArray, elements, Chain}
 use Rattle.cbor_edn_conversions.specs.Annotations.{turned, commented, direction_at, with_direction}
 use Rattle.cbor_edn_application.specs.Acts.{AnswersSo}
-use Rattle.cbor_edn_application.specs.Places.{next_place, direction_in}
-use Rattle.cbor_edn_application.specs.declared.language.Place.{Place}
-use Rattle.cbor_edn_application.specs.declared.language.Place.TheVariants.{First, Second, Third, Later}
-use Rattle.cbor_edn_application.proofs.Visiting.{chain_first}
+use Rattle.cbor_edn_application.specs.Ordinals.{next_ordinal, direction_in}
+use Rattle.cbor_edn_application.specs.declared.language.Ordinal.{Ordinal}
+use Rattle.cbor_edn_application.specs.declared.language.Ordinal.TheVariants.{First, Second, Third, Later}
+use Rattle.cbor_edn_application.proofs.VisitChains.{chain_first}
 
--- ---- places by numbers
+-- ---- ordinals by numbers
 
-abbrev pub place_of : ℕ → Place
-place_of zero = First
-place_of (suc zero) = Second
-place_of (suc (suc zero)) = Third
-place_of (suc (suc (suc n))) = Later
+abbrev pub ordinal_of : ℕ → Ordinal
+ordinal_of zero = First
+ordinal_of (suc zero) = Second
+ordinal_of (suc (suc zero)) = Third
+ordinal_of (suc (suc (suc n))) = Later
 
-place_next : (i : ℕ) → next_place (place_of i) ≡ place_of (suc i)
-place_next zero = refl
-place_next (suc zero) = refl
-place_next (suc (suc zero)) = refl
-place_next (suc (suc (suc n))) = refl
+ordinal_next : (i : ℕ) → next_ordinal (ordinal_of i) ≡ ordinal_of (suc i)
+ordinal_next zero = refl
+ordinal_next (suc zero) = refl
+ordinal_next (suc (suc zero)) = refl
+ordinal_next (suc (suc (suc n))) = refl
 
-place_answer : (i : ℕ) (w : Tree OneItem) → direction_in (place_of i) w ≡ direction_at i w
-place_answer zero w = refl
-place_answer (suc zero) w = refl
-place_answer (suc (suc zero)) w = refl
-place_answer (suc (suc (suc n))) w = refl
+ordinal_answer : (i : ℕ) (w : Tree OneItem) → direction_in (ordinal_of i) w ≡ direction_at i w
+ordinal_answer zero w = refl
+ordinal_answer (suc zero) w = refl
+ordinal_answer (suc (suc zero)) w = refl
+ordinal_answer (suc (suc (suc n))) w = refl
 
-place_third : (i : ℕ) → i ≢ 2 → place_of i ≢ Third
-place_third zero n e = cc
-place_third (suc zero) n e = cc
-place_third (suc (suc zero)) n e = n refl
-place_third (suc (suc (suc m))) n e = cc
+ordinal_third : (i : ℕ) → i ≢ 2 → ordinal_of i ≢ Third
+ordinal_third zero n e = cc
+ordinal_third (suc zero) n e = cc
+ordinal_third (suc (suc zero)) n e = n refl
+ordinal_third (suc (suc (suc m))) n e = cc
 
 front_quiet : (i : ℕ) (w : Tree OneItem) → i < 2 → direction_at i w ≡ fine
 front_quiet zero w front = refl
@@ -81,28 +81,28 @@ last_same a b = cc
 more_same : {e f : Tree (OneEntry Elements)} {s t : List ℕ} {m n : Tree (Rest Elements)} → f ≡ e → t ≡ s → n ≡ m → MoreTree f t n ≡ MoreTree e s m
 more_same a b c = cc
 
-module _ {F : Type 0} (place : F → Place) (callback : Callback Item (Result (Option (String Global)) CallbackError) F)
+module _ {F : Type 0} (ordinal : F → Ordinal) (callback : Callback Item (Result (Option (String Global)) CallbackError) F)
     (each : (p q : F) (x y : MutBor Item) (z : Result (Option (String Global)) CallbackError) → Called callback p (x, tt) (z, (y, tt)) q
-    → (place q ≡ next_place (place p)) × (item_tree y.now ≡ item_tree x.now) × AnswersSo (direction_in (place p) (item_tree x.now)) (answer_of z) × (place p ≢ Third → answer_of z ≡ fine)) where
+    → (ordinal q ≡ next_ordinal (ordinal p)) × (item_tree y.now ≡ item_tree x.now) × AnswersSo (direction_in (ordinal p) (item_tree x.now)) (answer_of z) × (ordinal p ≢ Third → answer_of z ≡ fine)) where
   abbrev Step : F → Call → F → Type 0
   Step = IsCall item_tree callback
 
-  noted_call : (f g : F) (c : Call) (i : ℕ) → place f ≡ place_of i → Step f c g → (place g ≡ place_of (suc i)) × Noted i c
+  noted_call : (f g : F) (c : Call) (i : ℕ) → ordinal f ≡ ordinal_of i → Step f c g → (ordinal g ≡ ordinal_of (suc i)) × Noted i c
   noted_call f g c i here s =
       let h = each f g s.called.shown s.called.left s.answer s.called.called in
       let before : item_tree s.called.shown.now ≡ c.before = ap item_tree s.called.shows ∙ s.begins in
       let after : item_tree s.called.left.now ≡ c.after = ap item_tree s.called.leaves ∙ s.leaves in
-      let wanted : direction_in (place f) (item_tree s.called.shown.now) ≡ direction_at i c.before = ap (λ p. direction_in p (item_tree s.called.shown.now)) here ∙ (ap (direction_in (place_of i)) before ∙ place_answer i c.before) in
-      let answers : AnswersSo (direction_at i c.before) c.answer = subst (λ a. AnswersSo a c.answer) wanted (subst (λ r. AnswersSo (direction_in (place f) (item_tree s.called.shown.now)) r) s.answers h.2) in (
-        h.0 ∙ (ap next_place here ∙ place_next i),
+      let wanted : direction_in (ordinal f) (item_tree s.called.shown.now) ≡ direction_at i c.before = ap (λ p. direction_in p (item_tree s.called.shown.now)) here ∙ (ap (direction_in (ordinal_of i)) before ∙ ordinal_answer i c.before) in
+      let answers : AnswersSo (direction_at i c.before) c.answer = subst (λ a. AnswersSo a c.answer) wanted (subst (λ r. AnswersSo (direction_in (ordinal f) (item_tree s.called.shown.now)) r) s.answers h.2) in (
+        h.0 ∙ (ap next_ordinal here ∙ ordinal_next i),
         record {
           same = sym after ∙ (h.1 ∙ before);
           answers = answers;
-          quiet = λ n. sym s.answers ∙ h.3 (λ e. place_third i n (sym here ∙ e));
+          quiet = λ n. sym s.answers ∙ h.3 (λ e. ordinal_third i n (sym here ∙ e));
         },
       )
 
-  row_whole : {m n : Tree (Rest Elements)} {cs : List Call} {r : Ending} {f g : F} (i : ℕ) → VisitEntries VisitElement m cs n r → r ≡ whole → Chain Step f cs g → place f ≡ place_of i → n ≡ turned (commented direction_at) i m
+  row_whole : {m n : Tree (Rest Elements)} {cs : List Call} {r : Ending} {f g : F} (i : ℕ) → VisitEntries VisitElement m cs n r → r ≡ whole → Chain Step f cs g → ordinal f ≡ ordinal_of i → n ≡ turned (commented direction_at) i m
   row_whole {f = f} i (last {c = c} one) is chain here =
       let h = chain_first chain in let k = noted_call f h.0 c i here h.1 in let x = one_whole i one is k.1 in last_same x.0 x.1
   row_whole {f = f} i (more {c = c} one rest) is chain here =
@@ -110,7 +110,7 @@ module _ {F : Type 0} (place : F → Place) (callback : Callback Item (Result (O
   row_whole i (stops one) is chain here = absurd cc
 
   -- behind the third no call is refused
-  late : {m n : Tree (Rest Elements)} {cs : List Call} {r : Ending} {f g : F} (i : ℕ) → 2 < i → VisitEntries VisitElement m cs n r → r ≡ cut → Chain Step f cs g → place f ≡ place_of i → ⊥
+  late : {m n : Tree (Rest Elements)} {cs : List Call} {r : Ending} {f g : F} (i : ℕ) → 2 < i → VisitEntries VisitElement m cs n r → r ≡ cut → Chain Step f cs g → ordinal f ≡ ordinal_of i → ⊥
   late {f = f} i behind (last {c = c} one) is chain here =
       let h = chain_first chain in let k = noted_call f h.0 c i here h.1 in (one_cut i one is k.1).2 (k.1.quiet (λ e. omega (arith, e)))
   late {f = f} i behind (more {c = c} one rest) is chain here =
@@ -118,7 +118,7 @@ module _ {F : Type 0} (place : F → Place) (callback : Callback Item (Result (O
   late {f = f} i behind (stops {c = c} one) is chain here =
       let h = chain_first chain in let k = noted_call f h.0 c i here h.1 in (one_cut i one refl k.1).2 (k.1.quiet (λ e. omega (arith, e)))
 
-  row_cut : {m n : Tree (Rest Elements)} {cs : List Call} {r : Ending} {f g : F} (i : ℕ) → (i ≡ 2) ⊎ (i < 2) → VisitEntries VisitElement m cs n r → r ≡ cut → Chain Step f cs g → place f ≡ place_of i → n ≡ m
+  row_cut : {m n : Tree (Rest Elements)} {cs : List Call} {r : Ending} {f g : F} (i : ℕ) → (i ≡ 2) ⊎ (i < 2) → VisitEntries VisitElement m cs n r → r ≡ cut → Chain Step f cs g → ordinal f ≡ ordinal_of i → n ≡ m
   row_cut {f = f} i at (last {c = c} one) is chain here =
       let h = chain_first chain in let k = noted_call f h.0 c i here h.1 in let x = one_cut i one is k.1 in last_same x.0 x.1
   row_cut {f = f} i at (stops {c = c} one) is chain here =
@@ -129,11 +129,11 @@ module _ {F : Type 0} (place : F → Place) (callback : Callback Item (Result (O
       let h = chain_first chain in let k = noted_call f h.0 c i here h.1 in let x = one_whole i one refl k.1 in
       more_same x.0 (x.1 ∙ ap (λ a. answered a s) (front_quiet i (element e) front)) (row_cut (suc i) (front_next i front) rest is h.2 k.0)
 
-  pub array_whole : {w v : Tree OneItem} {cs : List Call} {r : Ending} {f g : F} → VisitArray w cs v r → r ≡ whole → Chain Step f cs g → place f ≡ First → (fine ≡ (with_direction w).0) × (v ≡ (with_direction w).1)
+  pub array_whole : {w v : Tree OneItem} {cs : List Call} {r : Ending} {f g : F} → VisitArray w cs v r → r ≡ whole → Chain Step f cs g → ordinal f ≡ First → (fine ≡ (with_direction w).0) × (v ≡ (with_direction w).1)
   array_whole (elements (full {h = h} {s = s} a)) is chain here = (refl, ap (λ m. ListTree Array (FullTree h s m)) (row_whole 0 a is chain here))
   array_whole (elements empty) is chain here = (refl, refl)
 
-  pub array_cut : {w v : Tree OneItem} {cs : List Call} {r : Ending} {f g : F} → VisitArray w cs v r → r ≡ cut → Chain Step f cs g → place f ≡ First → v ≡ w
+  pub array_cut : {w v : Tree OneItem} {cs : List Call} {r : Ending} {f g : F} → VisitArray w cs v r → r ≡ cut → Chain Step f cs g → ordinal f ≡ First → v ≡ w
   array_cut (elements (full {h = h} {s = s} a)) is chain here = ap (λ m. ListTree Array (FullTree h s m)) (row_cut 0 (inr (lit< tt)) a is chain here)
   array_cut (elements empty) is chain here = absurd cc
 

@@ -8,10 +8,10 @@ use Rattle.cbor_edn_parts.specs.declared.error.Fault.{Fault}
 use Rattle.cbor_edn_parts.specs.declared.error.Fault.TheVariants.{Told}
 use Rattle.cbor_edn_parts.specs.Refusals.{IfTold}
 use Rattle.cbor_edn_core.specs.declared.access.TypeMismatch.{TypeMismatch}
-use Rattle.cbor_edn_model.specs.Accessed.{map_items}
-use Rattle.cbor_edn_model.specs.Items.{Elements}
-use Rattle.cbor_edn_model.specs.Paths.{items_in, at, at_sequence, with_item, with_at, with_at_sequence}
-use Rattle.cbor_edn_model.specs.Trees.{Tree, OneItem, Rest, Seq, ElementTree, LastTree, MoreTree, NothingTree, SequenceTree}
+use Rattle.cbor_edn_model.specs.access.Accessed.{map_items}
+use Rattle.cbor_edn_model.specs.tree.Items.{Elements}
+use Rattle.cbor_edn_model.specs.access.Paths.{items_in, at, at_sequence, with_item, with_at, with_at_sequence}
+use Rattle.cbor_edn_model.specs.tree.Trees.{Tree, OneItem, Rest, Seq, ElementTree, LastTree, MoreTree, NothingTree, SequenceTree}
 use Rattle.cbor_edn_conversions.specs.Claims.{claim_key, with_claims}
 use Rattle.cbor_edn_application.specs.Sequences.{each_item, with_each, with_claims_sets, IsAnnotatedAt}
 use Rattle.cbor_edn_application.proofs.MapVisits.{no_map}

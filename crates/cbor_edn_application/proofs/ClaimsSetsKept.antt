@@ -1,16 +1,16 @@
 -- A sequence with the comments of its claims sets means what it meant.
 use Rattle.std.proofs.Common.{Some}
-use Rattle.cbor_edn_model.specs.Items.{Elements}
-use Rattle.cbor_edn_model.specs.Meaning.{one_more}
-use Rattle.cbor_edn_model.specs.Trees.{Tree, OneItem, Rest, Seq, ElementTree, LastTree, MoreTree, NothingTree, SequenceTree, items}
-use Rattle.cbor_edn_model.specs.Value.{Values, no_values}
+use Rattle.cbor_edn_model.specs.tree.Items.{Elements}
+use Rattle.cbor_edn_model.specs.cbor.Meaning.{one_more}
+use Rattle.cbor_edn_model.specs.tree.Trees.{Tree, OneItem, Rest, Seq, ElementTree, LastTree, MoreTree, NothingTree, SequenceTree, items}
+use Rattle.cbor_edn_model.specs.cbor.Value.{Values, no_values}
 use Rattle.cbor_edn_conversions.specs.Claims.{with_claims}
 use Rattle.cbor_edn_conversions.specs.Resolvers.{TurnsTo, literal_resolver}
 use Rattle.cbor_edn_conversions.specs.Resolving.{Resolver, means_by}
 use Rattle.cbor_edn_conversions.proofs.conversions.ConversionsKept.{claims_keep}
 use Rattle.cbor_edn_conversions.proofs.resolving.Keeping.{two_steps}
 use Rattle.cbor_edn_conversions.proofs.resolving.VisitsKept.{Below, belows}
-use Rattle.cbor_edn_application.specs.Laws.{ClaimsSetsKeep}
+use Rattle.cbor_edn_application.specs.VisitLaws.{ClaimsSetsKeep}
 use Rattle.cbor_edn_application.specs.Sequences.{each_item, with_each}
 
 module _ (R : Resolver) (f : Tree OneItem → Tree OneItem) (turns : (w : Tree OneItem) → TurnsTo R R w (f w)) where

@@ -2,12 +2,12 @@
 use Rattle.std.proofs.Common.{◌≡◌, ℕ, false, List, [], ◌∷◌, Option, Some, None, refl, sym, ap, ◌∙◌}
 use Rattle.std.specs.Prelude.{nat_eq, option_and_then, ◌&&◌}
 use Rattle.std.specs.Cmp.Lexicographic.{pointwise}
-use Rattle.cbor_edn_parts.specs.code.ContentReading.{same}
-use Rattle.cbor_edn_model.specs.Meaning.{means}
-use Rattle.cbor_edn_model.specs.Trees.{Tree, OneItem, items}
-use Rattle.cbor_edn_model.specs.Value.{Value, Enc, AreBytes}
+use Rattle.cbor_edn_parts.specs.internal.ContentReading.{same}
+use Rattle.cbor_edn_model.specs.cbor.Meaning.{means}
+use Rattle.cbor_edn_model.specs.tree.Trees.{Tree, OneItem, items}
+use Rattle.cbor_edn_model.specs.cbor.Value.{Value, Enc, AreBytes}
 use Rattle.cbor_edn_conversions.specs.Conversions.{are_same, encoded, item_encoding}
-use Rattle.cbor_edn_conversions.proofs.conversions.Same.{encodings_computed}
+use Rattle.cbor_edn_conversions.proofs.conversions.SameValues.{encodings_computed}
 
 pub none_left : (o p : Option (List ℕ)) → None ≡ o → false ≡ are_same o p
 none_left None p e = refl

@@ -1,17 +1,17 @@
 -- An item with another first item below it, and a tag with another content.
 use Rattle.std.proofs.Common.{◌≡◌, ◌-◌, ◌==◌, ℕ, Bool, true, false, Option, Some, None, List, [], ◌∷◌, ◌++◌, length, refl, sym, ap, ◌∙◌, subst}
 use Rattle.std.specs.Prelude.{if◌then◌else◌, ltb, slice_get, option_map, unwrap_or}
-use Rattle.cbor_edn_model.specs.declared.label.LabelKind.TheVariants as label
+use Rattle.cbor_edn_model.specs.declared.text.label.LabelKind.TheVariants as label
 use Rattle.cbor_edn_parts.specs.declared.indicator.Indicator.{Indicator}
-use Rattle.cbor_edn_model.specs.Accessed.{tag_content}
-use Rattle.cbor_edn_model.specs.Decoded.{alone}
-use Rattle.cbor_edn_model.specs.Paths.{items_in, at, with_item, with_at, at_standalone, with_at_standalone}
-use Rattle.cbor_edn_model.specs.Trees.{Rule, Tree, OneItem, Standalone, NumberTree, FloatTree, NamedTree, EnclosedTree, ListTree, StringTree, StreamTree, LiteralTree, DotsTree, EmbeddedTree, LastPieceTree, PlusTree, ElementTree, PairTree, ChunkTree, EmptyTree, FullTree, LastTree, MoreTree, NothingTree, SequenceTree, StandaloneTree}
-use Rattle.cbor_edn_model.specs.Seeking.{number}
-use Rattle.cbor_edn_model.proofs.meaning.MeaningSteps.{some_is}
-use Rattle.cbor_edn_core.specs.Constructed.{tagged_tree}
-use Rattle.cbor_edn_core.specs.Lent.{with_tag_content}
-use Rattle.cbor_edn_conversions.specs.Conversions.{told_tag, tag_tree}
+use Rattle.cbor_edn_model.specs.access.Accessed.{tag_content}
+use Rattle.cbor_edn_model.specs.cbor.Decoded.{alone}
+use Rattle.cbor_edn_model.specs.access.Paths.{items_in, at, with_item, with_at, at_standalone, with_at_standalone}
+use Rattle.cbor_edn_model.specs.tree.Trees.{Rule, Tree, OneItem, Standalone, NumberTree, FloatTree, NamedTree, EnclosedTree, ListTree, StringTree, StreamTree, LiteralTree, DotsTree, EmbeddedTree, LastPieceTree, PlusTree, ElementTree, PairTree, ChunkTree, EmptyTree, FullTree, LastTree, MoreTree, NothingTree, SequenceTree, StandaloneTree}
+use Rattle.cbor_edn_model.specs.visit.Seeking.{number}
+use Rattle.cbor_edn_model.proofs.lemmas.cbor.MeaningSteps.{some_is}
+use Rattle.cbor_edn_core.specs.tree.Constructed.{tagged_tree}
+use Rattle.cbor_edn_core.specs.access.Lent.{with_tag_content}
+use Rattle.cbor_edn_conversions.specs.Conversions.{called_tag, tag_tree}
 use Rattle.cbor_edn_application.proofs.TagParts.{parts}
 
 none_in_two : {A : Type 0} (xs ys : List A) → xs ++ ys ≡ [] → (xs ≡ []) × (ys ≡ [])
@@ -63,7 +63,7 @@ first_by w v x r y s t same alone put is =
 
 -- ---- a tag with another content
 
--- the tag that is told, without its spaces
+-- the tag of the call, without its spaces
 record IsTagOf (n : ℕ) (i : Option Indicator) (w old : Tree OneItem) : Type 0 where
   pub before : List ℕ
   pub behind : List ℕ
@@ -72,17 +72,17 @@ record IsTagOf (n : ℕ) (i : Option Indicator) (w old : Tree OneItem) : Type 0 
 abbrev tag_of : Option Indicator → ℕ → List ℕ → Tree OneItem → List ℕ → Tree OneItem
 tag_of i n s w t = EnclosedTree (label.Tag i n) (StandaloneTree s w t)
 
-told_by : (b : Bool) (m n : ℕ) (j i : Option Indicator) (s t : List ℕ) (v w : Tree OneItem) → (if b then Some (parts m j v) else None) ≡ Some (parts n i w) → IsTagOf n i w (EnclosedTree (label.Tag j m) (StandaloneTree s v t))
-told_by true m n j i s t v w e =
+called_by : (b : Bool) (m n : ℕ) (j i : Option Indicator) (s t : List ℕ) (v w : Tree OneItem) → (if b then Some (parts m j v) else None) ≡ Some (parts n i w) → IsTagOf n i w (EnclosedTree (label.Tag j m) (StandaloneTree s v t))
+called_by true m n j i s t v w e =
     let same = some_is (parts m j v) (parts n i w) e in
     record { before = s; behind = t; is = by (ap (λ (p : ℕ × Option Indicator × Tree OneItem). p.0) same) (ap (λ (p : ℕ × Option Indicator × Tree OneItem). p.1) same) (ap (λ (p : ℕ × Option Indicator × Tree OneItem). p.2) same) }
   where
     by : {m n : ℕ} {j i : Option Indicator} {v w : Tree OneItem} → m ≡ n → j ≡ i → v ≡ w → tag_of j m s v t ≡ tag_of i n s w t
     by a b c = cc
-told_by false m n j i s t v w e = absurd cc
+called_by false m n j i s t v w e = absurd cc
 
-is_tag_of : (k n : ℕ) (i : Option Indicator) (w old : Tree OneItem) → told_tag (number k) old ≡ Some (n, i, w) → IsTagOf n i w old
-is_tag_of k n i w (EnclosedTree (label.Tag j m) (StandaloneTree s v t)) e = told_by (k == m) m n j i s t v w e
+is_tag_of : (k n : ℕ) (i : Option Indicator) (w old : Tree OneItem) → called_tag (number k) old ≡ Some (n, i, w) → IsTagOf n i w old
+is_tag_of k n i w (EnclosedTree (label.Tag j m) (StandaloneTree s v t)) e = called_by (k == m) m n j i s t v w e
 is_tag_of k n i w (EnclosedTree label.Simple c) e = absurd cc
 is_tag_of k n i w (NumberTree x j) e = absurd cc
 is_tag_of k n i w (FloatTree f j) e = absurd cc
@@ -92,8 +92,8 @@ is_tag_of k n i w (StringTree c) e = absurd cc
 is_tag_of k n i w (StreamTree s m) e = absurd cc
 
 -- the content, once x stands in the place of its first item
-pub content_with_first : (n : ℕ) (i : Option Indicator) (w old x y : Tree OneItem) → told_tag (number n) old ≡ Some (n, i, w) → unwrap_or (at (0 ∷ []) (with_at (0 ∷ 0 ∷ []) x old)) y ≡ with_item 0 x w
-content_with_first n i w old x y told = ap (λ o. unwrap_or (at (0 ∷ []) (with_at (0 ∷ 0 ∷ []) x o)) y) (is_tag_of n n i w old told).is ∙ first_put x w
+pub content_with_first : (n : ℕ) (i : Option Indicator) (w old x y : Tree OneItem) → called_tag (number n) old ≡ Some (n, i, w) → unwrap_or (at (0 ∷ []) (with_at (0 ∷ 0 ∷ []) x old)) y ≡ with_item 0 x w
+content_with_first n i w old x y called = ap (λ o. unwrap_or (at (0 ∷ []) (with_at (0 ∷ 0 ∷ []) x o)) y) (is_tag_of n n i w old called).is ∙ first_put x w
 
 -- what a loan of the content leaves and gives
 module _ (n : ℕ) (w old : Tree OneItem) (is : old ≡ tag_tree n w) (s : Tree Standalone) (content : Some s ≡ tag_content old) (path : List ℕ) (x : Tree OneItem) where

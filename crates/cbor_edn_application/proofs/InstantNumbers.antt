@@ -5,8 +5,8 @@ use Rattle.std.specs.Fmt.{decimal}
 use Rattle.cbor_edn_parts.specs.Number.{IsNumber}
 use Rattle.cbor_edn_parts.specs.Number as numbers
 use Rattle.cbor_edn_literals.specs.TimeDecimal.{IsNumberOf, integer, pointed}
-use Rattle.cbor_edn_literals.specs.code.TimeWriting.{AreShortest}
-use Rattle.cbor_edn_literals.specs.code.TimeComputing.{shortest_digits, pointed_text, instant_number}
+use Rattle.cbor_edn_literals.specs.internal.TimeWriting.{AreShortest}
+use Rattle.cbor_edn_literals.specs.internal.TimeComputing.{shortest_digits, pointed_text, instant_number}
 use Rattle.cbor_edn_literals.proofs.TimeComputedNumbers.{shortest_are}
 use Rattle.cbor_edn_literals.proofs.TimeDecimals.{positive_by, negative_by}
 use Rattle.cbor_edn_literals.proofs.TimeGrammar.{decimal_is_number, whole_number}

@@ -1,7 +1,7 @@
 -- Comments in confirmation methods and in OSCORE security contexts change spaces alone.
 use Rattle.std.proofs.Common.{◌≡◌, ℤ, List, ℕ, Option, None, Some, refl}
 use Rattle.std.specs.Prelude.{option_map, option_and_then}
-use Rattle.cbor_edn_model.specs.Trees.{Tree, OneItem, items}
+use Rattle.cbor_edn_model.specs.tree.Trees.{Tree, OneItem, items}
 use Rattle.cbor_edn_conversions.specs.declared.tables.ConfirmationValue.{ConfirmationValue}
 use Rattle.cbor_edn_conversions.specs.declared.tables.ConfirmationValue.TheVariants.{Oscore}
 use Rattle.cbor_edn_conversions.specs.declared.tables.ParameterValue.{ParameterValue}

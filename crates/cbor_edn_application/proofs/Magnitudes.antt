@@ -8,8 +8,8 @@ use Rattle.cbor_edn_parts.specs.Refusals.{IfTold}
 use Rattle.cbor_edn_parts.specs.declared.error.Fault.{Fault}
 use Rattle.cbor_edn_parts.specs.declared.error.Fault.TheVariants.{Told}
 use Rattle.cbor_edn_parts.specs.Number.{IsNumber, integer}
-use Rattle.cbor_edn_parts.proofs.Decimals.{signed_literal}
-use Rattle.cbor_edn_model.proofs.meaning.MeaningSteps.{some_is}
+use Rattle.cbor_edn_parts.proofs.lemmas.number.Decimals.{signed_literal}
+use Rattle.cbor_edn_model.proofs.lemmas.cbor.MeaningSteps.{some_is}
 use Rattle.cbor_edn_conversions.specs.Bignums.{magnitude, bignum_integer}
 
 abbrev pub AreBelow : List ℕ → Type 0

@@ -5,19 +5,19 @@ use Rattle.std.specs.Fn.{Called}
 use Rattle.std.specs.declared.string.String.{String}
 use Rattle.std.specs.declared.alloc.Global.{Global}
 use Rattle.cbor_edn_parts.specs.declared.error.CallbackError.{CallbackError}
-use Rattle.cbor_edn_core.specs.Callbacks.{Callback, Handles, IsKeyCall, Spends, none, drops, spends, answer_of, key_answer, handler_of}
-use Rattle.cbor_edn_core.specs.View.{Item, item_tree}
-use Rattle.cbor_edn_model.specs.Accessed.{map_items}
-use Rattle.cbor_edn_model.specs.Items as kind
-use Rattle.cbor_edn_model.specs.Items.{Node, Entry, Entries, Pairs, Array, Map}
-use Rattle.cbor_edn_model.specs.Trees.{Tree, OneItem, OneEntry, Rest, NumberTree, FloatTree, NamedTree, EnclosedTree, ListTree, StringTree, StreamTree, EmptyTree, FullTree, LastTree, MoreTree, PairTree, mark, items}
-use Rattle.cbor_edn_model.specs.Visits as visits
-use Rattle.cbor_edn_model.specs.Visits.{Answer, fine, comment, no_memory, answered, Call, KeyCall, Handler, no_handler, dropped, spent, Ending, whole, VisitPair, VisitEntries, last, more, stops, full, empty, VisitMap, pairs, Chain}
+use Rattle.cbor_edn_core.specs.visit.Callbacks.{Callback, Handles, IsKeyCall, Spends, none, drops, spends, answer_of, key_answer, handler_of}
+use Rattle.cbor_edn_core.specs.tree.View.{Item, item_tree}
+use Rattle.cbor_edn_model.specs.access.Accessed.{map_items}
+use Rattle.cbor_edn_model.specs.tree.Items as kind
+use Rattle.cbor_edn_model.specs.tree.Items.{Node, Entry, Entries, Pairs, Array, Map}
+use Rattle.cbor_edn_model.specs.tree.Trees.{Tree, OneItem, OneEntry, Rest, NumberTree, FloatTree, NamedTree, EnclosedTree, ListTree, StringTree, StreamTree, EmptyTree, FullTree, LastTree, MoreTree, PairTree, head_indicator, items}
+use Rattle.cbor_edn_model.specs.visit.Visits as visits
+use Rattle.cbor_edn_model.specs.visit.Visits.{Answer, fine, comment, no_memory, answered, Call, KeyCall, Handler, no_handler, dropped, spent, Ending, whole, VisitPair, VisitEntries, last, more, stops, full, empty, VisitMap, pairs, Chain}
 use Rattle.cbor_edn_conversions.specs.Annotations.{turned}
 use Rattle.cbor_edn_conversions.specs.Claims.{KeyReply, value_turn, key_turn, with_keys}
 use Rattle.cbor_edn_conversions.specs.Conversions.{Reply}
 use Rattle.cbor_edn_application.specs.Handlers.{KeyAnswers, ValueAnswers, HandledBy, Keyed, AreKeysVisited}
-use Rattle.cbor_edn_application.proofs.Visiting.{chain_first, chain_all}
+use Rattle.cbor_edn_application.proofs.VisitChains.{chain_first, chain_all}
 
 last_same : {e f : Tree (OneEntry Pairs)} {s t : List ℕ} → f ≡ e → t ≡ s → LastTree f t ≡ LastTree e s
 last_same a b = cc
@@ -117,7 +117,7 @@ module _ (at_key : Tree OneItem → KeyReply) (kept : (k : Tree OneItem) → Kee
   keys_kept (NamedTree b) = refl
   keys_kept (EnclosedTree l w) = refl
   keys_kept (ListTree Array w) = refl
-  keys_kept (ListTree Map (FullTree h s m)) = ap (λ x. kind.Listed Map (mark h) x) (row_turned 0 m)
+  keys_kept (ListTree Map (FullTree h s m)) = ap (λ x. kind.Listed Map (head_indicator h) x) (row_turned 0 m)
   keys_kept (ListTree Map (EmptyTree i s)) = refl
   keys_kept (StringTree w) = refl
   keys_kept (StreamTree s m) = refl
@@ -139,7 +139,7 @@ module _ (at_key : Tree OneItem → KeyReply) (kept : (k : Tree OneItem) → Kee
 
   map_kept : {w v : Tree OneItem} {cs : List KeyCall} {r : Ending} → VisitMap w cs v r → All (Keyed at_key) cs → items v ≡ items w
   unfolding items
-  map_kept (pairs (full {h = h} a)) all = ap (λ x. kind.Listed Map (mark h) x) (row_kept a all)
+  map_kept (pairs (full {h = h} a)) all = ap (λ x. kind.Listed Map (head_indicator h) x) (row_kept a all)
   map_kept (pairs empty) all = refl
 
   -- and so has one whose visit was cut

@@ -1,22 +1,22 @@
 -- What one function does, where it alone acts.
 use Rattle.std.proofs.Common.{ℕ, ◌≡◌, ◌≢◌, ◌==◌, ◌||◌, Bool, false, cond, codes, List, refl, sym, ap, ◌∙◌, inl, inr}
 use Rattle.std.specs.Prelude.{◌⊎◌}
-use Rattle.cbor_edn_parts.specs.code.ContentReading.{same}
-use Rattle.cbor_edn_parts.proofs.Prefixes.{differ}
-use Rattle.cbor_edn_model.specs.Seeking.{Told, number, prefix_and_text}
-use Rattle.cbor_edn_model.specs.Trees.{Tree, OneItem}
-use Rattle.cbor_edn_model.specs.Visits.{Answer, fine, comment, no_memory}
+use Rattle.cbor_edn_parts.specs.internal.ContentReading.{same}
+use Rattle.cbor_edn_parts.proofs.lemmas.literal.LiteralPrefixes.{differ}
+use Rattle.cbor_edn_model.specs.visit.Seeking.{CallArguments, number, prefix_and_text}
+use Rattle.cbor_edn_model.specs.tree.Trees.{Tree, OneItem}
+use Rattle.cbor_edn_model.specs.visit.Visits.{Answer, fine, comment, no_memory}
 use Rattle.cbor_edn_conversions.specs.Conversions.{Reply}
 use Rattle.cbor_edn_conversions.specs.Times.{resolve_time, pretty_time}
 use Rattle.cbor_edn_conversions.specs.Addresses.{resolve_address, pretty_address}
 use Rattle.cbor_edn_conversions.specs.Bignums.{pretty_bignum}
 use Rattle.cbor_edn_conversions.specs.All.{resolve_all, pretty_all}
 use Rattle.cbor_edn_conversions.proofs.conversions.OneActs.{pretty_by_number, resolved_by_prefix}
-use Rattle.cbor_edn_application.proofs.Bignums.{other_false}
+use Rattle.cbor_edn_application.proofs.BignumBytes.{other_false}
 use Rattle.cbor_edn_application.specs.Acts.{Act, ActsBy}
 
 -- Two functions that say the same of an item act alike at it.
-pub acts_alike : (f g : Act) (a : Told) (w : Tree OneItem) (r : Answer) (v : Tree OneItem) → f a w ≡ g a w → ActsBy g a w r v → ActsBy f a w r v
+pub acts_alike : (f g : Act) (a : CallArguments) (w : Tree OneItem) (r : Answer) (v : Tree OneItem) → f a w ≡ g a w → ActsBy g a w r v → ActsBy f a w r v
 acts_alike f g a w no_memory v e h = h
 acts_alike f g a w fine v e h = (h.0 ∙ sym (ap (λ (p : Reply). p.0) e), h.1 ∙ sym (ap (λ (p : Reply). p.1) e))
 acts_alike f g a w (comment c) v e h = (h.0 ∙ sym (ap (λ (p : Reply). p.0) e), h.1 ∙ sym (ap (λ (p : Reply). p.1) e))

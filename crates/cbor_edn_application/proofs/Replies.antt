@@ -3,8 +3,8 @@ use Rattle.std.proofs.Common.{ℕ, List, Option, Some, None, Ok, Err, ◌≡◌,
 use Rattle.cbor_edn_parts.specs.declared.error.Fault.{Fault}
 use Rattle.cbor_edn_parts.specs.declared.error.Fault.TheVariants as fault
 use Rattle.cbor_edn_parts.specs.Refusals.{IfTold}
-use Rattle.cbor_edn_model.specs.Trees.{Tree, OneItem}
-use Rattle.cbor_edn_model.specs.Visits.{Answer, fine, comment, no_memory}
+use Rattle.cbor_edn_model.specs.tree.Trees.{Tree, OneItem}
+use Rattle.cbor_edn_model.specs.visit.Visits.{Answer, fine, comment, no_memory}
 use Rattle.cbor_edn_conversions.specs.Conversions.{Conversion, Reply, reply}
 use Rattle.cbor_edn_application.specs.Acts.{ActsSo}
 use Rattle.cbor_edn_application.specs.Refused.{AnswersFault}
@@ -24,7 +24,7 @@ acts_as f g w v (comment t) same acts = (acts.0 ∙ ap (λ (p : Reply). p.0) (sy
 pub done_acts : (o : Option Conversion) (w v u : Tree OneItem) → o ≡ Some (Ok v) → u ≡ v → ActsSo (λ x. reply x o) w fine u
 done_acts o w v u is same = (ap (λ o. (reply w o).0) (sym is), same ∙ ap (λ o. (reply w o).1) (sym is))
 
--- the words of why it stays, or want of memory
-pub stays_for : {E : Type 0} (words : E → List ℕ) (o : Option Conversion) (c : Conversion) (w : Tree OneItem) (f : Fault E) (r : Answer) → o ≡ Some c → IfTold {X = Unit {0}} (Err f) (λ e. c ≡ Err (words e)) → AnswersFault f words r → ActsSo (λ x. reply x o) w r w
-stays_for words o c w (fault.Memory e) r is told answers = subst (λ r. ActsSo (λ x. reply x o) w r w) (sym answers) refl
-stays_for words o c w (fault.Told e) r is told answers = refusal_acts (λ x. reply x o) w w (words e) r (ap (reply w) (is ∙ ap (λ c. Some c) told)) refl answers
+-- the message of why it stays, or want of memory
+pub stays_for : {E : Type 0} (message : E → List ℕ) (o : Option Conversion) (c : Conversion) (w : Tree OneItem) (f : Fault E) (r : Answer) → o ≡ Some c → IfTold {X = Unit {0}} (Err f) (λ e. c ≡ Err (message e)) → AnswersFault f message r → ActsSo (λ x. reply x o) w r w
+stays_for message o c w (fault.Memory e) r is told answers = subst (λ r. ActsSo (λ x. reply x o) w r w) (sym answers) refl
+stays_for message o c w (fault.Told e) r is told answers = refusal_acts (λ x. reply x o) w w (message e) r (ap (reply w) (is ∙ ap (λ c. Some c) told)) refl answers

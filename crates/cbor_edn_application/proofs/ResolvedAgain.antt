@@ -1,7 +1,7 @@
 -- The laws of visits that convert.
 use Rattle.std.proofs.Common.{sym, ◌∙◌}
-use Rattle.cbor_edn_model.specs.Seeking.{Told, IsTag, IsApplication}
-use Rattle.cbor_edn_model.specs.Trees.{Tree, OneItem, Seq, items}
+use Rattle.cbor_edn_model.specs.visit.Seeking.{CallArguments, IsTag, IsApplication}
+use Rattle.cbor_edn_model.specs.tree.Trees.{Tree, OneItem, Seq, items}
 use Rattle.cbor_edn_conversions.specs.Addresses.{resolve_address, pretty_address}
 use Rattle.cbor_edn_conversions.specs.All.{resolve_all, pretty_all}
 use Rattle.cbor_edn_conversions.specs.Annotations.{comment_lang}
@@ -20,14 +20,14 @@ use Rattle.cbor_edn_conversions.proofs.resolving.Resolved.{none_means}
 use Rattle.cbor_edn_conversions.proofs.resolving.Turning.{resolved_again, both_differ, none_applications, tags_visited_once, literals_visited_once}
 use Rattle.cbor_edn_conversions.proofs.resolving.VisitsKept.{visit_resolves}
 use Rattle.cbor_edn_application.specs.Acts.{Act}
-use Rattle.cbor_edn_application.specs.Laws.{SequencesResolvedAgain, ItemsResolvedAgain, VisitedOnce, VisitsKeep, VisitsLeave, LiteralsResolvedInTurn}
+use Rattle.cbor_edn_application.specs.VisitLaws.{SequencesResolvedAgain, ItemsResolvedAgain, VisitedOnce, VisitsKeep, VisitsLeave, LiteralsResolvedInTurn}
 use Rattle.cbor_edn_application.proofs.Unmoved.{visit_unmoved}
 use Rattle.cbor_edn_application.proofs.VisitsTurn.{whole_calls, ended_calls, visit_keeps}
 
 -- ---- visits that keep
 
 -- what a function leaves of a tag
-tags_keep : (act : Act) → ((a : Told) (w : Tree OneItem) → TurnsTo literal_resolver literal_resolver w (act a w).1) → VisitsKeep IsTag act
+tags_keep : (act : Act) → ((a : CallArguments) (w : Tree OneItem) → TurnsTo literal_resolver literal_resolver w (act a w).1) → VisitsKeep IsTag act
 tags_keep act turns = visit_keeps IsTag act literal_resolver (λ a w s. turns a w)
 
 pub pretty_times_keep : VisitsKeep IsTag pretty_time

@@ -1,13 +1,13 @@
 -- Comments in what stands in a tag.
 use Rattle.std.proofs.Common.{ℕ, Bool, true, false, List, [], ◌≡◌, None, Some, refl, sym, ap, subst, ◌∙◌, if◌then◌else◌}
-use Rattle.cbor_edn_model.specs.declared.label.LabelKind.TheVariants as label
-use Rattle.cbor_edn_model.specs.Accessed.{tag_content}
-use Rattle.cbor_edn_model.specs.Paths.{at_standalone, with_at_standalone}
-use Rattle.cbor_edn_model.specs.Seeking.{Told}
-use Rattle.cbor_edn_model.specs.Trees.{Tree, OneItem, Standalone, NumberTree, FloatTree, NamedTree, EnclosedTree, ListTree, StringTree, StreamTree, StandaloneTree}
-use Rattle.cbor_edn_model.specs.Visits.{Answer, fine, comment, no_memory}
-use Rattle.cbor_edn_core.specs.Lent.{with_tag_content}
-use Rattle.cbor_edn_conversions.specs.Annotations.{with_direction, at_content, is_told_tag, comment_lang}
+use Rattle.cbor_edn_model.specs.declared.text.label.LabelKind.TheVariants as label
+use Rattle.cbor_edn_model.specs.access.Accessed.{tag_content}
+use Rattle.cbor_edn_model.specs.access.Paths.{at_standalone, with_at_standalone}
+use Rattle.cbor_edn_model.specs.visit.Seeking.{CallArguments}
+use Rattle.cbor_edn_model.specs.tree.Trees.{Tree, OneItem, Standalone, NumberTree, FloatTree, NamedTree, EnclosedTree, ListTree, StringTree, StreamTree, StandaloneTree}
+use Rattle.cbor_edn_model.specs.visit.Visits.{Answer, fine, comment, no_memory}
+use Rattle.cbor_edn_core.specs.access.Lent.{with_tag_content}
+use Rattle.cbor_edn_conversions.specs.Annotations.{with_direction, at_content, is_called_tag, comment_lang}
 use Rattle.cbor_edn_conversions.specs.Conversions.{Reply}
 use Rattle.cbor_edn_application.specs.Acts.{ActsSo, ActsBy, ActsInside}
 
@@ -46,16 +46,16 @@ tag_acts f (StreamTree p m) v s t r holds lent acts = absurd cc
 
 -- ---- tag 38
 
--- a tag that is told has a content
-pub told_content : (a : Told) (n : ℕ) (w : Tree OneItem) → is_told_tag a n w ≡ true → tag_content w ≡ None → ⊥
-told_content a n (EnclosedTree (label.Tag i m) w) told none = cc
-told_content a n (EnclosedTree label.Simple w) told none = cc
-told_content a n (NumberTree x i) told none = cc
-told_content a n (FloatTree f i) told none = cc
-told_content a n (NamedTree b) told none = cc
-told_content a n (ListTree k w) told none = cc
-told_content a n (StringTree w) told none = cc
-told_content a n (StreamTree s m) told none = cc
+-- the tag of a call has a content
+pub called_content : (a : CallArguments) (n : ℕ) (w : Tree OneItem) → is_called_tag a n w ≡ true → tag_content w ≡ None → ⊥
+called_content a n (EnclosedTree (label.Tag i m) w) called none = cc
+called_content a n (EnclosedTree label.Simple w) called none = cc
+called_content a n (NumberTree x i) called none = cc
+called_content a n (FloatTree f i) called none = cc
+called_content a n (NamedTree b) called none = cc
+called_content a n (ListTree k w) called none = cc
+called_content a n (StringTree w) called none = cc
+called_content a n (StreamTree s m) called none = cc
 
 same_acts : (f g : Tree OneItem → Reply) (w v : Tree OneItem) (r : Answer) → f w ≡ g w → ActsSo f w r v → ActsSo g w r v
 same_acts f g w v fine same h = (h.0 ∙ ap (λ p. p.0) same, h.1 ∙ ap (λ p. p.1) same)
@@ -68,12 +68,12 @@ chosen b p q is = rw is refl
 passed : (b : Bool) (p q : Reply) → b ≡ false → q ≡ (if b then p else q)
 passed b p q is = rw is refl
 
--- the tag that is told, where it is 38
-pub language_acts : (a : Told) (w v : Tree OneItem) (r : Answer) → is_told_tag a 38 w ≡ true → ActsSo (at_content with_direction) w r v → ActsBy comment_lang a w r v
+-- the tag of the call, where it is 38
+pub language_acts : (a : CallArguments) (w v : Tree OneItem) (r : Answer) → is_called_tag a 38 w ≡ true → ActsSo (at_content with_direction) w r v → ActsBy comment_lang a w r v
 unfolding comment_lang
 language_acts a w v r is acts = same_acts (at_content with_direction) (comment_lang a) w v r (chosen _ _ _ is) acts
 
 -- any other item
-pub other_acts : (a : Told) (w : Tree OneItem) → is_told_tag a 38 w ≡ false → ActsBy comment_lang a w fine w
+pub other_acts : (a : CallArguments) (w : Tree OneItem) → is_called_tag a 38 w ≡ false → ActsBy comment_lang a w fine w
 unfolding comment_lang
 other_acts a w is = same_acts (λ x. (fine, x)) (comment_lang a) w w fine (passed _ _ _ is) (refl, refl)

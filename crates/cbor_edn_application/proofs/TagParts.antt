@@ -1,12 +1,12 @@
--- The parts of a tag that is told.
+-- The parts of the tag of a call.
 use Rattle.std.proofs.Common.{ℕ, ◌≡◌, ◌≢◌, Option, Some, None, refl, sym, ap, ◌∙◌, ne_eqb, eq-eqb}
 use Rattle.cbor_edn_parts.specs.declared.indicator.Indicator.{Indicator}
-use Rattle.cbor_edn_model.specs.declared.label.LabelKind.TheVariants as label
-use Rattle.cbor_edn_model.specs.Accessed.{tag_head, tag_content, inner_item}
-use Rattle.cbor_edn_model.specs.Seeking.{number}
-use Rattle.cbor_edn_model.specs.Trees.{Tree, OneItem, Standalone, NumberTree, FloatTree, NamedTree, EnclosedTree, ListTree, StringTree, StreamTree}
-use Rattle.cbor_edn_model.proofs.meaning.MeaningSteps.{some_is}
-use Rattle.cbor_edn_conversions.specs.Conversions.{told_tag}
+use Rattle.cbor_edn_model.specs.declared.text.label.LabelKind.TheVariants as label
+use Rattle.cbor_edn_model.specs.access.Accessed.{tag_head, tag_content, inner_item}
+use Rattle.cbor_edn_model.specs.visit.Seeking.{number}
+use Rattle.cbor_edn_model.specs.tree.Trees.{Tree, OneItem, Standalone, NumberTree, FloatTree, NamedTree, EnclosedTree, ListTree, StringTree, StreamTree}
+use Rattle.cbor_edn_model.proofs.lemmas.cbor.MeaningSteps.{some_is}
+use Rattle.cbor_edn_conversions.specs.Conversions.{called_tag}
 
 abbrev head : ℕ → Option Indicator → ℕ × Option Indicator
 head n i = (n, i)
@@ -14,7 +14,7 @@ head n i = (n, i)
 abbrev pub parts : ℕ → Option Indicator → Tree OneItem → ℕ × Option Indicator × Tree OneItem
 parts n i w = (n, i, w)
 
-pub no_tag : (n : ℕ) (w : Tree OneItem) → tag_head w ≡ None → told_tag (number n) w ≡ None
+pub no_tag : (n : ℕ) (w : Tree OneItem) → tag_head w ≡ None → called_tag (number n) w ≡ None
 no_tag n (EnclosedTree (label.Tag i m) c) e = absurd cc
 no_tag n (EnclosedTree label.Simple c) e = refl
 no_tag n (NumberTree x i) e = refl
@@ -25,7 +25,7 @@ no_tag n (StringTree c) e = refl
 no_tag n (StreamTree s m) e = refl
 
 -- a tag of another number
-pub another_tag : (n m : ℕ) (i : Option Indicator) (w : Tree OneItem) → tag_head w ≡ Some (m, i) → m ≢ n → told_tag (number n) w ≡ None
+pub another_tag : (n m : ℕ) (i : Option Indicator) (w : Tree OneItem) → tag_head w ≡ Some (m, i) → m ≢ n → called_tag (number n) w ≡ None
 another_tag n m i (EnclosedTree (label.Tag j k) c) e other =
     let same : k ≡ m = ap (λ (p : ℕ × Option Indicator). p.0) (some_is (head k j) (head m i) e) in
     rw (ne_eqb n k (λ is. other (sym (is ∙ same))))
@@ -38,7 +38,7 @@ another_tag n m i (StringTree c) e other = refl
 another_tag n m i (StreamTree s k) e other = refl
 
 -- the tag of this number
-pub this_tag : (n m : ℕ) (i : Option Indicator) (c : Tree Standalone) (w : Tree OneItem) → tag_head w ≡ Some (m, i) → m ≡ n → tag_content w ≡ Some c → Some (parts n i (inner_item c)) ≡ told_tag (number n) w
+pub this_tag : (n m : ℕ) (i : Option Indicator) (c : Tree Standalone) (w : Tree OneItem) → tag_head w ≡ Some (m, i) → m ≡ n → tag_content w ≡ Some c → Some (parts n i (inner_item c)) ≡ called_tag (number n) w
 this_tag n m i c (EnclosedTree (label.Tag j k) d) e same content =
     let is = some_is (head k j) (head m i) e in
     let inner : d ≡ c = some_is d c content in

@@ -2,15 +2,15 @@
 use Rattle.std.proofs.Common.{ℕ, ℤ, ◌≡◌, ◌≢◌, ◌==◌, Bool, true, false, cond, codes, List, Option, Some, None, Ok, Err, refl, sym, ap, ◌∙◌, ne_eqb}
 use Rattle.std.proofs.lemmas.Bool.{eqb-true}
 use Rattle.cbor_edn_parts.specs.declared.indicator.Indicator.{Indicator}
-use Rattle.cbor_edn_parts.specs.code.ContentReading.{same}
-use Rattle.cbor_edn_parts.proofs.Prefixes.{differ}
-use Rattle.cbor_edn_model.specs.declared.label.LabelKind.TheVariants as label
-use Rattle.cbor_edn_model.specs.Seeking.{number}
-use Rattle.cbor_edn_model.specs.Trees.{Tree, OneItem, NumberTree, FloatTree, NamedTree, EnclosedTree, ListTree, StringTree, StreamTree}
+use Rattle.cbor_edn_parts.specs.internal.ContentReading.{same}
+use Rattle.cbor_edn_parts.proofs.lemmas.literal.LiteralPrefixes.{differ}
+use Rattle.cbor_edn_model.specs.declared.text.label.LabelKind.TheVariants as label
+use Rattle.cbor_edn_model.specs.visit.Seeking.{number}
+use Rattle.cbor_edn_model.specs.tree.Trees.{Tree, OneItem, NumberTree, FloatTree, NamedTree, EnclosedTree, ListTree, StringTree, StreamTree}
 use Rattle.cbor_edn_literals.specs.Time.{HasInstant}
-use Rattle.cbor_edn_literals.specs.code.TimeComputing.{instant_of, instant_number}
+use Rattle.cbor_edn_literals.specs.internal.TimeComputing.{instant_of, instant_number}
 use Rattle.cbor_edn_literals.proofs.TimeComputed.{instant_computed, instant_answered}
-use Rattle.cbor_edn_conversions.specs.Conversions.{Conversion, in_tag, told_tag, without_tag}
+use Rattle.cbor_edn_conversions.specs.Conversions.{Conversion, in_tag, called_tag, without_tag}
 use Rattle.cbor_edn_conversions.specs.Times.{instant_item, time_item, time_of_literal, time_literal, time_of_tag}
 
 abbrev ok : Tree OneItem → Conversion
@@ -37,7 +37,7 @@ other_by : (n m : ℕ) (i : Option Indicator) (c : Tree OneItem) (b : Bool) → 
 other_by n m i c false e other = refl
 other_by n m i c true e other = let same = eqb-true n m e in rw (ne_eqb m 1 (λ one. other (same ∙ one)))
 
-pub other_tag : (n : ℕ) (w : Tree OneItem) → n ≢ 1 → time_of_tag (told_tag (number n) w) ≡ None
+pub other_tag : (n : ℕ) (w : Tree OneItem) → n ≢ 1 → time_of_tag (called_tag (number n) w) ≡ None
 other_tag n (EnclosedTree (label.Tag i m) w) other = other_by n m i _ (n == m) refl other
 other_tag n (EnclosedTree label.Simple w) other = refl
 other_tag n (NumberTree x i) other = refl
@@ -47,5 +47,5 @@ other_tag n (ListTree k w) other = refl
 other_tag n (StringTree w) other = refl
 other_tag n (StreamTree s m) other = refl
 
-pub of_tag : (n : ℕ) (i : Option Indicator) (c w : Tree OneItem) → n ≡ 1 → Some (n, i, c) ≡ told_tag (number n) w → time_of_tag (told_tag (number n) w) ≡ Some (without_tag i 1 (time_literal c true))
-of_tag n i c w one told = ap time_of_tag (sym told) ∙ ap (λ n. time_of_tag (Some (n, i, c))) one
+pub of_tag : (n : ℕ) (i : Option Indicator) (c w : Tree OneItem) → n ≡ 1 → Some (n, i, c) ≡ called_tag (number n) w → time_of_tag (called_tag (number n) w) ≡ Some (without_tag i 1 (time_literal c true))
+of_tag n i c w one called = ap time_of_tag (sym called) ∙ ap (λ n. time_of_tag (Some (n, i, c))) one

@@ -1,14 +1,14 @@
 -- Visits that change spaces alone.
 use Rattle.std.proofs.Common.{List, [], ◌≡◌, All, refl, ap, subst, ◌∙◌}
 use Rattle.std.proofs.lemmas.List.Elements.{All-head, All-tail, All-weaker}
-use Rattle.cbor_edn_model.specs.Items as kind
-use Rattle.cbor_edn_model.specs.Items.{Row, Elements, Pairs, Bracketed, Node, Entries, Entry, Item, Piece, Pieces}
-use Rattle.cbor_edn_model.specs.Seeking.{Told, SoughtCall, VisitItem, passed, entered, stayed, refused, not_called, VisitParts, of_number, of_float, of_name, of_tag, of_simple, of_list, of_string, of_stream, of_literal, of_dots, of_embedded, of_last_piece, of_pieces, of_pieces_cut, of_none_inside, of_all_inside, of_last, of_more, of_more_cut, of_nothing, of_sequence, of_standalone, VisitEntry, of_element, of_pair, of_pair_cut, of_chunk}
-use Rattle.cbor_edn_model.specs.Trees.{Rule, Tree, OneItem, OneEntry, mark, items}
-use Rattle.cbor_edn_model.specs.Visits.{Answer, fine, comment, no_memory, Ending, whole, cut}
+use Rattle.cbor_edn_model.specs.tree.Items as kind
+use Rattle.cbor_edn_model.specs.tree.Items.{Row, Elements, Pairs, Bracketed, Node, Entries, Entry, Item, Piece, Pieces}
+use Rattle.cbor_edn_model.specs.visit.Seeking.{CallArguments, SoughtCall, VisitItem, passed, entered, stayed, refused, not_called, VisitParts, of_number, of_float, of_name, of_tag, of_simple, of_list, of_string, of_stream, of_literal, of_dots, of_embedded, of_last_piece, of_pieces, of_pieces_cut, of_none_inside, of_all_inside, of_last, of_more, of_more_cut, of_nothing, of_sequence, of_standalone, VisitEntry, of_element, of_pair, of_pair_cut, of_chunk}
+use Rattle.cbor_edn_model.specs.tree.Trees.{Rule, Tree, OneItem, OneEntry, head_indicator, items}
+use Rattle.cbor_edn_model.specs.visit.Visits.{Answer, fine, comment, no_memory, Ending, whole, cut}
 use Rattle.cbor_edn_application.specs.Acts.{Act, ActsBy, EndsBy, IsVisited}
 use Rattle.cbor_edn_conversions.specs.Resolving.{AnswersBy}
-use Rattle.cbor_edn_application.proofs.Visiting.{all_split}
+use Rattle.cbor_edn_application.proofs.VisitChains.{all_split}
 
 -- the call left the same items
 abbrev pub Unmoved : SoughtCall → Type 0
@@ -23,7 +23,7 @@ plus_same x y m n e f = ap (λ z. kind.Plus z m) e ∙ ap (λ z. kind.Plus y z) 
 pair_same : (x y v w : Node Item) → x ≡ y → v ≡ w → kind.Pair x v ≡ kind.Pair y w
 pair_same x y v w e f = ap (λ z. kind.Pair z v) e ∙ ap (λ z. kind.Pair y z) f
 
-module _ (Sought : Tree OneItem → Told → Type 0) where
+module _ (Sought : Tree OneItem → CallArguments → Type 0) where
   mutual
     unfolding items
 
@@ -50,7 +50,7 @@ module _ (Sought : Tree OneItem → Told → Type 0) where
     parts_unmoved (of_pieces {cs = cs} {ds = ds} a b e) all = let h = all_split Unmoved cs ds (subst (All Unmoved) e all) in plus_same _ _ _ _ (parts_unmoved a h.0) (parts_unmoved b h.1)
     parts_unmoved (of_pieces_cut a) all = plus_same _ _ _ _ (parts_unmoved a all) refl
     parts_unmoved of_none_inside all = refl
-    parts_unmoved (of_all_inside {h = h} a) all = ap (λ x. (mark h, x)) (parts_unmoved a all)
+    parts_unmoved (of_all_inside {h = h} a) all = ap (λ x. (head_indicator h, x)) (parts_unmoved a all)
     parts_unmoved (of_last a) all = then_same _ _ _ _ (entry_unmoved a all) refl
     parts_unmoved (of_more {cs = cs} {ds = ds} a b e) all = let h = all_split Unmoved cs ds (subst (All Unmoved) e all) in then_same _ _ _ _ (entry_unmoved a h.0) (parts_unmoved b h.1)
     parts_unmoved (of_more_cut a) all = then_same _ _ _ _ (entry_unmoved a all) refl
@@ -66,17 +66,17 @@ module _ (Sought : Tree OneItem → Told → Type 0) where
 
 -- ---- visits by a function that leaves the items
 
-acted_unmoved : (act : Act) → ((a : Told) (w : Tree OneItem) → items (act a w).1 ≡ items w) → (a : Told) (w v : Tree OneItem) (r : Answer) → ActsBy act a w r v → items v ≡ items w
+acted_unmoved : (act : Act) → ((a : CallArguments) (w : Tree OneItem) → items (act a w).1 ≡ items w) → (a : CallArguments) (w v : Tree OneItem) (r : Answer) → ActsBy act a w r v → items v ≡ items w
 acted_unmoved act leaves a w v fine h = ap (λ x. items x) h.1 ∙ leaves a w
 acted_unmoved act leaves a w v (comment c) h = ap (λ x. items x) h.1 ∙ leaves a w
 acted_unmoved act leaves a w v no_memory h = ap (λ x. items x) h
 
-answered_unmoved : (act : Act) → ((a : Told) (w : Tree OneItem) → items (act a w).1 ≡ items w) → (c : SoughtCall) → AnswersBy act c → Unmoved c
-answered_unmoved act leaves c h = ap (λ x. items x) h.1 ∙ leaves c.told c.before
+answered_unmoved : (act : Act) → ((a : CallArguments) (w : Tree OneItem) → items (act a w).1 ≡ items w) → (c : SoughtCall) → AnswersBy act c → Unmoved c
+answered_unmoved act leaves c h = ap (λ x. items x) h.1 ∙ leaves c.arguments c.before
 
-calls_unmoved : (act : Act) → ((a : Told) (w : Tree OneItem) → items (act a w).1 ≡ items w) → (cs : List SoughtCall) (r : Ending) → EndsBy act cs r → All Unmoved cs
+calls_unmoved : (act : Act) → ((a : CallArguments) (w : Tree OneItem) → items (act a w).1 ≡ items w) → (cs : List SoughtCall) (r : Ending) → EndsBy act cs r → All Unmoved cs
 calls_unmoved act leaves cs whole all = All-weaker (AnswersBy act) Unmoved (λ c. answered_unmoved act leaves c) cs all
-calls_unmoved act leaves cs cut all = All-weaker (λ c. ActsBy act c.told c.before c.answer c.after) Unmoved (λ c. acted_unmoved act leaves c.told c.before c.after c.answer) cs all
+calls_unmoved act leaves cs cut all = All-weaker (λ c. ActsBy act c.arguments c.before c.answer c.after) Unmoved (λ c. acted_unmoved act leaves c.arguments c.before c.after c.answer) cs all
 
-pub visit_unmoved : (Sought : Tree OneItem → Told → Type 0) (act : Act) → ((a : Told) (w : Tree OneItem) → items (act a w).1 ≡ items w) → (k : Rule) (w v : Tree k) (r : Ending) → IsVisited Sought act w r v → items v ≡ items w
+pub visit_unmoved : (Sought : Tree OneItem → CallArguments → Type 0) (act : Act) → ((a : CallArguments) (w : Tree OneItem) → items (act a w).1 ≡ items w) → (k : Rule) (w v : Tree k) (r : Ending) → IsVisited Sought act w r v → items v ≡ items w
 visit_unmoved Sought act leaves k w v r h = parts_unmoved Sought h.2 (calls_unmoved act leaves h.0 r h.1)

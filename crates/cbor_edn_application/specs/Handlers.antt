@@ -2,8 +2,8 @@
 use Rattle.std.specs.Prelude.{List, Option, Some, None, All, ℕ, ◌≡◌, ◌≢◌, codes}
 use Rattle.cbor_edn_core.specs.declared.access.TypeMismatch.{TypeMismatch}
 use Rattle.cbor_edn_core.specs.declared.access.TypeMismatch.TheVariants.{IntegerInRange}
-use Rattle.cbor_edn_model.specs.Trees.{Tree, OneItem, items}
-use Rattle.cbor_edn_model.specs.Visits.{Answer, no_memory, KeyCall, Handler, no_handler, dropped, spent, Ending, VisitMap}
+use Rattle.cbor_edn_model.specs.tree.Trees.{Tree, OneItem, items}
+use Rattle.cbor_edn_model.specs.visit.Visits.{Answer, no_memory, KeyCall, Handler, no_handler, dropped, spent, Ending, VisitMap}
 use Rattle.cbor_edn_conversions.specs.declared.tables.ClaimValue.TheVariants as claim
 use Rattle.cbor_edn_conversions.specs.declared.tables.ConfirmationValue.TheVariants as confirmation
 use Rattle.cbor_edn_conversions.specs.declared.tables.ParameterValue.TheVariants as parameter
@@ -44,10 +44,10 @@ pub record Keyed (at_key : Tree OneItem → KeyReply) (c : KeyCall) : Type 0 whe
 abbrev pub AreKeysVisited : (Tree OneItem → KeyReply) → Tree OneItem → Ending → Tree OneItem → Type 0
 AreKeysVisited at_key w r v = (cs : List KeyCall) × All (Keyed at_key) cs × VisitMap w cs v r
 
--- the words of a key that is no integer of 128 bits
-abbrev pub integer_words : TypeMismatch → List ℕ
-integer_words IntegerInRange = codes "Expected integer in i128 range"
-integer_words _ = codes "Expected integer"
+-- the message of a key that is no integer of 128 bits
+abbrev pub integer_message : TypeMismatch → List ℕ
+integer_message IntegerInRange = codes "Expected integer in i128 range"
+integer_message _ = codes "Expected integer"
 
 -- ---- what a handler does
 

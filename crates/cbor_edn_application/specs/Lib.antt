@@ -1,9 +1,9 @@
 pub mod Acts
 pub mod Handlers
-pub mod Places
+pub mod Ordinals
 pub mod Refused
 pub mod Sequences
 pub mod TimeSteps
-pub mod Laws
+pub mod VisitLaws
 pub mod VisitActs
 pub mod Placing

@@ -2,10 +2,10 @@
 use Rattle.std.specs.Prelude.{◌≡◌, List, ℕ}
 use Rattle.cbor_edn_parts.specs.declared.error.Fault.{Fault}
 use Rattle.cbor_edn_parts.specs.declared.error.Fault.TheVariants.{Memory, Told}
-use Rattle.cbor_edn_model.specs.Visits.{Answer, comment, no_memory}
+use Rattle.cbor_edn_model.specs.visit.Visits.{Answer, comment, no_memory}
 use Rattle.cbor_edn_application.specs.Acts.{AnswersSo}
 
--- Its words as a comment, unless memory is refused for them; want of memory as such.
+-- Its message as a comment, unless memory is refused for it; want of memory as such.
 abbrev pub AnswersFault : {E : Type 0} → Fault E → (E → List ℕ) → Answer → Type 0
-AnswersFault (Memory e) words r = r ≡ no_memory
-AnswersFault (Told e) words r = AnswersSo (comment (words e)) r
+AnswersFault (Memory e) message r = r ≡ no_memory
+AnswersFault (Told e) message r = AnswersSo (comment (message e)) r

@@ -1,8 +1,8 @@
 -- Sequences of which each item is changed by itself.
 use Rattle.std.specs.Prelude.{◌≡◌, ℕ, Bool, true, false, [], ◌∷◌, None, Some}
-use Rattle.cbor_edn_model.specs.Items.{Elements}
-use Rattle.cbor_edn_model.specs.Paths.{at_sequence, with_at_sequence}
-use Rattle.cbor_edn_model.specs.Trees.{Tree, OneItem, Rest, Seq, ElementTree, LastTree, MoreTree, NothingTree, SequenceTree}
+use Rattle.cbor_edn_model.specs.tree.Items.{Elements}
+use Rattle.cbor_edn_model.specs.access.Paths.{at_sequence, with_at_sequence}
+use Rattle.cbor_edn_model.specs.tree.Trees.{Tree, OneItem, Rest, Seq, ElementTree, LastTree, MoreTree, NothingTree, SequenceTree}
 use Rattle.cbor_edn_conversions.specs.Claims.{with_claims}
 
 -- entries of which each item is changed

@@ -2,10 +2,10 @@
 use Rattle.std.specs.Prelude.{◌≡◌, ℕ, ℤ, Bool, true, List, Option, Some, Ok, Err, codes}
 use Rattle.cbor_edn_parts.specs.declared.indicator.Indicator.{Indicator}
 use Rattle.cbor_edn_literals.specs.Time.{IsTimeStamp}
-use Rattle.cbor_edn_literals.specs.code.TimeComputing.{time_text}
+use Rattle.cbor_edn_literals.specs.internal.TimeComputing.{time_text}
 use Rattle.cbor_edn_literals.specs.declared.time.number.NotTime.{NotTime}
 use Rattle.cbor_edn_literals.specs.declared.time.number.NotTime.TheVariants.{Unreadable, OutOfRange}
-use Rattle.cbor_edn_conversions.specs.Conversions.{Conversion, Words, is_narrowest, argument, literal_tree}
+use Rattle.cbor_edn_conversions.specs.Conversions.{Conversion, Message, is_narrowest, argument, literal_tree}
 use Rattle.cbor_edn_conversions.specs.Times.{time_prefix, decimal_instant, instant_literal}
 
 -- what an item becomes, in tag 1 or alone
@@ -18,7 +18,7 @@ pub record BecomesTime (f : Converted) (seconds : ℤ) (nanoseconds : ℕ) : Typ
   pub literal : (wrap : Bool) → f wrap ≡ Ok (literal_tree (time_prefix wrap) (time_text seconds nanoseconds))
 
 -- It stays, for this reason.
-abbrev pub StaysFor : Converted → Words → Type 0
+abbrev pub StaysFor : Converted → Message → Type 0
 StaysFor f e = (wrap : Bool) → f wrap ≡ Err e
 
 -- an integer with this indicator
@@ -29,6 +29,6 @@ integer_literal z i wrap = instant_literal wrap (is_narrowest i (argument z)) (S
 abbrev pub decimal_literal : List ℕ → Option Indicator → Converted
 decimal_literal x i wrap = instant_literal wrap true (decimal_instant i x)
 
-abbrev pub not_time_words : NotTime → Words
-not_time_words Unreadable = codes "Number not readable as a time"
-not_time_words OutOfRange = codes "Value out of range for time stamps"
+abbrev pub not_time_message : NotTime → Message
+not_time_message Unreadable = codes "Number not readable as a time"
+not_time_message OutOfRange = codes "Value out of range for time stamps"

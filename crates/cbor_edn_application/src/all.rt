@@ -1,8 +1,8 @@
 //! All conversions in one function: at most one of them does something, by the prefix of a literal and by the number of a tag.
 ghost use Rattle.std.specs.String.{string_bytes};
-ghost use Rattle.cbor_edn_core.specs.Sought.{told_answer};
-ghost use Rattle.cbor_edn_core.specs.View.{item_tree};
-ghost use Rattle.cbor_edn_model.specs.Seeking.{number, prefix_and_text};
+ghost use Rattle.cbor_edn_core.specs.visit.Sought.{sought_answer};
+ghost use Rattle.cbor_edn_core.specs.tree.View.{item_tree};
+ghost use Rattle.cbor_edn_model.specs.visit.Seeking.{number, prefix_and_text};
 ghost use Rattle.cbor_edn_conversions.specs.All.{resolve_all, pretty_all};
 ghost use Rattle.cbor_edn_application.specs.Acts.{ActsBy};
 
@@ -21,7 +21,7 @@ pub fn all_aol_to_item<'a>(
     text: String,
     item: &mut Item<'a>,
 ) -> Result<(), CallbackError>
-    ensures { ActsBy resolve_all (prefix_and_text (string_bytes prefix) (string_bytes text)) (item_tree item.old) (told_answer result) (item_tree item.new) }
+    ensures { ActsBy resolve_all (prefix_and_text (string_bytes prefix) (string_bytes text)) (item_tree item.old) (sought_answer result) (item_tree item.new) }
 {
     match prefix.as_str() {
         "dt" | "DT" => dt_aol_to_item(alloc, prefix, text, item),
@@ -36,7 +36,7 @@ pub fn all_tag_prettify<'a>(
     tag: u64,
     item: &mut Item<'a>,
 ) -> Result<(), CallbackError>
-    ensures { ActsBy pretty_all (number tag) (item_tree item.old) (told_answer result) (item_tree item.new) }
+    ensures { ActsBy pretty_all (number tag) (item_tree item.old) (sought_answer result) (item_tree item.new) }
 {
     match tag {
         1 => dt_tag_to_aol(alloc, tag, item),

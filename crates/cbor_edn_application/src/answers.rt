@@ -1,6 +1,6 @@
-//! What callbacks answer: names as comments, and words for items of another type.
+//! What callbacks answer: names as comments, and messages for items of another type.
 ghost use Rattle.std.specs.Prelude.{option_map};
-ghost use Rattle.cbor_edn_core.specs.Callbacks.{answer_of, error_answer};
+ghost use Rattle.cbor_edn_core.specs.visit.Callbacks.{answer_of, error_answer};
 ghost use Rattle.cbor_edn_conversions.specs.Claims.{name_answer};
 ghost use Rattle.cbor_edn_application.specs.Acts.{AnswersSo};
 ghost use Rattle.cbor_edn_application.specs.Refused.{AnswersFault};
@@ -26,16 +26,16 @@ pub(crate) fn noted(
     }
 }
 
-/// What is answered after a visit that was refused: the words where the item was of another type.
+/// What is answered after a visit that was refused: the message where the item was of another type.
 pub(crate) fn refusal(
     alloc: Global,
     fault: Fault<TypeMismatch>,
-    words: &'static str,
+    message: &'static str,
 ) -> CallbackError
-    ensures { AnswersFault fault (λ _. words.now) (error_answer result) }
+    ensures { AnswersFault fault (λ _. message.now) (error_answer result) }
 {
     match fault {
         Fault::Memory(refused) => CallbackError::Memory(refused),
-        Fault::Told(_) => comment(alloc, words),
+        Fault::Told(_) => comment(alloc, message),
     }
 }

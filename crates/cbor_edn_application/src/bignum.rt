@@ -1,10 +1,10 @@
 //! Bignums as integers.
 ghost use Rattle.std.specs.Prelude.{◌≡◌, ◌≤◌, ℕ, length, option_map, None, Some, Ok, IfOk, IfSome, IfNone};
-ghost use Rattle.cbor_edn_core.specs.Sought.{told_answer};
-ghost use Rattle.cbor_edn_core.specs.View.{item_tree};
-ghost use Rattle.cbor_edn_model.specs.Seeking.{number as tag_told};
-ghost use Rattle.cbor_edn_model.specs.Trees.{Tree, OneItem};
-ghost use Rattle.cbor_edn_conversions.specs.Conversions.{told_tag, integer_tree};
+ghost use Rattle.cbor_edn_core.specs.visit.Sought.{sought_answer};
+ghost use Rattle.cbor_edn_core.specs.tree.View.{item_tree};
+ghost use Rattle.cbor_edn_model.specs.visit.Seeking.{number as tag_arguments};
+ghost use Rattle.cbor_edn_model.specs.tree.Trees.{Tree, OneItem};
+ghost use Rattle.cbor_edn_conversions.specs.Conversions.{called_tag, integer_tree};
 ghost use Rattle.cbor_edn_conversions.specs.Bignums.{quoted_item_bytes, magnitude, bignum_integer, if_same_integer, integer_of_tag, bignum_of_tag, pretty_bignum};
 ghost use Rattle.cbor_edn_application.specs.Acts.{ActsBy};
 
@@ -22,7 +22,7 @@ pub fn tag23_to_edn_integer<'a>(
     tag: u64,
     item: &mut Item<'a>,
 ) -> Result<(), CallbackError>
-    ensures { ActsBy pretty_bignum (tag_told tag) (item_tree item.old) (told_answer result) (item_tree item.new) }
+    ensures { ActsBy pretty_bignum (tag_arguments tag) (item_tree item.old) (sought_answer result) (item_tree item.new) }
 {
     let Some(integer) = same_integer(alloc, tag, item)? else {
         return Ok(());
@@ -37,7 +37,7 @@ fn same_integer<'a>(
     tag: u64,
     item: &Item<'a>,
 ) -> Result<Option<Item<'a>>, AllocError>
-    ensures { IfOk result (λ o. bignum_of_tag (told_tag (tag_told tag) (item_tree item.now)) ≡ option_map (λ t. Ok (item_tree t)) o) }
+    ensures { IfOk result (λ o. bignum_of_tag (called_tag (tag_arguments tag) (item_tree item.now)) ≡ option_map (λ t. Ok (item_tree t)) o) }
 {
     let Some(content) = bignum_content(tag, item) else {
         return Ok(None);
@@ -57,8 +57,8 @@ fn same_integer<'a>(
 
 /// The content of a tag 2 or 3 of this number, where the tag has no encoding indicator.
 fn bignum_content<'t, 'a>(tag: u64, item: &'t Item<'a>) -> Option<&'t Item<'a>>
-    ensures some { IfSome result (λ c. told_tag (tag_told tag) (item_tree item.now) ≡ Some (tag, None, item_tree c.now)) }
-    ensures none { IfNone result (bignum_of_tag (told_tag (tag_told tag) (item_tree item.now)) ≡ None) }
+    ensures some { IfSome result (λ c. called_tag (tag_arguments tag) (item_tree item.now) ≡ Some (tag, None, item_tree c.now)) }
+    ensures none { IfNone result (bignum_of_tag (called_tag (tag_arguments tag) (item_tree item.now)) ≡ None) }
 {
     if tag != 2 && tag != 3 {
         return None;

@@ -1,7 +1,7 @@
 //! Comments at the keys of claims sets, and what is done with their values.
 ghost use Rattle.std.specs.Prelude.{◌≡◌, option_map};
-ghost use Rattle.cbor_edn_core.specs.Callbacks.{key_answer, handler_of, answer_of};
-ghost use Rattle.cbor_edn_core.specs.View.{item_tree};
+ghost use Rattle.cbor_edn_core.specs.visit.Callbacks.{key_answer, handler_of, answer_of};
+ghost use Rattle.cbor_edn_core.specs.tree.View.{item_tree};
 ghost use Rattle.cbor_edn_conversions.specs.declared.tables.ClaimValue.TheVariants as claim_kind;
 ghost use Rattle.cbor_edn_conversions.specs.Claims.{claim_key, claim_value, confirmation_key, with_keys};
 ghost use Rattle.cbor_edn_application.specs.Handlers.{at_claim, KeyAnswers, ValueAnswers};
@@ -13,7 +13,7 @@ use crate::reply::reply;
 use crate::time::dt_item_to_aol;
 use cbor_edn_conversions::tables::{ClaimValue, claim};
 use cbor_edn_core::tree::Item;
-use cbor_edn_core::visitor::MapValueHandler;
+use cbor_edn_core::visit::MapValueHandler;
 use cbor_edn_parts::error::CallbackError;
 use std::alloc::Global;
 
@@ -57,8 +57,8 @@ fn handler(value: Option<ClaimValue>) -> Option<CcsHandler>
 }
 
 impl<'a> MapValueHandler<'a> for CcsHandler {
-    ghost use Rattle.cbor_edn_core.specs.Callbacks.{answer_of};
-    ghost use Rattle.cbor_edn_core.specs.View.{item_tree};
+    ghost use Rattle.cbor_edn_core.specs.visit.Callbacks.{answer_of};
+    ghost use Rattle.cbor_edn_core.specs.tree.View.{item_tree};
     ghost use Rattle.cbor_edn_application.specs.Handlers.{at_claim, ValueAnswers};
 
     ghost handles = { λ h x r y. ValueAnswers (at_claim h) (item_tree x) (answer_of r) (item_tree y) };

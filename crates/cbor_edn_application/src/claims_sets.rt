@@ -1,6 +1,6 @@
 //! Claims sets among the items of a sequence.
 ghost use Rattle.std.specs.Prelude.{◌≡◌, IfOk, OnOk};
-ghost use Rattle.cbor_edn_core.specs.View.{item_tree, sequence_tree};
+ghost use Rattle.cbor_edn_core.specs.tree.View.{item_tree, sequence_tree};
 ghost use Rattle.cbor_edn_parts.specs.declared.error.Fault.TheVariants.{Told};
 ghost use Rattle.cbor_edn_core.specs.declared.access.TypeMismatch.{TypeMismatch};
 ghost use Rattle.cbor_edn_conversions.specs.Claims.{with_claims};

@@ -1,7 +1,7 @@
 //! Comments at confirmation methods, and what is done with their values.
 ghost use Rattle.std.specs.Prelude.{◌≡◌, option_map};
-ghost use Rattle.cbor_edn_core.specs.Callbacks.{key_answer, handler_of, answer_of};
-ghost use Rattle.cbor_edn_core.specs.View.{item_tree};
+ghost use Rattle.cbor_edn_core.specs.visit.Callbacks.{key_answer, handler_of, answer_of};
+ghost use Rattle.cbor_edn_core.specs.tree.View.{item_tree};
 ghost use Rattle.cbor_edn_conversions.specs.Claims.{confirmation_key, confirmation_value, parameter_key, with_keys};
 ghost use Rattle.cbor_edn_application.specs.Handlers.{at_confirmation, KeyAnswers, ValueAnswers};
 
@@ -10,7 +10,7 @@ use crate::integers::integer_of;
 use crate::oscore::comment_parameter;
 use cbor_edn_conversions::tables::{ConfirmationValue, confirmation};
 use cbor_edn_core::tree::Item;
-use cbor_edn_core::visitor::MapValueHandler;
+use cbor_edn_core::visit::MapValueHandler;
 use cbor_edn_parts::error::CallbackError;
 use std::alloc::Global;
 
@@ -50,8 +50,8 @@ fn handler(value: Option<ConfirmationValue>) -> Option<CnfHandler>
 }
 
 impl<'a> MapValueHandler<'a> for CnfHandler {
-    ghost use Rattle.cbor_edn_core.specs.Callbacks.{answer_of};
-    ghost use Rattle.cbor_edn_core.specs.View.{item_tree};
+    ghost use Rattle.cbor_edn_core.specs.visit.Callbacks.{answer_of};
+    ghost use Rattle.cbor_edn_core.specs.tree.View.{item_tree};
     ghost use Rattle.cbor_edn_application.specs.Handlers.{at_confirmation, ValueAnswers};
 
     ghost handles = { λ h x r y. ValueAnswers (at_confirmation h) (item_tree x) (answer_of r) (item_tree y) };

@@ -1,6 +1,6 @@
 //! The integers of items.
 ghost use Rattle.std.specs.Prelude.{◌≡◌};
-ghost use Rattle.cbor_edn_core.specs.View.{item_tree};
+ghost use Rattle.cbor_edn_core.specs.tree.View.{item_tree};
 ghost use Rattle.cbor_edn_conversions.specs.Integers.{item_integer};
 
 use cbor_edn_core::tree::Item;

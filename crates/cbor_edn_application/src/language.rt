@@ -1,39 +1,39 @@
 //! Comments in tags 38: the direction of a text.
 ghost use Rattle.std.specs.Prelude.{◌≡◌, ◌≢◌, option_map};
-ghost use Rattle.cbor_edn_core.specs.Callbacks.{answer_of};
-ghost use Rattle.cbor_edn_core.specs.Sought.{told_answer};
-ghost use Rattle.cbor_edn_core.specs.View.{item_tree, standalone_tree};
-ghost use Rattle.cbor_edn_model.specs.Seeking.{number as tag_told};
-ghost use Rattle.cbor_edn_model.specs.Trees.{NamedTree};
-ghost use Rattle.cbor_edn_model.specs.Visits.{fine};
-ghost use Rattle.cbor_edn_conversions.specs.Annotations.{comment_lang, is_told_tag, with_direction, direction as direction_answer};
+ghost use Rattle.cbor_edn_core.specs.visit.Callbacks.{answer_of};
+ghost use Rattle.cbor_edn_core.specs.visit.Sought.{sought_answer};
+ghost use Rattle.cbor_edn_core.specs.tree.View.{item_tree, standalone_tree};
+ghost use Rattle.cbor_edn_model.specs.visit.Seeking.{number as tag_arguments};
+ghost use Rattle.cbor_edn_model.specs.tree.Trees.{NamedTree};
+ghost use Rattle.cbor_edn_model.specs.visit.Visits.{fine};
+ghost use Rattle.cbor_edn_conversions.specs.Annotations.{comment_lang, is_called_tag, with_direction, direction as direction_answer};
 ghost use Rattle.cbor_edn_conversions.specs.Claims.{name_answer};
 ghost use Rattle.cbor_edn_application.specs.Acts.{ActsBy, ActsSo, ActsInside, AnswersSo};
-ghost use Rattle.cbor_edn_application.specs.Places.{next_place, direction_in};
+ghost use Rattle.cbor_edn_application.specs.Ordinals.{next_ordinal, direction_in};
 
 use crate::answers::{noted, refusal};
 use cbor_edn_core::tree::{Item, StandaloneItem};
-use cbor_edn_model::word::NamedSimple;
+use cbor_edn_model::text::keyword::NamedSimple;
 use cbor_edn_parts::error::CallbackError;
 use std::alloc::Global;
 
-/// Where an element stands in an array.
+/// Which element of an array one is.
 #[derive(Clone, Copy)]
-pub(crate) enum Place {
+pub(crate) enum Ordinal {
     First,
     Second,
     Third,
     Later,
 }
 
-impl Place {
-    fn next(self) -> Place
-        ensures { result ≡ next_place self }
+impl Ordinal {
+    fn next(self) -> Ordinal
+        ensures { result ≡ next_ordinal self }
     {
         match self {
-            Place::First => Place::Second,
-            Place::Second => Place::Third,
-            Place::Third | Place::Later => Place::Later,
+            Ordinal::First => Ordinal::Second,
+            Ordinal::Second => Ordinal::Third,
+            Ordinal::Third | Ordinal::Later => Ordinal::Later,
         }
     }
 }
@@ -41,7 +41,7 @@ impl Place {
 /// Puts a comment behind the third element of the array in a tag 38 (RFC 9290, appendix A): the direction of its text, as `Right-to-left`
 /// of `true`. Other tags stay. Answers a comment where the tag holds no array; where memory runs out the item is as before.
 pub fn comment_lang_tag(alloc: Global, tag: u64, item: &mut Item<'_>) -> Result<(), CallbackError>
-    ensures { ActsBy comment_lang (tag_told tag) (item_tree item.old) (told_answer result) (item_tree item.new) }
+    ensures { ActsBy comment_lang (tag_arguments tag) (item_tree item.old) (sought_answer result) (item_tree item.new) }
 {
     if !is_language_tag(item, tag) {
         return Ok(());
@@ -52,19 +52,19 @@ pub fn comment_lang_tag(alloc: Global, tag: u64, item: &mut Item<'_>) -> Result<
     }
 }
 
-/// Whether the item is the tag that is told, and this is 38.
-fn is_language_tag(item: &Item<'_>, told: u64) -> bool
-    ensures { result ≡ is_told_tag (tag_told told) 38 (item_tree item.now) }
+/// Whether the item is the tag of the call, and this is 38.
+fn is_language_tag(item: &Item<'_>, number: u64) -> bool
+    ensures { result ≡ is_called_tag (tag_arguments number) 38 (item_tree item.now) }
 {
     match item.get_tag_head() {
-        Some((tag, _)) => told == tag && tag == 38,
+        Some((tag, _)) => number == tag && tag == 38,
         None => false,
     }
 }
 
 /// The comment in what stands between the parentheses.
 fn comment_content(alloc: Global, content: &mut StandaloneItem<'_>) -> Result<(), CallbackError>
-    ensures { ActsInside with_direction (standalone_tree content.old) (told_answer result) (standalone_tree content.new) }
+    ensures { ActsInside with_direction (standalone_tree content.old) (sought_answer result) (standalone_tree content.new) }
 {
     match content.at_mut(&[]) {
         Some(array) => comment_array(alloc, array),
@@ -74,12 +74,12 @@ fn comment_content(alloc: Global, content: &mut StandaloneItem<'_>) -> Result<()
 
 /// The comment at the third element.
 fn comment_array(alloc: Global, array: &mut Item<'_>) -> Result<(), CallbackError>
-    ensures { ActsSo with_direction (item_tree array.old) (told_answer result) (item_tree array.new) }
+    ensures { ActsSo with_direction (item_tree array.old) (sought_answer result) (item_tree array.new) }
 {
-    let mut place = Place::First;
+    let mut ordinal = Ordinal::First;
     let answer = array.visit_array_elements(
         alloc,
-        &mut |element| comment_element(alloc, &mut place, element),
+        &mut |element| comment_element(alloc, &mut ordinal, element),
     );
     match answer {
         Ok(()) => Ok(()),
@@ -87,39 +87,39 @@ fn comment_array(alloc: Global, array: &mut Item<'_>) -> Result<(), CallbackErro
     }
 }
 
-/// The comment of an element, by its place.
+/// The comment of an element, by which one it is.
 fn comment_element(
     alloc: Global,
-    place: &mut Place,
+    ordinal: &mut Ordinal,
     element: &mut Item<'_>,
 ) -> Result<Option<String>, CallbackError>
-    ensures next { place.new ≡ next_place place.old }
+    ensures next { ordinal.new ≡ next_ordinal ordinal.old }
     ensures same { item_tree element.new ≡ item_tree element.old }
-    ensures answer { AnswersSo (direction_in place.old (item_tree element.old)) (answer_of result) }
-    ensures elsewhere { place.old ≢ Place.Third → answer_of result ≡ fine }
+    ensures answer { AnswersSo (direction_in ordinal.old (item_tree element.old)) (answer_of result) }
+    ensures elsewhere { ordinal.old ≢ Ordinal.Third → answer_of result ≡ fine }
 {
-    let here = *place;
-    *place = here.next();
+    let here = *ordinal;
+    *ordinal = here.next();
     match here {
-        Place::Third => noted(alloc, direction(element)),
-        Place::First | Place::Second | Place::Later => Ok(None),
+        Ordinal::Third => noted(alloc, direction(element)),
+        Ordinal::First | Ordinal::Second | Ordinal::Later => Ok(None),
     }
 }
 
-/// The name of a direction of text, by its word.
+/// The name of a direction of text, by its keyword.
 fn direction(element: &Item<'_>) -> Option<&'static str>
     ensures { name_answer (option_map (λ name. name.now) result) ≡ direction_answer (item_tree element.now) }
 {
     match element.get_named() {
-        Some(word) => direction_name(word),
+        Some(keyword) => direction_name(keyword),
         None => None,
     }
 }
 
-fn direction_name(word: NamedSimple) -> Option<&'static str>
-    ensures { name_answer (option_map (λ name. name.now) result) ≡ direction_answer (NamedTree word) }
+fn direction_name(keyword: NamedSimple) -> Option<&'static str>
+    ensures { name_answer (option_map (λ name. name.now) result) ≡ direction_answer (NamedTree keyword) }
 {
-    match word {
+    match keyword {
         NamedSimple::True => Some("Right-to-left"),
         NamedSimple::False => Some("Left-to-right"),
         NamedSimple::Null => Some("Automatic direction"),

@@ -1,10 +1,10 @@
 //! Laws of visits that convert. Each function's contract is one, and its body does nothing.
-ghost use Rattle.cbor_edn_model.specs.Seeking.{IsTag, IsApplication};
+ghost use Rattle.cbor_edn_model.specs.visit.Seeking.{IsTag, IsApplication};
 ghost use Rattle.cbor_edn_conversions.specs.Addresses.{resolve_address, pretty_address};
 ghost use Rattle.cbor_edn_conversions.specs.Annotations.{comment_lang};
 ghost use Rattle.cbor_edn_conversions.specs.Bignums.{pretty_bignum};
 ghost use Rattle.cbor_edn_conversions.specs.Times.{resolve_time, pretty_time};
-ghost use Rattle.cbor_edn_application.specs.Laws.{SequencesResolvedAgain, ItemsResolvedAgain, VisitsKeep, VisitsLeave, ClaimsSetsKeep, LiteralsResolvedInTurn, VisitedOnce};
+ghost use Rattle.cbor_edn_application.specs.VisitLaws.{SequencesResolvedAgain, ItemsResolvedAgain, VisitsKeep, VisitsLeave, ClaimsSetsKeep, LiteralsResolvedInTurn, VisitedOnce};
 
 /// Decoded items that were prettified, and resolved then, mean what they were decoded from.
 pub fn calls_resolve_again()

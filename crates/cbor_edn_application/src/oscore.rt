@@ -1,13 +1,13 @@
 //! Comments at the parameters of OSCORE security contexts, and the names of algorithms.
 ghost use Rattle.std.specs.Prelude.{◌≡◌, Some, option_map, option_and_then};
-ghost use Rattle.cbor_edn_core.specs.Callbacks.{key_answer, handler_of, answer_of};
-ghost use Rattle.cbor_edn_core.specs.View.{item_tree};
+ghost use Rattle.cbor_edn_core.specs.visit.Callbacks.{key_answer, handler_of, answer_of};
+ghost use Rattle.cbor_edn_core.specs.tree.View.{item_tree};
 ghost use Rattle.cbor_edn_conversions.specs.declared.tables.ParameterValue.TheVariants.{Algorithm};
 ghost use Rattle.cbor_edn_conversions.specs.Claims.{parameter_key, parameter_value, fitting_parameter};
 ghost use Rattle.cbor_edn_conversions.specs.Integers.{item_integer};
 ghost use Rattle.cbor_edn_conversions.specs.Tables.{found, algorithms};
 ghost use Rattle.cbor_edn_application.specs.Acts.{AnswersSo};
-ghost use Rattle.cbor_edn_application.specs.Handlers.{at_parameter, integer_words, KeyAnswers};
+ghost use Rattle.cbor_edn_application.specs.Handlers.{at_parameter, integer_message, KeyAnswers};
 
 use crate::answers::noted;
 use crate::integers::integer_of;
@@ -15,7 +15,7 @@ use crate::reply::comment;
 use cbor_edn_conversions::tables::{ParameterValue, algorithm, parameter};
 use cbor_edn_core::access::TypeMismatch;
 use cbor_edn_core::tree::Item;
-use cbor_edn_core::visitor::MapValueHandler;
+use cbor_edn_core::visit::MapValueHandler;
 use cbor_edn_parts::error::CallbackError;
 use std::alloc::Global;
 
@@ -36,7 +36,7 @@ pub(crate) fn comment_parameter<'a>(
 {
     match key.get_integer() {
         Ok(number) => comment_number(alloc, number),
-        Err(mismatch) => Err(comment(alloc, words(mismatch))),
+        Err(mismatch) => Err(comment(alloc, message(mismatch))),
     }
 }
 
@@ -64,9 +64,9 @@ fn handler(value: Option<ParameterValue>) -> Option<OscHandler>
     }
 }
 
-/// The words of a key that is no integer of `i128`.
-fn words(mismatch: TypeMismatch) -> &'static str
-    ensures { result.now ≡ integer_words mismatch }
+/// The message of a key that is no integer of `i128`.
+fn message(mismatch: TypeMismatch) -> &'static str
+    ensures { result.now ≡ integer_message mismatch }
 {
     match mismatch {
         TypeMismatch::IntegerInRange => "Expected integer in i128 range",
@@ -75,8 +75,8 @@ fn words(mismatch: TypeMismatch) -> &'static str
 }
 
 impl<'a> MapValueHandler<'a> for OscHandler {
-    ghost use Rattle.cbor_edn_core.specs.Callbacks.{answer_of};
-    ghost use Rattle.cbor_edn_core.specs.View.{item_tree};
+    ghost use Rattle.cbor_edn_core.specs.visit.Callbacks.{answer_of};
+    ghost use Rattle.cbor_edn_core.specs.tree.View.{item_tree};
     ghost use Rattle.cbor_edn_application.specs.Handlers.{at_parameter, ValueAnswers};
 
     ghost handles = { λ h x r y. ValueAnswers (at_parameter h) (item_tree x) (answer_of r) (item_tree y) };

@@ -1,8 +1,8 @@
 //! Comparison of items by their encodings.
 ghost use Rattle.std.specs.Prelude.{◌≡◌, IfOk, option_map};
 ghost use Rattle.cbor_edn_conversions.specs.Conversions.{item_encoding, mean_the_same};
-ghost use Rattle.cbor_edn_model.specs.Value.{AreBytes};
-ghost use Rattle.cbor_edn_core.specs.View.{item_tree};
+ghost use Rattle.cbor_edn_model.specs.cbor.Value.{AreBytes};
+ghost use Rattle.cbor_edn_core.specs.tree.View.{item_tree};
 
 use cbor_edn_core::tree::Item;
 use cbor_edn_parts::error::Fault;

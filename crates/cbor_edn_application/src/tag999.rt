@@ -1,12 +1,12 @@
 //! Literals as tags of their prefix and their text.
 ghost use Rattle.std.specs.Prelude.{◌≡◌, ◌∷◌, [], map, IfOk};
 ghost use Rattle.std.specs.String.{string_bytes};
-ghost use Rattle.cbor_edn_core.specs.Constructed.{comma_inside, element_tree};
-ghost use Rattle.cbor_edn_core.specs.Sought.{told_answer};
-ghost use Rattle.cbor_edn_core.specs.View.{item_tree};
-ghost use Rattle.cbor_edn_model.specs.Items.{Array};
-ghost use Rattle.cbor_edn_model.specs.Seeking.{prefix_and_text};
-ghost use Rattle.cbor_edn_model.specs.Trees.{ListTree, ElementTree};
+ghost use Rattle.cbor_edn_core.specs.tree.Constructed.{comma_inside, element_tree};
+ghost use Rattle.cbor_edn_core.specs.visit.Sought.{sought_answer};
+ghost use Rattle.cbor_edn_core.specs.tree.View.{item_tree};
+ghost use Rattle.cbor_edn_model.specs.tree.Items.{Array};
+ghost use Rattle.cbor_edn_model.specs.visit.Seeking.{prefix_and_text};
+ghost use Rattle.cbor_edn_model.specs.tree.Trees.{ListTree, ElementTree};
 ghost use Rattle.cbor_edn_conversions.specs.Tag999.{to_tag999, tag999_tree, text_tree, is_built_in as is_built_in_text};
 ghost use Rattle.cbor_edn_application.specs.Acts.{ActsBy};
 
@@ -24,7 +24,7 @@ pub fn any_aol_to_tag999<'a>(
     text: String,
     item: &mut Item<'a>,
 ) -> Result<(), CallbackError>
-    ensures { ActsBy to_tag999 (prefix_and_text (string_bytes prefix) (string_bytes text)) (item_tree item.old) (told_answer result) (item_tree item.new) }
+    ensures { ActsBy to_tag999 (prefix_and_text (string_bytes prefix) (string_bytes text)) (item_tree item.old) (sought_answer result) (item_tree item.new) }
 {
     if is_built_in(prefix.as_str()) {
         return Ok(());

@@ -1,8 +1,8 @@
-//! The parts of tags that callbacks are told.
+//! The parts of tags that callbacks are called with.
 ghost use Rattle.std.specs.Prelude.{◌≡◌, option_map};
-ghost use Rattle.cbor_edn_model.specs.Seeking.{number};
-ghost use Rattle.cbor_edn_core.specs.View.{item_tree};
-ghost use Rattle.cbor_edn_conversions.specs.Conversions.{told_tag};
+ghost use Rattle.cbor_edn_model.specs.visit.Seeking.{number};
+ghost use Rattle.cbor_edn_core.specs.tree.View.{item_tree};
+ghost use Rattle.cbor_edn_conversions.specs.Conversions.{called_tag};
 
 use cbor_edn_core::tree::{Indicator, Item};
 
@@ -11,7 +11,7 @@ pub(crate) fn tag_parts<'t, 'a>(
     tag: u64,
     item: &'t Item<'a>,
 ) -> Option<(Option<Indicator>, &'t Item<'a>)>
-    ensures { option_map (λ p. (tag, p.0, item_tree p.1.now)) result ≡ told_tag (number tag) (item_tree item.now) }
+    ensures { option_map (λ p. (tag, p.0, item_tree p.1.now)) result ≡ called_tag (number tag) (item_tree item.now) }
 {
     let (number, indicator) = item.get_tag_head()?;
     if number != tag {

@@ -1,9 +1,9 @@
 //! Times: literals as `dt'1970-01-01T00:00:42+00:00'`, and the numbers that they stand for.
 ghost use Rattle.std.specs.Prelude.{◌≡◌, true, ℕ, List, Some, None, Ok, Err, IfOk, IfSome, IfNone, string_bytes};
 ghost use Rattle.cbor_edn_parts.specs.Refusals.{IfTold};
-ghost use Rattle.cbor_edn_model.specs.Seeking.{number, prefix_and_text};
-ghost use Rattle.cbor_edn_core.specs.Sought.{told_answer};
-ghost use Rattle.cbor_edn_core.specs.View.{item_tree};
+ghost use Rattle.cbor_edn_model.specs.visit.Seeking.{number, prefix_and_text};
+ghost use Rattle.cbor_edn_core.specs.visit.Sought.{sought_answer};
+ghost use Rattle.cbor_edn_core.specs.tree.View.{item_tree};
 ghost use Rattle.cbor_edn_conversions.specs.Conversions.{without_tag};
 ghost use Rattle.cbor_edn_conversions.specs.Times.{time_item, time_of_literal, time_literal, resolve_time, pretty_time};
 ghost use Rattle.cbor_edn_application.specs.Acts.{ActsBy};
@@ -26,7 +26,7 @@ pub fn dt_aol_to_item(
     text: String,
     item: &mut Item<'_>,
 ) -> Result<(), CallbackError>
-    ensures { ActsBy resolve_time (prefix_and_text (string_bytes prefix) (string_bytes text)) (item_tree item.old) (told_answer result) (item_tree item.new) }
+    ensures { ActsBy resolve_time (prefix_and_text (string_bytes prefix) (string_bytes text)) (item_tree item.old) (sought_answer result) (item_tree item.new) }
 {
     let Some(wrap) = is_tag_wanted(prefix.as_str()) else {
         return Ok(());
@@ -48,8 +48,8 @@ fn is_tag_wanted(prefix: &str) -> Option<bool>
 }
 
 /// The literal of the time that a number of seconds stands for: `dt'..'`, or with `wrap` `DT'..'`, which stands for the number in tag 1.
-/// Fails with words where the item is no number, no time of the years 0000 to 9999, or marked so that its encoding would change, and
-/// where memory runs out.
+/// Fails with a message where the item is no number, no time of the years 0000 to 9999, or has an indicator by which its
+/// encoding would change, and where memory runs out.
 pub fn dt_item_to_aol<'a>(
     alloc: Global,
     item: &Item<'_>,
@@ -60,14 +60,14 @@ pub fn dt_item_to_aol<'a>(
 {
     match literal::instant_of(item) {
         Ok(instant) => Ok(literal::time_literal(alloc, instant, wrap)?),
-        Err(words) => Err(Fault::Told(words)),
+        Err(message) => Err(Fault::Told(message)),
     }
 }
 
 /// Puts `DT'1970-01-01T00:00:42+00:00'` in the place of `1(42)` (RFC 8949, section 3.4.2). Other tags stay. Answers a comment where
 /// [`dt_item_to_aol`] refuses the content, or the tag's indicator would be lost; where memory runs out the item is as before.
 pub fn dt_tag_to_aol(alloc: Global, tag: u64, item: &mut Item<'_>) -> Result<(), CallbackError>
-    ensures { ActsBy pretty_time (number tag) (item_tree item.old) (told_answer result) (item_tree item.new) }
+    ensures { ActsBy pretty_time (number tag) (item_tree item.old) (sought_answer result) (item_tree item.new) }
 {
     if tag != 1 {
         return Ok(());

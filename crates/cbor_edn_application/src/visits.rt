@@ -2,12 +2,12 @@
 ghost use Rattle.std.specs.Prelude.{◌≡◌, None, OnOk};
 ghost use Rattle.std.specs.String.{string_bytes};
 ghost use Rattle.cbor_edn_parts.specs.Refusals.{IfTold};
-ghost use Rattle.cbor_edn_core.specs.Callbacks.{ending, IfVisited};
-ghost use Rattle.cbor_edn_core.specs.Sought.{told_answer};
-ghost use Rattle.cbor_edn_core.specs.View.{item_tree, sequence_tree};
-ghost use Rattle.cbor_edn_model.specs.Accessed.{map_items};
-ghost use Rattle.cbor_edn_model.specs.Seeking.{IsTag, IsApplication, number as tag_told, prefix_and_text};
-ghost use Rattle.cbor_edn_model.specs.Trees.{items};
+ghost use Rattle.cbor_edn_core.specs.visit.Callbacks.{ending, IfVisited};
+ghost use Rattle.cbor_edn_core.specs.visit.Sought.{sought_answer};
+ghost use Rattle.cbor_edn_core.specs.tree.View.{item_tree, sequence_tree};
+ghost use Rattle.cbor_edn_model.specs.access.Accessed.{map_items};
+ghost use Rattle.cbor_edn_model.specs.visit.Seeking.{IsTag, IsApplication, number as tag_arguments, prefix_and_text};
+ghost use Rattle.cbor_edn_model.specs.tree.Trees.{items};
 ghost use Rattle.cbor_edn_conversions.specs.Addresses.{resolve_address, pretty_address};
 ghost use Rattle.cbor_edn_conversions.specs.All.{resolve_all, pretty_all};
 ghost use Rattle.cbor_edn_conversions.specs.Annotations.{commenting, comment_lang};
@@ -77,7 +77,7 @@ fn at_tag(
     tag: u64,
     item: &mut Item<'_>,
 ) -> Result<(), CallbackError>
-    ensures { ActsBy (tag_act act.entry) (tag_told tag) (item_tree item.old) (told_answer result) (item_tree item.new) }
+    ensures { ActsBy (tag_act act.entry) (tag_arguments tag) (item_tree item.old) (sought_answer result) (item_tree item.new) }
 {
     match act {
         TagAct::Prettify => all_tag_prettify(alloc, tag, item),
@@ -96,7 +96,7 @@ fn at_literal(
     text: String,
     item: &mut Item<'_>,
 ) -> Result<(), CallbackError>
-    ensures { ActsBy (literal_act act) (prefix_and_text (string_bytes prefix) (string_bytes text)) (item_tree item.old) (told_answer result) (item_tree item.new) }
+    ensures { ActsBy (literal_act act) (prefix_and_text (string_bytes prefix) (string_bytes text)) (item_tree item.old) (sought_answer result) (item_tree item.new) }
 {
     match act {
         LiteralAct::Resolve => all_aol_to_item(alloc, prefix, text, item),
@@ -188,7 +188,7 @@ fn comment_tag(
     tag: u64,
     item: &mut Item<'_>,
 ) -> Result<(), CallbackError>
-    ensures { ActsBy (commenting comment.now) (tag_told tag) (item_tree item.old) (told_answer result) (item_tree item.new) }
+    ensures { ActsBy (commenting comment.now) (tag_arguments tag) (item_tree item.old) (sought_answer result) (item_tree item.new) }
 {
     let comment = String::from_str(alloc, comment)?;
     Err(CallbackError::Comment(comment))

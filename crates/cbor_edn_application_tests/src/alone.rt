@@ -5,14 +5,14 @@ use cbor_edn_application::{
     dt_tag_to_aol, ip_aol_to_item, ip_item_to_aol, ip_tag_to_aol, tag23_to_edn_integer,
 };
 use cbor_edn_core::tree::{Item, StandaloneItem};
-use cbor_edn_core::visitor::MapValueHandler;
+use cbor_edn_core::visit::MapValueHandler;
 use cbor_edn_expect::failures::Failures;
 use cbor_edn_expect::{expect, expect_text};
 use cbor_edn_parts::error::{CallbackError, Fault};
 use std::alloc::Global;
 use std::test::Fail;
 
-/// The text of an answer, or the words of its refusal.
+/// The text of an answer, or the message of its refusal.
 fn text_of(alloc: Global, answer: Result<Item<'_>, Fault<&'static str>>) -> Result<String, Fail> {
     match answer {
         Ok(item) => Ok(item.serialize(alloc)?),
@@ -31,8 +31,8 @@ fn address_of(alloc: Global, text: &str, version: IpVersion, wrap: bool) -> Resu
     text_of(alloc, ip_item_to_aol(alloc, item.item(), version, wrap))
 }
 
-/// Numbers, whether the literal stands for their tag too, and the literal or the words of the refusal: RFC 8949, section 3.4.2, printed as
-/// `docs/SUPPORTED.md` says. What is refused has a head that no literal brings back, or is no number.
+/// Numbers, whether the literal stands for their tag too, and the literal or the message of the refusal: RFC 8949, section 3.4.2, printed
+/// as `docs/SUPPORTED.md` says. What is refused has a head that no literal brings back, or is no number.
 const TIMES: &[(&str, bool, &str)] = &[
     ("42", false, "dt'1970-01-01T00:00:42+00:00'"),
     ("42", true, "DT'1970-01-01T00:00:42+00:00'"),
@@ -92,7 +92,7 @@ fn addresses(rt: HostRuntime) -> Result<(), Fail> {
     failures.end()
 }
 
-/// A function of a visit, with the number, or the prefix and the text, that it is told.
+/// A function of a visit, with the number, or the prefix and the text, that it is called with.
 #[derive(Clone, Copy)]
 enum Call {
     /// Those of times and of addresses, told what the item is not.
@@ -162,8 +162,8 @@ fn called(alloc: Global, text: &str, call: Call) -> Result<String, Fail> {
     }
 }
 
-/// A function that is told another number than the item's, or another prefix than its own, changes nothing: of tags the rule stands in
-/// `docs/DECISIONS.md`.
+/// A function that is called with another number than the item's, or another prefix than its own, changes nothing: of tags the rule stands
+/// in `docs/DECISIONS.md`.
 const OTHER: &[&str] = &[
     "52(h'c0000201')",
     "[1(0)]",

@@ -5,7 +5,7 @@ use Rattle.cbor_edn.specs.declared.engine.RunError.{RunError}
 use Rattle.cbor_edn.specs.declared.engine.RunError.TheVariants as run
 use Rattle.cbor_edn.specs.Runs.{IsOutput, IsRefused}
 use Rattle.cbor_edn_c_calls.specs.Asked.{IsAsked, IsOutOfRange}
-use Rattle.cbor_edn_c_calls.specs.Reports.{TellsOutput, TellsPlace}
+use Rattle.cbor_edn_c_calls.specs.Reports.{TellsOutput, TellsLocation}
 use Rattle.cbor_edn_c_calls.specs.Rooms.{HasNoRoom, IsPutFront, IsPutWhole}
 use Rattle.cbor_edn_c_calls.specs.declared.report.Report.{Report}
 use Rattle.cbor_edn_c_calls.specs.declared.status.CallFault.{CallFault}
@@ -39,5 +39,5 @@ Did NoRoom command flags limit input old new message said r =
     × (said ≡ message)
 Did BadCall command flags limit input old new message said r = IsOutOfRange command flags limit × (new ≡ old) × TellsOutput 0 r × (said ≡ message)
 Did (Fault f) command flags limit input old new message said r =
-    (o : Options) × IsAsked command flags limit o × ((e : RunError) × IsRefused o input e × (f ≡ call_fault e) × TellsPlace (call_fault e) r)
+    (o : Options) × IsAsked command flags limit o × ((e : RunError) × IsRefused o input e × (f ≡ call_fault e) × TellsLocation (call_fault e) r)
     × (new ≡ old) × (r.output_len ≡ 0) × IsMessage r.message_len message said

@@ -3,7 +3,7 @@
 
 ghost use Rattle.std.specs.Prelude.{◌≡◌};
 ghost use Rattle.cbor_edn_c.specs.Calls.{Did, IsMessage, call_fault};
-ghost use Rattle.cbor_edn_c_calls.specs.Reports.{TellsPlace};
+ghost use Rattle.cbor_edn_c_calls.specs.Reports.{TellsLocation};
 ghost use Rattle.cbor_edn_c_calls.specs.Statuses.{status_number};
 ghost use Rattle.cbor_edn_c_calls.specs.declared.status.Status.{Status};
 
@@ -29,9 +29,9 @@ fn call_fault(fault: &RunError) -> CallFault
     }
 }
 
-// The place of a fault, and its message as far as there is memory and room.
+// The location of a fault, and its message as far as there is memory and room.
 fn report_of(alloc: Global, fault: &RunError, message: &mut [u8]) -> Report
-    ensures place { TellsPlace (call_fault fault.now) result }
+    ensures place { TellsLocation (call_fault fault.now) result }
     ensures output { result.output_len ≡ 0 }
     ensures message { IsMessage result.message_len message.old message.new }
 {

@@ -1,15 +1,15 @@
 //! What is told of a fault.
 ghost use Rattle.std.specs.Prelude.{◌≡◌, length};
-ghost use Rattle.cbor_edn_c_calls.specs.Reports.{TellsPlace};
+ghost use Rattle.cbor_edn_c_calls.specs.Reports.{TellsLocation};
 ghost use Rattle.cbor_edn_c_calls.specs.Rooms.{IsPutFront};
 
 use crate::report::Report;
 use crate::room::put_front;
 use crate::status::CallFault;
 
-/// Writes as much of a fault's message as fits, and tells its length and the place of the fault.
+/// Writes as much of a fault's message as fits, and tells its length and the location of the fault.
 pub fn told(fault: &CallFault, text: &[u8], message: &mut [u8]) -> Report
-    ensures place { TellsPlace fault.now result }
+    ensures place { TellsLocation fault.now result }
     ensures output { result.output_len ≡ 0 }
     ensures length { result.message_len ≡ length text.now }
     ensures message { IsPutFront text.now message.old message.new }

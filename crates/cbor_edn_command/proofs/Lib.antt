@@ -1,2 +1,2 @@
-mod CommandLine
+mod ReadCommandLine
 mod Lines

@@ -1,4 +1,4 @@
 pub mod CommandLine
 pub mod Devices
 pub mod Hexadecimal
-pub mod Steps
+pub mod CommandLineSteps

@@ -2,7 +2,7 @@
 ghost use Rattle.std.specs.Prelude.{◌≡◌, IfOk, codes, map};
 ghost use Rattle.clap.specs.Words.{first_of, found_of, rows_of};
 ghost use Rattle.cbor_edn_command.specs.CommandLine as line;
-ghost use Rattle.cbor_edn_command.specs.Steps.{GrowsBy, IsArgOf, IsCommandOf, IsProgram};
+ghost use Rattle.cbor_edn_command.specs.CommandLineSteps.{GrowsBy, IsArgOf, IsCommandOf, IsProgram};
 
 use crate::options::{Command, Options};
 use cbor_edn_parts::nesting::NESTING_LIMIT;

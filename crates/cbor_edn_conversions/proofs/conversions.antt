@@ -11,6 +11,6 @@ pub mod Literals
 pub mod LiteralsResolved
 pub mod OneActs
 pub mod OneLine
-pub mod Same
-pub mod Sought
+pub mod SameValues
+pub mod SoughtCalls
 pub mod TimesKept

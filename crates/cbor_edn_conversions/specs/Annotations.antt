@@ -1,16 +1,16 @@
 -- Comments behind tags, and behind the third element of a tag 38: `38(["he", "x", true/ Right-to-left /])`.
 use Rattle.std.specs.Prelude.{ℕ, zero, suc, ◌==◌, ◌&&◌, codes, Bool, false, if◌then◌else◌, List}
-use Rattle.cbor_edn_model.specs.declared.label.LabelKind.TheVariants as label
-use Rattle.cbor_edn_model.specs.declared.word.NamedSimple.TheVariants.{True, False, Null}
-use Rattle.cbor_edn_model.specs.Accessed.{element}
-use Rattle.cbor_edn_model.specs.Items.{Row, Elements, Array}
-use Rattle.cbor_edn_model.specs.Seeking.{Told}
-use Rattle.cbor_edn_model.specs.Trees.{Tree, OneItem, OneEntry, Rest, NamedTree, EnclosedTree, ListTree, EmptyTree, FullTree, LastTree, MoreTree, StandaloneTree}
-use Rattle.cbor_edn_model.specs.Visits.{Answer, fine, comment, answered}
+use Rattle.cbor_edn_model.specs.declared.text.label.LabelKind.TheVariants as label
+use Rattle.cbor_edn_model.specs.declared.text.keyword.NamedSimple.TheVariants.{True, False, Null}
+use Rattle.cbor_edn_model.specs.access.Accessed.{element}
+use Rattle.cbor_edn_model.specs.tree.Items.{Row, Elements, Array}
+use Rattle.cbor_edn_model.specs.visit.Seeking.{CallArguments}
+use Rattle.cbor_edn_model.specs.tree.Trees.{Tree, OneItem, OneEntry, Rest, NamedTree, EnclosedTree, ListTree, EmptyTree, FullTree, LastTree, MoreTree, StandaloneTree}
+use Rattle.cbor_edn_model.specs.visit.Visits.{Answer, fine, comment, answered}
 use Rattle.cbor_edn_conversions.specs.Conversions.{Reply, tells}
 
--- the comment is answered, whatever is told
-abbrev pub commenting : List ℕ → Told → Tree OneItem → Reply
+-- the comment is answered, whatever the arguments are
+abbrev pub commenting : List ℕ → CallArguments → Tree OneItem → Reply
 commenting c a w = (comment c, w)
 
 -- ---- entries of a list, one by one
@@ -41,7 +41,7 @@ direction_at _ w = fine
 abbrev pub commented : (ℕ → Tree OneItem → Answer) → Turn Elements
 commented note i e s = (e, answered (note i (element e)) s)
 
--- an array with the comment, or words where there is none
+-- an array with the comment, or a message where there is none
 abbrev pub with_direction : Tree OneItem → Reply
 with_direction (ListTree Array (FullTree h s m)) = (fine, ListTree Array (FullTree h s (turned (commented direction_at) 0 m)))
 with_direction (ListTree Array (EmptyTree i s)) = (fine, ListTree Array (EmptyTree i s))
@@ -52,11 +52,11 @@ abbrev pub at_content : (Tree OneItem → Reply) → Tree OneItem → Reply
 at_content f (EnclosedTree l (StandaloneTree s w t)) = ((f w).0, EnclosedTree l (StandaloneTree s (f w).1 t))
 at_content f w = (fine, w)
 
--- the item is the tag that is told, of this number
-abbrev pub is_told_tag : Told → ℕ → Tree OneItem → Bool
-is_told_tag a n (EnclosedTree (label.Tag i m) w) = tells a m && m == n
-is_told_tag a n w = false
+-- the item is the tag of the call, of this number
+abbrev pub is_called_tag : CallArguments → ℕ → Tree OneItem → Bool
+is_called_tag a n (EnclosedTree (label.Tag i m) w) = tells a m && m == n
+is_called_tag a n w = false
 
 -- `comment_lang_tag`
-unfoldable pub comment_lang : Told → Tree OneItem → Reply
-comment_lang a w = if is_told_tag a 38 w then at_content with_direction w else (fine, w)
+unfoldable pub comment_lang : CallArguments → Tree OneItem → Reply
+comment_lang a w = if is_called_tag a 38 w then at_content with_direction w else (fine, w)

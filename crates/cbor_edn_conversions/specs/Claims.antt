@@ -1,8 +1,8 @@
 -- Claims sets (RFC 8392) with the names of their keys: `{4/ exp /: dt'2023-11-14T22:13:20+00:00'}` of `{4: 1700000000}`.
 use Rattle.std.specs.Prelude.{ℕ, ℤ, codes, List, Option, None, Some, option_map, option_and_then, false}
-use Rattle.cbor_edn_model.specs.Items.{Pairs, Map}
-use Rattle.cbor_edn_model.specs.Trees.{Tree, OneItem, ListTree, EmptyTree, FullTree, PairTree}
-use Rattle.cbor_edn_model.specs.Visits.{Answer, fine, comment, answered}
+use Rattle.cbor_edn_model.specs.tree.Items.{Pairs, Map}
+use Rattle.cbor_edn_model.specs.tree.Trees.{Tree, OneItem, ListTree, EmptyTree, FullTree, PairTree}
+use Rattle.cbor_edn_model.specs.visit.Visits.{Answer, fine, comment, answered}
 use Rattle.cbor_edn_conversions.specs.declared.tables.ClaimValue.{ClaimValue}
 use Rattle.cbor_edn_conversions.specs.declared.tables.ClaimValue.TheVariants.{Timestamp, Confirmation}
 use Rattle.cbor_edn_conversions.specs.declared.tables.ConfirmationValue.{ConfirmationValue}
@@ -30,7 +30,7 @@ value_turn (Some f) v r = ((f v).1, answered (f v).0 r)
 abbrev pub key_turn : (Tree OneItem → KeyReply) → Turn Pairs
 key_turn at_key i (PairTree k s t v) r = let x = value_turn (at_key k).1 v r in (PairTree k (answered (at_key k).0 s) t x.0, x.1)
 
--- a map with what its keys are answered, or words where there is none
+-- a map with what its keys are answered, or a message where there is none
 abbrev pub with_keys : (Tree OneItem → KeyReply) → Tree OneItem → Reply
 with_keys at_key (ListTree Map (FullTree h s m)) = (fine, ListTree Map (FullTree h s (turned (key_turn at_key) 0 m)))
 with_keys at_key (ListTree Map (EmptyTree i s)) = (fine, ListTree Map (EmptyTree i s))
@@ -58,7 +58,7 @@ name_answer (Some name) = comment name
 abbrev pub parameter_value : ParameterValue → Tree OneItem → Reply
 parameter_value Algorithm v = (name_answer (option_and_then (found algorithms) (item_integer v)), v)
 
--- a key that is no integer of 128 bits is answered words
+-- a key that is no integer of 128 bits is answered with a message
 abbrev pub fitting_parameter : Option ℤ → KeyReply
 fitting_parameter (Some z) = named parameter_value (found parameters z)
 fitting_parameter None = (comment (codes "Expected integer in i128 range"), None)

@@ -2,15 +2,15 @@
 use Rattle.std.specs.Prelude.{ℕ, ℤ, ◌≡◌, ◌↔◌, ◌==◌, ◌||◌, if◌then◌else◌, codes, Bool, true, List, Option, Some, Ok, All}
 use Rattle.cbor_edn_parts.specs.declared.indicator.Indicator.{Indicator}
 use Rattle.cbor_edn_parts.specs.Literal.{Prefixed, IsLiteral}
-use Rattle.cbor_edn_parts.specs.code.NumberReading.{integer_of}
-use Rattle.cbor_edn_parts.specs.code.ContentReading.{same}
-use Rattle.cbor_edn_model.specs.Decoded.{IsSingleLine}
-use Rattle.cbor_edn_model.specs.Items.{Item, Node}
-use Rattle.cbor_edn_model.specs.Meaning.{means}
-use Rattle.cbor_edn_model.specs.Seeking.{Told, number, prefix_and_text, SoughtCall, IsApplication}
-use Rattle.cbor_edn_model.specs.Trees.{Tree, OneItem, NumberTree, items}
-use Rattle.cbor_edn_model.specs.Value.{Value, AreBytes, Enc}
-use Rattle.cbor_edn_model.specs.Visits.{Ending}
+use Rattle.cbor_edn_parts.specs.internal.NumberReading.{integer_of}
+use Rattle.cbor_edn_parts.specs.internal.ContentReading.{same}
+use Rattle.cbor_edn_model.specs.cbor.Decoded.{IsSingleLine}
+use Rattle.cbor_edn_model.specs.tree.Items.{Item, Node}
+use Rattle.cbor_edn_model.specs.cbor.Meaning.{means}
+use Rattle.cbor_edn_model.specs.visit.Seeking.{CallArguments, number, prefix_and_text, SoughtCall, IsApplication}
+use Rattle.cbor_edn_model.specs.tree.Trees.{Tree, OneItem, NumberTree, items}
+use Rattle.cbor_edn_model.specs.cbor.Value.{Value, AreBytes, Enc}
+use Rattle.cbor_edn_model.specs.visit.Visits.{Ending}
 use Rattle.cbor_edn_literals.specs.declared.address.IpVersion.{IpVersion}
 use Rattle.cbor_edn_literals.specs.Time.{HasInstant, IsTimeStamp}
 use Rattle.cbor_edn_conversions.specs.Resolving.{Resolver, ResolvesApplications, ResolvesNoContent, Turns, AnswersBy}
@@ -65,7 +65,7 @@ LiteralsOfItems = (w v : Tree OneItem) (wrap : Bool)
     × ((version : IpVersion) → address_literal w version wrap ≡ Ok v → TurnsTo literal_resolver literal_resolver (in_tag wrap (address_tag version) w) v)
 
 -- A call of a prettifier keeps what the item means, where literals stand for values; also one that is refused, and one at any other item.
-abbrev pub PrettyKeeps : Resolver → (Told → Tree OneItem → Reply) → Type 0
+abbrev pub PrettyKeeps : Resolver → (CallArguments → Tree OneItem → Reply) → Type 0
 PrettyKeeps R f = (c : SoughtCall) → AnswersBy f c → Turns R R c
 
 -- Bignums become no literals, so any will do.
@@ -77,8 +77,8 @@ abbrev pub ClaimsKeep : Type 0
 ClaimsKeep = (w : Tree OneItem) → TurnsTo literal_resolver literal_resolver w (with_claims w).1
 
 -- A call at a literal turns the one resolver into the other. It keeps what is meant where the two are one, also where it is refused.
-abbrev pub Resolves : (Told → Tree OneItem → Reply) → Resolver → Resolver → Type 0
-Resolves f B A = (c : SoughtCall) → IsApplication c.before c.told → AnswersBy f c → Turns B A c
+abbrev pub Resolves : (CallArguments → Tree OneItem → Reply) → Resolver → Resolver → Type 0
+Resolves f B A = (c : SoughtCall) → IsApplication c.before c.arguments → AnswersBy f c → Turns B A c
 
 -- Of the conversions of tags at most one does something, by the tag's number,
 abbrev pub PrettyByNumber : Type 0
@@ -104,7 +104,7 @@ PrettyResolvedInTurn = (cs ds es : List SoughtCall) (r : Ending)
     → All (AnswersBy pretty_all) cs → All (AnswersBy resolve_address) ds → All (AnswersBy resolve_time) es → ComesBackInTurn cs ds es r
 
 -- What a callback makes of an item, whatever the spaces in it.
-abbrev pub Made : (Told → Tree OneItem → Reply) → Told → Node Item → Node Item → Type 0
+abbrev pub Made : (CallArguments → Tree OneItem → Reply) → CallArguments → Node Item → Node Item → Type 0
 Made f a x y = (w : Tree OneItem) × (items w ≡ x) × (items (f a w).1 ≡ y)
 
 -- The same of items alone: from the item of the value to the prettified one, and on to one that means the value.

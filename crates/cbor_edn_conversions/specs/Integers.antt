@@ -1,8 +1,8 @@
 -- The integers of items.
 use Rattle.std.specs.Prelude.{ℤ, pos, negsuc, nat_lt, ◌^◌, if◌then◌else◌, Option, None, Some, option_and_then}
-use Rattle.cbor_edn_parts.specs.code.NumberReading.{integer_of}
-use Rattle.cbor_edn_model.specs.Accessed.{number_text}
-use Rattle.cbor_edn_model.specs.Trees.{Tree, OneItem}
+use Rattle.cbor_edn_parts.specs.internal.NumberReading.{integer_of}
+use Rattle.cbor_edn_model.specs.access.Accessed.{number_text}
+use Rattle.cbor_edn_model.specs.tree.Trees.{Tree, OneItem}
 
 -- the integer of an integer literal, whatever its encoding indicator: 16 of `0x10_1`
 abbrev pub literal_integer : Tree OneItem → Option ℤ

@@ -1,25 +1,25 @@
 -- Items that nest as deep as the values that they mean.
 use Rattle.std.specs.Prelude.{◌≢◌, Some}
-use Rattle.cbor_edn_model.specs.declared.word.NamedSimple.{NamedSimple}
-use Rattle.cbor_edn_model.specs.Items.{Sort, Item, Node, Number, Float, Listed, Tagged, Named, Simple, String, Stream, Literal, Dots, Embedded, LastPiece, Plus, Element, Pair, Chunk, End, Then}
-use Rattle.cbor_edn_model.specs.Meaning.{means_simple, named_number}
-use Rattle.cbor_edn_model.specs.Seeking.{SoughtCall}
-use Rattle.cbor_edn_model.specs.Trees.{items}
-use Rattle.cbor_edn_model.specs.Value.{simple}
+use Rattle.cbor_edn_model.specs.declared.text.keyword.NamedSimple.{NamedSimple}
+use Rattle.cbor_edn_model.specs.tree.Items.{Sort, Item, Node, Number, Float, Listed, Tagged, Named, Simple, String, Stream, Literal, Dots, Embedded, LastPiece, Plus, Element, Pair, Chunk, End, Then}
+use Rattle.cbor_edn_model.specs.cbor.Meaning.{means_simple, named_number}
+use Rattle.cbor_edn_model.specs.visit.Seeking.{SoughtCall}
+use Rattle.cbor_edn_model.specs.tree.Trees.{items}
+use Rattle.cbor_edn_model.specs.cbor.Value.{simple}
 
--- What stands in `simple(..)` is no value with a word: 42 is none, 20 is `false`.
-abbrev pub HasNoWord : Node Item → Type 0
-HasNoWord w = (b : NamedSimple) → means_simple w ≢ Some (simple (named_number b))
+-- What stands in `simple(..)` is no value with a keyword: 42 is none, 20 is `false`.
+abbrev pub HasNoKeyword : Node Item → Type 0
+HasNoKeyword w = (b : NamedSimple) → means_simple w ≢ Some (simple (named_number b))
 
--- No sequence is embedded in the items, and each simple value with a word is that word: `[1, simple(42), false]`, with neither `<<1>>` nor
--- `simple(20)`, which nest one level deeper than `h'01'` and `false`.
+-- No sequence is embedded in the items, and each simple value with a keyword is that keyword: `[1, simple(42), false]`, with neither
+-- `<<1>>` nor `simple(20)`, which nest one level deeper than `h'01'` and `false`.
 abbrev pub IsDirect : {s : Sort} → Node s → Type 0
 IsDirect (Number x i) = Unit {0}
 IsDirect (Float f i) = Unit {0}
 IsDirect (Listed k i m) = IsDirect m
 IsDirect (Tagged n i w) = IsDirect w
 IsDirect (Named b) = Unit {0}
-IsDirect (Simple w) = HasNoWord w
+IsDirect (Simple w) = HasNoKeyword w
 IsDirect (String w) = IsDirect w
 IsDirect (Stream m) = IsDirect m
 IsDirect (Literal x i) = Unit {0}

@@ -1,11 +1,11 @@
 -- The laws of how deep items nest, as contracts name them.
 use Rattle.std.specs.Prelude.{◌≡◌, ◌≤◌, List, Some, All}
-use Rattle.cbor_edn_model.specs.Decoded.{item_of, items_of}
-use Rattle.cbor_edn_model.specs.Items.{Item, Items, Node, nesting}
-use Rattle.cbor_edn_model.specs.Seeking.{Told, SoughtCall, VisitParts}
-use Rattle.cbor_edn_model.specs.Trees.{Tree, OneItem, Seq, Standalone, items}
-use Rattle.cbor_edn_model.specs.Value.{Value, Values, Fits, ValuesFit}
-use Rattle.cbor_edn_model.specs.Visits.{Ending}
+use Rattle.cbor_edn_model.specs.cbor.Decoded.{item_of, items_of}
+use Rattle.cbor_edn_model.specs.tree.Items.{Item, Items, Node, nesting}
+use Rattle.cbor_edn_model.specs.visit.Seeking.{CallArguments, SoughtCall, VisitParts}
+use Rattle.cbor_edn_model.specs.tree.Trees.{Tree, OneItem, Seq, Standalone, items}
+use Rattle.cbor_edn_model.specs.cbor.Value.{Value, Values, Fits, ValuesFit}
+use Rattle.cbor_edn_model.specs.visit.Visits.{Ending}
 use Rattle.cbor_edn_conversions.specs.Resolving.{Resolver, means_by, AnswersBy}
 use Rattle.cbor_edn_conversions.specs.Conversions.{Reply}
 use Rattle.cbor_edn_conversions.specs.Claims.{with_claims}
@@ -24,13 +24,13 @@ abbrev pub DecodedIsDirect : Type 0
 DecodedIsDirect = ((v : Value) → Fits v → IsDirect (item_of v)) × ((vs : Values) → ValuesFit vs → IsDirect (items_of vs))
 
 -- A visit leaves direct items direct where its calls do, however it ended.
-abbrev pub VisitKeepsDirect : (Tree OneItem → Told → Type 0) → Type 0
+abbrev pub VisitKeepsDirect : (Tree OneItem → CallArguments → Type 0) → Type 0
 VisitKeepsDirect IsSought = (cs : List SoughtCall) (r : Ending) → All StaysDirect cs
     → ((w v : Tree Standalone) → VisitParts IsSought _ w cs v r → IsDirect (items w) → IsDirect (items v))
     × ((w v : Tree Seq) → VisitParts IsSought _ w cs v r → IsDirect (items w) → IsDirect (items v))
 
 -- The calls of a function do.
-abbrev pub CallsKeepDirect : (Told → Tree OneItem → Reply) → Type 0
+abbrev pub CallsKeepDirect : (CallArguments → Tree OneItem → Reply) → Type 0
 CallsKeepDirect f = (c : SoughtCall) → AnswersBy f c → StaysDirect c
 
 -- Claims sets with their comments are direct where they were.
@@ -39,4 +39,4 @@ ClaimsKeepDirect = (w : Tree OneItem) → IsDirect (items w) → IsDirect (items
 
 -- Comments in a tag 38 leave its items.
 abbrev pub LanguageKeepsItems : Type 0
-LanguageKeepsItems = (a : Told) (w : Tree OneItem) → items (comment_lang a w).1 ≡ items w
+LanguageKeepsItems = (a : CallArguments) (w : Tree OneItem) → items (comment_lang a w).1 ≡ items w

@@ -1,8 +1,8 @@
 -- The values that time and address literals stand for: those of the items that they become.
 use Rattle.std.specs.Prelude.{ℕ, ◌≡◌, List, Option, Some, None, Ok, Err}
-use Rattle.cbor_edn_model.specs.Meaning.{means}
-use Rattle.cbor_edn_model.specs.Trees.{Tree, OneItem, items}
-use Rattle.cbor_edn_model.specs.Value.{Value}
+use Rattle.cbor_edn_model.specs.cbor.Meaning.{means}
+use Rattle.cbor_edn_model.specs.tree.Trees.{Tree, OneItem, items}
+use Rattle.cbor_edn_model.specs.cbor.Value.{Value}
 use Rattle.cbor_edn_conversions.specs.Resolving.{Resolver, by_prefix, either, means_by}
 use Rattle.cbor_edn_conversions.specs.Conversions.{Conversion}
 use Rattle.cbor_edn_conversions.specs.Times.{time_of_literal}

@@ -2,19 +2,19 @@
 use Rattle.std.specs.Prelude.{◌≡◌, ℕ, List, Option, Some, None, ◌&&◌, not, if◌then◌else◌}
 use Rattle.cbor_edn_parts.specs.declared.indicator.Indicator.{Indicator}
 use Rattle.cbor_edn_parts.specs.declared.string.StringKind.TheVariants.{Bytes}
-use Rattle.cbor_edn_parts.specs.code.NumberReading.{integer_of}
-use Rattle.cbor_edn_parts.specs.code.ContentReading.{literal_content, is_supported, behind_quote}
-use Rattle.cbor_edn_parts.specs.code.LiteralTokens.{is_literal, prefix_of, decoded}
+use Rattle.cbor_edn_parts.specs.internal.NumberReading.{integer_of}
+use Rattle.cbor_edn_parts.specs.internal.ContentReading.{literal_content, is_supported, behind_quote}
+use Rattle.cbor_edn_parts.specs.internal.LiteralTokens.{is_literal, prefix_of, decoded}
 use Rattle.cbor_edn_parts.specs.declared.string.Quote.TheVariants as quotes
-use Rattle.cbor_edn_parts.specs.declared.string.Part.TheVariants as part
+use Rattle.cbor_edn_parts.specs.declared.string.QuotedState.TheVariants as part
 use Rattle.cbor_edn_parts.specs.Contents.{h}
 use Rattle.cbor_edn_parts.specs.Literal.{Prefixed, IsLiteral}
-use Rattle.cbor_edn_model.specs.Items.{Sort, Item, Pieces, Node, Number, Float, Listed, Tagged, Named, Simple, String, Stream, Literal, Dots, Embedded, LastPiece, Plus, Element, Pair, Chunk, End, Then}
-use Rattle.cbor_edn_model.specs.Value.{Value, tag, simple, encodings}
-use Rattle.cbor_edn_model.specs.Meaning.{◌>>=◌, MeaningOf, width_of, means_integer, means_float, means_simple, named_number, listed, pieces_mark, string_of, chunk_of, stream_of, joined, no_entries, one_more}
-use Rattle.cbor_edn_model.specs.Seeking.{Told, SoughtCall}
-use Rattle.cbor_edn_model.specs.Trees.{Tree, OneItem, items}
-use Rattle.cbor_edn_model.specs.Visits.{Answer}
+use Rattle.cbor_edn_model.specs.tree.Items.{Sort, Item, Pieces, Node, Number, Float, Listed, Tagged, Named, Simple, String, Stream, Literal, Dots, Embedded, LastPiece, Plus, Element, Pair, Chunk, End, Then}
+use Rattle.cbor_edn_model.specs.cbor.Value.{Value, tag, simple, encodings}
+use Rattle.cbor_edn_model.specs.cbor.Meaning.{◌>>=◌, MeaningOf, width_of, means_integer, means_float, means_simple, named_number, listed, pieces_indicator, string_of, chunk_of, stream_of, joined, no_entries, one_more}
+use Rattle.cbor_edn_model.specs.visit.Seeking.{CallArguments, SoughtCall}
+use Rattle.cbor_edn_model.specs.tree.Trees.{Tree, OneItem, items}
+use Rattle.cbor_edn_model.specs.visit.Visits.{Answer}
 
 -- The value that a literal stands for, by its text and its encoding indicator, if it stands for one: 42, say, for `dt'1970-01-01T00:00:42Z'`.
 abbrev pub Resolver : Type 0
@@ -53,7 +53,7 @@ module _ (R : Resolver) where
   means_by (Named b) = Some (simple (named_number b))
   means_by (Simple w) = means_simple w
   means_by (Listed k i m) = means_by m >>= listed k i
-  means_by (String w) = or_else (resolved R w) (means_by w >>= λ c. pieces_mark w >>= string_of c)
+  means_by (String w) = or_else (resolved R w) (means_by w >>= λ c. pieces_indicator w >>= string_of c)
   means_by (Stream m) = means_by m >>= stream_of
   means_by (Literal x i) = literal_content x
   means_by (Dots x) = None
@@ -62,7 +62,7 @@ module _ (R : Resolver) where
   means_by (Plus p w) = means_by p >>= λ c. means_by w >>= λ d. Some (joined c d)
   means_by (Element w) = means_by w
   means_by (Pair v w) = means_by v >>= λ x. means_by w >>= λ y. Some (x, y)
-  means_by (Chunk w) = means_by w >>= λ c. pieces_mark w >>= chunk_of c
+  means_by (Chunk w) = means_by w >>= λ c. pieces_indicator w >>= chunk_of c
   means_by (End {k}) = Some (no_entries k)
   means_by (Then {k} e m) = means_by e >>= λ x. means_by m >>= λ r. Some (one_more k x r)
 
@@ -95,9 +95,9 @@ Turns B A c = (v : Value) → means_by B (items c.before) ≡ Some v → means_b
 abbrev pub TurnsExactly : Resolver → Resolver → SoughtCall → Type 0
 TurnsExactly B A c = means_by B (items c.before) ≡ means_by A (items c.after)
 
--- The call answers and leaves what the function says of what is told and of the item before.
-abbrev pub AnswersBy : (Told → Tree OneItem → Answer × Tree OneItem) → SoughtCall → Type 0
-AnswersBy f c = (c.answer ≡ (f c.told c.before).0) × (c.after ≡ (f c.told c.before).1)
+-- The call answers and leaves what the function says of the arguments and of the item before.
+abbrev pub AnswersBy : (CallArguments → Tree OneItem → Answer × Tree OneItem) → SoughtCall → Type 0
+AnswersBy f c = (c.answer ≡ (f c.arguments c.before).0) × (c.after ≡ (f c.arguments c.before).1)
 
 -- ---- resolvers by prefix and text
 

@@ -2,14 +2,14 @@
 use Rattle.std.specs.Prelude.{◌≡◌, ◌≢◌, ℕ, false, List, Option, Some, All}
 use Rattle.cbor_edn_parts.specs.declared.indicator.Indicator.{Indicator}
 use Rattle.cbor_edn_parts.specs.Literal.{Prefixed, IsLiteral}
-use Rattle.cbor_edn_parts.specs.code.ContentReading.{is_supported_prefix}
-use Rattle.cbor_edn_model.specs.Decoded.{item_of, items_of}
-use Rattle.cbor_edn_model.specs.Items.{Sort, Item, Items, Node}
-use Rattle.cbor_edn_model.specs.Meaning.{MeaningOf, means}
-use Rattle.cbor_edn_model.specs.Seeking.{Told, SoughtCall, VisitParts, IsTag, IsApplication}
-use Rattle.cbor_edn_model.specs.Trees.{Tree, OneItem, Seq, Standalone, items}
-use Rattle.cbor_edn_model.specs.Value.{Value, Values, Fits, ValuesFit}
-use Rattle.cbor_edn_model.specs.Visits.{Answer, no_memory, Ending, whole}
+use Rattle.cbor_edn_parts.specs.internal.ContentReading.{is_supported_prefix}
+use Rattle.cbor_edn_model.specs.cbor.Decoded.{item_of, items_of}
+use Rattle.cbor_edn_model.specs.tree.Items.{Sort, Item, Items, Node}
+use Rattle.cbor_edn_model.specs.cbor.Meaning.{MeaningOf, means}
+use Rattle.cbor_edn_model.specs.visit.Seeking.{CallArguments, SoughtCall, VisitParts, IsTag, IsApplication}
+use Rattle.cbor_edn_model.specs.tree.Trees.{Tree, OneItem, Seq, Standalone, items}
+use Rattle.cbor_edn_model.specs.cbor.Value.{Value, Values, Fits, ValuesFit}
+use Rattle.cbor_edn_model.specs.visit.Visits.{Answer, no_memory, Ending, whole}
 use Rattle.cbor_edn_conversions.specs.Resolving.{Resolver, no_resolver, means_by, DifferAtPrefixes, ResolvesApplications, ResolvesNoContent, Turns, TurnsExactly, AnswersBy, by_prefix}
 use Rattle.cbor_edn_conversions.specs.VisitedItems.{IsTagNode, IsApplicationNode, ReachedItem, VisitedNode, Answered, LeavesAnswer, TurnsItem}
 
@@ -24,12 +24,12 @@ abbrev pub DecodedUnresolved : Type 0
 DecodedUnresolved = (R : Resolver) → ResolvesApplications R → ((v : Value) → means_by R (item_of v) ≡ means (item_of v)) × ((vs : Values) → means_by R (items_of vs) ≡ means (items_of vs))
 
 -- A visit keeps what its calls keep: of an item and of a sequence, however it ended.
-abbrev pub VisitKeeps : (Tree OneItem → Told → Type 0) → Type 0
+abbrev pub VisitKeeps : (Tree OneItem → CallArguments → Type 0) → Type 0
 VisitKeeps IsSought = (R : Resolver) (cs : List SoughtCall) (r : Ending) → All (Turns R R) cs
     → ((w v : Tree Standalone) → VisitParts IsSought _ w cs v r → (x : Value) → means_by R (items w) ≡ Some x → means_by R (items v) ≡ Some x)
     × ((w v : Tree Seq) → VisitParts IsSought _ w cs v r → (xs : Values) → means_by R (items w) ≡ Some xs → means_by R (items v) ≡ Some xs)
 
-abbrev pub VisitKeepsExactly : (Tree OneItem → Told → Type 0) → Type 0
+abbrev pub VisitKeepsExactly : (Tree OneItem → CallArguments → Type 0) → Type 0
 VisitKeepsExactly IsSought = (R : Resolver) (cs : List SoughtCall) (r : Ending) → All (TurnsExactly R R) cs
     → ((w v : Tree Standalone) → VisitParts IsSought _ w cs v r → means_by R (items w) ≡ means_by R (items v))
     × ((w v : Tree Seq) → VisitParts IsSought _ w cs v r → means_by R (items w) ≡ means_by R (items v))
@@ -82,44 +82,44 @@ ResolversByPrefix = (F : List ℕ → List ℕ → Option Value) → ResolvesApp
 -- ---- one result
 
 -- Two whole visits of one tree by the same answers have the same calls and leave the same.
-abbrev pub VisitedOnce : (Tree OneItem → Told → Type 0) → Type 0
-VisitedOnce IsSought = (f : Told → Tree OneItem → Answer × Tree OneItem) (cs ds : List SoughtCall) → All (AnswersBy f) cs → All (AnswersBy f) ds
+abbrev pub VisitedOnce : (Tree OneItem → CallArguments → Type 0) → Type 0
+VisitedOnce IsSought = (f : CallArguments → Tree OneItem → Answer × Tree OneItem) (cs ds : List SoughtCall) → All (AnswersBy f) cs → All (AnswersBy f) ds
     → ((w v u : Tree Standalone) → VisitParts IsSought _ w cs v whole → VisitParts IsSought _ w ds u whole → (v ≡ u) × (cs ≡ ds))
     × ((w v u : Tree Seq) → VisitParts IsSought _ w cs v whole → VisitParts IsSought _ w ds u whole → (v ≡ u) × (cs ≡ ds))
 
 -- The function answers without memory.
-abbrev pub NeverRefused : (Told → Tree OneItem → Answer × Tree OneItem) → Type 0
-NeverRefused f = (a : Told) (w : Tree OneItem) → (f a w).0 ≢ no_memory
+abbrev pub NeverRefused : (CallArguments → Tree OneItem → Answer × Tree OneItem) → Type 0
+NeverRefused f = (a : CallArguments) (w : Tree OneItem) → (f a w).0 ≢ no_memory
 
 -- By such answers each tree has a whole visit.
-abbrev pub VisitsExist : (Tree OneItem → Told → Type 0) → Type 0
-VisitsExist IsSought = (f : Told → Tree OneItem → Answer × Tree OneItem) → NeverRefused f
+abbrev pub VisitsExist : (Tree OneItem → CallArguments → Type 0) → Type 0
+VisitsExist IsSought = (f : CallArguments → Tree OneItem → Answer × Tree OneItem) → NeverRefused f
     → ((w : Tree Standalone) → (v : Tree Standalone) × (cs : List SoughtCall) × All (AnswersBy f) cs × VisitParts IsSought _ w cs v whole)
     × ((w : Tree Seq) → (v : Tree Seq) × (cs : List SoughtCall) × All (AnswersBy f) cs × VisitParts IsSought _ w cs v whole)
 
 -- ---- items alone
 
 -- A whole visit of a tree visits its items.
-abbrev pub VisitsItems : (Tree OneItem → Told → Type 0) → (Node Item → Told → Type 0) → Type 0
-VisitsItems IsSought IsSoughtNode = (f : Told → Node Item → Node Item) (cs : List SoughtCall) → All (LeavesAnswer f) cs
+abbrev pub VisitsItems : (Tree OneItem → CallArguments → Type 0) → (Node Item → CallArguments → Type 0) → Type 0
+VisitsItems IsSought IsSoughtNode = (f : CallArguments → Node Item → Node Item) (cs : List SoughtCall) → All (LeavesAnswer f) cs
     → ((w v : Tree Standalone) → VisitParts IsSought _ w cs v whole → ReachedItem IsSoughtNode (Answered f) (items w) (items v))
     × ((w v : Tree Seq) → VisitParts IsSought _ w cs v whole → VisitedNode IsSoughtNode (Answered f) _ (items w) (items v))
 
 -- Such a visit has one result.
-abbrev pub ItemsVisitedOnce : (Node Item → Told → Type 0) → Type 0
-ItemsVisitedOnce IsSought = (f : Told → Node Item → Node Item)
+abbrev pub ItemsVisitedOnce : (Node Item → CallArguments → Type 0) → Type 0
+ItemsVisitedOnce IsSought = (f : CallArguments → Node Item → Node Item)
     → ((x y z : Node Item) → ReachedItem IsSought (Answered f) x y → ReachedItem IsSought (Answered f) x z → y ≡ z)
     × ((x y z : Items) → VisitedNode IsSought (Answered f) _ x y → VisitedNode IsSought (Answered f) _ x z → y ≡ z)
 
 -- A whole visit of a tree whose calls turn the one resolver into the other is one of its items that does.
-abbrev pub VisitsTurnItems : (Tree OneItem → Told → Type 0) → (Node Item → Told → Type 0) → Type 0
+abbrev pub VisitsTurnItems : (Tree OneItem → CallArguments → Type 0) → (Node Item → CallArguments → Type 0) → Type 0
 VisitsTurnItems IsSought IsSoughtNode = (B A : Resolver) (cs : List SoughtCall) → All (Turns B A) cs
     → ((w v : Tree Standalone) → VisitParts IsSought _ w cs v whole → ReachedItem IsSoughtNode (TurnsItem B A) (items w) (items v))
     × ((w v : Tree Seq) → VisitParts IsSought _ w cs v whole → VisitedNode IsSoughtNode (TurnsItem B A) _ (items w) (items v))
 
 -- Over any value that has an encoding, a visit of the tags of its item by the first step, and then one of literals by the second, leave an
 -- item that means the value; and the same of a sequence.
-abbrev pub ItemsComeBack : (Told → Node Item → Node Item → Type 0) → (Told → Node Item → Node Item → Type 0) → Type 0
+abbrev pub ItemsComeBack : (CallArguments → Node Item → Node Item → Type 0) → (CallArguments → Node Item → Node Item → Type 0) → Type 0
 ItemsComeBack Pretty Resolved =
     ((v : Value) → Fits v → (x y : Node Item) → ReachedItem IsTagNode Pretty (item_of v) x
     → ReachedItem IsApplicationNode Resolved x y → means y ≡ Some v)
@@ -133,7 +133,7 @@ ItemsResolvedAgain = (R : Resolver) → ResolvesApplications R → ItemsComeBack
 -- and by the answers of two functions: what the first gives at a tag means what the tag meant by R, and what the second gives at a literal
 -- means without R what the literal meant by R.
 abbrev pub AnswersResolvedAgain : Type 0
-AnswersResolvedAgain = (R : Resolver) → ResolvesApplications R → (pretty resolved : Told → Node Item → Node Item)
-    → ((a : Told) (x : Node Item) → IsTagNode x a → TurnsItem R R a x (pretty a x))
-    → ((a : Told) (x : Node Item) → IsApplicationNode x a → TurnsItem R no_resolver a x (resolved a x))
+AnswersResolvedAgain = (R : Resolver) → ResolvesApplications R → (pretty resolved : CallArguments → Node Item → Node Item)
+    → ((a : CallArguments) (x : Node Item) → IsTagNode x a → TurnsItem R R a x (pretty a x))
+    → ((a : CallArguments) (x : Node Item) → IsApplicationNode x a → TurnsItem R no_resolver a x (resolved a x))
     → ItemsComeBack (Answered pretty) (Answered resolved)

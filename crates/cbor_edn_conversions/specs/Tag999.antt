@@ -1,9 +1,9 @@
 -- Literals as tags of their prefix and their text: `foo'bar'` and `999(["foo", "bar"])`.
 use Rattle.std.specs.Prelude.{ℕ, Bool, codes, ◌||◌, if◌then◌else◌, List, Option, None, Some, Ok}
 use Rattle.cbor_edn_parts.specs.Contents.{text_literal}
-use Rattle.cbor_edn_parts.specs.code.ContentReading.{same}
-use Rattle.cbor_edn_model.specs.Seeking.{Told}
-use Rattle.cbor_edn_model.specs.Trees.{Tree, OneItem, StringTree, LastPieceTree, LiteralTree}
+use Rattle.cbor_edn_parts.specs.internal.ContentReading.{same}
+use Rattle.cbor_edn_model.specs.visit.Seeking.{CallArguments}
+use Rattle.cbor_edn_model.specs.tree.Trees.{Tree, OneItem, StringTree, LastPieceTree, LiteralTree}
 use Rattle.cbor_edn_conversions.specs.Conversions.{Conversion, Reply, reply, of_literal, pair_tree, tag_tree}
 
 -- the prefixes that a literal means bytes with
@@ -23,5 +23,5 @@ abbrev pub tag999_of_literal : List ℕ → List ℕ → Option Conversion
 tag999_of_literal p t = if is_built_in p then None else Some (Ok (tag999_tree p t))
 
 -- `any_aol_to_tag999`
-unfoldable pub to_tag999 : Told → Tree OneItem → Reply
+unfoldable pub to_tag999 : CallArguments → Tree OneItem → Reply
 to_tag999 a w = reply w (of_literal tag999_of_literal a)

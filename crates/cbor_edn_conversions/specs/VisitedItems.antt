@@ -2,14 +2,14 @@
 use Rattle.std.specs.Prelude.{ℕ, suc, max, List, ◌≡◌, ◌≤◌, ◌<◌, Option, Some}
 use Rattle.cbor_edn_parts.specs.declared.indicator.Indicator.{Indicator}
 use Rattle.cbor_edn_parts.specs.Literal.{Prefixed, IsLiteral}
-use Rattle.cbor_edn_model.specs.declared.word.NamedSimple.{NamedSimple}
-use Rattle.cbor_edn_model.specs.declared.word.NonFinite.{NonFinite}
-use Rattle.cbor_edn_model.specs.Depth.{embedded_depth}
-use Rattle.cbor_edn_model.specs.Items.{Row, Elements, Pairs, Strings, Bracketed, entries_of, Sort, Item, Piece, Pieces, Entry, Entries, Node, Number, Float, Listed, Tagged, Named, Simple, String, Stream, Literal, Dots, Embedded, LastPiece, Plus, Element, Pair, Chunk, End, Then}
-use Rattle.cbor_edn_model.specs.Seeking as told
-use Rattle.cbor_edn_model.specs.Seeking.{Told, SoughtCall}
-use Rattle.cbor_edn_model.specs.Trees.{items}
-use Rattle.cbor_edn_model.specs.Value.{Value}
+use Rattle.cbor_edn_model.specs.declared.text.keyword.NamedSimple.{NamedSimple}
+use Rattle.cbor_edn_model.specs.declared.text.keyword.NonFinite.{NonFinite}
+use Rattle.cbor_edn_model.specs.visit.Depth.{embedded_depth}
+use Rattle.cbor_edn_model.specs.tree.Items.{Row, Elements, Pairs, Strings, Bracketed, entries_of, Sort, Item, Piece, Pieces, Entry, Entries, Node, Number, Float, Listed, Tagged, Named, Simple, String, Stream, Literal, Dots, Embedded, LastPiece, Plus, Element, Pair, Chunk, End, Then}
+use Rattle.cbor_edn_model.specs.visit.Seeking as arguments
+use Rattle.cbor_edn_model.specs.visit.Seeking.{CallArguments, SoughtCall}
+use Rattle.cbor_edn_model.specs.tree.Trees.{items}
+use Rattle.cbor_edn_model.specs.cbor.Value.{Value}
 use Rattle.cbor_edn_conversions.specs.Resolving.{Resolver, means_by}
 
 -- How deep items nest, as visits count it: `[1, <<[2]>>]` three levels, `simple(2)` none.
@@ -33,27 +33,27 @@ node_depth (Chunk w) = node_depth w
 node_depth End = 0
 node_depth (Then e m) = max (node_depth e) (node_depth m)
 
--- The item is a tag, and this is told of it: of `1(42)` the number 1.
-abbrev pub IsTagNode : Node Item → Told → Type 0
-IsTagNode (Tagged n i w) (told.number m) = n ≡ m
+-- The item is a tag, and these are the arguments of its call: of `1(42)` the number 1.
+abbrev pub IsTagNode : Node Item → CallArguments → Type 0
+IsTagNode (Tagged n i w) (arguments.number m) = n ≡ m
 IsTagNode _ a = ⊥
 
--- The item is one literal with a prefix, and this is told of it: of `dt'a'` the prefix `dt` and the text `a`.
-abbrev pub IsApplicationNode : Node Item → Told → Type 0
-IsApplicationNode (String (LastPiece (Literal x i))) (told.prefix_and_text p t) = IsLiteral (Prefixed p) t x
+-- The item is one literal with a prefix, and these are the arguments of its call: of `dt'a'` the prefix `dt` and the text `a`.
+abbrev pub IsApplicationNode : Node Item → CallArguments → Type 0
+IsApplicationNode (String (LastPiece (Literal x i))) (arguments.prefix_and_text p t) = IsLiteral (Prefixed p) t x
 IsApplicationNode _ a = ⊥
 
--- Step says what a call, by what it is told, makes of an item. Where it makes `DT'..'` of `1(42)` and leaves other tags, `[9(1(42))]` becomes
+-- Step says what a call, by its arguments, makes of an item. Where it makes `DT'..'` of `1(42)` and leaves other tags, `[9(1(42))]` becomes
 -- `[9(DT'..')]`: the outer tag is called at, left as it is and entered.
-module _ (IsSought : Node Item → Told → Type 0) (Step : Told → Node Item → Node Item → Type 0) where
+module _ (IsSought : Node Item → CallArguments → Type 0) (Step : CallArguments → Node Item → Node Item → Type 0) where
   mutual
     pub data ReachedItem : Node Item → Node Item → Type 0 where
       -- what is not sought is entered
-      passed : {x y : Node Item} → ((a : Told) → IsSought x a → ⊥) → VisitedNode Item x y → ReachedItem x y
+      passed : {x y : Node Item} → ((a : CallArguments) → IsSought x a → ⊥) → VisitedNode Item x y → ReachedItem x y
       -- of what is sought, what the call left is entered where it nests no deeper
-      entered : {x y z : Node Item} (a : Told) → IsSought x a → Step a x z → node_depth z ≤ node_depth x → VisitedNode Item z y → ReachedItem x y
+      entered : {x y z : Node Item} (a : CallArguments) → IsSought x a → Step a x z → node_depth z ≤ node_depth x → VisitedNode Item z y → ReachedItem x y
       -- and stays where it nests deeper
-      stayed : {x z : Node Item} (a : Told) → IsSought x a → Step a x z → node_depth x < node_depth z → ReachedItem x z
+      stayed : {x z : Node Item} (a : CallArguments) → IsSought x a → Step a x z → node_depth x < node_depth z → ReachedItem x z
 
     pub data VisitedNode : (s : Sort) → Node s → Node s → Type 0 where
       number : {x : List ℕ} {i : Option Indicator} → VisitedNode Item (Number x i) (Number x i)
@@ -78,13 +78,13 @@ module _ (IsSought : Node Item → Told → Type 0) (Step : Told → Node Item �
 
 -- ---- what calls make of items
 
--- what a function says: a call leaves its value at what is told and at the item before
-abbrev pub Answered : (Told → Node Item → Node Item) → Told → Node Item → Node Item → Type 0
+-- what a function says: a call leaves its value at the arguments and at the item before
+abbrev pub Answered : (CallArguments → Node Item → Node Item) → CallArguments → Node Item → Node Item → Type 0
 Answered f a x y = y ≡ f a x
 
-abbrev pub LeavesAnswer : (Told → Node Item → Node Item) → SoughtCall → Type 0
-LeavesAnswer f c = Answered f c.told (items c.before) (items c.after)
+abbrev pub LeavesAnswer : (CallArguments → Node Item → Node Item) → SoughtCall → Type 0
+LeavesAnswer f c = Answered f c.arguments (items c.before) (items c.after)
 
 -- Where the item before meant a value by the first resolver, the item after means it by the second.
-abbrev pub TurnsItem : Resolver → Resolver → Told → Node Item → Node Item → Type 0
+abbrev pub TurnsItem : Resolver → Resolver → CallArguments → Node Item → Node Item → Type 0
 TurnsItem B A a x y = (v : Value) → means_by B x ≡ Some v → means_by A y ≡ Some v

@@ -1,5 +1,5 @@
 //! Laws of the definitions that conversions cite. Each function's contract is one, and its body does nothing.
-ghost use Rattle.cbor_edn_model.specs.Seeking.{IsTag, IsApplication};
+ghost use Rattle.cbor_edn_model.specs.visit.Seeking.{IsTag, IsApplication};
 ghost use Rattle.cbor_edn_conversions.specs.Resolving.{no_resolver};
 ghost use Rattle.cbor_edn_conversions.specs.ResolvingLaws.{NoneResolved, DecodedUnresolved, VisitKeeps, VisitKeepsExactly, VisitResolves, VisitResolvesExactly, ResolvedAgain, ResolvedInTurn, ResolversByPrefix, VisitedOnce, NeverRefused, VisitsExist, VisitsItems, ItemsVisitedOnce, VisitsTurnItems, ItemsResolvedAgain, AnswersResolvedAgain};
 ghost use Rattle.cbor_edn_conversions.specs.VisitedItems.{IsTagNode, IsApplicationNode};

@@ -3,7 +3,7 @@ ghost use Rattle.std.specs.Prelude.{◌≡◌, ◌<◌, ◌^◌, ◌+◌, pos, O
 ghost use Rattle.std.specs.Fmt.{signed_decimal};
 ghost use Rattle.cbor_edn_parts.specs.Refusals.{IfTold};
 ghost use Rattle.cbor_edn_conversions.specs.Conversions.{is_narrowest};
-ghost use Rattle.cbor_edn_conversions.specs.Addresses.{address_tag, refusal_words, whole_text, prefix_text};
+ghost use Rattle.cbor_edn_conversions.specs.Addresses.{address_tag, refusal_message, whole_text, prefix_text};
 ghost use Rattle.cbor_edn_conversions.specs.Bignums.{bignum_integer};
 ghost use Rattle.cbor_edn_literals.specs.Address.{size_of};
 
@@ -50,9 +50,9 @@ pub enum NoAddress {
 }
 
 impl NoAddress {
-    /// The words of the reason, as a comment has them.
+    /// The message of the reason, as a comment has it.
     pub fn as_str(self) -> &'static str
-        ensures { result.now ≡ refusal_words self }
+        ensures { result.now ≡ refusal_message self }
     {
         match self {
             NoAddress::TooLong => "Data too long for address type",
@@ -70,7 +70,7 @@ pub fn whole_text(
     bytes: &[u8],
 ) -> Result<String, Fault<NoAddress>>
     ensures text { IfOk result (λ s. whole_text version bytes.now ≡ Ok (string_bytes s)) }
-    ensures refused { IfTold result (λ e. whole_text version bytes.now ≡ Err (refusal_words e)) }
+    ensures refused { IfTold result (λ e. whole_text version bytes.now ≡ Err (refusal_message e)) }
 {
     let size = size_of(version);
     if bytes.len() > size {
@@ -92,7 +92,7 @@ pub fn prefix_text(
     bytes: &[u8],
 ) -> Result<String, Fault<NoAddress>>
     ensures text { IfOk result (λ s. prefix_text version prefix_length bytes.now ≡ Ok (string_bytes s)) }
-    ensures refused { IfTold result (λ e. prefix_text version prefix_length bytes.now ≡ Err (refusal_words e)) }
+    ensures refused { IfTold result (λ e. prefix_text version prefix_length bytes.now ≡ Err (refusal_message e)) }
 {
     let size = size_of(version);
     if bytes.len() > size {

@@ -1,12 +1,5 @@
-pub mod Borrowed
-pub mod Parsing
-pub mod View
-pub mod Constructed
-pub mod ConstructedLaws
-pub mod Iterated
-pub mod IteratedMut
-pub mod Mismatch
-pub mod Lent
-pub mod Callbacks
-pub mod Sought
-pub mod code
+pub mod text
+pub mod tree
+pub mod access
+pub mod visit
+pub mod internal

@@ -3,27 +3,29 @@ ghost use Rattle.std.specs.Prelude.{◌≡◌, ℤ, FitsSigned, IfOk, IfErr, Som
 ghost use Rattle.std.specs.Int.{w128};
 ghost use Rattle.cbor_edn_parts.specs.Leaves.{number_bytes};
 ghost use Rattle.cbor_edn_parts.specs.Number.{IsInteger};
-ghost use Rattle.cbor_edn_model.specs.Accessed.{tag_number, tag_head, tag_content, named_word, number_and_indicator, inner_item, number_text, IsIntegerItem, IsLiteralItem, array_items, map_items, element, key_and_value, entries_inside};
-ghost use Rattle.cbor_edn_model.specs.Leaves.{texts};
-ghost use Rattle.cbor_edn_core.specs.Mismatch.{IsIntegerMismatch};
-ghost use Rattle.cbor_edn_model.specs.Paths.{items_in};
-ghost use Rattle.cbor_edn_core.specs.Iterated.{items_left, pairs_left, both_trees};
-ghost use Rattle.cbor_edn_core.specs.IteratedMut.{items_to_lend, pairs_to_lend, sequence_items_to_lend};
-ghost use Rattle.cbor_edn_core.specs.View.{item_tree, sequence_tree, standalone_tree, view_list, view_pair_list};
+ghost use Rattle.cbor_edn_model.specs.access.Accessed.{tag_number, tag_head, tag_content, named_keyword, number_and_indicator, inner_item, number_text, IsIntegerItem, IsLiteralItem, array_items, map_items, element, key_and_value, entries_inside};
+ghost use Rattle.cbor_edn_model.specs.tree.TreeLeaves.{texts};
+ghost use Rattle.cbor_edn_core.specs.access.Mismatch.{IsIntegerMismatch};
+ghost use Rattle.cbor_edn_model.specs.access.Paths.{items_in};
+ghost use Rattle.cbor_edn_core.specs.access.Iterated.{items_left, pairs_left, both_trees};
+ghost use Rattle.cbor_edn_core.specs.access.IteratedMut.{items_to_lend, pairs_to_lend, sequence_items_to_lend};
+ghost use Rattle.cbor_edn_core.specs.tree.View.{item_tree, sequence_tree, standalone_tree, view_list, view_pair_list};
 
 use crate::tree::{
     Indicator, InnerItem, Item, ItemList, LabelKind, PairList, Sequence, StandaloneItem,
 };
-use cbor_edn_model::word::NamedSimple;
+use cbor_edn_model::text::keyword::NamedSimple;
 use cbor_edn_parts::number::Number;
 pub use iterators::{ArrayItems, MapItems};
 pub use lending::{ArrayItemsMut, MapItemsMut, SequenceItemsMut};
 use thiserror::Error;
 
-mod application;
+pub(crate) mod application;
 mod bytes;
 mod iterators;
+mod lend;
 mod lending;
+mod path;
 
 /// What an item was expected to be, and is not. The item is unchanged then.
 #[derive(Clone, Copy, Debug, PartialEq, Eq, Error)]
@@ -67,7 +69,7 @@ impl<'a> Item<'a> {
     }
 
     /// The number of a tag and its encoding indicator, as 1 and `_0` of `1_0(2)`, or none where the item is no tag.
-    #[tactic(auto, using(crate::proofs::code::Views::view_string_is, crate::proofs::code::Views::view_stream_is))]
+    #[tactic(auto, using(crate::proofs::lemmas::tree::Views::view_string_is, crate::proofs::lemmas::tree::Views::view_stream_is))]
     pub fn get_tag_head(&self) -> Option<(u64, Option<Indicator>)>
         ensures { result ≡ tag_head (item_tree self.now) }
     {
@@ -81,6 +83,7 @@ impl<'a> Item<'a> {
             | InnerItem::Named(_)
             | InnerItem::Array(_)
             | InnerItem::Map(_)
+            | InnerItem::Literal(..)
             | InnerItem::String(_)
             | InnerItem::Stream(_) => None,
         }
@@ -97,10 +100,10 @@ impl<'a> Item<'a> {
         }
     }
 
-    /// The word of a simple value that has a name, as `true`, or none where the item is anything else, `simple(21)` too.
-    #[tactic(auto, using(crate::proofs::code::Views::view_string_is, crate::proofs::code::Views::view_stream_is))]
+    /// The keyword of a simple value that has a name, as `true`, or none where the item is anything else, `simple(21)` too.
+    #[tactic(auto, using(crate::proofs::lemmas::tree::Views::view_string_is, crate::proofs::lemmas::tree::Views::view_stream_is))]
     pub fn get_named(&self) -> Option<NamedSimple>
-        ensures { result ≡ named_word (item_tree self.now) }
+        ensures { result ≡ named_keyword (item_tree self.now) }
     {
         match &self.inner {
             InnerItem::Named(name) => Some(*name),
@@ -109,14 +112,15 @@ impl<'a> Item<'a> {
             | InnerItem::Enclosed(..)
             | InnerItem::Array(_)
             | InnerItem::Map(_)
+            | InnerItem::Literal(..)
             | InnerItem::String(_)
             | InnerItem::Stream(_) => None,
         }
     }
 
     /// The text of a number and its encoding indicator, as `0x1f` and `_1` of `0x1f_1`, or none where the item is no number. The
-    /// words `Infinity`, `-Infinity` and `NaN` are none.
-    #[tactic(auto, using(crate::proofs::code::Views::view_string_is, crate::proofs::code::Views::view_stream_is))]
+    /// keywords `Infinity`, `-Infinity` and `NaN` are none.
+    #[tactic(auto, using(crate::proofs::lemmas::tree::Views::view_string_is, crate::proofs::lemmas::tree::Views::view_stream_is))]
     pub fn get_number(&self) -> Option<(&str, Option<Indicator>)>
         ensures { option_map (λ p. (p.0.now, p.1)) result ≡ number_and_indicator (item_tree self.now) }
     {
@@ -127,6 +131,7 @@ impl<'a> Item<'a> {
             | InnerItem::Enclosed(..)
             | InnerItem::Array(_)
             | InnerItem::Map(_)
+            | InnerItem::Literal(..)
             | InnerItem::String(_)
             | InnerItem::Stream(_) => None,
         }
@@ -219,7 +224,7 @@ impl<'a> Sequence<'a> {
 }
 
 /// The number of a tag, and what stands between its parentheses.
-#[tactic(auto, using(crate::proofs::code::Views::view_string_is, crate::proofs::code::Views::view_stream_is))]
+#[tactic(auto, using(crate::proofs::lemmas::tree::Views::view_string_is, crate::proofs::lemmas::tree::Views::view_stream_is))]
 fn tag_of<'t, 'a>(item: &'t Item<'a>) -> Option<(u64, &'t StandaloneItem<'a>)>
     ensures number { option_map (λ p. p.0) result ≡ tag_number (item_tree item.now) }
     ensures content { option_map (λ p. standalone_tree p.1.now) result ≡ tag_content (item_tree item.now) }
@@ -234,12 +239,13 @@ fn tag_of<'t, 'a>(item: &'t Item<'a>) -> Option<(u64, &'t StandaloneItem<'a>)>
         | InnerItem::Named(_)
         | InnerItem::Array(_)
         | InnerItem::Map(_)
+        | InnerItem::Literal(..)
         | InnerItem::String(_)
         | InnerItem::Stream(_) => None,
     }
 }
 
-#[tactic(auto, using(crate::proofs::code::Views::view_string_is, crate::proofs::code::Views::view_stream_is))]
+#[tactic(auto, using(crate::proofs::lemmas::tree::Views::view_string_is, crate::proofs::lemmas::tree::Views::view_stream_is))]
 fn number_of<'t, 'a>(item: &'t Item<'a>) -> Option<&'t Number<'a>>
     ensures { option_map (λ n. number_bytes n.now) result ≡ number_text (item_tree item.now) }
 {
@@ -250,12 +256,13 @@ fn number_of<'t, 'a>(item: &'t Item<'a>) -> Option<&'t Number<'a>>
         | InnerItem::Enclosed(..)
         | InnerItem::Array(_)
         | InnerItem::Map(_)
+        | InnerItem::Literal(..)
         | InnerItem::String(_)
         | InnerItem::Stream(_) => None,
     }
 }
 
-#[tactic(auto, using(crate::proofs::code::Views::view_string_is, crate::proofs::code::Views::view_stream_is))]
+#[tactic(auto, using(crate::proofs::lemmas::tree::Views::view_string_is, crate::proofs::lemmas::tree::Views::view_stream_is))]
 fn list_of<'t, 'a>(item: &'t Item<'a>) -> Option<&'t ItemList<'a>>
     ensures { option_map (λ l. map element (entries_inside (view_list texts l.now))) result ≡ array_items (item_tree item.now) }
 {
@@ -266,12 +273,13 @@ fn list_of<'t, 'a>(item: &'t Item<'a>) -> Option<&'t ItemList<'a>>
         | InnerItem::Named(_)
         | InnerItem::Enclosed(..)
         | InnerItem::Map(_)
+        | InnerItem::Literal(..)
         | InnerItem::String(_)
         | InnerItem::Stream(_) => None,
     }
 }
 
-#[tactic(auto, using(crate::proofs::code::Views::view_string_is, crate::proofs::code::Views::view_stream_is))]
+#[tactic(auto, using(crate::proofs::lemmas::tree::Views::view_string_is, crate::proofs::lemmas::tree::Views::view_stream_is))]
 fn pair_list_of<'t, 'a>(item: &'t Item<'a>) -> Option<&'t PairList<'a>>
     ensures { option_map (λ l. map key_and_value (entries_inside (view_pair_list texts l.now))) result ≡ map_items (item_tree item.now) }
 {
@@ -282,12 +290,13 @@ fn pair_list_of<'t, 'a>(item: &'t Item<'a>) -> Option<&'t PairList<'a>>
         | InnerItem::Named(_)
         | InnerItem::Enclosed(..)
         | InnerItem::Array(_)
+        | InnerItem::Literal(..)
         | InnerItem::String(_)
         | InnerItem::Stream(_) => None,
     }
 }
 
-#[tactic(auto, using(crate::proofs::code::Views::view_string_is, crate::proofs::code::Views::view_stream_is))]
+#[tactic(auto, using(crate::proofs::lemmas::tree::Views::view_string_is, crate::proofs::lemmas::tree::Views::view_stream_is))]
 fn list_to_lend<'t, 'a>(item: &'t mut Item<'a>) -> Option<&'t mut ItemList<'a>>
     ensures { option_map (λ l. map element (entries_inside (view_list texts l.now))) result ≡ array_items (item_tree item.old) }
 {
@@ -298,12 +307,13 @@ fn list_to_lend<'t, 'a>(item: &'t mut Item<'a>) -> Option<&'t mut ItemList<'a>>
         | InnerItem::Named(_)
         | InnerItem::Enclosed(..)
         | InnerItem::Map(_)
+        | InnerItem::Literal(..)
         | InnerItem::String(_)
         | InnerItem::Stream(_) => None,
     }
 }
 
-#[tactic(auto, using(crate::proofs::code::Views::view_string_is, crate::proofs::code::Views::view_stream_is))]
+#[tactic(auto, using(crate::proofs::lemmas::tree::Views::view_string_is, crate::proofs::lemmas::tree::Views::view_stream_is))]
 fn pair_list_to_lend<'t, 'a>(item: &'t mut Item<'a>) -> Option<&'t mut PairList<'a>>
     ensures { option_map (λ l. map key_and_value (entries_inside (view_pair_list texts l.now))) result ≡ map_items (item_tree item.old) }
 {
@@ -314,6 +324,7 @@ fn pair_list_to_lend<'t, 'a>(item: &'t mut Item<'a>) -> Option<&'t mut PairList<
         | InnerItem::Named(_)
         | InnerItem::Enclosed(..)
         | InnerItem::Array(_)
+        | InnerItem::Literal(..)
         | InnerItem::String(_)
         | InnerItem::Stream(_) => None,
     }

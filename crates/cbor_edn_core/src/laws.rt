@@ -1,38 +1,38 @@
 //! Laws: each function's contract is one, and its body does nothing.
-ghost use Rattle.cbor_edn_model.specs.BareLaws.{WithoutIndicatorsIsBare, WithoutIndicatorsStaysValid, BareMeans};
-ghost use Rattle.cbor_edn_model.specs.CborLaws.{OneEncoding, ItemMeans, SpelledMeans};
-ghost use Rattle.cbor_edn_model.specs.Fewer.{FewerMean};
-ghost use Rattle.cbor_edn_model.specs.LayoutLaws.{KeepsItems, StaysValid, SpellsTheSame, CommentKeepsItems, CommentStaysValid, ForgetsLayout, SameTwice, DecodedStays, OneSingleLine, MeansTheSame};
-ghost use Rattle.cbor_edn_model.specs.Laws.{ItemsAndSpaces, SpelledByTrees, UniqueItems, UniqueSpaces};
-ghost use Rattle.cbor_edn_model.specs.Spelling.{Spells, SpellsOne, SpellsSequence};
-ghost use Rattle.cbor_edn_model.specs.Trees.{items, text};
-ghost use Rattle.cbor_edn_core.specs.ConstructedLaws.{LiteralIsAnswered};
-ghost use Rattle.cbor_edn_core.specs.View.{item_tree, standalone_tree, sequence_tree};
+ghost use Rattle.cbor_edn_model.specs.layout.BareLaws.{WithoutIndicatorsIsBare, WithoutIndicatorsStaysValid, BareMeans};
+ghost use Rattle.cbor_edn_model.specs.cbor.CborLaws.{OneEncoding, ItemMeans, SpelledMeans};
+ghost use Rattle.cbor_edn_model.specs.layout.Fewer.{FewerMean};
+ghost use Rattle.cbor_edn_model.specs.layout.LayoutLaws.{KeepsItems, StaysValid, SpellsTheSame, CommentKeepsItems, CommentStaysValid, ForgetsLayout, SameTwice, DecodedStays, OneSingleLine, MeansTheSame};
+ghost use Rattle.cbor_edn_model.specs.text.TextLaws.{ItemsAndSpaces, SpelledByTrees, UniqueItems, UniqueSpaces};
+ghost use Rattle.cbor_edn_model.specs.text.Spelling.{Spells, SpellsOne, SpellsSequence};
+ghost use Rattle.cbor_edn_model.specs.tree.Trees.{items, text};
+ghost use Rattle.cbor_edn_core.specs.tree.ConstructedLaws.{LiteralIsAnswered};
+ghost use Rattle.cbor_edn_core.specs.tree.View.{item_tree, standalone_tree, sequence_tree};
 
 use crate::tree::{Item, Sequence, StandaloneItem};
 
 /// A text spells at most one list of items, and has one tree.
-#[tactic(auto, using(crate::proofs::text::GrammarLaws::unique_items, crate::proofs::text::GrammarLaws::unique_spaces))]
+#[tactic(auto, using(crate::proofs::lemmas::text::GrammarLaws::unique_items, crate::proofs::lemmas::text::GrammarLaws::unique_spaces))]
 pub fn unique_reading()
     ensures items { UniqueItems }
     ensures spaces { UniqueSpaces }
 {}
 
 /// What a text spells are the items of a tree with that text, and what a tree's text spells are its items.
-#[tactic(auto, using(crate::proofs::text::GrammarLaws::spelled_by_trees))]
+#[tactic(auto, using(crate::proofs::lemmas::text::GrammarLaws::spelled_by_trees))]
 pub fn spelled_by_trees()
     ensures { SpelledByTrees }
 {}
 
 /// Trees are the same exactly where their items are the same and their spaces are: what `==` and `clone` promise of trees, they
 /// promise of these two.
-#[tactic(auto, using(cbor_edn_model::proofs::text::ItemsAndSpaces::items_and_spaces))]
+#[tactic(auto, using(cbor_edn_model::proofs::lemmas::text::ItemsAndSpaces::items_and_spaces))]
 pub fn items_and_spaces()
     ensures { ItemsAndSpaces }
 {}
 
 /// However an item was made, its text spells it: known without memory, which printing takes.
-#[tactic(auto, using(crate::proofs::code::Printable::item_spelled))]
+#[tactic(auto, using(crate::proofs::lemmas::text::Printable::item_spelled))]
 pub fn item_spells(item: &Item<'_>)
     ensures { Spells (items (item_tree item.now)) (text (item_tree item.now)) }
 {
@@ -40,7 +40,7 @@ pub fn item_spells(item: &Item<'_>)
 }
 
 /// However an item with spaces round it was made, its text spells the item: known without memory, which printing takes.
-#[tactic(auto, using(crate::proofs::code::Printable::standalone_spelled))]
+#[tactic(auto, using(crate::proofs::lemmas::text::Printable::standalone_spelled))]
 pub fn standalone_spells(item: &StandaloneItem<'_>)
     ensures { SpellsOne (items (standalone_tree item.now)) (text (standalone_tree item.now)) }
 {
@@ -48,7 +48,7 @@ pub fn standalone_spells(item: &StandaloneItem<'_>)
 }
 
 /// However a sequence was made, its text spells its items: known without memory, which printing takes.
-#[tactic(auto, using(crate::proofs::code::Printable::sequence_spelled))]
+#[tactic(auto, using(crate::proofs::lemmas::text::Printable::sequence_spelled))]
 pub fn sequence_spells(sequence: &Sequence<'_>)
     ensures { SpellsSequence (items (sequence_tree sequence.now)) (text (sequence_tree sequence.now)) }
 {

@@ -3,20 +3,9 @@
 #![tactic(auto)]
 
 pub mod access;
-mod clone;
-mod construct;
-mod convert;
-mod debug;
-mod equal;
-pub mod from_cbor;
-mod grammar;
+pub mod cbor;
 pub mod laws;
-mod lend;
-mod parse;
-mod path;
-mod policy;
-mod row;
-mod serialize;
-mod to_cbor;
+mod layout;
+mod text;
 pub mod tree;
-pub mod visitor;
+pub mod visit;

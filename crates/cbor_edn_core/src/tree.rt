@@ -4,15 +4,22 @@
 //! space or both) `C`, the end of a list `E`, numbers `N`, literals `L` and dots `D`. Nearly all of the crate speaks of
 //! them at the leaves of a text, as `Item`, `Items` and so on.
 
-pub use cbor_edn_model::label::{Label, LabelKind};
-use cbor_edn_model::word::{NamedSimple, NonFinite};
+mod clone;
+mod construct;
+mod convert;
+mod debug;
+mod equal;
+pub(crate) mod row;
+
+use cbor_edn_model::text::keyword::{NamedSimple, NonFinite};
+pub use cbor_edn_model::text::label::{Label, LabelKind};
 pub use cbor_edn_parts::indicator::Indicator;
 pub use cbor_edn_parts::nesting::NESTING_LIMIT;
 use cbor_edn_parts::number::Number;
 use cbor_edn_parts::space::{Ms, Msc, S, Soc};
 use cbor_edn_parts::string::{Dots, Literal};
 
-/// An item of a text, with the spaces in it and none round it: a number, a word, a string, an array, a map, a tag or `simple(..)`.
+/// An item of a text, with the spaces in it and none round it: a number, a keyword, a string, an array, a map, a tag or `simple(..)`.
 pub type Item<'a> = ItemOf<S<'a>, Ms<'a>, Msc<'a>, Soc<'a>, Number<'a>, Literal<'a>, Dots<'a>>;
 
 /// An item with the spaces and comments round it, as ` [1] # a`: a whole text of one item, or what stands between the parentheses of a
@@ -115,8 +122,8 @@ pub struct ItemOf<O: Drop, M: Drop, C: Drop, E: Drop, N: Drop, L: Drop, D: Drop>
     pub(crate) inner: InnerItemOf<O, M, C, E, N, L, D>,
 }
 
-/// The forms of items. Numbers and words stand in the item itself, the parts of any other form behind a pointer. An encoding indicator
-/// stands first: there it takes no word of its own.
+/// The forms of items. Numbers, keywords and strings of one literal stand in the item itself, the parts of any other form behind a pointer.
+/// An encoding indicator stands first: there it takes no room of its own.
 #[cycle(tree)]
 #[derive(Drop)]
 pub enum InnerItemOf<O: Drop, M: Drop, C: Drop, E: Drop, N: Drop, L: Drop, D: Drop> {
@@ -132,7 +139,9 @@ pub enum InnerItemOf<O: Drop, M: Drop, C: Drop, E: Drop, N: Drop, L: Drop, D: Dr
     Array(Box<ItemListOf<O, M, C, E, N, L, D>>),
     /// A map, by what stands between its braces.
     Map(Box<PairListOf<O, M, C, E, N, L, D>>),
-    /// A string that is no stream: of definite length, or an empty one of indefinite length.
+    /// A string that is one literal, with its encoding indicator.
+    Literal(Option<Indicator>, L),
+    /// Any other string that is no stream. One that is a literal alone may stand so too, and is the same string.
     String(Box<CborStringOf<O, M, C, E, N, L, D>>),
     /// A string of indefinite length.
     Stream(Box<StreamOf<O, M, C, E, N, L, D>>),

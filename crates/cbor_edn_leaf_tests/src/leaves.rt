@@ -1,4 +1,4 @@
-//! The leaves of a tree at a place of a text: spaces and encoding indicators, and the places of refusals.
+//! The leaves of a tree at a place of a text: spaces and encoding indicators, and the locations of refusals.
 use cbor_edn_expect::failures::Failures;
 use cbor_edn_expect::{expect, expect_row};
 use cbor_edn_parts::error::Refusal;
@@ -7,7 +7,7 @@ use cbor_edn_parts::looks::Looks;
 use cbor_edn_parts::number::number_at;
 use cbor_edn_parts::policy::{DelimiterPolicy, Spacing};
 use cbor_edn_parts::space::{
-    End, Ms, Msc, S, Soc, separator, separator_behind, space, space_behind,
+    ItemEnd, Ms, Msc, S, Soc, separator, separator_behind, space, space_behind,
 };
 use cbor_edn_parts::string::{dots_at, literal_at};
 use cbor_edn_parts::text::Text;
@@ -228,14 +228,20 @@ fn indented(_rt: HostRuntime) -> Result<(), Fail> {
 fn space_behind_number(text: &str) -> Result<(S<'_>, usize), Fail> {
     let text = Text::new(text);
     let (_, item) = number_at(&text, text.start(), &mut Looks::new())?;
-    let end = End { item, space: None };
+    let end = ItemEnd {
+        at: item,
+        space: None,
+    };
     Ok(space_behind(&text, end, &mut Looks::new())?)
 }
 
 fn separator_behind_number(text: &str) -> Result<(Soc<'_>, usize), Fail> {
     let text = Text::new(text);
     let (_, item) = number_at(&text, text.start(), &mut Looks::new())?;
-    let end = End { item, space: None };
+    let end = ItemEnd {
+        at: item,
+        space: None,
+    };
     Ok(separator_behind(&text, end, &mut Looks::new())?)
 }
 

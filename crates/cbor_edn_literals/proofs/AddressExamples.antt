@@ -6,8 +6,8 @@ use Rattle.std.specs.Net.Text.{hex, ipv6_text, hex_groups_text}
 use Rattle.cbor_edn_literals.specs.declared.address.IpVersion.TheVariants.{V4, V6}
 use Rattle.cbor_edn_literals.specs.declared.address.AddressError.TheVariants.{NoLength, UnknownFormat, LengthTooLarge, BitsOutside}
 use Rattle.cbor_edn_literals.specs.Address.{HasAddress, Refuses, address_text, filled_address, shown, address_bytes}
-use Rattle.cbor_edn_literals.specs.code.AddressReading.{address_of}
-use Rattle.cbor_edn_literals.proofs.AddressReading.{reads_computed}
+use Rattle.cbor_edn_literals.specs.internal.AddressReading.{address_of}
+use Rattle.cbor_edn_literals.proofs.ReadAddresses.{reads_computed}
 
 -- ---- texts
 

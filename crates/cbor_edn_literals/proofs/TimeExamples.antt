@@ -4,9 +4,9 @@ use Rattle.std.proofs.lemmas.Option.{none-some}
 use Rattle.std.specs.Fmt.{digits}
 use Rattle.cbor_edn_literals.specs.Time.{HasInstant, IsTimeStamp, IsPrinted}
 use Rattle.cbor_edn_literals.specs.TimeDecimal.{HasDecimal, IsNumberOf}
-use Rattle.cbor_edn_literals.specs.code.TimeReading.{offset_length}
-use Rattle.cbor_edn_literals.specs.code.TimeWriting.{padded}
-use Rattle.cbor_edn_literals.specs.code.TimeComputing.{day_number_of, day_of, date_of, minutes_of, clock_of, fraction_of, offset_of, tail_of, instant_of, march_year, march_day, time_text_from, time_text, decimal_of, shortest_digits, instant_number}
+use Rattle.cbor_edn_literals.specs.internal.TimeReading.{offset_length}
+use Rattle.cbor_edn_literals.specs.internal.TimeWriting.{padded}
+use Rattle.cbor_edn_literals.specs.internal.TimeComputing.{day_number_of, day_of, date_of, minutes_of, clock_of, fraction_of, offset_of, tail_of, instant_of, march_year, march_day, time_text_from, time_text, decimal_of, shortest_digits, instant_number}
 use Rattle.cbor_edn_literals.proofs.TimeComputed.{instant_computed}
 use Rattle.cbor_edn_literals.proofs.TimeComputedNumbers.{decimal_computed, written_computed}
 use Rattle.cbor_edn_literals.proofs.TimeComputedText.{printed_computed}

@@ -3,8 +3,8 @@ use Rattle.std.proofs.Common.{ℕ, ℤ, pos, negsuc, unsigned_abs, ◌<◌, ◌^
 use Rattle.std.specs.Str.Parse.{AllDigits}
 use Rattle.cbor_edn_parts.specs.Space.{Each, end}
 use Rattle.cbor_edn_parts.specs.Number.{Decimal, IsDigitOf, AreDigits, IsMantissa, pointed, fraction, none, sign_text, HasInteger}
-use Rattle.cbor_edn_parts.proofs.Decimals.{IsDecimal, integer_of_decimal}
-use Rattle.cbor_edn_parts.proofs.NumberParts.{some_digits, integer_read}
+use Rattle.cbor_edn_parts.proofs.lemmas.number.Decimals.{IsDecimal, integer_of_decimal}
+use Rattle.cbor_edn_parts.proofs.lemmas.number.NumberParts.{some_digits, integer_read}
 use Rattle.cbor_edn_literals.specs.TimeDecimal as decimals
 use Rattle.cbor_edn_literals.specs.TimeDecimal.{HasDecimal, IsNumberOf}
 use Rattle.cbor_edn_literals.specs.TimeLaws.{DecimalIsNumber}

@@ -214,7 +214,7 @@ fn bytes_of_texts_are_answered(rt: HostRuntime) -> Result<(), Fail> {
     failures.end()
 }
 
-/// The prefix and the text of an item with an equals sign between them, or the word of its refusal.
+/// The prefix and the text of an item with an equals sign between them, or the message of its refusal.
 fn literal_in(alloc: Global, found: Option<&mut Item<'_>>) -> Result<String, Fail> {
     let Some(item) = found else {
         return Ok(String::new(alloc));
@@ -231,7 +231,7 @@ fn literal_of(alloc: Global, text: &str) -> Result<String, Fail> {
     literal_in(alloc, sequence.at_mut(&[0]))
 }
 
-/// Strings, and the prefix and the text of these, or the word of the refusal, by the docstring of `get_application_literal`.
+/// Strings, and the prefix and the text of these, or the message of the refusal, by the docstring of `get_application_literal`.
 const LITERALS: &[(&str, &str)] = &[
     ("ip'x'_0", "ip=x"),
     ("h'00'", "h=00"),

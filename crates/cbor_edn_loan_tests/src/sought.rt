@@ -103,7 +103,7 @@ fn visited_item(
     Ok(told)
 }
 
-/// Texts, what a callback does at their tags, and the numbers that it is told and the text then: by hand from the docstring
+/// Texts, what a callback does at their tags, and the numbers that it is called with and the text then: by hand from the docstring
 /// of `visit_tag`.
 const TAGS: &[(&str, Done, &str)] = &[
     ("1(2(3))", Done::Comment, "1;2;1(2(3)/ t /)/ t /"),
@@ -226,7 +226,7 @@ fn literals_of_item(
     Ok(told)
 }
 
-/// Texts, what a callback puts at their literals, and the literals that it is told and the text then: by hand from the
+/// Texts, what a callback puts at their literals, and the literals that it is called with and the text then: by hand from the
 /// docstring of `visit_application_literals`.
 const LITERALS: &[(&str, Option<&str>, &str)] = &[
     ("h'00'", None, "h:00;h'00'/ c /"),

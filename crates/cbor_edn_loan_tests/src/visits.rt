@@ -4,7 +4,7 @@ ghost use Rattle.std.specs.Prelude.{⊤};
 use crate::common::standalone_of;
 use cbor_edn_core::access::TypeMismatch;
 use cbor_edn_core::tree::{Item, StandaloneItem};
-use cbor_edn_core::visitor::MapValueHandler;
+use cbor_edn_core::visit::MapValueHandler;
 use cbor_edn_expect::failures::Failures;
 use cbor_edn_expect::{expect, expect_text};
 use cbor_edn_parts::error::{CallbackError, Fault};

@@ -172,7 +172,7 @@ abbrev pub kind_literal : StringKind → List ℕ → List ℕ
 kind_literal Bytes bs = hex_literal bs
 kind_literal Text bs = text_literal bs
 
--- the literal of an empty one that is marked as indefinite
+-- the literal of an empty one whose indicator is `_`
 abbrev pub empty_literal : StringKind → List ℕ
 empty_literal Bytes = single_quote ∷ single_quote ∷ []
 empty_literal Text = double_quote ∷ double_quote ∷ []

@@ -10,6 +10,8 @@ use Rattle.cbor_edn_parts.specs.declared.string.Literal.{Literal}
 use Rattle.cbor_edn_parts.specs.declared.string.Dots.{Dots}
 use Rattle.cbor_edn_parts.specs.declared.number.Integer.{Integer}
 use Rattle.cbor_edn_parts.specs.declared.number.Integer.TheVariants.{Positive, Negative}
+use Rattle.cbor_edn_parts.specs.declared.number.small.SmallInteger.{SmallInteger}
+use Rattle.cbor_edn_parts.specs.declared.number.small.SmallInteger.TheVariants as small
 
 abbrev pub s_bytes : S → List ℕ
 s_bytes s = leaf_bytes s.text
@@ -57,6 +59,11 @@ BorrowsDots d = IsBorrowed d.text
 abbrev pub integer : Integer → ℤ
 integer (Positive n) = pos n
 integer (Negative n) = negsuc n
+
+-- the same of one that a head of CBOR holds
+abbrev pub small_integer : SmallInteger → ℤ
+small_integer (small.Positive n) = pos n
+small_integer (small.Negative n) = negsuc n
 
 -- the magnitude is below 2^128
 abbrev pub HasMagnitude : Integer → Type 0

@@ -1,6 +1,6 @@
 -- Delimiter policies, and the table by which they change one space text.
 use Rattle.std.specs.Prelude.{ℕ, ◌≤◌, ⊤, List, [], ◌∷◌, ◌++◌, replicate}
-use Rattle.cbor_edn_parts.specs.Comments.{comments_of, before_comma, after_comma}
+use Rattle.cbor_edn_parts.specs.internal.CommentReading.{comments_of, before_comma, after_comma}
 -- The policies, and the columns of the table below, which say what is done with one space text: enums of `src/policy.rt`. The numbers of
 -- `IndentedRegularSpacing` are `base_indent`, `indent_level` and `max_width`.
 pub use Rattle.cbor_edn_parts.specs.declared.policy.DelimiterPolicy.{DelimiterPolicy}
@@ -28,9 +28,9 @@ unfoldable pub line : ℕ → List ℕ
 line n = 10 ∷ replicate n 32
 
 -- The columns whose blanks take no memory: a line of more than 64 spaces does.
-abbrev pub IsShort : Spacing → Type 0
-IsShort (NewLine n) = n ≤ 64
-IsShort _ = ⊤
+abbrev pub IsShortSpacing : Spacing → Type 0
+IsShortSpacing (NewLine n) = n ≤ 64
+IsShortSpacing _ = ⊤
 
 -- one space in place of nothing
 abbrev pub or_space : List ℕ → List ℕ

@@ -2,7 +2,7 @@
 use Rattle.std.specs.Prelude.{ℕ, ◌<◌, Bool, true, List, ◌++◌, ◌≡◌, All}
 use Rattle.cbor_edn_parts.specs.Notes.{noted}
 use Rattle.cbor_edn_parts.specs.Space.{IsMs}
-use Rattle.cbor_edn_parts.specs.code.SpaceTokens.{is_s, is_ms, is_msc, is_soc}
+use Rattle.cbor_edn_parts.specs.internal.SpaceTokens.{is_s, is_ms, is_msc, is_soc}
 use Rattle.cbor_edn_parts.specs.Spacing.{SpaceKind, S, MS, MSC, SOC, Spacing, Least, spaced}
 
 -- whether a text is of a kind

@@ -1,4 +1,4 @@
-//! Refusals and their words.
+//! Refusals and their messages.
 ghost use Rattle.std.specs.Prelude.{◌≡◌, ◌↔◌, IsTrue};
 ghost use Rattle.cbor_edn_parts.specs.Errors.{error_kind, error_offset, error_line, error_column};
 
@@ -9,7 +9,7 @@ use thiserror::Error;
 /// What stops a call that takes memory: memory ran out, or the call has an answer of its own. `?` makes it of an `AllocError`.
 #[derive(Debug, Drop)]
 pub enum Fault<E> {
-    /// Memory ran out. What is left then, the call's own words say.
+    /// Memory ran out. What is left then, the documentation of the call says.
     Memory(AllocError),
     /// The call's own refusal, as a [`ParseError`] of `parse`.
     Told(E),
@@ -57,7 +57,7 @@ impl From<AllocError> for CallbackError {
     }
 }
 
-/// Why a text is refused. The words of a [`ParseError`] begin with its words.
+/// Why a text is refused. The message of a [`ParseError`] begins with its message.
 #[derive(Clone, Copy, Debug, PartialEq, Eq, Error)]
 pub enum ParseErrorKind {
     /// The text is none of the grammar.
@@ -109,7 +109,7 @@ impl From<Refusal> for Fault<Refusal> {
     }
 }
 
-/// Where and why a text is not accepted as EDN. Its words are such as `Invalid EDN in line 1 column 4 (byte 3)`.
+/// Where and why a text is not accepted as EDN. Its message is such as `Invalid EDN in line 1 column 4 (byte 3)`.
 #[derive(Clone, Copy, Debug, PartialEq, Eq, Error)]
 #[error("{kind} in line {line} column {column} (byte {offset})")]
 pub struct ParseError {

@@ -6,7 +6,7 @@ pub use read::indicator_at;
 
 mod read;
 
-/// An encoding indicator: how the head of an item is encoded, by a word behind an underscore (RFC 8949, section 8.1, and `_i` by the EDN
+/// An encoding indicator: how the head of an item is encoded, by a suffix behind an underscore (RFC 8949, section 8.1, and `_i` by the EDN
 /// draft, draft-ietf-cbor-edn-literals).
 #[derive(Clone, Copy, Debug, PartialEq, Eq)]
 pub enum Indicator {

@@ -1,15 +1,15 @@
 //! What holds of the definitions that the contracts cite. These functions do nothing.
 ghost use Rattle.std.specs.Prelude.{List, ℕ, All, ◌<◌};
 ghost use Rattle.cbor_edn_parts.specs.Comments.{OneCommentsOf, CutAtComma};
-ghost use Rattle.cbor_edn_parts.specs.Laws.{SpaceTexts, NumberTexts, IndicatorTexts, LiteralTexts, DecodedLiterals};
+ghost use Rattle.cbor_edn_parts.specs.LeafLaws.{SpaceTexts, NumberTexts, IndicatorTexts, LiteralTexts, DecodedLiterals};
 ghost use Rattle.cbor_edn_parts.specs.SpacingLaws.{StaysOfKind, ForgetsColumn, NotesAreSpace, NotesInFront};
 
-/// The tests and tables of space texts take exactly the texts of the grammar.
+/// The tests and automata of space texts take exactly the texts of the grammar.
 pub fn space_texts()
     ensures { (text : List ℕ) → SpaceTexts text }
 {}
 
-/// The test and the table of numbers take exactly the numbers of the grammar, and the reader of integers answers exactly
+/// The test and the automaton of numbers take exactly the numbers of the grammar, and the reader of integers answers exactly
 /// the integer of a text.
 pub fn number_texts()
     ensures { (text : List ℕ) → NumberTexts text }
@@ -21,7 +21,7 @@ pub fn indicator_texts()
     ensures { (text : List ℕ) → IndicatorTexts text }
 {}
 
-/// The tests and tables of quoted texts and dots take exactly those of the grammar, and the readers answer exactly the
+/// The tests and automata of quoted texts and dots take exactly those of the grammar, and the readers answer exactly the
 /// content of a literal, its kind, and whether it is one of those that have contents.
 pub fn literal_texts()
     ensures { (text : List ℕ) → LiteralTexts text }

@@ -1,5 +1,6 @@
 //! How the spaces of each part of a tree are changed.
-ghost use Rattle.std.specs.Prelude.{◌≡◌, IsOk, OnOk};
+ghost use Rattle.std.specs.Prelude.{◌≡◌, ◌++◌, IsOk, OnOk};
+ghost use Rattle.std.specs.String.{string_bytes};
 ghost use Rattle.cbor_edn_parts.specs.LayoutColumns as spec;
 ghost use Rattle.cbor_edn_parts.specs.LayoutColumns.{least, respaced};
 ghost use Rattle.cbor_edn_parts.specs.Leaves.{s_bytes, ms_bytes, msc_bytes, soc_bytes};
@@ -24,9 +25,9 @@ pub enum Layout {
     },
 }
 
-/// The places of space texts.
+/// The slots of space texts.
 #[derive(Clone, Copy)]
-pub enum Place {
+pub enum Slot {
     /// In front of the first entry of a list, and behind `(_` in front of the first string.
     First,
     /// Behind an entry, in front of the next.
@@ -67,19 +68,19 @@ impl Layout {
         }
     }
 
-    /// What is done with the space text at a place: the column of the table of spaces.
-    pub fn spacing(self, place: Place) -> Spacing
-        ensures { result ≡ spec.spacing self place }
+    /// What is done with the space text at a slot: the column of the table of spaces.
+    pub fn spacing(self, slot: Slot) -> Spacing
+        ensures { result ≡ spec.spacing self slot }
     {
         match self {
-            Layout::Inline(Spacing::OneLine) => match place {
-                Place::BeforePlus | Place::AfterPlus | Place::AfterColon => Spacing::OneSpace,
+            Layout::Inline(Spacing::OneLine) => match slot {
+                Slot::BeforePlus | Slot::AfterPlus | Slot::AfterColon => Spacing::OneSpace,
                 _ => Spacing::OneLine,
             },
             Layout::Inline(column) => column,
-            Layout::Lines { base, end, .. } => match place {
-                Place::First | Place::Between | Place::BeforePlus => Spacing::NewLine(base),
-                Place::Last => Spacing::NewLine(end),
+            Layout::Lines { base, end, .. } => match slot {
+                Slot::First | Slot::Between | Slot::BeforePlus => Spacing::NewLine(base),
+                Slot::Last => Spacing::NewLine(end),
                 _ => Spacing::Comments,
             },
         }
@@ -123,32 +124,32 @@ impl Layout {
     }
 }
 
-/// Lays out an optional space at its place. Fails where memory runs out, and leaves the text then; the layout of `DiscardAll` takes none.
+/// Lays out an optional space at its slot. Fails where memory runs out, and leaves the text then; the layout of `DiscardAll` takes none.
 pub fn lay_space<'a>(
     space: &mut S<'a>,
     alloc: Global,
     layout: Layout,
-    place: Place,
+    slot: Slot,
 ) -> Result<(), AllocError>
-    ensures laid { OnOk result (s_bytes space.new ≡ respaced kind.S place layout (s_bytes space.old)) }
+    ensures laid { OnOk result (s_bytes space.new ≡ respaced kind.S slot layout (s_bytes space.old)) }
     ensures least { layout ≡ least → IsOk result }
 {
-    *space = space.spaced(alloc, layout.spacing(place))?;
+    *space = space.spaced(alloc, layout.spacing(slot))?;
     Ok(())
 }
 
-/// Lays out a mandatory space at its place; it does not become empty. Fails where memory runs out, and leaves the text then; the layout
+/// Lays out a mandatory space at its slot; it does not become empty. Fails where memory runs out, and leaves the text then; the layout
 /// of `DiscardAll` takes none.
 pub fn lay_mandatory<'a>(
     space: &mut Ms<'a>,
     alloc: Global,
     layout: Layout,
-    place: Place,
+    slot: Slot,
 ) -> Result<(), AllocError>
-    ensures laid { OnOk result (ms_bytes space.new ≡ respaced kind.MS place layout (ms_bytes space.old)) }
+    ensures laid { OnOk result (ms_bytes space.new ≡ respaced kind.MS slot layout (ms_bytes space.old)) }
     ensures least { layout ≡ least → IsOk result }
 {
-    *space = space.spaced(alloc, layout.spacing(place))?;
+    *space = space.spaced(alloc, layout.spacing(slot))?;
     Ok(())
 }
 
@@ -162,7 +163,7 @@ pub fn lay_separator<'a>(
     ensures laid { OnOk result (msc_bytes separator.new ≡ respaced kind.MSC spec.Between layout (msc_bytes separator.old)) }
     ensures least { layout ≡ least → IsOk result }
 {
-    *separator = separator.spaced(alloc, layout.spacing(Place::Between))?;
+    *separator = separator.spaced(alloc, layout.spacing(Slot::Between))?;
     Ok(())
 }
 
@@ -172,6 +173,60 @@ pub fn lay_end<'a>(end: &mut Soc<'a>, alloc: Global, layout: Layout) -> Result<(
     ensures laid { OnOk result (soc_bytes end.new ≡ respaced kind.SOC spec.Last layout (soc_bytes end.old)) }
     ensures least { layout ≡ least → IsOk result }
 {
-    *end = end.spaced(alloc, layout.spacing(Place::Last))?;
+    *end = end.spaced(alloc, layout.spacing(Slot::Last))?;
     Ok(())
+}
+
+/// Writes an optional space as it is laid out at its slot at the end of a text. Fails where memory runs out.
+pub fn print_space(
+    out: &mut String,
+    alloc: Global,
+    space: &S<'_>,
+    layout: Layout,
+    slot: Slot,
+) -> Result<(), AllocError>
+    ensures { OnOk result (string_bytes out.new ≡ string_bytes out.old ++ respaced kind.S slot layout (s_bytes space.now)) }
+{
+    out.push_str(space.spaced(alloc, layout.spacing(slot))?.as_str())
+}
+
+/// Writes a mandatory space as it is laid out at its slot at the end of a text. Fails where memory runs out.
+pub fn print_mandatory(
+    out: &mut String,
+    alloc: Global,
+    space: &Ms<'_>,
+    layout: Layout,
+    slot: Slot,
+) -> Result<(), AllocError>
+    ensures { OnOk result (string_bytes out.new ≡ string_bytes out.old ++ respaced kind.MS slot layout (ms_bytes space.now)) }
+{
+    out.push_str(space.spaced(alloc, layout.spacing(slot))?.as_str())
+}
+
+/// Writes the separator between two entries as it is laid out at the end of a text. Fails where memory runs out.
+pub fn print_separator(
+    out: &mut String,
+    alloc: Global,
+    separator: &Msc<'_>,
+    layout: Layout,
+) -> Result<(), AllocError>
+    ensures { OnOk result (string_bytes out.new ≡ string_bytes out.old ++ respaced kind.MSC spec.Between layout (msc_bytes separator.now)) }
+{
+    out.push_str(
+        separator
+            .spaced(alloc, layout.spacing(Slot::Between))?
+            .as_str(),
+    )
+}
+
+/// Writes the end of a list as it is laid out at the end of a text. Fails where memory runs out.
+pub fn print_end(
+    out: &mut String,
+    alloc: Global,
+    end: &Soc<'_>,
+    layout: Layout,
+) -> Result<(), AllocError>
+    ensures { OnOk result (string_bytes out.new ≡ string_bytes out.old ++ respaced kind.SOC spec.Last layout (soc_bytes end.now)) }
+{
+    out.push_str(end.spaced(alloc, layout.spacing(Slot::Last))?.as_str())
 }

@@ -33,16 +33,18 @@ pub struct ShortText {
 impl ShortText {
     ghost use Rattle.cbor_edn_parts.specs.LeafTexts.{short_bytes};
 
-    /// Two texts, one behind the other.
-    fn joined(first: &str, second: &str) -> ShortText
-        requires { length first.now + length second.now ≤ 22 }
-        ensures { short_bytes result ≡ first.now ++ second.now }
+    /// A text between two others.
+    fn enclosed(first: &str, text: &str, last: &str) -> ShortText
+        requires { length first.now + (length text.now + length last.now) ≤ 22 }
+        ensures { short_bytes result ≡ first.now ++ (text.now ++ last.now) }
     {
+        let front = first.len() + text.len();
         let mut bytes = [0; ROOM];
         put(&mut bytes, 0, first);
-        put(&mut bytes, first.len(), second);
+        put(&mut bytes, first.len(), text);
+        put(&mut bytes, front, last);
         ShortText {
-            length: (first.len() + second.len()) as u8,
+            length: (front + last.len()) as u8,
             bytes,
         }
     }
@@ -78,9 +80,17 @@ impl<'a> LeafText<'a> {
         ensures { IfOk result (λ t. leaf_bytes t ≡ string_bytes text) }
     {
         if text.len() <= ROOM {
-            return Ok(LeafText::Short(ShortText::joined(text.as_str(), "")));
+            return Ok(LeafText::short("", text.as_str()));
         }
         Ok(LeafText::Long(Box::new(alloc, text)?))
+    }
+
+    /// Two short texts, one behind the other, as a text of its own, which takes no memory.
+    pub fn short(first: &str, second: &str) -> LeafText<'a>
+        requires { length first.now + length second.now ≤ 22 }
+        ensures { leaf_bytes result ≡ first.now ++ second.now }
+    {
+        LeafText::Short(ShortText::enclosed("", first, second))
     }
 
     /// Two texts, one behind the other, as a text of its own. Fails where memory runs out, which at most 22 bytes don't need.
@@ -88,11 +98,28 @@ impl<'a> LeafText<'a> {
         ensures bytes { IfOk result (λ t. leaf_bytes t ≡ first.now ++ second.now) }
         ensures free { length first.now + length second.now ≤ 22 → IsOk result }
     {
-        if first.len() + second.len() <= ROOM {
-            return Ok(LeafText::Short(ShortText::joined(first, second)));
+        LeafText::enclosed(alloc, "", first, second)
+    }
+
+    /// A text between two others, as a text of its own. Fails where memory runs out, which at most 22 bytes don't need.
+    pub fn enclosed(
+        alloc: Global,
+        first: &str,
+        text: &str,
+        last: &str,
+    ) -> Result<LeafText<'a>, AllocError>
+        ensures bytes { IfOk result (λ t. leaf_bytes t ≡ first.now ++ (text.now ++ last.now)) }
+        ensures free { length first.now + (length text.now + length last.now) ≤ 22 → IsOk result }
+    {
+        let size = (first.len() + text.len()).saturating_add(last.len());
+        if size <= ROOM {
+            return Ok(LeafText::Short(ShortText::enclosed(first, text, last)));
         }
-        let text = format!(in alloc; "{first}{second}")?;
-        Ok(LeafText::Long(Box::new(alloc, text)?))
+        let mut whole = String::with_capacity(alloc, size)?;
+        whole.push_str(first)?;
+        whole.push_str(text)?;
+        whole.push_str(last)?;
+        Ok(LeafText::Long(Box::new(alloc, whole)?))
     }
 
     /// The text, wherever it stands.

@@ -2,33 +2,33 @@
 ghost use Rattle.std.specs.Prelude.{◌≡◌, ◌+◌, ◌-◌, ◌^◌, ◌<◌, IfSome};
 ghost use Rattle.std.specs.Str.{IsCharBoundary};
 ghost use Rattle.cbor_edn_parts.specs.Errors.{error_kind, error_offset, error_line, error_column};
-ghost use Rattle.cbor_edn_parts.specs.Place.{IsPlace, place_behind};
-ghost use Rattle.cbor_edn_parts.specs.code.Text.{text_bytes};
+ghost use Rattle.cbor_edn_parts.specs.Location.{IsLocation, location_behind};
+ghost use Rattle.cbor_edn_parts.specs.internal.Text.{text_bytes};
 
 use crate::error::{ParseError, Refusal};
 use crate::looks::Looks;
 use crate::text::Text;
 
 /// The refusal with its line and column, for which the text in front of its place is read again.
-pub fn located(text: &Text<'_>, refusal: Refusal, looks: &mut Looks) -> ParseError
+pub fn with_location(text: &Text<'_>, refusal: Refusal, looks: &mut Looks) -> ParseError
     requires { IsCharBoundary (text_bytes text.now) refusal.at }
     ensures kind { error_kind result ≡ refusal.kind }
-    ensures place { IsPlace (text_bytes text.now) (error_offset result) (error_line result) (error_column result) }
+    ensures place { IsLocation (text_bytes text.now) (error_offset result) (error_line result) (error_column result) }
     ensures cost { looks.new.count ≡ looks.old.count + refusal.at }
 {
     let mut line = 1;
     let mut column = 1;
     'bytes: for at in 0..refusal.at {
-        (line, column) = advanced(text.byte(at, looks), line, column);
+        (line, column) = location_after(text.byte(at, looks), line, column);
     }
     ParseError::new(refusal.kind, refusal.at, line, column)
 }
 
 /// The line and the column behind a byte.
-fn advanced(byte: Option<u8>, line: usize, column: usize) -> (usize, usize)
+fn location_after(byte: Option<u8>, line: usize, column: usize) -> (usize, usize)
     requires lines { line < 2 ^ 64 - 1 }
     requires columns { column < 2 ^ 64 - 1 }
-    ensures { IfSome byte (λ c. (result.0, result.1) ≡ place_behind c line column) }
+    ensures { IfSome byte (λ c. (result.0, result.1) ≡ location_behind c line column) }
 {
     match byte {
         Some(b'\n') => (line + 1, 1),

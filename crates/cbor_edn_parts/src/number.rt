@@ -1,23 +1,26 @@
 //! Numbers.
-ghost use Rattle.std.specs.Prelude.{◌≡◌, ◌≤◌, ◌^◌, ◌↔◌, length, ℤ, pos, neg_ℤ, if◌then◌else◌, IsTrue, IfOk, IfSome, IsNone, drop, true, unsigned_abs};
+ghost use Rattle.std.specs.Prelude.{◌≡◌, ◌<◌, ◌≤◌, ◌^◌, ◌↔◌, length, ℤ, pos, neg_ℤ, if◌then◌else◌, IsTrue, IfOk, IfSome, IsNone, drop, true, unsigned_abs};
 ghost use Rattle.cbor_edn_parts.specs.LeafTexts.{leaf_bytes};
-ghost use Rattle.std.specs.Fmt.{signed_decimal};
 ghost use Rattle.std.specs.Str.Parse.{IsNumeral, ParsesUnsigned, digits_value};
 ghost use Rattle.cbor_edn_parts.specs.Number.{MinusSign, radix, HasInteger};
-ghost use Rattle.cbor_edn_parts.specs.code.NumberReading.{prefix_length, sign_of, unsigned, named_base};
-ghost use Rattle.cbor_edn_parts.specs.code.NumberTokens as tokens;
-ghost use Rattle.cbor_edn_parts.specs.code.NumberTokens.{is_number};
-ghost use Rattle.cbor_edn_parts.specs.code.Inside.{number_stays, number_inside};
+ghost use Rattle.cbor_edn_parts.specs.internal.NumberReading.{prefix_length, sign_of, without_sign, named_base};
+ghost use Rattle.cbor_edn_parts.specs.internal.NumberTokens as tokens;
+ghost use Rattle.cbor_edn_parts.specs.internal.NumberTokens.{is_number};
+ghost use Rattle.cbor_edn_parts.specs.internal.StateLaws.{number_stays, number_inside};
 
 use crate::bytes::Kind;
 use crate::leaf_text::LeafText;
 use crate::scan::State;
 pub use read::number_at;
-use std::alloc::{AllocError, Global};
+pub use small::SmallInteger;
+pub use start::{NumberStart, number_start};
+use std::alloc::AllocError;
 use std::num::ParseIntError;
 
 mod range;
 mod read;
+mod small;
+mod start;
 mod write;
 
 /// A number as it is written, as `-0x1F`, `07`, `0b101`, `1.5e3` or `0x.8p1`.
@@ -29,7 +32,7 @@ pub struct Number<'a> {
 
 /// Where a scan of a number stands.
 #[derive(Clone, Copy, Debug, PartialEq)]
-pub enum Reached {
+pub enum NumberState {
     Start,
     Signed,
     AfterZero,
@@ -66,17 +69,6 @@ pub enum Integer {
 impl Integer {
     ghost use Rattle.cbor_edn_parts.specs.Leaves.{integer, HasMagnitude};
 
-    fn decimal<'a>(self, alloc: Global) -> Result<LeafText<'a>, AllocError>
-        requires { HasMagnitude self }
-        ensures { IfOk result (λ t. leaf_bytes t ≡ signed_decimal (integer self)) }
-    {
-        let mut digits = itoa::Buffer::new();
-        match self {
-            Integer::Positive(n) => LeafText::joined(alloc, "", digits.format(n)),
-            Integer::Negative(n) => LeafText::joined(alloc, "-", digits.format(n + 1)),
-        }
-    }
-
     fn signed(is_negative: bool, magnitude: u128) -> Integer
         ensures value { integer result ≡ (if is_negative then neg_ℤ (pos magnitude) else pos magnitude) }
         ensures bound { HasMagnitude result }
@@ -90,151 +82,151 @@ impl Integer {
 }
 
 /// The state behind one more byte, by what the byte is.
-impl Reached {
-    fn digit(self) -> Option<Reached>
+impl NumberState {
+    fn digit(self) -> Option<NumberState>
         ensures { result ≡ tokens.digit_step self }
     {
         match self {
-            Reached::Start | Reached::Signed | Reached::AfterZero | Reached::DecimalDigits => {
-                Some(Reached::DecimalDigits)
+            NumberState::Start
+            | NumberState::Signed
+            | NumberState::AfterZero
+            | NumberState::DecimalDigits => { Some(NumberState::DecimalDigits) }
+            NumberState::Point | NumberState::Fraction => Some(NumberState::Fraction),
+            NumberState::Exponent | NumberState::ExponentSigned | NumberState::ExponentDigits => {
+                Some(NumberState::ExponentDigits)
             }
-            Reached::Point | Reached::Fraction => Some(Reached::Fraction),
-            Reached::Exponent | Reached::ExponentSigned | Reached::ExponentDigits => {
-                Some(Reached::ExponentDigits)
-            }
-            Reached::BinaryExponent
-            | Reached::BinaryExponentSigned
-            | Reached::BinaryExponentDigits => Some(Reached::BinaryExponentDigits),
+            NumberState::BinaryExponent
+            | NumberState::BinaryExponentSigned
+            | NumberState::BinaryExponentDigits => Some(NumberState::BinaryExponentDigits),
             _ => self.letter(),
         }
     }
 
-    fn octal_digit(self) -> Option<Reached>
+    fn octal_digit(self) -> Option<NumberState>
         ensures { result ≡ tokens.octal_step self }
     {
         match self {
-            Reached::AfterO | Reached::OctalDigits => Some(Reached::OctalDigits),
+            NumberState::AfterO | NumberState::OctalDigits => Some(NumberState::OctalDigits),
             _ => self.digit(),
         }
     }
 
-    fn binary_digit(self) -> Option<Reached>
+    fn binary_digit(self) -> Option<NumberState>
         ensures { result ≡ tokens.binary_step self }
     {
         match self {
-            Reached::AfterB | Reached::BinaryDigits => Some(Reached::BinaryDigits),
+            NumberState::AfterB | NumberState::BinaryDigits => Some(NumberState::BinaryDigits),
             _ => self.octal_digit(),
         }
     }
 
-    fn zero(self) -> Option<Reached>
+    fn zero(self) -> Option<NumberState>
         ensures { result ≡ tokens.zero_step self }
     {
         match self {
-            Reached::Start | Reached::Signed => Some(Reached::AfterZero),
+            NumberState::Start | NumberState::Signed => Some(NumberState::AfterZero),
             _ => self.binary_digit(),
         }
     }
 
     /// A letter that is a hexadecimal digit.
-    fn letter(self) -> Option<Reached>
+    fn letter(self) -> Option<NumberState>
         ensures { result ≡ tokens.letter_step self }
     {
         match self {
-            Reached::AfterX | Reached::HexadecimalDigits => Some(Reached::HexadecimalDigits),
-            Reached::HexadecimalPoint | Reached::HexadecimalFraction => {
-                Some(Reached::HexadecimalFraction)
+            NumberState::AfterX | NumberState::HexadecimalDigits => Some(
+                NumberState::HexadecimalDigits,
+            ),
+            NumberState::HexadecimalPoint | NumberState::HexadecimalFraction => {
+                Some(NumberState::HexadecimalFraction)
             }
             _ => None,
         }
     }
 
-    fn sign(self) -> Option<Reached>
+    fn sign(self) -> Option<NumberState>
         ensures { result ≡ tokens.sign_step self }
     {
         match self {
-            Reached::Start => Some(Reached::Signed),
-            Reached::Exponent => Some(Reached::ExponentSigned),
-            Reached::BinaryExponent => Some(Reached::BinaryExponentSigned),
+            NumberState::Start => Some(NumberState::Signed),
+            NumberState::Exponent => Some(NumberState::ExponentSigned),
+            NumberState::BinaryExponent => Some(NumberState::BinaryExponentSigned),
             _ => None,
         }
     }
 
-    fn point(self) -> Option<Reached>
+    fn point(self) -> Option<NumberState>
         ensures { result ≡ tokens.point_step self }
     {
         match self {
-            Reached::Start | Reached::Signed => Some(Reached::Point),
-            Reached::AfterZero | Reached::DecimalDigits => Some(Reached::Fraction),
-            Reached::AfterX => Some(Reached::HexadecimalPoint),
-            Reached::HexadecimalDigits => Some(Reached::HexadecimalFraction),
+            NumberState::Start | NumberState::Signed => Some(NumberState::Point),
+            NumberState::AfterZero | NumberState::DecimalDigits => Some(NumberState::Fraction),
+            NumberState::AfterX => Some(NumberState::HexadecimalPoint),
+            NumberState::HexadecimalDigits => Some(NumberState::HexadecimalFraction),
             _ => None,
         }
     }
 
-    fn b(self) -> Option<Reached>
+    fn b(self) -> Option<NumberState>
         ensures { result ≡ tokens.b_step self }
     {
         match self {
-            Reached::AfterZero => Some(Reached::AfterB),
+            NumberState::AfterZero => Some(NumberState::AfterB),
             _ => self.letter(),
         }
     }
 
-    fn e(self) -> Option<Reached>
+    fn e(self) -> Option<NumberState>
         ensures { result ≡ tokens.e_step self }
     {
         match self {
-            Reached::AfterZero | Reached::DecimalDigits | Reached::Fraction => {
-                Some(Reached::Exponent)
+            NumberState::AfterZero | NumberState::DecimalDigits | NumberState::Fraction => {
+                Some(NumberState::Exponent)
             }
             _ => self.letter(),
         }
     }
 
-    fn o(self) -> Option<Reached>
+    fn o(self) -> Option<NumberState>
         ensures { result ≡ tokens.o_step self }
     {
         match self {
-            Reached::AfterZero => Some(Reached::AfterO),
+            NumberState::AfterZero => Some(NumberState::AfterO),
             _ => None,
         }
     }
 
-    fn p(self) -> Option<Reached>
+    fn p(self) -> Option<NumberState>
         ensures { result ≡ tokens.p_step self }
     {
         match self {
-            Reached::HexadecimalDigits | Reached::HexadecimalFraction => {
-                Some(Reached::BinaryExponent)
+            NumberState::HexadecimalDigits | NumberState::HexadecimalFraction => {
+                Some(NumberState::BinaryExponent)
             }
             _ => None,
         }
     }
 
-    fn x(self) -> Option<Reached>
+    fn x(self) -> Option<NumberState>
         ensures { result ≡ tokens.x_step self }
     {
         match self {
-            Reached::AfterZero => Some(Reached::AfterX),
+            NumberState::AfterZero => Some(NumberState::AfterX),
             _ => None,
         }
     }
 }
 
-impl State for Reached {
-    ghost table = { tokens.number };
+impl State for NumberState {
+    ghost automaton = { tokens.number };
 
-    fn step(self, byte: u8) -> Option<Reached> {
+    fn step(self, byte: u8) -> Option<NumberState> {
         let kind = Kind::of(byte);
-        // most bytes of most numbers
-        if let (
-            Reached::Start | Reached::DecimalDigits,
-            Kind::One | Kind::TwoToSeven | Kind::EightOrNine,
-        )
-        | (Reached::DecimalDigits, Kind::Zero) = (self, kind)
-        {
-            return Some(Reached::DecimalDigits);
+        // the first byte of most numbers
+        if let (NumberState::Start, Kind::One | Kind::TwoToSeven | Kind::EightOrNine) = (
+            self, kind,
+        ) {
+            return Some(NumberState::DecimalDigits);
         }
         match kind {
             Kind::Plus | Kind::Minus => self.sign(),
@@ -253,17 +245,28 @@ impl State for Reached {
         }
     }
 
+    #[inline(always)]
+    fn is_kept_by(self, byte: u8) -> bool {
+        matches!(
+            (self, Kind::of(byte)),
+            (
+                NumberState::DecimalDigits,
+                Kind::Zero | Kind::One | Kind::TwoToSeven | Kind::EightOrNine
+            )
+        )
+    }
+
     fn is_final(self) -> bool {
         matches!(
             self,
-            Reached::AfterZero
-                | Reached::DecimalDigits
-                | Reached::Fraction
-                | Reached::ExponentDigits
-                | Reached::HexadecimalDigits
-                | Reached::BinaryExponentDigits
-                | Reached::OctalDigits
-                | Reached::BinaryDigits
+            NumberState::AfterZero
+                | NumberState::DecimalDigits
+                | NumberState::Fraction
+                | NumberState::ExponentDigits
+                | NumberState::HexadecimalDigits
+                | NumberState::BinaryExponentDigits
+                | NumberState::OctalDigits
+                | NumberState::BinaryDigits
         )
     }
 
@@ -298,15 +301,6 @@ impl<'a> Number<'a> {
         Ok(Number { text })
     }
 
-    /// The number in decimal, as `-16`. Fails where memory runs out.
-    pub fn decimal(alloc: Global, number: Integer) -> Result<Number<'a>, AllocError>
-        requires { HasMagnitude number }
-        ensures { IfOk result (λ t. number_bytes t ≡ signed_decimal (integer number)) }
-    {
-        let text = number.decimal(alloc)?;
-        Ok(Number { text })
-    }
-
     /// The integer of an integer literal, or none where the magnitude is 2^128 or more. A text with a point or an
     /// exponent is no integer literal, and has none.
     pub fn integer(&self) -> Option<Integer>
@@ -316,19 +310,16 @@ impl<'a> Number<'a> {
     {
         let (is_negative, unsigned) = split_sign(self.as_str());
         let (radix, digits) = split_base(unsigned);
-        match parsed(digits, radix) {
+        match parse_digits(digits, radix) {
             Ok(magnitude) => Some(Integer::signed(is_negative, magnitude)),
             Err(_) => None,
         }
     }
 }
 
-/// A number below it has another digit without leaving 64 bits.
-const SMALL: u64 = 1_000_000_000_000_000_000;
-
 /// As `u128::from_str_radix`, in 64 bits where they hold the number: digit by digit, 128 bits take several times as long. A decimal
 /// number has a loop of its own, which takes a quarter of the instructions of that for any radix.
-fn parsed(digits: &str, radix: u32) -> Result<u128, ParseIntError>
+fn parse_digits(digits: &str, radix: u32) -> Result<u128, ParseIntError>
     requires lower_bound { 2 ≤ radix }
     requires upper_bound { radix ≤ 36 }
     ensures value { ParsesUnsigned 128 radix digits.now result }
@@ -344,16 +335,18 @@ fn parsed(digits: &str, radix: u32) -> Result<u128, ParseIntError>
     }
 }
 
-/// The number that decimal digits write, or none where another byte stands among them or the number may take more than 64 bits.
+/// The number that decimal digits write, or none where another byte stands among them or there are more than 19 of them: so many fit
+/// into 64 bits.
 fn small_decimal(digits: &[u8]) -> Option<u64>
-    ensures { IfSome result (λ n. IsNumeral 10 digits.now × (n ≡ digits_value 10 digits.now)) }
+    ensures some { IfSome result (λ n. IsNumeral 10 digits.now × (n ≡ digits_value 10 digits.now)) }
+    ensures none { IsNone result → IsNumeral 10 digits.now → 19 < length digits.now }
 {
-    if digits.is_empty() {
+    if digits.is_empty() || digits.len() > 19 {
         return None;
     }
     let mut number: u64 = 0;
     for byte in digits {
-        if !byte.is_ascii_digit() || number >= SMALL {
+        if !byte.is_ascii_digit() {
             return None;
         }
         number = number * 10 + u64::from(*byte - b'0');
@@ -364,7 +357,7 @@ fn small_decimal(digits: &[u8]) -> Option<u64>
 /// Whether a minus sign stands in front, and the text behind the sign, if any.
 fn split_sign(text: &str) -> (bool, &str)
     ensures sign { sign_of text.now ≡ MinusSign ↔ IsTrue result.0 }
-    ensures rest { result.1.now ≡ unsigned text.now }
+    ensures rest { result.1.now ≡ without_sign text.now }
 {
     match text.as_bytes() {
         [b'-', ..] => (true, &text[1..]),

@@ -1,15 +1,15 @@
 //! Space texts: optional space (S), mandatory space (MS), separators (MSC) and the ends of lists (SOC).
 ghost use Rattle.std.specs.Prelude.{◌≡◌, ◌↔◌, IsTrue, [], ◌∷◌, IfOk, IfSome, IsNone};
 ghost use Rattle.cbor_edn_parts.specs.LeafTexts.{leaf_bytes};
-ghost use Rattle.cbor_edn_parts.specs.code.SpaceTokens as tokens;
-ghost use Rattle.cbor_edn_parts.specs.code.SpaceTokens.{is_s, is_ms, is_msc, is_soc};
-ghost use Rattle.cbor_edn_parts.specs.code.Inside.{space_stays, space_inside, separator_stays, separator_inside};
+ghost use Rattle.cbor_edn_parts.specs.internal.SpaceTokens as tokens;
+ghost use Rattle.cbor_edn_parts.specs.internal.SpaceTokens.{is_s, is_ms, is_msc, is_soc};
+ghost use Rattle.cbor_edn_parts.specs.internal.StateLaws.{space_stays, space_inside, separator_stays, separator_inside};
 
 use crate::bytes::Kind;
 use crate::leaf_text::LeafText;
 use crate::scan::State;
 pub use note::TakesComment;
-pub use read::{End, separator, separator_behind, space, space_behind};
+pub use read::{ItemEnd, separator, separator_behind, space, space_behind};
 use std::alloc::AllocError;
 
 mod comments;
@@ -210,7 +210,7 @@ impl<'a> Soc<'a> {
 
 /// Where a scan of space stands: between comments or inside one.
 #[derive(Clone, Copy, Debug, PartialEq)]
-pub enum Within {
+pub enum SpaceState {
     Between,
     InSlashes,
     InHash,
@@ -218,20 +218,20 @@ pub enum Within {
 
 /// Where a scan of a separator stands: before its comma or behind it.
 #[derive(Clone, Copy, Debug, PartialEq)]
-pub enum Around {
-    Before(Within),
-    After(Within),
+pub enum SeparatorState {
+    Before(SpaceState),
+    After(SpaceState),
 }
 
-impl State for Within {
-    ghost table = { tokens.space };
+impl State for SpaceState {
+    ghost automaton = { tokens.space };
 
-    fn step(self, byte: u8) -> Option<Within> {
+    fn step(self, byte: u8) -> Option<SpaceState> {
         self.behind(Kind::of(byte))
     }
 
     fn is_final(self) -> bool {
-        matches!(self, Within::Between)
+        matches!(self, SpaceState::Between)
     }
 
     ghost stays = { space_stays };
@@ -239,43 +239,45 @@ impl State for Within {
     ghost inside = { space_inside };
 }
 
-impl Within {
+impl SpaceState {
     /// The state behind one more byte of this kind.
-    pub(crate) fn behind(self, kind: Kind) -> Option<Within>
+    pub(crate) fn behind(self, kind: Kind) -> Option<SpaceState>
         ensures { result ≡ tokens.space_step kind self }
     {
         match (kind, self) {
             (Kind::Blank | Kind::Tab, _) => Some(self),
-            (Kind::Lf, Within::InHash) => Some(Within::Between),
+            (Kind::Lf, SpaceState::InHash) => Some(SpaceState::Between),
             (Kind::Lf, _) => Some(self),
             (Kind::Control, _) => None,
-            (Kind::Slash, Within::Between) => Some(Within::InSlashes),
-            (Kind::Slash, Within::InSlashes) => Some(Within::Between),
-            (Kind::Hash, Within::Between) => Some(Within::InHash),
-            (_, Within::Between) => None,
+            (Kind::Slash, SpaceState::Between) => Some(SpaceState::InSlashes),
+            (Kind::Slash, SpaceState::InSlashes) => Some(SpaceState::Between),
+            (Kind::Hash, SpaceState::Between) => Some(SpaceState::InHash),
+            (_, SpaceState::Between) => None,
             _ => Some(self),
         }
     }
 }
 
-impl State for Around {
-    ghost table = { tokens.separator };
+impl State for SeparatorState {
+    ghost automaton = { tokens.separator };
 
-    fn step(self, byte: u8) -> Option<Around> {
+    fn step(self, byte: u8) -> Option<SeparatorState> {
         let kind = Kind::of(byte);
         match (kind, self) {
             (Kind::Blank, _) => Some(self),
-            (Kind::Comma, Around::Before(Within::Between)) => {
-                Some(Around::After(Within::Between))
+            (Kind::Comma, SeparatorState::Before(SpaceState::Between)) => {
+                Some(SeparatorState::After(SpaceState::Between))
             }
-            (_, Around::Before(within)) => Some(Around::Before(within.behind(kind)?)),
-            (_, Around::After(within)) => Some(Around::After(within.behind(kind)?)),
+            (_, SeparatorState::Before(within)) => Some(SeparatorState::Before(within.behind(
+                kind,
+            )?)),
+            (_, SeparatorState::After(within)) => Some(SeparatorState::After(within.behind(kind)?)),
         }
     }
 
     fn is_final(self) -> bool {
         match self {
-            Around::Before(within) | Around::After(within) => within.is_final(),
+            SeparatorState::Before(within) | SeparatorState::After(within) => within.is_final(),
         }
     }
 

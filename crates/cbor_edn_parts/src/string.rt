@@ -1,11 +1,11 @@
 //! Literals: quoted texts, with or without a prefix, and dots.
 ghost use Rattle.std.specs.Prelude.{◌≡◌, ◌==◌, IsTrue, IfOk, Some, None, [], length, if◌then◌else◌};
 ghost use Rattle.cbor_edn_parts.specs.LeafTexts.{leaf_bytes};
-ghost use Rattle.cbor_edn_parts.specs.code.Ended.{Steps};
+ghost use Rattle.cbor_edn_parts.specs.internal.Ended.{Steps};
 ghost use Rattle.cbor_edn_parts.specs.Literal.{letter_escape};
-ghost use Rattle.cbor_edn_parts.specs.code.LiteralTokens as tokens;
-ghost use Rattle.cbor_edn_parts.specs.code.LiteralTokens.{is_literal, are_dots, quote_byte};
-ghost use Rattle.cbor_edn_parts.specs.code.Inside.{literal_stays, literal_inside, dots_stays, dots_inside};
+ghost use Rattle.cbor_edn_parts.specs.internal.LiteralTokens as tokens;
+ghost use Rattle.cbor_edn_parts.specs.internal.LiteralTokens.{is_literal, are_dots, quote_byte};
+ghost use Rattle.cbor_edn_parts.specs.internal.StateLaws.{literal_stays, literal_inside, dots_stays, dots_inside};
 
 use crate::leaf_text::LeafText;
 use crate::scan::State;
@@ -54,7 +54,7 @@ pub enum Quote {
 
 /// Where a scan stands between two quotes. Numbers are those of the hexadecimal digits so far.
 #[derive(Clone, Copy, Debug, PartialEq)]
-pub enum Part {
+pub enum QuotedState {
     /// Between two characters.
     Between,
     Backslash,
@@ -72,18 +72,18 @@ pub enum Part {
 
 /// Where a scan of a literal stands.
 #[derive(Clone, Copy, Debug, PartialEq)]
-pub enum InLiteral {
+pub enum LiteralState {
     Start,
     /// In a prefix of small letters, and of large ones.
     Lower,
     Upper,
-    Inside(Quote, Part),
+    Inside(Quote, QuotedState),
     Closed,
 }
 
 /// How many dots a scan has seen.
 #[derive(Clone, Copy, Debug, PartialEq)]
-pub enum InDots {
+pub enum DotsState {
     None,
     One,
     Two,
@@ -161,52 +161,66 @@ impl Quote {
             Quote::Double => b'"',
         }
     }
+
+    /// Whether a byte between two characters stands for itself. Of LF, which does too, this answers no.
+    fn is_plain(self, byte: u8) -> bool
+        ensures { result ≡ tokens.is_plain self byte }
+    {
+        byte >= b' ' && byte != b'\\' && byte != self.byte()
+    }
 }
 
-impl Part {
+impl QuotedState {
     /// The state behind one more byte, and what ends there.
-    pub(crate) fn step(self, quote: u8, byte: u8) -> Option<(Part, Ended)>
-        ensures { Steps result (tokens.part_step quote byte self) }
+    pub(crate) fn step(self, quote: u8, byte: u8) -> Option<(QuotedState, Ended)>
+        ensures { Steps result (tokens.quoted_step quote byte self) }
     {
         match self {
-            Part::Between => raw(byte),
-            Part::Backslash => escape(quote, byte),
-            Part::Unit(0, _) if byte == b'{' => Some((Part::Brace, Ended::Nothing)),
-            Part::Unit(digits, number) => {
+            QuotedState::Between => raw(byte),
+            QuotedState::Backslash => escape(quote, byte),
+            QuotedState::Unit(0, _) if byte == b'{' => Some((QuotedState::Brace, Ended::Nothing)),
+            QuotedState::Unit(digits, number) => {
                 let number = digits::with_digit(number, byte)?;
                 if digits < 3 {
-                    Some((Part::Unit(digits + 1, number), Ended::Nothing))
+                    Some((QuotedState::Unit(digits + 1, number), Ended::Nothing))
                 } else if digits::is_high(number) {
-                    Some((Part::High(number), Ended::Nothing))
+                    Some((QuotedState::High(number), Ended::Nothing))
                 } else {
                     whole(number)
                 }
             }
-            Part::High(high) => followed(byte, b'\\', Part::HighBackslash(high)),
-            Part::HighBackslash(high) => followed(byte, b'u', Part::LowUnit(high, 0, 0)),
-            Part::LowUnit(high, digits, number) => {
+            QuotedState::High(high) => state_behind(byte, b'\\', QuotedState::HighBackslash(high)),
+            QuotedState::HighBackslash(high) => state_behind(
+                byte,
+                b'u',
+                QuotedState::LowUnit(high, 0, 0),
+            ),
+            QuotedState::LowUnit(high, digits, number) => {
                 let number = digits::with_digit(number, byte)?;
                 if digits < 3 {
-                    Some((Part::LowUnit(high, digits + 1, number), Ended::Nothing))
+                    Some((
+                        QuotedState::LowUnit(high, digits + 1, number),
+                        Ended::Nothing,
+                    ))
                 } else {
                     whole(digits::of_pair(high, number)?)
                 }
             }
-            Part::Brace => {
+            QuotedState::Brace => {
                 let number = digits::with_digit(0, byte)?;
-                Some((Part::Braced(number), Ended::Nothing))
+                Some((QuotedState::Braced(number), Ended::Nothing))
             }
-            Part::Braced(number) if byte == b'}' => whole(number),
-            Part::Braced(number) => {
+            QuotedState::Braced(number) if byte == b'}' => whole(number),
+            QuotedState::Braced(number) => {
                 let number = digits::with_digit(number, byte)?;
-                Some((Part::Braced(number), Ended::Nothing))
+                Some((QuotedState::Braced(number), Ended::Nothing))
             }
         }
     }
 }
 
 /// The state behind this byte, where the wanted one stands.
-fn followed(byte: u8, wanted: u8, next: Part) -> Option<(Part, Ended)>
+fn state_behind(byte: u8, wanted: u8, next: QuotedState) -> Option<(QuotedState, Ended)>
     ensures { Steps result (if byte == wanted then Some (next, []) else None) }
 {
     if byte == wanted {
@@ -217,37 +231,37 @@ fn followed(byte: u8, wanted: u8, next: Part) -> Option<(Part, Ended)>
 }
 
 /// A character that ends a part, where the number is that of one.
-fn whole(number: u32) -> Option<(Part, Ended)>
+fn whole(number: u32) -> Option<(QuotedState, Ended)>
     ensures { Steps result (tokens.whole number) }
 {
     let character = char::from_u32(number)?;
-    Some((Part::Between, Ended::Character(character)))
+    Some((QuotedState::Between, Ended::Character(character)))
 }
 
 /// A byte between two characters.
-fn raw(byte: u8) -> Option<(Part, Ended)>
+fn raw(byte: u8) -> Option<(QuotedState, Ended)>
     ensures { Steps result (tokens.raw_step byte) }
 {
     match byte {
-        b'\\' => Some((Part::Backslash, Ended::Nothing)),
-        b'\r' => Some((Part::Between, Ended::Nothing)),
-        b'\n' | 32..=255 => Some((Part::Between, Ended::Byte(byte))),
+        b'\\' => Some((QuotedState::Backslash, Ended::Nothing)),
+        b'\r' => Some((QuotedState::Between, Ended::Nothing)),
+        b'\n' | 32..=255 => Some((QuotedState::Between, Ended::Byte(byte))),
         _ => None,
     }
 }
 
 /// The byte behind a backslash.
-fn escape(quote: u8, byte: u8) -> Option<(Part, Ended)>
+fn escape(quote: u8, byte: u8) -> Option<(QuotedState, Ended)>
     ensures { Steps result (tokens.escape_step quote byte) }
 {
     if byte == b'u' {
-        return Some((Part::Unit(0, 0), Ended::Nothing));
+        return Some((QuotedState::Unit(0, 0), Ended::Nothing));
     }
     if byte == quote {
-        return Some((Part::Between, Ended::Byte(byte)));
+        return Some((QuotedState::Between, Ended::Byte(byte)));
     }
     let escaped = by_letter(byte)?;
-    Some((Part::Between, Ended::Byte(escaped)))
+    Some((QuotedState::Between, Ended::Byte(escaped)))
 }
 
 /// The character that a letter behind a backslash stands for.
@@ -265,26 +279,36 @@ fn by_letter(letter: u8) -> Option<u8>
     }
 }
 
-impl State for InLiteral {
-    ghost table = { tokens.literal };
+impl State for LiteralState {
+    ghost automaton = { tokens.literal };
 
-    fn step(self, byte: u8) -> Option<InLiteral> {
+    fn step(self, byte: u8) -> Option<LiteralState> {
         match (self, byte) {
-            (InLiteral::Start, b'"') => Some(InLiteral::Inside(Quote::Double, Part::Between)),
-            (InLiteral::Start | InLiteral::Lower | InLiteral::Upper, b'\'') => {
-                Some(InLiteral::Inside(Quote::Single, Part::Between))
+            (LiteralState::Start, b'"') => Some(LiteralState::Inside(
+                Quote::Double,
+                QuotedState::Between,
+            )),
+            (LiteralState::Start | LiteralState::Lower | LiteralState::Upper, b'\'') => {
+                Some(LiteralState::Inside(Quote::Single, QuotedState::Between))
             }
-            (InLiteral::Start, b'a'..=b'z') => Some(InLiteral::Lower),
-            (InLiteral::Start, b'A'..=b'Z') => Some(InLiteral::Upper),
-            (InLiteral::Lower, b'a'..=b'z' | b'0'..=b'9') => Some(InLiteral::Lower),
-            (InLiteral::Upper, b'A'..=b'Z' | b'0'..=b'9') => Some(InLiteral::Upper),
-            (InLiteral::Inside(quote, part), _) => between(quote, part, byte),
+            (LiteralState::Start, b'a'..=b'z') => Some(LiteralState::Lower),
+            (LiteralState::Start, b'A'..=b'Z') => Some(LiteralState::Upper),
+            (LiteralState::Lower, b'a'..=b'z' | b'0'..=b'9') => Some(LiteralState::Lower),
+            (LiteralState::Upper, b'A'..=b'Z' | b'0'..=b'9') => Some(LiteralState::Upper),
+            (LiteralState::Inside(quote, part), _) => between(quote, part, byte),
             _ => None,
         }
     }
 
+    fn is_kept_by(self, byte: u8) -> bool {
+        match self {
+            LiteralState::Inside(quote, QuotedState::Between) => quote.is_plain(byte),
+            _ => false,
+        }
+    }
+
     fn is_final(self) -> bool {
-        matches!(self, InLiteral::Closed)
+        matches!(self, LiteralState::Closed)
     }
 
     ghost stays = { literal_stays };
@@ -293,32 +317,32 @@ impl State for InLiteral {
 }
 
 /// The state behind a byte that stands behind the first quote.
-fn between(quote: Quote, part: Part, byte: u8) -> Option<InLiteral>
-    ensures { result ≡ tokens.literal_step byte (InLiteral.Inside quote part) }
+fn between(quote: Quote, part: QuotedState, byte: u8) -> Option<LiteralState>
+    ensures { result ≡ tokens.literal_step byte (LiteralState.Inside quote part) }
 {
-    if part == Part::Between && byte == quote.byte() {
-        return Some(InLiteral::Closed);
+    if part == QuotedState::Between && byte == quote.byte() {
+        return Some(LiteralState::Closed);
     }
     let (part, _) = part.step(quote.byte(), byte)?;
-    Some(InLiteral::Inside(quote, part))
+    Some(LiteralState::Inside(quote, part))
 }
 
-impl State for InDots {
-    ghost table = { tokens.dots };
+impl State for DotsState {
+    ghost automaton = { tokens.dots };
 
-    fn step(self, byte: u8) -> Option<InDots> {
+    fn step(self, byte: u8) -> Option<DotsState> {
         if byte != b'.' {
             return None;
         }
         match self {
-            InDots::None => Some(InDots::One),
-            InDots::One => Some(InDots::Two),
-            InDots::Two | InDots::Enough => Some(InDots::Enough),
+            DotsState::None => Some(DotsState::One),
+            DotsState::One => Some(DotsState::Two),
+            DotsState::Two | DotsState::Enough => Some(DotsState::Enough),
         }
     }
 
     fn is_final(self) -> bool {
-        matches!(self, InDots::Enough)
+        matches!(self, DotsState::Enough)
     }
 
     ghost stays = { dots_stays };

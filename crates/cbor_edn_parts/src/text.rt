@@ -1,8 +1,8 @@
 //! The text that is parsed.
 ghost use Rattle.std.specs.Prelude.{◌≡◌, ◌+◌, ◌-◌, ◌≤◌, length, slice_range, ◌<◌, IfSome, ◌^◌};
 ghost use Rattle.std.specs.Str.{IsCharBoundary};
-ghost use Rattle.cbor_edn_parts.specs.code.Scans.{IsAt};
-ghost use Rattle.cbor_edn_parts.specs.code.Text.{text_bytes};
+ghost use Rattle.cbor_edn_parts.specs.internal.Scans.{IsAt};
+ghost use Rattle.cbor_edn_parts.specs.internal.Text.{text_bytes};
 
 use crate::looks::Looks;
 

@@ -1,5 +1,5 @@
-//! The callers of `cbor_edn_uses`, each once where it answers and where it does not.
-use cbor_edn_uses::{shipped, shown};
+//! The callers of `cbor_edn_examples`, each once where it answers and where it does not.
+use cbor_edn_examples::{shipped, shown};
 use std::test::Fail;
 
 #[test]

@@ -172,7 +172,7 @@ fn tells_digits(rt: HostRuntime) -> Result<(), Fail> {
     failures.end()
 }
 
-// The line of a text whose first mark past the limit is so many bytes behind its beginning.
+// The line of a text whose first opening past the limit is so many bytes behind its beginning.
 fn deep_text(alloc: Global, at: usize) -> Result<String, Fail> {
     let words = "cbor-edn: Error parsing input data: EDN nested too deeply in line 1 column";
     let column = at.saturating_add(1);

@@ -50,7 +50,7 @@ fn end_of(cause: Cause, is_told: bool) -> RunError {
     }
 }
 
-// A fault, whether it is told, and the words of the end that it becomes, by the declarations of `RunError` and of the faults.
+// A fault, whether it is told, and the message of the end that it becomes, by `docs/SUPPORTED.md` ("What refusals say").
 const ENDS: &[(Cause, bool, &str)] = &[
     (Cause::Memory, false, "Out of memory"),
     (

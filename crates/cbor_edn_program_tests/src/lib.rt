@@ -1,4 +1,4 @@
-//! Tests of the program's calls: the words of a command line, runs over devices, and the callers of `cbor_edn_uses`.
+//! Tests of the program's calls: the words of a command line, runs over devices, and the callers of `cbor_edn_examples`.
 #![tactic(auto)]
 
 #[cfg(test)]

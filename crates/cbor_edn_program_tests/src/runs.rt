@@ -287,7 +287,7 @@ fn few_bytes_a_call(rt: HostRuntime) -> Result<(), Fail> {
     failures.end()
 }
 
-// Inputs that no run takes, with no option on and with all, and the words of the fault: bytes that are no UTF-8, digits that
+// Inputs that no run takes, with no option on and with all, and the message of the fault: bytes that are no UTF-8, digits that
 // `docs/DECISIONS.md` says are a fault, and bytes that RFC 8949 says are not well-formed.
 const UNTAKEN: &[(Command, &[bool], &[u8], &str)] = &[
     (
@@ -322,7 +322,7 @@ const UNTAKEN: &[(Command, &[bool], &[u8], &str)] = &[
     ),
 ];
 
-// The words of a run's fault, where nothing is written.
+// The message of a run's fault, where nothing is written.
 fn untaken(alloc: Global, options: &Options, input: &[u8]) -> Result<String, Fail> {
     let mut sink = SlowSink::new(alloc, 1, None);
     let result = run(alloc, options, &mut StdSource::new(input), &mut sink);
@@ -382,8 +382,8 @@ fn answer_of(alloc: Global, status: u8, written: &[u8], told: &[u8]) -> Result<S
     Ok(format!(in alloc; "status {status}, written {digits}, told {line}")?)
 }
 
-// Texts, the status of a run, what it writes and what it tells: bytes by RFC 8949, statuses by the repository's `README.md`, and the words
-// of the faults, with the first byte that no text goes on with.
+// Texts, the status of a run, what it writes and what it tells: bytes by RFC 8949, statuses by the repository's `README.md`, and the
+// messages of the faults, with the first byte that no text goes on with.
 const SERVED: &[(&[u8], u8, &[u8], &str)] = &[
     (TEXT, 0, BYTES, ""),
     (b"1 2,", 0, b"\x01\x02", ""),
@@ -421,7 +421,7 @@ fn served(rt: HostRuntime) -> Result<(), Fail> {
     failures.end()
 }
 
-// At which call the source or the sink fails, and the words of the fault.
+// At which call the source or the sink fails, and the message of the fault.
 const FAULTY: &[(Option<usize>, Option<usize>, &str)] = &[
     (Some(0), None, "cbor-edn: Error reading input\n"),
     (None, Some(0), "cbor-edn: Error writing output\n"),
@@ -450,7 +450,7 @@ fn served_by_failing_devices(rt: HostRuntime) -> Result<(), Fail> {
     failures.end()
 }
 
-// Each fault of a run, and the words that its declaration gives it.
+// Each fault of a run, and its message by `docs/SUPPORTED.md` ("What refusals say").
 #[test]
 fn words_of_faults(rt: HostRuntime) -> Result<(), Fail> {
     let alloc = rt.alloc();

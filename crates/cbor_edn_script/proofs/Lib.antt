@@ -1,6 +1,6 @@
-pub mod Paths
-pub mod Turns
+pub mod PathsKept
+pub mod EditTurns
 pub mod ChangedItems
 pub mod SameItems
-pub mod EditedItems
-pub mod ReadingBack
+pub mod EditsOnItems
+pub mod SpelledIsRead

@@ -2,25 +2,25 @@
 use Rattle.std.proofs.Common.{ℕ, ℤ, ◌≡◌, ◌==◌, Bool, true, false, if◌then◌else◌, List, [], ◌∷◌, map, Option, Some, None, Result, Ok, Err, refl, sym, ap, ◌∙◌, subst}
 use Rattle.std.specs.Prelude.{codes, option_map, option_and_then}
 use Rattle.cbor_edn_parts.specs.declared.indicator.Indicator.{Indicator}
-use Rattle.cbor_edn_parts.specs.code.ContentReading.{literal_content}
-use Rattle.cbor_edn_parts.specs.code.NumberReading.{integer_of}
+use Rattle.cbor_edn_parts.specs.internal.ContentReading.{literal_content}
+use Rattle.cbor_edn_parts.specs.internal.NumberReading.{integer_of}
 use Rattle.cbor_edn_literals.specs.declared.address.IpVersion.{IpVersion}
 use Rattle.cbor_edn_literals.specs.declared.address.IpVersion.TheVariants.{V4, V6}
-use Rattle.cbor_edn_model.specs.Accessed.{joined, only_bytes, piece_bytes, string_bytes, strings_bytes, item_bytes, array_items, entries_inside, entries, element, number_text}
-use Rattle.cbor_edn_model.specs.declared.label.LabelKind.TheVariants as label
-use Rattle.cbor_edn_model.specs.Items as kind
-use Rattle.cbor_edn_model.specs.Items.{Elements, Strings, Array, Map, Item, Piece, Pieces, Entries, Node}
-use Rattle.cbor_edn_model.specs.Meaning.{means}
-use Rattle.cbor_edn_model.specs.Paths.{with_item}
-use Rattle.cbor_edn_model.specs.Seeking.{Told}
-use Rattle.cbor_edn_model.specs.Trees.{Tree, OneItem, OnePiece, OneString, Rest, Inside, NumberTree, FloatTree, NamedTree, EnclosedTree, ListTree, StringTree, StreamTree, LiteralTree, DotsTree, EmbeddedTree, LastPieceTree, PlusTree, ElementTree, ChunkTree, EmptyTree, FullTree, LastTree, MoreTree, StandaloneTree, mark, items}
-use Rattle.cbor_edn_model.specs.Visits.{Answer, fine, comment, no_memory}
-use Rattle.cbor_edn_model.proofs.meaning.MeaningSteps.{some_is}
+use Rattle.cbor_edn_model.specs.access.Accessed.{both_joined, only_bytes, piece_bytes, pieces_bytes, strings_bytes, item_bytes, array_items, entries_inside, entries, element, number_text}
+use Rattle.cbor_edn_model.specs.declared.text.label.LabelKind.TheVariants as label
+use Rattle.cbor_edn_model.specs.tree.Items as kind
+use Rattle.cbor_edn_model.specs.tree.Items.{Elements, Strings, Array, Map, Item, Piece, Pieces, Entries, Node}
+use Rattle.cbor_edn_model.specs.cbor.Meaning.{means}
+use Rattle.cbor_edn_model.specs.access.Paths.{with_item}
+use Rattle.cbor_edn_model.specs.visit.Seeking.{CallArguments}
+use Rattle.cbor_edn_model.specs.tree.Trees.{Tree, OneItem, OnePiece, OneString, Rest, Inside, NumberTree, FloatTree, NamedTree, EnclosedTree, ListTree, StringTree, StreamTree, LiteralTree, DotsTree, EmbeddedTree, LastPieceTree, PlusTree, ElementTree, ChunkTree, EmptyTree, FullTree, LastTree, MoreTree, StandaloneTree, head_indicator, items}
+use Rattle.cbor_edn_model.specs.visit.Visits.{Answer, fine, comment, no_memory}
+use Rattle.cbor_edn_model.proofs.lemmas.cbor.MeaningSteps.{some_is}
 use Rattle.cbor_edn_conversions.specs.Addresses.{address_tag, address_prefix, address_item, whole_text, prefix_text, if_same, as_literal, with_first, as_first, by_length, by_first, by_elements, by_bytes, address_literal, address_of_tag, address_of_literal, resolve_address, pretty_address}
 use Rattle.cbor_edn_conversions.specs.All.{resolve_all, pretty_all}
 use Rattle.cbor_edn_conversions.specs.Bignums.{quoted_bytes, quoted_string_bytes, quoted_item_bytes, magnitude, bignum_integer, if_same_integer, integer_of_tag, bignum_of_tag, pretty_bignum}
 use Rattle.cbor_edn_conversions.specs.ConversionLaws.{Made}
-use Rattle.cbor_edn_conversions.specs.Conversions.{Words, Conversion, Reply, reply, and_then, converted, of_literal, tells, told_tag, is_narrowest, changed_encoding, without_tag, encoded, item_encoding, are_same, mean_the_same, integer_tree, literal_tree, tag_tree, in_tag}
+use Rattle.cbor_edn_conversions.specs.Conversions.{Message, Conversion, Reply, reply, and_then, converted, of_literal, tells, called_tag, is_narrowest, changed_encoding, without_tag, encoded, item_encoding, are_same, mean_the_same, integer_tree, literal_tree, tag_tree, in_tag}
 use Rattle.cbor_edn_conversions.specs.Integers.{within_128, item_integer}
 use Rattle.cbor_edn_conversions.specs.Tag999.{tag999_of_literal, to_tag999}
 use Rattle.cbor_edn_conversions.specs.Times.{is_plain, instant_by, instant_literal, time_literal, time_of_tag, time_of_literal, resolve_time, pretty_time}
@@ -78,18 +78,18 @@ then_same f same p q h = subst (λ (r : Answer). SameReply (and_then p f) (and_t
 
 -- ---- literals
 
-resolve_time_same : (a : Told) → SameAct (resolve_time a)
+resolve_time_same : (a : CallArguments) → SameAct (resolve_time a)
 unfolding resolve_time
 resolve_time_same a w v e = reply_same (of_literal time_of_literal a) (of_literal time_of_literal a) w v e (any_refl (of_literal time_of_literal a))
 
-resolve_address_same : (a : Told) → SameAct (resolve_address a)
+resolve_address_same : (a : CallArguments) → SameAct (resolve_address a)
 unfolding resolve_address
 resolve_address_same a w v e = reply_same (of_literal address_of_literal a) (of_literal address_of_literal a) w v e (any_refl (of_literal address_of_literal a))
 
-pub resolve_all_same : (a : Told) → SameAct (resolve_all a)
+pub resolve_all_same : (a : CallArguments) → SameAct (resolve_all a)
 resolve_all_same a w v e = then_same (resolve_address a) (resolve_address_same a) (resolve_time a w) (resolve_time a v) (resolve_time_same a w v e)
 
-pub tag999_same : (a : Told) → SameAct (to_tag999 a)
+pub tag999_same : (a : CallArguments) → SameAct (to_tag999 a)
 unfolding to_tag999
 tag999_same a w v e = reply_same (of_literal tag999_of_literal a) (of_literal tag999_of_literal a) w v e (any_refl (of_literal tag999_of_literal a))
 
@@ -105,7 +105,7 @@ tag_of_items (Some p) = Some (p.0, p.1, items p.2)
 abbrev tag_if : Bool → ℕ → Option Indicator → Node Item → TagOf (Node Item)
 tag_if b n i x = if b then Some (n, i, x) else None
 
-abbrev node_tag : Told → Node Item → TagOf (Node Item)
+abbrev node_tag : CallArguments → Node Item → TagOf (Node Item)
 node_tag a (kind.Tagged n i x) = tag_if (tells a n) n i x
 node_tag a _ = None
 
@@ -113,16 +113,16 @@ if_tells : (b : Bool) (n : ℕ) (i : Option Indicator) (w : Tree OneItem) → ta
 if_tells true n i w = refl
 if_tells false n i w = refl
 
-told_items : (a : Told) (w : Tree OneItem) → tag_of_items (told_tag a w) ≡ node_tag a (items w)
+called_items : (a : CallArguments) (w : Tree OneItem) → tag_of_items (called_tag a w) ≡ node_tag a (items w)
 unfolding items
-told_items a (NumberTree x i) = refl
-told_items a (FloatTree f i) = refl
-told_items a (NamedTree b) = refl
-told_items a (EnclosedTree (label.Tag i n) (StandaloneTree s w t)) = if_tells (tells a n) n i w
-told_items a (EnclosedTree label.Simple w) = refl
-told_items a (ListTree k w) = refl
-told_items a (StringTree w) = refl
-told_items a (StreamTree s m) = refl
+called_items a (NumberTree x i) = refl
+called_items a (FloatTree f i) = refl
+called_items a (NamedTree b) = refl
+called_items a (EnclosedTree (label.Tag i n) (StandaloneTree s w t)) = if_tells (tells a n) n i w
+called_items a (EnclosedTree label.Simple w) = refl
+called_items a (ListTree k w) = refl
+called_items a (StringTree w) = refl
+called_items a (StreamTree s m) = refl
 
 abbrev SameTag : TagOf (Tree OneItem) → TagOf (Tree OneItem) → Type 0
 SameTag None None = Unit {0}
@@ -137,8 +137,8 @@ tag_is (Some p) (Some q) e =
     let same : (p.0, p.1, items p.2) ≡ (q.0, q.1, items q.2) = some_is (p.0, p.1, items p.2) (q.0, q.1, items q.2) e in
     (ap (λ (t : ℕ × Option Indicator × Node Item). t.0) same, ap (λ (t : ℕ × Option Indicator × Node Item). t.1) same, ap (λ (t : ℕ × Option Indicator × Node Item). t.2) same)
 
-told_same : (a : Told) (w v : Tree OneItem) → items w ≡ items v → SameTag (told_tag a w) (told_tag a v)
-told_same a w v e = tag_is (told_tag a w) (told_tag a v) (told_items a w ∙ (ap (node_tag a) e ∙ sym (told_items a v)))
+called_same : (a : CallArguments) (w v : Tree OneItem) → items w ≡ items v → SameTag (called_tag a w) (called_tag a v)
+called_same a w v e = tag_is (called_tag a w) (called_tag a v) (called_items a w ∙ (ap (node_tag a) e ∙ sym (called_items a v)))
 
 -- ---- what accessors answer, of items alone
 
@@ -179,27 +179,27 @@ integer_same : (w v : Tree OneItem) → items w ≡ items v → item_integer w �
 integer_same w v e = ap (λ o. option_and_then within_128 (option_and_then integer_of o)) (number_items w ∙ (ap node_number e ∙ sym (number_items v)))
 
 abbrev node_pieces : Node Pieces → Option (List ℕ)
-node_pieces (kind.LastPiece p) = joined (only_bytes (means p)) (Some [])
-node_pieces (kind.Plus p w) = joined (only_bytes (means p)) (node_pieces w)
+node_pieces (kind.LastPiece p) = both_joined (only_bytes (means p)) (Some [])
+node_pieces (kind.Plus p w) = both_joined (only_bytes (means p)) (node_pieces w)
 
 abbrev node_strings : Node (Entries Strings) → Option (List ℕ)
 node_strings kind.End = Some []
-node_strings (kind.Then (kind.Chunk w) m) = joined (node_pieces w) (node_strings m)
+node_strings (kind.Then (kind.Chunk w) m) = both_joined (node_pieces w) (node_strings m)
 
 abbrev node_bytes : Node Item → Option (List ℕ)
 node_bytes (kind.String w) = node_pieces w
 node_bytes (kind.Stream m) = node_strings m
 node_bytes _ = None
 
-pieces_items : (w : Tree OneString) → string_bytes w ≡ node_pieces (items w)
+pieces_items : (w : Tree OneString) → pieces_bytes w ≡ node_pieces (items w)
 unfolding items
 pieces_items (LastPieceTree p) = refl
-pieces_items (PlusTree p s t w) = ap (joined (piece_bytes p)) (pieces_items w)
+pieces_items (PlusTree p s t w) = ap (both_joined (piece_bytes p)) (pieces_items w)
 
 strings_items : (m : Tree (Rest Strings)) → strings_bytes m ≡ node_strings (items m)
 unfolding items
-strings_items (LastTree (ChunkTree w) s) = ap (λ o. joined o (Some [])) (pieces_items w)
-strings_items (MoreTree (ChunkTree w) s m) = ap (λ o. joined o (strings_bytes m)) (pieces_items w) ∙ ap (joined (node_pieces (items w))) (strings_items m)
+strings_items (LastTree (ChunkTree w) s) = ap (λ o. both_joined o (Some [])) (pieces_items w)
+strings_items (MoreTree (ChunkTree w) s m) = ap (λ o. both_joined o (strings_bytes m)) (pieces_items w) ∙ ap (both_joined (node_pieces (items w))) (strings_items m)
 
 bytes_items : (w : Tree OneItem) → item_bytes w ≡ node_bytes (items w)
 unfolding items
@@ -257,7 +257,7 @@ node_quoted_piece _ = None
 
 abbrev node_quoted_pieces : Node Pieces → Option (List ℕ)
 node_quoted_pieces (kind.LastPiece p) = node_quoted_piece p
-node_quoted_pieces (kind.Plus p w) = joined (node_quoted_piece p) (node_quoted_pieces w)
+node_quoted_pieces (kind.Plus p w) = both_joined (node_quoted_piece p) (node_quoted_pieces w)
 
 abbrev node_quoted : Node Item → Option (List ℕ)
 node_quoted (kind.String w) = node_quoted_pieces w
@@ -273,7 +273,7 @@ quoted_piece_items (EmbeddedTree w i) = refl
 quoted_pieces_items : (w : Tree OneString) → quoted_string_bytes w ≡ node_quoted_pieces (items w)
 unfolding items
 quoted_pieces_items (LastPieceTree p) = quoted_piece_items p
-quoted_pieces_items (PlusTree p s t w) = ap (λ o. joined o (quoted_string_bytes w)) (quoted_piece_items p) ∙ ap (joined (node_quoted_piece (items p))) (quoted_pieces_items w)
+quoted_pieces_items (PlusTree p s t w) = ap (λ o. both_joined o (quoted_string_bytes w)) (quoted_piece_items p) ∙ ap (both_joined (node_quoted_piece (items p))) (quoted_pieces_items w)
 
 quoted_items : (w : Tree OneItem) → quoted_item_bytes w ≡ node_quoted (items w)
 unfolding items
@@ -311,9 +311,9 @@ time_of_same (Some (n, i, w)) (Some (m, j, v)) h = subst (λ k. SameIfAny (time_
     by_number true = without_same i n (time_literal w true) (time_literal v true) (conversion_is (time_literal w true) (time_literal v true) (time_same w v true h.2))
     by_number false = tt
 
-pretty_time_same : (a : Told) → SameAct (pretty_time a)
+pretty_time_same : (a : CallArguments) → SameAct (pretty_time a)
 unfolding pretty_time
-pretty_time_same a w v e = reply_same (time_of_tag (told_tag a w)) (time_of_tag (told_tag a v)) w v e (time_of_same (told_tag a w) (told_tag a v) (told_same a w v e))
+pretty_time_same a w v e = reply_same (time_of_tag (called_tag a w)) (time_of_tag (called_tag a v)) w v e (time_of_same (called_tag a w) (called_tag a v) (called_same a w v e))
 
 -- ---- bignums
 
@@ -343,11 +343,11 @@ bignum_of_same (Some (n, None, w)) (Some (m, Some j, v)) h = let bad = h.1 in ab
 bignum_of_same (Some (n, None, w)) (Some (m, None, v)) h =
     integer_of_same n w v (quoted_item_bytes w) h.2 ∙ (ap (integer_of_tag n v) (quoted_same w v h.2) ∙ ap (λ k. integer_of_tag k v (quoted_item_bytes v)) h.0)
 
-pretty_bignum_same : (a : Told) → SameAct (pretty_bignum a)
+pretty_bignum_same : (a : CallArguments) → SameAct (pretty_bignum a)
 unfolding pretty_bignum
 pretty_bignum_same a w v e =
-    reply_same (bignum_of_tag (told_tag a w)) (bignum_of_tag (told_tag a v)) w v e
-    (any_is (bignum_of_tag (told_tag a w)) (bignum_of_tag (told_tag a v)) (bignum_of_same (told_tag a w) (told_tag a v) (told_same a w v e)))
+    reply_same (bignum_of_tag (called_tag a w)) (bignum_of_tag (called_tag a v)) w v e
+    (any_is (bignum_of_tag (called_tag a w)) (bignum_of_tag (called_tag a v)) (bignum_of_same (called_tag a w) (called_tag a v) (called_same a w v e)))
 
 -- ---- addresses
 
@@ -364,7 +364,7 @@ first_rest x (MoreTree (ElementTree w) s m) = refl
 first_inside : (x : Tree OneItem) (w : Tree (Inside Array)) → items (ListTree Array (with_item 0 x w)) ≡ changed 0 (λ _. items x) (items (ListTree Array w))
 unfolding items
 first_inside x (EmptyTree i s) = refl
-first_inside x (FullTree h s m) = ap (kind.Listed Array (mark h)) (first_rest x m)
+first_inside x (FullTree h s m) = ap (kind.Listed Array (head_indicator h)) (first_rest x m)
 
 first_items : (x w : Tree OneItem) (es : List (Tree OneItem)) → array_items w ≡ Some es → items (with_item 0 x w) ≡ changed 0 (λ _. items x) (items w)
 first_items x (ListTree Array w) es is = first_inside x w
@@ -376,7 +376,7 @@ first_items x (EnclosedTree l w) es is = absurd cc
 first_items x (StringTree w) es is = absurd cc
 first_items x (StreamTree s m) es is = absurd cc
 
-if_conversion : (b c : Bool) (x y : Tree OneItem) (e : Words) → b ≡ c → items x ≡ items y → SameConversion (if b then Ok x else Err e) (if c then Ok y else Err e)
+if_conversion : (b c : Bool) (x y : Tree OneItem) (e : Message) → b ≡ c → items x ≡ items y → SameConversion (if b then Ok x else Err e) (if c then Ok y else Err e)
 if_conversion true true x y e is same = same
 if_conversion false false x y e is same = refl
 if_conversion true false x y e is same = absurd cc
@@ -393,7 +393,7 @@ module _ (version : IpVersion) (wrap : Bool) (w v : Tree OneItem) (e : items w �
       if_conversion (mean_the_same (in_tag wrap (address_tag version) w) back) (mean_the_same (in_tag wrap (address_tag version) v) back) new new changed_encoding
       (mean_same (in_tag wrap (address_tag version) w) (in_tag wrap (address_tag version) v) back back wrapped refl) refl
 
-  literal_same : (t : Result (List ℕ) Words) → SameConversion (as_literal version wrap w t) (as_literal version wrap v t)
+  literal_same : (t : Result (List ℕ) Message) → SameConversion (as_literal version wrap w t) (as_literal version wrap v t)
   literal_same (Err f) = refl
   literal_same (Ok t) = literal_if (literal_tree (address_prefix wrap) t) (address_item wrap t)
 
@@ -413,7 +413,7 @@ module _ (version : IpVersion) (wrap : Bool) (w v : Tree OneItem) (e : items w �
         if_conversion (mean_the_same (in_tag wrap (address_tag version) w) (with_first version wrap w x)) (mean_the_same (in_tag wrap (address_tag version) v) (with_first version wrap v x)) (with_first version wrap w new) (with_first version wrap v new) changed_encoding
         (mean_same (in_tag wrap (address_tag version) w) (in_tag wrap (address_tag version) v) (with_first version wrap w x) (with_first version wrap v x) wrapped (put_same x)) (put_same new)
 
-    first_same : (t : Result (List ℕ) Words) → SameConversion (as_first version wrap w t) (as_first version wrap v t)
+    first_same : (t : Result (List ℕ) Message) → SameConversion (as_first version wrap w t) (as_first version wrap v t)
     first_same (Err f) = refl
     first_same (Ok t) = first_if (literal_tree (address_prefix false) t) (address_item false t)
 
@@ -463,11 +463,11 @@ address_of_same (Some (n, i, w)) (Some (m, j, v)) h = subst (λ k. SameIfAny (ad
     by_number false true = without_same i n (address_literal w V6 true) (address_literal v V6 true) (address_same V6 true w v h.2)
     by_number false false = tt
 
-pretty_address_same : (a : Told) → SameAct (pretty_address a)
+pretty_address_same : (a : CallArguments) → SameAct (pretty_address a)
 unfolding pretty_address
-pretty_address_same a w v e = reply_same (address_of_tag (told_tag a w)) (address_of_tag (told_tag a v)) w v e (address_of_same (told_tag a w) (told_tag a v) (told_same a w v e))
+pretty_address_same a w v e = reply_same (address_of_tag (called_tag a w)) (address_of_tag (called_tag a v)) w v e (address_of_same (called_tag a w) (called_tag a v) (called_same a w v e))
 
-pub pretty_all_same : (a : Told) → SameAct (pretty_all a)
+pub pretty_all_same : (a : CallArguments) → SameAct (pretty_all a)
 pretty_all_same a w v e =
     then_same (pretty_bignum a) (pretty_bignum_same a) (and_then (pretty_time a w) (pretty_address a)) (and_then (pretty_time a v) (pretty_address a))
     (then_same (pretty_address a) (pretty_address_same a) (pretty_time a w) (pretty_time a v) (pretty_time_same a w v e))
@@ -475,5 +475,5 @@ pretty_all_same a w v e =
 -- ---- what calls make of items
 
 -- they make one thing of an item
-pub makes_one : (act : Told → Tree OneItem → Reply) → ((a : Told) → SameAct (act a)) → (a : Told) (x y z : Node Item) → Made act a x y → Made act a x z → y ≡ z
+pub makes_one : (act : CallArguments → Tree OneItem → Reply) → ((a : CallArguments) → SameAct (act a)) → (a : CallArguments) (x y z : Node Item) → Made act a x y → Made act a x z → y ≡ z
 makes_one act same a x y z h k = sym h.2 ∙ ((same a h.0 k.0 (h.1 ∙ sym k.1)).1 ∙ k.2)

@@ -1,13 +1,13 @@
 -- What edits make of items, whatever the spaces between them.
 use Rattle.std.specs.Prelude.{ℕ, ◌≡◌, ◌≢◌, List, None}
 use Rattle.cbor_edn_parts.specs.declared.policy.DelimiterPolicy.TheVariants as policies
-use Rattle.cbor_edn_core.specs.View.{item_tree}
-use Rattle.cbor_edn_model.specs.Bare.{bare}
-use Rattle.cbor_edn_model.specs.Fewer.{Fewer}
-use Rattle.cbor_edn_model.specs.Items.{Items, Tagged}
-use Rattle.cbor_edn_model.specs.Seeking.{Told, IsTag, IsApplication}
-use Rattle.cbor_edn_model.specs.Trees.{Tree, OneItem, Seq, items}
-use Rattle.cbor_edn_model.specs.Visits.{cut}
+use Rattle.cbor_edn_core.specs.tree.View.{item_tree}
+use Rattle.cbor_edn_model.specs.layout.Bare.{bare}
+use Rattle.cbor_edn_model.specs.layout.Fewer.{Fewer}
+use Rattle.cbor_edn_model.specs.tree.Items.{Items, Tagged}
+use Rattle.cbor_edn_model.specs.visit.Seeking.{CallArguments, IsTag, IsApplication}
+use Rattle.cbor_edn_model.specs.tree.Trees.{Tree, OneItem, Seq, items}
+use Rattle.cbor_edn_model.specs.visit.Visits.{cut}
 use Rattle.cbor_edn_conversions.specs.All.{resolve_all, pretty_all}
 use Rattle.cbor_edn_conversions.specs.ConversionLaws.{Made}
 use Rattle.cbor_edn_conversions.specs.Tag999.{to_tag999}
@@ -30,7 +30,7 @@ EditedBy edit.Resolve x y = VisitedNode IsApplicationNode (Made resolve_all) _ x
 EditedBy edit.To999 x y = VisitedNode IsApplicationNode (Made to_tag999) _ x y
 
 -- What a visit that was cut short leaves of the items of a tree, with any spaces.
-abbrev pub IsCutShort : (Tree OneItem → Told → Type 0) → Act → Items → Items → Type 0
+abbrev pub IsCutShort : (Tree OneItem → CallArguments → Type 0) → Act → Items → Items → Type 0
 IsCutShort IsSought act x y = (w v : Tree Seq) × (items w ≡ x) × (items v ≡ y) × IsVisited IsSought act w cut v
 
 -- What one edit may leave where memory is refused.

@@ -1,16 +1,16 @@
 -- What edits make of a sequence, spaces included.
 use Rattle.std.specs.Prelude.{ℕ, zero, suc, ◌≡◌, ◌≢◌, List, [], ◌∷◌, option_map, unwrap_or, string_bytes}
 use Rattle.cbor_edn_parts.specs.declared.policy.DelimiterPolicy.TheVariants as policies
-use Rattle.cbor_edn_core.specs.Constructed.{tagged_tree}
-use Rattle.cbor_edn_core.specs.View.{item_tree}
-use Rattle.cbor_edn_model.specs.Bare.{without_indicators}
-use Rattle.cbor_edn_model.specs.Decoded.{alone}
-use Rattle.cbor_edn_model.specs.Fewer.{Fewer}
-use Rattle.cbor_edn_model.specs.Layout.{laid_out}
-use Rattle.cbor_edn_model.specs.Paths.{at_sequence, with_at_sequence}
-use Rattle.cbor_edn_model.specs.Trees.{Tree, Seq, items}
-use Rattle.cbor_edn_model.specs.Seeking.{IsTag, IsApplication}
-use Rattle.cbor_edn_model.specs.Visits.{whole, cut}
+use Rattle.cbor_edn_core.specs.tree.Constructed.{tagged_tree}
+use Rattle.cbor_edn_core.specs.tree.View.{item_tree}
+use Rattle.cbor_edn_model.specs.layout.Bare.{without_indicators}
+use Rattle.cbor_edn_model.specs.cbor.Decoded.{alone}
+use Rattle.cbor_edn_model.specs.layout.Fewer.{Fewer}
+use Rattle.cbor_edn_model.specs.layout.Layout.{laid_out}
+use Rattle.cbor_edn_model.specs.access.Paths.{at_sequence, with_at_sequence}
+use Rattle.cbor_edn_model.specs.tree.Trees.{Tree, Seq, items}
+use Rattle.cbor_edn_model.specs.visit.Seeking.{IsTag, IsApplication}
+use Rattle.cbor_edn_model.specs.visit.Visits.{whole, cut}
 use Rattle.cbor_edn_conversions.specs.All.{resolve_all, pretty_all}
 use Rattle.cbor_edn_conversions.specs.Annotations.{commenting}
 use Rattle.cbor_edn_conversions.specs.Tag999.{to_tag999}

@@ -1,11 +1,11 @@
 -- Printed texts that are read back as the items that were printed.
 use Rattle.std.specs.Prelude.{ℕ, List, ◌≡◌, ◌≤◌}
 use Rattle.cbor_edn_parts.specs.declared.error.ParseError.{ParseError}
-use Rattle.cbor_edn_core.specs.Parsing.{Unparsed, ParsedSequence, ParsedStandalone}
-use Rattle.cbor_edn_core.specs.View.{sequence_tree, standalone_tree}
-use Rattle.cbor_edn_model.specs.Items.{Sort, Node, nesting}
-use Rattle.cbor_edn_model.specs.Spelling.{SpellsOne, SpellsSequence}
-use Rattle.cbor_edn_model.specs.Trees.{Tree, OneItem, Seq, Standalone, items, text}
+use Rattle.cbor_edn_core.specs.text.Parsing.{Unparsed, ParsedSequence, ParsedStandalone}
+use Rattle.cbor_edn_core.specs.tree.View.{sequence_tree, standalone_tree}
+use Rattle.cbor_edn_model.specs.tree.Items.{Sort, Node, nesting}
+use Rattle.cbor_edn_model.specs.text.Spelling.{SpellsOne, SpellsSequence}
+use Rattle.cbor_edn_model.specs.tree.Trees.{Tree, OneItem, Seq, Standalone, items, text}
 
 -- The text spells the items. By any limit that holds their nesting, a parser that says what `parse_within` does reads these items of it, and
 -- does not refuse it. (Want of memory is no refusal of the text.)

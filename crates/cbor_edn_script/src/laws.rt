@@ -1,5 +1,5 @@
 //! Laws of edits and of what they leave. Each function's contract is one, and its body does nothing.
-ghost use Rattle.cbor_edn_core.specs.View.{item_tree, sequence_tree, standalone_tree};
+ghost use Rattle.cbor_edn_core.specs.tree.View.{item_tree, sequence_tree, standalone_tree};
 ghost use Rattle.cbor_edn_script.specs.EditedItems.{EditsItems, BegunEditsItems, EditedOnce, ItemsEditedOnce};
 ghost use Rattle.cbor_edn_script.specs.ReadingBack.{ReadsBackItem, ReadsBackSequence, ReadsBackStandalone};
 

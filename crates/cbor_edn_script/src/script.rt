@@ -1,8 +1,8 @@
 //! Edits, and lists of them.
 ghost use Rattle.std.specs.Prelude.{◌≡◌, IfErr, OnOk, OnErr};
-ghost use Rattle.cbor_edn_core.specs.View.{item_tree, sequence_tree};
-ghost use Rattle.cbor_edn_model.specs.Paths.{with_at_sequence};
-ghost use Rattle.cbor_edn_model.specs.Trees.{items};
+ghost use Rattle.cbor_edn_core.specs.tree.View.{item_tree, sequence_tree};
+ghost use Rattle.cbor_edn_model.specs.access.Paths.{with_at_sequence};
+ghost use Rattle.cbor_edn_model.specs.tree.Trees.{items};
 ghost use Rattle.cbor_edn_script.specs.EditedItems.{Edited};
 ghost use Rattle.cbor_edn_script.specs.Edits.{tagged_at, IsEdited, IsBegun, AreEdited, AreBegun};
 ghost use Rattle.cbor_edn_script.specs.ReadingBack.{ReadsBackSequence};
@@ -51,7 +51,7 @@ pub fn run<'a>(
 ) -> Result<(), ScriptError>
     ensures edited { OnOk result (AreEdited edits.entry.items (sequence_tree sequence.old) (sequence_tree sequence.new)) }
     ensures items { OnOk result (Edited edits.entry.items (items (sequence_tree sequence.old)) (items (sequence_tree sequence.new))) }
-    ensures refused { IfErr result (λ e. AreBegun edits.entry.items e.done (sequence_tree sequence.old) (sequence_tree sequence.new)) }
+    ensures out_of_memory { IfErr result (λ e. AreBegun edits.entry.items e.done (sequence_tree sequence.old) (sequence_tree sequence.new)) }
     ensures read_back { ReadsBackSequence (sequence_tree sequence.new) }
 {
     let mut done: usize = 0;
@@ -103,7 +103,7 @@ fn tag_at<'a>(
     number: u64,
 ) -> Result<(), AllocError>
     ensures tagged { OnOk result (sequence_tree sequence.new ≡ tagged_at path.now number (sequence_tree sequence.old)) }
-    ensures refused { OnErr result (sequence_tree sequence.new ≡ sequence_tree sequence.old) }
+    ensures out_of_memory { OnErr result (sequence_tree sequence.new ≡ sequence_tree sequence.old) }
 {
     match sequence.at_mut(path) {
         Some(item) => item.put_into_tag(alloc, number),

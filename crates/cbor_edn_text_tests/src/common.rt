@@ -1,5 +1,5 @@
 //! What the tests compare: texts, bytes in hexadecimal digits, and the names of refusals.
-use cbor_edn_core::from_cbor::CborError;
+use cbor_edn_core::cbor::decode::CborError;
 use cbor_edn_core::tree::{Item, Sequence, StandaloneItem};
 use cbor_edn_expect::failures::Failures;
 use cbor_edn_expect::{digits_of, expect_row, name_of};

@@ -1,6 +1,6 @@
 //! Bytes, the texts that they are decoded as, and the same bytes back; and bytes that are refused.
 use crate::common::{cbor_error, decoded, decoded_item, repeated, stand_for_each_other};
-use cbor_edn_core::from_cbor::CborError;
+use cbor_edn_core::cbor::decode::CborError;
 use cbor_edn_core::tree::{Item, NESTING_LIMIT, Sequence, StandaloneItem};
 use cbor_edn_expect::failures::Failures;
 use cbor_edn_expect::{digits_of, expect_row, name_of};
@@ -50,7 +50,7 @@ const ROWS: &[(&str, &str)] = &[
     ("6508090a0c0d", "\"\\b\\t\n\\f\\r\""),
     ("640b101f20", "\"\\u{b}\\u{10}\\u{1f} \""),
     ("677fc3bcf09f9880", "\"\u{7f}\u{fc}\u{1f600}\""),
-    // tags and words
+    // tags and keywords
     ("d80100", "1_0(0)"),
     ("c2420100", "2(h'0100')"),
     ("c24101", "2(h'01')"),

@@ -31,7 +31,7 @@ fn accepts_standalone(alloc: Global, text: &str, limit: usize) -> bool {
     StandaloneItem::parse_within(alloc, text, limit).is_ok()
 }
 
-/// Texts, and how deep their items nest, by the rule in `docs/SUPPORTED.md`: each item of a sequence by itself, and words not at all.
+/// Texts, and how deep their items nest, by the rule in `docs/SUPPORTED.md`: each item of a sequence by itself, and keywords not at all.
 const NESTED: &[(&str, usize)] = &[
     ("1", 0),
     ("[]", 1),

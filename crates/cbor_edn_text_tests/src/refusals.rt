@@ -1,6 +1,6 @@
-//! The words and the places of refusals.
+//! The messages and the locations of refusals.
 use crate::common::{cbor_error, encoded, refusal};
-use cbor_edn_core::from_cbor::CborError;
+use cbor_edn_core::cbor::decode::CborError;
 use cbor_edn_expect::failures::Failures;
 use cbor_edn_expect::{expect, expect_row};
 use cbor_edn_parts::error::{InconsistentEdn, ParseError, ParseErrorKind};
@@ -25,7 +25,7 @@ fn see_refusal(
     Ok(())
 }
 
-/// Texts whose items may nest so deep, and where and why they are refused: the places by `docs/DECISIONS.md`, the words are
+/// Texts whose items may nest so deep, and where and why they are refused: the locations by `docs/DECISIONS.md`, the messages are
 /// this project's choice.
 const PLACES: &[(&str, usize, Place, bool, &str)] = &[
     // two lines, and a character of two bytes in front of the fault
@@ -85,7 +85,7 @@ fn words_of_parse_errors(rt: HostRuntime) -> Result<(), Fail> {
     failures.end()
 }
 
-/// Texts of the grammar in `docs/SUPPORTED.md`, why they mean nothing by it, and the words for that, which are this project's choice.
+/// Texts of the grammar in `docs/SUPPORTED.md`, why they mean nothing by it, and the messages for that ("What refusals say").
 const INCONSISTENT: &[(&str, InconsistentEdn, &str)] = &[
     (
         "1.0",
@@ -129,7 +129,7 @@ const INCONSISTENT: &[(&str, InconsistentEdn, &str)] = &[
     ),
 ];
 
-/// Refusals of other calls, and the words for them, which are this project's choice.
+/// Refusals of other calls, and the messages for them, by the same section.
 const UNTOLD: &[(InconsistentEdn, &str)] = &[
     (
         InconsistentEdn::InvalidIdentifier,
@@ -177,7 +177,7 @@ fn words_of_numbers_out_of_range(rt: HostRuntime) -> Result<(), Fail> {
 }
 
 /// Bytes, given in digits, why they are no item by RFC 8949, section 3 and appendix F, or out of scope by `docs/SUPPORTED.md`, and
-/// the words for that, which are this project's choice.
+/// the messages for that, which are this project's choice.
 const CBOR_ERRORS: &[(&str, CborError, &str)] = &[
     // a count takes no memory before its items are read
     (

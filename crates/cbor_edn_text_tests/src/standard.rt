@@ -2,7 +2,7 @@
 use crate::common::all_stand_for_each_other;
 use std::test::Fail;
 
-/// Numbers, words and tags.
+/// Numbers, keywords and tags.
 const SCALARS: &[(&str, &str)] = &[
     ("0", "00"),
     ("1", "01"),

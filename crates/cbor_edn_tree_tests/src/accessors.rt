@@ -60,7 +60,7 @@ fn tags_are_answered(rt: HostRuntime) -> Result<(), Fail> {
     expect("no tag", no_tag == Err(TypeMismatch::TaggedItem))
 }
 
-/// What an item is: the word of a named simple value, a number, a tag's head, a string of plain pieces, or nothing of these.
+/// What an item is: the keyword of a named simple value, a number, a tag's head, a string of plain pieces, or nothing of these.
 fn told_of(item: &Item<'_>, alloc: Global) -> Result<String, Fail> {
     if let Some(named) = item.get_named() {
         return Ok(String::from_str(alloc, named.as_str())?);
@@ -224,7 +224,7 @@ fn parts_of(alloc: Global, made: Made<'_>) -> Result<String, Fail> {
     }
 }
 
-/// Items, and their prefix and content, or the words of the refusal, by the docstring of `get_application_literal`.
+/// Items, and their prefix and content, or the message of the refusal, by the docstring of `get_application_literal`.
 const PARTS: &[(&str, Made<'static>, &str)] = &[
     ("b64", Made::Literal("b64", "a'b"), "b64 a'b"),
     (
@@ -274,7 +274,7 @@ fn numbers_have_no_items(rt: HostRuntime) -> Result<(), Fail> {
     expect("no map", no_map == Some(TypeMismatch::Map))
 }
 
-/// Refusals, and the words for them, which are this project's choice.
+/// Refusals, and the messages for them, which are this project's choice.
 const WORDS: &[(TypeMismatch, &str)] = &[
     (
         TypeMismatch::ApplicationLiteral,

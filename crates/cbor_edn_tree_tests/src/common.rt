@@ -128,7 +128,9 @@ fn edit_alone(
         item.set_comment(alloc, comment)?;
     }
     for &policy in policies {
+        let laid_out = item.serialize_laid_out(alloc, policy)?;
         item.set_delimiters(alloc, policy)?;
+        expect("text as laid out", item.serialize(alloc)? == laid_out)?;
     }
     Ok(item.serialize(alloc)?)
 }
@@ -150,7 +152,12 @@ pub(crate) fn edited_sequence(alloc: Global, text: &str, edit: Edit) -> Result<S
 fn edit_sequence(sequence: &mut Sequence<'_>, alloc: Global, edit: Edit) -> Result<String, Fail> {
     let (answer, is_done) = match edit {
         Edit::Bare => (sequence.discard_encoding_indicators(alloc), true),
-        Edit::LaidOut(policy) => (sequence.set_delimiters(alloc, policy), true),
+        Edit::LaidOut(policy) => {
+            let laid_out = sequence.serialize_laid_out(alloc, policy)?;
+            sequence.set_delimiters(alloc, policy)?;
+            expect("text as laid out", sequence.serialize(alloc)? == laid_out)?;
+            (Ok(()), true)
+        }
         Edit::Refused(policy) => (sequence.set_delimiters(alloc, policy), false),
     };
     expect("edit of a sequence", answer.is_ok() == is_done)?;
@@ -171,7 +178,12 @@ pub(crate) fn edited_item(alloc: Global, made: Made<'_>, edit: Edit) -> Result<S
 fn edit_item(item: &mut Item<'_>, alloc: Global, edit: Edit) -> Result<String, Fail> {
     let (answer, is_done) = match edit {
         Edit::Bare => (item.discard_encoding_indicators(alloc), true),
-        Edit::LaidOut(policy) => (item.set_delimiters(alloc, policy), true),
+        Edit::LaidOut(policy) => {
+            let laid_out = item.serialize_laid_out(alloc, policy)?;
+            item.set_delimiters(alloc, policy)?;
+            expect("text as laid out", item.serialize(alloc)? == laid_out)?;
+            (Ok(()), true)
+        }
         Edit::Refused(policy) => (item.set_delimiters(alloc, policy), false),
     };
     expect("edit of an item", answer.is_ok() == is_done)?;

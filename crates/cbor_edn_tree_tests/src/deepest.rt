@@ -5,7 +5,7 @@ ghost use Rattle.std.specs.Prelude.{⊤};
 use crate::common::{Edit, bare, edited_sequence, sequence_of, standalone_of};
 use crate::trees::is_own_copy;
 use cbor_edn_core::tree::{Item, NESTING_LIMIT, Sequence};
-use cbor_edn_core::visitor::MapValueHandler;
+use cbor_edn_core::visit::MapValueHandler;
 use cbor_edn_expect::failures::Failures;
 use cbor_edn_parts::error::{CallbackError, Fault};
 use cbor_edn_parts::policy::DelimiterPolicy;

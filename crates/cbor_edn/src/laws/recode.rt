@@ -2,16 +2,16 @@
 ghost use Rattle.std.specs.Prelude.{◌≡◌, ◌≢◌, ℕ, List, Some, IfOk};
 ghost use Rattle.std.specs.String.{string_bytes};
 ghost use Rattle.cbor_edn_parts.specs.Refusals.{IfTold};
-ghost use Rattle.cbor_edn_model.specs.Trees.{items};
-ghost use Rattle.cbor_edn_core.specs.View.{sequence_tree};
-ghost use Rattle.cbor_edn_model.specs.Spelling.{SpellsSequence};
-ghost use Rattle.cbor_edn_model.specs.Value.{Values, EncAll};
-ghost use Rattle.cbor_edn_model.specs.Meaning.{means};
-ghost use Rattle.cbor_edn_model.specs.Decoded.{NoSequence, IsTooDeepSequence};
+ghost use Rattle.cbor_edn_model.specs.tree.Trees.{items};
+ghost use Rattle.cbor_edn_core.specs.tree.View.{sequence_tree};
+ghost use Rattle.cbor_edn_model.specs.text.Spelling.{SpellsSequence};
+ghost use Rattle.cbor_edn_model.specs.cbor.Value.{Values, EncAll};
+ghost use Rattle.cbor_edn_model.specs.cbor.Meaning.{means};
+ghost use Rattle.cbor_edn_model.specs.cbor.Decoded.{NoSequence, IsTooDeepSequence};
 ghost use Rattle.cbor_edn.specs.Recoding.{IsTextOfItems};
 
 use crate::boxed::boxed;
-use cbor_edn_core::from_cbor::CborError;
+use cbor_edn_core::cbor::decode::CborError;
 use cbor_edn_core::tree::{NESTING_LIMIT, Sequence};
 use cbor_edn_parts::error::Fault;
 use cbor_edn_parts::policy::DelimiterPolicy;

@@ -1,13 +1,13 @@
 //! The items that address literals stand for.
 ghost use Rattle.std.specs.Prelude.{◌≡◌, ◌∷◌, [], ℕ, pos, map, List, Ok, Err, Some, None, IfOk, IfSome, IfNone, string_bytes};
 ghost use Rattle.cbor_edn_parts.specs.Refusals.{IfTold};
-ghost use Rattle.cbor_edn_model.specs.Seeking.{prefix_and_text};
+ghost use Rattle.cbor_edn_model.specs.visit.Seeking.{prefix_and_text};
 ghost use Rattle.cbor_edn_literals.specs.Address.{version_of};
-ghost use Rattle.cbor_edn_core.specs.Constructed.{comma_inside, element_tree};
-ghost use Rattle.cbor_edn_core.specs.Sought.{told_answer};
-ghost use Rattle.cbor_edn_core.specs.View.{item_tree};
-ghost use Rattle.cbor_edn_model.specs.Items.{Array};
-ghost use Rattle.cbor_edn_model.specs.Trees.{ListTree, ElementTree};
+ghost use Rattle.cbor_edn_core.specs.tree.Constructed.{comma_inside, element_tree};
+ghost use Rattle.cbor_edn_core.specs.visit.Sought.{sought_answer};
+ghost use Rattle.cbor_edn_core.specs.tree.View.{item_tree};
+ghost use Rattle.cbor_edn_model.specs.tree.Items.{Array};
+ghost use Rattle.cbor_edn_model.specs.tree.Trees.{ListTree, ElementTree};
 ghost use Rattle.cbor_edn_conversions.specs.Conversions.{in_tag, pair_tree, integer_tree, bytes_tree};
 ghost use Rattle.cbor_edn_conversions.specs.Addresses.{address_item, address_of_literal, address_tag, bytes_behind, read_item, resolve_address};
 ghost use Rattle.cbor_edn_application.specs.Acts.{ActsBy};
@@ -30,7 +30,7 @@ pub fn ip_aol_to_item<'a>(
     text: String,
     item: &mut Item<'a>,
 ) -> Result<(), CallbackError>
-    ensures { ActsBy resolve_address (prefix_and_text (string_bytes prefix) (string_bytes text)) (item_tree item.old) (told_answer result) (item_tree item.new) }
+    ensures { ActsBy resolve_address (prefix_and_text (string_bytes prefix) (string_bytes text)) (item_tree item.old) (sought_answer result) (item_tree item.new) }
 {
     let Some(wrap) = is_tag_wanted(prefix.as_str()) else {
         return Ok(());

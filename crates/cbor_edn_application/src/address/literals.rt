@@ -1,14 +1,14 @@
 //! The texts of items that are addresses, and the literals of these texts.
 ghost use Rattle.std.specs.Prelude.{◌≡◌, ℕ, Bool, List, map, option_map, Option, Some, Ok, Err, Result, IfOk, string_bytes};
 ghost use Rattle.cbor_edn_parts.specs.Refusals.{IfTold};
-ghost use Rattle.cbor_edn_model.specs.Accessed.{item_bytes, array_items};
-ghost use Rattle.cbor_edn_model.specs.Trees.{Tree, OneItem};
-ghost use Rattle.cbor_edn_core.specs.Iterated.{items_left};
-ghost use Rattle.cbor_edn_core.specs.View.{item_tree};
-ghost use Rattle.cbor_edn_conversions.specs.Conversions.{Words};
+ghost use Rattle.cbor_edn_model.specs.access.Accessed.{item_bytes, array_items};
+ghost use Rattle.cbor_edn_model.specs.tree.Trees.{Tree, OneItem};
+ghost use Rattle.cbor_edn_core.specs.access.Iterated.{items_left};
+ghost use Rattle.cbor_edn_core.specs.tree.View.{item_tree};
+ghost use Rattle.cbor_edn_conversions.specs.Conversions.{Message};
 ghost use Rattle.cbor_edn_application.specs.Placing.{with_placed};
 ghost use Rattle.cbor_edn_conversions.specs.Integers.{item_integer};
-ghost use Rattle.cbor_edn_conversions.specs.Addresses.{refusal_words, whole_text, prefix_text, as_literal, by_length, by_others, by_elements, address_literal};
+ghost use Rattle.cbor_edn_conversions.specs.Addresses.{refusal_message, whole_text, prefix_text, as_literal, by_length, by_others, by_elements, address_literal};
 
 use super::placing::{Placed, first_literal, whole_literal, with_first};
 use crate::integers::integer_of;
@@ -21,7 +21,7 @@ use std::alloc::{AllocError, Global};
 
 /// The address literal for bytes, or for an array of a prefix length and bytes: `ip'192.0.2.0/24'` for `[24, h'c00002']`. Of an array
 /// whose first element is bytes, the array with the literal of these in its place. With `wrap` the item is the content of the version's
-/// tag, and what is given stands for the tag. Fails with words where there is no literal or it would mean other bytes, and where memory
+/// tag, and what is given stands for the tag. Fails with a message where there is no literal or it would mean other bytes, and where memory
 /// runs out.
 pub fn ip_item_to_aol<'a>(
     alloc: Global,
@@ -166,7 +166,7 @@ fn address_text(
     ensures text { IfOk result (λ s. whole_text version bytes.now ≡ Ok (string_bytes s)) }
     ensures refused { IfTold result (λ e. whole_text version bytes.now ≡ Err e.now) }
 {
-    in_words(whole_text(alloc, version, bytes))
+    with_message(whole_text(alloc, version, bytes))
 }
 
 fn address_prefix_text(
@@ -178,7 +178,7 @@ fn address_prefix_text(
     ensures text { IfOk result (λ s. prefix_text version prefix_length bytes.now ≡ Ok (string_bytes s)) }
     ensures refused { IfTold result (λ e. prefix_text version prefix_length bytes.now ≡ Err e.now) }
 {
-    in_words(prefix_text(alloc, version, prefix_length, bytes))
+    with_message(prefix_text(alloc, version, prefix_length, bytes))
 }
 
 /// The bytes of a string, or none where the item is no string or means no bytes.
@@ -192,10 +192,10 @@ fn bytes_of(alloc: Global, item: &Item<'_>) -> Result<Option<Vec<u8>>, AllocErro
     }
 }
 
-/// The same with the words of a refusal.
-fn in_words(text: Result<String, Fault<NoAddress>>) -> Result<String, Fault<&'static str>>
-    ensures text { (t : Result (List ℕ) Words) → IfOk text (λ s. t ≡ Ok (string_bytes s)) → IfOk result (λ s. t ≡ Ok (string_bytes s)) }
-    ensures refused { (t : Result (List ℕ) Words) → IfTold text (λ e. t ≡ Err (refusal_words e)) → IfTold result (λ e. t ≡ Err e.now) }
+/// The same with the message of a refusal.
+fn with_message(text: Result<String, Fault<NoAddress>>) -> Result<String, Fault<&'static str>>
+    ensures text { (t : Result (List ℕ) Message) → IfOk text (λ s. t ≡ Ok (string_bytes s)) → IfOk result (λ s. t ≡ Ok (string_bytes s)) }
+    ensures refused { (t : Result (List ℕ) Message) → IfTold text (λ e. t ≡ Err (refusal_message e)) → IfTold result (λ e. t ≡ Err e.now) }
 {
     match text {
         Ok(text) => Ok(text),

@@ -2,12 +2,12 @@
 ghost use Rattle.std.specs.Prelude.{◌≡◌, ℕ, ◌∷◌, true, false, List, Bool, Option, Some, Ok, Err, IfOk, IfErr, OnOk, unwrap_or};
 ghost use Rattle.cbor_edn_parts.specs.declared.indicator.Indicator.{Indicator};
 ghost use Rattle.cbor_edn_parts.specs.Refusals.{IfTold};
-ghost use Rattle.cbor_edn_model.specs.Accessed.{array_items};
-ghost use Rattle.cbor_edn_model.specs.Paths.{at, with_at, with_item, at_standalone, with_at_standalone};
-ghost use Rattle.cbor_edn_model.specs.Seeking.{number};
-ghost use Rattle.cbor_edn_model.specs.Trees.{Tree, OneItem};
-ghost use Rattle.cbor_edn_core.specs.View.{item_tree, standalone_tree};
-ghost use Rattle.cbor_edn_conversions.specs.Conversions.{Conversion, literal_tree, told_tag, in_tag, tag_tree, mean_the_same};
+ghost use Rattle.cbor_edn_model.specs.access.Accessed.{array_items};
+ghost use Rattle.cbor_edn_model.specs.access.Paths.{at, with_at, with_item, at_standalone, with_at_standalone};
+ghost use Rattle.cbor_edn_model.specs.visit.Seeking.{number};
+ghost use Rattle.cbor_edn_model.specs.tree.Trees.{Tree, OneItem};
+ghost use Rattle.cbor_edn_core.specs.tree.View.{item_tree, standalone_tree};
+ghost use Rattle.cbor_edn_conversions.specs.Conversions.{Conversion, literal_tree, called_tag, in_tag, tag_tree, mean_the_same};
 ghost use Rattle.cbor_edn_conversions.specs.Addresses.{address_prefix, address_tag, if_same, as_literal, as_first, with_first};
 ghost use Rattle.cbor_edn_application.specs.Placing.{with_placed};
 
@@ -20,7 +20,7 @@ use cbor_edn_parts::error::Fault;
 use std::alloc::{AllocError, Global};
 use std::mem;
 
-/// What is told where a literal would not stand for the bytes that an item means.
+/// The message where a literal would not stand for the bytes that an item means.
 pub(super) const CHANGED_ENCODING: &str = "Conversion would change the encoding";
 
 /// A literal for an item.
@@ -155,9 +155,9 @@ pub(super) fn put<'a>(
     tag: &mut Item<'a>,
     placed: Placed<'a>,
 ) -> Result<(), AllocError>
-    ensures put { (i : Option Indicator) (w : Tree OneItem) → told_tag (number (address_tag version)) (item_tree tag.old) ≡ Some (address_tag version, i, w)
+    ensures put { (i : Option Indicator) (w : Tree OneItem) → called_tag (number (address_tag version)) (item_tree tag.old) ≡ Some (address_tag version, i, w)
         → OnOk result (item_tree tag.new ≡ with_placed version true w placed.entry) }
-    ensures refused { IfErr result (λ _. item_tree tag.new ≡ item_tree tag.old) }
+    ensures out_of_memory { IfErr result (λ _. item_tree tag.new ≡ item_tree tag.old) }
 {
     match placed {
         Placed::Whole(literal) => {
@@ -175,9 +175,9 @@ fn put_first<'a>(
     tag: &mut Item<'a>,
     literal: Item<'a>,
 ) -> Result<(), AllocError>
-    ensures put { (i : Option Indicator) (w : Tree OneItem) → told_tag (number (address_tag version)) (item_tree tag.old) ≡ Some (address_tag version, i, w)
+    ensures put { (i : Option Indicator) (w : Tree OneItem) → called_tag (number (address_tag version)) (item_tree tag.old) ≡ Some (address_tag version, i, w)
         → OnOk result (item_tree tag.new ≡ with_first version true w (item_tree literal.entry)) }
-    ensures refused { IfErr result (λ _. item_tree tag.new ≡ item_tree tag.old) }
+    ensures out_of_memory { IfErr result (λ _. item_tree tag.new ≡ item_tree tag.old) }
 {
     tag.put_into_tag(alloc, address_tag(version))?;
     // Nothing is refused from here on. The old tag is left with the element, and dropped.

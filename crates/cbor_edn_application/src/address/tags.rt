@@ -2,10 +2,10 @@
 ghost use Rattle.std.specs.Prelude.{◌≡◌, true, Option, Some, None, Ok, Err, IfOk, IfSome, IfNone};
 ghost use Rattle.cbor_edn_parts.specs.declared.indicator.Indicator.{Indicator};
 ghost use Rattle.cbor_edn_parts.specs.Refusals.{IfTold};
-ghost use Rattle.cbor_edn_model.specs.Seeking.{number};
-ghost use Rattle.cbor_edn_model.specs.Trees.{Tree, OneItem};
-ghost use Rattle.cbor_edn_core.specs.Sought.{told_answer};
-ghost use Rattle.cbor_edn_core.specs.View.{item_tree};
+ghost use Rattle.cbor_edn_model.specs.visit.Seeking.{number};
+ghost use Rattle.cbor_edn_model.specs.tree.Trees.{Tree, OneItem};
+ghost use Rattle.cbor_edn_core.specs.visit.Sought.{sought_answer};
+ghost use Rattle.cbor_edn_core.specs.tree.View.{item_tree};
 ghost use Rattle.cbor_edn_conversions.specs.Conversions.{without_tag};
 ghost use Rattle.cbor_edn_conversions.specs.Addresses.{address_tag, address_literal, address_of_tag, pretty_address};
 ghost use Rattle.cbor_edn_application.specs.Acts.{ActsBy};
@@ -25,7 +25,7 @@ use std::alloc::Global;
 /// content. Other tags stay. Answers a comment where there is no literal, and where the tag's indicator would be lost; where memory runs
 /// out the item is as before.
 pub fn ip_tag_to_aol<'a>(alloc: Global, tag: u64, item: &mut Item<'a>) -> Result<(), CallbackError>
-    ensures { ActsBy pretty_address (number tag) (item_tree item.old) (told_answer result) (item_tree item.new) }
+    ensures { ActsBy pretty_address (number tag) (item_tree item.old) (sought_answer result) (item_tree item.new) }
 {
     match version_of_tag(tag) {
         Some(version) => version_tag_to_aol(alloc, version, item),
@@ -39,7 +39,7 @@ fn version_tag_to_aol<'a>(
     version: IpVersion,
     item: &mut Item<'a>,
 ) -> Result<(), CallbackError>
-    ensures { ActsBy pretty_address (number (address_tag version)) (item_tree item.old) (told_answer result) (item_tree item.new) }
+    ensures { ActsBy pretty_address (number (address_tag version)) (item_tree item.old) (sought_answer result) (item_tree item.new) }
 {
     let Some((indicator, content)) = tag_parts(address_tag(version), item) else {
         return Ok(());

@@ -1,12 +1,12 @@
 //! The literals of the times that numbers stand for.
 ghost use Rattle.std.specs.Prelude.{◌≡◌, IfOk, IfErr};
 ghost use Rattle.cbor_edn_parts.specs.Literal.{IsPrefix};
-ghost use Rattle.cbor_edn_core.specs.View.{item_tree};
+ghost use Rattle.cbor_edn_core.specs.tree.View.{item_tree};
 ghost use Rattle.cbor_edn_literals.specs.Time.{IsTimeStamp};
-ghost use Rattle.cbor_edn_literals.specs.code.TimeComputing.{time_text};
+ghost use Rattle.cbor_edn_literals.specs.internal.TimeComputing.{time_text};
 ghost use Rattle.cbor_edn_conversions.specs.Conversions.{argument, literal_tree};
 ghost use Rattle.cbor_edn_conversions.specs.Times.{time_prefix, time_literal};
-ghost use Rattle.cbor_edn_application.specs.TimeSteps.{BecomesTime, StaysFor, integer_literal, decimal_literal, not_time_words};
+ghost use Rattle.cbor_edn_application.specs.TimeSteps.{BecomesTime, StaysFor, integer_literal, decimal_literal, not_time_message};
 
 use cbor_edn_conversions::steps::is_narrowest;
 use cbor_edn_core::access::TypeMismatch;
@@ -67,12 +67,12 @@ fn instant_of_decimal(text: &str, indicator: Option<Indicator>) -> Result<Instan
     }
     match read_decimal(text.as_bytes()) {
         Ok(instant) => Ok(instant),
-        Err(refusal) => Err(words_of(refusal)),
+        Err(refusal) => Err(message_of(refusal)),
     }
 }
 
-fn words_of(refusal: NotTime) -> &'static str
-    ensures { result.now ≡ not_time_words refusal }
+fn message_of(refusal: NotTime) -> &'static str
+    ensures { result.now ≡ not_time_message refusal }
 {
     match refusal {
         NotTime::Unreadable => "Number not readable as a time",

@@ -1,9 +1,9 @@
 //! The numbers that time literals stand for.
 ghost use Rattle.std.specs.Prelude.{◌≡◌, Ok, Err, IfOk, None};
 ghost use Rattle.cbor_edn_parts.specs.Refusals.{IfTold};
-ghost use Rattle.cbor_edn_model.specs.Trees.{NumberTree};
-ghost use Rattle.cbor_edn_core.specs.View.{item_tree};
-ghost use Rattle.cbor_edn_literals.specs.code.TimeComputing.{instant_number};
+ghost use Rattle.cbor_edn_model.specs.tree.Trees.{NumberTree};
+ghost use Rattle.cbor_edn_core.specs.tree.View.{item_tree};
+ghost use Rattle.cbor_edn_literals.specs.internal.TimeComputing.{instant_number};
 ghost use Rattle.cbor_edn_conversions.specs.Conversions.{in_tag};
 ghost use Rattle.cbor_edn_conversions.specs.Times.{time_item};
 

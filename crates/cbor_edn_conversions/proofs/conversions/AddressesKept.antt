@@ -2,26 +2,26 @@
 use Rattle.std.proofs.Common.{ℕ, ℤ, pos, negsuc, ◌<◌, ◌≤◌, ◌*◌, ◌≡◌, ◌==◌, Bool, true, false, cond, nat_lt, List, [], ◌∷◌, length, map, All, Option, Some, None, Result, Ok, Err, refl, sym, ap, ◌∙◌, subst, arith}
 use Rattle.std.proofs.lemmas.Bool.{ltb-false, eqb-true}
 use Rattle.cbor_edn_parts.specs.declared.indicator.Indicator.{Indicator}
-use Rattle.cbor_edn_model.specs.Accessed.{item_bytes, array_items, entries_inside, element}
-use Rattle.cbor_edn_model.specs.Items.{Elements, Array, Map, Tagged}
-use Rattle.cbor_edn_model.specs.Meaning.{means, width_of, listed}
-use Rattle.cbor_edn_model.specs.Paths.{with_item}
-use Rattle.cbor_edn_model.specs.Seeking.{Told}
-use Rattle.cbor_edn_model.specs.Trees.{Tree, OneItem, Inside, Rest, mark, NumberTree, FloatTree, NamedTree, EnclosedTree, ListTree, StringTree, StreamTree, ElementTree, EmptyTree, FullTree, LastTree, MoreTree, items}
-use Rattle.cbor_edn_model.specs.Value.{Value, Values, no_values, value, tag, AreBytes, Fits}
-use Rattle.cbor_edn_model.proofs.meaning.MeaningSteps.{bind, both_steps, some_is}
+use Rattle.cbor_edn_model.specs.access.Accessed.{item_bytes, array_items, entries_inside, element}
+use Rattle.cbor_edn_model.specs.tree.Items.{Elements, Array, Map, Tagged}
+use Rattle.cbor_edn_model.specs.cbor.Meaning.{means, width_of, listed}
+use Rattle.cbor_edn_model.specs.access.Paths.{with_item}
+use Rattle.cbor_edn_model.specs.visit.Seeking.{CallArguments}
+use Rattle.cbor_edn_model.specs.tree.Trees.{Tree, OneItem, Inside, Rest, head_indicator, NumberTree, FloatTree, NamedTree, EnclosedTree, ListTree, StringTree, StreamTree, ElementTree, EmptyTree, FullTree, LastTree, MoreTree, items}
+use Rattle.cbor_edn_model.specs.cbor.Value.{Value, Values, no_values, value, tag, AreBytes, Fits}
+use Rattle.cbor_edn_model.proofs.lemmas.cbor.MeaningSteps.{bind, both_steps, some_is}
 use Rattle.cbor_edn_literals.specs.declared.address.IpVersion.{IpVersion}
 use Rattle.cbor_edn_literals.specs.declared.address.IpVersion.TheVariants.{V4, V6}
 use Rattle.cbor_edn_literals.specs.Address.{size_of}
 use Rattle.cbor_edn_literals.proofs.PrintedBytes.{printed_text_bytes}
 use Rattle.cbor_edn_conversions.specs.Resolving.{Resolver, means_by, ResolvesNoContent}
 use Rattle.cbor_edn_conversions.proofs.resolving.Resolved.{more_means}
-use Rattle.cbor_edn_conversions.specs.Conversions.{Words, Conversion, converted, told_tag, is_narrowest, changed_encoding, without_tag, mean_the_same, literal_tree, tag_tree, in_tag}
+use Rattle.cbor_edn_conversions.specs.Conversions.{Message, Conversion, converted, called_tag, is_narrowest, changed_encoding, without_tag, mean_the_same, literal_tree, tag_tree, in_tag}
 use Rattle.cbor_edn_conversions.specs.Resolvers.{TurnsTo}
 use Rattle.cbor_edn_conversions.specs.Integers.{item_integer}
 use Rattle.cbor_edn_conversions.specs.Addresses.{address_prefix, address_tag, address_item, whole_text, length_text, prefix_text, if_same, as_literal, with_first, as_first, by_length, by_others, by_first, by_elements, by_bytes, address_literal, address_of_tag, pretty_address}
-use Rattle.cbor_edn_conversions.proofs.conversions.Same.{MeanOne, mean_one}
-use Rattle.cbor_edn_conversions.proofs.conversions.Calls.{reply_turns, told_is, unmarked_means, without_tag_is}
+use Rattle.cbor_edn_conversions.proofs.conversions.SameValues.{MeanOne, mean_one}
+use Rattle.cbor_edn_conversions.proofs.conversions.Calls.{reply_turns, called_tag_is, narrowest_means, without_tag_is}
 use Rattle.cbor_edn_conversions.proofs.conversions.Literals.{GivesAddresses, address_prefix_is, tree_means}
 use Rattle.cbor_edn_conversions.proofs.conversions.ItemBytes.{bytes_fit, MeansFit, elements_fit}
 
@@ -31,7 +31,7 @@ ok x = Ok x
 ok_is : (x y : Tree OneItem) → ok x ≡ ok y → x ≡ y
 ok_is x y e = cc
 
-abbrev told : List ℕ → Result (List ℕ) Words
+abbrev told : List ℕ → Result (List ℕ) Message
 told t = Ok t
 
 told_same : (t u : List ℕ) → told t ≡ told u → t ≡ u
@@ -42,7 +42,7 @@ told_same t u e = cc
 abbrev IsByte : ℕ → Type 0
 IsByte b = b < 256
 
-if_ok : (b : Bool) (e : Words) (r : Result (List ℕ) Words) (t : List ℕ) → cond b (Err e) r ≡ Ok t → (b ≡ false) × (r ≡ Ok t)
+if_ok : (b : Bool) (e : Message) (r : Result (List ℕ) Message) (t : List ℕ) → cond b (Err e) r ≡ Ok t → (b ≡ false) × (r ≡ Ok t)
 if_ok true e r t h = absurd cc
 if_ok false e r t h = (refl, h)
 
@@ -85,7 +85,7 @@ module _ (R : Resolver) (x y : Tree OneItem) (e : means_by R (items x) ≡ means
   inside_same : (w : Tree (Inside Array)) → means_by R (items (ListTree Array (with_item 0 x w))) ≡ means_by R (items (ListTree Array (with_item 0 y w)))
   unfolding means_by items
   inside_same (EmptyTree i s) = refl
-  inside_same (FullTree h s m) = ap (λ o. bind o (listed Array (mark h))) (rest_same m)
+  inside_same (FullTree h s m) = ap (λ o. bind o (listed Array (head_indicator h))) (rest_same m)
 
   first_same : (w : Tree OneItem) (es : List (Tree OneItem)) → array_items w ≡ Some es → means_by R (items (with_item 0 x w)) ≡ means_by R (items (with_item 0 y w))
   first_same (ListTree Array w) es is = inside_same w
@@ -106,7 +106,7 @@ rest_means x (MoreTree (ElementTree w) s m) vs e = let (v, is, rest) = both_step
 inside_means : (x : Tree OneItem) (w : Tree (Inside Array)) (e : Tree OneItem) (es : List (Tree OneItem)) (u : Value) → map element (entries_inside w) ≡ e ∷ es → means (items (ListTree Array (with_item 0 x w))) ≡ Some u → (v : Value) × (means (items x) ≡ Some v)
 unfolding means items
 inside_means x (EmptyTree i s) e es u are is = absurd cc
-inside_means x (FullTree h s m) e es u are is = let (vs, row, of) = both_steps (means (items (with_item 0 x m))) (listed Array (mark h)) u is in rest_means x m vs row
+inside_means x (FullTree h s m) e es u are is = let (vs, row, of) = both_steps (means (items (with_item 0 x m))) (listed Array (head_indicator h)) u is in rest_means x m vs row
 
 first_means : (x w e : Tree OneItem) (es : List (Tree OneItem)) (u : Value) → array_items w ≡ Some (e ∷ es) → means (items (with_item 0 x w)) ≡ Some u → (v : Value) × (means (items x) ≡ Some v)
 first_means x (ListTree Array w) e es u are is = inside_means x w e es u (some_is _ _ are) is
@@ -172,7 +172,7 @@ module _ (R : Resolver) (no_content : ResolvesNoContent R) (gives : GivesAddress
     back_is new v (Ok back) h = same_by new back v _ refl h
 
     -- a literal in place of the item
-    literal_stands : (r : Result (List ℕ) Words) (v : Tree OneItem) → ((t : List ℕ) → r ≡ Ok t → MeansFit c → All IsByte t) → as_literal version wrap c r ≡ Ok v → StandsFor wrap n c v
+    literal_stands : (r : Result (List ℕ) Message) (v : Tree OneItem) → ((t : List ℕ) → r ≡ Ok t → MeansFit c → All IsByte t) → as_literal version wrap c r ≡ Ok v → StandsFor wrap n c v
     literal_stands (Err e) v bytes h = absurd cc
     literal_stands (Ok t) v bytes h =
         let b = back_is (literal_tree (address_prefix wrap) t) v (address_item wrap t) h in
@@ -193,7 +193,7 @@ module _ (R : Resolver) (no_content : ResolvesNoContent R) (gives : GivesAddress
     first_back t back (Err e) p h = absurd cc
     first_back t back (Ok x) p h = record { first = x; first_is = p; is = ok_is _ back h }
 
-    first_stands : (e : Tree OneItem) (es : List (Tree OneItem)) → array_items c ≡ Some (e ∷ es) → (r : Result (List ℕ) Words) (v : Tree OneItem) → ((t : List ℕ) → r ≡ Ok t → MeansFit e → All IsByte t) → as_first version wrap c r ≡ Ok v → StandsFor wrap n c v
+    first_stands : (e : Tree OneItem) (es : List (Tree OneItem)) → array_items c ≡ Some (e ∷ es) → (r : Result (List ℕ) Message) (v : Tree OneItem) → ((t : List ℕ) → r ≡ Ok t → MeansFit e → All IsByte t) → as_first version wrap c r ≡ Ok v → StandsFor wrap n c v
     first_stands e es are (Err w) v bytes h = absurd cc
     first_stands e es are (Ok t) v bytes h =
         let b = back_is (with_first version wrap c (literal_tree (address_prefix false) t)) v (converted (address_item false t) (λ x. Ok (with_first version wrap c x))) h in
@@ -253,7 +253,7 @@ module _ (R : Resolver) (no_content : ResolvesNoContent R) (gives : GivesAddress
   stands_turns : (version : IpVersion) (i : Option Indicator) (c v : Tree OneItem) → is_narrowest i (address_tag version) ≡ true → StandsFor true (address_tag version) c v → (u : Value) → means_by R (Tagged (address_tag version) i (items c)) ≡ Some u → means_by R (items v) ≡ Some u
   unfolding items
   stands_turns version i c v narrow h u e =
-      let value : h.value ≡ u = some_is h.value u (sym (more_means R no_content (items (tag_tree (address_tag version) c)) h.value h.before) ∙ (sym (unmarked_means R (address_tag version) i (items c) narrow) ∙ e)) in
+      let value : h.value ≡ u = some_is h.value u (sym (more_means R no_content (items (tag_tree (address_tag version) c)) h.value h.before) ∙ (sym (narrowest_means R (address_tag version) i (items c) narrow) ∙ e)) in
       h.after ∙ ap (λ (x : Value). Some x) value
 
   version_turns : (version : IpVersion) (n : ℕ) (i : Option Indicator) (c v : Tree OneItem) → n ≡ address_tag version → without_tag i n (address_literal c version true) ≡ Ok v → (u : Value) → means_by R (Tagged n i (items c)) ≡ Some u → means_by R (items v) ≡ Some u
@@ -272,6 +272,6 @@ module _ (R : Resolver) (no_content : ResolvesNoContent R) (gives : GivesAddress
   by_tag w None is v e u h = absurd cc
   by_tag w (Some (n, i, c)) is v e u h = tag_by n i c v _ _ refl refl e u (sym (ap (λ x. means_by R x) (is n i c refl)) ∙ h)
 
-  pub address_turns : (a : Told) (w : Tree OneItem) → TurnsTo R R w (pretty_address a w).1
+  pub address_turns : (a : CallArguments) (w : Tree OneItem) → TurnsTo R R w (pretty_address a w).1
   unfolding pretty_address
-  address_turns a w = reply_turns R R w (address_of_tag (told_tag a w)) (λ x e. e) (λ v e. by_tag w (told_tag a w) (told_is a w) v e)
+  address_turns a w = reply_turns R R w (address_of_tag (called_tag a w)) (λ x e. e) (λ v e. by_tag w (called_tag a w) (called_tag_is a w) v e)

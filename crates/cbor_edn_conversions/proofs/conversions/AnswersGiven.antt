@@ -1,11 +1,11 @@
 -- Calls of conversions and of comments take no memory.
 use Rattle.std.proofs.Common.{◌≢◌, Bool, true, false, cond, Option, Some, None, Ok, Err}
-use Rattle.cbor_edn_model.specs.Items.{Array, Map}
-use Rattle.cbor_edn_model.specs.Trees.{Tree, OneItem, NumberTree, FloatTree, NamedTree, EnclosedTree, ListTree, StringTree, StreamTree, EmptyTree, FullTree, StandaloneTree}
-use Rattle.cbor_edn_model.specs.Visits.{fine, comment, no_memory}
+use Rattle.cbor_edn_model.specs.tree.Items.{Array, Map}
+use Rattle.cbor_edn_model.specs.tree.Trees.{Tree, OneItem, NumberTree, FloatTree, NamedTree, EnclosedTree, ListTree, StringTree, StreamTree, EmptyTree, FullTree, StandaloneTree}
+use Rattle.cbor_edn_model.specs.visit.Visits.{fine, comment, no_memory}
 use Rattle.cbor_edn_conversions.specs.Addresses.{resolve_address, pretty_address}
 use Rattle.cbor_edn_conversions.specs.All.{resolve_all, pretty_all}
-use Rattle.cbor_edn_conversions.specs.Annotations.{with_direction, at_content, is_told_tag, comment_lang}
+use Rattle.cbor_edn_conversions.specs.Annotations.{with_direction, at_content, is_called_tag, comment_lang}
 use Rattle.cbor_edn_conversions.specs.Bignums.{pretty_bignum}
 use Rattle.cbor_edn_conversions.specs.Conversions.{Conversion, Reply, reply, and_then}
 use Rattle.cbor_edn_conversions.specs.ResolvingLaws.{NeverRefused}
@@ -74,10 +74,10 @@ content_given (NumberTree z i) = λ e. absurd cc
 content_given (FloatTree f i) = λ e. absurd cc
 content_given (NamedTree b) = λ e. absurd cc
 
-told_given : (b : Bool) (w : Tree OneItem) → (cond b (at_content with_direction w) (fine, w)).0 ≢ no_memory
-told_given true w = content_given w
-told_given false w = λ e. absurd cc
+called_given : (b : Bool) (w : Tree OneItem) → (cond b (at_content with_direction w) (fine, w)).0 ≢ no_memory
+called_given true w = content_given w
+called_given false w = λ e. absurd cc
 
 pub language_given : NeverRefused comment_lang
 unfolding comment_lang
-language_given a w = told_given (is_told_tag a 38 w) w
+language_given a w = called_given (is_called_tag a 38 w) w

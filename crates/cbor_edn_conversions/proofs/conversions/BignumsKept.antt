@@ -1,18 +1,18 @@
 -- The integer that stands for a bignum means what the tag means.
 use Rattle.std.proofs.Common.{ℕ, ℤ, ◌≡◌, Bool, true, false, cond, List, Option, Some, None, Ok, refl, sym, ap, ◌∙◌}
 use Rattle.cbor_edn_parts.specs.declared.indicator.Indicator.{Indicator}
-use Rattle.cbor_edn_model.specs.Items.{Tagged}
-use Rattle.cbor_edn_model.specs.Seeking.{Told}
-use Rattle.cbor_edn_model.specs.Trees.{Tree, OneItem, items}
-use Rattle.cbor_edn_model.specs.Value.{Value}
-use Rattle.cbor_edn_model.proofs.meaning.MeaningSteps.{some_is}
+use Rattle.cbor_edn_model.specs.tree.Items.{Tagged}
+use Rattle.cbor_edn_model.specs.visit.Seeking.{CallArguments}
+use Rattle.cbor_edn_model.specs.tree.Trees.{Tree, OneItem, items}
+use Rattle.cbor_edn_model.specs.cbor.Value.{Value}
+use Rattle.cbor_edn_model.proofs.lemmas.cbor.MeaningSteps.{some_is}
 use Rattle.cbor_edn_conversions.specs.Resolving.{Resolver, means_by, ResolvesNoContent}
 use Rattle.cbor_edn_conversions.proofs.resolving.Resolved.{more_means}
-use Rattle.cbor_edn_conversions.specs.Conversions.{Conversion, told_tag, mean_the_same, integer_tree, tag_tree}
+use Rattle.cbor_edn_conversions.specs.Conversions.{Conversion, called_tag, mean_the_same, integer_tree, tag_tree}
 use Rattle.cbor_edn_conversions.specs.Resolvers.{TurnsTo}
 use Rattle.cbor_edn_conversions.specs.Bignums.{quoted_item_bytes, magnitude, bignum_integer, if_same_integer, integer_of_tag, bignum_of_tag, pretty_bignum}
-use Rattle.cbor_edn_conversions.proofs.conversions.Same.{mean_one}
-use Rattle.cbor_edn_conversions.proofs.conversions.Calls.{reply_turns, told_is}
+use Rattle.cbor_edn_conversions.proofs.conversions.SameValues.{mean_one}
+use Rattle.cbor_edn_conversions.proofs.conversions.Calls.{reply_turns, called_tag_is}
 
 module _ (R : Resolver) (no_content : ResolvesNoContent R) where
   -- Items that mean the same bytes turn into each other, whatever literals stand for.
@@ -46,6 +46,6 @@ module _ (R : Resolver) (no_content : ResolvesNoContent R) where
   by_tag w (Some (n, Some i, c)) is v e u h = absurd cc
   by_tag w (Some (n, None, c)) is v e u h = bytes_turn n c v (quoted_item_bytes c) e u (sym (ap (λ x. means_by R x) (is n None c refl)) ∙ h)
 
-  pub bignum_turns : (a : Told) (w : Tree OneItem) → TurnsTo R R w (pretty_bignum a w).1
+  pub bignum_turns : (a : CallArguments) (w : Tree OneItem) → TurnsTo R R w (pretty_bignum a w).1
   unfolding pretty_bignum
-  bignum_turns a w = reply_turns R R w (bignum_of_tag (told_tag a w)) (λ x e. e) (λ v e. by_tag w (told_tag a w) (told_is a w) v e)
+  bignum_turns a w = reply_turns R R w (bignum_of_tag (called_tag a w)) (λ x e. e) (λ v e. by_tag w (called_tag a w) (called_tag_is a w) v e)

@@ -1,20 +1,20 @@
 -- What one call does to what an item means, by its conversion.
 use Rattle.std.proofs.Common.{ℕ, ◌≡◌, Bool, true, false, cond, Option, Some, None, Ok, Err, refl, ap, ◌∙◌}
 use Rattle.cbor_edn_parts.specs.declared.indicator.Indicator.{Indicator}
-use Rattle.cbor_edn_model.specs.declared.label.LabelKind.TheVariants as label
-use Rattle.cbor_edn_model.specs.Items.{Item, Node, Tagged}
-use Rattle.cbor_edn_model.specs.Meaning.{◌>>=◌, width_of}
-use Rattle.cbor_edn_model.specs.Seeking.{Told, SoughtCall}
-use Rattle.cbor_edn_model.specs.Trees.{Tree, OneItem, NumberTree, FloatTree, NamedTree, EnclosedTree, ListTree, StringTree, StreamTree, StandaloneTree, items}
-use Rattle.cbor_edn_model.specs.Value.{Value, tag}
-use Rattle.cbor_edn_model.specs.Visits.{fine, comment, no_memory}
-use Rattle.cbor_edn_model.proofs.meaning.MeaningSteps.{both_steps, some_is}
+use Rattle.cbor_edn_model.specs.declared.text.label.LabelKind.TheVariants as label
+use Rattle.cbor_edn_model.specs.tree.Items.{Item, Node, Tagged}
+use Rattle.cbor_edn_model.specs.cbor.Meaning.{◌>>=◌, width_of}
+use Rattle.cbor_edn_model.specs.visit.Seeking.{CallArguments, SoughtCall}
+use Rattle.cbor_edn_model.specs.tree.Trees.{Tree, OneItem, NumberTree, FloatTree, NamedTree, EnclosedTree, ListTree, StringTree, StreamTree, StandaloneTree, items}
+use Rattle.cbor_edn_model.specs.cbor.Value.{Value, tag}
+use Rattle.cbor_edn_model.specs.visit.Visits.{fine, comment, no_memory}
+use Rattle.cbor_edn_model.proofs.lemmas.cbor.MeaningSteps.{both_steps, some_is}
 use Rattle.cbor_edn_conversions.specs.Resolving.{Resolver, means_by, Turns, AnswersBy}
 use Rattle.cbor_edn_conversions.specs.Resolvers.{TurnsTo}
-use Rattle.cbor_edn_conversions.specs.Conversions.{Conversion, Reply, reply, and_then, tells, told_tag, is_narrowest, without_tag, changed_encoding}
-use Rattle.cbor_edn_conversions.proofs.conversions.Same.{narrow_width}
+use Rattle.cbor_edn_conversions.specs.Conversions.{Conversion, Reply, reply, and_then, tells, called_tag, is_narrowest, without_tag, changed_encoding}
+use Rattle.cbor_edn_conversions.proofs.conversions.SameValues.{narrow_width}
 
-pub turns_to : (B A : Resolver) (f : Told → Tree OneItem → Reply) (c : SoughtCall) → AnswersBy f c → TurnsTo B A c.before (f c.told c.before).1 → Turns B A c
+pub turns_to : (B A : Resolver) (f : CallArguments → Tree OneItem → Reply) (c : SoughtCall) → AnswersBy f c → TurnsTo B A c.before (f c.arguments c.before).1 → Turns B A c
 turns_to B A f c is turns x e = ap (λ v. means_by A (items v)) is.1 ∙ turns x e
 
 -- a conversion turns where leaving the item does, and each item that it gives
@@ -34,22 +34,22 @@ then_turns R w (no_memory, v) f first then x e = first x e
 abbrev parts : ℕ → Option Indicator → Tree OneItem → ℕ × Option Indicator × Tree OneItem
 parts n i w = (n, i, w)
 
-told_by : (b : Bool) (n m : ℕ) (i j : Option Indicator) (u c : Tree OneItem) → cond b (Some (parts n i u)) None ≡ Some (parts m j c) → Tagged n i (items u) ≡ Tagged m j (items c)
-told_by true n m i j u c e =
+called_by : (b : Bool) (n m : ℕ) (i j : Option Indicator) (u c : Tree OneItem) → cond b (Some (parts n i u)) None ≡ Some (parts m j c) → Tagged n i (items u) ≡ Tagged m j (items c)
+called_by true n m i j u c e =
     let same = some_is (parts n i u) (parts m j c) e in
     ap (λ (p : ℕ × Option Indicator × Tree OneItem). Tagged p.0 p.1 (items p.2)) same
-told_by false n m i j u c e = absurd cc
+called_by false n m i j u c e = absurd cc
 
-pub told_is : (a : Told) (w : Tree OneItem) (m : ℕ) (j : Option Indicator) (c : Tree OneItem) → told_tag a w ≡ Some (m, j, c) → items w ≡ Tagged m j (items c)
+pub called_tag_is : (a : CallArguments) (w : Tree OneItem) (m : ℕ) (j : Option Indicator) (c : Tree OneItem) → called_tag a w ≡ Some (m, j, c) → items w ≡ Tagged m j (items c)
 unfolding items
-told_is a (EnclosedTree (label.Tag i n) (StandaloneTree s u t)) m j c e = told_by (tells a n) n m i j u c e
-told_is a (EnclosedTree label.Simple w) m j c e = absurd cc
-told_is a (NumberTree x i) m j c e = absurd cc
-told_is a (FloatTree f i) m j c e = absurd cc
-told_is a (NamedTree b) m j c e = absurd cc
-told_is a (ListTree k w) m j c e = absurd cc
-told_is a (StringTree w) m j c e = absurd cc
-told_is a (StreamTree ms m) n j c e = absurd cc
+called_tag_is a (EnclosedTree (label.Tag i n) (StandaloneTree s u t)) m j c e = called_by (tells a n) n m i j u c e
+called_tag_is a (EnclosedTree label.Simple w) m j c e = absurd cc
+called_tag_is a (NumberTree x i) m j c e = absurd cc
+called_tag_is a (FloatTree f i) m j c e = absurd cc
+called_tag_is a (NamedTree b) m j c e = absurd cc
+called_tag_is a (ListTree k w) m j c e = absurd cc
+called_tag_is a (StringTree w) m j c e = absurd cc
+called_tag_is a (StreamTree ms m) n j c e = absurd cc
 
 -- what a tag means: its content, and a width of its number
 pub record TagMeans (R : Resolver) (n : ℕ) (i : Option Indicator) (w : Node Item) (x : Value) : Type 0 where
@@ -67,9 +67,9 @@ tag_means R n i w x e =
     record { width = d; width_is = width; content = v; content_is = content; value_is = some_is (tag d n v) x is }
 
 -- A tag means what it means without its indicator, where this is the shortest.
-pub unmarked_means : (R : Resolver) (n : ℕ) (i : Option Indicator) (w : Node Item) → is_narrowest i n ≡ true → means_by R (Tagged n i w) ≡ means_by R (Tagged n None w)
+pub narrowest_means : (R : Resolver) (n : ℕ) (i : Option Indicator) (w : Node Item) → is_narrowest i n ≡ true → means_by R (Tagged n i w) ≡ means_by R (Tagged n None w)
 unfolding means_by
-unmarked_means R n i w e = ap (λ o. o >>= λ d. means_by R w >>= λ v. Some (tag d n v)) (narrow_width i n e)
+narrowest_means R n i w e = ap (λ o. o >>= λ d. means_by R w >>= λ v. Some (tag d n v)) (narrow_width i n e)
 
 -- a conversion that goes with the tag
 pub record WithoutTag (i : Option Indicator) (n : ℕ) (c : Conversion) (v : Tree OneItem) : Type 0 where

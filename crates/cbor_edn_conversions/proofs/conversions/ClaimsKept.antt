@@ -1,12 +1,12 @@
 -- A claims set with its comments means what it meant: of its items, times alone become literals.
 use Rattle.std.proofs.Common.{ℕ, suc, List, Option, Some, None}
 use Rattle.std.specs.Prelude.{ℤ, false, option_map, option_and_then}
-use Rattle.cbor_edn_model.specs.Items.{Pairs, Array, Map}
-use Rattle.cbor_edn_model.specs.Meaning.{listed, one_more}
-use Rattle.cbor_edn_model.specs.Trees.{Tree, OneItem, OneEntry, Rest, mark, NumberTree, FloatTree, NamedTree, EnclosedTree, ListTree, StringTree, StreamTree, PairTree, EmptyTree, FullTree, LastTree, MoreTree, items}
-use Rattle.cbor_edn_model.specs.Value as values
-use Rattle.cbor_edn_model.specs.Value.{Value}
-use Rattle.cbor_edn_model.proofs.meaning.MeaningSteps.{some_is}
+use Rattle.cbor_edn_model.specs.tree.Items.{Pairs, Array, Map}
+use Rattle.cbor_edn_model.specs.cbor.Meaning.{listed, one_more}
+use Rattle.cbor_edn_model.specs.tree.Trees.{Tree, OneItem, OneEntry, Rest, head_indicator, NumberTree, FloatTree, NamedTree, EnclosedTree, ListTree, StringTree, StreamTree, PairTree, EmptyTree, FullTree, LastTree, MoreTree, items}
+use Rattle.cbor_edn_model.specs.cbor.Value as values
+use Rattle.cbor_edn_model.specs.cbor.Value.{Value}
+use Rattle.cbor_edn_model.proofs.lemmas.cbor.MeaningSteps.{some_is}
 use Rattle.cbor_edn_conversions.specs.declared.tables.ClaimValue.{ClaimValue}
 use Rattle.cbor_edn_conversions.specs.declared.tables.ClaimValue.TheVariants.{Timestamp, Confirmation}
 use Rattle.cbor_edn_conversions.specs.declared.tables.ConfirmationValue.{ConfirmationValue}
@@ -57,7 +57,7 @@ module _ (R : Resolver) where
 
     keys_keep : Keeps (with_keys at_key)
     unfolding items means_by
-    keys_keep (ListTree Map (FullTree h s m)) x e = one_step Below belows (means_by R (items m)) (means_by R (items (turned (key_turn at_key) 0 m))) (listed Map (mark h)) (row_keeps 0 m) x e
+    keys_keep (ListTree Map (FullTree h s m)) x e = one_step Below belows (means_by R (items m)) (means_by R (items (turned (key_turn at_key) 0 m))) (listed Map (head_indicator h)) (row_keeps 0 m) x e
     keys_keep (ListTree Map (EmptyTree i s)) x e = e
     keys_keep (ListTree Array w) x e = e
     keys_keep (NumberTree t i) x e = e

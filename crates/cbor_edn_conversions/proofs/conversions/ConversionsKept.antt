@@ -1,10 +1,10 @@
 -- The laws.
 use Rattle.std.proofs.Common.{List, All, sym, ap, ◌∙◌, subst}
 use Rattle.std.proofs.lemmas.List.Elements.{All-weaker}
-use Rattle.cbor_edn_model.specs.Items.{Item, Node}
-use Rattle.cbor_edn_model.specs.Seeking.{Told, SoughtCall, VisitParts, IsApplication}
-use Rattle.cbor_edn_model.specs.Trees.{Rule, Tree, OneItem, Seq, Standalone}
-use Rattle.cbor_edn_model.specs.Visits.{Ending, whole}
+use Rattle.cbor_edn_model.specs.tree.Items.{Item, Node}
+use Rattle.cbor_edn_model.specs.visit.Seeking.{CallArguments, SoughtCall, VisitParts, IsApplication}
+use Rattle.cbor_edn_model.specs.tree.Trees.{Rule, Tree, OneItem, Seq, Standalone}
+use Rattle.cbor_edn_model.specs.visit.Visits.{Ending, whole}
 use Rattle.cbor_edn_conversions.specs.Resolving.{Resolver, no_resolver, means_by, Turns, AnswersBy}
 use Rattle.cbor_edn_conversions.specs.VisitedItems.{IsTagNode, IsApplicationNode, TurnsItem}
 use Rattle.cbor_edn_conversions.proofs.resolving.OnItems.{application_node}
@@ -23,7 +23,7 @@ use Rattle.cbor_edn_conversions.proofs.conversions.AddressesKept.{address_item_t
 use Rattle.cbor_edn_conversions.proofs.conversions.BignumsKept.{bignum_turns}
 use Rattle.cbor_edn_conversions.proofs.conversions.ClaimsKept.{claims_turn}
 use Rattle.cbor_edn_conversions.proofs.conversions.LiteralsResolved.{time_is, address_is, time_resolved, time_resolved_kept, time_resolved_alone, address_resolved, address_resolved_kept, address_resolved_alone, all_resolved}
-use Rattle.cbor_edn_conversions.proofs.conversions.Sought.{sought_all}
+use Rattle.cbor_edn_conversions.proofs.conversions.SoughtCalls.{sought_all}
 
 -- ---- resolvers
 
@@ -44,59 +44,59 @@ literals_of_items w v wrap = (λ e. time_item_turns literal_resolver all_gives_t
 -- ---- calls
 
 pub time_keeps : PrettyKeeps time_resolver pretty_time
-time_keeps c is = turns_to time_resolver time_resolver pretty_time c is (time_turns time_resolver time_gives c.told c.before)
+time_keeps c is = turns_to time_resolver time_resolver pretty_time c is (time_turns time_resolver time_gives c.arguments c.before)
 
 pub address_keeps : PrettyKeeps address_resolver pretty_address
-address_keeps c is = turns_to address_resolver address_resolver pretty_address c is (address_turns address_resolver address_no_content address_gives c.told c.before)
+address_keeps c is = turns_to address_resolver address_resolver pretty_address c is (address_turns address_resolver address_no_content address_gives c.arguments c.before)
 
 pub bignum_keeps : BignumsKept
-bignum_keeps R no_content c is = turns_to R R pretty_bignum c is (bignum_turns R no_content c.told c.before)
+bignum_keeps R no_content c is = turns_to R R pretty_bignum c is (bignum_turns R no_content c.arguments c.before)
 
 pub time_keeps_all : PrettyKeeps literal_resolver pretty_time
-time_keeps_all c is = turns_to literal_resolver literal_resolver pretty_time c is (time_turns literal_resolver all_gives_times c.told c.before)
+time_keeps_all c is = turns_to literal_resolver literal_resolver pretty_time c is (time_turns literal_resolver all_gives_times c.arguments c.before)
 
 pub address_keeps_all : PrettyKeeps literal_resolver pretty_address
-address_keeps_all c is = turns_to literal_resolver literal_resolver pretty_address c is (address_turns literal_resolver all_no_content all_gives_addresses c.told c.before)
+address_keeps_all c is = turns_to literal_resolver literal_resolver pretty_address c is (address_turns literal_resolver all_no_content all_gives_addresses c.arguments c.before)
 
-pub all_turns : (a : Told) (w : Tree OneItem) → TurnsTo literal_resolver literal_resolver w (pretty_all a w).1
+pub all_turns : (a : CallArguments) (w : Tree OneItem) → TurnsTo literal_resolver literal_resolver w (pretty_all a w).1
 all_turns a w =
     then_turns literal_resolver w (and_then (pretty_time a w) (pretty_address a)) (pretty_bignum a)
     (then_turns literal_resolver w (pretty_time a w) (pretty_address a) (time_turns literal_resolver all_gives_times a w) (λ v. address_turns literal_resolver all_no_content all_gives_addresses a v))
     (λ v. bignum_turns literal_resolver all_no_content a v)
 
 pub all_keep : PrettyKeeps literal_resolver pretty_all
-all_keep c is = turns_to literal_resolver literal_resolver pretty_all c is (all_turns c.told c.before)
+all_keep c is = turns_to literal_resolver literal_resolver pretty_all c is (all_turns c.arguments c.before)
 
 pub claims_keep : ClaimsKeep
 claims_keep = claims_turn literal_resolver all_gives_times
 
 pub time_resolves : Resolves resolve_time literal_resolver address_resolver
-time_resolves c sought is = turns_to literal_resolver address_resolver resolve_time c is (time_resolved c.told c.before sought)
+time_resolves c sought is = turns_to literal_resolver address_resolver resolve_time c is (time_resolved c.arguments c.before sought)
 
 pub time_resolves_kept : Resolves resolve_time literal_resolver literal_resolver
-time_resolves_kept c sought is = turns_to literal_resolver literal_resolver resolve_time c is (time_resolved_kept c.told c.before sought)
+time_resolves_kept c sought is = turns_to literal_resolver literal_resolver resolve_time c is (time_resolved_kept c.arguments c.before sought)
 
 pub time_resolves_alone : Resolves resolve_time time_resolver no_resolver
-time_resolves_alone c sought is = turns_to time_resolver no_resolver resolve_time c is (time_resolved_alone c.told c.before sought)
+time_resolves_alone c sought is = turns_to time_resolver no_resolver resolve_time c is (time_resolved_alone c.arguments c.before sought)
 
 pub address_resolves : Resolves resolve_address literal_resolver time_resolver
-address_resolves c sought is = turns_to literal_resolver time_resolver resolve_address c is (address_resolved c.told c.before sought)
+address_resolves c sought is = turns_to literal_resolver time_resolver resolve_address c is (address_resolved c.arguments c.before sought)
 
 pub address_resolves_kept : Resolves resolve_address literal_resolver literal_resolver
-address_resolves_kept c sought is = turns_to literal_resolver literal_resolver resolve_address c is (address_resolved_kept c.told c.before sought)
+address_resolves_kept c sought is = turns_to literal_resolver literal_resolver resolve_address c is (address_resolved_kept c.arguments c.before sought)
 
 pub address_resolves_alone : Resolves resolve_address address_resolver no_resolver
-address_resolves_alone c sought is = turns_to address_resolver no_resolver resolve_address c is (address_resolved_alone c.told c.before sought)
+address_resolves_alone c sought is = turns_to address_resolver no_resolver resolve_address c is (address_resolved_alone c.arguments c.before sought)
 
 pub all_resolve : Resolves resolve_all literal_resolver no_resolver
-all_resolve c sought is = turns_to literal_resolver no_resolver resolve_all c is (all_resolved c.told c.before sought)
+all_resolve c sought is = turns_to literal_resolver no_resolver resolve_all c is (all_resolved c.arguments c.before sought)
 
 -- ---- visits
 
-all_calls : (f : Told → Tree OneItem → Reply) → PrettyKeeps literal_resolver f → (cs : List SoughtCall) → All (AnswersBy f) cs → All (Turns literal_resolver literal_resolver) cs
+all_calls : (f : CallArguments → Tree OneItem → Reply) → PrettyKeeps literal_resolver f → (cs : List SoughtCall) → All (AnswersBy f) cs → All (Turns literal_resolver literal_resolver) cs
 all_calls f keeps cs h = All-weaker (AnswersBy f) (Turns literal_resolver literal_resolver) keeps cs h
 
-visit_calls : (f : Told → Tree OneItem → Reply) (B A : Resolver) → Resolves f B A → (k : Rule) (w v : Tree k) (cs : List SoughtCall) (r : Ending) → VisitParts IsApplication k w cs v r → All (AnswersBy f) cs → All (Turns B A) cs
+visit_calls : (f : CallArguments → Tree OneItem → Reply) (B A : Resolver) → Resolves f B A → (k : Rule) (w v : Tree k) (cs : List SoughtCall) (r : Ending) → VisitParts IsApplication k w cs v r → All (AnswersBy f) cs → All (Turns B A) cs
 visit_calls f B A resolves k w v cs r visit h = sought_all IsApplication (AnswersBy f) (Turns B A) resolves visit h
 
 pub pretty_resolved_again : PrettyResolvedAgain
@@ -119,10 +119,10 @@ pretty_resolved_in_turn cs ds es r pretty addresses times =
 
 -- ---- items alone
 
-pretty_made : (a : Told) (x y : Node Item) → IsTagNode x a → Made pretty_all a x y → TurnsItem literal_resolver literal_resolver a x y
+pretty_made : (a : CallArguments) (x y : Node Item) → IsTagNode x a → Made pretty_all a x y → TurnsItem literal_resolver literal_resolver a x y
 pretty_made a x y s (w, before, after) u e = ap (λ y. means_by literal_resolver y) (sym after) ∙ all_turns a w u (ap (λ x. means_by literal_resolver x) before ∙ e)
 
-resolve_made : (a : Told) (x y : Node Item) → IsApplicationNode x a → Made resolve_all a x y → TurnsItem literal_resolver no_resolver a x y
+resolve_made : (a : CallArguments) (x y : Node Item) → IsApplicationNode x a → Made resolve_all a x y → TurnsItem literal_resolver no_resolver a x y
 resolve_made a x y s (w, before, after) u e =
     let sought : IsApplication w a = (application_node w a).1 (subst (λ x. IsApplicationNode x a) (sym before) s) in
     ap (λ y. means_by no_resolver y) (sym after) ∙ all_resolved a w sought u (ap (λ x. means_by literal_resolver x) before ∙ e)

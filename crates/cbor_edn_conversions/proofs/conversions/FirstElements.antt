@@ -6,17 +6,17 @@ use Rattle.std.proofs.lemmas.Bool.{false≢true}
 use Rattle.std.proofs.lemmas.List.{append_cancel_left, append_cancel_right}
 use Rattle.std.proofs.lemmas.List.Folds.{list_all-append}
 use Rattle.cbor_edn_parts.specs.declared.indicator.Indicator.{Indicator}
-use Rattle.cbor_edn_parts.specs.code.ContentReading.{same}
-use Rattle.cbor_edn_parts.proofs.Prefixes.{same-found, differ}
-use Rattle.cbor_edn_model.specs.declared.cbor.Width.{Width}
-use Rattle.cbor_edn_model.specs.declared.cbor.Width.TheVariants.{One}
-use Rattle.cbor_edn_model.specs.Accessed.{array_items, entries_inside, element}
-use Rattle.cbor_edn_model.specs.Items.{Array, Map}
-use Rattle.cbor_edn_model.specs.Meaning.{means, length_of, listed}
-use Rattle.cbor_edn_model.specs.Paths.{with_item}
-use Rattle.cbor_edn_model.specs.Trees.{Tree, OneItem, Inside, mark, NumberTree, FloatTree, NamedTree, EnclosedTree, ListTree, StringTree, StreamTree, ElementTree, EmptyTree, FullTree, LastTree, MoreTree, items}
-use Rattle.cbor_edn_model.specs.Value.{Value, Values, no_values, value, values_len, array, tag, encoding, encodings, head, open_head, break}
-use Rattle.cbor_edn_model.proofs.meaning.MeaningSteps.{bind, some_is}
+use Rattle.cbor_edn_parts.specs.internal.ContentReading.{same}
+use Rattle.cbor_edn_parts.proofs.lemmas.literal.LiteralPrefixes.{same-found, differ}
+use Rattle.cbor_edn_model.specs.declared.cbor.heads.Width.{Width}
+use Rattle.cbor_edn_model.specs.declared.cbor.heads.Width.TheVariants.{One}
+use Rattle.cbor_edn_model.specs.access.Accessed.{array_items, entries_inside, element}
+use Rattle.cbor_edn_model.specs.tree.Items.{Array, Map}
+use Rattle.cbor_edn_model.specs.cbor.Meaning.{means, length_of, listed}
+use Rattle.cbor_edn_model.specs.access.Paths.{with_item}
+use Rattle.cbor_edn_model.specs.tree.Trees.{Tree, OneItem, Inside, head_indicator, NumberTree, FloatTree, NamedTree, EnclosedTree, ListTree, StringTree, StreamTree, ElementTree, EmptyTree, FullTree, LastTree, MoreTree, items}
+use Rattle.cbor_edn_model.specs.cbor.Value.{Value, Values, no_values, value, values_len, array, tag, encoding, encodings, head, open_head, break}
+use Rattle.cbor_edn_model.proofs.lemmas.cbor.MeaningSteps.{bind, some_is}
 use Rattle.cbor_edn_literals.specs.declared.address.IpVersion.{IpVersion}
 use Rattle.cbor_edn_literals.specs.declared.address.IpVersion.TheVariants.{V4, V6}
 use Rattle.cbor_edn_conversions.specs.Conversions.{Conversion, are_same, changed_encoding, converted, encoded, item_encoding, mean_the_same, literal_tree, tag_tree, in_tag}
@@ -110,10 +110,10 @@ unfolding means items FirstCompares
 inside_compared (EmptyTree i s) e es x are = absurd cc
 inside_compared (FullTree h s (LastTree (ElementTree f) t)) e es x are =
     let is : f ≡ e = cc in
-    subst (λ z. FirstCompares (ListTree Array (FullTree h s (LastTree (ElementTree f) t))) z x) is (listed_compared (mark h) (Some no_values) (means (items f)) (means (items x)))
+    subst (λ z. FirstCompares (ListTree Array (FullTree h s (LastTree (ElementTree f) t))) z x) is (listed_compared (head_indicator h) (Some no_values) (means (items f)) (means (items x)))
 inside_compared (FullTree h s (MoreTree (ElementTree f) t m)) e es x are =
     let is : f ≡ e = cc in
-    subst (λ z. FirstCompares (ListTree Array (FullTree h s (MoreTree (ElementTree f) t m))) z x) is (listed_compared (mark h) (means (items m)) (means (items f)) (means (items x)))
+    subst (λ z. FirstCompares (ListTree Array (FullTree h s (MoreTree (ElementTree f) t m))) z x) is (listed_compared (head_indicator h) (means (items m)) (means (items f)) (means (items x)))
 
 first_compared : (w e : Tree OneItem) (es : List (Tree OneItem)) (x : Tree OneItem) → array_items w ≡ Some (e ∷ es) → FirstCompares w e x
 first_compared (ListTree Array w) e es x are = inside_compared w e es x (some_is _ _ are)

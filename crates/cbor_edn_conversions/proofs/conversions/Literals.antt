@@ -3,12 +3,12 @@ use Rattle.std.proofs.Common.{ℕ, ◌<◌, ◌≡◌, Bool, true, false, List, 
 use Rattle.cbor_edn_parts.specs.declared.indicator.Indicator.{Indicator}
 use Rattle.cbor_edn_parts.specs.Literal.{IsPrefix, Prefixed, IsLiteral}
 use Rattle.cbor_edn_parts.specs.Written.{application_literal}
-use Rattle.cbor_edn_parts.specs.code.ContentReading.{is_supported_prefix, literal_content}
-use Rattle.cbor_edn_parts.proofs.PrefixTests.{prefix_test}
-use Rattle.cbor_edn_parts.proofs.WrittenLiterals.{application_is}
-use Rattle.cbor_edn_model.specs.Meaning.{◌>>=◌, means, string_of}
-use Rattle.cbor_edn_model.specs.Trees.{Tree, OneItem, items}
-use Rattle.cbor_edn_model.specs.Value.{Value}
+use Rattle.cbor_edn_parts.specs.internal.ContentReading.{is_supported_prefix, literal_content}
+use Rattle.cbor_edn_parts.proofs.lemmas.literal.PrefixTests.{prefix_test}
+use Rattle.cbor_edn_parts.proofs.lemmas.literal.WrittenLiterals.{application_is}
+use Rattle.cbor_edn_model.specs.cbor.Meaning.{◌>>=◌, means, string_of}
+use Rattle.cbor_edn_model.specs.tree.Trees.{Tree, OneItem, items}
+use Rattle.cbor_edn_model.specs.cbor.Value.{Value}
 use Rattle.cbor_edn_conversions.specs.Resolving.{Resolver, or_else, means_by, ResolvesApplications, ResolvesNoContent}
 use Rattle.cbor_edn_conversions.proofs.resolving.ByPrefix.{by_prefix_applications, by_prefix_no_content, by_prefix_is}
 use Rattle.cbor_edn_conversions.proofs.resolving.Turning.{either_applications, either_no_content}

@@ -3,20 +3,20 @@ use Rattle.std.proofs.Common.{ℕ, ◌≡◌, ◌⊎◌, inl, inr, Bool, true, f
 use Rattle.std.proofs.lemmas.Bool.{cases_Bool}
 use Rattle.cbor_edn_parts.specs.declared.indicator.Indicator.{Indicator}
 use Rattle.cbor_edn_parts.specs.declared.string.Quote.TheVariants as quotes
-use Rattle.cbor_edn_parts.specs.declared.string.Part.TheVariants as part
+use Rattle.cbor_edn_parts.specs.declared.string.QuotedState.TheVariants as part
 use Rattle.cbor_edn_parts.specs.Literal.{Prefixed, IsLiteral}
-use Rattle.cbor_edn_parts.specs.code.ContentReading.{same, is_supported_prefix, is_supported, behind_quote, literal_content}
-use Rattle.cbor_edn_parts.specs.code.LiteralTokens.{is_literal, prefix_of, decoded}
-use Rattle.cbor_edn_parts.proofs.Applications.{one_application, prefixed_read, unprefixed_read}
-use Rattle.cbor_edn_parts.proofs.LiteralTexts.{literal_test}
-use Rattle.cbor_edn_parts.proofs.LiteralContents.{content_is, content_of}
-use Rattle.cbor_edn_parts.proofs.Prefixes.{same-found}
-use Rattle.cbor_edn_model.specs.Items.{Item, Node, Number, Float, Listed, Tagged, Named, Simple, String, Stream, LastPiece, Plus, Literal, Dots, Embedded}
-use Rattle.cbor_edn_model.specs.Meaning.{◌>>=◌, means, string_of}
-use Rattle.cbor_edn_model.specs.Seeking.{Told, number, prefix_and_text, IsApplication}
-use Rattle.cbor_edn_model.specs.Trees.{Tree, OneItem, items}
-use Rattle.cbor_edn_model.specs.Value.{Value}
-use Rattle.cbor_edn_model.proofs.meaning.MeaningSteps.{bind}
+use Rattle.cbor_edn_parts.specs.internal.ContentReading.{same, is_supported_prefix, is_supported, behind_quote, literal_content}
+use Rattle.cbor_edn_parts.specs.internal.LiteralTokens.{is_literal, prefix_of, decoded}
+use Rattle.cbor_edn_parts.proofs.lemmas.literal.Applications.{one_application, prefixed_read, unprefixed_read}
+use Rattle.cbor_edn_parts.proofs.lemmas.literal.LiteralTexts.{literal_test}
+use Rattle.cbor_edn_parts.proofs.lemmas.literal.LiteralContents.{content_is, content_of}
+use Rattle.cbor_edn_parts.proofs.lemmas.literal.LiteralPrefixes.{same-found}
+use Rattle.cbor_edn_model.specs.tree.Items.{Item, Node, Number, Float, Listed, Tagged, Named, Simple, String, Stream, LastPiece, Plus, Literal, Dots, Embedded}
+use Rattle.cbor_edn_model.specs.cbor.Meaning.{◌>>=◌, means, string_of}
+use Rattle.cbor_edn_model.specs.visit.Seeking.{CallArguments, number, prefix_and_text, IsApplication}
+use Rattle.cbor_edn_model.specs.tree.Trees.{Tree, OneItem, items}
+use Rattle.cbor_edn_model.specs.cbor.Value.{Value}
+use Rattle.cbor_edn_model.proofs.lemmas.cbor.MeaningSteps.{bind}
 use Rattle.cbor_edn_conversions.specs.Resolving.{Resolver, or_else, no_resolver, by_prefix, means_by, ResolvesNoContent}
 use Rattle.cbor_edn_conversions.specs.VisitedItems.{IsApplicationNode}
 use Rattle.cbor_edn_conversions.proofs.resolving.ByPrefix.{by_prefix_is}
@@ -240,42 +240,42 @@ module _ (w : Tree OneItem) (p t : List ℕ) (l : LiteralItem (items w) p t) whe
   all_of_both : TurnsTo literal_resolver no_resolver w (and_then (reply w (time_of_literal p t)) (λ v. reply v (address_of_literal p t))).1
   all_of_both = all_by (time_of_literal p t) refl
 
--- ---- by what is told
+-- ---- by the arguments of a call
 
-told_literal : (w : Tree OneItem) (p t : List ℕ) → IsApplication w (prefix_and_text p t) → LiteralItem (items w) p t
-told_literal w p t h = node_is (items w) p t ((application_node w (prefix_and_text p t)).0 h)
+called_literal : (w : Tree OneItem) (p t : List ℕ) → IsApplication w (prefix_and_text p t) → LiteralItem (items w) p t
+called_literal w p t h = node_is (items w) p t ((application_node w (prefix_and_text p t)).0 h)
 
-pub time_resolved : (a : Told) (w : Tree OneItem) → IsApplication w a → TurnsTo literal_resolver address_resolver w (resolve_time a w).1
+pub time_resolved : (a : CallArguments) (w : Tree OneItem) → IsApplication w a → TurnsTo literal_resolver address_resolver w (resolve_time a w).1
 unfolding resolve_time
 time_resolved (number n) w h = absurd h
-time_resolved (prefix_and_text p t) w h = time_of_all w p t (told_literal w p t h)
+time_resolved (prefix_and_text p t) w h = time_of_all w p t (called_literal w p t h)
 
-pub time_resolved_kept : (a : Told) (w : Tree OneItem) → IsApplication w a → TurnsTo literal_resolver literal_resolver w (resolve_time a w).1
+pub time_resolved_kept : (a : CallArguments) (w : Tree OneItem) → IsApplication w a → TurnsTo literal_resolver literal_resolver w (resolve_time a w).1
 unfolding resolve_time
 time_resolved_kept (number n) w h = absurd h
-time_resolved_kept (prefix_and_text p t) w h = time_kept w p t (told_literal w p t h)
+time_resolved_kept (prefix_and_text p t) w h = time_kept w p t (called_literal w p t h)
 
-pub time_resolved_alone : (a : Told) (w : Tree OneItem) → IsApplication w a → TurnsTo time_resolver no_resolver w (resolve_time a w).1
+pub time_resolved_alone : (a : CallArguments) (w : Tree OneItem) → IsApplication w a → TurnsTo time_resolver no_resolver w (resolve_time a w).1
 unfolding resolve_time
 time_resolved_alone (number n) w h = absurd h
-time_resolved_alone (prefix_and_text p t) w h = time_alone w p t (told_literal w p t h)
+time_resolved_alone (prefix_and_text p t) w h = time_alone w p t (called_literal w p t h)
 
-pub address_resolved : (a : Told) (w : Tree OneItem) → IsApplication w a → TurnsTo literal_resolver time_resolver w (resolve_address a w).1
+pub address_resolved : (a : CallArguments) (w : Tree OneItem) → IsApplication w a → TurnsTo literal_resolver time_resolver w (resolve_address a w).1
 unfolding resolve_address
 address_resolved (number n) w h = absurd h
-address_resolved (prefix_and_text p t) w h = address_of_all w p t (told_literal w p t h)
+address_resolved (prefix_and_text p t) w h = address_of_all w p t (called_literal w p t h)
 
-pub address_resolved_kept : (a : Told) (w : Tree OneItem) → IsApplication w a → TurnsTo literal_resolver literal_resolver w (resolve_address a w).1
+pub address_resolved_kept : (a : CallArguments) (w : Tree OneItem) → IsApplication w a → TurnsTo literal_resolver literal_resolver w (resolve_address a w).1
 unfolding resolve_address
 address_resolved_kept (number n) w h = absurd h
-address_resolved_kept (prefix_and_text p t) w h = address_kept w p t (told_literal w p t h)
+address_resolved_kept (prefix_and_text p t) w h = address_kept w p t (called_literal w p t h)
 
-pub address_resolved_alone : (a : Told) (w : Tree OneItem) → IsApplication w a → TurnsTo address_resolver no_resolver w (resolve_address a w).1
+pub address_resolved_alone : (a : CallArguments) (w : Tree OneItem) → IsApplication w a → TurnsTo address_resolver no_resolver w (resolve_address a w).1
 unfolding resolve_address
 address_resolved_alone (number n) w h = absurd h
-address_resolved_alone (prefix_and_text p t) w h = address_alone w p t (told_literal w p t h)
+address_resolved_alone (prefix_and_text p t) w h = address_alone w p t (called_literal w p t h)
 
-pub all_resolved : (a : Told) (w : Tree OneItem) → IsApplication w a → TurnsTo literal_resolver no_resolver w (resolve_all a w).1
+pub all_resolved : (a : CallArguments) (w : Tree OneItem) → IsApplication w a → TurnsTo literal_resolver no_resolver w (resolve_all a w).1
 unfolding resolve_time resolve_address
 all_resolved (number n) w h = absurd h
-all_resolved (prefix_and_text p t) w h = all_of_both w p t (told_literal w p t h)
+all_resolved (prefix_and_text p t) w h = all_of_both w p t (called_literal w p t h)

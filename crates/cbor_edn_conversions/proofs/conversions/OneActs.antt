@@ -2,14 +2,14 @@
 use Rattle.std.proofs.Common.{ℕ, ◌≡◌, ◌==◌, ◌||◌, Bool, true, false, cond, codes, List, Option, Some, None, refl, ap, ◌∙◌, subst}
 use Rattle.std.proofs.lemmas.Bool.{eqb-true}
 use Rattle.cbor_edn_parts.specs.declared.indicator.Indicator.{Indicator}
-use Rattle.cbor_edn_parts.specs.code.ContentReading.{same}
-use Rattle.cbor_edn_parts.proofs.Prefixes.{same-found}
-use Rattle.cbor_edn_model.specs.declared.label.LabelKind.TheVariants as label
-use Rattle.cbor_edn_model.specs.Seeking.{number, prefix_and_text}
-use Rattle.cbor_edn_model.specs.Trees.{Tree, OneItem, NumberTree, FloatTree, NamedTree, EnclosedTree, ListTree, StringTree, StreamTree}
-use Rattle.cbor_edn_model.specs.Visits.{fine, comment, no_memory}
-use Rattle.cbor_edn_model.specs.Accessed.{inner_item}
-use Rattle.cbor_edn_conversions.specs.Conversions.{Conversion, Reply, reply, and_then, told_tag}
+use Rattle.cbor_edn_parts.specs.internal.ContentReading.{same}
+use Rattle.cbor_edn_parts.proofs.lemmas.literal.LiteralPrefixes.{same-found}
+use Rattle.cbor_edn_model.specs.declared.text.label.LabelKind.TheVariants as label
+use Rattle.cbor_edn_model.specs.visit.Seeking.{number, prefix_and_text}
+use Rattle.cbor_edn_model.specs.tree.Trees.{Tree, OneItem, NumberTree, FloatTree, NamedTree, EnclosedTree, ListTree, StringTree, StreamTree}
+use Rattle.cbor_edn_model.specs.visit.Visits.{fine, comment, no_memory}
+use Rattle.cbor_edn_model.specs.access.Accessed.{inner_item}
+use Rattle.cbor_edn_conversions.specs.Conversions.{Conversion, Reply, reply, and_then, called_tag}
 use Rattle.cbor_edn_conversions.specs.Times.{time_of_tag, pretty_time, resolve_time}
 use Rattle.cbor_edn_conversions.specs.Addresses.{address_of_tag, address_of_literal, pretty_address, resolve_address}
 use Rattle.cbor_edn_conversions.specs.Bignums.{quoted_item_bytes, integer_of_tag, bignum_of_tag, pretty_bignum}
@@ -43,7 +43,7 @@ module _ (f : OfTag) (nothing : f None ≡ None) (n : ℕ) (at : (i : Option Ind
   by_number i m c true e = subst (λ m. f (Some (m, i, c)) ≡ None) (eqb-true n m e) (at i c)
   by_number i m c false e = nothing
 
-  tag_idle : (w : Tree OneItem) → f (told_tag (number n) w) ≡ None
+  tag_idle : (w : Tree OneItem) → f (called_tag (number n) w) ≡ None
   tag_idle (EnclosedTree (label.Tag i m) w) = by_number i m (inner_item w) (n == m) refl
   tag_idle (EnclosedTree label.Simple w) = nothing
   tag_idle (NumberTree x i) = nothing

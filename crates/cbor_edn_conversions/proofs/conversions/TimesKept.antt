@@ -4,27 +4,27 @@ use Rattle.std.proofs.lemmas.Bool.{le-leb, leb-true, eqb-true}
 use Rattle.std.proofs.lemmas.Int.{ints}
 use Rattle.std.proofs.lemmas.List.Elements.{All-nil, All-cons, All-append, All-from_recursion}
 use Rattle.cbor_edn_parts.specs.declared.indicator.Indicator.{Indicator}
-use Rattle.cbor_edn_parts.specs.code.NumberReading.{integer_of}
-use Rattle.cbor_edn_parts.proofs.Decimals.{IsDecimal, integer_of_decimal}
-use Rattle.cbor_edn_model.specs.Items.{Tagged, Number}
-use Rattle.cbor_edn_model.specs.Meaning.{◌>>=◌, means, means_integer, width_of}
-use Rattle.cbor_edn_model.specs.Seeking.{Told}
-use Rattle.cbor_edn_model.specs.Trees.{Tree, OneItem, NumberTree, FloatTree, NamedTree, EnclosedTree, ListTree, StringTree, StreamTree, items}
-use Rattle.cbor_edn_model.specs.Value.{Value, tag}
-use Rattle.cbor_edn_model.proofs.meaning.MeaningSteps.{some_is}
+use Rattle.cbor_edn_parts.specs.internal.NumberReading.{integer_of}
+use Rattle.cbor_edn_parts.proofs.lemmas.number.Decimals.{IsDecimal, integer_of_decimal}
+use Rattle.cbor_edn_model.specs.tree.Items.{Tagged, Number}
+use Rattle.cbor_edn_model.specs.cbor.Meaning.{◌>>=◌, means, means_integer, width_of}
+use Rattle.cbor_edn_model.specs.visit.Seeking.{CallArguments}
+use Rattle.cbor_edn_model.specs.tree.Trees.{Tree, OneItem, NumberTree, FloatTree, NamedTree, EnclosedTree, ListTree, StringTree, StreamTree, items}
+use Rattle.cbor_edn_model.specs.cbor.Value.{Value, tag}
+use Rattle.cbor_edn_model.proofs.lemmas.cbor.MeaningSteps.{some_is}
 use Rattle.cbor_edn_literals.specs.Time.{IsTimeStamp}
-use Rattle.cbor_edn_literals.specs.code.TimeWriting.{padded, date_text, hour_minute_text, clock_text, fraction_text}
-use Rattle.cbor_edn_literals.specs.code.TimeComputing.{time_text, time_text_from, march_date_text, instant_number}
+use Rattle.cbor_edn_literals.specs.internal.TimeWriting.{padded, date_text, hour_minute_text, clock_text, fraction_text}
+use Rattle.cbor_edn_literals.specs.internal.TimeComputing.{time_text, time_text_from, march_date_text, instant_number}
 use Rattle.cbor_edn_literals.proofs.TimeComputed.{instant_computed}
 use Rattle.cbor_edn_literals.proofs.TimeComputedText.{time_text_is}
 use Rattle.cbor_edn_literals.proofs.TimeComputedNumbers.{decimal_computed}
 use Rattle.cbor_edn_conversions.specs.ConversionLaws.{StampsTested, TimesReadBack}
 use Rattle.cbor_edn_conversions.specs.Resolving.{Resolver, means_by}
-use Rattle.cbor_edn_conversions.specs.Conversions.{Conversion, told_tag, is_narrowest, argument, changed_encoding, without_tag, literal_tree, tag_tree, in_tag}
+use Rattle.cbor_edn_conversions.specs.Conversions.{Conversion, called_tag, is_narrowest, argument, changed_encoding, without_tag, literal_tree, tag_tree, in_tag}
 use Rattle.cbor_edn_conversions.specs.Resolvers.{TurnsTo}
 use Rattle.cbor_edn_conversions.specs.Times.{time_prefix, time_item, instant_item, instant_by, is_plain, is_time_stamp, instant_literal, time_literal, time_of_tag, pretty_time}
-use Rattle.cbor_edn_conversions.proofs.conversions.Same.{plain_integer}
-use Rattle.cbor_edn_conversions.proofs.conversions.Calls.{reply_turns, told_is, tag_means, unmarked_means, without_tag_is}
+use Rattle.cbor_edn_conversions.proofs.conversions.SameValues.{plain_integer}
+use Rattle.cbor_edn_conversions.proofs.conversions.Calls.{reply_turns, called_tag_is, tag_means, narrowest_means, without_tag_is}
 use Rattle.cbor_edn_conversions.proofs.conversions.Literals.{GivesTimes, time_prefix_is, tree_means}
 
 -- ---- the text of a time is of bytes
@@ -167,7 +167,7 @@ module _ (R : Resolver) (gives : GivesTimes R) where
         let nothing : None ≡ Some t.content = sym (ap (λ o. o >>= means_integer j) read) ∙ t.content_is in
         absurd cc
     number_turns x j (Some z) read h u e =
-        let t = tag_means R 1 None (Number x j) u (sym (unmarked_means R 1 i (Number x j) narrow) ∙ e) in
+        let t = tag_means R 1 None (Number x j) u (sym (narrowest_means R 1 i (Number x j) narrow) ∙ e) in
         let seconds : z ≡ h.seconds = ap (λ (p : ℤ × ℕ). p.0) (some_is (z, 0) (h.seconds, h.nanoseconds) h.instant) in
         let none : 0 ≡ h.nanoseconds = ap (λ (p : ℤ × ℕ). p.1) (some_is (z, 0) (h.seconds, h.nanoseconds) h.instant) in
         let stamp : is_time_stamp z ≡ true = ap is_time_stamp seconds ∙ h.stamp in
@@ -228,6 +228,6 @@ module _ (R : Resolver) (gives : GivesTimes R) where
   by_tag w None is v e u h = absurd cc
   by_tag w (Some (n, i, c)) is v e u h = tag_by n i c v _ refl e u (sym (ap (λ x. means_by R x) (is n i c refl)) ∙ h)
 
-  pub time_turns : (a : Told) (w : Tree OneItem) → TurnsTo R R w (pretty_time a w).1
+  pub time_turns : (a : CallArguments) (w : Tree OneItem) → TurnsTo R R w (pretty_time a w).1
   unfolding pretty_time
-  time_turns a w = reply_turns R R w (time_of_tag (told_tag a w)) (λ x e. e) (λ v e. by_tag w (told_tag a w) (told_is a w) v e)
+  time_turns a w = reply_turns R R w (time_of_tag (called_tag a w)) (λ x e. e) (λ v e. by_tag w (called_tag a w) (called_tag_is a w) v e)

@@ -5,19 +5,19 @@ use Rattle.std.specs.Net.Text.{ipv6_text, hex_groups_text}
 use Rattle.hex.specs.Hex.{encode_with}
 use Rattle.std.proofs.Common.{ℕ, codes, false, List, [], None, Some, Ok, ◌≡◌, refl}
 use Rattle.cbor_edn_parts.specs.declared.indicator.Indicator.TheVariants as indicator
-use Rattle.cbor_edn_parts.specs.code.NumberReading.{integer_of}
-use Rattle.cbor_edn_parts.specs.code.ContentReading.{hex_bytes, base_bytes}
-use Rattle.cbor_edn_parts.specs.code.LiteralTokens.{decoded, prefix_of, quoted_of}
-use Rattle.cbor_edn_model.specs.declared.label.LabelKind.TheVariants as label
-use Rattle.cbor_edn_model.specs.Decoded.{alone}
-use Rattle.cbor_edn_model.specs.Items.{Array}
-use Rattle.cbor_edn_model.specs.Meaning.{means, magnitude_bytes}
-use Rattle.cbor_edn_model.specs.Value.{head}
-use Rattle.cbor_edn_model.specs.Seeking.{number, prefix_and_text}
-use Rattle.cbor_edn_model.specs.Trees.{Tree, OneItem, ListHead, Unmarked, Marked, NumberTree, EnclosedTree, ListTree, StringTree, EmbeddedTree, LastPieceTree, LiteralTree, ElementTree, EmptyTree, FullTree, LastTree, MoreTree, SequenceTree, onto, items}
-use Rattle.cbor_edn_model.specs.Visits.{fine, comment}
+use Rattle.cbor_edn_parts.specs.internal.NumberReading.{integer_of}
+use Rattle.cbor_edn_parts.specs.internal.ContentReading.{hex_bytes, base_bytes}
+use Rattle.cbor_edn_parts.specs.internal.LiteralTokens.{decoded, prefix_of, quoted_of}
+use Rattle.cbor_edn_model.specs.declared.text.label.LabelKind.TheVariants as label
+use Rattle.cbor_edn_model.specs.cbor.Decoded.{alone}
+use Rattle.cbor_edn_model.specs.tree.Items.{Array}
+use Rattle.cbor_edn_model.specs.cbor.Meaning.{means, magnitude_bytes}
+use Rattle.cbor_edn_model.specs.cbor.Value.{head}
+use Rattle.cbor_edn_model.specs.visit.Seeking.{number, prefix_and_text}
+use Rattle.cbor_edn_model.specs.tree.Trees.{Tree, OneItem, ListHead, NoIndicator, WithIndicator, NumberTree, EnclosedTree, ListTree, StringTree, EmbeddedTree, LastPieceTree, LiteralTree, ElementTree, EmptyTree, FullTree, LastTree, MoreTree, SequenceTree, onto, items}
+use Rattle.cbor_edn_model.specs.visit.Visits.{fine, comment}
 use Rattle.cbor_edn_literals.specs.declared.address.IpVersion.TheVariants.{V4}
-use Rattle.cbor_edn_literals.specs.code.AddressReading.{address_of}
+use Rattle.cbor_edn_literals.specs.internal.AddressReading.{address_of}
 use Rattle.cbor_edn_conversions.specs.Conversions.{tag_tree, changed_encoding}
 use Rattle.cbor_edn_conversions.specs.Addresses.{resolve_address, pretty_address, address_literal}
 use Rattle.cbor_edn_conversions.specs.Bignums.{pretty_bignum}
@@ -37,29 +37,29 @@ mapped : Row (pretty_address (number 54) (tag_tree 54 (written (codes "h'0000000
 unfolding pretty_address address_literal integer_of onto items means decoded prefix_of quoted_of hex_bytes head digits address_of read_ipv4 read_octet read_number read_ipv6 read_segments read_segment ipv6_text hex_groups_text encode_with
 mapped = (refl, refl)
 
-all : Row (pretty_address (number 54) (tag_tree 54 (two Unmarked (numeral (codes "0")) (codes ", ") (written (codes "h''"))))) fine (codes "IP'::/0'")
+all : Row (pretty_address (number 54) (tag_tree 54 (two NoIndicator (numeral (codes "0")) (codes ", ") (written (codes "h''"))))) fine (codes "IP'::/0'")
 unfolding pretty_address address_literal integer_of onto items means decoded prefix_of quoted_of hex_bytes head digits address_of read_ipv4 read_octet read_number read_ipv6 read_segments read_segment ipv6_text hex_groups_text encode_with
 all = (refl, refl)
 
-prefix_24 : Row (pretty_address (number 52) (tag_tree 52 (two Unmarked (numeral (codes "24")) (codes ", ") (written (codes "h'c00002'"))))) fine (codes "IP'192.0.2.0/24'")
+prefix_24 : Row (pretty_address (number 52) (tag_tree 52 (two NoIndicator (numeral (codes "24")) (codes ", ") (written (codes "h'c00002'"))))) fine (codes "IP'192.0.2.0/24'")
 unfolding pretty_address address_literal integer_of onto items means decoded prefix_of quoted_of hex_bytes head digits address_of read_ipv4 read_octet read_number read_ipv6 read_segments read_segment ipv6_text hex_groups_text encode_with
 prefix_24 = (refl, refl)
 
-marked : Row (pretty_address (number 52) (EnclosedTree (label.Tag (Some indicator.Two) 52) (alone (written (codes "h'c0000201'"))))) (comment changed_encoding) (codes "52_1(h'c0000201')")
+with_indicator : Row (pretty_address (number 52) (EnclosedTree (label.Tag (Some indicator.Two) 52) (alone (written (codes "h'c0000201'"))))) (comment changed_encoding) (codes "52_1(h'c0000201')")
 unfolding pretty_address address_literal integer_of onto items means decoded prefix_of quoted_of hex_bytes head digits address_of read_ipv4 read_octet read_number read_ipv6 read_segments read_segment ipv6_text hex_groups_text encode_with
-marked = (refl, refl)
+with_indicator = (refl, refl)
 
-marked_other : Row (pretty_address (number 52) (EnclosedTree (label.Tag (Some indicator.Two) 52) (alone (numeral (codes "1"))))) (comment (codes "Unexpected type for this tag")) (codes "52_1(1)")
+other_indicator : Row (pretty_address (number 52) (EnclosedTree (label.Tag (Some indicator.Two) 52) (alone (numeral (codes "1"))))) (comment (codes "Unexpected type for this tag")) (codes "52_1(1)")
 unfolding pretty_address address_literal integer_of onto items means decoded prefix_of quoted_of hex_bytes head digits address_of read_ipv4 read_octet read_number read_ipv6 read_segments read_segment ipv6_text hex_groups_text encode_with
-marked_other = (refl, refl)
+other_indicator = (refl, refl)
 
-zone : Row (pretty_address (number 52) (tag_tree 52 (two Unmarked (written (codes "h'c000022a'")) (codes ",") (numeral (codes "24"))))) fine (codes "52([ip'192.0.2.42',24])")
+zone : Row (pretty_address (number 52) (tag_tree 52 (two NoIndicator (written (codes "h'c000022a'")) (codes ",") (numeral (codes "24"))))) fine (codes "52([ip'192.0.2.42',24])")
 unfolding pretty_address address_literal integer_of onto items means decoded prefix_of quoted_of hex_bytes head digits address_of read_ipv4 read_octet read_number read_ipv6 read_segments read_segment ipv6_text hex_groups_text encode_with
 zone = (refl, refl)
 
-zone_marked : Row (pretty_address (number 52) (tag_tree 52 (two (Marked indicator.Indefinite (codes " ")) (written (codes "h'c000022a'")) (codes ", ") (numeral (codes "24"))))) fine (codes "52([_ ip'192.0.2.42', 24])")
+zone_indicator : Row (pretty_address (number 52) (tag_tree 52 (two (WithIndicator indicator.Indefinite (codes " ")) (written (codes "h'c000022a'")) (codes ", ") (numeral (codes "24"))))) fine (codes "52([_ ip'192.0.2.42', 24])")
 unfolding pretty_address address_literal integer_of onto items means decoded prefix_of quoted_of hex_bytes head digits address_of read_ipv4 read_octet read_number read_ipv6 read_segments read_segment ipv6_text hex_groups_text encode_with
-zone_marked = (refl, refl)
+zone_indicator = (refl, refl)
 
 short : Row (pretty_address (number 52) (tag_tree 52 (written (codes "h'c000'")))) (comment (codes "Data too short for address type")) (codes "52(h'c000')")
 unfolding pretty_address address_literal integer_of onto items means decoded prefix_of quoted_of hex_bytes head digits address_of read_ipv4 read_octet read_number read_ipv6 read_segments read_segment ipv6_text hex_groups_text encode_with
@@ -69,31 +69,31 @@ long : Row (pretty_address (number 52) (tag_tree 52 (written (codes "h'c00002010
 unfolding pretty_address address_literal integer_of onto items means decoded prefix_of quoted_of hex_bytes head digits address_of read_ipv4 read_octet read_number read_ipv6 read_segments read_segment ipv6_text hex_groups_text encode_with
 long = (refl, refl)
 
-end_zero : Row (pretty_address (number 52) (tag_tree 52 (two Unmarked (numeral (codes "24")) (codes ", ") (written (codes "h'c0000200'"))))) (comment changed_encoding) (codes "52([24, h'c0000200'])")
+end_zero : Row (pretty_address (number 52) (tag_tree 52 (two NoIndicator (numeral (codes "24")) (codes ", ") (written (codes "h'c0000200'"))))) (comment changed_encoding) (codes "52([24, h'c0000200'])")
 unfolding pretty_address address_literal integer_of onto items means decoded prefix_of quoted_of hex_bytes head digits address_of read_ipv4 read_octet read_number read_ipv6 read_segments read_segment ipv6_text hex_groups_text encode_with
 end_zero = (refl, refl)
 
-bits_behind : Row (pretty_address (number 52) (tag_tree 52 (two Unmarked (numeral (codes "8")) (codes ", ") (written (codes "h'c00002'"))))) (comment changed_encoding) (codes "52([8, h'c00002'])")
+bits_behind : Row (pretty_address (number 52) (tag_tree 52 (two NoIndicator (numeral (codes "8")) (codes ", ") (written (codes "h'c00002'"))))) (comment changed_encoding) (codes "52([8, h'c00002'])")
 unfolding pretty_address address_literal integer_of onto items means decoded prefix_of quoted_of hex_bytes head digits address_of read_ipv4 read_octet read_number read_ipv6 read_segments read_segment ipv6_text hex_groups_text encode_with
 bits_behind = (refl, refl)
 
-long_prefix : Row (pretty_address (number 52) (tag_tree 52 (two Unmarked (numeral (codes "33")) (codes ", ") (written (codes "h'c00002'"))))) (comment (codes "Prefix exceeds address size")) (codes "52([33, h'c00002'])")
+long_prefix : Row (pretty_address (number 52) (tag_tree 52 (two NoIndicator (numeral (codes "33")) (codes ", ") (written (codes "h'c00002'"))))) (comment (codes "Prefix exceeds address size")) (codes "52([33, h'c00002'])")
 unfolding pretty_address address_literal integer_of onto items means decoded prefix_of quoted_of hex_bytes head digits address_of read_ipv4 read_octet read_number read_ipv6 read_segments read_segment ipv6_text hex_groups_text encode_with
 long_prefix = (refl, refl)
 
-below_zero : Row (pretty_address (number 52) (tag_tree 52 (two Unmarked (numeral (codes "-1")) (codes ", ") (written (codes "h'c00002'"))))) (comment (codes "Prefix exceeds address size")) (codes "52([-1, h'c00002'])")
+below_zero : Row (pretty_address (number 52) (tag_tree 52 (two NoIndicator (numeral (codes "-1")) (codes ", ") (written (codes "h'c00002'"))))) (comment (codes "Prefix exceeds address size")) (codes "52([-1, h'c00002'])")
 unfolding pretty_address address_literal integer_of onto items means decoded prefix_of quoted_of hex_bytes head digits address_of read_ipv4 read_octet read_number read_ipv6 read_segments read_segment ipv6_text hex_groups_text encode_with
 below_zero = (refl, refl)
 
-no_integer : Row (pretty_address (number 52) (tag_tree 52 (two Unmarked (numeral (codes "1.5")) (codes ", ") (written (codes "h'c00002'"))))) (comment (codes "Address with prefix is inexpressible in IP'' literal")) (codes "52([1.5, h'c00002'])")
+no_integer : Row (pretty_address (number 52) (tag_tree 52 (two NoIndicator (numeral (codes "1.5")) (codes ", ") (written (codes "h'c00002'"))))) (comment (codes "Address with prefix is inexpressible in IP'' literal")) (codes "52([1.5, h'c00002'])")
 unfolding pretty_address address_literal integer_of onto items means decoded prefix_of quoted_of hex_bytes head digits address_of read_ipv4 read_octet read_number read_ipv6 read_segments read_segment ipv6_text hex_groups_text encode_with
 no_integer = (refl, refl)
 
-no_bytes : Row (pretty_address (number 52) (tag_tree 52 (two Unmarked (numeral (codes "24")) (codes ", ") (numeral (codes "24"))))) (comment (codes "Second element after an integer must be a byte string")) (codes "52([24, 24])")
+no_bytes : Row (pretty_address (number 52) (tag_tree 52 (two NoIndicator (numeral (codes "24")) (codes ", ") (numeral (codes "24"))))) (comment (codes "Second element after an integer must be a byte string")) (codes "52([24, 24])")
 unfolding pretty_address address_literal integer_of onto items means decoded prefix_of quoted_of hex_bytes head digits address_of read_ipv4 read_octet read_number read_ipv6 read_segments read_segment ipv6_text hex_groups_text encode_with
 no_bytes = (refl, refl)
 
-one_element : Row (pretty_address (number 52) (tag_tree 52 (ListTree Array (FullTree Unmarked [] (LastTree (ElementTree (numeral (codes "24"))) []))))) (comment (codes "Array too short for IP tag")) (codes "52([24])")
+one_element : Row (pretty_address (number 52) (tag_tree 52 (ListTree Array (FullTree NoIndicator [] (LastTree (ElementTree (numeral (codes "24"))) []))))) (comment (codes "Array too short for IP tag")) (codes "52([24])")
 unfolding pretty_address address_literal integer_of onto items means decoded prefix_of quoted_of hex_bytes head digits address_of read_ipv4 read_octet read_number read_ipv6 read_segments read_segment ipv6_text hex_groups_text encode_with
 one_element = (refl, refl)
 
@@ -101,7 +101,7 @@ no_element : Row (pretty_address (number 52) (tag_tree 52 (ListTree Array (Empty
 unfolding pretty_address address_literal integer_of onto items means decoded prefix_of quoted_of hex_bytes head digits address_of read_ipv4 read_octet read_number read_ipv6 read_segments read_segment ipv6_text hex_groups_text encode_with
 no_element = (refl, refl)
 
-three : Row (pretty_address (number 52) (tag_tree 52 (ListTree Array (FullTree Unmarked [] (MoreTree (ElementTree (numeral (codes "24"))) (codes ",") (MoreTree (ElementTree (numeral (codes "24"))) (codes ",") (LastTree (ElementTree (numeral (codes "24"))) []))))))) (comment (codes "Address with prefix and zone identifier is inexpressible in IP'' literal")) (codes "52([24,24,24])")
+three : Row (pretty_address (number 52) (tag_tree 52 (ListTree Array (FullTree NoIndicator [] (MoreTree (ElementTree (numeral (codes "24"))) (codes ",") (MoreTree (ElementTree (numeral (codes "24"))) (codes ",") (LastTree (ElementTree (numeral (codes "24"))) []))))))) (comment (codes "Address with prefix and zone identifier is inexpressible in IP'' literal")) (codes "52([24,24,24])")
 unfolding pretty_address address_literal integer_of onto items means decoded prefix_of quoted_of hex_bytes head digits address_of read_ipv4 read_octet read_number read_ipv6 read_segments read_segment ipv6_text hex_groups_text encode_with
 three = (refl, refl)
 
@@ -169,6 +169,6 @@ almost : Row (pretty_bignum (number 3) (tag_tree 3 (written (codes "h'ffffffffff
 unfolding pretty_bignum integer_of onto items means decoded prefix_of quoted_of hex_bytes base_bytes head digits magnitude_bytes
 almost = (refl, refl)
 
-marked_bignum : Row (pretty_bignum (number 2) (EnclosedTree (label.Tag (Some indicator.Immediate) 2) (alone (written (codes "h'010000000000000000'"))))) fine (codes "2_i(h'010000000000000000')")
+bignum_indicator : Row (pretty_bignum (number 2) (EnclosedTree (label.Tag (Some indicator.Immediate) 2) (alone (written (codes "h'010000000000000000'"))))) fine (codes "2_i(h'010000000000000000')")
 unfolding pretty_bignum integer_of onto items means decoded prefix_of quoted_of hex_bytes base_bytes head digits magnitude_bytes
-marked_bignum = (refl, refl)
+bignum_indicator = (refl, refl)

@@ -2,14 +2,14 @@
 use Rattle.std.specs.Fmt.{digits}
 use Rattle.std.proofs.Common.{ℕ, codes, List, [], ◌∷◌, None, ◌≡◌, refl, length}
 use Rattle.cbor_edn_parts.specs.Notes.{noted, hash_lines}
-use Rattle.cbor_edn_parts.specs.code.NumberReading.{integer_of}
-use Rattle.cbor_edn_model.specs.declared.word.NamedSimple.TheVariants.{True, False, Null, Undefined}
-use Rattle.cbor_edn_model.specs.Items.{Elements, Pairs, Array, Map}
-use Rattle.cbor_edn_model.specs.Seeking.{number, prefix_and_text}
-use Rattle.cbor_edn_model.specs.Trees.{Tree, OneItem, OneEntry, Rest, Unmarked, NumberTree, NamedTree, ListTree, StringTree, LastPieceTree, LiteralTree, ElementTree, PairTree, EmptyTree, FullTree, LastTree, MoreTree, text, onto}
-use Rattle.cbor_edn_model.specs.Visits.{Answer, fine, comment}
-use Rattle.cbor_edn_literals.specs.code.TimeComputing.{march_year, march_day, time_text_from, decimal_of}
-use Rattle.cbor_edn_literals.specs.code.TimeWriting.{padded}
+use Rattle.cbor_edn_parts.specs.internal.NumberReading.{integer_of}
+use Rattle.cbor_edn_model.specs.declared.text.keyword.NamedSimple.TheVariants.{True, False, Null, Undefined}
+use Rattle.cbor_edn_model.specs.tree.Items.{Elements, Pairs, Array, Map}
+use Rattle.cbor_edn_model.specs.visit.Seeking.{number, prefix_and_text}
+use Rattle.cbor_edn_model.specs.tree.Trees.{Tree, OneItem, OneEntry, Rest, NoIndicator, NumberTree, NamedTree, ListTree, StringTree, LastPieceTree, LiteralTree, ElementTree, PairTree, EmptyTree, FullTree, LastTree, MoreTree, text, onto}
+use Rattle.cbor_edn_model.specs.visit.Visits.{Answer, fine, comment}
+use Rattle.cbor_edn_literals.specs.internal.TimeComputing.{march_year, march_day, time_text_from, decimal_of}
+use Rattle.cbor_edn_literals.specs.internal.TimeWriting.{padded}
 use Rattle.cbor_edn_conversions.specs.Annotations.{comment_lang, commenting}
 use Rattle.cbor_edn_conversions.specs.Claims.{with_claims}
 use Rattle.cbor_edn_conversions.specs.Conversions.{Reply, tag_tree}
@@ -34,7 +34,7 @@ element_rest w [] = LastTree (ElementTree w) []
 element_rest w (v ∷ vs) = MoreTree (ElementTree w) (codes ",") (element_rest v vs)
 
 abbrev array : Tree OneItem → List (Tree OneItem) → Tree OneItem
-array w vs = ListTree Array (FullTree Unmarked [] (element_rest w vs))
+array w vs = ListTree Array (FullTree NoIndicator [] (element_rest w vs))
 
 abbrev entry : List ℕ → Tree OneItem → Tree (OneEntry Pairs)
 entry k v = PairTree (numeral k) [] [] v
@@ -44,7 +44,7 @@ pair_rest e [] = LastTree e []
 pair_rest e (f ∷ fs) = MoreTree e (codes ",") (pair_rest f fs)
 
 abbrev keyed : Tree (OneEntry Pairs) → List (Tree (OneEntry Pairs)) → Tree OneItem
-keyed e es = ListTree Map (FullTree Unmarked [] (pair_rest e es))
+keyed e es = ListTree Map (FullTree NoIndicator [] (pair_rest e es))
 
 -- `{8:{4:{k:v}}}`
 abbrev security_context : Tree (OneEntry Pairs) → Tree OneItem
@@ -82,7 +82,7 @@ directions :
 unfolding comment_lang onto digits noted
 directions = ((refl, refl), (refl, refl), (refl, refl), (refl, refl), (refl, refl))
 
--- the third element alone, of tag 38 alone, where that is told
+-- the third element alone, of tag 38 alone, where that is the tag of the call
 elsewhere :
     Row (comment_lang (number 38) (tag_tree 38 (array (NamedTree True) (NamedTree True ∷ NamedTree True ∷ NamedTree True ∷ [])))) fine (codes "38([true,true,true/ Right-to-left /,true])")
     × Row (comment_lang (number 38) (tag_tree 38 (array (NamedTree True) []))) fine (codes "38([true])")

@@ -4,24 +4,24 @@ use Rattle.std.specs.Net.Reader.{read_ipv4, read_octet, read_number}
 use Rattle.std.proofs.Common.{ℕ, ◌<◌, ◌≡◌, pos, true, codes, List, [], ◌∷◌, All, Some, None, refl, arith, lit<}
 use Rattle.std.proofs.lemmas.List.Elements.{All-nil, All-cons, All-from_recursion}
 use Rattle.hex.specs.Hex.{encode_with}
-use Rattle.cbor_edn_parts.specs.code.NumberReading.{integer_of}
-use Rattle.cbor_edn_parts.specs.code.ContentReading.{hex_bytes}
-use Rattle.cbor_edn_parts.specs.code.LiteralTokens.{decoded, prefix_of, quoted_of}
+use Rattle.cbor_edn_parts.specs.internal.NumberReading.{integer_of}
+use Rattle.cbor_edn_parts.specs.internal.ContentReading.{hex_bytes}
+use Rattle.cbor_edn_parts.specs.internal.LiteralTokens.{decoded, prefix_of, quoted_of}
 use Rattle.cbor_edn_parts.specs.declared.string.StringKind.TheVariants.{Bytes}
 use Rattle.cbor_edn_parts.specs.Written.{application_literal}
-use Rattle.cbor_edn_parts.proofs.WrittenLiterals.{application_is}
-use Rattle.cbor_edn_model.specs.Decoded.{alone}
-use Rattle.cbor_edn_model.specs.Depth.{depth}
-use Rattle.cbor_edn_model.specs.declared.cbor.Width.TheVariants.{Immediate, One}
-use Rattle.cbor_edn_model.specs.Meaning.{means}
-use Rattle.cbor_edn_model.specs.Seeking.{number, prefix_and_text, IsTag, IsApplication, SoughtCall, passed, entered, stayed, VisitParts, of_list, of_string, of_last_piece, of_literal, of_all_inside, of_more, of_last, of_element, of_standalone}
-use Rattle.cbor_edn_model.specs.Trees.{Tree, OneItem, Standalone, LiteralTree, items}
-use Rattle.cbor_edn_model.specs.Value.{Value, value, no_values, array, tag, unsigned, string, head, Fits}
-use Rattle.cbor_edn_model.specs.Visits.{fine, whole}
-use Rattle.cbor_edn_literals.specs.code.AddressReading.{address_of}
-use Rattle.cbor_edn_literals.specs.code.TimeReading.{offset_length}
-use Rattle.cbor_edn_literals.specs.code.TimeWriting.{padded}
-use Rattle.cbor_edn_literals.specs.code.TimeComputing.{day_number_of, day_of, date_of, minutes_of, clock_of, fraction_of, offset_of, tail_of, instant_of, march_year, march_day, time_text_from, instant_number}
+use Rattle.cbor_edn_parts.proofs.lemmas.literal.WrittenLiterals.{application_is}
+use Rattle.cbor_edn_model.specs.cbor.Decoded.{alone}
+use Rattle.cbor_edn_model.specs.visit.Depth.{depth}
+use Rattle.cbor_edn_model.specs.declared.cbor.heads.Width.TheVariants.{Immediate, One}
+use Rattle.cbor_edn_model.specs.cbor.Meaning.{means}
+use Rattle.cbor_edn_model.specs.visit.Seeking.{number, prefix_and_text, IsTag, IsApplication, SoughtCall, passed, entered, stayed, VisitParts, of_list, of_string, of_last_piece, of_literal, of_all_inside, of_more, of_last, of_element, of_standalone}
+use Rattle.cbor_edn_model.specs.tree.Trees.{Tree, OneItem, Standalone, LiteralTree, items}
+use Rattle.cbor_edn_model.specs.cbor.Value.{Value, value, no_values, array, tag, unsigned, string, head, Fits}
+use Rattle.cbor_edn_model.specs.visit.Visits.{fine, whole}
+use Rattle.cbor_edn_literals.specs.internal.AddressReading.{address_of}
+use Rattle.cbor_edn_literals.specs.internal.TimeReading.{offset_length}
+use Rattle.cbor_edn_literals.specs.internal.TimeWriting.{padded}
+use Rattle.cbor_edn_literals.specs.internal.TimeComputing.{day_number_of, day_of, date_of, minutes_of, clock_of, fraction_of, offset_of, tail_of, instant_of, march_year, march_day, time_text_from, instant_number}
 use Rattle.cbor_edn_conversions.specs.Resolving.{AnswersBy}
 use Rattle.cbor_edn_conversions.specs.Conversions.{tag_tree, integer_tree, bytes_tree, pair_tree, literal_tree}
 use Rattle.cbor_edn_conversions.specs.Times.{pretty_time, time_literal, resolve_time}
@@ -58,16 +58,16 @@ v = array (Some Immediate) (value (tag Immediate 1 (unsigned One 42)) (value (ta
 -- ---- the calls
 
 abbrev pretty_first : SoughtCall
-pretty_first = record { told = number 1; before = time_tag; answer = fine; after = time_aol }
+pretty_first = record { arguments = number 1; before = time_tag; answer = fine; after = time_aol }
 
 abbrev pretty_second : SoughtCall
-pretty_second = record { told = number 52; before = address_tag; answer = fine; after = address_aol }
+pretty_second = record { arguments = number 52; before = address_tag; answer = fine; after = address_aol }
 
 abbrev resolve_first : SoughtCall
-resolve_first = record { told = prefix_and_text (codes "DT") time; before = time_aol; answer = fine; after = time_tag }
+resolve_first = record { arguments = prefix_and_text (codes "DT") time; before = time_aol; answer = fine; after = time_tag }
 
 abbrev resolve_second : SoughtCall
-resolve_second = record { told = prefix_and_text (codes "IP") address; before = address_aol; answer = fine; after = address_tag }
+resolve_second = record { arguments = prefix_and_text (codes "IP") address; before = address_aol; answer = fine; after = address_tag }
 
 first_pretty : AnswersBy pretty_all pretty_first
 unfolding pretty_time pretty_address pretty_bignum time_literal integer_of digits padded march_year march_day time_text_from

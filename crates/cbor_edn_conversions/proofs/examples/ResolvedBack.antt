@@ -4,17 +4,17 @@ use Rattle.std.proofs.lemmas.List.Elements.{All-nil, All-cons}
 use Rattle.cbor_edn_parts.specs.Literal as literals
 use Rattle.cbor_edn_parts.specs.Literal.{Prefixed, IsLiteral}
 use Rattle.cbor_edn_parts.specs.Space as space
-use Rattle.cbor_edn_parts.specs.code.ContentReading.{same}
-use Rattle.cbor_edn_model.specs.Decoded.{alone}
-use Rattle.cbor_edn_model.specs.Depth.{depth}
-use Rattle.cbor_edn_model.specs.declared.cbor.Width.TheVariants.{Immediate}
-use Rattle.cbor_edn_model.specs.declared.label.LabelKind.TheVariants as label
-use Rattle.cbor_edn_model.specs.declared.word.NamedSimple.TheVariants.{True}
-use Rattle.cbor_edn_model.specs.Meaning.{means}
-use Rattle.cbor_edn_model.specs.Seeking.{number, prefix_and_text, IsTag, IsApplication, SoughtCall, entered, stayed, VisitParts, of_string, of_last_piece, of_literal, of_standalone}
-use Rattle.cbor_edn_model.specs.Trees.{Tree, OneItem, Standalone, EnclosedTree, NamedTree, StringTree, LastPieceTree, LiteralTree, items}
-use Rattle.cbor_edn_model.specs.Value.{Value, tag, simple}
-use Rattle.cbor_edn_model.specs.Visits.{fine, whole}
+use Rattle.cbor_edn_parts.specs.internal.ContentReading.{same}
+use Rattle.cbor_edn_model.specs.cbor.Decoded.{alone}
+use Rattle.cbor_edn_model.specs.visit.Depth.{depth}
+use Rattle.cbor_edn_model.specs.declared.cbor.heads.Width.TheVariants.{Immediate}
+use Rattle.cbor_edn_model.specs.declared.text.label.LabelKind.TheVariants as label
+use Rattle.cbor_edn_model.specs.declared.text.keyword.NamedSimple.TheVariants.{True}
+use Rattle.cbor_edn_model.specs.cbor.Meaning.{means}
+use Rattle.cbor_edn_model.specs.visit.Seeking.{number, prefix_and_text, IsTag, IsApplication, SoughtCall, entered, stayed, VisitParts, of_string, of_last_piece, of_literal, of_standalone}
+use Rattle.cbor_edn_model.specs.tree.Trees.{Tree, OneItem, Standalone, EnclosedTree, NamedTree, StringTree, LastPieceTree, LiteralTree, items}
+use Rattle.cbor_edn_model.specs.cbor.Value.{Value, tag, simple}
+use Rattle.cbor_edn_model.specs.visit.Visits.{fine, whole}
 use Rattle.cbor_edn_conversions.specs.Resolving.{Resolver, no_resolver, by_prefix, means_by, Turns}
 use Rattle.cbor_edn_conversions.proofs.resolving.ByPrefix.{by_prefix_applications, by_prefix_is}
 use Rattle.cbor_edn_conversions.proofs.resolving.Turning.{resolved_again, literal_keeps, given_turns}
@@ -48,10 +48,10 @@ abbrev literal : Tree OneItem
 literal = StringTree (LastPieceTree (LiteralTree text None))
 
 abbrev pretty : SoughtCall
-pretty = record { told = number 9; before = tagged; answer = fine; after = literal }
+pretty = record { arguments = number 9; before = tagged; answer = fine; after = literal }
 
 abbrev resolve : SoughtCall
-resolve = record { told = prefix_and_text x []; before = literal; answer = fine; after = tagged }
+resolve = record { arguments = prefix_and_text x []; before = literal; answer = fine; after = tagged }
 
 pretty_visit : VisitParts IsTag Standalone (alone tagged) (pretty ∷ []) (alone literal) whole
 unfolding depth

@@ -2,31 +2,31 @@
 use Rattle.std.proofs.Common.{ℕ, ℤ, ◌≡◌, ◌==◌, Bool, true, false, cond, not, List, [], ◌∷◌, codes, Option, Some, None, Result, Ok, Err, refl, sym, ap, subst}
 use Rattle.std.specs.declared.net.ip_addr.IpAddr.{IpAddr}
 use Rattle.cbor_edn_parts.specs.declared.indicator.Indicator.{Indicator}
-use Rattle.cbor_edn_parts.specs.code.ContentReading.{same}
-use Rattle.cbor_edn_parts.specs.code.NumberReading.{integer_of}
-use Rattle.cbor_edn_model.specs.declared.label.LabelKind.TheVariants as label
-use Rattle.cbor_edn_model.specs.Accessed.{item_bytes, array_items}
-use Rattle.cbor_edn_model.specs.Items.{Elements, Array, Map, Item, Node, Tagged, Listed, Simple, Then}
-use Rattle.cbor_edn_model.specs.Paths.{with_item}
-use Rattle.cbor_edn_model.specs.Seeking.{Told, number, prefix_and_text}
-use Rattle.cbor_edn_model.specs.Trees.{Tree, OneItem, Inside, Rest, mark, NumberTree, FloatTree, NamedTree, EnclosedTree, ListTree, StringTree, StreamTree, ElementTree, EmptyTree, FullTree, LastTree, MoreTree, StandaloneTree, items}
-use Rattle.cbor_edn_model.specs.Visits.{fine, comment, no_memory}
+use Rattle.cbor_edn_parts.specs.internal.ContentReading.{same}
+use Rattle.cbor_edn_parts.specs.internal.NumberReading.{integer_of}
+use Rattle.cbor_edn_model.specs.declared.text.label.LabelKind.TheVariants as label
+use Rattle.cbor_edn_model.specs.access.Accessed.{item_bytes, array_items}
+use Rattle.cbor_edn_model.specs.tree.Items.{Elements, Array, Map, Item, Node, Tagged, Listed, Simple, Then}
+use Rattle.cbor_edn_model.specs.access.Paths.{with_item}
+use Rattle.cbor_edn_model.specs.visit.Seeking.{CallArguments, number, prefix_and_text}
+use Rattle.cbor_edn_model.specs.tree.Trees.{Tree, OneItem, Inside, Rest, head_indicator, NumberTree, FloatTree, NamedTree, EnclosedTree, ListTree, StringTree, StreamTree, ElementTree, EmptyTree, FullTree, LastTree, MoreTree, StandaloneTree, items}
+use Rattle.cbor_edn_model.specs.visit.Visits.{fine, comment, no_memory}
 use Rattle.cbor_edn_literals.specs.declared.address.IpVersion.{IpVersion}
 use Rattle.cbor_edn_literals.specs.declared.address.IpVersion.TheVariants.{V4, V6}
 use Rattle.cbor_edn_literals.specs.declared.address.AddressError.{AddressError}
-use Rattle.cbor_edn_literals.specs.code.AddressReading.{address_of}
-use Rattle.cbor_edn_literals.specs.code.TimeComputing.{instant_of, time_text}
-use Rattle.cbor_edn_conversions.specs.Conversions.{Words, Conversion, Reply, reply, and_then, of_prefixes, of_literal, told_tag, is_narrowest, changed_encoding, without_tag, mean_the_same, literal_tree, integer_tree, tag_tree, in_tag}
+use Rattle.cbor_edn_literals.specs.internal.AddressReading.{address_of}
+use Rattle.cbor_edn_literals.specs.internal.TimeComputing.{instant_of, time_text}
+use Rattle.cbor_edn_conversions.specs.Conversions.{Message, Conversion, Reply, reply, and_then, of_prefixes, of_literal, called_tag, is_narrowest, changed_encoding, without_tag, mean_the_same, literal_tree, integer_tree, tag_tree, in_tag}
 use Rattle.cbor_edn_conversions.specs.Integers.{item_integer}
 use Rattle.cbor_edn_conversions.specs.Times.{time_prefix, instant_item, time_item, resolve_time, is_plain, instant_by, is_time_stamp, instant_literal, time_literal, time_of_tag, pretty_time}
 use Rattle.cbor_edn_conversions.specs.Addresses.{address_prefix, address_tag, bytes_behind, read_item, address_item, resolve_address, whole_text, prefix_text, if_same, as_literal, with_first, as_first, by_length, by_others, by_first, by_elements, by_bytes, address_literal, address_of_tag, pretty_address}
 use Rattle.cbor_edn_conversions.specs.Bignums.{quoted_item_bytes, magnitude, bignum_integer, if_same_integer, integer_of_tag, bignum_of_tag, pretty_bignum}
 use Rattle.cbor_edn_conversions.specs.All.{resolve_all, pretty_all}
-use Rattle.cbor_edn_conversions.specs.Annotations.{direction_at, commented, turned, with_direction, at_content, is_told_tag, comment_lang}
+use Rattle.cbor_edn_conversions.specs.Annotations.{direction_at, commented, turned, with_direction, at_content, is_called_tag, comment_lang}
 use Rattle.cbor_edn_conversions.specs.Tag999.{is_built_in, tag999_tree, tag999_of_literal, to_tag999}
 use Rattle.cbor_edn_conversions.specs.Nesting.{IsDirect}
 use Rattle.cbor_edn_conversions.specs.NestingLaws.{CallsKeepDirect, LanguageKeepsItems}
-use Rattle.cbor_edn_conversions.proofs.conversions.Calls.{told_is}
+use Rattle.cbor_edn_conversions.proofs.conversions.Calls.{called_tag_is}
 
 -- ---- conversions
 
@@ -76,12 +76,12 @@ unfolding items
 literal_direct p t = tt
 
 -- the content of a direct tag is direct
-told_direct : (a : Told) (w : Tree OneItem) → IsDirect (items w) → (n : ℕ) (i : Option Indicator) (c : Tree OneItem) → told_tag a w ≡ Some (n, i, c) → IsDirect (items c)
-told_direct a w d n i c e = subst (λ (x : Node Item). IsDirect x) (told_is a w n i c e) d
+called_direct : (a : CallArguments) (w : Tree OneItem) → IsDirect (items w) → (n : ℕ) (i : Option Indicator) (c : Tree OneItem) → called_tag a w ≡ Some (n, i, c) → IsDirect (items c)
+called_direct a w d n i c e = subst (λ (x : Node Item). IsDirect x) (called_tag_is a w n i c e) d
 
 -- ---- literals
 
-prefixes_give : (prefix : Bool → List ℕ) (item : Bool → List ℕ → Conversion) → ((wrap : Bool) (t : List ℕ) → Gives (item wrap t)) → (a : Told) → MayGive (of_literal (of_prefixes prefix item) a)
+prefixes_give : (prefix : Bool → List ℕ) (item : Bool → List ℕ → Conversion) → ((wrap : Bool) (t : List ℕ) → Gives (item wrap t)) → (a : CallArguments) → MayGive (of_literal (of_prefixes prefix item) a)
 prefixes_give prefix item g (number n) = tt
 prefixes_give prefix item g (prefix_and_text p t) = may_give (same p (prefix false)) (Some (item false t)) _ (g false t) (may_give (same p (prefix true)) (Some (item true t)) None (g true t) tt)
 
@@ -99,11 +99,11 @@ read_gives : (wrap : Bool) (r : Result (IpAddr × Option ℕ) AddressError) → 
 read_gives wrap (Err e) = tt
 read_gives wrap (Ok p) = in_tag_direct wrap _ (bytes_behind p.1 _) (behind_direct p.1 _)
 
-pub resolved_times : (a : Told) → Leaves (resolve_time a)
+pub resolved_times : (a : CallArguments) → Leaves (resolve_time a)
 unfolding resolve_time
 resolved_times a w d = reply_leaves w _ (prefixes_give time_prefix time_item (λ wrap t. instant_gives wrap (instant_of t)) a) d
 
-pub resolved_addresses : (a : Told) → Leaves (resolve_address a)
+pub resolved_addresses : (a : CallArguments) → Leaves (resolve_address a)
 unfolding resolve_address
 resolved_addresses a w d = reply_leaves w _ (prefixes_give address_prefix address_item (λ wrap t. read_gives wrap (address_of t)) a) d
 
@@ -111,11 +111,11 @@ tag999_direct : (p t : List ℕ) → IsDirect (items (tag999_tree p t))
 unfolding items
 tag999_direct p t = (tt, (tt, tt))
 
-tag999_gives : (a : Told) → MayGive (of_literal tag999_of_literal a)
+tag999_gives : (a : CallArguments) → MayGive (of_literal tag999_of_literal a)
 tag999_gives (number n) = tt
 tag999_gives (prefix_and_text p t) = may_give (is_built_in p) None (Some (Ok (tag999_tree p t))) tt (tag999_direct p t)
 
-tags_999 : (a : Told) → Leaves (to_tag999 a)
+tags_999 : (a : CallArguments) → Leaves (to_tag999 a)
 unfolding to_tag999
 tags_999 a w d = reply_leaves w _ (tag999_gives a) d
 
@@ -137,9 +137,9 @@ time_tag_gives : (o : Option (ℕ × Option Indicator × Tree OneItem)) → MayG
 time_tag_gives None = tt
 time_tag_gives (Some (n, i, w)) = may_give (n == 1) (Some (without_tag i n (time_literal w true))) None (without_gives i n (time_literal w true) (time_gives w true)) tt
 
-pub pretty_times : (a : Told) → Leaves (pretty_time a)
+pub pretty_times : (a : CallArguments) → Leaves (pretty_time a)
 unfolding pretty_time
-pretty_times a w d = reply_leaves w (time_of_tag (told_tag a w)) (time_tag_gives (told_tag a w)) d
+pretty_times a w d = reply_leaves w (time_of_tag (called_tag a w)) (time_tag_gives (called_tag a w)) d
 
 -- ---- addresses
 
@@ -171,11 +171,11 @@ module _ (version : IpVersion) (wrap : Bool) (w : Tree OneItem) (direct : IsDire
   same_gives new (Err e) d = tt
   same_gives new (Ok back) d = if_gives (mean_the_same (in_tag wrap (address_tag version) w) back) (Ok new) (Err changed_encoding) d tt
 
-  literal_gives : (r : Result (List ℕ) Words) → Gives (as_literal version wrap w r)
+  literal_gives : (r : Result (List ℕ) Message) → Gives (as_literal version wrap w r)
   literal_gives (Err e) = tt
   literal_gives (Ok t) = same_gives (literal_tree (address_prefix wrap) t) (address_item wrap t) (literal_direct (address_prefix wrap) t)
 
-  first_gives : (es : List (Tree OneItem)) → array_items w ≡ Some es → (r : Result (List ℕ) Words) → Gives (as_first version wrap w r)
+  first_gives : (es : List (Tree OneItem)) → array_items w ≡ Some es → (r : Result (List ℕ) Message) → Gives (as_first version wrap w r)
   first_gives es are (Err e) = tt
   first_gives es are (Ok t) =
       same_gives (with_first version wrap w (literal_tree (address_prefix false) t)) _
@@ -215,9 +215,9 @@ address_tag_gives (Some (n, i, c)) d =
     may_give (n == 52) (Some (without_tag i n (address_literal c V4 true))) _ (without_gives i n _ (address_gives V4 true c direct))
     (may_give (n == 54) (Some (without_tag i n (address_literal c V6 true))) None (without_gives i n _ (address_gives V6 true c direct)) tt)
 
-pub pretty_addresses : (a : Told) → Leaves (pretty_address a)
+pub pretty_addresses : (a : CallArguments) → Leaves (pretty_address a)
 unfolding pretty_address
-pretty_addresses a w d = reply_leaves w (address_of_tag (told_tag a w)) (address_tag_gives (told_tag a w) (told_direct a w d)) d
+pretty_addresses a w d = reply_leaves w (address_of_tag (called_tag a w)) (address_tag_gives (called_tag a w) (called_direct a w d)) d
 
 -- ---- bignums
 
@@ -235,16 +235,16 @@ bignum_gives None = tt
 bignum_gives (Some (n, Some i, c)) = tt
 bignum_gives (Some (n, None, c)) = bytes_give n c (quoted_item_bytes c)
 
-pub pretty_bignums : (a : Told) → Leaves (pretty_bignum a)
+pub pretty_bignums : (a : CallArguments) → Leaves (pretty_bignum a)
 unfolding pretty_bignum
-pretty_bignums a w d = reply_leaves w (bignum_of_tag (told_tag a w)) (bignum_gives (told_tag a w)) d
+pretty_bignums a w d = reply_leaves w (bignum_of_tag (called_tag a w)) (bignum_gives (called_tag a w)) d
 
 -- ---- all of them
 
-pretty_items : (a : Told) → Leaves (pretty_all a)
+pretty_items : (a : CallArguments) → Leaves (pretty_all a)
 pretty_items a w d = then_leaves (and_then (pretty_time a w) (pretty_address a)) (pretty_bignum a) (pretty_bignums a) (then_leaves (pretty_time a w) (pretty_address a) (pretty_addresses a) (pretty_times a w d))
 
-resolved_items : (a : Told) → Leaves (resolve_all a)
+resolved_items : (a : CallArguments) → Leaves (resolve_all a)
 resolved_items a w d = then_leaves (resolve_time a w) (resolve_address a) (resolved_addresses a) (resolved_times a w d)
 
 -- ---- comments in a tag 38
@@ -256,7 +256,7 @@ commented_items i (MoreTree e s m) = ap (Then (items e)) (commented_items _ m)
 
 direction_items : (w : Tree OneItem) → items (with_direction w).1 ≡ items w
 unfolding items
-direction_items (ListTree Array (FullTree h s m)) = ap (Listed Array (mark h)) (commented_items 0 m)
+direction_items (ListTree Array (FullTree h s m)) = ap (Listed Array (head_indicator h)) (commented_items 0 m)
 direction_items (ListTree Array (EmptyTree i s)) = refl
 direction_items (ListTree Map w) = refl
 direction_items (StringTree w) = refl
@@ -277,21 +277,21 @@ content_items (NumberTree z i) = refl
 content_items (FloatTree f i) = refl
 content_items (NamedTree b) = refl
 
-told_items : (b : Bool) (w : Tree OneItem) → items (cond b (at_content with_direction w) (fine, w)).1 ≡ items w
-told_items true w = content_items w
-told_items false w = refl
+called_items : (b : Bool) (w : Tree OneItem) → items (cond b (at_content with_direction w) (fine, w)).1 ≡ items w
+called_items true w = content_items w
+called_items false w = refl
 
 pub language_keeps_items : LanguageKeepsItems
 unfolding comment_lang
-language_keeps_items a w = told_items (is_told_tag a 38 w) w
+language_keeps_items a w = called_items (is_called_tag a 38 w) w
 
-languages : (a : Told) → Leaves (comment_lang a)
+languages : (a : CallArguments) → Leaves (comment_lang a)
 languages a w d = subst (λ (x : Node Item). IsDirect x) (sym (language_keeps_items a w)) d
 
 -- ---- the calls
 
-calls_keep : (f : Told → Tree OneItem → Reply) → ((a : Told) → Leaves (f a)) → CallsKeepDirect f
-calls_keep f h c is d = subst (λ (v : Tree OneItem). IsDirect (items v)) (sym is.1) (h c.told c.before d)
+calls_keep : (f : CallArguments → Tree OneItem → Reply) → ((a : CallArguments) → Leaves (f a)) → CallsKeepDirect f
+calls_keep f h c is d = subst (λ (v : Tree OneItem). IsDirect (items v)) (sym is.1) (h c.arguments c.before d)
 
 pub pretty_times_keep : CallsKeepDirect pretty_time
 pretty_times_keep = calls_keep pretty_time pretty_times

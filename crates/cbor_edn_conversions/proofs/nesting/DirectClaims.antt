@@ -1,8 +1,8 @@
 -- Claims sets with their comments are as direct as they were.
 use Rattle.std.proofs.Common.{ℕ, ℤ, false, List, Option, Some, None, option_and_then, option_map}
-use Rattle.cbor_edn_model.specs.Items as kind
-use Rattle.cbor_edn_model.specs.Items.{Array, Map}
-use Rattle.cbor_edn_model.specs.Trees.{Tree, OneItem, Rest, NumberTree, FloatTree, NamedTree, EnclosedTree, ListTree, StringTree, StreamTree, PairTree, EmptyTree, FullTree, LastTree, MoreTree, items}
+use Rattle.cbor_edn_model.specs.tree.Items as kind
+use Rattle.cbor_edn_model.specs.tree.Items.{Array, Map}
+use Rattle.cbor_edn_model.specs.tree.Trees.{Tree, OneItem, Rest, NumberTree, FloatTree, NamedTree, EnclosedTree, ListTree, StringTree, StreamTree, PairTree, EmptyTree, FullTree, LastTree, MoreTree, items}
 use Rattle.cbor_edn_conversions.specs.declared.tables.ClaimValue.{ClaimValue}
 use Rattle.cbor_edn_conversions.specs.declared.tables.ClaimValue.TheVariants.{Timestamp, Confirmation}
 use Rattle.cbor_edn_conversions.specs.declared.tables.ConfirmationValue.{ConfirmationValue}

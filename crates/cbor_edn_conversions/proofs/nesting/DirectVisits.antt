@@ -1,10 +1,10 @@
 -- A visit leaves direct items direct where its calls do.
 use Rattle.std.proofs.Common.{List, [], All, subst}
 use Rattle.std.proofs.lemmas.List.Elements.{All-head, All-tail}
-use Rattle.cbor_edn_model.specs.Items.{Row}
-use Rattle.cbor_edn_model.specs.Seeking.{Told, IsTag, IsApplication, SoughtCall, VisitItem, passed, entered, stayed, refused, not_called, VisitParts, of_number, of_float, of_name, of_tag, of_simple, of_list, of_string, of_stream, of_literal, of_dots, of_embedded, of_last_piece, of_pieces, of_pieces_cut, of_none_inside, of_all_inside, of_last, of_more, of_more_cut, of_nothing, of_sequence, of_standalone, VisitEntry, of_element, of_pair, of_pair_cut, of_chunk}
-use Rattle.cbor_edn_model.specs.Trees.{Rule, Tree, OneItem, OnePiece, OneString, OneEntry, Inside, Rest, Seq, Standalone, Of, items}
-use Rattle.cbor_edn_model.specs.Visits.{Ending}
+use Rattle.cbor_edn_model.specs.tree.Items.{Row}
+use Rattle.cbor_edn_model.specs.visit.Seeking.{CallArguments, IsTag, IsApplication, SoughtCall, VisitItem, passed, entered, stayed, refused, not_called, VisitParts, of_number, of_float, of_name, of_tag, of_simple, of_list, of_string, of_stream, of_literal, of_dots, of_embedded, of_last_piece, of_pieces, of_pieces_cut, of_none_inside, of_all_inside, of_last, of_more, of_more_cut, of_nothing, of_sequence, of_standalone, VisitEntry, of_element, of_pair, of_pair_cut, of_chunk}
+use Rattle.cbor_edn_model.specs.tree.Trees.{Rule, Tree, OneItem, OnePiece, OneString, OneEntry, Inside, Rest, Seq, Standalone, Of, items}
+use Rattle.cbor_edn_model.specs.visit.Visits.{Ending}
 use Rattle.cbor_edn_conversions.specs.Nesting.{IsDirect, StaysDirect}
 use Rattle.cbor_edn_conversions.specs.NestingLaws.{VisitKeepsDirect}
 use Rattle.cbor_edn_conversions.proofs.resolving.Keeping.{all_split}
@@ -19,7 +19,7 @@ DirectOf (Rest k) x = IsDirect x
 DirectOf Seq x = IsDirect x
 DirectOf Standalone x = IsDirect x
 
-module _ (Sought : Tree OneItem → Told → Type 0) where
+module _ (Sought : Tree OneItem → CallArguments → Type 0) where
   mutual
     unfolding items
 

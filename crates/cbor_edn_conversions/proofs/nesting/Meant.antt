@@ -2,20 +2,20 @@
 use Rattle.std.proofs.Common.{ℕ, suc, max, ◌≤◌, ◌≡◌, ◌≢◌, eqb, Bool, true, false, cond, List, [], ◌∷◌, Option, Some, refl, sym, ap, ◌∙◌, subst, arith}
 use Rattle.std.proofs.lemmas.Bool.{eqb-true, eqb-false}
 use Rattle.cbor_edn_parts.specs.declared.string.StringKind.{StringKind}
-use Rattle.cbor_edn_model.specs.declared.word.NamedSimple.{NamedSimple}
-use Rattle.cbor_edn_model.specs.declared.word.NamedSimple.TheVariants.{False, True, Null, Undefined}
-use Rattle.cbor_edn_model.specs.declared.cbor.Width.{Width}
-use Rattle.cbor_edn_model.specs.Decoded as decoded
-use Rattle.cbor_edn_model.specs.Decoded.{item_of, items_of, chunk_items, simple_item}
-use Rattle.cbor_edn_model.specs.Items as kind
-use Rattle.cbor_edn_model.specs.Items.{Row, Elements, Strings, Bracketed, Array, Map, entries_of, Sort, Item, Piece, Pieces, Entry, Entries, Node, Number, Float, Listed, Tagged, Named, Simple, String, Stream, Literal, Dots, Embedded, LastPiece, Plus, Element, Pair, Chunk, End, Then, nesting}
-use Rattle.cbor_edn_model.specs.Meaning.{◌>>=◌, MeaningOf, RowOf, EntryOf, width_of, length_of, row_len, list_value, listed, one_more, means_simple, simple_of, named_number, means}
-use Rattle.cbor_edn_model.specs.Value as values
-use Rattle.cbor_edn_model.specs.Value.{Value, unsigned, negative, string, chunks, array, cbor_map, tag, simple, float, Values, no_values, value, Pairs, no_pairs, pair, Fits, ValuesFit, PairsFit, IsSimple}
-use Rattle.cbor_edn_model.proofs.meaning.Decoding.{item_means}
-use Rattle.cbor_edn_model.proofs.meaning.MeaningSteps.{both_steps, some_is}
+use Rattle.cbor_edn_model.specs.declared.text.keyword.NamedSimple.{NamedSimple}
+use Rattle.cbor_edn_model.specs.declared.text.keyword.NamedSimple.TheVariants.{False, True, Null, Undefined}
+use Rattle.cbor_edn_model.specs.declared.cbor.heads.Width.{Width}
+use Rattle.cbor_edn_model.specs.cbor.Decoded as decoded
+use Rattle.cbor_edn_model.specs.cbor.Decoded.{item_of, items_of, chunk_items, simple_item}
+use Rattle.cbor_edn_model.specs.tree.Items as kind
+use Rattle.cbor_edn_model.specs.tree.Items.{Row, Elements, Strings, Bracketed, Array, Map, entries_of, Sort, Item, Piece, Pieces, Entry, Entries, Node, Number, Float, Listed, Tagged, Named, Simple, String, Stream, Literal, Dots, Embedded, LastPiece, Plus, Element, Pair, Chunk, End, Then, nesting}
+use Rattle.cbor_edn_model.specs.cbor.Meaning.{◌>>=◌, MeaningOf, RowOf, EntryOf, width_of, length_of, row_len, list_value, listed, one_more, means_simple, simple_of, named_number, means}
+use Rattle.cbor_edn_model.specs.cbor.Value as values
+use Rattle.cbor_edn_model.specs.cbor.Value.{Value, unsigned, negative, string, chunks, array, cbor_map, tag, simple, float, Values, no_values, value, Pairs, no_pairs, pair, Fits, ValuesFit, PairsFit, IsSimple}
+use Rattle.cbor_edn_model.proofs.lemmas.cbor.Decoding.{item_means}
+use Rattle.cbor_edn_model.proofs.lemmas.cbor.MeaningSteps.{both_steps, some_is}
 use Rattle.cbor_edn_conversions.specs.Resolving.{Resolver, means_by}
-use Rattle.cbor_edn_conversions.specs.Nesting.{IsDirect, HasNoWord}
+use Rattle.cbor_edn_conversions.specs.Nesting.{IsDirect, HasNoKeyword}
 use Rattle.cbor_edn_conversions.specs.NestingLaws.{NestsAsMeant, DecodedIsDirect}
 
 -- ---- strings nest nothing
@@ -65,19 +65,19 @@ list_nests : (k : Bracketed) (w : Option Width) (r : RowOf (entries_of k)) → n
 list_nests Array w r = refl
 list_nests Map w r = refl
 
--- a simple value without a word nests one level
-numbered_nests : (n : ℕ) (w : Node Item) → means_simple w ≡ Some (simple n) → HasNoWord w → nesting (item_of (simple n)) ≡ 1
+-- a simple value without a keyword nests one level
+numbered_nests : (n : ℕ) (w : Node Item) → means_simple w ≡ Some (simple n) → HasNoKeyword w → nesting (item_of (simple n)) ≡ 1
 numbered_nests n w is none = by_test 20 False refl _ (by_test 21 True refl _ (by_test 22 Null refl _ (by_test 23 Undefined refl _ refl)))
   where
     by_bool : (t : Bool) (k : ℕ) (b : NamedSimple) → named_number b ≡ k → eqb n k ≡ t → (x : Node Item) → nesting x ≡ 1 → nesting (cond t (Named b) x) ≡ 1
-    by_bool true k b word e x h = absurd (none b (is ∙ ap (λ (m : ℕ). Some (simple m)) (eqb-true n k e ∙ sym word)))
-    by_bool false k b word e x h = h
+    by_bool true k b keyword e x h = absurd (none b (is ∙ ap (λ (m : ℕ). Some (simple m)) (eqb-true n k e ∙ sym keyword)))
+    by_bool false k b keyword e x h = h
 
     by_test : (k : ℕ) (b : NamedSimple) → named_number b ≡ k → (x : Node Item) → nesting x ≡ 1 → nesting (cond (eqb n k) (Named b) x) ≡ 1
-    by_test k b word x h = by_bool (eqb n k) k b word refl x h
+    by_test k b keyword x h = by_bool (eqb n k) k b keyword refl x h
 
 -- only a number stands in `simple(..)`
-simple_nests : (w : Node Item) (v : Value) → means_simple w ≡ Some v → HasNoWord w → suc (nesting w) ≤ nesting (item_of v)
+simple_nests : (w : Node Item) (v : Value) → means_simple w ≡ Some v → HasNoKeyword w → suc (nesting w) ≤ nesting (item_of v)
 simple_nests (Number x i) v e none =
     let (n, read, is) = both_steps (simple_of x i) (λ n. Some (simple n)) v e in
     let h = numbered_nests n (Number x i) (e ∙ sym is) none in
@@ -141,9 +141,9 @@ chunks_direct : (k : StringKind) (cs : List values.Chunk) → IsDirect (chunk_it
 chunks_direct k [] = tt
 chunks_direct k (c ∷ cs) = (tt, chunks_direct k cs)
 
--- a word, or what has none
-word_direct : (n k : ℕ) (b : NamedSimple) (x : Node Item) → (means x ≡ Some (simple n) → n ≢ k → IsDirect x) → means (cond (eqb n k) (Named b) x) ≡ Some (simple n) → IsDirect (cond (eqb n k) (Named b) x)
-word_direct n k b x other e = by_test (eqb n k) refl e
+-- a keyword, or what has none
+keyword_direct : (n k : ℕ) (b : NamedSimple) (x : Node Item) → (means x ≡ Some (simple n) → n ≢ k → IsDirect x) → means (cond (eqb n k) (Named b) x) ≡ Some (simple n) → IsDirect (cond (eqb n k) (Named b) x)
+keyword_direct n k b x other e = by_test (eqb n k) refl e
   where
     by_test : (t : Bool) → eqb n k ≡ t → means (cond t (Named b) x) ≡ Some (simple n) → IsDirect (cond t (Named b) x)
     by_test true is e = tt
@@ -155,7 +155,7 @@ simple_value n = Some (simple n)
 same_number : (n m : ℕ) → simple_value n ≡ simple_value m → n ≡ m
 same_number n m e = cc
 
-numbered_direct : (n : ℕ) (w : Node Item) → means (Simple w) ≡ Some (simple n) → n ≢ 20 → n ≢ 21 → n ≢ 22 → n ≢ 23 → HasNoWord w
+numbered_direct : (n : ℕ) (w : Node Item) → means (Simple w) ≡ Some (simple n) → n ≢ 20 → n ≢ 21 → n ≢ 22 → n ≢ 23 → HasNoKeyword w
 unfolding means
 numbered_direct n w is f t u v False e = f (same_number n 20 (sym is ∙ e))
 numbered_direct n w is f t u v True e = t (same_number n 21 (sym is ∙ e))
@@ -164,7 +164,7 @@ numbered_direct n w is f t u v Undefined e = v (same_number n 23 (sym is ∙ e))
 
 simple_direct : (n : ℕ) → IsSimple n → IsDirect (simple_item n)
 simple_direct n fit =
-    word_direct n 20 False _ (λ a f. word_direct n 21 True _ (λ b t. word_direct n 22 Null _ (λ c u. word_direct n 23 Undefined _ (λ d v. numbered_direct n _ d f t u v) c) b) a) (item_means (simple n) fit)
+    keyword_direct n 20 False _ (λ a f. keyword_direct n 21 True _ (λ b t. keyword_direct n 22 Null _ (λ c u. keyword_direct n 23 Undefined _ (λ d v. numbered_direct n _ d f t u v) c) b) a) (item_means (simple n) fit)
 
 mutual
   item_direct : (v : Value) → Fits v → IsDirect (item_of v)

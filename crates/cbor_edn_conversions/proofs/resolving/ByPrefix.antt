@@ -2,15 +2,15 @@
 use Rattle.std.proofs.Common.{ℕ, ◌≡◌, ◌≢◌, Bool, true, false, cond, not, ◌&&◌, ◌||◌, List, [], Option, Some, None, refl, ap, ◌∙◌}
 use Rattle.cbor_edn_parts.specs.declared.indicator.Indicator.{Indicator}
 use Rattle.cbor_edn_parts.specs.declared.string.Quote.TheVariants as quotes
-use Rattle.cbor_edn_parts.specs.declared.string.Part.TheVariants as part
+use Rattle.cbor_edn_parts.specs.declared.string.QuotedState.TheVariants as part
 use Rattle.cbor_edn_parts.specs.Contents.{h, b64, b32, h32}
 use Rattle.cbor_edn_parts.specs.Literal.{Prefixed, IsLiteral}
-use Rattle.cbor_edn_parts.specs.code.ContentReading.{same, of_bytes, prefixed_bytes, is_decoded, is_supported_prefix, is_supported, behind_quote}
-use Rattle.cbor_edn_parts.specs.code.LiteralTokens.{is_literal, prefix_of, decoded}
-use Rattle.cbor_edn_parts.proofs.Applications.{one_application, prefixed_read, unprefixed_read}
-use Rattle.cbor_edn_parts.proofs.LiteralTexts.{literal_test}
-use Rattle.cbor_edn_parts.proofs.Prefixes.{prefixed_content}
-use Rattle.cbor_edn_model.specs.Value.{Value}
+use Rattle.cbor_edn_parts.specs.internal.ContentReading.{same, of_bytes, prefixed_bytes, is_decoded, is_supported_prefix, is_supported, behind_quote}
+use Rattle.cbor_edn_parts.specs.internal.LiteralTokens.{is_literal, prefix_of, decoded}
+use Rattle.cbor_edn_parts.proofs.lemmas.literal.Applications.{one_application, prefixed_read, unprefixed_read}
+use Rattle.cbor_edn_parts.proofs.lemmas.literal.LiteralTexts.{literal_test}
+use Rattle.cbor_edn_parts.proofs.lemmas.literal.LiteralPrefixes.{prefixed_content}
+use Rattle.cbor_edn_model.specs.cbor.Value.{Value}
 use Rattle.cbor_edn_conversions.specs.Resolving.{by_prefix, ResolvesApplications, ResolvesNoContent}
 
 both_true : (a b : Bool) → (a && not b) ≡ true → (a ≡ true) × (b ≡ false)

@@ -1,25 +1,25 @@
 -- A whole visit whose calls have one answer each has one result.
 use Rattle.std.proofs.Common.{ℕ, ◌≡◌, ◌≤◌, ◌<◌, List, [], ◌∷◌, ◌++◌, Option, Some, All, refl, sym, ap, ◌∙◌, subst, arith}
 use Rattle.std.proofs.lemmas.List.Elements.{All-head, All-tail}
-use Rattle.cbor_edn_parts.proofs.Applications.{one_application}
-use Rattle.cbor_edn_model.specs.Accessed.{IsApplicationPiece}
-use Rattle.cbor_edn_model.specs.declared.label.LabelKind.TheVariants as label
-use Rattle.cbor_edn_model.specs.Depth.{depth}
-use Rattle.cbor_edn_model.specs.Items.{Row, Elements, Strings, entries_of}
-use Rattle.cbor_edn_model.specs.Seeking.{Told, number, prefix_and_text, IsTag, IsApplication, SoughtCall, VisitItem, passed, entered, stayed, refused, not_called, VisitParts, of_number, of_float, of_name, of_tag, of_simple, of_list, of_string, of_stream, of_literal, of_dots, of_embedded, of_last_piece, of_pieces, of_pieces_cut, of_none_inside, of_all_inside, of_last, of_more, of_more_cut, of_nothing, of_sequence, of_standalone, VisitEntry, of_element, of_pair, of_pair_cut, of_chunk}
-use Rattle.cbor_edn_model.specs.Trees.{Rule, Tree, OneItem, OnePiece, OneString, OneEntry, Inside, Rest, Seq, Standalone, NumberTree, FloatTree, NamedTree, EnclosedTree, ListTree, StringTree, StreamTree, LiteralTree, DotsTree, EmbeddedTree, LastPieceTree, PlusTree, ElementTree, PairTree, ChunkTree, EmptyTree, FullTree, LastTree, MoreTree, NothingTree, SequenceTree, StandaloneTree}
-use Rattle.cbor_edn_model.specs.Visits.{Answer, answered, Ending, whole}
+use Rattle.cbor_edn_parts.proofs.lemmas.literal.Applications.{one_application}
+use Rattle.cbor_edn_model.specs.access.Accessed.{IsApplicationPiece}
+use Rattle.cbor_edn_model.specs.declared.text.label.LabelKind.TheVariants as label
+use Rattle.cbor_edn_model.specs.visit.Depth.{depth}
+use Rattle.cbor_edn_model.specs.tree.Items.{Row, Elements, Strings, entries_of}
+use Rattle.cbor_edn_model.specs.visit.Seeking.{CallArguments, number, prefix_and_text, IsTag, IsApplication, SoughtCall, VisitItem, passed, entered, stayed, refused, not_called, VisitParts, of_number, of_float, of_name, of_tag, of_simple, of_list, of_string, of_stream, of_literal, of_dots, of_embedded, of_last_piece, of_pieces, of_pieces_cut, of_none_inside, of_all_inside, of_last, of_more, of_more_cut, of_nothing, of_sequence, of_standalone, VisitEntry, of_element, of_pair, of_pair_cut, of_chunk}
+use Rattle.cbor_edn_model.specs.tree.Trees.{Rule, Tree, OneItem, OnePiece, OneString, OneEntry, Inside, Rest, Seq, Standalone, NumberTree, FloatTree, NamedTree, EnclosedTree, ListTree, StringTree, StreamTree, LiteralTree, DotsTree, EmbeddedTree, LastPieceTree, PlusTree, ElementTree, PairTree, ChunkTree, EmptyTree, FullTree, LastTree, MoreTree, NothingTree, SequenceTree, StandaloneTree}
+use Rattle.cbor_edn_model.specs.visit.Visits.{Answer, answered, Ending, whole}
 use Rattle.cbor_edn_conversions.proofs.resolving.Keeping.{all_split}
 
-abbrev call_of : Told → Tree OneItem → Answer → Tree OneItem → SoughtCall
-call_of a b n v = record { told = a; before = b; answer = n; after = v }
+abbrev call_of : CallArguments → Tree OneItem → Answer → Tree OneItem → SoughtCall
+call_of a b n v = record { arguments = a; before = b; answer = n; after = v }
 
-same_calls : (c d : SoughtCall) → c.told ≡ d.told → c.before ≡ d.before → c.answer ≡ d.answer → c.after ≡ d.after → c ≡ d
-same_calls c d told before answer after =
-    ap (λ a. call_of a c.before c.answer c.after) told
-    ∙ (ap (λ b. call_of d.told b c.answer c.after) before ∙ (ap (λ n. call_of d.told d.before n c.after) answer ∙ ap (call_of d.told d.before d.answer) after))
+same_calls : (c d : SoughtCall) → c.arguments ≡ d.arguments → c.before ≡ d.before → c.answer ≡ d.answer → c.after ≡ d.after → c ≡ d
+same_calls c d arguments before answer after =
+    ap (λ a. call_of a c.before c.answer c.after) arguments
+    ∙ (ap (λ b. call_of d.arguments b c.answer c.after) before ∙ (ap (λ n. call_of d.arguments d.before n c.after) answer ∙ ap (call_of d.arguments d.before d.answer) after))
 
-module _ (Sought : Tree OneItem → Told → Type 0) where
+module _ (Sought : Tree OneItem → CallArguments → Type 0) where
   -- ---- what a visit did, by the part of the tree that it began with
 
   abbrev Parts : {k : Rule} → Tree k → List SoughtCall → Tree k → Ending → Type 0
@@ -86,10 +86,10 @@ module _ (Sought : Tree OneItem → Told → Type 0) where
   entry_inverted (of_chunk {v = v} a) is = (v, a, refl, refl)
 
   data Came (w : Tree OneItem) (s : List ℕ) : List SoughtCall → Tree OneItem → List ℕ → Ending → Type 0 where
-    passes : {v : Tree OneItem} {cs : List SoughtCall} {r : Ending} → ((a : Told) → Sought w a → ⊥) → VisitParts Sought OneItem w cs v r → Came w s cs v s r
+    passes : {v : Tree OneItem} {cs : List SoughtCall} {r : Ending} → ((a : CallArguments) → Sought w a → ⊥) → VisitParts Sought OneItem w cs v r → Came w s cs v s r
     enters : {c : SoughtCall} {v : Tree OneItem} {cs : List SoughtCall} {r : Ending}
-        → w ≡ c.before → Sought w c.told → depth c.after ≤ depth w → VisitParts Sought OneItem c.after cs v r → Came w s (c ∷ cs) v (answered c.answer s) r
-    stays : {c : SoughtCall} → w ≡ c.before → Sought w c.told → depth w < depth c.after → Came w s (c ∷ []) c.after (answered c.answer s) whole
+        → w ≡ c.before → Sought w c.arguments → depth c.after ≤ depth w → VisitParts Sought OneItem c.after cs v r → Came w s (c ∷ cs) v (answered c.answer s) r
+    stays : {c : SoughtCall} → w ≡ c.before → Sought w c.arguments → depth w < depth c.after → Came w s (c ∷ []) c.after (answered c.answer s) whole
 
   came : {w u : Tree OneItem} {s x : List ℕ} {ds : List SoughtCall} {q : Ending} → VisitItem Sought w s ds u x q → q ≡ whole → Came w s ds u x q
   came (passed n a) is = passes n a
@@ -100,14 +100,14 @@ module _ (Sought : Tree OneItem → Told → Type 0) where
 
   -- ---- one result
 
-  module _ (told_once : (w : Tree OneItem) (a b : Told) → Sought w a → Sought w b → a ≡ b) (Good : SoughtCall → Type 0)
-      (answers_once : (c d : SoughtCall) → Good c → Good d → c.told ≡ d.told → c.before ≡ d.before → (c.answer ≡ d.answer) × (c.after ≡ d.after)) where
-    same_call : (w : Tree OneItem) (c d : SoughtCall) → w ≡ c.before → w ≡ d.before → Sought w c.told → Sought w d.told → Good c → Good d → (c.answer ≡ d.answer) × (c.after ≡ d.after) × (c ≡ d)
+  module _ (arguments_once : (w : Tree OneItem) (a b : CallArguments) → Sought w a → Sought w b → a ≡ b) (Good : SoughtCall → Type 0)
+      (answers_once : (c d : SoughtCall) → Good c → Good d → c.arguments ≡ d.arguments → c.before ≡ d.before → (c.answer ≡ d.answer) × (c.after ≡ d.after)) where
+    same_call : (w : Tree OneItem) (c d : SoughtCall) → w ≡ c.before → w ≡ d.before → Sought w c.arguments → Sought w d.arguments → Good c → Good d → (c.answer ≡ d.answer) × (c.after ≡ d.after) × (c ≡ d)
     same_call w c d i j a b g h =
-        let told = told_once w c.told d.told a b in
+        let arguments = arguments_once w c.arguments d.arguments a b in
         let before : c.before ≡ d.before = sym i ∙ j in
-        let rest = answers_once c d g h told before in
-        (rest.0, rest.1, same_calls c d told before rest.0 rest.1)
+        let rest = answers_once c d g h arguments before in
+        (rest.0, rest.1, same_calls c d arguments before rest.0 rest.1)
 
     abbrev ItemOnce : Tree OneItem → List ℕ → List SoughtCall → Tree OneItem → List ℕ → Type 0
     ItemOnce w s cs v t = (u : Tree OneItem) (x : List ℕ) (ds : List SoughtCall) (q : Ending) → VisitItem Sought w s ds u x q → q ≡ whole → All Good ds → (v ≡ u) × (t ≡ x) × (cs ≡ ds)
@@ -115,13 +115,13 @@ module _ (Sought : Tree OneItem → Told → Type 0) where
     abbrev PartsOnce : {k : Rule} → Tree k → List SoughtCall → Tree k → Type 0
     PartsOnce {k} w cs v = (u : Tree k) (ds : List SoughtCall) (q : Ending) → VisitParts Sought k w ds u q → q ≡ whole → All Good ds → (v ≡ u) × (cs ≡ ds)
 
-    passed_once : (w v : Tree OneItem) (s : List ℕ) (cs : List SoughtCall) → ((a : Told) → Sought w a → ⊥) → PartsOnce w cs v → {u : Tree OneItem} {x : List ℕ} {ds : List SoughtCall} {q : Ending} → Came w s ds u x q → q ≡ whole → All Good ds → (v ≡ u) × (s ≡ x) × (cs ≡ ds)
+    passed_once : (w v : Tree OneItem) (s : List ℕ) (cs : List SoughtCall) → ((a : CallArguments) → Sought w a → ⊥) → PartsOnce w cs v → {u : Tree OneItem} {x : List ℕ} {ds : List SoughtCall} {q : Ending} → Came w s ds u x q → q ≡ whole → All Good ds → (v ≡ u) × (s ≡ x) × (cs ≡ ds)
     passed_once w v s cs n once (passes {v = u} {cs = ds} {r = q} m b) is all = let h = once u ds q b is all in (h.0, refl, h.1)
-    passed_once w v s cs n once (enters {c = c} i a d b) is all = absurd (n c.told a)
-    passed_once w v s cs n once (stays {c = c} i a d) is all = absurd (n c.told a)
+    passed_once w v s cs n once (enters {c = c} i a d b) is all = absurd (n c.arguments a)
+    passed_once w v s cs n once (stays {c = c} i a d) is all = absurd (n c.arguments a)
 
-    entered_once : (c : SoughtCall) (v : Tree OneItem) (s : List ℕ) (cs : List SoughtCall) → Sought c.before c.told → depth c.after ≤ depth c.before → Good c → PartsOnce c.after cs v → {u : Tree OneItem} {x : List ℕ} {ds : List SoughtCall} {q : Ending} → Came c.before s ds u x q → q ≡ whole → All Good ds → (v ≡ u) × (answered c.answer s ≡ x) × ((c ∷ cs) ≡ ds)
-    entered_once c v s cs a d g once (passes n b) is all = absurd (n c.told a)
+    entered_once : (c : SoughtCall) (v : Tree OneItem) (s : List ℕ) (cs : List SoughtCall) → Sought c.before c.arguments → depth c.after ≤ depth c.before → Good c → PartsOnce c.after cs v → {u : Tree OneItem} {x : List ℕ} {ds : List SoughtCall} {q : Ending} → Came c.before s ds u x q → q ≡ whole → All Good ds → (v ≡ u) × (answered c.answer s ≡ x) × ((c ∷ cs) ≡ ds)
+    entered_once c v s cs a d g once (passes n b) is all = absurd (n c.arguments a)
     entered_once c v s cs a d g once (enters {c = e} {v = u} {cs = ds} {r = q} j b f p) is all =
         let same = same_call c.before c e refl j a b g (All-head Good e ds all) in
         let rest = once u ds q (subst (λ w. VisitParts Sought OneItem w ds u q) (sym same.1) p) is (All-tail Good e ds all) in
@@ -130,8 +130,8 @@ module _ (Sought : Tree OneItem → Told → Type 0) where
         let same = same_call c.before c e refl j a b g (All-head Good e [] all) in
         let h = ap depth same.1 in absurd (omega (arith, h, d, f))
 
-    stayed_once : (c : SoughtCall) (s : List ℕ) → Sought c.before c.told → depth c.before < depth c.after → Good c → {u : Tree OneItem} {x : List ℕ} {ds : List SoughtCall} {q : Ending} → Came c.before s ds u x q → q ≡ whole → All Good ds → (c.after ≡ u) × (answered c.answer s ≡ x) × ((c ∷ []) ≡ ds)
-    stayed_once c s a d g (passes n b) is all = absurd (n c.told a)
+    stayed_once : (c : SoughtCall) (s : List ℕ) → Sought c.before c.arguments → depth c.before < depth c.after → Good c → {u : Tree OneItem} {x : List ℕ} {ds : List SoughtCall} {q : Ending} → Came c.before s ds u x q → q ≡ whole → All Good ds → (c.after ≡ u) × (answered c.answer s ≡ x) × ((c ∷ []) ≡ ds)
+    stayed_once c s a d g (passes n b) is all = absurd (n c.arguments a)
     stayed_once c s a d g (enters {c = e} {cs = ds} j b f p) is all =
         let same = same_call c.before c e refl j a b g (All-head Good e ds all) in
         let h = ap depth same.1 in absurd (omega (arith, h, d, f))
@@ -202,24 +202,24 @@ module _ (Sought : Tree OneItem → Told → Type 0) where
       entry_once (of_pair_cut a) end all g x ds q b is others = absurd cc
       entry_once (of_chunk a) end all g x ds q b is others = let h = entry_inverted b is in let o = parts_once a end all h.0 ds q h.1 is others in (ap ChunkTree o.0 ∙ sym h.2, sym h.3, o.1)
 
--- ---- what is told of tags and of literals
+-- ---- the arguments of tags and of literals
 
-pub tag_told_once : (w : Tree OneItem) (a b : Told) → IsTag w a → IsTag w b → a ≡ b
-tag_told_once w (number n) (number m) a b = cc
-tag_told_once w (number n) (prefix_and_text p v) a b = absurd b
-tag_told_once w (prefix_and_text p v) b a c = absurd a
+pub tag_arguments_once : (w : Tree OneItem) (a b : CallArguments) → IsTag w a → IsTag w b → a ≡ b
+tag_arguments_once w (number n) (number m) a b = cc
+tag_arguments_once w (number n) (prefix_and_text p v) a b = absurd b
+tag_arguments_once w (prefix_and_text p v) b a c = absurd a
 
-piece_told_once : (l : Tree OnePiece) (p v q u : List ℕ) → IsApplicationPiece l p v → IsApplicationPiece l q u → prefix_and_text p v ≡ prefix_and_text q u
-piece_told_once (LiteralTree x i) p v q u a b = let h = one_application p v q u x a b in cc
-piece_told_once (DotsTree x) p v q u a b = absurd a
-piece_told_once (EmbeddedTree w i) p v q u a b = absurd a
+piece_arguments_once : (l : Tree OnePiece) (p v q u : List ℕ) → IsApplicationPiece l p v → IsApplicationPiece l q u → prefix_and_text p v ≡ prefix_and_text q u
+piece_arguments_once (LiteralTree x i) p v q u a b = let h = one_application p v q u x a b in cc
+piece_arguments_once (DotsTree x) p v q u a b = absurd a
+piece_arguments_once (EmbeddedTree w i) p v q u a b = absurd a
 
-pub application_told_once : (w : Tree OneItem) (a b : Told) → IsApplication w a → IsApplication w b → a ≡ b
-application_told_once w (number n) b a c = absurd a
-application_told_once w (prefix_and_text p v) (number n) a b = absurd b
-application_told_once w (prefix_and_text p v) (prefix_and_text q u) a b =
+pub application_arguments_once : (w : Tree OneItem) (a b : CallArguments) → IsApplication w a → IsApplication w b → a ≡ b
+application_arguments_once w (number n) b a c = absurd a
+application_arguments_once w (prefix_and_text p v) (number n) a b = absurd b
+application_arguments_once w (prefix_and_text p v) (prefix_and_text q u) a b =
     let same : a.0 ≡ b.0 = last_is a.0 b.0 (sym a.1 ∙ b.1) in
-    piece_told_once a.0 p v q u a.2 (subst (λ l. IsApplicationPiece l q u) (sym same) b.2)
+    piece_arguments_once a.0 p v q u a.2 (subst (λ l. IsApplicationPiece l q u) (sym same) b.2)
   where
     last_is : (l m : Tree OnePiece) → ◌≡◌ {A = Option (Tree OneString)} (Some (LastPieceTree l)) (Some (LastPieceTree m)) → l ≡ m
     last_is l m e = cc

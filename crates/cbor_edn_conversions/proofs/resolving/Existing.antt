@@ -3,16 +3,16 @@ use Rattle.std.proofs.Common.{ℕ, zero, suc, ◌<◌, ◌≤◌, ◌≡◌, ◌
 use Rattle.std.proofs.lemmas.Bool.{cases_lt}
 use Rattle.std.proofs.lemmas.List.Elements.{All-nil, All-cons, All-append}
 use Rattle.cbor_edn_parts.specs.declared.indicator.Indicator.{Indicator}
-use Rattle.cbor_edn_parts.specs.code.LiteralTokens.{is_literal, prefix_of}
+use Rattle.cbor_edn_parts.specs.internal.LiteralTokens.{is_literal, prefix_of}
 use Rattle.cbor_edn_parts.specs.Literal.{Prefixed, IsLiteral}
-use Rattle.cbor_edn_parts.proofs.Applications.{prefixed_read, unprefixed_read}
-use Rattle.cbor_edn_parts.proofs.LiteralTexts.{literal_test}
-use Rattle.cbor_edn_model.specs.declared.label.LabelKind.TheVariants as label
-use Rattle.cbor_edn_model.specs.Depth.{depth}
-use Rattle.cbor_edn_model.specs.Items.{Row, Elements, Pairs, Strings, Bracketed, Array, Map, entries_of, Item, Node, Tagged, String, Literal, Dots, Embedded, LastPiece, Plus}
-use Rattle.cbor_edn_model.specs.Seeking.{Told, number, prefix_and_text, IsTag, IsApplication, SoughtCall, VisitItem, passed, entered, stayed, VisitParts, of_number, of_float, of_name, of_tag, of_simple, of_list, of_string, of_stream, of_literal, of_dots, of_embedded, of_last_piece, of_pieces, of_none_inside, of_all_inside, of_last, of_more, of_nothing, of_sequence, of_standalone, VisitEntry, of_element, of_pair, of_chunk}
-use Rattle.cbor_edn_model.specs.Trees.{Rule, Tree, OneItem, OnePiece, OneString, OneEntry, Inside, Rest, Seq, Standalone, NumberTree, FloatTree, NamedTree, EnclosedTree, ListTree, StringTree, StreamTree, LiteralTree, DotsTree, EmbeddedTree, LastPieceTree, PlusTree, ElementTree, PairTree, ChunkTree, EmptyTree, FullTree, LastTree, MoreTree, NothingTree, SequenceTree, StandaloneTree, items}
-use Rattle.cbor_edn_model.specs.Visits.{Answer, answered, whole}
+use Rattle.cbor_edn_parts.proofs.lemmas.literal.Applications.{prefixed_read, unprefixed_read}
+use Rattle.cbor_edn_parts.proofs.lemmas.literal.LiteralTexts.{literal_test}
+use Rattle.cbor_edn_model.specs.declared.text.label.LabelKind.TheVariants as label
+use Rattle.cbor_edn_model.specs.visit.Depth.{depth}
+use Rattle.cbor_edn_model.specs.tree.Items.{Row, Elements, Pairs, Strings, Bracketed, Array, Map, entries_of, Item, Node, Tagged, String, Literal, Dots, Embedded, LastPiece, Plus}
+use Rattle.cbor_edn_model.specs.visit.Seeking.{CallArguments, number, prefix_and_text, IsTag, IsApplication, SoughtCall, VisitItem, passed, entered, stayed, VisitParts, of_number, of_float, of_name, of_tag, of_simple, of_list, of_string, of_stream, of_literal, of_dots, of_embedded, of_last_piece, of_pieces, of_none_inside, of_all_inside, of_last, of_more, of_nothing, of_sequence, of_standalone, VisitEntry, of_element, of_pair, of_chunk}
+use Rattle.cbor_edn_model.specs.tree.Trees.{Rule, Tree, OneItem, OnePiece, OneString, OneEntry, Inside, Rest, Seq, Standalone, NumberTree, FloatTree, NamedTree, EnclosedTree, ListTree, StringTree, StreamTree, LiteralTree, DotsTree, EmbeddedTree, LastPieceTree, PlusTree, ElementTree, PairTree, ChunkTree, EmptyTree, FullTree, LastTree, MoreTree, NothingTree, SequenceTree, StandaloneTree, items}
+use Rattle.cbor_edn_model.specs.visit.Visits.{Answer, answered, whole}
 use Rattle.cbor_edn_conversions.specs.Resolving.{AnswersBy}
 use Rattle.cbor_edn_conversions.specs.ResolvingLaws.{NeverRefused, VisitsExist}
 use Rattle.cbor_edn_conversions.specs.VisitedItems.{IsTagNode, IsApplicationNode}
@@ -20,9 +20,9 @@ use Rattle.cbor_edn_conversions.proofs.resolving.OnItems.{tag_node, application_
 
 -- ---- what is sought
 
--- something is told of it, or nothing
-abbrev Decided : {X : Type 0} → (X → Told → Type 0) → X → Type 0
-Decided Sought x = ((a : Told) × Sought x a) ⊎ ((a : Told) → Sought x a → ⊥)
+-- it has arguments of a call, or none
+abbrev Decided : {X : Type 0} → (X → CallArguments → Type 0) → X → Type 0
+Decided Sought x = ((a : CallArguments) × Sought x a) ⊎ ((a : CallArguments) → Sought x a → ⊥)
 
 tag_decided : (x : Node Item) → Decided IsTagNode x
 tag_decided (Tagged n i w) = inl (number n, refl)
@@ -40,13 +40,13 @@ module _ (x : List ℕ) where
   by_tests true is (inr filled) = inl (prefix_of x, _, prefixed_read x filled is)
 
 module _ (x : List ℕ) (i : Option Indicator) where
-  not_told : ((p t : List ℕ) → IsLiteral (Prefixed p) t x → ⊥) → (a : Told) → IsApplicationNode (String (LastPiece (Literal x i))) a → ⊥
-  not_told none (number n) is = is
-  not_told none (prefix_and_text p t) is = none p t is
+  no_arguments : ((p t : List ℕ) → IsLiteral (Prefixed p) t x → ⊥) → (a : CallArguments) → IsApplicationNode (String (LastPiece (Literal x i))) a → ⊥
+  no_arguments none (number n) is = is
+  no_arguments none (prefix_and_text p t) is = none p t is
 
   of_text : ((p t : List ℕ) × IsLiteral (Prefixed p) t x) ⊎ ((p t : List ℕ) → IsLiteral (Prefixed p) t x → ⊥) → Decided IsApplicationNode (String (LastPiece (Literal x i)))
   of_text (inl (p, t, is)) = inl (prefix_and_text p t, is)
-  of_text (inr none) = inr (not_told none)
+  of_text (inr none) = inr (no_arguments none)
 
 literal_decided : (x : Node Item) → Decided IsApplicationNode x
 literal_decided (String (LastPiece (Literal x i))) = of_text x i (by_tests x (is_literal x) refl (empty_decided (prefix_of x)))
@@ -55,7 +55,7 @@ literal_decided (String (LastPiece (Embedded m i))) = inr (λ a is. is)
 literal_decided (String (Plus p w)) = inr (λ a is. is)
 literal_decided _ = inr (λ a is. is)
 
-tree_decided : (Sought : Tree OneItem → Told → Type 0) (SoughtNode : Node Item → Told → Type 0) → ((w : Tree OneItem) (a : Told) → Sought w a ↔ SoughtNode (items w) a) → (w : Tree OneItem) → Decided SoughtNode (items w) → Decided Sought w
+tree_decided : (Sought : Tree OneItem → CallArguments → Type 0) (SoughtNode : Node Item → CallArguments → Type 0) → ((w : Tree OneItem) (a : CallArguments) → Sought w a ↔ SoughtNode (items w) a) → (w : Tree OneItem) → Decided SoughtNode (items w) → Decided Sought w
 tree_decided Sought SoughtNode same w (inl is) = inl (is.0, (same w is.0).1 is.1)
 tree_decided Sought SoughtNode same w (inr none) = inr (λ a is. none a ((same w a).0 is))
 
@@ -86,7 +86,7 @@ both_within n Elements a b h = (omega arith, omega arith)
 both_within n Pairs a b h = (omega arith, omega arith)
 both_within n Strings a b h = (omega arith, omega arith)
 
-module _ (Sought : Tree OneItem → Told → Type 0) (decided : (w : Tree OneItem) → Decided Sought w) (f : Told → Tree OneItem → Answer × Tree OneItem) (given : NeverRefused f) where
+module _ (Sought : Tree OneItem → CallArguments → Type 0) (decided : (w : Tree OneItem) → Decided Sought w) (f : CallArguments → Tree OneItem → Answer × Tree OneItem) (given : NeverRefused f) where
   abbrev Calls : List SoughtCall → Type 0
   Calls cs = All (AnswersBy f) cs
 
@@ -113,11 +113,11 @@ module _ (Sought : Tree OneItem → Told → Type 0) (decided : (w : Tree OneIte
   more_visited : (k : Row) (e : Tree (OneEntry k)) (s : List ℕ) (m : Tree (Rest k)) → EntryReached k e s → Visited (Rest k) m → Visited (Rest k) (MoreTree e s m)
   more_visited k e s m (g, t, cs, first, a) (n, ds, rest, b) = (MoreTree g t n, cs ++ ds, All-append (AnswersBy f) cs ds first rest, of_more a b refl)
 
-  call : Told → Tree OneItem → SoughtCall
-  call a w = record { told = a; before = w; answer = (f a w).0; after = (f a w).1 }
+  call : CallArguments → Tree OneItem → SoughtCall
+  call a w = record { arguments = a; before = w; answer = (f a w).0; after = (f a w).1 }
 
   module _ (n : ℕ) (enter : (w : Tree OneItem) → depth w < n → Visited OneItem w) where
-    by_depth : (w : Tree OneItem) (s : List ℕ) (a : Told) → Sought w a → depth w < n → (depth w < depth (f a w).1) ⊎ (depth (f a w).1 ≤ depth w) → Reached w s
+    by_depth : (w : Tree OneItem) (s : List ℕ) (a : CallArguments) → Sought w a → depth w < n → (depth w < depth (f a w).1) ⊎ (depth (f a w).1 ≤ depth w) → Reached w s
     unfolding call
     by_depth w s a is h (inl deeper) = ((f a w).1, answered (f a w).0 s, call a w ∷ [], All-cons (AnswersBy f) (call a w) [] (refl, refl) (All-nil (AnswersBy f)), stayed {c = call a w} is (given a w) deeper)
     by_depth w s a is h (inr within) =
@@ -164,7 +164,7 @@ module _ (Sought : Tree OneItem → Told → Type 0) (decided : (w : Tree OneIte
   entering zero w h = absurd (omega arith)
   entering (suc n) w h = parts n (entering n) w (omega arith)
 
-visits_exist : (Sought : Tree OneItem → Told → Type 0) → ((w : Tree OneItem) → Decided Sought w) → VisitsExist Sought
+visits_exist : (Sought : Tree OneItem → CallArguments → Type 0) → ((w : Tree OneItem) → Decided Sought w) → VisitsExist Sought
 visits_exist Sought decided f given = (
   λ w. parts Sought decided f given (suc (depth w)) (entering Sought decided f given (suc (depth w))) w (omega arith),
   λ w. parts Sought decided f given (suc (depth w)) (entering Sought decided f given (suc (depth w))) w (omega arith),

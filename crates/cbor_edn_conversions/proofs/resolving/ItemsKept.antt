@@ -1,18 +1,18 @@
 -- The same of visits of items alone: what they keep of a meaning, and that they have one result.
 use Rattle.std.proofs.Common.{◌≡◌, ◌≤◌, Option, Some, refl, sym, ap, ◌∙◌, subst, le_trans, arith}
 use Rattle.cbor_edn_parts.specs.declared.string.StringKind.TheVariants.{Bytes}
-use Rattle.cbor_edn_model.specs.Items as kind
-use Rattle.cbor_edn_model.specs.Items.{Row, Sort, Item, Piece, Pieces, Entry, Entries, Strings, entries_of, Node, Literal, Dots, Embedded, LastPiece, Plus, String, Chunk, End, Then}
-use Rattle.cbor_edn_model.specs.Meaning.{◌>>=◌, width_of, listed, pieces_mark, chunk_of, stream_of, joined, one_more}
-use Rattle.cbor_edn_model.specs.Seeking as told
-use Rattle.cbor_edn_model.specs.Seeking.{Told}
-use Rattle.cbor_edn_model.specs.Value.{Value, encodings, tag}
+use Rattle.cbor_edn_model.specs.tree.Items as kind
+use Rattle.cbor_edn_model.specs.tree.Items.{Row, Sort, Item, Piece, Pieces, Entry, Entries, Strings, entries_of, Node, Literal, Dots, Embedded, LastPiece, Plus, String, Chunk, End, Then}
+use Rattle.cbor_edn_model.specs.cbor.Meaning.{◌>>=◌, width_of, listed, pieces_indicator, chunk_of, stream_of, joined, one_more}
+use Rattle.cbor_edn_model.specs.visit.Seeking as arguments
+use Rattle.cbor_edn_model.specs.visit.Seeking.{CallArguments}
+use Rattle.cbor_edn_model.specs.cbor.Value.{Value, encodings, tag}
 use Rattle.cbor_edn_conversions.specs.Resolving.{Resolver, resolved, resolved_item, means_by, DifferAtPrefixes}
 use Rattle.cbor_edn_conversions.specs.VisitedItems as visited
 use Rattle.cbor_edn_conversions.specs.VisitedItems.{node_depth, IsTagNode, IsApplicationNode, ReachedItem, passed, entered, stayed, VisitedNode, number, float, named, simple, tagged, string, stream, literal, dots, embedded, last_piece, plus, element, pair, chunk, end, then}
-use Rattle.cbor_edn_conversions.proofs.resolving.Keeping.{Relates, one_step, two_steps, Kept, EnteredKept, piece_shape, shape, same_mark, string_kept}
+use Rattle.cbor_edn_conversions.proofs.resolving.Keeping.{Relates, one_step, two_steps, Kept, EnteredKept, piece_shape, shape, same_piece_indicator, string_kept}
 
-module _ {Sought : Node Item → Told → Type 0} {Step : Told → Node Item → Node Item → Type 0} where
+module _ {Sought : Node Item → CallArguments → Type 0} {Step : CallArguments → Node Item → Node Item → Type 0} where
   piece_shaped : {p q : Node Piece} → VisitedNode Sought Step Piece p q → piece_shape p ≡ piece_shape q
   piece_shaped literal = refl
   piece_shaped dots = refl
@@ -53,10 +53,10 @@ module _ {Sought : Node Item → Told → Type 0} {Step : Told → Node Item →
 -- ---- what is kept
 
 module _ (Rel : (A : Type 0) → Option A → Option A → Type 0) (B A : Resolver) where
-  pub record ItemPremises (Sought : Node Item → Told → Type 0) (Step : Told → Node Item → Node Item → Type 0) : Type 0 where
-    pub unsought : (x : Node Item) → ((a : Told) → Sought x a → ⊥) → resolved_item B x ≡ resolved_item A x
-    pub called : (a : Told) (x z : Node Item) → Sought x a → Step a x z → Kept Rel B A x z
-    pub entering : (a : Told) (x y z : Node Item) → Sought x a → Step a x z → node_depth z ≤ node_depth x → VisitedNode Sought Step Item z y → EnteredKept Rel B A z y → Kept Rel B A x y
+  pub record ItemPremises (Sought : Node Item → CallArguments → Type 0) (Step : CallArguments → Node Item → Node Item → Type 0) : Type 0 where
+    pub unsought : (x : Node Item) → ((a : CallArguments) → Sought x a → ⊥) → resolved_item B x ≡ resolved_item A x
+    pub called : (a : CallArguments) (x z : Node Item) → Sought x a → Step a x z → Kept Rel B A x z
+    pub entering : (a : CallArguments) (x y z : Node Item) → Sought x a → Step a x z → node_depth z ≤ node_depth x → VisitedNode Sought Step Item z y → EnteredKept Rel B A z y → Kept Rel B A x y
 
   abbrev pub KeptAt : (s : Sort) → Node s → Node s → Type 0
   KeptAt Item x y = EnteredKept Rel B A x y
@@ -65,7 +65,7 @@ module _ (Rel : (A : Type 0) → Option A → Option A → Type 0) (B A : Resolv
   KeptAt (Entry k) x y = Kept Rel B A x y
   KeptAt (Entries k) x y = Kept Rel B A x y
 
-module _ (Rel : (A : Type 0) → Option A → Option A → Type 0) (relates : Relates Rel) (B A : Resolver) (Sought : Node Item → Told → Type 0) (Step : Told → Node Item → Node Item → Type 0) (premises : ItemPremises Rel B A Sought Step) where
+module _ (Rel : (A : Type 0) → Option A → Option A → Type 0) (relates : Relates Rel) (B A : Resolver) (Sought : Node Item → CallArguments → Type 0) (Step : CallArguments → Node Item → Node Item → Type 0) (premises : ItemPremises Rel B A Sought Step) where
   mutual
     unfolding means_by
 
@@ -91,45 +91,45 @@ module _ (Rel : (A : Type 0) → Option A → Option A → Type 0) (relates : Re
     visited_kept (element a) = reached_kept a
     visited_kept (pair {a = a} {b = b} {w = w} {v = v} c d) = two_steps Rel relates (means_by B a) (means_by A b) (means_by B w) (means_by A v) (λ x y. (x, y)) (reached_kept c) (reached_kept d)
     visited_kept (chunk {w = w} {v = v} a) =
-        subst (λ o. Rel _ (means_by B w >>= λ c. pieces_mark w >>= chunk_of c) (means_by A v >>= λ c. o >>= chunk_of c)) (same_mark w v (string_shaped a)) (one_step Rel relates (means_by B w) (means_by A v) (λ c. pieces_mark w >>= chunk_of c) (visited_kept a))
+        subst (λ o. Rel _ (means_by B w >>= λ c. pieces_indicator w >>= chunk_of c) (means_by A v >>= λ c. o >>= chunk_of c)) (same_piece_indicator w v (string_shaped a)) (one_step Rel relates (means_by B w) (means_by A v) (λ c. pieces_indicator w >>= chunk_of c) (visited_kept a))
     visited_kept end = relates.same _ _
     visited_kept (then {k = k} {e = e} {f = f} {m = m} {n = n} a b) = two_steps Rel relates (means_by B e) (means_by A f) (means_by B m) (means_by A n) (one_more k) (visited_kept a) (visited_kept b)
 
 -- ---- visits that keep one meaning, and visits of literals
 
 module _ (Rel : (A : Type 0) → Option A → Option A → Type 0) (relates : Relates Rel) where
-  abbrev pub Turning : Resolver → Resolver → Told → Node Item → Node Item → Type 0
+  abbrev pub Turning : Resolver → Resolver → CallArguments → Node Item → Node Item → Type 0
   Turning B A a x y = Rel Value (means_by B x) (means_by A y)
 
-  pub keeps : (trans : (o p q : Option Value) → Rel Value o p → Rel Value p q → Rel Value o q) (Sought : Node Item → Told → Type 0) (Step : Told → Node Item → Node Item → Type 0) (R : Resolver)
-      → ((a : Told) (x z : Node Item) → Sought x a → Step a x z → Turning R R a x z) → ItemPremises Rel R R Sought Step
+  pub keeps : (trans : (o p q : Option Value) → Rel Value o p → Rel Value p q → Rel Value o q) (Sought : Node Item → CallArguments → Type 0) (Step : CallArguments → Node Item → Node Item → Type 0) (R : Resolver)
+      → ((a : CallArguments) (x z : Node Item) → Sought x a → Step a x z → Turning R R a x z) → ItemPremises Rel R R Sought Step
   keeps trans Sought Step R steps = record {
     unsought = λ x n. refl;
     called = steps;
     entering = λ a x y z s k d v e. trans (means_by R x) (means_by R z) (means_by R y) (steps a x z s k) (e refl);
   }
 
-  unsought_string : (B A : Resolver) → DifferAtPrefixes B A → (w : Node Pieces) → ((a : Told) → IsApplicationNode (String w) a → ⊥) → resolved B w ≡ resolved A w
-  unsought_string B A q (LastPiece (Literal x i)) n = q x i (λ p t is. n (told.prefix_and_text p t) is)
+  unsought_string : (B A : Resolver) → DifferAtPrefixes B A → (w : Node Pieces) → ((a : CallArguments) → IsApplicationNode (String w) a → ⊥) → resolved B w ≡ resolved A w
+  unsought_string B A q (LastPiece (Literal x i)) n = q x i (λ p t is. n (arguments.prefix_and_text p t) is)
   unsought_string B A q (LastPiece (Dots x)) n = refl
   unsought_string B A q (LastPiece (Embedded m i)) n = refl
   unsought_string B A q (Plus p w) n = refl
 
-  unsought_node : (B A : Resolver) → DifferAtPrefixes B A → (x : Node Item) → ((a : Told) → IsApplicationNode x a → ⊥) → resolved_item B x ≡ resolved_item A x
+  unsought_node : (B A : Resolver) → DifferAtPrefixes B A → (x : Node Item) → ((a : CallArguments) → IsApplicationNode x a → ⊥) → resolved_item B x ≡ resolved_item A x
   unsought_node B A q (String w) n = unsought_string B A q w n
   unsought_node B A q _ n = refl
 
-  string_flat : (w : Node Pieces) (a : Told) → IsApplicationNode (String w) a → node_depth w ≤ 0
+  string_flat : (w : Node Pieces) (a : CallArguments) → IsApplicationNode (String w) a → node_depth w ≤ 0
   string_flat (LastPiece (Literal x i)) a is = omega arith
   string_flat (LastPiece (Dots x)) a is = absurd is
   string_flat (LastPiece (Embedded m i)) a is = absurd is
   string_flat (Plus p w) a is = absurd is
 
-  node_flat : (x : Node Item) (a : Told) → IsApplicationNode x a → node_depth x ≤ 0
+  node_flat : (x : Node Item) (a : CallArguments) → IsApplicationNode x a → node_depth x ≤ 0
   node_flat (String w) a is = string_flat w a is
   node_flat _ a is = absurd is
 
-  pub resolves : (B A : Resolver) → DifferAtPrefixes B A → (Step : Told → Node Item → Node Item → Type 0) → ((a : Told) (x z : Node Item) → IsApplicationNode x a → Step a x z → Turning B A a x z)
+  pub resolves : (B A : Resolver) → DifferAtPrefixes B A → (Step : CallArguments → Node Item → Node Item → Type 0) → ((a : CallArguments) (x z : Node Item) → IsApplicationNode x a → Step a x z → Turning B A a x z)
       → ItemPremises Rel B A IsApplicationNode Step
   resolves B A q Step steps = record {
     unsought = unsought_node B A q;

@@ -1,13 +1,13 @@
 -- A visit of items has one result where each call has one.
 use Rattle.std.proofs.Common.{◌≡◌, ◌≤◌, ◌<◌, refl, sym, ap, ◌∙◌, subst, arith}
-use Rattle.cbor_edn_parts.proofs.Applications.{one_application}
-use Rattle.cbor_edn_model.specs.Items.{Elements, Strings, Sort, Item, Piece, Pieces, Entry, Entries, entries_of, Node, Number, Float, Listed, Tagged, Named, Simple, String, Stream, Literal, Dots, Embedded, LastPiece, Plus, Element, Pair, Chunk, End, Then}
-use Rattle.cbor_edn_model.specs.Seeking as told
-use Rattle.cbor_edn_model.specs.Seeking.{Told}
+use Rattle.cbor_edn_parts.proofs.lemmas.literal.Applications.{one_application}
+use Rattle.cbor_edn_model.specs.tree.Items.{Elements, Strings, Sort, Item, Piece, Pieces, Entry, Entries, entries_of, Node, Number, Float, Listed, Tagged, Named, Simple, String, Stream, Literal, Dots, Embedded, LastPiece, Plus, Element, Pair, Chunk, End, Then}
+use Rattle.cbor_edn_model.specs.visit.Seeking as arguments
+use Rattle.cbor_edn_model.specs.visit.Seeking.{CallArguments}
 use Rattle.cbor_edn_conversions.specs.VisitedItems as visited
 use Rattle.cbor_edn_conversions.specs.VisitedItems.{node_depth, IsTagNode, IsApplicationNode, ReachedItem, passed, entered, stayed, VisitedNode, number, float, named, simple, tagged, string, stream, literal, dots, embedded, last_piece, plus, element, pair, chunk, end, then}
 
-module _ (Sought : Node Item → Told → Type 0) (Step : Told → Node Item → Node Item → Type 0) where
+module _ (Sought : Node Item → CallArguments → Type 0) (Step : CallArguments → Node Item → Node Item → Type 0) where
   abbrev At : {s : Sort} → Node s → Node s → Type 0
   At {s} x y = VisitedNode Sought Step s x y
 
@@ -54,24 +54,24 @@ module _ (Sought : Node Item → Told → Type 0) (Step : Told → Node Item →
   inverted end = refl
   inverted (then {f = f} {n = n} a b) = (f, n, a, b, refl)
 
-  module _ (told_once : (x : Node Item) (a b : Told) → Sought x a → Sought x b → a ≡ b) (one_answer : (a : Told) (x y z : Node Item) → Step a x y → Step a x z → y ≡ z) where
+  module _ (arguments_once : (x : Node Item) (a b : CallArguments) → Sought x a → Sought x b → a ≡ b) (one_answer : (a : CallArguments) (x y z : Node Item) → Step a x y → Step a x z → y ≡ z) where
     abbrev Once : {s : Sort} → Node s → Node s → Type 0
     Once {s} x y = (z : Node s) → VisitedNode Sought Step s x z → y ≡ z
 
-    one_left : (x y z : Node Item) (a b : Told) → Sought x a → Sought x b → Step a x y → Step b x z → y ≡ z
-    one_left x y z a b s t h k = one_answer a x y z h (subst (λ a. Step a x z) (sym (told_once x a b s t)) k)
+    one_left : (x y z : Node Item) (a b : CallArguments) → Sought x a → Sought x b → Step a x y → Step b x z → y ≡ z
+    one_left x y z a b s t h k = one_answer a x y z h (subst (λ a. Step a x z) (sym (arguments_once x a b s t)) k)
 
-    passed_once : (x y z : Node Item) → ((a : Told) → Sought x a → ⊥) → Once x y → Reached x z → y ≡ z
+    passed_once : (x y z : Node Item) → ((a : CallArguments) → Sought x a → ⊥) → Once x y → Reached x z → y ≡ z
     passed_once x y z n once (passed m b) = once z b
     passed_once x y z n once (entered a s h d b) = absurd (n a s)
     passed_once x y z n once (stayed a s h d) = absurd (n a s)
 
-    entered_once : (x l y z : Node Item) (a : Told) → Sought x a → Step a x l → node_depth l ≤ node_depth x → Once l y → Reached x z → y ≡ z
+    entered_once : (x l y z : Node Item) (a : CallArguments) → Sought x a → Step a x l → node_depth l ≤ node_depth x → Once l y → Reached x z → y ≡ z
     entered_once x l y z a s h d once (passed m b) = absurd (m a s)
     entered_once x l y z a s h d once (entered {z = m} b t k e v) = once z (subst (λ l. At l z) (sym (one_left x l m a b s t h k)) v)
     entered_once x l y z a s h d once (stayed b t k e) = let is = ap node_depth (one_left x l z a b s t h k) in absurd (omega (arith, is, d, e))
 
-    stayed_once : (x y z : Node Item) (a : Told) → Sought x a → Step a x y → node_depth x < node_depth y → Reached x z → y ≡ z
+    stayed_once : (x y z : Node Item) (a : CallArguments) → Sought x a → Step a x y → node_depth x < node_depth y → Reached x z → y ≡ z
     stayed_once x y z a s h d (passed m b) = absurd (m a s)
     stayed_once x y z a s h d (entered {z = m} b t k e v) = let is = ap node_depth (one_left x y m a b s t h k) in absurd (omega (arith, is, d, e))
     stayed_once x y z a s h d (stayed b t k e) = one_left x y z a b s t h k
@@ -102,22 +102,22 @@ module _ (Sought : Node Item → Told → Type 0) (Step : Told → Node Item →
       visited_once end z b = sym (inverted b)
       visited_once (then {n = n} c d) z b = let h = inverted b in ap (λ e. Then e n) (visited_once c h.0 h.2) ∙ (ap (Then h.0) (visited_once d h.1 h.3) ∙ sym h.4)
 
--- ---- what is told of an item
+-- ---- the arguments of an item
 
-pub tag_node_once : (x : Node Item) (a b : Told) → IsTagNode x a → IsTagNode x b → a ≡ b
-tag_node_once (Tagged n i w) (told.number k) (told.number m) a b = ap told.number (sym a ∙ b)
-tag_node_once (Tagged n i w) (told.number k) (told.prefix_and_text p t) a b = absurd b
-tag_node_once (Tagged n i w) (told.prefix_and_text p t) b a c = absurd a
+pub tag_node_once : (x : Node Item) (a b : CallArguments) → IsTagNode x a → IsTagNode x b → a ≡ b
+tag_node_once (Tagged n i w) (arguments.number k) (arguments.number m) a b = ap arguments.number (sym a ∙ b)
+tag_node_once (Tagged n i w) (arguments.number k) (arguments.prefix_and_text p t) a b = absurd b
+tag_node_once (Tagged n i w) (arguments.prefix_and_text p t) b a c = absurd a
 tag_node_once _ a b s t = absurd s
 
-string_node_once : (w : Node Pieces) (a b : Told) → IsApplicationNode (String w) a → IsApplicationNode (String w) b → a ≡ b
-string_node_once (LastPiece (Literal x i)) (told.prefix_and_text p t) (told.prefix_and_text q u) a b = let h = one_application p t q u x a b in cc
-string_node_once (LastPiece (Literal x i)) (told.prefix_and_text p t) (told.number n) a b = absurd b
-string_node_once (LastPiece (Literal x i)) (told.number n) b a c = absurd a
+string_node_once : (w : Node Pieces) (a b : CallArguments) → IsApplicationNode (String w) a → IsApplicationNode (String w) b → a ≡ b
+string_node_once (LastPiece (Literal x i)) (arguments.prefix_and_text p t) (arguments.prefix_and_text q u) a b = let h = one_application p t q u x a b in cc
+string_node_once (LastPiece (Literal x i)) (arguments.prefix_and_text p t) (arguments.number n) a b = absurd b
+string_node_once (LastPiece (Literal x i)) (arguments.number n) b a c = absurd a
 string_node_once (LastPiece (Dots x)) a b s t = absurd s
 string_node_once (LastPiece (Embedded m i)) a b s t = absurd s
 string_node_once (Plus p w) a b s t = absurd s
 
-pub application_node_once : (x : Node Item) (a b : Told) → IsApplicationNode x a → IsApplicationNode x b → a ≡ b
+pub application_node_once : (x : Node Item) (a b : CallArguments) → IsApplicationNode x a → IsApplicationNode x b → a ≡ b
 application_node_once (String w) a b s t = string_node_once w a b s t
 application_node_once _ a b s t = absurd s

@@ -2,14 +2,14 @@
 use Rattle.std.proofs.Common.{ℕ, ◌≡◌, ◌≤◌, ◌&&◌, cond, is_none, List, [], ◌∷◌, ◌++◌, Option, Some, None, All, refl, sym, ap, ◌∙◌, subst}
 use Rattle.std.proofs.lemmas.List.Elements.{All-nil, All-cons, All-head, All-tail}
 use Rattle.cbor_edn_parts.specs.declared.string.StringKind.TheVariants.{Bytes}
-use Rattle.cbor_edn_model.specs.Depth.{depth}
-use Rattle.cbor_edn_model.specs.Items as kind
-use Rattle.cbor_edn_model.specs.Items.{Row, Sort, Item, Node, Piece, Pieces, Entry, Entries, entries_of, Literal, Dots, Embedded, LastPiece, Plus, End, Items}
-use Rattle.cbor_edn_model.specs.Value.{Value, encodings, tag}
-use Rattle.cbor_edn_model.specs.Meaning.{◌>>=◌, MeaningOf, width_of, listed, pieces_mark, are_unmarked, string_of, chunk_of, stream_of, joined, one_more, no_entries}
-use Rattle.cbor_edn_model.specs.Seeking.{Told, SoughtCall, VisitItem, passed, entered, stayed, refused, not_called, VisitParts, of_number, of_float, of_name, of_tag, of_simple, of_list, of_string, of_stream, of_literal, of_dots, of_embedded, of_last_piece, of_pieces, of_pieces_cut, of_none_inside, of_all_inside, of_last, of_more, of_more_cut, of_nothing, of_sequence, of_standalone, VisitEntry, of_element, of_pair, of_pair_cut, of_chunk}
-use Rattle.cbor_edn_model.specs.Trees.{Rule, Tree, OneItem, OnePiece, OneString, OneEntry, Inside, Rest, Seq, Standalone, Of, items}
-use Rattle.cbor_edn_model.specs.Visits.{Ending, whole, cut}
+use Rattle.cbor_edn_model.specs.visit.Depth.{depth}
+use Rattle.cbor_edn_model.specs.tree.Items as kind
+use Rattle.cbor_edn_model.specs.tree.Items.{Row, Sort, Item, Node, Piece, Pieces, Entry, Entries, entries_of, Literal, Dots, Embedded, LastPiece, Plus, End, Items}
+use Rattle.cbor_edn_model.specs.cbor.Value.{Value, encodings, tag}
+use Rattle.cbor_edn_model.specs.cbor.Meaning.{◌>>=◌, MeaningOf, width_of, listed, pieces_indicator, have_no_indicators, string_of, chunk_of, stream_of, joined, one_more, no_entries}
+use Rattle.cbor_edn_model.specs.visit.Seeking.{CallArguments, SoughtCall, VisitItem, passed, entered, stayed, refused, not_called, VisitParts, of_number, of_float, of_name, of_tag, of_simple, of_list, of_string, of_stream, of_literal, of_dots, of_embedded, of_last_piece, of_pieces, of_pieces_cut, of_none_inside, of_all_inside, of_last, of_more, of_more_cut, of_nothing, of_sequence, of_standalone, VisitEntry, of_element, of_pair, of_pair_cut, of_chunk}
+use Rattle.cbor_edn_model.specs.tree.Trees.{Rule, Tree, OneItem, OnePiece, OneString, OneEntry, Inside, Rest, Seq, Standalone, Of, items}
+use Rattle.cbor_edn_model.specs.visit.Visits.{Ending, whole, cut}
 use Rattle.cbor_edn_conversions.specs.Resolving.{Resolver, or_else, resolved, resolved_item, means_by}
 
 pub all_split : {X : Type 0} (P : X → Type 0) (xs ys : List X) → All P (xs ++ ys) → All P xs × All P ys
@@ -28,19 +28,19 @@ abbrev pub shape : Node Pieces → Node Pieces
 shape (LastPiece p) = LastPiece (piece_shape p)
 shape (Plus p w) = Plus (piece_shape p) (shape w)
 
-unmarked_shape : (w : Node Pieces) → are_unmarked (shape w) ≡ are_unmarked w
-unmarked_shape (LastPiece (Literal x i)) = refl
-unmarked_shape (LastPiece (Dots x)) = refl
-unmarked_shape (LastPiece (Embedded m i)) = refl
-unmarked_shape (Plus (Literal x i) w) = ap (λ b. is_none i && b) (unmarked_shape w)
-unmarked_shape (Plus (Dots x) w) = unmarked_shape w
-unmarked_shape (Plus (Embedded m i) w) = ap (λ b. is_none i && b) (unmarked_shape w)
+no_indicators_shape : (w : Node Pieces) → have_no_indicators (shape w) ≡ have_no_indicators w
+no_indicators_shape (LastPiece (Literal x i)) = refl
+no_indicators_shape (LastPiece (Dots x)) = refl
+no_indicators_shape (LastPiece (Embedded m i)) = refl
+no_indicators_shape (Plus (Literal x i) w) = ap (λ b. is_none i && b) (no_indicators_shape w)
+no_indicators_shape (Plus (Dots x) w) = no_indicators_shape w
+no_indicators_shape (Plus (Embedded m i) w) = ap (λ b. is_none i && b) (no_indicators_shape w)
 
-mark_shape : (w : Node Pieces) → pieces_mark (shape w) ≡ pieces_mark w
-mark_shape (LastPiece (Literal x i)) = refl
-mark_shape (LastPiece (Dots x)) = refl
-mark_shape (LastPiece (Embedded m i)) = refl
-mark_shape (Plus p w) = ap (λ b. cond b (Some None) None) (unmarked_shape (Plus p w))
+indicator_shape : (w : Node Pieces) → pieces_indicator (shape w) ≡ pieces_indicator w
+indicator_shape (LastPiece (Literal x i)) = refl
+indicator_shape (LastPiece (Dots x)) = refl
+indicator_shape (LastPiece (Embedded m i)) = refl
+indicator_shape (Plus p w) = ap (λ b. cond b (Some None) None) (no_indicators_shape (Plus p w))
 
 resolved_shape : (R : Resolver) (w : Node Pieces) → resolved R (shape w) ≡ resolved R w
 resolved_shape R (LastPiece (Literal x i)) = refl
@@ -48,13 +48,13 @@ resolved_shape R (LastPiece (Dots x)) = refl
 resolved_shape R (LastPiece (Embedded m i)) = refl
 resolved_shape R (Plus p w) = refl
 
-pub same_mark : (w v : Node Pieces) → shape w ≡ shape v → pieces_mark w ≡ pieces_mark v
-same_mark w v e = sym (mark_shape w) ∙ ap pieces_mark e ∙ mark_shape v
+pub same_piece_indicator : (w v : Node Pieces) → shape w ≡ shape v → pieces_indicator w ≡ pieces_indicator v
+same_piece_indicator w v e = sym (indicator_shape w) ∙ ap pieces_indicator e ∙ indicator_shape v
 
 pub same_resolved : (R : Resolver) (w v : Node Pieces) → shape w ≡ shape v → resolved R w ≡ resolved R v
 same_resolved R w v e = sym (resolved_shape R w) ∙ ap (resolved R) e ∙ resolved_shape R v
 
-module _ {Sought : Tree OneItem → Told → Type 0} where
+module _ {Sought : Tree OneItem → CallArguments → Type 0} where
   pub piece_stays : {p q : Tree OnePiece} {cs : List SoughtCall} {r : Ending} → VisitParts Sought OnePiece p cs q r → piece_shape (items p) ≡ piece_shape (items q)
   unfolding items
   piece_stays of_literal = refl
@@ -94,14 +94,14 @@ module _ (Rel : (A : Type 0) → Option A → Option A → Type 0) where
     KeptOf Standalone x y = Kept x y
 
     -- Good is what is known of calls, and Done r that a visit that ended so is spoken of.
-    pub record Premises (Sought : Tree OneItem → Told → Type 0) (Good : SoughtCall → Type 0) (Done : Ending → Type 0) : Type 0 where
+    pub record Premises (Sought : Tree OneItem → CallArguments → Type 0) (Good : SoughtCall → Type 0) (Done : Ending → Type 0) : Type 0 where
       pub done : Done whole
       -- what a visit did not come to
       pub untouched : {s : Sort} (x : Node s) → Done cut → Kept x x
-      pub unsought : (w : Tree OneItem) → ((a : Told) → Sought w a → ⊥) → resolved_item B (items w) ≡ resolved_item A (items w)
-      pub called : (c : SoughtCall) → Good c → Sought c.before c.told → Kept (items c.before) (items c.after)
+      pub unsought : (w : Tree OneItem) → ((a : CallArguments) → Sought w a → ⊥) → resolved_item B (items w) ≡ resolved_item A (items w)
+      pub called : (c : SoughtCall) → Good c → Sought c.before c.arguments → Kept (items c.before) (items c.after)
       -- what is left of a call's item once it is entered
-      pub entering : (c : SoughtCall) (v : Tree OneItem) (cs : List SoughtCall) (r : Ending) → Good c → Sought c.before c.told → depth c.after ≤ depth c.before → VisitParts Sought OneItem c.after cs v r
+      pub entering : (c : SoughtCall) (v : Tree OneItem) (cs : List SoughtCall) (r : Ending) → Good c → Sought c.before c.arguments → depth c.after ≤ depth c.before → VisitParts Sought OneItem c.after cs v r
           → EnteredKept (items c.after) (items v) → Kept (items c.before) (items v)
 
 module _ (Rel : (A : Type 0) → Option A → Option A → Type 0) (relates : Relates Rel) where
@@ -120,13 +120,13 @@ module _ (Rel : (A : Type 0) → Option A → Option A → Type 0) (relates : Re
     unfolding means_by
     string_kept w v e k agree =
         let a : resolved B w ≡ resolved A v = agree ∙ same_resolved A w v e in
-        let m = same_mark w v e in
+        let m = same_piece_indicator w v e in
         subst
-        (λ o. Rel Value (or_else (resolved B w) (means_by B w >>= λ c. pieces_mark w >>= string_of c)) (or_else o (means_by A v >>= λ c. pieces_mark v >>= string_of c)))
+        (λ o. Rel Value (or_else (resolved B w) (means_by B w >>= λ c. pieces_indicator w >>= string_of c)) (or_else o (means_by A v >>= λ c. pieces_indicator v >>= string_of c)))
         a
-        (else_step (resolved B w) _ _ (subst (λ o. Rel Value (means_by B w >>= λ c. pieces_mark w >>= string_of c) (means_by A v >>= λ c. o >>= string_of c)) m (one_step (means_by B w) (means_by A v) (λ c. pieces_mark w >>= string_of c) k)))
+        (else_step (resolved B w) _ _ (subst (λ o. Rel Value (means_by B w >>= λ c. pieces_indicator w >>= string_of c) (means_by A v >>= λ c. o >>= string_of c)) m (one_step (means_by B w) (means_by A v) (λ c. pieces_indicator w >>= string_of c) k)))
 
-    module _ (Sought : Tree OneItem → Told → Type 0) (Good : SoughtCall → Type 0) (Done : Ending → Type 0) (premises : Premises Rel B A Sought Good Done) where
+    module _ (Sought : Tree OneItem → CallArguments → Type 0) (Good : SoughtCall → Type 0) (Done : Ending → Type 0) (premises : Premises Rel B A Sought Good Done) where
       mutual
         unfolding items means_by
 
@@ -174,4 +174,4 @@ module _ (Rel : (A : Type 0) → Option A → Option A → Type 0) (relates : Re
             two_steps (means_by B (items w)) (means_by A (items v)) (means_by B (items x)) (means_by A (items y)) (λ x y. (x, y)) (item_kept a h.0 premises.done) (item_kept b h.1 done)
         entry_kept (of_pair_cut {w = w} {v = v} {x = x} a) all done = two_steps (means_by B (items w)) (means_by A (items v)) (means_by B (items x)) (means_by A (items x)) (λ x y. (x, y)) (item_kept a all done) (premises.untouched (items x) done)
         entry_kept (of_chunk {w = w} {v = v} a) all done =
-            subst (λ o. Rel _ (means_by B (items w) >>= λ c. pieces_mark (items w) >>= chunk_of c) (means_by A (items v) >>= λ c. o >>= chunk_of c)) (same_mark (items w) (items v) (string_stays a)) (one_step (means_by B (items w)) (means_by A (items v)) (λ c. pieces_mark (items w) >>= chunk_of c) (parts_kept a all done))
+            subst (λ o. Rel _ (means_by B (items w) >>= λ c. pieces_indicator (items w) >>= chunk_of c) (means_by A (items v) >>= λ c. o >>= chunk_of c)) (same_piece_indicator (items w) (items v) (string_stays a)) (one_step (means_by B (items w)) (means_by A (items v)) (λ c. pieces_indicator (items w) >>= chunk_of c) (parts_kept a all done))

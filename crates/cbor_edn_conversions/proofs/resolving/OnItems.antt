@@ -1,16 +1,16 @@
 -- A whole visit of a tree is one of its items.
 use Rattle.std.proofs.Common.{ℕ, suc, max, ◌≡◌, ◌↔◌, List, [], Option, Some, None, All, refl, sym, ap, subst, arith}
 use Rattle.std.proofs.lemmas.List.Elements.{All-head, All-tail}
-use Rattle.cbor_edn_model.specs.Accessed.{string_tree, IsApplicationPiece}
-use Rattle.cbor_edn_model.specs.declared.label.LabelKind.{LabelKind}
-use Rattle.cbor_edn_model.specs.declared.label.LabelKind.TheVariants as label
-use Rattle.cbor_edn_model.specs.Depth.{depth, embedded_depth}
-use Rattle.cbor_edn_model.specs.Items as kind
-use Rattle.cbor_edn_model.specs.Items.{Row, Sort, Item, Piece, Pieces, Entry, Entries, entries_of, Elements, Node}
-use Rattle.cbor_edn_model.specs.Seeking as tree
-use Rattle.cbor_edn_model.specs.Seeking.{Told, prefix_and_text, IsTag, IsApplication, SoughtCall, VisitItem, VisitParts, of_number, of_float, of_name, of_tag, of_simple, of_list, of_string, of_stream, of_literal, of_dots, of_embedded, of_last_piece, of_pieces, of_pieces_cut, of_none_inside, of_all_inside, of_last, of_more, of_more_cut, of_nothing, of_sequence, of_standalone, VisitEntry, of_element, of_pair, of_pair_cut, of_chunk}
-use Rattle.cbor_edn_model.specs.Trees.{Rule, Tree, OneItem, OnePiece, OneString, OneEntry, Inside, Rest, Seq, Standalone, NumberTree, FloatTree, NamedTree, EnclosedTree, ListTree, StringTree, StreamTree, LiteralTree, DotsTree, EmbeddedTree, LastPieceTree, PlusTree, ElementTree, PairTree, ChunkTree, EmptyTree, FullTree, LastTree, MoreTree, NothingTree, SequenceTree, StandaloneTree, Of, items}
-use Rattle.cbor_edn_model.specs.Visits.{Ending, whole}
+use Rattle.cbor_edn_model.specs.access.Accessed.{string_tree, IsApplicationPiece}
+use Rattle.cbor_edn_model.specs.declared.text.label.LabelKind.{LabelKind}
+use Rattle.cbor_edn_model.specs.declared.text.label.LabelKind.TheVariants as label
+use Rattle.cbor_edn_model.specs.visit.Depth.{depth, embedded_depth}
+use Rattle.cbor_edn_model.specs.tree.Items as kind
+use Rattle.cbor_edn_model.specs.tree.Items.{Row, Sort, Item, Piece, Pieces, Entry, Entries, entries_of, Elements, Node}
+use Rattle.cbor_edn_model.specs.visit.Seeking as tree
+use Rattle.cbor_edn_model.specs.visit.Seeking.{CallArguments, prefix_and_text, IsTag, IsApplication, SoughtCall, VisitItem, VisitParts, of_number, of_float, of_name, of_tag, of_simple, of_list, of_string, of_stream, of_literal, of_dots, of_embedded, of_last_piece, of_pieces, of_pieces_cut, of_none_inside, of_all_inside, of_last, of_more, of_more_cut, of_nothing, of_sequence, of_standalone, VisitEntry, of_element, of_pair, of_pair_cut, of_chunk}
+use Rattle.cbor_edn_model.specs.tree.Trees.{Rule, Tree, OneItem, OnePiece, OneString, OneEntry, Inside, Rest, Seq, Standalone, NumberTree, FloatTree, NamedTree, EnclosedTree, ListTree, StringTree, StreamTree, LiteralTree, DotsTree, EmbeddedTree, LastPieceTree, PlusTree, ElementTree, PairTree, ChunkTree, EmptyTree, FullTree, LastTree, MoreTree, NothingTree, SequenceTree, StandaloneTree, Of, items}
+use Rattle.cbor_edn_model.specs.visit.Visits.{Ending, whole}
 use Rattle.cbor_edn_conversions.specs.VisitedItems.{node_depth, IsTagNode, IsApplicationNode, ReachedItem, passed, entered, stayed, VisitedNode, number, float, named, simple, listed, tagged, string, stream, literal, dots, embedded, last_piece, plus, element, pair, chunk, end, then}
 use Rattle.cbor_edn_conversions.proofs.resolving.Keeping.{all_split}
 
@@ -60,14 +60,14 @@ item_depth w = depth_items w
 
 -- ---- what is sought
 
-enclosed_tag : (l : LabelKind) (w : Tree Standalone) (a : Told) → IsTag (EnclosedTree l w) a ↔ IsTagNode (items (EnclosedTree l w)) a
+enclosed_tag : (l : LabelKind) (w : Tree Standalone) (a : CallArguments) → IsTag (EnclosedTree l w) a ↔ IsTagNode (items (EnclosedTree l w)) a
 unfolding items
 enclosed_tag (label.Tag i n) w (tree.number m) = (λ e. cc, λ e. cc)
 enclosed_tag (label.Tag i n) w (prefix_and_text p t) = (λ e. e, λ e. e)
 enclosed_tag label.Simple w (tree.number m) = (λ e. absurd cc, λ e. absurd e)
 enclosed_tag label.Simple w (prefix_and_text p t) = (λ e. e, λ e. e)
 
-pub tag_node : (w : Tree OneItem) (a : Told) → IsTag w a ↔ IsTagNode (items w) a
+pub tag_node : (w : Tree OneItem) (a : CallArguments) → IsTag w a ↔ IsTagNode (items w) a
 unfolding items
 tag_node (EnclosedTree l w) a = enclosed_tag l w a
 tag_node (NumberTree x i) (tree.number m) = (λ e. absurd cc, λ e. absurd e)
@@ -108,7 +108,7 @@ no_string w p t none a = let some = a.1 in absurd cc
 enclosed_none : (l : LabelKind) (w : Tree Standalone) (p t : List ℕ) → IsApplication (EnclosedTree l w) (prefix_and_text p t) → ⊥
 enclosed_none l w p t a = no_string (EnclosedTree l w) p t refl a
 
-pub application_node : (w : Tree OneItem) (a : Told) → IsApplication w a ↔ IsApplicationNode (items w) a
+pub application_node : (w : Tree OneItem) (a : CallArguments) → IsApplication w a ↔ IsApplicationNode (items w) a
 unfolding items
 application_node (StringTree (LastPieceTree (LiteralTree x i))) (prefix_and_text p t) = of_last_literal (LiteralTree x i) p t
 application_node (StringTree (LastPieceTree (DotsTree x))) (prefix_and_text p t) = of_last_literal (DotsTree x) p t
@@ -133,8 +133,8 @@ application_node (StreamTree s m) (tree.number n) = (λ e. e, λ e. e)
 
 -- ---- the visit
 
-module _ (Sought : Tree OneItem → Told → Type 0) (SoughtNode : Node Item → Told → Type 0) (sought : (w : Tree OneItem) (a : Told) → Sought w a ↔ SoughtNode (items w) a)
-    (Good : SoughtCall → Type 0) (Step : Told → Node Item → Node Item → Type 0) (steps : (c : SoughtCall) → Good c → Step c.told (items c.before) (items c.after)) where
+module _ (Sought : Tree OneItem → CallArguments → Type 0) (SoughtNode : Node Item → CallArguments → Type 0) (sought : (w : Tree OneItem) (a : CallArguments) → Sought w a ↔ SoughtNode (items w) a)
+    (Good : SoughtCall → Type 0) (Step : CallArguments → Node Item → Node Item → Type 0) (steps : (c : SoughtCall) → Good c → Step c.arguments (items c.before) (items c.after)) where
   abbrev pub VisitedOf : (k : Rule) → Of k → Of k → Type 0
   VisitedOf OneItem x y = VisitedNode SoughtNode Step Item x y
   VisitedOf OnePiece x y = VisitedNode SoughtNode Step Piece x y
@@ -151,9 +151,9 @@ module _ (Sought : Tree OneItem → Told → Type 0) (SoughtNode : Node Item →
     pub item_visited : {w v : Tree OneItem} {s t : List ℕ} {cs : List SoughtCall} {r : Ending} → VisitItem Sought w s cs v t r → r ≡ whole → All Good cs → ReachedItem SoughtNode Step (items w) (items v)
     item_visited (tree.passed {w = w} n a) is all = passed (λ b e. n b ((sought w b).1 e)) (parts_visited a is all)
     item_visited (tree.entered {c = c} {cs = cs} s f d a) is all =
-        entered c.told ((sought c.before c.told).0 s) (steps c (All-head Good c cs all)) (let x = item_depth c.before in let y = item_depth c.after in omega (arith, x, y, d)) (parts_visited a is (All-tail Good c cs all))
+        entered c.arguments ((sought c.before c.arguments).0 s) (steps c (All-head Good c cs all)) (let x = item_depth c.before in let y = item_depth c.after in omega (arith, x, y, d)) (parts_visited a is (All-tail Good c cs all))
     item_visited (tree.stayed {c = c} s f d) is all =
-        stayed c.told ((sought c.before c.told).0 s) (steps c (All-head Good c [] all)) (let x = item_depth c.before in let y = item_depth c.after in omega (arith, x, y, d))
+        stayed c.arguments ((sought c.before c.arguments).0 s) (steps c (All-head Good c [] all)) (let x = item_depth c.before in let y = item_depth c.after in omega (arith, x, y, d))
     item_visited (tree.refused s f) is all = absurd cc
     item_visited (tree.not_called s) is all = absurd cc
 

@@ -5,18 +5,18 @@ use Rattle.cbor_edn_parts.specs.declared.string.StringKind.{StringKind}
 use Rattle.cbor_edn_parts.specs.declared.string.StringKind.TheVariants.{Bytes, Text}
 use Rattle.cbor_edn_parts.specs.Contents.{h, kind_literal, empty_literal, hex_literal}
 use Rattle.cbor_edn_parts.specs.Literal.{Prefixed, IsLiteral, single_quote}
-use Rattle.cbor_edn_parts.specs.code.ContentReading.{literal_content}
-use Rattle.cbor_edn_parts.specs.code.LiteralTokens.{prefix_of}
-use Rattle.cbor_edn_parts.proofs.Applications.{unprefixed_read}
-use Rattle.cbor_edn_parts.proofs.LiteralContents.{prefix_plain, prefix_named}
-use Rattle.cbor_edn_model.specs.Decoded as decoded
-use Rattle.cbor_edn_model.specs.Decoded.{indicator_of, list_indicator, item_of, items_of, chunk_items, simple_item}
-use Rattle.cbor_edn_model.specs.Items as kind
-use Rattle.cbor_edn_model.specs.Items.{Sort, Item, Node, Pieces, Strings, Array, Map, Number, Float, Listed, Tagged, Named, Simple, String, Stream, Literal, Dots, Embedded, LastPiece, Plus, Element, Pair, Chunk, End, Then}
-use Rattle.cbor_edn_model.specs.Meaning.{◌>>=◌, MeaningOf, width_of, listed, pieces_mark, string_of, chunk_of, stream_of, joined, one_more, means}
-use Rattle.cbor_edn_model.specs.Value as values
-use Rattle.cbor_edn_model.specs.Value.{Value, unsigned, negative, string, chunks, array, cbor_map, tag, simple, float, Values, no_values, value, values_len, Pairs, no_pairs, pair, pairs_len, encodings}
-use Rattle.cbor_edn_model.proofs.meaning.MeaningSteps.{bind}
+use Rattle.cbor_edn_parts.specs.internal.ContentReading.{literal_content}
+use Rattle.cbor_edn_parts.specs.internal.LiteralTokens.{prefix_of}
+use Rattle.cbor_edn_parts.proofs.lemmas.literal.Applications.{unprefixed_read}
+use Rattle.cbor_edn_parts.proofs.lemmas.literal.LiteralContents.{prefix_plain, prefix_named}
+use Rattle.cbor_edn_model.specs.cbor.Decoded as decoded
+use Rattle.cbor_edn_model.specs.cbor.Decoded.{indicator_of, list_indicator, item_of, items_of, chunk_items, simple_item}
+use Rattle.cbor_edn_model.specs.tree.Items as kind
+use Rattle.cbor_edn_model.specs.tree.Items.{Sort, Item, Node, Pieces, Strings, Array, Map, Number, Float, Listed, Tagged, Named, Simple, String, Stream, Literal, Dots, Embedded, LastPiece, Plus, Element, Pair, Chunk, End, Then}
+use Rattle.cbor_edn_model.specs.cbor.Meaning.{◌>>=◌, MeaningOf, width_of, listed, pieces_indicator, string_of, chunk_of, stream_of, joined, one_more, means}
+use Rattle.cbor_edn_model.specs.cbor.Value as values
+use Rattle.cbor_edn_model.specs.cbor.Value.{Value, unsigned, negative, string, chunks, array, cbor_map, tag, simple, float, Values, no_values, value, values_len, Pairs, no_pairs, pair, pairs_len, encodings}
+use Rattle.cbor_edn_model.proofs.lemmas.cbor.MeaningSteps.{bind}
 use Rattle.cbor_edn_conversions.specs.Resolving.{Resolver, or_else, no_resolver, resolved, means_by, ResolvesApplications, ResolvesNoContent}
 use Rattle.cbor_edn_conversions.proofs.resolving.Keeping.{Relates, one_step, two_steps}
 use Rattle.cbor_edn_conversions.proofs.resolving.VisitsKept.{Below, belows}
@@ -40,7 +40,7 @@ none_means (Tagged n i w) = ap (λ o. bind (width_of i n) (λ d. bind o (λ v. S
 none_means (Named b) = refl
 none_means (Simple w) = refl
 none_means (Listed k i m) = ap (λ o. bind o (listed k i)) (none_means m)
-none_means (String w) = or_none (means_by no_resolver w >>= λ c. pieces_mark w >>= string_of c) w ∙ ap (λ o. bind o (λ c. bind (pieces_mark w) (string_of c))) (none_means w)
+none_means (String w) = or_none (means_by no_resolver w >>= λ c. pieces_indicator w >>= string_of c) w ∙ ap (λ o. bind o (λ c. bind (pieces_indicator w) (string_of c))) (none_means w)
 none_means (Stream m) = ap (λ o. bind o stream_of) (none_means m)
 none_means (Literal x i) = refl
 none_means (Dots x) = refl
@@ -49,7 +49,7 @@ none_means (LastPiece p) = none_means p
 none_means (Plus p w) = pair_same _ _ _ _ joined (none_means p) (none_means w)
 none_means (Element w) = none_means w
 none_means (Pair v w) = pair_same _ _ _ _ (λ x y. (x, y)) (none_means v) (none_means w)
-none_means (Chunk w) = ap (λ o. bind o (λ c. bind (pieces_mark w) (chunk_of c))) (none_means w)
+none_means (Chunk w) = ap (λ o. bind o (λ c. bind (pieces_indicator w) (chunk_of c))) (none_means w)
 none_means (End {k}) = refl
 none_means (Then {k} e m) = pair_same _ _ _ _ (one_more k) (none_means e) (none_means m)
 
@@ -68,7 +68,7 @@ module _ (Rel : (A : Type 0) → Option A → Option A → Type 0) (relates : Re
   by_two (String (LastPiece (Literal x i))) = at_literals x i
   by_two (String (LastPiece (Dots x))) = relates.same _ _
   by_two (String (LastPiece (Embedded m i))) = one_step Rel relates (means_by B (Embedded m i)) (means_by A (Embedded m i)) (λ c. string_of c i) (one_step Rel relates (means_by B m) (means_by A m) (λ vs. Some (Bytes, encodings vs)) (by_two m))
-  by_two (String (Plus p w)) = one_step Rel relates (means_by B (Plus p w)) (means_by A (Plus p w)) (λ c. pieces_mark (Plus p w) >>= string_of c) (two_steps Rel relates (means_by B p) (means_by A p) (means_by B w) (means_by A w) joined (by_two p) (by_two w))
+  by_two (String (Plus p w)) = one_step Rel relates (means_by B (Plus p w)) (means_by A (Plus p w)) (λ c. pieces_indicator (Plus p w) >>= string_of c) (two_steps Rel relates (means_by B p) (means_by A p) (means_by B w) (means_by A w) joined (by_two p) (by_two w))
   by_two (Stream m) = one_step Rel relates (means_by B m) (means_by A m) stream_of (by_two m)
   by_two (Literal x i) = relates.same _ _
   by_two (Dots x) = relates.same _ _
@@ -77,7 +77,7 @@ module _ (Rel : (A : Type 0) → Option A → Option A → Type 0) (relates : Re
   by_two (Plus p w) = two_steps Rel relates (means_by B p) (means_by A p) (means_by B w) (means_by A w) joined (by_two p) (by_two w)
   by_two (Element w) = by_two w
   by_two (Pair v w) = two_steps Rel relates (means_by B v) (means_by A v) (means_by B w) (means_by A w) (λ x y. (x, y)) (by_two v) (by_two w)
-  by_two (Chunk w) = one_step Rel relates (means_by B w) (means_by A w) (λ c. pieces_mark w >>= chunk_of c) (by_two w)
+  by_two (Chunk w) = one_step Rel relates (means_by B w) (means_by A w) (λ c. pieces_indicator w >>= chunk_of c) (by_two w)
   by_two (End {k}) = relates.same _ _
   by_two (Then {k} e m) = two_steps Rel relates (means_by B e) (means_by A e) (means_by B m) (means_by A m) (one_more k) (by_two e) (by_two m)
 

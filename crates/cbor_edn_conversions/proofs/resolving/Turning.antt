@@ -2,23 +2,23 @@
 use Rattle.std.proofs.Common.{ℕ, ◌≡◌, List, Option, Some, None, All, ◌↔◌, refl, sym, ap, ◌∙◌, subst}
 use Rattle.std.proofs.lemmas.List.Elements.{All-nil, All-cons}
 use Rattle.cbor_edn_parts.specs.declared.indicator.Indicator.{Indicator}
-use Rattle.cbor_edn_model.specs.Decoded.{item_of, items_of}
-use Rattle.cbor_edn_model.specs.Items as kind
-use Rattle.cbor_edn_model.specs.Items.{Item, Items, Node, Literal, LastPiece, Entries, Elements}
-use Rattle.cbor_edn_model.specs.Seeking.{Told, SoughtCall, VisitParts, IsTag, IsApplication}
-use Rattle.cbor_edn_model.specs.Trees.{Tree, OneItem, Seq, Standalone, items}
-use Rattle.cbor_edn_model.specs.Value.{Value, Values, Fits, ValuesFit}
-use Rattle.cbor_edn_model.specs.Visits.{Answer, Ending, whole, Chain, no_calls, one_call}
-use Rattle.cbor_edn_model.proofs.meaning.Decoding.{item_means, items_mean}
-use Rattle.cbor_edn_model.proofs.meaning.MeaningSteps.{bind}
+use Rattle.cbor_edn_model.specs.cbor.Decoded.{item_of, items_of}
+use Rattle.cbor_edn_model.specs.tree.Items as kind
+use Rattle.cbor_edn_model.specs.tree.Items.{Item, Items, Node, Literal, LastPiece, Entries, Elements}
+use Rattle.cbor_edn_model.specs.visit.Seeking.{CallArguments, SoughtCall, VisitParts, IsTag, IsApplication}
+use Rattle.cbor_edn_model.specs.tree.Trees.{Tree, OneItem, Seq, Standalone, items}
+use Rattle.cbor_edn_model.specs.cbor.Value.{Value, Values, Fits, ValuesFit}
+use Rattle.cbor_edn_model.specs.visit.Visits.{Answer, Ending, whole, Chain, no_calls, one_call}
+use Rattle.cbor_edn_model.proofs.lemmas.cbor.Decoding.{item_means, items_mean}
+use Rattle.cbor_edn_model.proofs.lemmas.cbor.MeaningSteps.{bind}
 use Rattle.cbor_edn_parts.specs.Contents.{h}
-use Rattle.cbor_edn_parts.specs.code.ContentReading.{literal_content}
-use Rattle.cbor_edn_model.specs.Meaning.{means, string_of}
+use Rattle.cbor_edn_parts.specs.internal.ContentReading.{literal_content}
+use Rattle.cbor_edn_model.specs.cbor.Meaning.{means, string_of}
 use Rattle.cbor_edn_conversions.specs.Resolving.{Resolver, or_else, no_resolver, either, means_by, IsUnprefixed, DifferAtPrefixes, ResolvesApplications, ResolvesNoContent, Turns, AnswersBy}
 use Rattle.cbor_edn_conversions.specs.VisitedItems.{ReachedItem, VisitedNode, IsTagNode, IsApplicationNode, Answered, LeavesAnswer, TurnsItem}
 use Rattle.cbor_edn_conversions.specs.ResolvingLaws.{NoneResolved, DecodedUnresolved, VisitKeeps, VisitKeepsExactly, VisitResolves, VisitResolvesExactly, ResolvedAgain, ResolvedInTurn, ResolversByPrefix, VisitedOnce, VisitsItems, ItemsVisitedOnce, VisitsTurnItems, ItemsComeBack, ItemsResolvedAgain, AnswersResolvedAgain}
 use Rattle.cbor_edn_conversions.proofs.resolving.ByPrefix.{by_prefix_applications, by_prefix_no_content, by_prefix_is}
-use Rattle.cbor_edn_conversions.proofs.resolving.Determined.{parts_once, tag_told_once, application_told_once}
+use Rattle.cbor_edn_conversions.proofs.resolving.Determined.{parts_once, tag_arguments_once, application_arguments_once}
 use Rattle.cbor_edn_conversions.proofs.resolving.OnItems.{parts_visited, tag_node, application_node}
 use Rattle.cbor_edn_conversions.proofs.resolving.ItemsKept as kept
 use Rattle.cbor_edn_conversions.proofs.resolving.ItemsOnce as once
@@ -32,10 +32,10 @@ none_resolved = (λ s x. none_means x, λ R n s x. more_means R n x)
 pub decoded_unresolved : DecodedUnresolved
 decoded_unresolved R n = (item_same R n, items_same R n)
 
-pub visits_keep : (IsSought : Tree OneItem → Told → Type 0) → VisitKeeps IsSought
+pub visits_keep : (IsSought : Tree OneItem → CallArguments → Type 0) → VisitKeeps IsSought
 visits_keep IsSought R cs r all = (λ w v a. visit_keeps IsSought R cs r all Standalone w v a, λ w v a. visit_keeps IsSought R cs r all Seq w v a)
 
-pub visits_keep_exactly : (IsSought : Tree OneItem → Told → Type 0) → VisitKeepsExactly IsSought
+pub visits_keep_exactly : (IsSought : Tree OneItem → CallArguments → Type 0) → VisitKeepsExactly IsSought
 visits_keep_exactly IsSought R cs r all = (λ w v a. visit_keeps_exactly IsSought R cs r all Standalone w v a, λ w v a. visit_keeps_exactly IsSought R cs r all Seq w v a)
 
 pub tag_visits_keep : VisitKeeps IsTag
@@ -107,25 +107,25 @@ resolved_in_turn R Q n m cs ds es r keep turn end = (
 pub resolvers_by_prefix : ResolversByPrefix
 resolvers_by_prefix F = (by_prefix_applications F, by_prefix_no_content F, by_prefix_is F)
 
-module _ (f : Told → Tree OneItem → Answer × Tree OneItem) where
-  answers_once : (c d : SoughtCall) → AnswersBy f c → AnswersBy f d → c.told ≡ d.told → c.before ≡ d.before → (c.answer ≡ d.answer) × (c.after ≡ d.after)
-  answers_once c d a b told before =
-      let same : f c.told c.before ≡ f d.told d.before = ap (λ t. f t c.before) told ∙ ap (f d.told) before in
+module _ (f : CallArguments → Tree OneItem → Answer × Tree OneItem) where
+  answers_once : (c d : SoughtCall) → AnswersBy f c → AnswersBy f d → c.arguments ≡ d.arguments → c.before ≡ d.before → (c.answer ≡ d.answer) × (c.after ≡ d.after)
+  answers_once c d a b arguments before =
+      let same : f c.arguments c.before ≡ f d.arguments d.before = ap (λ t. f t c.before) arguments ∙ ap (f d.arguments) before in
       (a.0 ∙ (ap (λ p. p.0) same ∙ sym b.0), a.1 ∙ (ap (λ p. p.1) same ∙ sym b.1))
 
-visited_once : (IsSought : Tree OneItem → Told → Type 0) → ((w : Tree OneItem) (a b : Told) → IsSought w a → IsSought w b → a ≡ b) → VisitedOnce IsSought
-visited_once IsSought told_once f cs ds g h = (
-  λ w v u a b. parts_once IsSought told_once (AnswersBy f) (answers_once f) a refl g u ds whole b refl h,
-  λ w v u a b. parts_once IsSought told_once (AnswersBy f) (answers_once f) a refl g u ds whole b refl h,
+visited_once : (IsSought : Tree OneItem → CallArguments → Type 0) → ((w : Tree OneItem) (a b : CallArguments) → IsSought w a → IsSought w b → a ≡ b) → VisitedOnce IsSought
+visited_once IsSought arguments_once f cs ds g h = (
+  λ w v u a b. parts_once IsSought arguments_once (AnswersBy f) (answers_once f) a refl g u ds whole b refl h,
+  λ w v u a b. parts_once IsSought arguments_once (AnswersBy f) (answers_once f) a refl g u ds whole b refl h,
 )
 
 pub tags_visited_once : VisitedOnce IsTag
-tags_visited_once = visited_once IsTag tag_told_once
+tags_visited_once = visited_once IsTag tag_arguments_once
 
 pub literals_visited_once : VisitedOnce IsApplication
-literals_visited_once = visited_once IsApplication application_told_once
+literals_visited_once = visited_once IsApplication application_arguments_once
 
-visits_items : (IsSought : Tree OneItem → Told → Type 0) (IsSoughtNode : Node Item → Told → Type 0) → ((w : Tree OneItem) (a : Told) → IsSought w a ↔ IsSoughtNode (items w) a) → VisitsItems IsSought IsSoughtNode
+visits_items : (IsSought : Tree OneItem → CallArguments → Type 0) (IsSoughtNode : Node Item → CallArguments → Type 0) → ((w : Tree OneItem) (a : CallArguments) → IsSought w a ↔ IsSoughtNode (items w) a) → VisitsItems IsSought IsSoughtNode
 visits_items IsSought IsSoughtNode sought f cs all = (
   λ w v a. parts_visited IsSought IsSoughtNode sought (LeavesAnswer f) (Answered f) (λ c e. e) a refl all,
   λ w v a. parts_visited IsSought IsSoughtNode sought (LeavesAnswer f) (Answered f) (λ c e. e) a refl all,
@@ -137,10 +137,10 @@ tag_visits_items = visits_items IsTag IsTagNode tag_node
 pub literal_visits_items : VisitsItems IsApplication IsApplicationNode
 literal_visits_items = visits_items IsApplication IsApplicationNode application_node
 
-items_once : (IsSought : Node Item → Told → Type 0) → ((x : Node Item) (a b : Told) → IsSought x a → IsSought x b → a ≡ b) → ItemsVisitedOnce IsSought
-items_once IsSought told_once f = (
-  λ x y z a b. once.reached_once IsSought (Answered f) told_once (λ a x y z e g. e ∙ sym g) a z b,
-  λ x y z a b. once.visited_once IsSought (Answered f) told_once (λ a x y z e g. e ∙ sym g) a z b,
+items_once : (IsSought : Node Item → CallArguments → Type 0) → ((x : Node Item) (a b : CallArguments) → IsSought x a → IsSought x b → a ≡ b) → ItemsVisitedOnce IsSought
+items_once IsSought arguments_once f = (
+  λ x y z a b. once.reached_once IsSought (Answered f) arguments_once (λ a x y z e g. e ∙ sym g) a z b,
+  λ x y z a b. once.visited_once IsSought (Answered f) arguments_once (λ a x y z e g. e ∙ sym g) a z b,
 )
 
 pub tag_items_once : ItemsVisitedOnce IsTagNode
@@ -149,7 +149,7 @@ tag_items_once = items_once IsTagNode tag_node_once
 pub literal_items_once : ItemsVisitedOnce IsApplicationNode
 literal_items_once = items_once IsApplicationNode application_node_once
 
-turn_items : (IsSought : Tree OneItem → Told → Type 0) (IsSoughtNode : Node Item → Told → Type 0) → ((w : Tree OneItem) (a : Told) → IsSought w a ↔ IsSoughtNode (items w) a) → VisitsTurnItems IsSought IsSoughtNode
+turn_items : (IsSought : Tree OneItem → CallArguments → Type 0) (IsSoughtNode : Node Item → CallArguments → Type 0) → ((w : Tree OneItem) (a : CallArguments) → IsSought w a ↔ IsSoughtNode (items w) a) → VisitsTurnItems IsSought IsSoughtNode
 turn_items IsSought IsSoughtNode sought B A cs all = (
   λ w v a. parts_visited IsSought IsSoughtNode sought (Turns B A) (TurnsItem B A) (λ c e. e) a refl all,
   λ w v a. parts_visited IsSought IsSoughtNode sought (Turns B A) (TurnsItem B A) (λ c e. e) a refl all,
@@ -161,8 +161,8 @@ tag_visits_turn_items = turn_items IsTag IsTagNode tag_node
 pub literal_visits_turn_items : VisitsTurnItems IsApplication IsApplicationNode
 literal_visits_turn_items = turn_items IsApplication IsApplicationNode application_node
 
-module _ (R : Resolver) (n : ResolvesApplications R) (Pretty Resolved : Told → Node Item → Node Item → Type 0)
-    (pretty : (a : Told) (x y : Node Item) → IsTagNode x a → Pretty a x y → TurnsItem R R a x y) (resolved : (a : Told) (x y : Node Item) → IsApplicationNode x a → Resolved a x y → TurnsItem R no_resolver a x y) where
+module _ (R : Resolver) (n : ResolvesApplications R) (Pretty Resolved : CallArguments → Node Item → Node Item → Type 0)
+    (pretty : (a : CallArguments) (x y : Node Item) → IsTagNode x a → Pretty a x y → TurnsItem R R a x y) (resolved : (a : CallArguments) (x y : Node Item) → IsApplicationNode x a → Resolved a x y → TurnsItem R no_resolver a x y) where
   item_again : (v : Value) → Fits v → (x y : Node Item) → ReachedItem IsTagNode Pretty (item_of v) x → ReachedItem IsApplicationNode Resolved x y → means y ≡ Some v
   item_again v fit x y a b =
       let still = kept.reached_kept Below belows R R IsTagNode Pretty (kept.keeps Below belows trans_below IsTagNode Pretty R pretty) a v (item_start R n v fit (item_of v) refl) in

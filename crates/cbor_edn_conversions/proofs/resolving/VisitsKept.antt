@@ -1,13 +1,13 @@
 -- Visits whose calls keep a meaning, and those that replace the literals of a resolver.
 use Rattle.std.proofs.Common.{ℕ, ◌≡◌, List, Option, Some, None, All, refl, sym, ap, ◌∙◌, subst, le_trans}
-use Rattle.cbor_edn_model.specs.declared.label.LabelKind.{LabelKind}
-use Rattle.cbor_edn_model.specs.declared.label.LabelKind.TheVariants as label
-use Rattle.cbor_edn_model.specs.Items.{Row, Item, Node}
-use Rattle.cbor_edn_model.specs.Meaning.{◌>>=◌, MeaningOf}
-use Rattle.cbor_edn_model.specs.Seeking.{Told, prefix_and_text, IsApplication, SoughtCall, VisitItem, VisitParts, VisitEntry}
-use Rattle.cbor_edn_model.specs.Trees.{Rule, Tree, OneItem, OneEntry, NumberTree, FloatTree, NamedTree, EnclosedTree, ListTree, StringTree, StreamTree, LiteralTree, DotsTree, EmbeddedTree, LastPieceTree, PlusTree, labelled, items}
-use Rattle.cbor_edn_model.specs.Value.{Value}
-use Rattle.cbor_edn_model.specs.Visits.{Ending, whole}
+use Rattle.cbor_edn_model.specs.declared.text.label.LabelKind.{LabelKind}
+use Rattle.cbor_edn_model.specs.declared.text.label.LabelKind.TheVariants as label
+use Rattle.cbor_edn_model.specs.tree.Items.{Row, Item, Node}
+use Rattle.cbor_edn_model.specs.cbor.Meaning.{◌>>=◌, MeaningOf}
+use Rattle.cbor_edn_model.specs.visit.Seeking.{CallArguments, prefix_and_text, IsApplication, SoughtCall, VisitItem, VisitParts, VisitEntry}
+use Rattle.cbor_edn_model.specs.tree.Trees.{Rule, Tree, OneItem, OneEntry, NumberTree, FloatTree, NamedTree, EnclosedTree, ListTree, StringTree, StreamTree, LiteralTree, DotsTree, EmbeddedTree, LastPieceTree, PlusTree, labelled, items}
+use Rattle.cbor_edn_model.specs.cbor.Value.{Value}
+use Rattle.cbor_edn_model.specs.visit.Visits.{Ending, whole}
 use Rattle.cbor_edn_conversions.specs.Resolving.{Resolver, resolved_item, means_by, DifferAtPrefixes, Turns, TurnsExactly}
 use Rattle.cbor_edn_conversions.proofs.resolving.Flat.{still, application_flat}
 use Rattle.cbor_edn_conversions.proofs.resolving.Keeping as keeping
@@ -49,7 +49,7 @@ module _ (Rel : (A : Type 0) → Option A → Option A → Type 0) (relates : Re
   abbrev pub Turned : Resolver → Resolver → SoughtCall → Type 0
   Turned B A c = Rel Value (means_by B (items c.before)) (means_by A (items c.after))
 
-  pub keeps : (trans : (o p q : Option Value) → Rel Value o p → Rel Value p q → Rel Value o q) (Sought : Tree OneItem → Told → Type 0) (R : Resolver) → Premises Rel R R Sought (Turned R R) Any
+  pub keeps : (trans : (o p q : Option Value) → Rel Value o p → Rel Value p q → Rel Value o q) (Sought : Tree OneItem → CallArguments → Type 0) (R : Resolver) → Premises Rel R R Sought (Turned R R) Any
   keeps trans Sought R = record {
     done = tt;
     untouched = λ {s} x d. relates.same (MeaningOf s) (means_by R x);
@@ -62,7 +62,7 @@ module _ (Rel : (A : Type 0) → Option A → Option A → Type 0) (relates : Re
   agree_enclosed B A (label.Tag i n) x = refl
   agree_enclosed B A label.Simple x = refl
 
-  unsought_agree : (B A : Resolver) → DifferAtPrefixes B A → (w : Tree OneItem) → ((a : Told) → IsApplication w a → ⊥) → resolved_item B (items w) ≡ resolved_item A (items w)
+  unsought_agree : (B A : Resolver) → DifferAtPrefixes B A → (w : Tree OneItem) → ((a : CallArguments) → IsApplication w a → ⊥) → resolved_item B (items w) ≡ resolved_item A (items w)
   unfolding items
   unsought_agree B A q (StringTree (LastPieceTree (LiteralTree x i))) n = q x i (λ p t is. n (prefix_and_text p t) (LiteralTree x i, refl, is))
   unsought_agree B A q (StringTree (LastPieceTree (DotsTree x))) n = refl
@@ -82,7 +82,7 @@ module _ (Rel : (A : Type 0) → Option A → Option A → Type 0) (relates : Re
     unsought = unsought_agree B A q;
     called = λ c k is. k;
     entering = λ c v cs r k is d a e.
-        let flat : items v ≡ items c.after = still a (le_trans d (application_flat c.before c.told is)) in
+        let flat : items v ≡ items c.after = still a (le_trans d (application_flat c.before c.arguments is)) in
         subst (λ x. Rel Value (means_by B (items c.before)) (means_by A x)) (sym flat) k;
   }
 
@@ -94,7 +94,7 @@ trans_equal o p q e f = e ∙ f
 pub trans_below : (o p q : Option Value) → Below Value o p → Below Value p q → Below Value o q
 trans_below o p q e f x is = f x (e x is)
 
-module _ (Sought : Tree OneItem → Told → Type 0) (R : Resolver) (cs : List SoughtCall) (r : Ending) where
+module _ (Sought : Tree OneItem → CallArguments → Type 0) (R : Resolver) (cs : List SoughtCall) (r : Ending) where
   pub visit_keeps : All (Turns R R) cs → (k : Rule) (w v : Tree k) → VisitParts Sought k w cs v r → keeping.KeptOf Below R R k (items w) (items v)
   visit_keeps all k w v a = keeping.parts_kept Below belows R R Sought (Turns R R) Any (keeps Below belows trans_below Sought R) a all tt
 

@@ -1,14 +1,17 @@
 //! Literals of a prefix and a text.
-ghost use Rattle.std.specs.Prelude.{◌≡◌, ℕ, List, None, IfOk, IfSome, OnErr, option_map, string_bytes};
+ghost use Rattle.std.specs.Prelude.{◌≡◌, ℕ, List, None, true, false, IfOk, IfSome, OnErr, string_bytes};
+ghost use Rattle.cbor_edn_parts.specs.Leaves.{literal_bytes};
+ghost use Rattle.cbor_edn_parts.specs.Literal.{IsLiteral, Prefixed};
 ghost use Rattle.cbor_edn_parts.specs.Refusals.{IfTold, OnMemory};
-ghost use Rattle.cbor_edn_model.specs.Accessed.{IsApplicationItem, IsApplicationPiece, are_several, string_tree};
-ghost use Rattle.cbor_edn_model.specs.Leaves.{texts};
-ghost use Rattle.cbor_edn_core.specs.Mismatch.{literal_mismatch};
-ghost use Rattle.cbor_edn_core.specs.View.{item_tree, view_piece, view_string};
+ghost use Rattle.cbor_edn_model.specs.access.Accessed.{IsApplicationItem, IsApplicationPiece, are_several, string_tree};
+ghost use Rattle.cbor_edn_model.specs.tree.TreeLeaves.{texts};
+ghost use Rattle.cbor_edn_core.specs.access.Mismatch.{literal_mismatch};
+ghost use Rattle.cbor_edn_core.specs.tree.View.{item_tree, view_piece, view_string};
 
 use super::TypeMismatch;
 use crate::tree::{CborString, InnerItem, Item, Piece};
 use cbor_edn_parts::error::Fault;
+use cbor_edn_parts::string::Literal;
 use std::alloc::{AllocError, Global};
 
 impl<'a> Item<'a> {
@@ -21,45 +24,68 @@ impl<'a> Item<'a> {
     ) -> Result<(String, String), Fault<TypeMismatch>>
         ensures found { IfOk result (λ p. IsApplicationItem (item_tree self.now) (string_bytes p.0) (string_bytes p.1)) }
         ensures refused { IfTold result (λ e. (e ≡ literal_mismatch (string_tree (item_tree self.now))) × ((p v : List ℕ) → IsApplicationItem (item_tree self.now) p v → ⊥)) }
-        ensures no_memory { OnMemory result ((p v : List ℕ) × IsApplicationItem (item_tree self.now) p v) }
+        ensures out_of_memory { OnMemory result ((p v : List ℕ) × IsApplicationItem (item_tree self.now) p v) }
     {
-        let Some(string) = string_of(self) else {
-            return Err(Fault::Told(TypeMismatch::ApplicationLiteral));
-        };
-        if has_several_pieces(string) {
-            return Err(Fault::Told(TypeMismatch::SingleApplicationLiteral));
-        }
-        match parts_of(alloc, &string.last)? {
-            Some(parts) => Ok(parts),
-            None => Err(Fault::Told(TypeMismatch::ApplicationLiteral)),
+        match &self.inner {
+            InnerItem::Literal(_, literal) => literal
+                .application_parts(alloc)?
+                .ok_or(Fault::Told(TypeMismatch::ApplicationLiteral)),
+            InnerItem::String(string) => {
+                if has_several_pieces(string) {
+                    return Err(Fault::Told(TypeMismatch::SingleApplicationLiteral));
+                }
+                prefix_and_text_of(alloc, &string.last)?.ok_or(Fault::Told(
+                    TypeMismatch::ApplicationLiteral,
+                ))
+            }
+            InnerItem::Number(..)
+            | InnerItem::NonFinite(..)
+            | InnerItem::Named(_)
+            | InnerItem::Enclosed(..)
+            | InnerItem::Array(_)
+            | InnerItem::Map(_)
+            | InnerItem::Stream(_) => Err(Fault::Told(TypeMismatch::ApplicationLiteral)),
         }
     }
 }
 
-#[tactic(auto, using(crate::proofs::code::Views::view_string_is, crate::proofs::code::Views::view_stream_is))]
-fn string_of<'t, 'a>(item: &'t Item<'a>) -> Option<&'t CborString<'a>>
-    ensures { option_map (λ s. view_string texts s.now) result ≡ string_tree (item_tree item.now) }
+/// Whether the item may be a literal with a prefix, by its form and its first byte: a look that takes less than
+/// [`Item::get_application_literal`].
+#[inline]
+#[tactic(auto, using(crate::proofs::lemmas::tree::Views::view_stream_is))]
+pub(crate) fn may_have_prefix(item: &Item<'_>) -> bool
+    ensures { result ≡ false → (p v : List ℕ) → IsApplicationItem (item_tree item.now) p v → ⊥ }
 {
     match &item.inner {
-        InnerItem::String(string) => Some(string),
+        InnerItem::Literal(_, literal) => !begins_with_quote(literal),
+        InnerItem::String(_) => true,
         InnerItem::Number(..)
         | InnerItem::NonFinite(..)
         | InnerItem::Named(_)
         | InnerItem::Enclosed(..)
         | InnerItem::Array(_)
         | InnerItem::Map(_)
-        | InnerItem::Stream(_) => None,
+        | InnerItem::Stream(_) => false,
     }
 }
 
-fn has_several_pieces(string: &CborString<'_>) -> bool
+fn begins_with_quote(literal: &Literal<'_>) -> bool
+    ensures { result ≡ true → (p v : List ℕ) → IsLiteral (Prefixed p) v (literal_bytes literal.now) → ⊥ }
+{
+    matches!(literal.as_str().as_bytes(), [b'\'' | b'"', ..])
+}
+
+pub(crate) fn has_several_pieces(string: &CborString<'_>) -> bool
     ensures { result ≡ are_several (view_string texts string.now) }
 {
     !string.row.is_empty()
 }
 
 /// The prefix and the text of a piece that is a literal with a prefix.
-fn parts_of(alloc: Global, piece: &Piece<'_>) -> Result<Option<(String, String)>, AllocError>
+fn prefix_and_text_of(
+    alloc: Global,
+    piece: &Piece<'_>,
+) -> Result<Option<(String, String)>, AllocError>
     ensures found { IfOk result (λ o. IfSome o (λ p. IsApplicationPiece (view_piece texts piece.now) (string_bytes p.0) (string_bytes p.1))) }
     ensures none { IfOk result (λ o. o ≡ None → (p v : List ℕ) → IsApplicationPiece (view_piece texts piece.now) p v → ⊥) }
     ensures prefixed { OnErr result ((p v : List ℕ) × IsApplicationPiece (view_piece texts piece.now) p v) }

@@ -2,16 +2,19 @@
 ghost use Rattle.std.specs.Prelude.{◌≡◌, IfOk, Some, None};
 ghost use Rattle.std.specs.List.{list_all};
 ghost use Rattle.cbor_edn_parts.specs.Refusals.{IfTold};
-ghost use Rattle.cbor_edn_model.specs.Accessed.{item_bytes, piece_bytes, string_bytes, strings_bytes, pieces, is_plain_piece, is_plain_string};
-ghost use Rattle.cbor_edn_model.specs.Leaves.{texts};
-ghost use Rattle.cbor_edn_model.specs.code.Adding.{Adds};
-ghost use Rattle.cbor_edn_core.specs.View.{item_tree, view_piece, view_string, view_strings};
+ghost use Rattle.cbor_edn_parts.specs.Leaves.{literal_bytes};
+ghost use Rattle.cbor_edn_parts.specs.internal.ContentReading.{literal_content};
+ghost use Rattle.cbor_edn_model.specs.access.Accessed.{only_bytes, item_bytes, piece_bytes, pieces_bytes, strings_bytes, pieces, is_plain_piece, is_plain_string};
+ghost use Rattle.cbor_edn_model.specs.tree.TreeLeaves.{texts};
+ghost use Rattle.cbor_edn_model.specs.internal.Adding.{Adds};
+ghost use Rattle.cbor_edn_core.specs.tree.View.{item_tree, view_piece, view_string, view_strings};
 
 use super::TypeMismatch;
-use crate::to_cbor::push_piece;
+use crate::cbor::encode::encode_piece;
 use crate::tree::{CborString, InnerItem, Item, Piece, Strings};
+use cbor_edn_model::cbor::encode::encode_literal;
 use cbor_edn_parts::error::Fault;
-use cbor_edn_parts::string::StringKind;
+use cbor_edn_parts::string::{Literal, StringKind};
 use std::alloc::Global;
 
 impl Item<'_> {
@@ -30,11 +33,12 @@ impl Item<'_> {
 impl Item<'_> {
     /// Whether the item is a string whose pieces are all quoted and have no encoding indicator, as `h'01' + 'a'` and neither
     /// `h'01'_0` nor `<<1>>`.
-    #[tactic(auto, using(crate::proofs::code::Views::view_string_is, crate::proofs::code::Views::view_stream_is))]
+    #[tactic(auto, using(crate::proofs::lemmas::tree::Views::view_string_is, crate::proofs::lemmas::tree::Views::view_stream_is))]
     pub fn is_plain_string(&self) -> bool
         ensures { result ≡ is_plain_string (item_tree self.now) }
     {
         match &self.inner {
+            InnerItem::Literal(indicator, _) => indicator.is_none(),
             InnerItem::String(string) => has_plain_pieces(string),
             InnerItem::Number(..)
             | InnerItem::NonFinite(..)
@@ -68,6 +72,7 @@ fn add_item(out: &mut Vec<u8>, item: &Item<'_>) -> Result<(), Fault<TypeMismatch
     ensures { Adds TypeMismatch.Bytes (item_bytes (item_tree item.now)) out.old.items out.new.items result }
 {
     match &item.inner {
+        InnerItem::Literal(_, literal) => add_literal(out, literal),
         InnerItem::String(string) => add_string(out, string),
         InnerItem::Stream(stream) => add_strings(out, &stream.strings),
         InnerItem::Number(..)
@@ -89,7 +94,7 @@ fn add_strings(out: &mut Vec<u8>, strings: &Strings<'_>) -> Result<(), Fault<Typ
 }
 
 fn add_string(out: &mut Vec<u8>, string: &CborString<'_>) -> Result<(), Fault<TypeMismatch>>
-    ensures { Adds TypeMismatch.Bytes (string_bytes (view_string texts string.now)) out.old.items out.new.items result }
+    ensures { Adds TypeMismatch.Bytes (pieces_bytes (view_string texts string.now)) out.old.items out.new.items result }
 {
     for (piece, _, _) in &string.row {
         add_piece(out, piece)?;
@@ -100,7 +105,17 @@ fn add_string(out: &mut Vec<u8>, string: &CborString<'_>) -> Result<(), Fault<Ty
 fn add_piece(out: &mut Vec<u8>, piece: &Piece<'_>) -> Result<(), Fault<TypeMismatch>>
     ensures { Adds TypeMismatch.Bytes (piece_bytes (view_piece texts piece.now)) out.old.items out.new.items result }
 {
-    match push_piece(out, piece) {
+    match encode_piece(out, piece) {
+        Ok(StringKind::Bytes) => Ok(()),
+        Ok(StringKind::Text) | Err(Fault::Told(_)) => Err(Fault::Told(TypeMismatch::Bytes)),
+        Err(Fault::Memory(refused)) => Err(Fault::Memory(refused)),
+    }
+}
+
+fn add_literal(out: &mut Vec<u8>, literal: &Literal<'_>) -> Result<(), Fault<TypeMismatch>>
+    ensures { Adds TypeMismatch.Bytes (only_bytes (literal_content (literal_bytes literal.now))) out.old.items out.new.items result }
+{
+    match encode_literal(out, literal) {
         Ok(StringKind::Bytes) => Ok(()),
         Ok(StringKind::Text) | Err(Fault::Told(_)) => Err(Fault::Told(TypeMismatch::Bytes)),
         Err(Fault::Memory(refused)) => Err(Fault::Memory(refused)),

@@ -19,10 +19,10 @@ pub struct MapItems<'t, 'a> {
 
 impl<'t, 'a> ArrayItems<'t, 'a> {
     ghost use Rattle.std.specs.Prelude.{◌≡◌, [], map};
-    ghost use Rattle.cbor_edn_model.specs.Accessed.{entries, element};
-    ghost use Rattle.cbor_edn_model.specs.Leaves.{texts};
-    ghost use Rattle.cbor_edn_core.specs.Iterated.{items_left};
-    ghost use Rattle.cbor_edn_core.specs.View.{item_tree, view_items};
+    ghost use Rattle.cbor_edn_model.specs.access.Accessed.{entries, element};
+    ghost use Rattle.cbor_edn_model.specs.tree.TreeLeaves.{texts};
+    ghost use Rattle.cbor_edn_core.specs.access.Iterated.{items_left};
+    ghost use Rattle.cbor_edn_core.specs.tree.View.{item_tree, view_items};
 
     pub(super) fn new(items: &'t Items<'a>) -> ArrayItems<'t, 'a>
         ensures { map item_tree (items_left result) ≡ map element (entries (view_items texts items.now)) }
@@ -44,10 +44,10 @@ impl<'t, 'a> ArrayItems<'t, 'a> {
 
 impl<'t, 'a> MapItems<'t, 'a> {
     ghost use Rattle.std.specs.Prelude.{◌≡◌, [], map};
-    ghost use Rattle.cbor_edn_model.specs.Accessed.{entries, key_and_value};
-    ghost use Rattle.cbor_edn_model.specs.Leaves.{texts};
-    ghost use Rattle.cbor_edn_core.specs.Iterated.{pairs_left, both_trees};
-    ghost use Rattle.cbor_edn_core.specs.View.{view_pairs};
+    ghost use Rattle.cbor_edn_model.specs.access.Accessed.{entries, key_and_value};
+    ghost use Rattle.cbor_edn_model.specs.tree.TreeLeaves.{texts};
+    ghost use Rattle.cbor_edn_core.specs.access.Iterated.{pairs_left, both_trees};
+    ghost use Rattle.cbor_edn_core.specs.tree.View.{view_pairs};
 
     pub(super) fn new(pairs: &'t Pairs<'a>) -> MapItems<'t, 'a>
         ensures { map both_trees (pairs_left result) ≡ map key_and_value (entries (view_pairs texts pairs.now)) }
@@ -71,7 +71,7 @@ impl<'t, 'a> Iterator for ArrayItems<'t, 'a> {
     type Item = &'t Item<'a>;
 
     ghost use Rattle.std.specs.Iterator.{YieldsFirstRef, item_count};
-    ghost use Rattle.cbor_edn_core.specs.Iterated.{items_left};
+    ghost use Rattle.cbor_edn_core.specs.access.Iterated.{items_left};
 
     ghost next_gives = { YieldsFirstRef items_left };
 
@@ -93,7 +93,7 @@ impl<'t, 'a> Iterator for MapItems<'t, 'a> {
     type Item = (&'t Item<'a>, &'t Item<'a>);
 
     ghost use Rattle.std.specs.Iterator.{YieldsFirstBy, item_count};
-    ghost use Rattle.cbor_edn_core.specs.Iterated.{pairs_left};
+    ghost use Rattle.cbor_edn_core.specs.access.Iterated.{pairs_left};
 
     ghost next_gives = { YieldsFirstBy (λ p. (p.0.now, p.1.now)) pairs_left };
 

@@ -12,10 +12,10 @@ pub struct ArrayItemsMut<'t, 'a> {
 
 impl<'t, 'a> ArrayItemsMut<'t, 'a> {
     ghost use Rattle.std.specs.Prelude.{◌≡◌, [], map};
-    ghost use Rattle.cbor_edn_model.specs.Accessed.{entries, element};
-    ghost use Rattle.cbor_edn_model.specs.Leaves.{texts};
-    ghost use Rattle.cbor_edn_core.specs.IteratedMut.{items_to_lend};
-    ghost use Rattle.cbor_edn_core.specs.View.{item_tree, view_items};
+    ghost use Rattle.cbor_edn_model.specs.access.Accessed.{entries, element};
+    ghost use Rattle.cbor_edn_model.specs.tree.TreeLeaves.{texts};
+    ghost use Rattle.cbor_edn_core.specs.access.IteratedMut.{items_to_lend};
+    ghost use Rattle.cbor_edn_core.specs.tree.View.{item_tree, view_items};
 
     pub(super) fn new(items: &'t mut Items<'a>) -> ArrayItemsMut<'t, 'a>
         ensures { map item_tree (items_to_lend result) ≡ map element (entries (view_items texts items.old)) }
@@ -39,7 +39,7 @@ impl<'t, 'a> Iterator for ArrayItemsMut<'t, 'a> {
     type Item = &'t mut Item<'a>;
 
     ghost use Rattle.std.specs.Iterator.{YieldsFirstMut, item_count};
-    ghost use Rattle.cbor_edn_core.specs.IteratedMut.{items_to_lend};
+    ghost use Rattle.cbor_edn_core.specs.access.IteratedMut.{items_to_lend};
 
     ghost next_gives = { YieldsFirstMut items_to_lend };
 
@@ -64,11 +64,11 @@ pub struct MapItemsMut<'t, 'a> {
 
 impl<'t, 'a> MapItemsMut<'t, 'a> {
     ghost use Rattle.std.specs.Prelude.{◌≡◌, [], map};
-    ghost use Rattle.cbor_edn_model.specs.Accessed.{entries, key_and_value};
-    ghost use Rattle.cbor_edn_model.specs.Leaves.{texts};
-    ghost use Rattle.cbor_edn_core.specs.Iterated.{both_trees};
-    ghost use Rattle.cbor_edn_core.specs.IteratedMut.{pairs_to_lend};
-    ghost use Rattle.cbor_edn_core.specs.View.{view_pairs};
+    ghost use Rattle.cbor_edn_model.specs.access.Accessed.{entries, key_and_value};
+    ghost use Rattle.cbor_edn_model.specs.tree.TreeLeaves.{texts};
+    ghost use Rattle.cbor_edn_core.specs.access.Iterated.{both_trees};
+    ghost use Rattle.cbor_edn_core.specs.access.IteratedMut.{pairs_to_lend};
+    ghost use Rattle.cbor_edn_core.specs.tree.View.{view_pairs};
 
     pub(super) fn new(pairs: &'t mut Pairs<'a>) -> MapItemsMut<'t, 'a>
         ensures { map both_trees (pairs_to_lend result) ≡ map key_and_value (entries (view_pairs texts pairs.old)) }
@@ -92,7 +92,7 @@ impl<'t, 'a> Iterator for MapItemsMut<'t, 'a> {
     type Item = (&'t mut Item<'a>, &'t mut Item<'a>);
 
     ghost use Rattle.std.specs.Iterator.{YieldsFirstBy, item_count};
-    ghost use Rattle.cbor_edn_core.specs.IteratedMut.{pairs_to_lend};
+    ghost use Rattle.cbor_edn_core.specs.access.IteratedMut.{pairs_to_lend};
 
     ghost next_gives = { YieldsFirstBy (λ p. (p.0.now, p.1.now)) pairs_to_lend };
 
@@ -117,9 +117,9 @@ pub struct SequenceItemsMut<'t, 'a> {
 
 impl<'t, 'a> SequenceItemsMut<'t, 'a> {
     ghost use Rattle.std.specs.Prelude.{◌≡◌, map};
-    ghost use Rattle.cbor_edn_model.specs.Paths.{items_in};
-    ghost use Rattle.cbor_edn_core.specs.IteratedMut.{sequence_items_to_lend};
-    ghost use Rattle.cbor_edn_core.specs.View.{item_tree, sequence_tree};
+    ghost use Rattle.cbor_edn_model.specs.access.Paths.{items_in};
+    ghost use Rattle.cbor_edn_core.specs.access.IteratedMut.{sequence_items_to_lend};
+    ghost use Rattle.cbor_edn_core.specs.tree.View.{item_tree, sequence_tree};
 
     pub(super) fn new(sequence: &'t mut Sequence<'a>) -> SequenceItemsMut<'t, 'a>
         ensures { map item_tree (sequence_items_to_lend result) ≡ items_in (sequence_tree sequence.old) }
@@ -139,7 +139,7 @@ impl<'t, 'a> Iterator for SequenceItemsMut<'t, 'a> {
     type Item = &'t mut Item<'a>;
 
     ghost use Rattle.std.specs.Iterator.{YieldsFirstMut, item_count};
-    ghost use Rattle.cbor_edn_core.specs.IteratedMut.{sequence_items_to_lend};
+    ghost use Rattle.cbor_edn_core.specs.access.IteratedMut.{sequence_items_to_lend};
 
     ghost next_gives = { YieldsFirstMut sequence_items_to_lend };
 

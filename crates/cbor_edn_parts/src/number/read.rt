@@ -1,17 +1,16 @@
 //! The number at a place of a text.
 ghost use Rattle.std.specs.Prelude.{IfOk, drop};
 ghost use Rattle.std.specs.Str.{IsCharBoundary};
-ghost use Rattle.cbor_edn_parts.specs.code.Lex.{token};
+ghost use Rattle.cbor_edn_parts.specs.internal.Lex.{token};
 ghost use Rattle.cbor_edn_parts.specs.Leaves.{number_bytes, BorrowsNumber};
-ghost use Rattle.cbor_edn_parts.specs.code.NumberTokens as tokens;
-ghost use Rattle.cbor_edn_parts.specs.code.Scans.{Scans, ScanLands, Costs};
-ghost use Rattle.cbor_edn_parts.specs.code.Text.{text_bytes};
+ghost use Rattle.cbor_edn_parts.specs.internal.NumberTokens as tokens;
+ghost use Rattle.cbor_edn_parts.specs.internal.Scans.{Scans, ScanLands, Costs};
+ghost use Rattle.cbor_edn_parts.specs.internal.Text.{text_bytes};
 
-use super::{Number, Reached};
+use super::Number;
+use super::start::number_start;
 use crate::error::Refusal;
-use crate::leaf_text::LeafText;
 use crate::looks::Looks;
-use crate::scan::scan;
 use crate::text::Text;
 
 /// The longest number at a place, and the place behind it. Refused as invalid where none stands there, at the byte that leads no further.
@@ -26,7 +25,6 @@ pub fn number_at<'a>(
     ensures place { ScanLands (text_bytes text.now) from result }
     ensures cost { Costs 1 1 1 (text_bytes text.now) from looks.old.count looks.new.count result }
 {
-    let (text, to) = scan(Reached::Start, text, from, looks)?;
-    let text = LeafText::Borrowed(text);
-    Ok((Number { text }, to))
+    let start = number_start(text, from, looks);
+    start.number(text, from, looks)
 }

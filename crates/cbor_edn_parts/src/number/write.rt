@@ -2,11 +2,11 @@
 ghost use Rattle.std.specs.Prelude.{◌≡◌, IfOk, IfSome, None};
 ghost use Rattle.std.specs.Fmt.{signed_decimal};
 ghost use Rattle.cbor_edn_parts.specs.Number.{IsNumber};
-ghost use Rattle.cbor_edn_parts.specs.code.NumberTokens as tokens;
-ghost use Rattle.cbor_edn_parts.specs.Leaves.{number_bytes};
+ghost use Rattle.cbor_edn_parts.specs.internal.NumberTokens as tokens;
+ghost use Rattle.cbor_edn_parts.specs.Leaves.{number_bytes, small_integer};
 ghost use Rattle.cbor_edn_parts.specs.Written.{hexadecimal_text};
 
-use super::{Number, Reached};
+use super::{Number, NumberState, SmallInteger};
 use crate::leaf_text::LeafText;
 use crate::scan::State;
 use std::alloc::{AllocError, Global};
@@ -18,6 +18,14 @@ impl<'a> Number<'a> {
     {
         let text = LeafText::joined(alloc, "", itoa::Buffer::new().format(integer))?;
         Ok(Number { text })
+    }
+
+    /// The same of an integer that a head of CBOR holds, which takes no memory.
+    pub fn small(integer: SmallInteger) -> Number<'a>
+        ensures { number_bytes result ≡ signed_decimal (small_integer integer) }
+    {
+        let text = integer.decimal();
+        Number { text }
     }
 
     /// The integer behind `0x`, in lower case without leading zeros, as `0x1f`. Fails where memory runs out.
@@ -47,7 +55,7 @@ impl<'a> Number<'a> {
 fn is_number(text: &str) -> bool
     ensures { result ≡ tokens.is_number text.now }
 {
-    let mut state = Reached::Start;
+    let mut state = NumberState::Start;
     for byte in text.as_bytes() {
         match state.step(*byte) {
             Some(next) => state = next,

@@ -1,9 +1,10 @@
 //! The comments of a space text, and its comma.
 ghost use Rattle.std.specs.Prelude.{◌≡◌, ◌&&◌};
-ghost use Rattle.cbor_edn_parts.specs.Comments as definition;
-ghost use Rattle.cbor_edn_parts.specs.Comments.{before_comma, after_comma, comments_of};
+ghost use Rattle.cbor_edn_parts.specs.Spacing.{comments_before, comments_after};
+ghost use Rattle.cbor_edn_parts.specs.internal.CommentReading as definition;
+ghost use Rattle.cbor_edn_parts.specs.internal.CommentReading.{before_comma, after_comma, comments_of};
 
-use super::Within;
+use super::SpaceState;
 
 /// The part of a text from its first comment to the end of its last.
 pub(super) fn comments(text: &str) -> &str
@@ -12,12 +13,28 @@ pub(super) fn comments(text: &str) -> &str
     to_last(from_first(text))
 }
 
+/// The comments in front of the comma of a text, and those behind it. Most texts are blanks round a comma, and have none.
+pub(super) fn comments_round_comma(text: &str) -> (&str, &str)
+    ensures before { result.0.now ≡ comments_before text.now }
+    ensures after { result.1.now ≡ comments_after text.now }
+{
+    let rest = from_first(text);
+    match rest.as_bytes() {
+        [] => ("", ""),
+        [b',', ..] => ("", comments(&rest[1..])),
+        _ => {
+            let (before, after) = cut_at_comma(rest);
+            (to_last(before), comments(after))
+        }
+    }
+}
+
 /// What stands in front of the comma of a text, all of it where it has none, and what stands behind it.
-pub(super) fn cut_at_comma(text: &str) -> (&str, &str)
+fn cut_at_comma(text: &str) -> (&str, &str)
     ensures before { result.0.now ≡ before_comma text.now }
     ensures after { result.1.now ≡ after_comma text.now }
 {
-    let mut within = Within::Between;
+    let mut within = SpaceState::Between;
     'bytes: for (at, &byte) in text.as_bytes().iter().enumerate() {
         if within.is_comma(byte) {
             return (&text[..at], &text[at + 1..]);
@@ -41,9 +58,9 @@ fn from_first(text: &str) -> &str
 
 /// The text without the blanks behind its last comment.
 fn to_last(text: &str) -> &str
-    ensures { result.now ≡ definition.to_last Within.Between text.now }
+    ensures { result.now ≡ definition.to_last SpaceState.Between text.now }
 {
-    let mut within = Within::Between;
+    let mut within = SpaceState::Between;
     let mut end = 0;
     'bytes: for (at, &byte) in text.as_bytes().iter().enumerate() {
         if !within.is_blank(byte) {
@@ -60,29 +77,29 @@ fn is_blank(byte: u8) -> bool
     matches!(byte, b'\t' | b'\n' | b'\r' | b' ')
 }
 
-impl Within {
+impl SpaceState {
     /// Whether a byte is a blank that stands in no comment.
     fn is_blank(self, byte: u8) -> bool
         ensures { result ≡ (definition.is_between self && definition.is_blank byte) }
     {
-        matches!(self, Within::Between) && is_blank(byte)
+        matches!(self, SpaceState::Between) && is_blank(byte)
     }
 
     /// Whether a byte is a comma that stands in no comment.
     fn is_comma(self, byte: u8) -> bool
         ensures { result ≡ definition.is_comma self byte }
     {
-        matches!((self, byte), (Within::Between, b','))
+        matches!((self, byte), (SpaceState::Between, b','))
     }
 
     /// Where a byte leads: into a comment, on in it, or behind it.
-    fn past(self, byte: u8) -> Within
+    fn past(self, byte: u8) -> SpaceState
         ensures { result ≡ definition.past self byte }
     {
         match (self, byte) {
-            (Within::Between, b'/') => Within::InSlashes,
-            (Within::Between, b'#') => Within::InHash,
-            (Within::InSlashes, b'/') | (Within::InHash, b'\n') => Within::Between,
+            (SpaceState::Between, b'/') => SpaceState::InSlashes,
+            (SpaceState::Between, b'#') => SpaceState::InHash,
+            (SpaceState::InSlashes, b'/') | (SpaceState::InHash, b'\n') => SpaceState::Between,
             _ => self,
         }
     }

@@ -32,7 +32,7 @@ pub trait TakesComment {
     /// Puts a comment in front of the text, as [`S::note`] writes it. Fails where memory runs out, and leaves the text then.
     fn put_comment(&mut self, alloc: Global, comment: &str) -> Result<(), AllocError>
         ensures put { OnOk result (bytes self.new ≡ noted comment.now ++ bytes self.old) }
-        ensures refused { OnErr result (bytes self.new ≡ bytes self.old) };
+        ensures out_of_memory { OnErr result (bytes self.new ≡ bytes self.old) };
 }
 
 impl<'a> TakesComment for S<'a> {
@@ -89,14 +89,14 @@ fn behind_hashes(alloc: Global, comment: &str) -> Result<String, AllocError>
 {
     let mut text = String::from_str(alloc, "# ")?;
     for character in comment.chars() {
-        push_behind_hash(&mut text, character)?;
+        print_behind_hash(&mut text, character)?;
     }
     text.push('\n')?;
     Ok(text)
 }
 
 /// Appends a character of a comment behind `#`.
-fn push_behind_hash(text: &mut String, character: char) -> Result<(), AllocError>
+fn print_behind_hash(text: &mut String, character: char) -> Result<(), AllocError>
     ensures { OnOk result (string_bytes text.new ≡ string_bytes text.old ++ hash_lines (map definition.cleaned (encode_utf8 character))) }
 {
     match character {

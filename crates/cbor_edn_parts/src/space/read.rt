@@ -1,14 +1,14 @@
 //! Space texts at a place of a text.
 ghost use Rattle.std.specs.Prelude.{IfOk, drop};
 ghost use Rattle.std.specs.Str.{IsCharBoundary};
-ghost use Rattle.cbor_edn_parts.specs.code.Lex.{token};
+ghost use Rattle.cbor_edn_parts.specs.internal.Lex.{token};
 ghost use Rattle.cbor_edn_parts.specs.Leaves.{s_bytes, soc_bytes, BorrowsS, BorrowsSoc};
-ghost use Rattle.cbor_edn_parts.specs.code.Ends.{IsEnd, reached};
-ghost use Rattle.cbor_edn_parts.specs.code.Scans.{Scans, ScanLands, Costs};
-ghost use Rattle.cbor_edn_parts.specs.code.SpaceTokens as tokens;
-ghost use Rattle.cbor_edn_parts.specs.code.Text.{text_bytes};
+ghost use Rattle.cbor_edn_parts.specs.internal.Ends.{IsEnd, reached};
+ghost use Rattle.cbor_edn_parts.specs.internal.Scans.{Scans, ScanLands, Costs};
+ghost use Rattle.cbor_edn_parts.specs.internal.SpaceTokens as tokens;
+ghost use Rattle.cbor_edn_parts.specs.internal.Text.{text_bytes};
 
-use super::{Around, S, Soc, Within};
+use super::{S, SeparatorState, Soc, SpaceState};
 use crate::error::Refusal;
 use crate::leaf_text::LeafText;
 use crate::looks::Looks;
@@ -23,7 +23,7 @@ pub fn space<'a>(text: &Text<'a>, from: usize, looks: &mut Looks) -> Result<(S<'
     ensures place { ScanLands (text_bytes text.now) from result }
     ensures cost { Costs 1 1 1 (text_bytes text.now) from looks.old.count looks.new.count result }
 {
-    let (text, to) = scan(Within::Between, text, from, looks)?;
+    let (text, to) = scan(SpaceState::Between, text, from, looks)?;
     let text = LeafText::Borrowed(text);
     Ok((S { text }, to))
 }
@@ -40,16 +40,21 @@ pub fn separator<'a>(
     ensures place { ScanLands (text_bytes text.now) from result }
     ensures cost { Costs 1 1 1 (text_bytes text.now) from looks.old.count looks.new.count result }
 {
-    let (text, to) = scan(Around::Before(Within::Between), text, from, looks)?;
+    let (text, to) = scan(
+        SeparatorState::Before(SpaceState::Between),
+        text,
+        from,
+        looks,
+    )?;
     let text = LeafText::Borrowed(text);
     Ok((Soc { text }, to))
 }
 
 /// Where an item ends, and where the space behind it does, if that is read.
 #[derive(Clone, Copy)]
-pub struct End {
+pub struct ItemEnd {
     /// The place behind the item, in bytes.
-    pub item: usize,
+    pub at: usize,
     /// The place behind the optional space that follows the item, in bytes, if it is known.
     pub space: Option<usize>,
 }
@@ -57,19 +62,19 @@ pub struct End {
 /// The optional space behind an item, and the place behind it. Space that is read is not read again.
 pub fn space_behind<'a>(
     text: &Text<'a>,
-    end: End,
+    end: ItemEnd,
     looks: &mut Looks,
 ) -> Result<(S<'a>, usize), Refusal>
     requires { IsEnd (text_bytes text.now) end }
-    ensures value { Scans s_bytes (text_bytes text.now) result (token tokens.space (drop end.item (text_bytes text.now))) }
+    ensures value { Scans s_bytes (text_bytes text.now) result (token tokens.space (drop end.at (text_bytes text.now))) }
     ensures borrowed { IfOk result (λ p. BorrowsS p.0) }
     ensures place { ScanLands (text_bytes text.now) (reached end) result }
     ensures cost { Costs 1 1 1 (text_bytes text.now) (reached end) looks.old.count looks.new.count result }
 {
     match end.space {
-        None => space(text, end.item, looks),
+        None => space(text, end.at, looks),
         Some(to) => {
-            let text = LeafText::Borrowed(text.slice(end.item, to));
+            let text = LeafText::Borrowed(text.slice(end.at, to));
             Ok((S { text }, to))
         }
     }
@@ -78,22 +83,22 @@ pub fn space_behind<'a>(
 /// The space with at most one comma behind an item, and the place behind it. Space that is read is not read again.
 pub fn separator_behind<'a>(
     text: &Text<'a>,
-    end: End,
+    end: ItemEnd,
     looks: &mut Looks,
 ) -> Result<(Soc<'a>, usize), Refusal>
     requires { IsEnd (text_bytes text.now) end }
-    ensures value { Scans soc_bytes (text_bytes text.now) result (token tokens.separator (drop end.item (text_bytes text.now))) }
+    ensures value { Scans soc_bytes (text_bytes text.now) result (token tokens.separator (drop end.at (text_bytes text.now))) }
     ensures borrowed { IfOk result (λ p. BorrowsSoc p.0) }
     ensures place { ScanLands (text_bytes text.now) (reached end) result }
     ensures cost { Costs 1 2 2 (text_bytes text.now) (reached end) looks.old.count looks.new.count result }
 {
     let Some(at) = end.space else {
-        return separator(text, end.item, looks);
+        return separator(text, end.at, looks);
     };
     let to = match text.byte(at, looks) {
         Some(b',') => space(text, at + 1, looks)?.1,
         _ => at,
     };
-    let text = LeafText::Borrowed(text.slice(end.item, to));
+    let text = LeafText::Borrowed(text.slice(end.at, to));
     Ok((Soc { text }, to))
 }

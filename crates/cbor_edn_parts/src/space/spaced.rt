@@ -1,13 +1,13 @@
 //! Space texts by a column of the table of spaces.
 ghost use Rattle.std.specs.Prelude.{◌≡◌, ◌≤◌, [], ◌∷◌, ◌++◌, IfOk, IsOk, OnOk, string_bytes};
 ghost use Rattle.cbor_edn_parts.specs.LeafTexts.{leaf_bytes};
-ghost use Rattle.cbor_edn_parts.specs.Comments.{comments_of};
+ghost use Rattle.cbor_edn_parts.specs.internal.CommentReading.{comments_of};
 ghost use Rattle.cbor_edn_parts.specs.Leaves.{s_bytes, ms_bytes, msc_bytes, soc_bytes};
 ghost use Rattle.cbor_edn_parts.specs.Spacing as table;
 ghost use Rattle.cbor_edn_parts.specs.Spacing.{line};
-ghost use Rattle.cbor_edn_parts.specs.code.Columns.{in_column};
+ghost use Rattle.cbor_edn_parts.specs.internal.Columns.{in_column};
 
-use super::comments::{comments, cut_at_comma};
+use super::comments::{comments, comments_round_comma};
 use super::{Ms, Msc, S, Soc};
 use crate::leaf_text::LeafText;
 use crate::policy::Spacing;
@@ -25,7 +25,7 @@ impl<'a> S<'a> {
     pub fn spaced(&self, alloc: Global, spacing: Spacing) -> Result<S<'a>, AllocError>
         ensures bytes { IfOk result (λ t. s_bytes t ≡ table.spaced table.S spacing (s_bytes self.now)) }
         ensures least { spacing ≡ table.Least → IsOk result }
-        ensures free { table.IsShort spacing → comments_of (s_bytes self.now) ≡ [] → IsOk result }
+        ensures free { table.IsShortSpacing spacing → comments_of (s_bytes self.now) ≡ [] → IsOk result }
     {
         let text = comments_in_column(alloc, spacing, &self.text)?;
         Ok(S { text })
@@ -38,7 +38,7 @@ impl<'a> Ms<'a> {
     pub fn spaced(&self, alloc: Global, spacing: Spacing) -> Result<Ms<'a>, AllocError>
         ensures bytes { IfOk result (λ t. ms_bytes t ≡ table.spaced table.MS spacing (ms_bytes self.now)) }
         ensures least { spacing ≡ table.Least → IsOk result }
-        ensures free { table.IsShort spacing → comments_of (ms_bytes self.now) ≡ [] → IsOk result }
+        ensures free { table.IsShortSpacing spacing → comments_of (ms_bytes self.now) ≡ [] → IsOk result }
     {
         let text = or_space(comments_in_column(alloc, spacing, &self.text)?);
         Ok(Ms { text })
@@ -51,7 +51,7 @@ impl<'a> Msc<'a> {
     pub fn spaced(&self, alloc: Global, spacing: Spacing) -> Result<Msc<'a>, AllocError>
         ensures bytes { IfOk result (λ t. msc_bytes t ≡ table.spaced table.MSC spacing (msc_bytes self.now)) }
         ensures least { spacing ≡ table.Least → IsOk result }
-        ensures free { table.IsShort spacing → table.comments_before (msc_bytes self.now) ≡ [] → table.comments_after (msc_bytes self.now) ≡ [] → IsOk result }
+        ensures free { table.IsShortSpacing spacing → table.comments_before (msc_bytes self.now) ≡ [] → table.comments_after (msc_bytes self.now) ≡ [] → IsOk result }
     {
         let text = with_comma(alloc, spacing, self.as_str())?;
         Ok(Msc { text })
@@ -64,10 +64,10 @@ impl<'a> Soc<'a> {
     pub fn spaced(&self, alloc: Global, spacing: Spacing) -> Result<Soc<'a>, AllocError>
         ensures bytes { IfOk result (λ t. soc_bytes t ≡ table.spaced table.SOC spacing (soc_bytes self.now)) }
         ensures least { spacing ≡ table.Least → IsOk result }
-        ensures free { table.IsShort spacing → table.comments_before (soc_bytes self.now) ≡ [] → table.comments_after (soc_bytes self.now) ≡ [] → IsOk result }
+        ensures free { table.IsShortSpacing spacing → table.comments_before (soc_bytes self.now) ≡ [] → table.comments_after (soc_bytes self.now) ≡ [] → IsOk result }
     {
-        let (before, after) = cut_at_comma(self.as_str());
-        let text = in_column(alloc, spacing, comments(before), comments(after))?;
+        let (before, after) = comments_round_comma(self.as_str());
+        let text = in_column(alloc, spacing, before, after)?;
         Ok(Soc { text })
     }
 }
@@ -80,7 +80,7 @@ fn comments_in_column<'a>(
 ) -> Result<LeafText<'a>, AllocError>
     ensures bytes { IfOk result (λ t. leaf_bytes t ≡ in_column spacing (comments_of (leaf_bytes text.now))) }
     ensures least { spacing ≡ table.Least → IsOk result }
-    ensures free { table.IsShort spacing → comments_of (leaf_bytes text.now) ≡ [] → IsOk result }
+    ensures free { table.IsShortSpacing spacing → comments_of (leaf_bytes text.now) ≡ [] → IsOk result }
 {
     match (text, spacing) {
         (LeafText::Borrowed(text), Spacing::Comments | Spacing::OneLine) => {
@@ -99,7 +99,7 @@ fn in_column<'a>(
 ) -> Result<LeafText<'a>, AllocError>
     ensures bytes { IfOk result (λ t. leaf_bytes t ≡ in_column spacing (before.now ++ after.now)) }
     ensures least { spacing ≡ table.Least → IsOk result }
-    ensures free { table.IsShort spacing → before.now ≡ [] → after.now ≡ [] → IsOk result }
+    ensures free { table.IsShortSpacing spacing → before.now ≡ [] → after.now ≡ [] → IsOk result }
 {
     match spacing {
         Spacing::Least => Ok(LeafText::Borrowed("")),
@@ -110,7 +110,7 @@ fn in_column<'a>(
         }
         Spacing::NewLine(indent) => {
             let mut text = String::new(alloc);
-            push_line(&mut text, indent)?;
+            print_line(&mut text, indent)?;
             text.push_str(before)?;
             text.push_str(after)?;
             LeafText::own(alloc, text)
@@ -150,11 +150,9 @@ fn or_space<'a>(text: LeafText<'a>) -> LeafText<'a>
 fn with_comma<'a>(alloc: Global, spacing: Spacing, text: &str) -> Result<LeafText<'a>, AllocError>
     ensures bytes { IfOk result (λ t. leaf_bytes t ≡ table.spaced table.MSC spacing text.now) }
     ensures least { spacing ≡ table.Least → IsOk result }
-    ensures free { table.IsShort spacing → table.comments_before text.now ≡ [] → table.comments_after text.now ≡ [] → IsOk result }
+    ensures free { table.IsShortSpacing spacing → table.comments_before text.now ≡ [] → table.comments_after text.now ≡ [] → IsOk result }
 {
-    let (before, after) = cut_at_comma(text);
-    let before = comments(before);
-    let after = comments(after);
+    let (before, after) = comments_round_comma(text);
     let is_empty = before.is_empty() && after.is_empty();
     let text = match spacing {
         Spacing::Least => return Ok(LeafText::Borrowed(",")),
@@ -170,7 +168,7 @@ fn with_comma<'a>(alloc: Global, spacing: Spacing, text: &str) -> Result<LeafTex
         Spacing::NewLine(indent) => {
             let mut text = String::from_str(alloc, before)?;
             text.push(',')?;
-            push_line(&mut text, indent)?;
+            print_line(&mut text, indent)?;
             text.push_str(after)?;
             text
         }
@@ -195,7 +193,7 @@ fn short_line(indent: usize) -> &'static str
 }
 
 /// Appends a line feed and so many spaces. Where there is no memory for these it fails before it writes them.
-fn push_line(text: &mut String, indent: usize) -> Result<(), AllocError>
+fn print_line(text: &mut String, indent: usize) -> Result<(), AllocError>
     ensures { OnOk result (string_bytes text.new ≡ string_bytes text.old ++ line indent) }
 {
     text.push('\n')?;

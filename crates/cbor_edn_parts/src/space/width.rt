@@ -2,9 +2,9 @@
 ghost use Rattle.std.specs.Prelude.{◌≡◌, ◌-◌, ◌^◌, min, length};
 ghost use Rattle.cbor_edn_parts.specs.Leaves.{s_bytes, ms_bytes, msc_bytes, soc_bytes};
 ghost use Rattle.cbor_edn_parts.specs.Spacing as table;
-ghost use Rattle.cbor_edn_parts.specs.code.Columns.{column_length, separator_length};
+ghost use Rattle.cbor_edn_parts.specs.internal.Columns.{column_length, separator_length};
 
-use super::comments::{comments, cut_at_comma};
+use super::comments::{comments, comments_round_comma};
 use super::{Ms, Msc, S, Soc};
 use crate::policy::Spacing;
 
@@ -33,9 +33,7 @@ impl Msc<'_> {
     pub fn spaced_len(&self, spacing: Spacing) -> usize
         ensures { result ≡ min (length (table.spaced table.MSC spacing (msc_bytes self.now))) (2 ^ 64 - 1) }
     {
-        let (before, after) = cut_at_comma(self.as_str());
-        let before = comments(before);
-        let after = comments(after);
+        let (before, after) = comments_round_comma(self.as_str());
         separator_len(spacing, before.len().saturating_add(after.len()))
     }
 }
@@ -45,9 +43,7 @@ impl Soc<'_> {
     pub fn spaced_len(&self, spacing: Spacing) -> usize
         ensures { result ≡ min (length (table.spaced table.SOC spacing (soc_bytes self.now))) (2 ^ 64 - 1) }
     {
-        let (before, after) = cut_at_comma(self.as_str());
-        let before = comments(before);
-        let after = comments(after);
+        let (before, after) = comments_round_comma(self.as_str());
         column_len(spacing, before.len().saturating_add(after.len()))
     }
 }

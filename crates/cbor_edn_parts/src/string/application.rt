@@ -2,11 +2,11 @@
 ghost use Rattle.std.specs.Prelude.{◌≡◌, ◌++◌, IfOk, IfSome, OnOk, OnErr, None, List, ℕ, encode_utf8, string_bytes};
 ghost use Rattle.cbor_edn_parts.specs.Leaves.{literal_bytes};
 ghost use Rattle.cbor_edn_parts.specs.Literal.{IsPrefix, IsLiteral, Prefixed};
-ghost use Rattle.cbor_edn_parts.specs.code.Prefixes as prefixes;
+ghost use Rattle.cbor_edn_parts.specs.internal.Prefixes as prefixes;
 ghost use Rattle.cbor_edn_parts.specs.Refusals.{IfTold};
 ghost use Rattle.cbor_edn_parts.specs.Written.{application_literal, all_single_escaped};
 
-use super::write::push_escaped;
+use super::write::print_escaped;
 use super::{Literal, Quote};
 use crate::error::{Fault, InconsistentEdn};
 use crate::leaf_text::LeafText;
@@ -30,7 +30,7 @@ impl<'a> Literal<'a> {
         let mut literal = String::from_str(alloc, prefix)?;
         literal.push('\'')?;
         for character in text.chars() {
-            push_single_escaped(&mut literal, character)?;
+            print_single_escaped(&mut literal, character)?;
         }
         literal.push('\'')?;
         let text = LeafText::own(alloc, literal)?;
@@ -84,12 +84,12 @@ fn are_large(text: &[u8]) -> bool
 }
 
 /// Appends a character as it stands between single quotes.
-fn push_single_escaped(text: &mut String, character: char) -> Result<(), AllocError>
+fn print_single_escaped(text: &mut String, character: char) -> Result<(), AllocError>
     ensures { OnOk result (string_bytes text.new ≡ string_bytes text.old ++ all_single_escaped (encode_utf8 character)) }
 {
     match character {
         '\'' => text.push_str("\\'"),
         '"' => text.push_str("\\u{22}"),
-        _ => push_escaped(text, character),
+        _ => print_escaped(text, character),
     }
 }

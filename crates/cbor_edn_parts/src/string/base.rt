@@ -1,8 +1,8 @@
 //! Bytes by symbols of 6 or 5 bits.
 ghost use Rattle.std.specs.Prelude.{◌≡◌, IfOk, Some, None};
-ghost use Rattle.cbor_edn_parts.specs.code.Alphabets.{alphabet};
+ghost use Rattle.cbor_edn_parts.specs.internal.Alphabets.{alphabet};
 ghost use Rattle.cbor_edn_parts.specs.Contents.{base64_symbol, base32_symbol};
-ghost use Rattle.cbor_edn_parts.specs.code.ContentReading.{base_bytes};
+ghost use Rattle.cbor_edn_parts.specs.internal.ContentReading.{base_bytes};
 ghost use Rattle.cbor_edn_parts.specs.Refusals.{IfTold};
 
 use crate::error::{Fault, InconsistentEdn};

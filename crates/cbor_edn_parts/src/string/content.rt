@@ -1,14 +1,14 @@
 //! What literals contribute to a string.
-ghost use Rattle.std.specs.Prelude.{◌≡◌, ◌++◌, ◌↔◌, IsTrue, IfOk, OnOk, Some, None, position};
+ghost use Rattle.std.specs.Prelude.{◌≡◌, ◌++◌, ◌↔◌, IsTrue, IfOk, OnOk, Some, None, not, position};
 ghost use Rattle.cbor_edn_parts.specs.Contents.{HasContent, NoContent, IsSupported, IsRefusal};
-ghost use Rattle.cbor_edn_parts.specs.code.ContentReading as reading;
-ghost use Rattle.cbor_edn_parts.specs.code.Ended.{ended_bytes};
+ghost use Rattle.cbor_edn_parts.specs.internal.ContentReading as reading;
+ghost use Rattle.cbor_edn_parts.specs.internal.Ended.{ended_bytes};
 ghost use Rattle.cbor_edn_parts.specs.Leaves.{literal_bytes};
-ghost use Rattle.cbor_edn_parts.specs.code.LiteralTokens as tokens;
+ghost use Rattle.cbor_edn_parts.specs.internal.LiteralTokens as tokens;
 ghost use Rattle.cbor_edn_parts.specs.Refusals.{IfTold};
 
 use super::base::Alphabet;
-use super::{Ended, Literal, Part, Quote, StringKind, hexadecimal};
+use super::{Ended, Literal, Quote, QuotedState, StringKind, hexadecimal};
 use crate::error::{Fault, InconsistentEdn};
 use std::alloc::{AllocError, Global};
 
@@ -111,11 +111,13 @@ impl StringKind {
 impl Quote {
     /// The bytes that the text behind an opening quote stands for, up to the quote that ends it.
     pub(super) fn decode(self, alloc: Global, text: &[u8]) -> Result<Vec<u8>, AllocError>
-        ensures { IfOk result (λ v. v.items ≡ tokens.decoded self Part.Between text.now) }
+        ensures { IfOk result (λ v. v.items ≡ tokens.decoded self QuotedState.Between text.now) }
     {
+        let (plain, rest) = self.split_plain(text);
         let mut bytes = Vec::new(alloc);
-        let mut part = Part::Between;
-        for byte in text {
+        bytes.extend_from_slice(plain)?;
+        let mut part = QuotedState::Between;
+        for byte in rest {
             if self.ends(part, *byte) {
                 break;
             }
@@ -128,11 +130,28 @@ impl Quote {
         Ok(bytes)
     }
 
+    /// Plain bytes that the text behind an opening quote begins with, mostly all but the quote that ends it, and the rest.
+    fn split_plain(self, text: &[u8]) -> (&[u8], &[u8])
+        ensures { tokens.decoded self QuotedState.Between text.now ≡ result.0.now ++ tokens.decoded self QuotedState.Between result.1.now }
+    {
+        match self.first_other(text) {
+            Some(at) => text.split_at(at),
+            None => text.split_at(text.len()),
+        }
+    }
+
+    /// The place of the first byte that is not plain, mostly that of the quote that ends the text, or of a backslash.
+    fn first_other(self, text: &[u8]) -> Option<usize>
+        ensures { result ≡ position (λ c. not (tokens.is_plain self c)) text.now }
+    {
+        text.iter().position(|byte| !self.is_plain(*byte))
+    }
+
     /// Whether the byte is the quote that ends the text.
-    fn ends(self, part: Part, byte: u8) -> bool
+    fn ends(self, part: QuotedState, byte: u8) -> bool
         ensures { result ≡ tokens.ends self byte part }
     {
-        matches!(part, Part::Between) && byte == self.byte()
+        matches!(part, QuotedState::Between) && byte == self.byte()
     }
 }
 

@@ -1,7 +1,7 @@
 //! Numbers by hexadecimal digits, and surrogates.
 ghost use Rattle.std.specs.Prelude.{◌≡◌, ◌&&◌, if◌then◌else◌, Some, None};
 ghost use Rattle.std.specs.Char.Utf16.{is_high_surrogate, is_low_surrogate, surrogate_pair_char};
-ghost use Rattle.cbor_edn_parts.specs.code.LiteralTokens as tokens;
+ghost use Rattle.cbor_edn_parts.specs.internal.LiteralTokens as tokens;
 
 /// The number with one digit more. A number that is greater than all characters is followed no further.
 pub(super) fn with_digit(number: u32, digit: u8) -> Option<u32>

@@ -1,13 +1,13 @@
 //! The literal and the dots at a place of a text.
 ghost use Rattle.std.specs.Prelude.{IfOk, drop};
 ghost use Rattle.std.specs.Str.{IsCharBoundary};
-ghost use Rattle.cbor_edn_parts.specs.code.Lex.{token};
+ghost use Rattle.cbor_edn_parts.specs.internal.Lex.{token};
 ghost use Rattle.cbor_edn_parts.specs.Leaves.{literal_bytes, dots_bytes, BorrowsLiteral, BorrowsDots};
-ghost use Rattle.cbor_edn_parts.specs.code.LiteralTokens as tokens;
-ghost use Rattle.cbor_edn_parts.specs.code.Scans.{Scans, ScanLands, Costs};
-ghost use Rattle.cbor_edn_parts.specs.code.Text.{text_bytes};
+ghost use Rattle.cbor_edn_parts.specs.internal.LiteralTokens as tokens;
+ghost use Rattle.cbor_edn_parts.specs.internal.Scans.{Scans, ScanLands, Costs};
+ghost use Rattle.cbor_edn_parts.specs.internal.Text.{text_bytes};
 
-use super::{Dots, InDots, InLiteral, Literal};
+use super::{Dots, DotsState, Literal, LiteralState};
 use crate::error::Refusal;
 use crate::leaf_text::LeafText;
 use crate::looks::Looks;
@@ -26,7 +26,7 @@ pub fn literal_at<'a>(
     ensures place { ScanLands (text_bytes text.now) from result }
     ensures cost { Costs 1 1 1 (text_bytes text.now) from looks.old.count looks.new.count result }
 {
-    let (text, to) = scan(InLiteral::Start, text, from, looks)?;
+    let (text, to) = scan(LiteralState::Start, text, from, looks)?;
     let text = LeafText::Borrowed(text);
     Ok((Literal { text }, to))
 }
@@ -43,7 +43,7 @@ pub fn dots_at<'a>(
     ensures place { ScanLands (text_bytes text.now) from result }
     ensures cost { Costs 1 1 1 (text_bytes text.now) from looks.old.count looks.new.count result }
 {
-    let (text, to) = scan(InDots::None, text, from, looks)?;
+    let (text, to) = scan(DotsState::None, text, from, looks)?;
     let text = LeafText::Borrowed(text);
     Ok((Dots { text }, to))
 }

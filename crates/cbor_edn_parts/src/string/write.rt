@@ -1,20 +1,25 @@
 //! The literals of decoded strings.
-ghost use Rattle.std.specs.Prelude.{◌≡◌, ◌++◌, IfOk, OnOk, encode_utf8, string_bytes};
-ghost use Rattle.cbor_edn_parts.specs.Contents.{hex_literal, text_literal, empty_literal, all_escaped};
+ghost use Rattle.std.specs.Prelude.{◌≡◌, ◌≤◌, ◌↔◌, ◌∷◌, ◌++◌, [], length, All, IsTrue, IfOk, OnOk, encode_utf8, string_bytes};
+ghost use Rattle.hex.specs.Hex.{encode_lower};
+ghost use Rattle.cbor_edn_parts.specs.Contents.{hex_literal, text_literal, empty_literal, escaped, all_escaped};
+ghost use Rattle.cbor_edn_parts.specs.LeafTexts.{leaf_bytes};
 ghost use Rattle.cbor_edn_parts.specs.Leaves.{literal_bytes};
 
 use super::{Literal, StringKind};
 use crate::leaf_text::LeafText;
 use std::alloc::{AllocError, Global};
 use std::fmt::Write;
+use std::str;
+
+/// How many hexadecimal digits are written without memory of their own.
+const DIGITS: usize = 64;
 
 impl<'a> Literal<'a> {
     /// Bytes as `h'..'` with digits in lower case. Fails where memory runs out.
     pub fn hex(alloc: Global, bytes: &[u8]) -> Result<Literal<'a>, AllocError>
         ensures { IfOk result (λ t. literal_bytes t ≡ hex_literal bytes.now) }
     {
-        let digits = hex::encode(alloc, bytes)?;
-        let text = LeafText::own(alloc, format!(in alloc; "h'{digits}'")?)?;
+        let text = hex_text(alloc, bytes)?;
         Ok(Literal { text })
     }
 
@@ -23,12 +28,7 @@ impl<'a> Literal<'a> {
     pub fn text(alloc: Global, text: &str) -> Result<Literal<'a>, AllocError>
         ensures { IfOk result (λ t. literal_bytes t ≡ text_literal text.now) }
     {
-        let mut literal = String::from_str(alloc, "\"")?;
-        for character in text.chars() {
-            push_escaped(&mut literal, character)?;
-        }
-        literal.push('"')?;
-        let text = LeafText::own(alloc, literal)?;
+        let text = double_quoted(alloc, text)?;
         Ok(Literal { text })
     }
 
@@ -44,8 +44,61 @@ impl<'a> Literal<'a> {
     }
 }
 
+fn hex_text<'a>(alloc: Global, bytes: &[u8]) -> Result<LeafText<'a>, AllocError>
+    ensures { IfOk result (λ t. leaf_bytes t ≡ hex_literal bytes.now) }
+{
+    if bytes.len() <= DIGITS / 2 {
+        let mut room = [0; DIGITS];
+        return LeafText::enclosed(alloc, "h'", few_digits(bytes, &mut room), "'");
+    }
+    let digits = hex::encode(alloc, bytes)?;
+    LeafText::enclosed(alloc, "h'", digits.as_str(), "'")
+}
+
+/// The hexadecimal digits of a few bytes, written into the room.
+fn few_digits<'b>(bytes: &[u8], room: &'b mut [u8; DIGITS]) -> &'b str
+    requires { length bytes.now ≤ 32 }
+    ensures { result.now ≡ encode_lower bytes.now }
+{
+    let digits = &mut room[..2 * bytes.len()];
+    let _ = hex::encode_to_slice(bytes, digits);
+    str::from_utf8(digits).unwrap()
+}
+
+fn double_quoted<'a>(alloc: Global, text: &str) -> Result<LeafText<'a>, AllocError>
+    ensures { IfOk result (λ t. leaf_bytes t ≡ text_literal text.now) }
+{
+    if is_plain(text) {
+        return LeafText::enclosed(alloc, "\"", text, "\"");
+    }
+    let mut literal = String::from_str(alloc, "\"")?;
+    for character in text.chars() {
+        print_escaped(&mut literal, character)?;
+    }
+    literal.push('"')?;
+    LeafText::own(alloc, literal)
+}
+
+/// Whether each byte of a text stands for itself between double quotes.
+fn is_plain(text: &str) -> bool
+    ensures { IsTrue result ↔ All (λ c. escaped c ≡ c ∷ []) text.now }
+{
+    for byte in text.as_bytes() {
+        if !stands_for_itself(*byte) {
+            return false;
+        }
+    }
+    true
+}
+
+fn stands_for_itself(byte: u8) -> bool
+    ensures { IsTrue result ↔ escaped byte ≡ byte ∷ [] }
+{
+    matches!(byte, b'\n' | b' '..=b'!' | b'#'..=b'&' | b'('..=b'[' | b']'..=255)
+}
+
 /// Appends a character as it stands between double quotes.
-pub(super) fn push_escaped(text: &mut String, character: char) -> Result<(), AllocError>
+pub(super) fn print_escaped(text: &mut String, character: char) -> Result<(), AllocError>
     ensures { OnOk result (string_bytes text.new ≡ string_bytes text.old ++ all_escaped (encode_utf8 character)) }
 {
     match character {

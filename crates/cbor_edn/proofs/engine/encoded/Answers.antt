@@ -1,4 +1,4 @@
-use Rattle.cbor_edn_core.specs.View.{sequence_tree}
+use Rattle.cbor_edn_core.specs.tree.View.{sequence_tree}
 use Rattle.cbor_edn.proofs.Loading.{taken, encoded_as, unencoded_as}
 use Rattle.cbor_edn.proofs.engine.encoded.Goals as goal
 

@@ -1,5 +1,5 @@
 use Rattle.std.specs.String.{string_bytes}
-use Rattle.cbor_edn_core.specs.View.{sequence_tree}
+use Rattle.cbor_edn_core.specs.tree.View.{sequence_tree}
 use Rattle.cbor_edn.proofs.Loading.{printed_as}
 use Rattle.cbor_edn.proofs.engine.reprinted.Goals as goal
 

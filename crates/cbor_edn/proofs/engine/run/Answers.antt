@@ -1,5 +1,5 @@
 -- The output is that of all that was known, since the run has read it to the end.
-use Rattle.cbor_edn.proofs.Written.{wrote}
+use Rattle.cbor_edn.proofs.WrittenOutput.{wrote}
 use Rattle.cbor_edn.proofs.engine.run.Goals as goal
 
 pub returns-in-Ok-clause-writes : goal.returns-in-Ok-clause-writes

@@ -2,16 +2,16 @@
 ghost use Rattle.std.specs.Prelude.{◌≡◌, ◌≢◌, ℕ, List, Some, IfOk};
 ghost use Rattle.std.specs.String.{string_bytes};
 ghost use Rattle.cbor_edn_parts.specs.Refusals.{IfTold};
-ghost use Rattle.cbor_edn_model.specs.Trees.{items};
-ghost use Rattle.cbor_edn_core.specs.View.{standalone_tree};
-ghost use Rattle.cbor_edn_model.specs.Spelling.{SpellsOne};
-ghost use Rattle.cbor_edn_model.specs.Value.{Value, Enc};
-ghost use Rattle.cbor_edn_model.specs.Meaning.{means};
-ghost use Rattle.cbor_edn_model.specs.Decoded.{NoneIs, IsTooDeepEncoding};
+ghost use Rattle.cbor_edn_model.specs.tree.Trees.{items};
+ghost use Rattle.cbor_edn_core.specs.tree.View.{standalone_tree};
+ghost use Rattle.cbor_edn_model.specs.text.Spelling.{SpellsOne};
+ghost use Rattle.cbor_edn_model.specs.cbor.Value.{Value, Enc};
+ghost use Rattle.cbor_edn_model.specs.cbor.Meaning.{means};
+ghost use Rattle.cbor_edn_model.specs.cbor.Decoded.{NoneIs, IsTooDeepEncoding};
 ghost use Rattle.cbor_edn.specs.Recoding.{IsTextOfItem};
 
 use crate::boxed::boxed;
-use cbor_edn_core::from_cbor::CborError;
+use cbor_edn_core::cbor::decode::CborError;
 use cbor_edn_core::tree::{NESTING_LIMIT, StandaloneItem};
 use cbor_edn_parts::error::Fault;
 use cbor_edn_parts::policy::DelimiterPolicy;

@@ -1,6 +1,6 @@
 use Rattle.std.proofs.Common.{◌≡◌, ◌∙◌, codes, subst}
 use Rattle.std.specs.Prelude.{◌⊎◌, string_bytes}
-use Rattle.cbor_edn_core.specs.View.{item_tree}
+use Rattle.cbor_edn_core.specs.tree.View.{item_tree}
 use Rattle.cbor_edn_application.proofs.OneOfAll.{time_of_literal, address_of_literal}
 use Rattle.cbor_edn_application.proofs.all.all_aol_to_item.Goals as goal
 

@@ -1,5 +1,5 @@
 use Rattle.std.proofs.Common.{rules}
-use Rattle.cbor_edn_core.specs.View.{item_tree}
+use Rattle.cbor_edn_core.specs.tree.View.{item_tree}
 use Rattle.cbor_edn_application.proofs.OneOfAll.{time_alone, address_alone, bignum_alone}
 use Rattle.cbor_edn_application.proofs.all.all_tag_prettify.Goals as goal
 

@@ -1,9 +1,9 @@
 use Rattle.std.proofs.Common.{◌∙◌, Some, None, false, true, arith, sym, ap, refl}
 use Rattle.std.specs.Prelude.{option_map}
-use Rattle.cbor_edn_core.specs.View.{item_tree}
-use Rattle.cbor_edn_model.specs.Accessed.{item_bytes}
+use Rattle.cbor_edn_core.specs.tree.View.{item_tree}
+use Rattle.cbor_edn_model.specs.access.Accessed.{item_bytes}
 use Rattle.cbor_edn_conversions.specs.Bignums.{magnitude}
-use Rattle.cbor_edn_application.proofs.Bignums.{quoted_is, no_bytes_none, long_none}
+use Rattle.cbor_edn_application.proofs.BignumBytes.{quoted_is, no_bytes_none, long_none}
 use Rattle.cbor_edn_application.proofs.Magnitudes.{told_holds}
 use Rattle.cbor_edn_application.proofs.bignum.content_number.Goals as goal
 

@@ -1,7 +1,7 @@
 use Rattle.std.proofs.Common.{Some, sym, ap, ◌∙◌}
 use Rattle.std.specs.Prelude.{option_map, string_bytes}
 use Rattle.cbor_edn_conversions.specs.Bignums.{bignum_integer, if_same_integer}
-use Rattle.cbor_edn_application.proofs.Bignums.{least_none}
+use Rattle.cbor_edn_application.proofs.BignumBytes.{least_none}
 use Rattle.cbor_edn_application.proofs.Magnitudes.{text_is, never_none}
 use Rattle.cbor_edn_application.proofs.bignum.integer_literal.Goals as goal
 

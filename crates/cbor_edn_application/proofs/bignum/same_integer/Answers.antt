@@ -1,8 +1,8 @@
 use Rattle.std.proofs.Common.{◌∙◌, Some, None, Ok, cond, Option, Bool, ap}
-use Rattle.cbor_edn_core.specs.View.{item_tree}
-use Rattle.cbor_edn_model.specs.Trees.{Tree, OneItem}
+use Rattle.cbor_edn_core.specs.tree.View.{item_tree}
+use Rattle.cbor_edn_model.specs.tree.Trees.{Tree, OneItem}
 use Rattle.cbor_edn_conversions.specs.Conversions.{Conversion}
-use Rattle.cbor_edn_application.proofs.Bignums.{at_test}
+use Rattle.cbor_edn_application.proofs.BignumBytes.{at_test}
 use Rattle.cbor_edn_application.proofs.Magnitudes.{some_holds}
 use Rattle.cbor_edn_application.proofs.bignum.same_integer.Goals as goal
 

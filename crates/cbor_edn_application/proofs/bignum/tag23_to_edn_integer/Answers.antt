@@ -1,7 +1,7 @@
 use Rattle.std.proofs.Common.{◌∙◌, ap, Ok}
 use Rattle.std.specs.Prelude.{option_map}
-use Rattle.cbor_edn_core.specs.View.{item_tree}
-use Rattle.cbor_edn_application.proofs.Bignums.{none_acts, some_acts}
+use Rattle.cbor_edn_core.specs.tree.View.{item_tree}
+use Rattle.cbor_edn_application.proofs.BignumBytes.{none_acts, some_acts}
 use Rattle.cbor_edn_application.proofs.bignum.tag23_to_edn_integer.Goals as goal
 
 pub returns-in_default : goal.returns-in_default

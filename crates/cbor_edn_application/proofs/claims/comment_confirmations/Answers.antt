@@ -1,5 +1,5 @@
 use Rattle.std.proofs.Common.{rules, refl, ap, codes}
-use Rattle.cbor_edn_core.specs.View.{item_tree}
+use Rattle.cbor_edn_core.specs.tree.View.{item_tree}
 use Rattle.cbor_edn_conversions.specs.Claims.{confirmation_key, with_keys}
 use Rattle.cbor_edn_application.specs.Handlers.{at_confirmation}
 use Rattle.cbor_edn_application.proofs.KeptClaims.{confirmation_keys_kept}

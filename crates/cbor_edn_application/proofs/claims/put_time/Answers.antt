@@ -1,7 +1,7 @@
 use Rattle.std.proofs.Common.{Some, false, ap}
-use Rattle.cbor_edn_core.specs.View.{item_tree}
-use Rattle.cbor_edn_model.specs.Trees.{Tree, OneItem, items}
-use Rattle.cbor_edn_model.specs.Visits.{Answer, fine, comment, no_memory}
+use Rattle.cbor_edn_core.specs.tree.View.{item_tree}
+use Rattle.cbor_edn_model.specs.tree.Trees.{Tree, OneItem, items}
+use Rattle.cbor_edn_model.specs.visit.Visits.{Answer, fine, comment, no_memory}
 use Rattle.cbor_edn_conversions.specs.declared.tables.ClaimValue.TheVariants.{Timestamp}
 use Rattle.cbor_edn_conversions.specs.Claims.{claim_value}
 use Rattle.cbor_edn_conversions.specs.Conversions.{reply}

@@ -1,9 +1,9 @@
 -- The item stands where the loan was.
 use Rattle.std.proofs.Common.{[], ◌∷◌, sym, ap, ◌∙◌}
-use Rattle.cbor_edn_core.specs.View.{item_tree, sequence_tree}
-use Rattle.cbor_edn_model.specs.Leaves.{texts}
-use Rattle.cbor_edn_model.specs.Paths.{with_at_sequence}
-use Rattle.cbor_edn_application.proofs.Lent.{where_lent}
+use Rattle.cbor_edn_core.specs.tree.View.{item_tree, sequence_tree}
+use Rattle.cbor_edn_model.specs.tree.TreeLeaves.{texts}
+use Rattle.cbor_edn_model.specs.access.Paths.{with_at_sequence}
+use Rattle.cbor_edn_application.proofs.AfterLoans.{where_lent}
 use Rattle.cbor_edn_application.proofs.claims_sets.annotate_at.Goals as goal
 
 pub returns-in_ok-annotate_map-in-Some : goal.returns-in_ok-annotate_map-in-Some

@@ -1,5 +1,5 @@
 use Rattle.std.proofs.Common.{rules, arith, ◌≡◌, ◌+◌, suc, true, false, subst, ap, ◌∙◌}
-use Rattle.cbor_edn_core.specs.View.{sequence_tree}
+use Rattle.cbor_edn_core.specs.tree.View.{sequence_tree}
 use Rattle.cbor_edn_application.specs.Sequences.{IsAnnotatedAt}
 use Rattle.cbor_edn_application.proofs.ClaimsSets.{claims_from, claims_next, claims_last}
 use Rattle.cbor_edn_application.proofs.claims_sets.annotate_claims_sets.Goals as goal

@@ -1,5 +1,5 @@
 use Rattle.std.proofs.Common.{◌≡◌}
-use Rattle.cbor_edn_core.specs.View.{sequence_tree}
+use Rattle.cbor_edn_core.specs.tree.View.{sequence_tree}
 use Rattle.cbor_edn_application.specs.Sequences.{with_claims_sets}
 use Rattle.cbor_edn_application.proofs.ClaimsSets.{claims_from}
 use Rattle.cbor_edn_application.proofs.claims_sets.annotate_claims_sets.Given as goal

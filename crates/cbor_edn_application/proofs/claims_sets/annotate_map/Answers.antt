@@ -1,4 +1,4 @@
-use Rattle.cbor_edn_core.specs.View.{item_tree}
+use Rattle.cbor_edn_core.specs.tree.View.{item_tree}
 use Rattle.cbor_edn_application.proofs.ClaimsSets.{told_stays}
 use Rattle.cbor_edn_application.proofs.claims_sets.annotate_map.Goals as goal
 

@@ -2,7 +2,7 @@ use Rattle.std.proofs.Common.{rules, sym}
 use Rattle.std.specs.Int.{w128}
 use Rattle.std.proofs.Math.Facts.{to_z-of_z}
 use mir.Val.{SFits}
-use Rattle.cbor_edn_core.specs.View.{item_tree}
+use Rattle.cbor_edn_core.specs.tree.View.{item_tree}
 use Rattle.cbor_edn_application.proofs.ItemIntegers.{integer_found, integer_missed}
 use Rattle.cbor_edn_application.proofs.integers.integer_of.Goals as goal
 

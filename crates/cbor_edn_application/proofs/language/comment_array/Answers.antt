@@ -1,5 +1,5 @@
 use Rattle.std.proofs.Common.{rules, refl, ap, codes}
-use Rattle.cbor_edn_core.specs.View.{item_tree}
+use Rattle.cbor_edn_core.specs.tree.View.{item_tree}
 use Rattle.cbor_edn_conversions.specs.Annotations.{with_direction}
 use Rattle.cbor_edn_application.proofs.ArrayVisits.{array_whole, array_cut, no_array}
 use Rattle.cbor_edn_application.proofs.RefusedVisits.{refused_acts}

@@ -1,7 +1,7 @@
-use Rattle.cbor_edn_core.specs.View.{item_tree, standalone_tree}
-use Rattle.cbor_edn_model.specs.Leaves.{texts}
+use Rattle.cbor_edn_core.specs.tree.View.{item_tree, standalone_tree}
+use Rattle.cbor_edn_model.specs.tree.TreeLeaves.{texts}
 use Rattle.cbor_edn_conversions.specs.Annotations.{with_direction}
-use Rattle.cbor_edn_application.proofs.Results.{on_some}
+use Rattle.cbor_edn_application.proofs.KnownResults.{on_some}
 use Rattle.cbor_edn_application.proofs.TagContents.{inside_acts, nothing_inside}
 use Rattle.cbor_edn_application.proofs.language.comment_content.Goals as goal
 

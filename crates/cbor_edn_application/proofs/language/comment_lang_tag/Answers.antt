@@ -1,10 +1,10 @@
 use Rattle.std.proofs.Common.{true, ◌≡◌, ◌∙◌, sym}
-use Rattle.cbor_edn_core.specs.View.{item_tree, standalone_tree}
-use Rattle.cbor_edn_model.specs.Leaves.{texts}
-use Rattle.cbor_edn_model.specs.Seeking.{number}
-use Rattle.cbor_edn_conversions.specs.Annotations.{with_direction, is_told_tag}
-use Rattle.cbor_edn_application.proofs.Results.{ok_is}
-use Rattle.cbor_edn_application.proofs.TagContents.{tag_acts, told_content, language_acts, other_acts}
+use Rattle.cbor_edn_core.specs.tree.View.{item_tree, standalone_tree}
+use Rattle.cbor_edn_model.specs.tree.TreeLeaves.{texts}
+use Rattle.cbor_edn_model.specs.visit.Seeking.{number}
+use Rattle.cbor_edn_conversions.specs.Annotations.{with_direction, is_called_tag}
+use Rattle.cbor_edn_application.proofs.KnownResults.{ok_is}
+use Rattle.cbor_edn_application.proofs.TagContents.{tag_acts, called_content, language_acts, other_acts}
 use Rattle.cbor_edn_application.proofs.language.comment_lang_tag.Goals as goal
 
 pub returns-then-not-is_language_tag : goal.returns-then-not-is_language_tag
@@ -19,5 +19,5 @@ returns-in-Ok c =
 
 pub returns-in-Err : goal.returns-in-Err
 returns-in-Err c =
-    let told : is_told_tag (number c.args.tag) 38 (item_tree c.args.item.now) ≡ true = sym c.is_language_tag.ensures ∙ c.if-not-is_language_tag.false in
-    absurd (told_content (number c.args.tag) 38 (item_tree c.args.item.now) told (c.in-Err.ensures.refused.1 texts))
+    let called : is_called_tag (number c.args.tag) 38 (item_tree c.args.item.now) ≡ true = sym c.is_language_tag.ensures ∙ c.if-not-is_language_tag.false in
+    absurd (called_content (number c.args.tag) 38 (item_tree c.args.item.now) called (c.in-Err.ensures.refused.1 texts))

@@ -1,7 +1,7 @@
 use Rattle.std.proofs.Common.{rules, arith}
 use Rattle.std.proofs.lemmas.Grind.{common_steps}
-use Rattle.cbor_edn_core.specs.View.{item_tree}
-use Rattle.cbor_edn_model.specs.Value.{AreBytes}
+use Rattle.cbor_edn_core.specs.tree.View.{item_tree}
+use Rattle.cbor_edn_model.specs.cbor.Value.{AreBytes}
 use Rattle.cbor_edn_application.proofs.Encodings.{encoding_is, no_encoding}
 use Rattle.cbor_edn_application.proofs.Told.{told_holds}
 use Rattle.cbor_edn_application.proofs.same.encoding.Goals as goal

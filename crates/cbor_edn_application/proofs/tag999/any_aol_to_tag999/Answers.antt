@@ -1,9 +1,9 @@
 use Rattle.std.proofs.Common.{ℕ, List, true, false, ◌≡◌, ◌∙◌, refl, sym, ap}
 use Rattle.std.specs.String.{string_bytes}
-use Rattle.cbor_edn_core.specs.View.{item_tree}
-use Rattle.cbor_edn_model.specs.Seeking.{prefix_and_text}
-use Rattle.cbor_edn_model.specs.Trees.{Tree, OneItem}
-use Rattle.cbor_edn_model.specs.Visits.{fine}
+use Rattle.cbor_edn_core.specs.tree.View.{item_tree}
+use Rattle.cbor_edn_model.specs.visit.Seeking.{prefix_and_text}
+use Rattle.cbor_edn_model.specs.tree.Trees.{Tree, OneItem}
+use Rattle.cbor_edn_model.specs.visit.Visits.{fine}
 use Rattle.cbor_edn_conversions.specs.Tag999.{to_tag999, tag999_tree, is_built_in}
 use Rattle.cbor_edn_application.proofs.tag999.any_aol_to_tag999.Goals as goal
 

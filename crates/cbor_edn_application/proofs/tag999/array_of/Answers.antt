@@ -1,9 +1,9 @@
 use Rattle.std.proofs.Common.{rules, ◌≡◌, map, ◌∙◌}
 use Rattle.std.proofs.lemmas.Result.{IfOk-weaker}
-use Rattle.cbor_edn_core.specs.Constructed.{comma_inside, element_tree}
-use Rattle.cbor_edn_core.specs.View.{item_tree}
-use Rattle.cbor_edn_model.specs.Items.{Array}
-use Rattle.cbor_edn_model.specs.Trees.{ListTree}
+use Rattle.cbor_edn_core.specs.tree.Constructed.{comma_inside, element_tree}
+use Rattle.cbor_edn_core.specs.tree.View.{item_tree}
+use Rattle.cbor_edn_model.specs.tree.Items.{Array}
+use Rattle.cbor_edn_model.specs.tree.Trees.{ListTree}
 use Rattle.cbor_edn_application.proofs.Lists.{all_of_vec}
 use Rattle.cbor_edn_application.proofs.tag999.array_of.Goals as goal
 

@@ -1,5 +1,5 @@
 use Rattle.std.proofs.Common.{Some, option_map, sym, ap, ◌∙◌}
-use Rattle.cbor_edn_core.specs.View.{item_tree, standalone_tree}
+use Rattle.cbor_edn_core.specs.tree.View.{item_tree, standalone_tree}
 use Rattle.cbor_edn_application.proofs.TagParts.{no_tag, another_tag, this_tag, has_content}
 use Rattle.cbor_edn_application.proofs.tags.tag_parts.Goals as goal
 

@@ -1,6 +1,6 @@
 use Rattle.std.proofs.Common.{◌≡◌, Some, string_bytes, sym, ap, ◌∙◌, refl}
-use Rattle.cbor_edn_core.specs.View.{item_tree}
-use Rattle.cbor_edn_model.specs.Seeking.{prefix_and_text}
+use Rattle.cbor_edn_core.specs.tree.View.{item_tree}
+use Rattle.cbor_edn_model.specs.visit.Seeking.{prefix_and_text}
 use Rattle.cbor_edn_conversions.specs.Conversions.{reply}
 use Rattle.cbor_edn_conversions.specs.Times.{time_item, time_of_literal, resolve_time}
 use Rattle.cbor_edn_application.proofs.Replies.{none_acts, acts_as}

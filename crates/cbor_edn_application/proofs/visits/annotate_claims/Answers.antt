@@ -1,7 +1,7 @@
 use Rattle.std.proofs.Common.{rules, refl}
 use Rattle.cbor_edn_conversions.specs.Claims.{claim_key, with_claims}
 use Rattle.cbor_edn_application.specs.Handlers.{at_claim}
-use Rattle.cbor_edn_application.proofs.Results.{on_visited, if_visited}
+use Rattle.cbor_edn_application.proofs.KnownResults.{on_visited, if_visited}
 use Rattle.cbor_edn_application.proofs.MapVisits.{map_whole, map_visited}
 use Rattle.cbor_edn_application.proofs.visits.annotate_claims.Goals as goal
 

@@ -1,6 +1,6 @@
-use Rattle.cbor_edn_core.specs.Callbacks.{ending}
-use Rattle.cbor_edn_model.specs.Seeking.{IsTag}
-use Rattle.cbor_edn_model.specs.Trees.{Seq}
+use Rattle.cbor_edn_core.specs.visit.Callbacks.{ending}
+use Rattle.cbor_edn_model.specs.visit.Seeking.{IsTag}
+use Rattle.cbor_edn_model.specs.tree.Trees.{Seq}
 use Rattle.cbor_edn_conversions.specs.Annotations.{comment_lang}
 use Rattle.cbor_edn_conversions.proofs.nesting.DirectAnswers.{language_keeps_items}
 use Rattle.cbor_edn_application.proofs.Unmoved.{visit_unmoved}

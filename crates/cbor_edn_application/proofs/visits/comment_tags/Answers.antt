@@ -1,7 +1,7 @@
 use Rattle.std.proofs.Common.{refl}
-use Rattle.cbor_edn_core.specs.Callbacks.{ending}
-use Rattle.cbor_edn_model.specs.Seeking.{IsTag}
-use Rattle.cbor_edn_model.specs.Trees.{Seq}
+use Rattle.cbor_edn_core.specs.visit.Callbacks.{ending}
+use Rattle.cbor_edn_model.specs.visit.Seeking.{IsTag}
+use Rattle.cbor_edn_model.specs.tree.Trees.{Seq}
 use Rattle.cbor_edn_conversions.specs.Annotations.{commenting}
 use Rattle.cbor_edn_application.proofs.Unmoved.{visit_unmoved}
 use Rattle.cbor_edn_application.proofs.visits.comment_tags.Goals as goal

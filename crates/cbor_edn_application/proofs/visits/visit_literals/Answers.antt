@@ -1,6 +1,6 @@
 use Rattle.std.proofs.Common.{rules, refl, ◌≡◌}
 use Rattle.cbor_edn_application.specs.VisitActs.{literal_act}
-use Rattle.cbor_edn_application.proofs.Visiting.{literals_visited}
+use Rattle.cbor_edn_application.proofs.VisitChains.{literals_visited}
 use Rattle.cbor_edn_application.proofs.visits.visit_literals.Goals as goal
 
 pub returns : goal.returns

@@ -1,6 +1,6 @@
 use Rattle.std.proofs.Common.{rules, refl, ◌≡◌}
 use Rattle.cbor_edn_application.specs.VisitActs.{tag_act}
-use Rattle.cbor_edn_application.proofs.Visiting.{tags_visited}
+use Rattle.cbor_edn_application.proofs.VisitChains.{tags_visited}
 use Rattle.cbor_edn_application.proofs.visits.visit_tags.Goals as goal
 
 pub returns : goal.returns

@@ -1,8 +1,8 @@
 use Rattle.std.proofs.Common.{codes, rules}
 use Rattle.std.proofs.lemmas.Result.{IfOk-weaker}
 use Rattle.clap.specs.Words.{new_app}
-use Rattle.cbor_edn_command.specs.Steps.{IsCommandOf}
-use Rattle.cbor_edn_command.proofs.CommandLine.{grown, more, one}
+use Rattle.cbor_edn_command.specs.CommandLineSteps.{IsCommandOf}
+use Rattle.cbor_edn_command.proofs.ReadCommandLine.{grown, more, one}
 use Rattle.cbor_edn_command.proofs.words.diag2diag.Goals as goal
 
 pub returns : goal.returns

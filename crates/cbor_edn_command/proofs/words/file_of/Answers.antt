@@ -1,5 +1,5 @@
 use Rattle.clap.specs.Words.{found_of}
-use Rattle.cbor_edn_command.proofs.CommandLine.{file_named, file_left_out}
+use Rattle.cbor_edn_command.proofs.ReadCommandLine.{file_named, file_left_out}
 use Rattle.cbor_edn_command.proofs.words.file_of.Goals as goal
 
 pub returns-in-Some : goal.returns-in-Some

@@ -1,5 +1,5 @@
 use Rattle.clap.specs.Words.{found_of}
-use Rattle.cbor_edn_command.proofs.CommandLine.{flag_read}
+use Rattle.cbor_edn_command.proofs.ReadCommandLine.{flag_read}
 use Rattle.cbor_edn_command.proofs.words.is_given.Goals as goal
 
 pub returns : goal.returns

@@ -1,5 +1,5 @@
 use Rattle.clap.specs.Words.{found_of}
-use Rattle.cbor_edn_command.proofs.CommandLine.{value_given, value_left_out}
+use Rattle.cbor_edn_command.proofs.ReadCommandLine.{value_given, value_left_out}
 use Rattle.cbor_edn_command.proofs.words.is_value.Goals as goal
 
 pub returns-in-Some : goal.returns-in-Some

@@ -1,6 +1,6 @@
 use Rattle.std.proofs.Common.{arith}
 use Rattle.clap.specs.Words.{found_of}
-use Rattle.cbor_edn_command.proofs.CommandLine.{limit_left_out, limit_read}
+use Rattle.cbor_edn_command.proofs.ReadCommandLine.{limit_left_out, limit_read}
 use Rattle.cbor_edn_command.proofs.words.limit_of.Goals as goal
 
 pub returns-in_default : goal.returns-in_default

@@ -1,7 +1,7 @@
 use Rattle.std.proofs.Common.{◌∙◌, Some, sym, subst, ap, map}
 use Rattle.clap.specs.Words.{found_of, is_simple, subcommand_of, rows_of}
 use Rattle.cbor_edn_command.specs.CommandLine.{IsLimit}
-use Rattle.cbor_edn_command.proofs.CommandLine.{entered, program_simple}
+use Rattle.cbor_edn_command.proofs.ReadCommandLine.{entered, program_simple}
 use Rattle.cbor_edn_command.proofs.words.options.Goals as goal
 
 pub returns : goal.returns

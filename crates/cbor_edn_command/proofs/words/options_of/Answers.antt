@@ -1,6 +1,6 @@
 use Rattle.std.proofs.Common.{codes, refl}
 use Rattle.clap.specs.Words.{found_of, rows_of}
-use Rattle.cbor_edn_command.proofs.CommandLine.{no_flag_read}
+use Rattle.cbor_edn_command.proofs.ReadCommandLine.{no_flag_read}
 use Rattle.cbor_edn_command.proofs.words.options_of.Goals as goal
 
 pub returns-in-Diag2Cbor-clause-flags : goal.returns-in-Diag2Cbor-clause-flags

@@ -3,7 +3,7 @@ use Rattle.std.proofs.lemmas.Result.{IfOk-weaker}
 use Rattle.clap.specs.Words.{app_of, new_app}
 use Rattle.clap.specs.declared.builder.command.Command.TheViews.{out-Command}
 use Rattle.cbor_edn_command.specs.CommandLine.{wants_command}
-use Rattle.cbor_edn_command.proofs.CommandLine.{whole}
+use Rattle.cbor_edn_command.proofs.ReadCommandLine.{whole}
 use Rattle.cbor_edn_command.proofs.words.program.Goals as goal
 
 pub returns : goal.returns

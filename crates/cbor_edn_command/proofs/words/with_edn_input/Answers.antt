@@ -1,5 +1,5 @@
 use Rattle.std.proofs.lemmas.Result.{IfOk-weaker}
-use Rattle.cbor_edn_command.proofs.CommandLine.{more, one}
+use Rattle.cbor_edn_command.proofs.ReadCommandLine.{more, one}
 use Rattle.cbor_edn_command.proofs.words.with_edn_input.Goals as goal
 
 pub returns : goal.returns

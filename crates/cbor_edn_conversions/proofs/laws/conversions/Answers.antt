@@ -1,5 +1,5 @@
 -- The laws of `conversions`, as lemmas have them.
-use Rattle.cbor_edn_conversions.proofs.conversions.Same.{encodings_computed}
+use Rattle.cbor_edn_conversions.proofs.conversions.SameValues.{encodings_computed}
 use Rattle.cbor_edn_conversions.proofs.conversions.OneLine.{on_one_line}
 use Rattle.cbor_edn_conversions.proofs.conversions.TimesKept.{stamps_tested, times_read_back}
 use Rattle.cbor_edn_conversions.proofs.conversions.ConversionsKept.{literals_of_items}

@@ -1,10 +1,10 @@
-use Rattle.cbor_edn_model.proofs.layout.WithoutIndicators.{unmarked_is_bare, without_indicators_stays_valid}
-use Rattle.cbor_edn_model.proofs.layout.BareItems.{bare_items_mean, fewer_mean}
+use Rattle.cbor_edn_model.proofs.lemmas.layout.WithoutIndicators.{without_indicators_is_bare, without_indicators_stays_valid}
+use Rattle.cbor_edn_model.proofs.lemmas.layout.BareItems.{bare_items_mean, fewer_mean}
 use Rattle.cbor_edn_core.proofs.laws.bare_items.Goals as goal
 
 pub returns : goal.returns
 returns c = record {
-  items = unmarked_is_bare;
+  items = without_indicators_is_bare;
   valid = without_indicators_stays_valid;
   meaning = bare_items_mean;
   stopped = fewer_mean;

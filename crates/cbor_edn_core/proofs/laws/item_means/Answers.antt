@@ -1,4 +1,4 @@
-use Rattle.cbor_edn_model.proofs.meaning.Decoding.{item_means}
+use Rattle.cbor_edn_model.proofs.lemmas.cbor.Decoding.{item_means}
 use Rattle.cbor_edn_core.proofs.laws.item_means.Goals as goal
 
 pub returns : goal.returns

@@ -1,4 +1,4 @@
-use Rattle.cbor_edn_core.proofs.layout.Layouts.{forgets_layout, same_twice}
+use Rattle.cbor_edn_core.proofs.lemmas.layout.Layouts.{forgets_layout, same_twice}
 use Rattle.cbor_edn_core.proofs.laws.layouts_forget.Goals as goal
 
 pub returns : goal.returns

@@ -1,4 +1,4 @@
-use Rattle.cbor_edn_core.proofs.code.Pieces.{literal_is_answered}
+use Rattle.cbor_edn_core.proofs.lemmas.access.Pieces.{literal_is_answered}
 use Rattle.cbor_edn_core.proofs.laws.literal_is_answered.Goals as goal
 
 pub returns : goal.returns

@@ -1,4 +1,4 @@
-use Rattle.cbor_edn_model.proofs.bytes.CborOneValue.{one_encoding_holds}
+use Rattle.cbor_edn_model.proofs.lemmas.cbor.CborOneValue.{one_encoding_holds}
 use Rattle.cbor_edn_core.proofs.laws.one_encoding.Goals as goal
 
 pub returns : goal.returns

@@ -1,52 +1,51 @@
-use Rattle.std.proofs.Common.{ℕ, ◌≡◌, ◌<◌, ◌∷◌, List, length, get_or, drop, Some, None, add-zero, refl, arith}
-use Rattle.std.specs.Str.{IsCharBoundary}
-use Rattle.std.proofs.lemmas.List.{get_or-drop}
-use Rattle.std.proofs.lemmas.Str.{IsCharBoundary-before_ascii}
-use Rattle.cbor_edn_parts.specs.code.Text.{text_bytes}
-use Rattle.cbor_edn_parts.proofs.ByteKinds.{ascii_or_long}
-use Rattle.cbor_edn_parts.proofs.Scans.{begun, going, stopped, ended}
+use Rattle.std.proofs.Common.{◌≡◌, ◌<◌, true, Some, None, subst, arith}
+use Rattle.cbor_edn_parts.specs.internal.Scans.{IsRead}
+use Rattle.cbor_edn_parts.specs.internal.Text.{text_bytes}
+use Rattle.cbor_edn_parts.proofs.lemmas.scan.ScanLoops.{begun, onward, over, over_read}
 use Rattle.cbor_edn_parts.proofs.scan.run.Goals as goal
-
-before : (text : List ℕ) (at c : ℕ) (rest : List ℕ) → drop at text ≡ c ∷ rest → at < length text → c < 128 → IsCharBoundary text at
-before text at c rest here within ascii =
-    let same : get_or (drop at text) 0 0 ≡ c = rw here refl in
-    let is : get_or text at 0 ≡ c = rw (get_or-drop at text 0 0, add-zero) at same in
-    IsCharBoundary-before_ascii text at within (rw is ascii)
 
 pub bytes-init : goal.bytes-init
 bytes-init g c = record {
   order = omega arith;
   within = omega arith;
-  place = λ d long e. c.requires;
-  reads = begun g.T.State.table c.args.start (text_bytes c.args.text.now) c.args.from;
-  cost = refl;
+  here = c.requires.here;
+  behind = c.requires.behind;
+  place = λ d long e. c.requires.place;
+  reads = begun g.T.State.automaton c.args.start (text_bytes c.args.text.now) c.args.from;
+  cost = omega arith;
 }
 
-pub returns-in_default-clause-value : goal.returns-in_default-clause-value
-returns-in_default-clause-value g c =
-    ended g.T.State.table _ (text_bytes c.args.text.now) c.args.from c.bytes.at _ c.in_default.ensures.value c.bytes.invariant.reads
+pub kept-init : goal.kept-init
+kept-init g c = record { since = omega arith; stands = c.bytes.invariant }
 
-pub returns-in_default-step-clause-value : goal.returns-in_default-step-clause-value
-returns-in_default-step-clause-value g c =
-    let none : g.T.State.table.step c.in-Some.byte c.bytes.state ≡ None = cc in
-    stopped g.T.State.table _ (text_bytes c.args.text.now) c.args.from c.bytes.at _ _ _ c.in-Some.ensures.value.0 none c.bytes.invariant.reads
-
-pub returns-in_default-step-clause-place : goal.returns-in_default-step-clause-place
-returns-in_default-step-clause-place g c =
-    let small : c.in-Some.byte < 256 = omega arith in
-    let none : g.T.State.table.step c.in-Some.byte c.bytes.state ≡ None = cc in
-    ascii_or_long c.in-Some.byte small (before _ _ _ _ c.in-Some.ensures.value.0 c.in-Some.ensures.value.1)
-    (λ long. c.bytes.invariant.place c.in-Some.byte long none)
+pub kept-preserved : goal.kept-preserved
+kept-preserved g c =
+    let kept : c.is_kept.result ≡ true = cc in
+    let read = c.is_kept.ensures kept in
+    record {
+      since = omega arith;
+      stands = onward g.T.State.automaton g.met.T.State.stays _ _ _ _ _ _ _ _ _ _ _ _ c.kept.invariant.stands read.1 read.2 read.3 c.byte-byte.ensures.value c.byte-byte.ensures.behind c.byte-byte.ensures.count;
+    }
 
 pub bytes-preserved : goal.bytes-preserved
 bytes-preserved g c =
-    let small : c.in-Some.byte < 256 = omega arith in
-    let some : g.T.State.table.step c.in-Some.byte c.bytes.state ≡ Some c.in-Some-step.next = cc in
-    record {
-      order = omega arith;
-      within = omega (arith, c.in-Some.ensures.value.1);
-      place = λ d far none. ascii_or_long c.in-Some.byte small c.in-Some.ensures.behind
-          (λ long. let stays = g.met.T.State.stays _ d long far _ _ some in absurd (cc));
-      reads = going g.T.State.table _ _ _ _ _ _ _ c.bytes.invariant.order c.in-Some.ensures.value.0 some c.bytes.invariant.reads;
-      cost = omega arith;
-    }
+    let small : c.in-Some.read < 256 = omega arith in
+    let some : g.T.State.automaton.step c.in-Some.read c.bytes.state ≡ Some c.in-Some-step.next = cc in
+    onward g.T.State.automaton g.met.T.State.stays _ _ _ _ _ _ _ _ _ _ _ _ c.kept.invariant.stands c.in-Some.is small some c.byte-byte-in-bytes.ensures.value c.byte-byte-in-bytes.ensures.behind c.byte-byte-in-bytes.ensures.count
+
+pub returns-in_default-clause-value : goal.returns-in_default-clause-value
+returns-in_default-clause-value g c = over g.T.State.automaton _ _ _ _ _ _ _ _ c.kept.invariant.stands (rw c.in_default.is tt)
+
+pub returns-in_default-clause-read : goal.returns-in_default-clause-read
+returns-in_default-clause-read g c = over_read g.T.State.automaton _ _ _ _ _ _ _ _ c.kept.invariant.stands (rw c.in_default.is tt)
+
+pub returns-in_default-step-clause-value : goal.returns-in_default-step-clause-value
+returns-in_default-step-clause-value g c =
+    let none : g.T.State.automaton.step c.in-Some.read c.bytes.state ≡ None = cc in
+    over g.T.State.automaton _ _ _ _ _ _ _ _ c.kept.invariant.stands (rw c.in-Some.is none)
+
+pub returns-in_default-step-clause-read : goal.returns-in_default-step-clause-read
+returns-in_default-step-clause-read g c =
+    let small : c.in-Some.read < 256 = omega arith in
+    let none : g.T.State.automaton.step c.in-Some.read c.bytes.state ≡ None = cc in
+    subst (IsRead (text_bytes c.args.text.now) c.kept.at) c.in-Some.is (over_read g.T.State.automaton _ _ _ _ _ _ _ _ c.kept.invariant.stands (rw c.in-Some.is (small, none)))

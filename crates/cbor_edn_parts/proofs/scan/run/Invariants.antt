@@ -1,20 +1,19 @@
-use Rattle.std.proofs.Common.{ℕ, ◌≡◌, ◌+◌, ◌-◌, ◌≤◌, None, length, drop}
-use Rattle.std.specs.Prelude.{slice_range}
-use Rattle.std.specs.Str.{IsCharBoundary}
-use Rattle.cbor_edn_parts.specs.Bytes.{IsLong}
-use Rattle.cbor_edn_parts.specs.code.Lex.{munch}
-use Rattle.cbor_edn_parts.specs.code.Text.{text_bytes}
-use Rattle.cbor_edn_parts.proofs.Scans.{front}
+use Rattle.std.proofs.Common.{◌+◌, ◌-◌, ◌≤◌, length}
+use Rattle.cbor_edn_parts.specs.internal.Text.{text_bytes}
+use Rattle.cbor_edn_parts.proofs.lemmas.scan.ScanLoops.{Stands}
 use Rattle.cbor_edn_parts.proofs.scan.run.Given as goal
 
 abbrev pub invariant-bytes : goal.invariant-bytes
-invariant-bytes g l = record {
-  order : l.from ≤ l.at;
-  within : l.at ≤ length (text_bytes l.text);
-  place : (d : ℕ) → IsLong d → g.T.State.table.step d l.state ≡ None → IsCharBoundary (text_bytes l.text) l.at;
-  reads : munch g.T.State.table l.fn.start (drop l.from (text_bytes l.text)) ≡ front (slice_range (text_bytes l.text) l.from l.at) (munch g.T.State.table l.state (drop l.at (text_bytes l.text)));
-  cost : l.looks.count + l.from ≡ l.fn.looks.count + l.at;
-}
+invariant-bytes g l = Stands g.T.State.automaton l.fn.start (text_bytes l.text) l.from l.fn.looks.count l.state l.at l.byte l.looks.count
 
 abbrev pub decreases-bytes : goal.decreases-bytes
 decreases-bytes g l = length (text_bytes l.text) + 1 - l.at
+
+abbrev pub invariant-kept : goal.invariant-kept
+invariant-kept g l = record {
+  since : l.initial.at ≤ l.at;
+  stands : Stands g.T.State.automaton l.fn.start (text_bytes l.text) l.from l.fn.looks.count l.state l.at l.byte l.looks.count;
+}
+
+abbrev pub decreases-kept : goal.decreases-kept
+decreases-kept g l = length (text_bytes l.text) + 1 - l.at

@@ -1,5 +1,5 @@
 -- The laws of `edits_items`, as lemmas have them.
-use Rattle.cbor_edn_script.proofs.EditedItems.{edits_items, begun_edits_items}
+use Rattle.cbor_edn_script.proofs.EditsOnItems.{edits_items, begun_edits_items}
 use Rattle.cbor_edn_script.proofs.laws.edits_items.Goals as goal
 
 pub returns-clause-done : goal.returns-clause-done

@@ -1,4 +1,4 @@
-use Rattle.cbor_edn_script.proofs.ReadingBack.{item_reads_back}
+use Rattle.cbor_edn_script.proofs.SpelledIsRead.{item_reads_back}
 use Rattle.cbor_edn_script.proofs.laws.item_reads_back.Goals as goal
 
 pub returns : goal.returns

@@ -1,4 +1,4 @@
-use Rattle.cbor_edn_script.proofs.ReadingBack.{sequence_reads_back}
+use Rattle.cbor_edn_script.proofs.SpelledIsRead.{sequence_reads_back}
 use Rattle.cbor_edn_script.proofs.laws.sequence_reads_back.Goals as goal
 
 pub returns : goal.returns

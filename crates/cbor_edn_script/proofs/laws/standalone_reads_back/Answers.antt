@@ -1,4 +1,4 @@
-use Rattle.cbor_edn_script.proofs.ReadingBack.{standalone_reads_back}
+use Rattle.cbor_edn_script.proofs.SpelledIsRead.{standalone_reads_back}
 use Rattle.cbor_edn_script.proofs.laws.standalone_reads_back.Goals as goal
 
 pub returns : goal.returns

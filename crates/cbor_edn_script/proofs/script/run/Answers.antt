@@ -1,11 +1,11 @@
 -- The edit in hand is the first of those that are left.
 use Rattle.std.proofs.Common.{zero, suc, length, ap, arith, rules}
 use Rattle.std.proofs.lemmas.Grind.{common_steps}
-use Rattle.cbor_edn_core.specs.View.{sequence_tree}
+use Rattle.cbor_edn_core.specs.tree.View.{sequence_tree}
 use Rattle.cbor_edn_script.specs.Edits.{AreEdited}
-use Rattle.cbor_edn_script.proofs.EditedItems.{edits_items}
-use Rattle.cbor_edn_script.proofs.ReadingBack.{sequence_reads_back}
-use Rattle.cbor_edn_script.proofs.Turns.{edited_first, begun_later, begun_first}
+use Rattle.cbor_edn_script.proofs.EditsOnItems.{edits_items}
+use Rattle.cbor_edn_script.proofs.SpelledIsRead.{sequence_reads_back}
+use Rattle.cbor_edn_script.proofs.EditTurns.{edited_first, begun_later, begun_first}
 use Rattle.cbor_edn_script.proofs.script.run.Goals as goal
 
 pub loop-edit-preserved : goal.loop-edit-preserved
@@ -18,8 +18,8 @@ loop-edit-preserved c =
       begun = λ n v rest. begun_later c.in-Some.ensures.steps.0 c.args.edits.items c.loop-edit.done n before after v (sequence_tree c.args.sequence.now) c.in-Ok.ensures.edited rest (c.loop-edit.invariant.begun (suc n) v);
     }
 
-pub returns-in-Err-clause-refused : goal.returns-in-Err-clause-refused
-returns-in-Err-clause-refused c =
+pub returns-in-Err-clause-out_of_memory : goal.returns-in-Err-clause-out_of_memory
+returns-in-Err-clause-out_of_memory c =
     let after = sequence_tree c.apply.new.sequence in
     begun_first c.in-Some.ensures.steps.0 c.args.edits.items c.loop-edit.done (sequence_tree c.loop-edit.sequence) after (sequence_tree c.args.sequence.now) c.in-Err.ensures.begun (c.loop-edit.invariant.begun zero after)
 

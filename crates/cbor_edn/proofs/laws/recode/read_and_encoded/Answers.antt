@@ -1,11 +1,11 @@
 use Rattle.std.proofs.Common.{sym, subst}
-use Rattle.cbor_edn_model.specs.Spelling.{SpellsSequence}
-use Rattle.cbor_edn_model.specs.Trees.{items}
-use Rattle.cbor_edn_core.specs.Parsing.{ParsedSequence}
-use Rattle.cbor_edn_core.specs.View.{Sequence, sequence_tree}
+use Rattle.cbor_edn_model.specs.text.Spelling.{SpellsSequence}
+use Rattle.cbor_edn_model.specs.tree.Trees.{items}
+use Rattle.cbor_edn_core.specs.text.Parsing.{ParsedSequence}
+use Rattle.cbor_edn_core.specs.tree.View.{Sequence, sequence_tree}
 use Rattle.cbor_edn_parts.specs.declared.nesting.TheConstants.{NESTING_LIMIT}
 use Rattle.cbor_edn.proofs.Loading.{of_boxed}
-use Rattle.cbor_edn.proofs.Recoding.{meant_by_text}
+use Rattle.cbor_edn.proofs.RecodedTexts.{meant_by_text}
 use Rattle.cbor_edn.proofs.laws.recode.read_and_encoded.Goals as goal
 
 pub encoded-requires : goal.encoded-requires

@@ -1,6 +1,6 @@
 use Rattle.std.proofs.Common.{sym, ap, ◌∙◌}
 use Rattle.cbor_edn_conversions.specs.Addresses.{read_item}
-use Rattle.cbor_edn_application.proofs.Addresses.{address_read, refused}
+use Rattle.cbor_edn_application.proofs.AddressCalls.{address_read, refused}
 use Rattle.cbor_edn_application.proofs.address.items.address_item.Goals as goal
 
 pub returns-in_ok-item_of-in-Ok-clause-converted : goal.returns-in_ok-item_of-in-Ok-clause-converted

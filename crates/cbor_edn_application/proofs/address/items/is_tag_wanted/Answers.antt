@@ -1,5 +1,5 @@
-use Rattle.cbor_edn_parts.proofs.Prefixes.{differ}
-use Rattle.cbor_edn_application.proofs.Addresses.{other_prefix}
+use Rattle.cbor_edn_parts.proofs.lemmas.literal.LiteralPrefixes.{differ}
+use Rattle.cbor_edn_application.proofs.AddressCalls.{other_prefix}
 use Rattle.cbor_edn_application.proofs.address.items.is_tag_wanted.Goals as goal
 
 pub returns-in_default-clause-other : goal.returns-in_default-clause-other

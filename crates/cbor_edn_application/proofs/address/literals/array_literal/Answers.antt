@@ -1,11 +1,11 @@
 use Rattle.std.proofs.Common.{rules, arith, ◌≡◌, ◌∷◌, map, Some, Ok, Err, ◌∙◌}
 use Rattle.std.proofs.lemmas.Grind.{common_steps}
 use Rattle.std.specs.Prelude.{option_map}
-use Rattle.cbor_edn_core.specs.Iterated.{items_left}
-use Rattle.cbor_edn_core.specs.View.{item_tree}
-use Rattle.cbor_edn_model.specs.Accessed.{item_bytes, array_items}
+use Rattle.cbor_edn_core.specs.access.Iterated.{items_left}
+use Rattle.cbor_edn_core.specs.tree.View.{item_tree}
+use Rattle.cbor_edn_model.specs.access.Accessed.{item_bytes, array_items}
 use Rattle.cbor_edn_conversions.specs.Addresses.{whole_text, by_elements}
-use Rattle.cbor_edn_application.proofs.Addresses.{by_first_text}
+use Rattle.cbor_edn_application.proofs.AddressCalls.{by_first_text}
 use Rattle.cbor_edn_application.proofs.Told.{told_weaker}
 use Rattle.cbor_edn_application.proofs.address.literals.array_literal.Goals as goal
 

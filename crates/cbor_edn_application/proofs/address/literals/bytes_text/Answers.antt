@@ -1,10 +1,10 @@
 use Rattle.std.proofs.Common.{rules, arith, ◌≡◌, Some, Err}
 use Rattle.std.proofs.lemmas.Grind.{common_steps}
 use Rattle.std.specs.Prelude.{option_map}
-use Rattle.cbor_edn_core.specs.View.{item_tree}
-use Rattle.cbor_edn_model.specs.Accessed.{item_bytes}
+use Rattle.cbor_edn_core.specs.tree.View.{item_tree}
+use Rattle.cbor_edn_model.specs.access.Accessed.{item_bytes}
 use Rattle.cbor_edn_conversions.specs.Addresses.{whole_text}
-use Rattle.cbor_edn_application.proofs.Addresses.{text_of_bytes}
+use Rattle.cbor_edn_application.proofs.AddressCalls.{text_of_bytes}
 use Rattle.cbor_edn_application.proofs.Told.{told_weaker}
 use Rattle.cbor_edn_application.proofs.address.literals.bytes_text.Goals as goal
 

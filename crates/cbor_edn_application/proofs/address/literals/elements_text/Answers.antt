@@ -1,8 +1,8 @@
 use Rattle.std.proofs.Common.{rules, arith, ◌≡◌, ◌∷◌, [], map, ◌∙◌}
 use Rattle.std.proofs.lemmas.Grind.{common_steps}
-use Rattle.cbor_edn_core.specs.Iterated.{items_left}
-use Rattle.cbor_edn_core.specs.View.{item_tree}
-use Rattle.cbor_edn_application.proofs.Addresses.{two_elements}
+use Rattle.cbor_edn_core.specs.access.Iterated.{items_left}
+use Rattle.cbor_edn_core.specs.tree.View.{item_tree}
+use Rattle.cbor_edn_application.proofs.AddressCalls.{two_elements}
 use Rattle.cbor_edn_application.proofs.Told.{told_weaker}
 use Rattle.cbor_edn_application.proofs.address.literals.elements_text.Goals as goal
 

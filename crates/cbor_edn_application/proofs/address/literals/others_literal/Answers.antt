@@ -1,8 +1,8 @@
 use Rattle.std.proofs.Common.{rules, arith, ◌≡◌, map, Ok, Err, ap, sym, ◌∙◌}
 use Rattle.std.proofs.lemmas.Grind.{common_steps}
 use Rattle.std.proofs.lemmas.Result.{IfOk-weaker}
-use Rattle.cbor_edn_core.specs.Iterated.{items_left}
-use Rattle.cbor_edn_core.specs.View.{item_tree}
+use Rattle.cbor_edn_core.specs.access.Iterated.{items_left}
+use Rattle.cbor_edn_core.specs.tree.View.{item_tree}
 use Rattle.cbor_edn_conversions.specs.Addresses.{as_literal, by_others}
 use Rattle.cbor_edn_application.proofs.Told.{told_weaker}
 use Rattle.cbor_edn_application.proofs.address.literals.others_literal.Goals as goal

@@ -6,11 +6,11 @@ use Rattle.std.specs.String.{string_bytes}
 use Rattle.std.proofs.Math.Facts.{to_z-of_z}
 use mir.Val.{SFits}
 use Rattle.cbor_edn_parts.specs.Refusals.{IfTold}
-use Rattle.cbor_edn_core.specs.View.{item_tree}
-use Rattle.cbor_edn_model.specs.Accessed.{item_bytes}
+use Rattle.cbor_edn_core.specs.tree.View.{item_tree}
+use Rattle.cbor_edn_model.specs.access.Accessed.{item_bytes}
 use Rattle.cbor_edn_conversions.specs.Addresses.{prefix_text}
 use Rattle.cbor_edn_conversions.specs.Integers.{item_integer}
-use Rattle.cbor_edn_application.proofs.Addresses.{no_length, no_second, length_text_is}
+use Rattle.cbor_edn_application.proofs.AddressCalls.{no_length, no_second, length_text_is}
 use Rattle.cbor_edn_application.proofs.Told.{told_weaker}
 use Rattle.cbor_edn_application.proofs.address.literals.pair_text.Goals as goal
 

@@ -1,8 +1,8 @@
 use Rattle.std.proofs.Common.{rules, arith, sym, ap, ◌∙◌}
 use Rattle.std.proofs.lemmas.Grind.{common_steps}
 use Rattle.std.specs.Prelude.{option_map}
-use Rattle.cbor_edn_core.specs.View.{item_tree}
-use Rattle.cbor_edn_application.proofs.Addresses.{first_put, first_meaningless, first_refused}
+use Rattle.cbor_edn_core.specs.tree.View.{item_tree}
+use Rattle.cbor_edn_application.proofs.AddressCalls.{first_put, first_meaningless, first_refused}
 use Rattle.cbor_edn_application.proofs.Told.{told_weaker}
 use Rattle.cbor_edn_application.proofs.address.placing.first_literal.Goals as goal
 

@@ -1,4 +1,4 @@
-use Rattle.cbor_edn_core.specs.View.{item_tree, standalone_tree}
+use Rattle.cbor_edn_core.specs.tree.View.{item_tree, standalone_tree}
 use Rattle.cbor_edn_application.proofs.FirstItems.{first_by}
 use Rattle.cbor_edn_application.proofs.address.placing.first_replaced.Goals as goal
 

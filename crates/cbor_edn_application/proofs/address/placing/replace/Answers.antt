@@ -1,8 +1,8 @@
 use Rattle.std.proofs.Common.{ap, ◌∙◌}
-use Rattle.cbor_edn_core.specs.View.{item_tree, standalone_tree}
-use Rattle.cbor_edn_model.specs.Leaves.{texts}
-use Rattle.cbor_edn_model.specs.Paths.{with_at_standalone}
-use Rattle.cbor_edn_application.proofs.Lent.{where_lent, nowhere}
+use Rattle.cbor_edn_core.specs.tree.View.{item_tree, standalone_tree}
+use Rattle.cbor_edn_model.specs.tree.TreeLeaves.{texts}
+use Rattle.cbor_edn_model.specs.access.Paths.{with_at_standalone}
+use Rattle.cbor_edn_application.proofs.AfterLoans.{where_lent, nowhere}
 use Rattle.cbor_edn_application.proofs.address.placing.replace.Goals as goal
 
 pub returns-in-Some-clause-put : goal.returns-in-Some-clause-put

@@ -1,7 +1,7 @@
-use Rattle.cbor_edn_core.specs.View.{item_tree, standalone_tree}
-use Rattle.cbor_edn_model.specs.Leaves.{texts}
+use Rattle.cbor_edn_core.specs.tree.View.{item_tree, standalone_tree}
+use Rattle.cbor_edn_model.specs.tree.TreeLeaves.{texts}
 use Rattle.cbor_edn_application.proofs.FirstItems.{inside_put, inside_before, has_content}
-use Rattle.cbor_edn_application.proofs.Results.{ok_is}
+use Rattle.cbor_edn_application.proofs.KnownResults.{ok_is}
 use Rattle.cbor_edn_application.proofs.address.placing.replace_inside.Goals as goal
 
 pub returns-in-Ok-clause-put : goal.returns-in-Ok-clause-put

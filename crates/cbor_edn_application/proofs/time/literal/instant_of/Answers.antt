@@ -5,10 +5,10 @@ use Rattle.std.specs.Int.{w128}
 use Rattle.std.proofs.Math.Facts.{to_z-of_z}
 use Rattle.std.proofs.lemmas.Result.{IfOk-weaker, IfErr-weaker}
 use Rattle.cbor_edn_core.specs.contracts.access.TypeMismatch.{the_type}
-use Rattle.cbor_edn_core.specs.View.{item_tree}
+use Rattle.cbor_edn_core.specs.tree.View.{item_tree}
 use Rattle.cbor_edn_conversions.specs.Times.{time_literal}
 use Rattle.cbor_edn_application.specs.TimeSteps.{BecomesTime, StaysFor, integer_literal, decimal_literal}
-use Rattle.cbor_edn_application.proofs.TimeSteps.{no_number, becomes_as, stays_as, integer_steps, decimal_steps, large_stays, in_range, no_integer}
+use Rattle.cbor_edn_application.proofs.StepAnswers.{no_number, becomes_as, stays_as, integer_steps, decimal_steps, large_stays, in_range, no_integer}
 use Rattle.cbor_edn_application.proofs.time.literal.instant_of.Goals as goal
 
 pub returns-in_default-clause-refused : goal.returns-in_default-clause-refused

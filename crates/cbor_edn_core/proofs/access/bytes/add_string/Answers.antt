@@ -1,13 +1,13 @@
 use Rattle.std.proofs.Common.{ℕ, ◌+◌, List, Option, map, drop, subst, arith}
 use Rattle.std.proofs.lemmas.List.{drop_all}
 use Rattle.std.proofs.lemmas.Result.{err_from_is_err_and}
-use Rattle.cbor_edn_core.specs.View.{seen_piece, view_piece}
+use Rattle.cbor_edn_core.specs.tree.View.{seen_piece, view_piece}
 use Rattle.cbor_edn_core.specs.declared.access.TypeMismatch.TheVariants.{Bytes}
-use Rattle.cbor_edn_model.specs.Accessed.{piece_bytes}
-use Rattle.cbor_edn_model.specs.Leaves.{texts}
-use Rattle.cbor_edn_model.specs.Trees.{Tree, OnePiece}
-use Rattle.cbor_edn_model.proofs.code.Adding.{AddsLeft, none_added, next_added, next_stops, last_added, string_made}
-use Rattle.cbor_edn_model.proofs.code.CborEncodes.{rest_at}
+use Rattle.cbor_edn_model.specs.access.Accessed.{piece_bytes}
+use Rattle.cbor_edn_model.specs.tree.TreeLeaves.{texts}
+use Rattle.cbor_edn_model.specs.tree.Trees.{Tree, OnePiece}
+use Rattle.cbor_edn_model.proofs.lemmas.access.AddedBytes.{AddsLeft, none_added, next_added, next_stops, last_added, string_made}
+use Rattle.cbor_edn_model.proofs.lemmas.cbor.CborEncodes.{rest_at}
 use Rattle.cbor_edn_core.proofs.access.bytes.add_string.Goals as goal
 
 abbrev bytes : Tree OnePiece × List ℕ × List ℕ → Option (List ℕ)

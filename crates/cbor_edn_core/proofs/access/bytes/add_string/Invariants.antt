@@ -1,9 +1,9 @@
 use Rattle.std.proofs.Common.{map, drop}
-use Rattle.cbor_edn_core.specs.View.{seen_piece, view_piece}
+use Rattle.cbor_edn_core.specs.tree.View.{seen_piece, view_piece}
 use Rattle.cbor_edn_core.specs.declared.access.TypeMismatch.TheVariants.{Bytes}
-use Rattle.cbor_edn_model.specs.Accessed.{piece_bytes}
-use Rattle.cbor_edn_model.specs.Leaves.{texts}
-use Rattle.cbor_edn_model.proofs.code.Adding.{AddsLeft}
+use Rattle.cbor_edn_model.specs.access.Accessed.{piece_bytes}
+use Rattle.cbor_edn_model.specs.tree.TreeLeaves.{texts}
+use Rattle.cbor_edn_model.proofs.lemmas.access.AddedBytes.{AddsLeft}
 use Rattle.cbor_edn_core.proofs.access.bytes.add_string.Given as goal
 
 abbrev pub invariant-loop-piece : goal.invariant-loop-piece

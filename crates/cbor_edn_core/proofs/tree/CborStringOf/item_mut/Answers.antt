@@ -1,13 +1,13 @@
 use Rattle.std.proofs.Common.{◌∙◌, ◌<◌, ◌≤◌, length, map, refl, sym, ap, subst, arith}
 use Rattle.std.proofs.lemmas.Option.{slice_get_read}
-use Rattle.cbor_edn_model.specs.Leaves.{Ghosts}
-use Rattle.cbor_edn_model.specs.Paths.{items_in}
-use Rattle.cbor_edn_model.specs.Trees.{LastPieceTree}
-use Rattle.cbor_edn_model.specs.Rows.{pieces_onto}
-use Rattle.cbor_edn_model.specs.code.Counted.{IsCounted}
-use Rattle.cbor_edn_core.specs.View.{seen_piece, view_piece}
-use Rattle.cbor_edn_core.proofs.code.Paths.{item_in_piece, item_in_last}
-use Rattle.cbor_edn_core.proofs.code.Replaced.{on_some, in_piece_replaced, in_last_piece_replaced, piece_kept}
+use Rattle.cbor_edn_model.specs.tree.TreeLeaves.{Ghosts}
+use Rattle.cbor_edn_model.specs.access.Paths.{items_in}
+use Rattle.cbor_edn_model.specs.tree.Trees.{LastPieceTree}
+use Rattle.cbor_edn_model.specs.tree.Rows.{pieces_onto}
+use Rattle.cbor_edn_model.specs.internal.Counted.{IsCounted}
+use Rattle.cbor_edn_core.specs.tree.View.{seen_piece, view_piece}
+use Rattle.cbor_edn_core.proofs.lemmas.access.ItemNumbers.{item_in_piece, item_in_last}
+use Rattle.cbor_edn_core.proofs.lemmas.access.Replaced.{on_some, in_piece_replaced, in_last_piece_replaced, piece_kept}
 use Rattle.cbor_edn_core.proofs.tree.CborStringOf.item_mut.Goals as goal
 
 pub returns-then-place-len : goal.returns-then-place-len

@@ -1,8 +1,8 @@
 use Rattle.std.proofs.Common.{◌∙◌, length, map, subst, arith}
-use Rattle.cbor_edn_model.specs.Paths.{items_in}
-use Rattle.cbor_edn_model.specs.code.Counted.{IsCounted}
-use Rattle.cbor_edn_core.specs.View.{view_piece}
-use Rattle.cbor_edn_core.proofs.code.Paths.{before_last, past_last}
+use Rattle.cbor_edn_model.specs.access.Paths.{items_in}
+use Rattle.cbor_edn_model.specs.internal.Counted.{IsCounted}
+use Rattle.cbor_edn_core.specs.tree.View.{view_piece}
+use Rattle.cbor_edn_core.proofs.lemmas.access.ItemNumbers.{before_last, past_last}
 use Rattle.cbor_edn_core.proofs.tree.CborStringOf.past.Goals as goal
 
 pub returns-then-place-len : goal.returns-then-place-len

@@ -1,8 +1,8 @@
 use Rattle.std.proofs.Common.{◌∙◌, sym, ap}
 use Rattle.std.specs.List.{slice_index}
-use Rattle.cbor_edn_model.specs.Paths.{with_item}
-use Rattle.cbor_edn_model.proofs.code.Replaced.{put_back}
-use Rattle.cbor_edn_core.specs.View.{view_inner, view_item}
+use Rattle.cbor_edn_model.specs.access.Paths.{with_item}
+use Rattle.cbor_edn_model.proofs.lemmas.access.ReplacedItems.{put_back}
+use Rattle.cbor_edn_core.specs.tree.View.{view_inner, view_item}
 use Rattle.cbor_edn_core.proofs.tree.InnerItemOf.+leads.Goals as goal
 
 pub returns-then-is_last-clause-same : goal.returns-then-is_last-clause-same

@@ -48,27 +48,27 @@ use Rattle.std.specs.contracts.option.Option as OP
 use Rattle.std.specs.List.{slice_get, slice_index}
 use Rattle.std.specs.Option.{IsSome}
 use Rattle.std.specs.Prelude.{option_map}
-use Rattle.cbor_edn_model.specs.Leaves.{Ghosts}
-use Rattle.cbor_edn_model.specs.Paths.{items_in, at as at_path, with_item, with_at}
-use Rattle.cbor_edn_model.proofs.code.Replaced.{child_there, some_mapped, last_value, last_with, more_there, more_value, more_with}
-use Rattle.cbor_edn_core.specs.Lent.{LendsOfInner as LendsItem, LendsBelow}
-use Rattle.cbor_edn_core.specs.View.{view_inner, view_item}
+use Rattle.cbor_edn_model.specs.tree.TreeLeaves.{Ghosts}
+use Rattle.cbor_edn_model.specs.access.Paths.{items_in, at as at_path, with_item, with_at}
+use Rattle.cbor_edn_model.proofs.lemmas.access.ReplacedItems.{child_there, some_mapped, last_value, last_with, more_there, more_value, more_with}
+use Rattle.cbor_edn_core.specs.access.Lent.{LendsOfInner as LendsItem, LendsBelow}
+use Rattle.cbor_edn_core.specs.tree.View.{view_inner, view_item}
 use Rattle.cbor_edn_core.specs.contracts.tree.ItemOf as item
 use Rattle.cbor_edn_core.specs.contracts.tree.InnerItemOf as inner
 use Rattle.cbor_edn_core.specs.contracts.tree.InnerItemOf.reach as f
 use Rattle.cbor_edn_core.specs.contracts.tree.InnerItemOf.reach.Key.{name as #self}
 use Rattle.cbor_edn_core.specs.contracts.tree.InnerItemOf.child_at as g
-use Rattle.cbor_edn_core.specs.contracts.path.is_last as e
-use Rattle.cbor_edn_core.specs.contracts.path.there as sure
+use Rattle.cbor_edn_core.specs.contracts.access.path.is_last as e
+use Rattle.cbor_edn_core.specs.contracts.access.path.there as sure
 use Rattle.cbor_edn_core.specs.contracts.tree.ItemOf.inner_mut as h
 use Rattle.cbor_edn_core.proofs.tree.InnerItemOf.child_at.Met as g-thm
 use Rattle.cbor_edn_core.proofs.tree.ItemOf.inner_mut.Met as h-thm
-use Rattle.cbor_edn_core.proofs.path.is_last.Met as e-thm
-use Rattle.cbor_edn_core.proofs.path.there.Met as l-thm
+use Rattle.cbor_edn_core.proofs.access.path.is_last.Met as e-thm
+use Rattle.cbor_edn_core.proofs.access.path.there.Met as l-thm
 use Rattle.cbor_edn_core.proofs.tree.ItemOf.TheLaws.{the_row_laws as item-laws}
 use Rattle.cbor_edn_core.proofs.tree.InnerItemOf.+reach.{statement}
 use Rattle.cbor_edn_core.proofs.tree.InnerItemOf.+reach.Code as code
-use Rattle.cbor_edn_core.proofs.code.Ties.{so_weaker, so_follow, so_so, is_true, is_false, next_in, next_few}
+use Rattle.cbor_edn_core.proofs.lemmas.access.Ties.{so_weaker, so_follow, so_so, is_true, is_false, next_in, next_few}
 
 module _ (T0 T1 T2 T3 T4 T5 T6 : RattleType) (T0d T1d T2d T3d T4d T5d T6d : Dict) where
   abbrev args : Args
@@ -171,7 +171,7 @@ module _ (T0 T1 T2 T3 T4 T5 T6 : RattleType) (T0d T1d T2d T3d T4d T5d T6d : Dict
         nothing ! $ move ! (4 ∷ 0 ∷ []) $ join ! $ move ! (1 ∷ 0 ∷ []) $ join ! $
         use0 𝓛 (raw (fact 𝓤 (IsSome d))) (fact_i 𝓤 (IsSome d) (emp 𝓤) there_is) $ use0 𝓛 (raw (fact 𝓤 Within6)) (fact_i 𝓤 Within6 (emp 𝓤) within6) $ join ! $ use0 𝓛 (raw (fact 𝓤 Within5)) (fact_i 𝓤 Within5 (emp 𝓤) within5) $ join ! $ use0 𝓛 (raw (fact 𝓤 Within4)) (fact_i 𝓤 Within4 (emp 𝓤) within4) $ join ! $ use0 𝓛 (raw (fact 𝓤 Within3)) (fact_i 𝓤 Within3 (emp 𝓤) within3) $ join ! $ use0 𝓛 (raw (fact 𝓤 Within2)) (fact_i 𝓤 Within2 (emp 𝓤) within2) $ join ! $ use0 𝓛 (raw (fact 𝓤 Within1)) (fact_i 𝓤 Within1 (emp 𝓤) within1) $ join ! $ use0 𝓛 (raw (fact 𝓤 Within0)) (fact_i 𝓤 Within0 (emp 𝓤) within0) $ join ! $
         move ! (1 ∷ 0 ∷ []) $ use2 𝓛 (raw (Some₁.pre z₁)) (id⊢ 𝓤 _) $
-        calls_at ! (framed 𝓤 𝓛.H 𝓜 𝓣) Some₁ (l-thm.met 𝓤 𝓛 𝓜 𝓡 (code.calls-cbor_edn_core::path::there 𝓡.env wired) T0 T1 T2 T3 T4 T5 T6 L0 L1 L2 L3 L4 L5 L6 T0d T1d T2d T3d T4d T5d T6d m0 m1 m2 m3 m4 m5 m6) z₁ (and_then ! (get ! refl) (no_more !)) (λ v₁.
+        calls_at ! (framed 𝓤 𝓛.H 𝓜 𝓣) Some₁ (l-thm.met 𝓤 𝓛 𝓜 𝓡 (code.calls-cbor_edn_core::access::path::there 𝓡.env wired) T0 T1 T2 T3 T4 T5 T6 L0 L1 L2 L3 L4 L5 L6 T0d T1d T2d T3d T4d T5d T6d m0 m1 m2 m3 m4 m5 m6) z₁ (and_then ! (get ! refl) (no_more !)) (λ v₁.
         use1 𝓛 (later (some (λ (p : MutBor J.Denot). (Toks' ⊛ Own J p (v₁ ∷ [])) ⊛ some (λ (ws : Lasts (sure.ended T0 T1 T2 T3 T4 T5 T6 T0d T1d T2d T3d T4d T5d T6d) z₁.0.0 (d, tt)). ‵ (lasts (sure.ended T0 T1 T2 T3 T4 T5 T6 T0d T1d T2d T3d T4d T5d T6d) z₁.0.0 (d, tt) ws) ⊛ raw (fact 𝓤 (d ≡ Some p)))))) (id⊢ 𝓤 _) $
         await ! tt $ pick ! (λ p. split ! $ split ! $ move ! (1 ∷ []) $ fsplit3 ! $ feq_l ! (λ is₁. feq_i ! (List Val) (mut_vals p) (mut_vals p) refl $ fjoin3 ! $
         lands_as ! (ap only is₁) refl (tt, tt) $
@@ -185,7 +185,7 @@ module _ (T0 T1 T2 T3 T4 T5 T6 : RattleType) (T0d T1d T2d T3d T4d T5d T6d : Dict
         let Last = triple_of 𝓛 e.signature (e.spec 𝓛 𝓜.mem 𝓡.returns) in
         let z₂ : Last.Ghost = (((κs.1.0, tt), (qs.1.0, tt), tt, (path, (k, tt)), (shr_slice_vals path, (uint_vals w64 k, tt))), tt) in
         use2 𝓛 (raw (Last.pre z₂)) (id⊢ 𝓤 _) $
-        calls_at ! (framed 𝓤 𝓛.H 𝓜 𝓣) Last (e-thm.met 𝓤 𝓛 𝓜 𝓡 (code.calls-cbor_edn_core::path::is_last 𝓡.env wired)) z₂ (and_then ! (get ! refl) (and_then ! (get ! refl) (no_more !))) (λ v₂.
+        calls_at ! (framed 𝓤 𝓛.H 𝓜 𝓣) Last (e-thm.met 𝓤 𝓛 𝓜 𝓡 (code.calls-cbor_edn_core::access::path::is_last 𝓡.env wired)) z₂ (and_then ! (get ! refl) (and_then ! (get ! refl) (no_more !))) (λ v₂.
         use1 𝓛 (later (some (λ (t : Bool). ((‵ (flft κs.1.0 qs.1.0) ⊛ ‵ ftrue) ⊛ ‵ (bool.own_val t (v₂ ∷ []))) ⊛ some (λ (ws : Unit {0} × (Unit {0} × Unit {0})). ‵ (lasts e.ended (κs.1.0, tt) z₂.0.3 ws) ⊛ raw (fact 𝓤 ((t ≡ true) ↔ (suc k ≡ m))))))) (id⊢ 𝓤 _) $
         await ! tt $ pick ! (λ last. split ! $ split ! $ move ! (1 ∷ []) $ feq_l ! (λ is₂. lands_as ! (ap only is₂) refl (tt, tt) $
         split ! $ move ! (1 ∷ []) $ drop ! $ move ! (1 ∷ []) $ pick ! (λ ws₂. split ! $ drop ! $ heard ! _ (λ when.

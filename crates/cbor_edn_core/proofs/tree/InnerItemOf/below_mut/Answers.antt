@@ -1,7 +1,7 @@
 use Rattle.std.proofs.Common.{◌∙◌, refl, ap, drop}
-use Rattle.cbor_edn_model.specs.Paths.{at as at_path, with_at}
-use Rattle.cbor_edn_core.specs.View.{view_item}
-use Rattle.cbor_edn_core.proofs.code.Replaced.{on_some}
+use Rattle.cbor_edn_model.specs.access.Paths.{at as at_path, with_at}
+use Rattle.cbor_edn_core.specs.tree.View.{view_item}
+use Rattle.cbor_edn_core.proofs.lemmas.access.Replaced.{on_some}
 use Rattle.cbor_edn_core.proofs.tree.InnerItemOf.below_mut.Goals as goal
 
 pub returns-then-leads : goal.returns-then-leads

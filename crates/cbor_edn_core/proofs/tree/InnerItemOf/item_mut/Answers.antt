@@ -1,20 +1,20 @@
 use Rattle.std.proofs.Common.{◌≡◌, ◌∙◌, refl, sym, ap, slice_get}
 use Rattle.std.proofs.lemmas.Bool.{false≢true}
 use Rattle.std.specs.Box.{with_value}
-use Rattle.cbor_edn_model.specs.Items as kind
-use Rattle.cbor_edn_model.specs.Paths.{items_in, with_item}
-use Rattle.cbor_edn_model.specs.Trees.{EnclosedTree, ListTree, StringTree}
-use Rattle.cbor_edn_model.specs.code.Counted.{is_simple}
-use Rattle.cbor_edn_model.proofs.code.Replaced.{nothing_below, tag_items, tag_with}
-use Rattle.cbor_edn_core.specs.View.{view_inner, view_item, view_list, view_pair_list, view_string, view_stream, view_standalone}
+use Rattle.cbor_edn_model.specs.tree.Items as kind
+use Rattle.cbor_edn_model.specs.access.Paths.{items_in, with_item}
+use Rattle.cbor_edn_model.specs.tree.Trees.{EnclosedTree, ListTree, StringTree}
+use Rattle.cbor_edn_model.specs.internal.Counted.{is_simple_item}
+use Rattle.cbor_edn_model.proofs.lemmas.access.ReplacedItems.{nothing_below, tag_items, tag_with}
+use Rattle.cbor_edn_core.specs.tree.View.{view_inner, view_item, view_list, view_pair_list, view_string, view_stream, view_standalone}
 use Rattle.cbor_edn_core.specs.declared.tree.InnerItemOf.TheVariants.{Enclosed, Array, Map, String, Stream, outs-Enclosed, outs-Array, outs-Map, outs-String, outs-Stream}
-use Rattle.cbor_edn_core.proofs.code.Replaced.{then_some, viewed}
-use Rattle.cbor_edn_core.proofs.code.Views.{view_string_is}
+use Rattle.cbor_edn_core.proofs.lemmas.access.Replaced.{then_some, viewed}
+use Rattle.cbor_edn_core.proofs.lemmas.tree.Views.{view_string_is}
 use Rattle.cbor_edn_core.proofs.tree.InnerItemOf.item_mut.Goals as goal
 
-pub returns-then-is_simple : goal.returns-then-is_simple
-returns-then-is_simple g c =
-    ((refl, λ w. tt, λ leaves. refl), record { lent = tt; value = λ leaves. nothing_below (view_inner leaves c.args.self.now) c.args.i (sym (c.is_simple.ensures leaves) ∙ c.if-is_simple.true) })
+pub returns-then-is_simple_item : goal.returns-then-is_simple_item
+returns-then-is_simple_item g c =
+    ((refl, λ w. tt, λ leaves. refl), record { lent = tt; value = λ leaves. nothing_below (view_inner leaves c.args.self.now) c.args.i (sym (c.is_simple_item.ensures leaves) ∙ c.if-is_simple_item.true) })
 
 pub returns-in-Enclosed : goal.returns-in-Enclosed
 returns-in-Enclosed g c =
@@ -23,11 +23,11 @@ returns-in-Enclosed g c =
       (
         refl,
         λ w. then_some c.item_mut.result (c.item_mut.follows.holds w) (λ h leaves. viewed (view_inner leaves) (Enclosed c.in-Enclosed.field-0 (with_value b (c.item_mut.follows.lender w))) (rw (c.in-Enclosed.is, outs-Enclosed c.in-Enclosed.field-0 c.in-Enclosed.content) refl)
-            (ap (EnclosedTree c.in-Enclosed.field-0.kind) (h leaves ∙ ap (λ x. with_item c.args.i (view_item leaves w) (view_standalone leaves x)) read) ∙ sym (tag_with c.in-Enclosed.field-0.kind (view_standalone leaves b.value) (λ e. false≢true (sym c.if-is_simple.false ∙ c.is_simple.ensures leaves ∙ ap (λ x. is_simple (view_inner leaves x)) c.in-Enclosed.is ∙ e)) c.args.i (view_item leaves w)) ∙ sym (ap (λ x. with_item c.args.i (view_item leaves w) (view_inner leaves x)) c.in-Enclosed.is))),
+            (ap (EnclosedTree c.in-Enclosed.field-0.kind) (h leaves ∙ ap (λ x. with_item c.args.i (view_item leaves w) (view_standalone leaves x)) read) ∙ sym (tag_with c.in-Enclosed.field-0.kind (view_standalone leaves b.value) (λ e. false≢true (sym c.if-is_simple_item.false ∙ c.is_simple_item.ensures leaves ∙ ap (λ x. is_simple_item (view_inner leaves x)) c.in-Enclosed.is ∙ e)) c.args.i (view_item leaves w)) ∙ sym (ap (λ x. with_item c.args.i (view_item leaves w) (view_inner leaves x)) c.in-Enclosed.is))),
         λ leaves. viewed (view_inner leaves) (Enclosed c.in-Enclosed.field-0 (with_value b c.item_mut.follows.lender-at-none)) (rw (c.in-Enclosed.is, outs-Enclosed c.in-Enclosed.field-0 c.in-Enclosed.content) refl)
             (ap (EnclosedTree c.in-Enclosed.field-0.kind) (c.item_mut.follows.holds-at-none leaves ∙ ap (view_standalone leaves) read) ∙ sym (ap (view_inner leaves) c.in-Enclosed.is)),
       ),
-      record { lent = tt; value = λ leaves. c.item_mut.ensures.value leaves ∙ ap (λ s. slice_get (items_in (view_standalone leaves s)) c.args.i) read ∙ sym (ap (λ l. slice_get l c.args.i) (tag_items c.in-Enclosed.field-0.kind (view_standalone leaves b.value) (λ e. false≢true (sym c.if-is_simple.false ∙ c.is_simple.ensures leaves ∙ ap (λ x. is_simple (view_inner leaves x)) c.in-Enclosed.is ∙ e)))) ∙ sym (ap (λ x. slice_get (items_in (view_inner leaves x)) c.args.i) c.in-Enclosed.is) },
+      record { lent = tt; value = λ leaves. c.item_mut.ensures.value leaves ∙ ap (λ s. slice_get (items_in (view_standalone leaves s)) c.args.i) read ∙ sym (ap (λ l. slice_get l c.args.i) (tag_items c.in-Enclosed.field-0.kind (view_standalone leaves b.value) (λ e. false≢true (sym c.if-is_simple_item.false ∙ c.is_simple_item.ensures leaves ∙ ap (λ x. is_simple_item (view_inner leaves x)) c.in-Enclosed.is ∙ e)))) ∙ sym (ap (λ x. slice_get (items_in (view_inner leaves x)) c.args.i) c.in-Enclosed.is) },
     )
 
 pub returns-in-Array : goal.returns-in-Array

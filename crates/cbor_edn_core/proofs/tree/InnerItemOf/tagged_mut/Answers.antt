@@ -1,6 +1,6 @@
 use Rattle.std.proofs.Common.{refl, sym}
 use Rattle.std.proofs.lemmas.Bool.{false≢true}
-use Rattle.cbor_edn_core.proofs.code.Loans.{no_tag}
+use Rattle.cbor_edn_core.proofs.lemmas.access.Loans.{no_tag}
 use Rattle.cbor_edn_core.proofs.tree.InnerItemOf.tagged_mut.Goals as goal
 
 pub returns-in_default : goal.returns-in_default

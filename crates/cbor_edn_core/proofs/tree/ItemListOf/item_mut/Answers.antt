@@ -1,10 +1,10 @@
 use Rattle.std.proofs.Common.{◌∙◌, refl, sym, ap, slice_get}
-use Rattle.cbor_edn_model.specs.ListHeads.{view_list_head}
-use Rattle.cbor_edn_model.specs.Paths.{items_in, with_item}
-use Rattle.cbor_edn_model.specs.Trees.{FullTree}
-use Rattle.cbor_edn_core.specs.View.{view_item, view_items, view_list}
+use Rattle.cbor_edn_model.specs.text.ListHeads.{view_list_head}
+use Rattle.cbor_edn_model.specs.access.Paths.{items_in, with_item}
+use Rattle.cbor_edn_model.specs.tree.Trees.{FullTree}
+use Rattle.cbor_edn_core.specs.tree.View.{view_item, view_items, view_list}
 use Rattle.cbor_edn_core.specs.declared.tree.ItemListOf.TheVariants.{Present}
-use Rattle.cbor_edn_core.proofs.code.Replaced.{then_some, viewed}
+use Rattle.cbor_edn_core.proofs.lemmas.access.Replaced.{then_some, viewed}
 use Rattle.cbor_edn_core.proofs.tree.ItemListOf.item_mut.Goals as goal
 
 pub returns-in-Present : goal.returns-in-Present

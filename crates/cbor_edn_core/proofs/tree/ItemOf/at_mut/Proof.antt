@@ -45,26 +45,26 @@ use Rattle.std.proofs.option.Option.TheLaws.{the_row_laws as option-laws}
 use Rattle.std.specs.contracts.option.Option as OP
 use Rattle.std.specs.Option.{OnSome, ghost_name_of}
 use Rattle.std.specs.Prelude.{option_map}
-use Rattle.cbor_edn_model.specs.Leaves.{Ghosts}
-use Rattle.cbor_edn_model.specs.Paths.{at as at_path, with_at}
-use Rattle.cbor_edn_model.proofs.code.Replaced.{itself_value, itself_with}
-use Rattle.cbor_edn_core.specs.Lent.{LendsBelow, LendsAt}
-use Rattle.cbor_edn_core.specs.View.{view_inner, view_item}
+use Rattle.cbor_edn_model.specs.tree.TreeLeaves.{Ghosts}
+use Rattle.cbor_edn_model.specs.access.Paths.{at as at_path, with_at}
+use Rattle.cbor_edn_model.proofs.lemmas.access.ReplacedItems.{itself_value, itself_with}
+use Rattle.cbor_edn_core.specs.access.Lent.{LendsBelow, LendsAt}
+use Rattle.cbor_edn_core.specs.tree.View.{view_inner, view_item}
 use Rattle.cbor_edn_core.specs.contracts.tree.ItemOf as item
 use Rattle.cbor_edn_core.specs.contracts.tree.InnerItemOf as inner
 use Rattle.cbor_edn_core.specs.contracts.tree.ItemOf.at_mut as f
 use Rattle.cbor_edn_core.specs.contracts.tree.ItemOf.at_mut.Key.{name as #self}
 use Rattle.cbor_edn_core.specs.contracts.tree.InnerItemOf.below_mut as b
-use Rattle.cbor_edn_core.specs.contracts.path.is_empty as e
+use Rattle.cbor_edn_core.specs.contracts.access.path.is_empty as e
 use Rattle.cbor_edn_core.specs.contracts.tree.ItemOf.inner_mut as h
 use Rattle.cbor_edn_core.proofs.tree.InnerItemOf.below_mut.Met as b-thm
 use Rattle.cbor_edn_core.proofs.tree.ItemOf.inner_mut.Met as h-thm
-use Rattle.cbor_edn_core.proofs.path.is_empty.Met as e-thm
+use Rattle.cbor_edn_core.proofs.access.path.is_empty.Met as e-thm
 use Rattle.cbor_edn_core.proofs.tree.ItemOf.TheLaws.{the_row_laws as item-laws}
 use Rattle.cbor_edn_core.proofs.tree.ItemOf.at_mut.Statement.{statement}
 use Rattle.cbor_edn_core.proofs.tree.ItemOf.at_mut.Code as code
-use Rattle.cbor_edn_core.proofs.code.Replaced.{on_some}
-use Rattle.cbor_edn_core.proofs.code.Ties.{itself, related, so_then, is_true, is_false}
+use Rattle.cbor_edn_core.proofs.lemmas.access.Replaced.{on_some}
+use Rattle.cbor_edn_core.proofs.lemmas.access.Ties.{itself, related, so_then, is_true, is_false}
 
 module _ (T0 T1 T2 T3 T4 T5 T6 : RattleType) (T0d T1d T2d T3d T4d T5d T6d : Dict) where
   abbrev args : Args
@@ -136,7 +136,7 @@ module _ (T0 T1 T2 T3 T4 T5 T6 : RattleType) (T0d T1d T2d T3d T4d T5d T6d : Dict
         let Empty = triple_of 𝓛 e.signature (e.spec 𝓛 𝓜.mem 𝓡.returns) in
         let z₁ : Empty.Ghost = (((κs.1.0, tt), (qs.1.0, tt), tt, (path, tt), (shr_slice_vals path, tt)), tt) in
         use2 𝓛 (raw (Empty.pre z₁)) (id⊢ 𝓤 _) $
-        calls_at ! (framed 𝓤 𝓛.H 𝓜 𝓣) Empty (e-thm.met 𝓤 𝓛 𝓜 𝓡 (code.calls-cbor_edn_core::path::is_empty 𝓡.env wired)) z₁ (and_then ! (get ! refl) (no_more !)) (λ v₁.
+        calls_at ! (framed 𝓤 𝓛.H 𝓜 𝓣) Empty (e-thm.met 𝓤 𝓛 𝓜 𝓡 (code.calls-cbor_edn_core::access::path::is_empty 𝓡.env wired)) z₁ (and_then ! (get ! refl) (no_more !)) (λ v₁.
         use1 𝓛 (later (some (λ (t : Bool). ((‵ (flft κs.1.0 qs.1.0) ⊛ ‵ ftrue) ⊛ ‵ (bool.own_val t (v₁ ∷ []))) ⊛ some (λ (ws : Unit {0} × Unit {0}). ‵ (lasts e.ended (κs.1.0, tt) z₁.0.3 ws) ⊛ raw (fact 𝓤 ((t ≡ true) ↔ (m ≡ 0))))))) (id⊢ 𝓤 _) $
         await ! tt $ pick ! (λ empty. split ! $ split ! $ move ! (1 ∷ []) $ feq_l ! (λ is₁. lands_as ! (ap only is₁) refl (tt, tt) $
         split ! $ move ! (1 ∷ []) $ drop ! $ move ! (1 ∷ []) $ pick ! (λ ws₁. split ! $ drop ! $ heard ! _ (λ when.

@@ -1,7 +1,7 @@
 use Rattle.std.proofs.Common.{◌≡◌, ◌<◌, length, refl, arith}
 use Rattle.cbor_edn_core.specs.declared.tree.ItemsOf.{out-ItemsOf}
-use Rattle.cbor_edn_core.proofs.code.Paths.{element_within, element_last, element_past}
-use Rattle.cbor_edn_core.proofs.code.Replaced.{element_replaced, last_element_replaced}
+use Rattle.cbor_edn_core.proofs.lemmas.access.ItemNumbers.{element_within, element_last, element_past}
+use Rattle.cbor_edn_core.proofs.lemmas.access.Replaced.{element_replaced, last_element_replaced}
 use Rattle.cbor_edn_core.proofs.tree.ItemsOf.item_mut.Goals as goal
 
 pub returns-then-i-len : goal.returns-then-i-len

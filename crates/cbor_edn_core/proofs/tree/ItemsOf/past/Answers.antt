@@ -1,9 +1,9 @@
 use Rattle.std.proofs.Common.{◌≡◌, ◌-◌, ◌∙◌, length, Some, ap, arith}
-use Rattle.cbor_edn_model.specs.Paths.{items_in}
-use Rattle.cbor_edn_model.proofs.code.Counted.{past_within, past_behind}
-use Rattle.cbor_edn_core.specs.View.{view_items}
+use Rattle.cbor_edn_model.specs.access.Paths.{items_in}
+use Rattle.cbor_edn_model.proofs.lemmas.access.CountedItems.{past_within, past_behind}
+use Rattle.cbor_edn_core.specs.tree.View.{view_items}
 use Rattle.cbor_edn_core.specs.declared.tree.ItemsOf.{out-ItemsOf}
-use Rattle.cbor_edn_core.proofs.code.Paths.{elements_number}
+use Rattle.cbor_edn_core.proofs.lemmas.access.ItemNumbers.{elements_number}
 use Rattle.cbor_edn_core.proofs.tree.ItemsOf.past.Goals as goal
 
 pub returns-then-i-len : goal.returns-then-i-len

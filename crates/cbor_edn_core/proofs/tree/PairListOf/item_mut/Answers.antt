@@ -1,13 +1,13 @@
 use borrow.Enum.Total.{values_o}
 use denote.Param.{param}
 use Rattle.std.proofs.Common.{◌∙◌, refl, sym, ap, slice_get}
-use Rattle.cbor_edn_model.specs.ListHeads.{view_list_head}
-use Rattle.cbor_edn_model.specs.Paths.{items_in, with_item}
-use Rattle.cbor_edn_model.specs.Trees.{FullTree}
-use Rattle.cbor_edn_core.specs.View.{view_item, view_pairs, view_pair_list}
+use Rattle.cbor_edn_model.specs.text.ListHeads.{view_list_head}
+use Rattle.cbor_edn_model.specs.access.Paths.{items_in, with_item}
+use Rattle.cbor_edn_model.specs.tree.Trees.{FullTree}
+use Rattle.cbor_edn_core.specs.tree.View.{view_item, view_pairs, view_pair_list}
 use Rattle.cbor_edn_core.specs.contracts.tree.PairListOf as pair_list
 use Rattle.cbor_edn_core.specs.declared.tree.PairListOf.TheVariants.{Present}
-use Rattle.cbor_edn_core.proofs.code.Replaced.{then_some, viewed, with_part_of}
+use Rattle.cbor_edn_core.proofs.lemmas.access.Replaced.{then_some, viewed, with_part_of}
 use Rattle.cbor_edn_core.proofs.tree.PairListOf.item_mut.Goals as goal
 
 pub returns-in-Present : goal.returns-in-Present

@@ -1,7 +1,7 @@
 use Rattle.std.proofs.Common.{◌≡◌, ◌<◌, ◌/◌, length, refl, arith}
 use Rattle.cbor_edn_core.specs.declared.tree.PairsOf.{out-PairsOf}
-use Rattle.cbor_edn_core.proofs.code.Paths.{pair_within, pair_last, pair_past, key_at, value_at, no_pair_at}
-use Rattle.cbor_edn_core.proofs.code.Replaced.{key_replaced, value_replaced, last_key_replaced, last_value_replaced}
+use Rattle.cbor_edn_core.proofs.lemmas.access.ItemNumbers.{pair_within, pair_last, pair_past, key_at, value_at, no_pair_at}
+use Rattle.cbor_edn_core.proofs.lemmas.access.Replaced.{key_replaced, value_replaced, last_key_replaced, last_value_replaced}
 use Rattle.cbor_edn_core.proofs.tree.PairsOf.item_mut.Goals as goal
 
 pub returns-then-i-eq0 : goal.returns-then-i-eq0

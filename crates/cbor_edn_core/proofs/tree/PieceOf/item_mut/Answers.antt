@@ -1,10 +1,10 @@
 use Rattle.std.proofs.Common.{◌≡◌, ◌∙◌, refl, sym, ap, slice_get}
 use Rattle.std.specs.Box.{with_value}
-use Rattle.cbor_edn_model.specs.Paths.{items_in, with_item}
-use Rattle.cbor_edn_model.specs.Trees.{EmbeddedTree}
-use Rattle.cbor_edn_core.specs.View.{view_item, view_piece, view_sequence}
+use Rattle.cbor_edn_model.specs.access.Paths.{items_in, with_item}
+use Rattle.cbor_edn_model.specs.tree.Trees.{EmbeddedTree}
+use Rattle.cbor_edn_core.specs.tree.View.{view_item, view_piece, view_sequence}
 use Rattle.cbor_edn_core.specs.declared.tree.PieceOf.TheVariants.{Embedded}
-use Rattle.cbor_edn_core.proofs.code.Replaced.{then_some, viewed}
+use Rattle.cbor_edn_core.proofs.lemmas.access.Replaced.{then_some, viewed}
 use Rattle.cbor_edn_core.proofs.tree.PieceOf.item_mut.Goals as goal
 
 pub returns-in-Embedded : goal.returns-in-Embedded

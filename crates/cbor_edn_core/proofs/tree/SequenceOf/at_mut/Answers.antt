@@ -1,10 +1,10 @@
 use Rattle.std.proofs.Common.{◌≡◌, ◌∙◌, ◌<◌, suc, length, refl, sym, ap, arith}
 use Rattle.std.proofs.lemmas.Bool.{false≢true}
 use Rattle.std.specs.List.{slice_index}
-use Rattle.cbor_edn_model.specs.Paths.{with_item}
-use Rattle.cbor_edn_model.proofs.code.Replaced.{put_back, sequence_last_value, sequence_last_with, sequence_more_value, sequence_more_with}
-use Rattle.cbor_edn_core.specs.View.{view_item, view_sequence}
-use Rattle.cbor_edn_core.proofs.code.Replaced.{then_some}
+use Rattle.cbor_edn_model.specs.access.Paths.{with_item}
+use Rattle.cbor_edn_model.proofs.lemmas.access.ReplacedItems.{put_back, sequence_last_value, sequence_last_with, sequence_more_value, sequence_more_with}
+use Rattle.cbor_edn_core.specs.tree.View.{view_item, view_sequence}
+use Rattle.cbor_edn_core.proofs.lemmas.access.Replaced.{then_some}
 use Rattle.cbor_edn_core.proofs.tree.SequenceOf.at_mut.Goals as goal
 
 pub returns-then-is_last : goal.returns-then-is_last

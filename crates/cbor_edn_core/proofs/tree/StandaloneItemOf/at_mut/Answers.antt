@@ -1,6 +1,6 @@
 use Rattle.std.proofs.Common.{refl, ap}
-use Rattle.cbor_edn_model.specs.Trees.{StandaloneTree}
-use Rattle.cbor_edn_core.proofs.code.Replaced.{then_some}
+use Rattle.cbor_edn_model.specs.tree.Trees.{StandaloneTree}
+use Rattle.cbor_edn_core.proofs.lemmas.access.Replaced.{then_some}
 use Rattle.cbor_edn_core.proofs.tree.StandaloneItemOf.at_mut.Goals as goal
 
 pub returns : goal.returns

@@ -1,7 +1,7 @@
 use Rattle.std.proofs.Common.{◌∙◌, refl, sym, ap, slice_get}
-use Rattle.cbor_edn_model.specs.Paths.{items_in}
-use Rattle.cbor_edn_core.proofs.code.Views.{view_stream_is}
-use Rattle.cbor_edn_core.proofs.code.Replaced.{on_some, in_stream_replaced, stream_kept}
+use Rattle.cbor_edn_model.specs.access.Paths.{items_in}
+use Rattle.cbor_edn_core.proofs.lemmas.tree.Views.{view_stream_is}
+use Rattle.cbor_edn_core.proofs.lemmas.access.Replaced.{on_some, in_stream_replaced, stream_kept}
 use Rattle.cbor_edn_core.proofs.tree.StreamOf.item_mut.Goals as goal
 
 pub returns : goal.returns

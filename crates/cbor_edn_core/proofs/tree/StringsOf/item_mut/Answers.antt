@@ -1,12 +1,12 @@
 use Rattle.std.proofs.Common.{◌∙◌, ◌<◌, ◌≤◌, length, map, refl, sym, subst, arith}
 use Rattle.std.proofs.lemmas.Option.{slice_get_read}
-use Rattle.cbor_edn_model.specs.Leaves.{Ghosts}
-use Rattle.cbor_edn_model.specs.Paths.{items_in}
-use Rattle.cbor_edn_model.specs.code.Counted.{IsCounted}
-use Rattle.cbor_edn_core.specs.View.{view_string}
+use Rattle.cbor_edn_model.specs.tree.TreeLeaves.{Ghosts}
+use Rattle.cbor_edn_model.specs.access.Paths.{items_in}
+use Rattle.cbor_edn_model.specs.internal.Counted.{IsCounted}
+use Rattle.cbor_edn_core.specs.tree.View.{view_string}
 use Rattle.cbor_edn_core.specs.declared.tree.StringsOf.{out-StringsOf}
-use Rattle.cbor_edn_core.proofs.code.Paths.{item_in_string, item_in_last_string}
-use Rattle.cbor_edn_core.proofs.code.Replaced.{on_some, in_string_replaced, in_last_string_replaced, string_kept, last_string_kept}
+use Rattle.cbor_edn_core.proofs.lemmas.access.ItemNumbers.{item_in_string, item_in_last_string}
+use Rattle.cbor_edn_core.proofs.lemmas.access.Replaced.{on_some, in_string_replaced, in_last_string_replaced, string_kept, last_string_kept}
 use Rattle.cbor_edn_core.proofs.tree.StringsOf.item_mut.Goals as goal
 
 pub returns-then-place-len : goal.returns-then-place-len

@@ -1,4 +1,4 @@
-use Rattle.cbor_edn_parts.proofs.KindTable.{kind_at}
+use Rattle.cbor_edn_parts.proofs.lemmas.bytes.KindTable.{kind_at}
 use Rattle.cbor_edn_parts.proofs.bytes.Kind.of.Goals as goal
 
 pub returns : goal.returns

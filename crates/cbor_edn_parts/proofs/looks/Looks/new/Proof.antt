@@ -24,7 +24,7 @@ use denote.Triple.Entry.{alive}
 use denote.Triple.Spec.{Meets, triple_of}
 use denote.Triple.Table.{entered}
 use denote.Triple.Walked.{says, Stays, walk_of, ends_at, walk_Meets}
-use Rattle.cbor_edn_parts.proofs.Walks.{sealed}
+use Rattle.cbor_edn_parts.proofs.lemmas.scan.WalkValues.{sealed}
 use Rattle.cbor_edn_parts.specs.contracts.looks.Looks as Looks
 use Rattle.cbor_edn_parts.specs.contracts.looks.Looks.new as F
 use Rattle.cbor_edn_parts.specs.contracts.looks.Looks.new.Key.{name as #self}

@@ -26,7 +26,7 @@ use denote.Triple.Entry.{alive}
 use denote.Triple.Spec.{Meets, triple_of}
 use denote.Triple.Table.{entered}
 use denote.Triple.Walked.{says, Stays, stay_dropped, walk_of, ends_at, walk_Meets, Goes-dropped}
-use Rattle.cbor_edn_parts.proofs.Walks.{sealed}
+use Rattle.cbor_edn_parts.proofs.lemmas.scan.WalkValues.{sealed}
 use Rattle.cbor_edn_parts.specs.contracts.looks.Looks as Looks
 use Rattle.cbor_edn_parts.specs.contracts.looks.Looks.next as F
 use Rattle.cbor_edn_parts.specs.contracts.looks.Looks.next.Key.{name as #self}

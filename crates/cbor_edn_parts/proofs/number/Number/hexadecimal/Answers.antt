@@ -1,6 +1,6 @@
 use Rattle.std.proofs.Common.{ap, ◌∙◌}
-use Rattle.cbor_edn_parts.specs.code.NumberTokens.{is_number}
-use Rattle.cbor_edn_parts.proofs.WrittenNumbers.{hexadecimal_number}
+use Rattle.cbor_edn_parts.specs.internal.NumberTokens.{is_number}
+use Rattle.cbor_edn_parts.proofs.lemmas.number.WrittenNumbers.{hexadecimal_number}
 use Rattle.cbor_edn_parts.proofs.number.Number.hexadecimal.Goals as goal
 
 pub invariant_of-result : goal.invariant_of-result

@@ -1,18 +1,13 @@
-use Rattle.std.proofs.Common.{ℕ, ◌≡◌, List, IsTrue}
-use Rattle.std.specs.Prelude.{Bool, ◌↔◌}
+use Rattle.std.proofs.Common.{ℕ, List, IsTrue}
 use Rattle.cbor_edn_parts.specs.Leaves.{number_bytes}
-use Rattle.cbor_edn_parts.specs.Number.{IsNumber, MinusSign}
-use Rattle.cbor_edn_parts.specs.code.NumberReading.{sign_of}
-use Rattle.cbor_edn_parts.specs.code.NumberTokens.{is_number}
-use Rattle.cbor_edn_parts.proofs.NumberTexts.{number_texts}
-use Rattle.cbor_edn_parts.proofs.NumberParts.{digits_are, base_is, too_large, integer_by}
+use Rattle.cbor_edn_parts.specs.Number.{IsNumber}
+use Rattle.cbor_edn_parts.specs.internal.NumberTokens.{is_number}
+use Rattle.cbor_edn_parts.proofs.lemmas.number.NumberTexts.{number_texts}
+use Rattle.cbor_edn_parts.proofs.lemmas.number.NumberParts.{minus_is, digits_are, base_is, too_large, integer_by}
 use Rattle.cbor_edn_parts.proofs.number.Number.integer.Goals as goal
 
 is : (t : List ℕ) → IsTrue (is_number t) → IsNumber t
 is t e = (number_texts t).1 e
-
-sign_is : (t s : List ℕ) (negative : Bool) → s ≡ t → ((sign_of s ≡ MinusSign) ↔ IsTrue negative) → (sign_of t ≡ MinusSign) ↔ IsTrue negative
-sign_is t s negative a h = rw a at h
 
 pub returns-in-Ok-clause-some : goal.returns-in-Ok-clause-some
 returns-in-Ok-clause-some c =
@@ -23,7 +18,7 @@ returns-in-Ok-clause-some c =
     let d = digits_are t s sign.result.1.now base.result.1.now c.as_str.ensures sign.ensures.rest base.ensures.digits in
     let b = base_is t s sign.result.1.now base.result.0 c.as_str.ensures sign.ensures.rest base.ensures.base in
     integer_by t base.result.1.now base.result.0 (is t c.args.self.now.spelled) d b sign.result.0 c.in-Ok.magnitude _
-    (sign_is t s sign.result.0 c.as_str.ensures sign.ensures.sign) c.in-Ok.ensures.value.0.0 c.in-Ok.ensures.value.1 c.signed.ensures.value
+    (minus_is t s sign.result.0 c.as_str.ensures sign.ensures.sign) c.in-Ok.ensures.value.0.0 c.in-Ok.ensures.value.1 c.signed.ensures.value
 
 pub returns-in-Err-clause-none : goal.returns-in-Err-clause-none
 returns-in-Err-clause-none c = λ _.

@@ -1,6 +1,6 @@
 use Rattle.std.proofs.Common.{◌∙◌}
 use Rattle.cbor_edn_parts.specs.Leaves.{number_bytes}
-use Rattle.cbor_edn_parts.proofs.NumberParts.{digits_are, base_is, integer_texts_by}
+use Rattle.cbor_edn_parts.proofs.lemmas.number.NumberParts.{digits_are, base_is, integer_texts_by}
 use Rattle.cbor_edn_parts.proofs.number.Number.is_integer.Goals as goal
 
 pub returns : goal.returns

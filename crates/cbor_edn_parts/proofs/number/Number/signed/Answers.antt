@@ -1,9 +1,9 @@
 use Rattle.std.proofs.Common.{ap, ◌∙◌}
-use Rattle.cbor_edn_parts.specs.code.NumberTokens.{is_number}
+use Rattle.cbor_edn_parts.specs.internal.NumberTokens.{is_number}
 use Rattle.std.specs.Fmt.{signed_decimal}
 use Rattle.std.proofs.Math.Facts.{to_z-of_z}
-use Rattle.cbor_edn_parts.proofs.Decimals.{decimal_number}
-use Rattle.cbor_edn_parts.proofs.WrittenNumbers.{signed_fits}
+use Rattle.cbor_edn_parts.proofs.lemmas.number.Decimals.{decimal_number}
+use Rattle.cbor_edn_parts.proofs.lemmas.number.WrittenNumbers.{signed_fits}
 use Rattle.cbor_edn_parts.proofs.number.Number.signed.Goals as goal
 
 pub invariant_of-result : goal.invariant_of-result

@@ -1,6 +1,6 @@
 use Rattle.std.proofs.Common.{refl}
 use Rattle.cbor_edn_parts.specs.Leaves.{number_bytes}
-use Rattle.cbor_edn_parts.proofs.WrittenNumbers.{not_so_wide, one_integer}
+use Rattle.cbor_edn_parts.proofs.lemmas.number.WrittenNumbers.{not_so_wide, one_integer}
 use Rattle.cbor_edn_parts.proofs.number.Number.to_i128.Goals as goal
 
 pub returns-in_err-integer-clause-none : goal.returns-in_err-integer-clause-none

@@ -1,6 +1,6 @@
 use Rattle.std.proofs.Common.{◌∙◌}
 use Rattle.std.proofs.lemmas.Bool.{false≢true}
-use Rattle.cbor_edn_parts.proofs.NumberTexts.{number_texts}
+use Rattle.cbor_edn_parts.proofs.lemmas.number.NumberTexts.{number_texts}
 use Rattle.cbor_edn_parts.proofs.number.Number.written.Goals as goal
 
 pub returns-then-not-is_number-clause-none : goal.returns-then-not-is_number-clause-none

@@ -1,6 +1,6 @@
 use Rattle.std.proofs.Common.{◌≡◌, drop}
-use Rattle.cbor_edn_parts.specs.code.Lex.{munch, is_all}
-use Rattle.cbor_edn_parts.specs.code.NumberTokens as tokens
+use Rattle.cbor_edn_parts.specs.internal.Lex.{munch, is_all}
+use Rattle.cbor_edn_parts.specs.internal.NumberTokens as tokens
 use Rattle.cbor_edn_parts.proofs.number.write.is_number.Given as goal
 
 abbrev pub invariant-loop-byte : goal.invariant-loop-byte

@@ -2,9 +2,9 @@ use Rattle.std.proofs.Common.{◌≡◌, true, sym, ap, ◌∙◌, subst}
 use Rattle.cbor_edn_parts.specs.LeafTexts.{leaf_bytes}
 use Rattle.cbor_edn_parts.specs.Leaves.{ms_bytes}
 use Rattle.cbor_edn_parts.specs.Spacing as table
-use Rattle.cbor_edn_parts.specs.code.SpaceTokens.{is_ms}
-use Rattle.cbor_edn_parts.proofs.Columns.{ms_column}
-use Rattle.cbor_edn_parts.proofs.Spacings.{spaced_stays}
+use Rattle.cbor_edn_parts.specs.internal.SpaceTokens.{is_ms}
+use Rattle.cbor_edn_parts.proofs.lemmas.layout.ColumnKinds.{ms_column}
+use Rattle.cbor_edn_parts.proofs.lemmas.layout.Spacings.{spaced_stays}
 use Rattle.cbor_edn_parts.proofs.space.Ms.spaced.Goals as goal
 use Rattle.cbor_edn_parts.proofs.space.Ms.spaced.Goals.{After-or_space-text}
 

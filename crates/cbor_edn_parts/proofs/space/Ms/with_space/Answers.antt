@@ -1,9 +1,9 @@
 use Rattle.std.proofs.Common.{◌≡◌, ◌++◌, true, sym, subst, rules}
 use Rattle.cbor_edn_parts.specs.LeafTexts.{leaf_bytes}
 use Rattle.cbor_edn_parts.specs.Leaves.{s_bytes, ms_bytes}
-use Rattle.cbor_edn_parts.specs.code.SpaceTokens.{is_s}
-use Rattle.cbor_edn_parts.proofs.Comments.{spaces_append}
-use Rattle.cbor_edn_parts.proofs.SpaceTexts.{s_texts, ms_texts}
+use Rattle.cbor_edn_parts.specs.internal.SpaceTokens.{is_s}
+use Rattle.cbor_edn_parts.proofs.lemmas.space.CommentTexts.{spaces_append}
+use Rattle.cbor_edn_parts.proofs.lemmas.space.SpaceTexts.{s_texts, ms_texts}
 use Rattle.cbor_edn_parts.proofs.space.Ms.with_space.Goals as goal
 
 pub invariant_of-result-2 : goal.invariant_of-result-2

@@ -1,8 +1,8 @@
 use Rattle.std.proofs.Common.{◌≡◌, true, sym, ap, ◌∙◌, subst}
 use Rattle.cbor_edn_parts.specs.Leaves.{msc_bytes}
 use Rattle.cbor_edn_parts.specs.Spacing as table
-use Rattle.cbor_edn_parts.specs.code.SpaceTokens.{is_msc}
-use Rattle.cbor_edn_parts.proofs.Spacings.{spaced_stays}
+use Rattle.cbor_edn_parts.specs.internal.SpaceTokens.{is_msc}
+use Rattle.cbor_edn_parts.proofs.lemmas.layout.Spacings.{spaced_stays}
 use Rattle.cbor_edn_parts.proofs.space.Msc.spaced.Goals as goal
 
 pub invariant_of-result : goal.invariant_of-result

@@ -1,14 +1,14 @@
 use Rattle.std.proofs.Common.{length, ap, ◌∙◌, ◌+◌, ◌-◌, ◌^◌}
 use Rattle.std.specs.Prelude.{min}
-use Rattle.cbor_edn_parts.specs.Comments.{comments_of, before_comma, after_comma}
 use Rattle.cbor_edn_parts.specs.Leaves.{msc_bytes}
-use Rattle.cbor_edn_parts.specs.code.Columns.{separator_length}
-use Rattle.cbor_edn_parts.proofs.ColumnLengths.{msc_length}
+use Rattle.cbor_edn_parts.specs.Spacing.{comments_before, comments_after}
+use Rattle.cbor_edn_parts.specs.internal.Columns.{separator_length}
+use Rattle.cbor_edn_parts.proofs.lemmas.layout.ColumnLengths.{msc_length}
 use Rattle.cbor_edn_parts.proofs.space.Msc.spaced_len.Goals as goal
 
 pub returns : goal.returns
 returns c =
-    let before = c.comments-before.ensures ∙ ap comments_of (c.cut_at_comma.ensures.before ∙ ap before_comma c.as_str.ensures) in
-    let after = c.comments-after.ensures ∙ ap comments_of (c.cut_at_comma.ensures.after ∙ ap after_comma c.as_str.ensures) in
+    let before = c.comments_round_comma.ensures.before ∙ ap comments_before c.as_str.ensures in
+    let after = c.comments_round_comma.ensures.after ∙ ap comments_after c.as_str.ensures in
     let both = c.saturating_add.ensures ∙ (λ i. min (length (before i) + length (after i)) (2 ^ 64 - 1)) in
     c.separator_len.ensures ∙ ap (λ n. min (separator_length c.args.spacing n) (2 ^ 64 - 1)) both ∙ msc_length c.args.spacing (msc_bytes c.args.self.now)

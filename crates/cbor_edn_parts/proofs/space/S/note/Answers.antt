@@ -1,11 +1,11 @@
 use Rattle.std.proofs.Common.{◌≡◌, true, false, sym, ap, ◌∙◌, subst}
 use Rattle.std.specs.Prelude.{string_bytes}
 use Rattle.cbor_edn_parts.specs.Notes.{has_slash, noted}
-use Rattle.cbor_edn_parts.specs.code.SpaceTokens.{is_s}
-use Rattle.cbor_edn_parts.proofs.Literals.{bytes_all}
-use Rattle.cbor_edn_parts.proofs.Notes.{notes_are_space}
-use Rattle.cbor_edn_parts.proofs.NoteTexts.{slash_found}
-use Rattle.cbor_edn_parts.proofs.SpaceTexts.{s_texts}
+use Rattle.cbor_edn_parts.specs.internal.SpaceTokens.{is_s}
+use Rattle.cbor_edn_parts.proofs.lemmas.literal.StringLiterals.{bytes_all}
+use Rattle.cbor_edn_parts.proofs.lemmas.space.NoteSpaces.{notes_are_space}
+use Rattle.cbor_edn_parts.proofs.lemmas.space.NoteTexts.{slash_found}
+use Rattle.cbor_edn_parts.proofs.lemmas.space.SpaceTexts.{s_texts}
 use Rattle.cbor_edn_parts.proofs.space.S.note.Goals as goal
 use Rattle.cbor_edn_parts.proofs.space.S.note.Goals.{Joined-contains, then-contains+in_ok-text, else-contains+in_ok-text-2}
 

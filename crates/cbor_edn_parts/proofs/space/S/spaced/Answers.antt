@@ -2,9 +2,9 @@ use Rattle.std.proofs.Common.{◌≡◌, true, sym, ◌∙◌, subst}
 use Rattle.cbor_edn_parts.specs.LeafTexts.{leaf_bytes}
 use Rattle.cbor_edn_parts.specs.Leaves.{s_bytes}
 use Rattle.cbor_edn_parts.specs.Spacing as table
-use Rattle.cbor_edn_parts.specs.code.SpaceTokens.{is_s}
-use Rattle.cbor_edn_parts.proofs.Columns.{s_column}
-use Rattle.cbor_edn_parts.proofs.Spacings.{spaced_stays}
+use Rattle.cbor_edn_parts.specs.internal.SpaceTokens.{is_s}
+use Rattle.cbor_edn_parts.proofs.lemmas.layout.ColumnKinds.{s_column}
+use Rattle.cbor_edn_parts.proofs.lemmas.layout.Spacings.{spaced_stays}
 use Rattle.cbor_edn_parts.proofs.space.S.spaced.Goals as goal
 
 bytes : (c : goal.In_ok-text) → leaf_bytes c.in_ok-text.text ≡ table.spaced table.S c.args.spacing (s_bytes c.args.self.now)

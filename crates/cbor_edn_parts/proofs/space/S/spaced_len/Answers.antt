@@ -1,9 +1,9 @@
 use Rattle.std.proofs.Common.{length, ap, ◌∙◌, ◌-◌, ◌^◌}
 use Rattle.std.specs.Prelude.{min}
-use Rattle.cbor_edn_parts.specs.Comments.{comments_of}
+use Rattle.cbor_edn_parts.specs.internal.CommentReading.{comments_of}
 use Rattle.cbor_edn_parts.specs.Leaves.{s_bytes}
-use Rattle.cbor_edn_parts.specs.code.Columns.{column_length}
-use Rattle.cbor_edn_parts.proofs.ColumnLengths.{s_length}
+use Rattle.cbor_edn_parts.specs.internal.Columns.{column_length}
+use Rattle.cbor_edn_parts.proofs.lemmas.layout.ColumnLengths.{s_length}
 use Rattle.cbor_edn_parts.proofs.space.S.spaced_len.Goals as goal
 
 pub returns : goal.returns

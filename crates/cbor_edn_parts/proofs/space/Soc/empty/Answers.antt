@@ -1,5 +1,5 @@
 use Rattle.std.proofs.Common.{refl}
-use Rattle.cbor_edn_parts.specs.code.Lex.{munch}
+use Rattle.cbor_edn_parts.specs.internal.Lex.{munch}
 use Rattle.cbor_edn_parts.proofs.space.Soc.empty.Goals as goal
 
 pub invariant_of-result : goal.invariant_of-result

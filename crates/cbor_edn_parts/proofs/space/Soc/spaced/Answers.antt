@@ -1,17 +1,17 @@
 use Rattle.std.proofs.Common.{◌≡◌, true, sym, ap, ◌∙◌, subst}
 use Rattle.cbor_edn_parts.specs.LeafTexts.{leaf_bytes}
-use Rattle.cbor_edn_parts.specs.Comments.{comments_of, before_comma, after_comma}
 use Rattle.cbor_edn_parts.specs.Leaves.{soc_bytes}
 use Rattle.cbor_edn_parts.specs.Spacing as table
-use Rattle.cbor_edn_parts.specs.code.SpaceTokens.{is_soc}
-use Rattle.cbor_edn_parts.proofs.Columns.{soc_column}
-use Rattle.cbor_edn_parts.proofs.Spacings.{spaced_stays}
+use Rattle.cbor_edn_parts.specs.Spacing.{comments_before, comments_after}
+use Rattle.cbor_edn_parts.specs.internal.SpaceTokens.{is_soc}
+use Rattle.cbor_edn_parts.proofs.lemmas.layout.ColumnKinds.{soc_column}
+use Rattle.cbor_edn_parts.proofs.lemmas.layout.Spacings.{spaced_stays}
 use Rattle.cbor_edn_parts.proofs.space.Soc.spaced.Goals as goal
 
 bytes : (c : goal.In_ok-text) → leaf_bytes c.in_ok-text.text ≡ table.spaced table.SOC c.args.spacing (soc_bytes c.args.self.now)
 bytes c =
-    let before = c.comments.ensures ∙ ap comments_of (c.cut_at_comma.ensures.before ∙ ap before_comma c.as_str.ensures) in
-    let after = c.comments-2.ensures ∙ ap comments_of (c.cut_at_comma.ensures.after ∙ ap after_comma c.as_str.ensures) in
+    let before = c.comments_round_comma.ensures.before ∙ ap comments_before c.as_str.ensures in
+    let after = c.comments_round_comma.ensures.after ∙ ap comments_after c.as_str.ensures in
     c.in_ok-text.ensures.bytes ∙ rw (before, after) (soc_column c.args.spacing (soc_bytes c.args.self.now))
 
 pub invariant_of-result : goal.invariant_of-result

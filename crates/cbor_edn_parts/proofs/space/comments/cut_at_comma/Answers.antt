@@ -1,8 +1,8 @@
 use Rattle.std.proofs.Common.{◌≡◌, ◌<◌, ◌≤◌, ◌++◌, length, get_or, take, true, false, sym, ap, ◌∙◌}
 use Rattle.std.proofs.Math.Nat.{sub-zero}
 use Rattle.std.proofs.lemmas.List.{drop_all, take_all, append-nil}
-use Rattle.cbor_edn_parts.specs.Comments.{is_comma, past, up_to_comma, past_comma}
-use Rattle.cbor_edn_parts.proofs.CommentScans.{front_on, front_found, behind_on, behind_found, after_comma_here}
+use Rattle.cbor_edn_parts.specs.internal.CommentReading.{is_comma, past, up_to_comma, past_comma}
+use Rattle.cbor_edn_parts.proofs.lemmas.space.CommentScans.{front_on, front_found, behind_on, behind_found, after_comma_here}
 use Rattle.cbor_edn_parts.proofs.space.comments.cut_at_comma.Goals as goal
 
 pub range_from-requires : goal.range_from-requires

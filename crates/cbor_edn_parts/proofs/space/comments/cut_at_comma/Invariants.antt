@@ -1,5 +1,5 @@
 use Rattle.std.proofs.Common.{◌≡◌, ◌++◌, take, drop}
-use Rattle.cbor_edn_parts.specs.Comments.{before_comma, after_comma, up_to_comma, past_comma}
+use Rattle.cbor_edn_parts.specs.internal.CommentReading.{before_comma, after_comma, up_to_comma, past_comma}
 use Rattle.cbor_edn_parts.proofs.space.comments.cut_at_comma.Given as goal
 
 abbrev pub invariant-bytes : goal.invariant-bytes

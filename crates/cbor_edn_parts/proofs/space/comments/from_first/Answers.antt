@@ -1,8 +1,8 @@
 use Rattle.std.proofs.Common.{◌≡◌, ◌<◌, length, get_or, true, false, refl, sym, ap, ◌∙◌}
 use Rattle.std.proofs.lemmas.List.{drop_all}
 use Rattle.std.proofs.lemmas.Str.{IsCharBoundary-start}
-use Rattle.cbor_edn_parts.specs.Comments.{is_blank, from_first}
-use Rattle.cbor_edn_parts.proofs.CommentScans.{first_blank, first_other, after_blank}
+use Rattle.cbor_edn_parts.specs.internal.CommentReading.{is_blank, from_first}
+use Rattle.cbor_edn_parts.proofs.lemmas.space.CommentScans.{first_blank, first_other, after_blank}
 use Rattle.cbor_edn_parts.proofs.space.comments.from_first.Goals as goal
 
 pub bytes-init : goal.bytes-init

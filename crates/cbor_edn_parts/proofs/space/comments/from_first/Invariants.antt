@@ -1,6 +1,6 @@
 use Rattle.std.proofs.Common.{◌≡◌, drop}
 use Rattle.std.specs.Str.{IsCharBoundary}
-use Rattle.cbor_edn_parts.specs.Comments as definition
+use Rattle.cbor_edn_parts.specs.internal.CommentReading as definition
 use Rattle.cbor_edn_parts.proofs.space.comments.from_first.Given as goal
 
 abbrev pub invariant-bytes : goal.invariant-bytes

@@ -5,8 +5,8 @@ use Rattle.std.proofs.Math.Nat.{sub-zero}
 use Rattle.std.proofs.lemmas.List.{drop_all}
 use Rattle.std.proofs.lemmas.Str.{IsCharBoundary-end}
 use mathlib.Core.Logic.{⊎_elim}
-use Rattle.cbor_edn_parts.specs.Comments.{is_between, is_blank, past, to_last}
-use Rattle.cbor_edn_parts.proofs.CommentScans.{kept_with, kept_start, kept_end, blank_here, other_here, before_blank}
+use Rattle.cbor_edn_parts.specs.internal.CommentReading.{is_between, is_blank, past, to_last}
+use Rattle.cbor_edn_parts.proofs.lemmas.space.CommentScans.{kept_with, kept_start, kept_end, blank_here, other_here, before_blank}
 use Rattle.cbor_edn_parts.proofs.space.comments.to_last.Goals as goal
 use Rattle.cbor_edn_parts.proofs.space.comments.to_last.Goals.{then-not-is_blank, else-not-is_blank}
 

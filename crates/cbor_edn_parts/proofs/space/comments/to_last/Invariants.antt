@@ -1,8 +1,8 @@
 use Rattle.std.proofs.Common.{◌≡◌, ◌≤◌, ◌⊎◌, take, drop}
 use Rattle.std.specs.Str.{IsCharBoundary}
-use Rattle.cbor_edn_parts.specs.Comments as definition
-use Rattle.cbor_edn_parts.specs.declared.space.Within.TheVariants.{Between}
-use Rattle.cbor_edn_parts.proofs.CommentScans.{kept_with}
+use Rattle.cbor_edn_parts.specs.internal.CommentReading as definition
+use Rattle.cbor_edn_parts.specs.declared.space.SpaceState.TheVariants.{Between}
+use Rattle.cbor_edn_parts.proofs.lemmas.space.CommentScans.{kept_with}
 use Rattle.cbor_edn_parts.proofs.space.comments.to_last.Given as goal
 
 abbrev pub invariant-bytes : goal.invariant-bytes

@@ -6,7 +6,7 @@ use Rattle.std.proofs.lemmas.Iterator.{YieldsList-from_chars}
 use Rattle.std.proofs.lemmas.Iterator.Consumers.{YieldsList-end}
 use Rattle.std.proofs.lemmas.Str.{encodes-chars, encode_ascii}
 use Rattle.cbor_edn_parts.specs.Notes.{cleaned, hash_lines}
-use Rattle.cbor_edn_parts.proofs.NoteTexts.{lines_more}
+use Rattle.cbor_edn_parts.proofs.lemmas.space.NoteTexts.{lines_more}
 use Rattle.cbor_edn_parts.proofs.space.note.behind_hashes.Goals as goal
 
 pub loop-character-init : goal.loop-character-init
@@ -15,7 +15,7 @@ loop-character-init c = c.in_ok-text.ensures.ok
 
 pub loop-character-preserved : goal.loop-character-preserved
 loop-character-preserved c =
-    c.in_ok-push_behind_hash.ensures
+    c.in_ok-print_behind_hash.ensures
     ∙ ap (λ xs. xs ++ hash_lines (map cleaned (encode_utf8 c.in-Some.character))) c.loop-character.invariant
     ∙ ap (λ xs. 35 ∷ 32 ∷ xs) (sym (lines_more c.loop-character.yielded c.in-Some.character))
 

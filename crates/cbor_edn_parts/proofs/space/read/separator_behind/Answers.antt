@@ -1,11 +1,11 @@
 use Rattle.std.proofs.Common.{ℕ, ◌≡◌, List, [], Option, Some, None, drop, ◌∙◌, sym, ap, subst, arith, rules}
-use Rattle.cbor_edn_parts.specs.code.Ends.{IsSpaced}
-use Rattle.cbor_edn_parts.specs.code.Lex.{token}
-use Rattle.cbor_edn_parts.specs.code.Scans.{IsAt}
-use Rattle.cbor_edn_parts.specs.code.SpaceTokens as tokens
-use Rattle.cbor_edn_parts.specs.code.Text.{text_bytes}
-use Rattle.cbor_edn_parts.proofs.SeparatorTokens.{Read, end, other, comma, separator_read, separator_refused}
-use Rattle.cbor_edn_parts.proofs.Tokens.{taken}
+use Rattle.cbor_edn_parts.specs.internal.Ends.{IsSpaced}
+use Rattle.cbor_edn_parts.specs.internal.Lex.{token}
+use Rattle.cbor_edn_parts.specs.internal.Scans.{IsAt}
+use Rattle.cbor_edn_parts.specs.internal.SpaceTokens as tokens
+use Rattle.cbor_edn_parts.specs.internal.Text.{text_bytes}
+use Rattle.cbor_edn_parts.proofs.lemmas.space.SeparatorTokens.{Read, end, other, comma, separator_read, separator_refused}
+use Rattle.cbor_edn_parts.proofs.lemmas.scan.Tokens.{taken}
 use Rattle.cbor_edn_parts.proofs.space.read.separator_behind.Goals as goal
 use Rattle.cbor_edn_parts.proofs.space.read.separator_behind.Goals.{After-slice, in-Some-eq44+in_ok-space-in-Some-eq44, in_default-byte, in_default-byte-2}
 
@@ -15,7 +15,7 @@ none_here text at r h e = rw e at h
 spaced : (text : List ℕ) (item at : ℕ) (space : Option ℕ) → IsSpaced text item space → space ≡ Some at → IsSpaced text item (Some at)
 spaced text item at space h e = subst (IsSpaced text item) e h
 
-read : (c : After-slice) → token tokens.separator (drop c.args.end.item (text_bytes c.args.text.now)) ≡ Some (c.slice.result.now, drop c.match-byte.to (text_bytes c.args.text.now))
+read : (c : After-slice) → token tokens.separator (drop c.args.end.at (text_bytes c.args.text.now)) ≡ Some (c.slice.result.now, drop c.match-byte.to (text_bytes c.args.text.now))
 read c =
     let there : Read (text_bytes c.args.text.now) c.in-Some.at c.match-byte.to =
     elim c.match-byte.branch [
@@ -32,7 +32,7 @@ invariant_of-result c = record { spelled = taken tokens.separator _ _ _ (read (g
 
 pub returns-in_err-space-in-Some-eq44-clause-value : goal.returns-in_err-space-in-Some-eq44-clause-value
 returns-in_err-space-in-Some-eq44-clause-value c =
-    let none : token tokens.separator (drop c.args.end.item (text_bytes c.args.text.now)) ≡ None =
+    let none : token tokens.separator (drop c.args.end.at (text_bytes c.args.text.now)) ≡ None =
     separator_refused _ _ _ _ _ (spaced _ _ _ _ c.requires.1 c.in-Some.is) c.in-Some-eq44.ensures.value.0 c.in-Some-eq44.field-0-test c.in_err-space-in-Some-eq44.ensures.value.0 in
     search (rules, none)
 

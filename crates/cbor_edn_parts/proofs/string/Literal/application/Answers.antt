@@ -9,9 +9,9 @@ use Rattle.std.proofs.lemmas.Bool.{false≢true}
 use Rattle.cbor_edn_parts.specs.LeafTexts.{leaf_bytes}
 use Rattle.cbor_edn_parts.specs.Literal.{IsPrefix}
 use Rattle.cbor_edn_parts.specs.Written.{application_literal, all_single_escaped}
-use Rattle.cbor_edn_parts.proofs.Literals.{bytes_all}
-use Rattle.cbor_edn_parts.proofs.PrefixTests.{prefix_test}
-use Rattle.cbor_edn_parts.proofs.WrittenLiterals.{all_single_escaped-append, application_is_literal}
+use Rattle.cbor_edn_parts.proofs.lemmas.literal.StringLiterals.{bytes_all}
+use Rattle.cbor_edn_parts.proofs.lemmas.literal.PrefixTests.{prefix_test}
+use Rattle.cbor_edn_parts.proofs.lemmas.literal.WrittenLiterals.{all_single_escaped-append, application_is_literal}
 use Rattle.cbor_edn_parts.proofs.string.Literal.application.Goals as goal
 
 encoded : (cs : List ℕ) (c : ℕ) → encode_utf8_all (cs ++ (c ∷ [])) ≡ encode_utf8_all cs ++ encode_utf8 c
@@ -19,7 +19,7 @@ encoded cs c = encodes-append cs (c ∷ []) ∙ ap (λ xs. encode_utf8_all cs ++
 
 pub loop-character-preserved : goal.loop-character-preserved
 loop-character-preserved c =
-    c.in_ok-push_single_escaped.ensures ∙ ap (λ xs. xs ++ all_single_escaped (encode_utf8 c.in-Some.character)) c.loop-character.invariant
+    c.in_ok-print_single_escaped.ensures ∙ ap (λ xs. xs ++ all_single_escaped (encode_utf8 c.in-Some.character)) c.loop-character.invariant
     ∙ append_assoc c.args.prefix.now (39 ∷ all_single_escaped (encode_utf8_all c.loop-character.yielded)) (all_single_escaped (encode_utf8 c.in-Some.character))
     ∙ ap (λ xs. c.args.prefix.now ++ (39 ∷ xs)) (sym (all_single_escaped-append (encode_utf8_all c.loop-character.yielded) (encode_utf8 c.in-Some.character)) ∙ ap all_single_escaped (sym (encoded c.loop-character.yielded c.in-Some.character)))
 

@@ -4,11 +4,11 @@ use Rattle.std.proofs.lemmas.Bool.Decides.{nat_tests}
 use Rattle.std.proofs.lemmas.List.{nil_from_length}
 use Rattle.cbor_edn_parts.specs.Leaves.{literal_bytes}
 use Rattle.cbor_edn_parts.specs.Literal.{IsLiteral, Prefixed}
-use Rattle.cbor_edn_parts.specs.code.ContentReading.{behind_quote}
-use Rattle.cbor_edn_parts.specs.code.LiteralTokens.{prefix_of, decoded}
-use Rattle.cbor_edn_parts.specs.declared.string.Part.TheVariants.{Between}
+use Rattle.cbor_edn_parts.specs.internal.ContentReading.{behind_quote}
+use Rattle.cbor_edn_parts.specs.internal.LiteralTokens.{prefix_of, decoded}
+use Rattle.cbor_edn_parts.specs.declared.string.QuotedState.TheVariants.{Between}
 use Rattle.cbor_edn_parts.specs.declared.string.Quote.TheVariants.{Single}
-use Rattle.cbor_edn_parts.proofs.Applications.{prefixed_read, unprefixed_read, text_utf8}
+use Rattle.cbor_edn_parts.proofs.lemmas.literal.Applications.{prefixed_read, unprefixed_read, text_utf8}
 use Rattle.cbor_edn_parts.proofs.string.Literal.application_parts.Goals as goal
 
 none : (p : List ℕ) → true ≡ eqb (length p) 0 → p ≡ []

@@ -1,8 +1,8 @@
 use Rattle.std.proofs.Common.{sym, ap, ◌∙◌}
-use Rattle.cbor_edn_parts.specs.code.ContentReading.{hex_bytes}
-use Rattle.cbor_edn_parts.specs.code.SpaceTokens.{space_step}
-use Rattle.cbor_edn_parts.proofs.Decoding.{after_none, going, pushed, refused, ended, unended}
-use Rattle.cbor_edn_parts.proofs.Hexadecimals.{digit_small, hex_first, hex_second, hex_on, hex_refused, hex_all, hex_in_comment, hex_waiting}
+use Rattle.cbor_edn_parts.specs.internal.ContentReading.{hex_bytes}
+use Rattle.cbor_edn_parts.specs.internal.SpaceTokens.{space_step}
+use Rattle.cbor_edn_parts.proofs.lemmas.literal.ByteLoops.{after_none, going, pushed, refused, ended, unended}
+use Rattle.cbor_edn_parts.proofs.lemmas.literal.Hexadecimals.{digit_small, hex_first, hex_second, hex_on, hex_refused, hex_all, hex_in_comment, hex_waiting}
 use Rattle.cbor_edn_parts.proofs.string.hexadecimal.decode.Goals as goal
 use Rattle.cbor_edn_parts.proofs.string.hexadecimal.decode.Goals.{in-Some-None, in-Some-Some+in_ok-push-in-Some-Some, in-None-default+in-Some}
 
@@ -12,10 +12,10 @@ loop-byte-init c = record { digit = tt; reads = rw c.new-bytes.ensures.items (af
 pub returns-in-None-clause-none : goal.returns-in-None-clause-none
 returns-in-None-clause-none c =
     refused (hex_bytes c.loop-byte.within c.loop-byte.waiting) _ _ _ _ c.loop-byte.invariant.reads c.loop-byte-test.true
-    (hex_refused _ _ c.loop-byte.within _ (sym c.in-None-default.is-0 ∙ c.digit_at.ensures) (c.in-None.ensures ∙ ap (λ k. space_step k c.loop-byte.within) c.of.ensures))
+    (hex_refused _ _ c.loop-byte.within _ (sym c.in-None-default.is-0 ∙ c.hex_digit_at.ensures) (c.in-None.ensures ∙ ap (λ k. space_step k c.loop-byte.within) c.of.ensures))
 
 pub loop-byte-preserved : goal.loop-byte-preserved
-loop-byte-preserved c = elim c.match-digit_at.branch [
+loop-byte-preserved c = elim c.match-hex_digit_at.branch [
   | in-Some-None w ↦ let some = w.in-Some-None.ensures in rw (w.bytes-is, w.within-is, w.waiting-is) (record {
     digit = digit_small c.loop-byte.within _ _ some;
     reads = going (hex_bytes c.loop-byte.within c.loop-byte.waiting) _ _ _ _ c.loop-byte.invariant.reads c.loop-byte-test.true _ (rw w.in-Some-None.is-1 (hex_first _ _ c.loop-byte.within _ some));
@@ -27,7 +27,7 @@ loop-byte-preserved c = elim c.match-digit_at.branch [
   | in-None-default+in-Some w ↦ rw (w.bytes-is, w.within-is, w.waiting-is) (record {
     digit = c.loop-byte.invariant.digit;
     reads = going (hex_bytes c.loop-byte.within c.loop-byte.waiting) _ _ _ _ c.loop-byte.invariant.reads c.loop-byte-test.true _
-        (hex_on _ _ c.loop-byte.within _ _ (sym w.in-None-default.is-0 ∙ c.digit_at.ensures) (w.in-Some.ensures ∙ ap (λ k. space_step k c.loop-byte.within) w.of.ensures));
+        (hex_on _ _ c.loop-byte.within _ _ (sym w.in-None-default.is-0 ∙ c.hex_digit_at.ensures) (w.in-Some.ensures ∙ ap (λ k. space_step k c.loop-byte.within) w.of.ensures));
   })
 ]
 

@@ -1,8 +1,8 @@
 use Rattle.std.proofs.Common.{◌≡◌, ◌<◌, drop, None}
 use Rattle.std.specs.Prelude.{IfSome}
-use Rattle.cbor_edn_parts.specs.code.ContentReading.{hex_bytes}
-use Rattle.cbor_edn_parts.specs.declared.space.Within.TheVariants.{Between}
-use Rattle.cbor_edn_parts.proofs.Decoding.{after}
+use Rattle.cbor_edn_parts.specs.internal.ContentReading.{hex_bytes}
+use Rattle.cbor_edn_parts.specs.declared.space.SpaceState.TheVariants.{Between}
+use Rattle.cbor_edn_parts.proofs.lemmas.literal.ByteLoops.{after}
 use Rattle.cbor_edn_parts.proofs.string.hexadecimal.decode.Given as goal
 
 abbrev pub invariant-loop-byte : goal.invariant-loop-byte

@@ -3,7 +3,7 @@ use Rattle.std.specs.Prelude.{IfSome}
 use Rattle.std.specs.Str.{IsCharBoundary}
 use Rattle.std.proofs.lemmas.List.{get_or-drop}
 use Rattle.std.proofs.lemmas.Str.{IsCharBoundary-after_ascii}
-use Rattle.cbor_edn_parts.specs.code.Scans.{IsAt}
+use Rattle.cbor_edn_parts.specs.internal.Scans.{IsAt}
 use Rattle.cbor_edn_parts.proofs.text.Text.byte.Goals as goal
 
 behind : (text : List ℕ) (at : ℕ) (r : Option ℕ) → IsUtf8 text → IsAt text at r → IfSome r (λ c. c < 128 → IsCharBoundary text (at + 1))

@@ -1,6 +1,6 @@
 use Rattle.std.proofs.Common.{◌≡◌}
-use Rattle.cbor_edn_model.specs.Trees.{items}
-use Rattle.cbor_edn_core.specs.View.{standalone_tree}
+use Rattle.cbor_edn_model.specs.tree.Trees.{items}
+use Rattle.cbor_edn_core.specs.tree.View.{standalone_tree}
 use Rattle.cbor_edn.proofs.laws.recode.item.laid_out_text.Given as goal
 
 -- policies change spaces alone

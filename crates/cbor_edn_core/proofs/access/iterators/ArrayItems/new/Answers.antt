@@ -1,4 +1,4 @@
-use Rattle.cbor_edn_core.proofs.code.Iterated.{elements_are}
+use Rattle.cbor_edn_core.proofs.lemmas.access.IteratedEntries.{elements_are}
 use Rattle.cbor_edn_core.proofs.access.iterators.ArrayItems.new.Goals as goal
 
 pub returns : goal.returns

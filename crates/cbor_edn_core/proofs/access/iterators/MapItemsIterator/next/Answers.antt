@@ -1,7 +1,7 @@
 use Rattle.std.proofs.Common.{ap, sym, ◌∙◌}
 use Rattle.std.specs.Slice.Iter.{iter_rest}
-use Rattle.cbor_edn_core.specs.Iterated.{row_left}
-use Rattle.cbor_edn_core.proofs.code.Iterated.{no_more, last_pair}
+use Rattle.cbor_edn_core.specs.access.Iterated.{row_left}
+use Rattle.cbor_edn_core.proofs.lemmas.access.IteratedEntries.{no_more, last_pair}
 use Rattle.cbor_edn_core.proofs.access.iterators.MapItemsIterator.next.Goals as goal
 use Rattle.cbor_edn_core.proofs.access.iterators.MapItemsIterator.next.Goals.{in-Some+in_default-next, in_default}
 

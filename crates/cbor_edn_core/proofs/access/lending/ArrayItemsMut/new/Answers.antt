@@ -1,4 +1,4 @@
-use Rattle.cbor_edn_core.proofs.code.Iterated.{elements_are}
+use Rattle.cbor_edn_core.proofs.lemmas.access.IteratedEntries.{elements_are}
 use Rattle.cbor_edn_core.proofs.access.lending.ArrayItemsMut.new.Goals as goal
 
 pub returns : goal.returns

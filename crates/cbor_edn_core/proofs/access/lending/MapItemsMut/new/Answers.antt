@@ -1,4 +1,4 @@
-use Rattle.cbor_edn_core.proofs.code.Iterated.{pairs_are}
+use Rattle.cbor_edn_core.proofs.lemmas.access.IteratedEntries.{pairs_are}
 use Rattle.cbor_edn_core.proofs.access.lending.MapItemsMut.new.Goals as goal
 
 pub returns : goal.returns

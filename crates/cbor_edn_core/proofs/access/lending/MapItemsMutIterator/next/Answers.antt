@@ -1,7 +1,7 @@
 use Rattle.std.proofs.Common.{ap, sym, ◌∙◌}
 use Rattle.std.specs.Slice.Iter.{iter_mut_rest}
-use Rattle.cbor_edn_core.specs.IteratedMut.{row_to_lend}
-use Rattle.cbor_edn_core.proofs.code.Iterated.{no_more, last_lent}
+use Rattle.cbor_edn_core.specs.access.IteratedMut.{row_to_lend}
+use Rattle.cbor_edn_core.proofs.lemmas.access.IteratedEntries.{no_more, last_lent}
 use Rattle.cbor_edn_core.proofs.access.lending.MapItemsMutIterator.next.Goals as goal
 use Rattle.cbor_edn_core.proofs.access.lending.MapItemsMutIterator.next.Goals.{in-Some+in_default-next, in_default}
 

@@ -1,9 +1,9 @@
 use Rattle.std.proofs.Common.{sym, ap, ◌∙◌}
-use Rattle.cbor_edn_model.specs.Leaves.{texts}
-use Rattle.cbor_edn_model.specs.Paths.{items_in}
-use Rattle.cbor_edn_model.proofs.code.Counted.{element_items}
-use Rattle.cbor_edn_core.specs.View.{view_items, view_some}
-use Rattle.cbor_edn_core.proofs.code.Views.{view_sequence_is}
+use Rattle.cbor_edn_model.specs.tree.TreeLeaves.{texts}
+use Rattle.cbor_edn_model.specs.access.Paths.{items_in}
+use Rattle.cbor_edn_model.proofs.lemmas.access.CountedItems.{element_items}
+use Rattle.cbor_edn_core.specs.tree.View.{view_items, view_some}
+use Rattle.cbor_edn_core.proofs.lemmas.tree.Views.{view_sequence_is}
 use Rattle.cbor_edn_core.proofs.access.lending.SequenceItemsMut.new.Goals as goal
 
 pub returns-in-Some : goal.returns-in-Some

@@ -2,9 +2,9 @@ use Rattle.std.proofs.Common.{◌≡◌, ◌++◌, true, sym, ap, ◌∙◌, sub
 use Rattle.cbor_edn_parts.specs.Leaves.{msc_bytes}
 use Rattle.cbor_edn_parts.specs.Notes.{noted}
 use Rattle.cbor_edn_parts.specs.Spacing.{MSC}
-use Rattle.cbor_edn_parts.specs.code.SpaceTokens.{is_msc}
-use Rattle.cbor_edn_parts.proofs.Literals.{bytes_all}
-use Rattle.cbor_edn_parts.proofs.Notes.{notes_in_front}
+use Rattle.cbor_edn_parts.specs.internal.SpaceTokens.{is_msc}
+use Rattle.cbor_edn_parts.proofs.lemmas.literal.StringLiterals.{bytes_all}
+use Rattle.cbor_edn_parts.proofs.lemmas.space.NoteSpaces.{notes_in_front}
 use Rattle.cbor_edn_parts.proofs.space.note.MscTakesComment.put_comment.Goals as goal
 
 pub invariant_of-self : goal.invariant_of-self

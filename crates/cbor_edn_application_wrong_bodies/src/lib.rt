@@ -1,0 +1,116 @@
+//! Public calls of literals and annotations, under their own clauses. Bodies that these clauses refuse stand in
+//! `must-fail/`: a check here is that of a small crate, and what a clause refuses here it refuses where the call is written.
+#![tactic(auto)]
+
+ghost use Rattle.std.specs.Prelude.{◌≡◌, Ok, Err, IfOk, OnOk, option_map};
+ghost use Rattle.std.specs.String.{string_bytes};
+ghost use Rattle.cbor_edn_parts.specs.Refusals.{IfTold};
+ghost use Rattle.cbor_edn_model.specs.visit.Seeking.{number, prefix_and_text};
+ghost use Rattle.cbor_edn_core.specs.visit.Callbacks.{answer_of, handler_of, key_answer};
+ghost use Rattle.cbor_edn_core.specs.visit.Sought.{sought_answer};
+ghost use Rattle.cbor_edn_core.specs.tree.View.{item_tree, sequence_tree};
+ghost use Rattle.cbor_edn_conversions.specs.Addresses.{address_literal, resolve_address};
+ghost use Rattle.cbor_edn_conversions.specs.All.{pretty_all};
+ghost use Rattle.cbor_edn_conversions.specs.Annotations.{comment_lang};
+ghost use Rattle.cbor_edn_conversions.specs.Bignums.{pretty_bignum};
+ghost use Rattle.cbor_edn_conversions.specs.Claims.{claim_key};
+ghost use Rattle.cbor_edn_conversions.specs.Times.{pretty_time};
+ghost use Rattle.cbor_edn_application.specs.Acts.{ActsBy};
+ghost use Rattle.cbor_edn_application.specs.Handlers.{at_claim, KeyAnswers, ValueAnswers};
+ghost use Rattle.cbor_edn_application.specs.Sequences.{with_claims_sets};
+
+use cbor_edn_application::{CcsHandler, IpVersion};
+use cbor_edn_core::tree::{Item, Sequence};
+use cbor_edn_core::visit::MapValueHandler;
+use cbor_edn_parts::error::{CallbackError, Fault};
+use std::alloc::{AllocError, Global};
+
+/// `ip_aol_to_item`.
+pub fn ip_aol_to_item<'a>(
+    alloc: Global,
+    prefix: String,
+    text: String,
+    item: &mut Item<'a>,
+) -> Result<(), CallbackError>
+    ensures { ActsBy resolve_address (prefix_and_text (string_bytes prefix) (string_bytes text)) (item_tree item.old) (sought_answer result) (item_tree item.new) }
+{
+    cbor_edn_application::ip_aol_to_item(alloc, prefix, text, item)
+}
+
+/// `ip_item_to_aol`.
+pub fn ip_item_to_aol<'a>(
+    alloc: Global,
+    item: &Item<'a>,
+    version: IpVersion,
+    wrap: bool,
+) -> Result<Item<'a>, Fault<&'static str>>
+    ensures converted { IfOk result (λ t. address_literal (item_tree item.now) version wrap ≡ Ok (item_tree t)) }
+    ensures refused { IfTold result (λ e. address_literal (item_tree item.now) version wrap ≡ Err e.now) }
+{
+    cbor_edn_application::ip_item_to_aol(alloc, item, version, wrap)
+}
+
+/// `dt_tag_to_aol`.
+pub fn dt_tag_to_aol(alloc: Global, tag: u64, item: &mut Item<'_>) -> Result<(), CallbackError>
+    ensures { ActsBy pretty_time (number tag) (item_tree item.old) (sought_answer result) (item_tree item.new) }
+{
+    cbor_edn_application::dt_tag_to_aol(alloc, tag, item)
+}
+
+/// `tag23_to_edn_integer`.
+pub fn tag23_to_edn_integer<'a>(
+    alloc: Global,
+    tag: u64,
+    item: &mut Item<'a>,
+) -> Result<(), CallbackError>
+    ensures { ActsBy pretty_bignum (number tag) (item_tree item.old) (sought_answer result) (item_tree item.new) }
+{
+    cbor_edn_application::tag23_to_edn_integer(alloc, tag, item)
+}
+
+/// `all_tag_prettify`.
+pub fn all_tag_prettify<'a>(
+    alloc: Global,
+    tag: u64,
+    item: &mut Item<'a>,
+) -> Result<(), CallbackError>
+    ensures { ActsBy pretty_all (number tag) (item_tree item.old) (sought_answer result) (item_tree item.new) }
+{
+    cbor_edn_application::all_tag_prettify(alloc, tag, item)
+}
+
+/// `comment_lang_tag`.
+pub fn comment_lang_tag(alloc: Global, tag: u64, item: &mut Item<'_>) -> Result<(), CallbackError>
+    ensures { ActsBy comment_lang (number tag) (item_tree item.old) (sought_answer result) (item_tree item.new) }
+{
+    cbor_edn_application::comment_lang_tag(alloc, tag, item)
+}
+
+/// `comment_ccs`.
+pub fn comment_ccs<'a>(
+    alloc: Global,
+    key: &mut Item<'a>,
+) -> Result<(Option<String>, Option<CcsHandler>), CallbackError>
+    ensures same { item_tree key.new ≡ item_tree key.old }
+    ensures answer { KeyAnswers (claim_key (item_tree key.old)) (key_answer result) (option_map at_claim (handler_of result)) }
+{
+    cbor_edn_application::comment_ccs(alloc, key)
+}
+
+/// `CcsHandler::handle`.
+pub fn handle<'a>(
+    alloc: Global,
+    handler: CcsHandler,
+    value: &mut Item<'a>,
+) -> Result<Option<String>, CallbackError>
+    ensures { ValueAnswers (at_claim handler) (item_tree value.old) (answer_of result) (item_tree value.new) }
+{
+    handler.handle(alloc, value)
+}
+
+/// `annotate_claims_sets`.
+pub fn annotate_claims_sets(alloc: Global, sequence: &mut Sequence<'_>) -> Result<(), AllocError>
+    ensures { OnOk result (sequence_tree sequence.new ≡ with_claims_sets (sequence_tree sequence.old)) }
+{
+    cbor_edn_application::visits::annotate_claims_sets(alloc, sequence)
+}

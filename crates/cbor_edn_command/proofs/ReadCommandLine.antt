@@ -1,0 +1,108 @@
+-- From what the calls of `clap` answer to what is read off a command line.
+use Rattle.std.proofs.Common.{◌≡◌, ℕ, Bool, true, false, List, [], ◌∷◌, ◌++◌, Option, Some, None, refl, sym, subst, ap, ap₂, ◌∙◌, append_assoc}
+use Rattle.std.specs.Prelude.{◌||◌, ◌==◌, cond, drop, not, slice_index, Box, codes, unwrap_or, option_map}
+use Rattle.std.specs.Box.{box_value}
+use Rattle.std.specs.Option.{option_map_or}
+use Rattle.std.specs.Str.{bytes_eq}
+use Rattle.std.specs.Str.Parse.{IsNumeral, digits_value, without_leading_plus}
+use Rattle.clap.specs.Matches.{first_value, one_text}
+use Rattle.clap.specs.declared.parser.matches.Found.{Found}
+use Rattle.clap.specs.Words.{AddsArg, AddsSubcommand, App, Row, Rule, Text, app_of, first_of, is_simple, new_app, rows_of, subcommand_rows, with_rule, with_subcommand}
+use Rattle.clap.specs.declared.builder.arg.Arg.{Arg}
+use Rattle.clap.specs.declared.builder.command.Command.{Command}
+use Rattle.clap.specs.declared.builder.command.Command.TheViews.{out-Command}
+use Rattle.clap.specs.declared.builder.value_parser.ValueParser.{ValueParser}
+use Rattle.clap.specs.declared.parser.matches.SubCommand.{SubCommand}
+use Rattle.clap.specs.declared.parser.matches.ArgMatches.TheViews.{out-SubCommand}
+use Rattle.clap.proofs.OnLiterals.{clap_on_literals}
+use Rattle.clap.proofs.WalkLemmas.{first_value-rows, one_text-rows}
+use Rattle.cbor_edn_parts.specs.declared.nesting.TheConstants.{NESTING_LIMIT}
+use Rattle.cbor_edn_command.specs.CommandLine as line
+use Rattle.cbor_edn_command.specs.CommandLineSteps.{GrowsBy, IsArgOf, IsCommandOf, IsProgram}
+
+-- ---- entries
+
+pub file_named : (f : Found) (id name : Text) → Some name ≡ first_value f id → name ≡ line.file_of id (rows_of f)
+file_named f id name is = ap (λ o. unwrap_or o (codes "-")) (is ∙ first_value-rows f id)
+
+pub file_left_out : (f : Found) (id : Text) → None ≡ first_value f id → codes "-" ≡ line.file_of id (rows_of f)
+file_left_out f id is = ap (λ o. unwrap_or o (codes "-")) (is ∙ first_value-rows f id)
+
+abbrev names : Text → Option Text → Bool
+names value o = option_map_or (λ t. bytes_eq t value) o false
+
+pub value_given : (f : Found) (id value name : Text) (b : Bool) → b ≡ bytes_eq name value → Some name ≡ first_value f id → b ≡ line.is_value id value (rows_of f)
+value_given f id value name b same is = same ∙ ap (names value) (is ∙ first_value-rows f id)
+
+pub value_left_out : (f : Found) (id value : Text) → None ≡ first_value f id → false ≡ line.is_value id value (rows_of f)
+value_left_out f id value is = ap (names value) (is ∙ first_value-rows f id)
+
+pub limit_left_out : (f : Found) → None ≡ first_value f (codes "max-nesting") → line.IsLimit (first_of (codes "max-nesting") (rows_of f)) NESTING_LIMIT
+limit_left_out f is = rw (sym (is ∙ first_value-rows f (codes "max-nesting"))) refl
+
+-- a number that was read is that of digits alone, where no plus sign stands in front
+pub limit_read : (f : Found) (word : Text) (limit : ℕ) (plus : Bool) → Some word ≡ first_value f (codes "max-nesting")
+    → IsNumeral 10 (without_leading_plus word) → limit ≡ digits_value 10 (without_leading_plus word) → plus ≡ (slice_index word 0 == 43) → plus ≡ false
+    → line.IsLimit (first_of (codes "max-nesting") (rows_of f)) limit
+limit_read f word limit plus is numeral value looked none =
+    let same : without_leading_plus word ≡ word = ap (λ b. drop (cond b 1 0) word) (sym looked ∙ none) in
+    rw (sym (is ∙ first_value-rows f (codes "max-nesting"))) (subst (IsNumeral 10) same numeral, value ∙ ap (digits_value 10) same)
+
+pub flag_read : (f : Found) (id : Text) (b : Bool) → (one_text f id ≡ None → b ≡ false) → (one_text f id ≡ Some (codes "true") → b ≡ true)
+    → (one_text f id ≡ Some (codes "false") → b ≡ false) → line.IsFlag id (rows_of f) b
+flag_read f id b none on off = (λ e. none (one_text-rows f id ∙ e), λ e. on (one_text-rows f id ∙ e), λ e. off (one_text-rows f id ∙ e))
+
+-- a flag that turns an option off
+pub no_flag_read : (id : Text) (rows : List Row) (b : Bool) → line.IsFlag id rows b → line.IsNoFlag id rows (not b)
+no_flag_read id rows true is = is
+no_flag_read id rows false is = is
+
+-- the subcommand that was met, by its name and its entries
+pub entered : {Z : Type 0} (s : Option (Box SubCommand Z)) (name : Text) (rows : List Row)
+    → Some name ≡ option_map (λ b. (out-SubCommand (box_value b)).name.now) s → Some rows ≡ option_map (λ p. p.1) (subcommand_rows s)
+    → subcommand_rows s ≡ Some (name, rows)
+entered None name rows is has = let bad : ⊥ = cc in absurd bad
+entered (Some b) name rows is has = cc
+
+-- ---- commands
+
+pub or_false : (a b : Bool) → b ≡ false → (a || b) ≡ a
+or_false true b e = refl
+or_false false b e = e
+
+-- one more argument, and more behind more
+pub one : {old new : Command} {arg : Arg} {r : Rule} → AddsArg old arg new → IsArgOf r arg → GrowsBy (r ∷ []) old new
+one {old} {new} {arg} {r} adds (is, local) = record {
+  app = adds.shape local ∙ ap (λ x. with_rule (app_of old) x) is;
+  local = adds.globals ∙ or_false (out-Command old).has_globals arg.global local;
+}
+
+pub more : {old mid new : Command} {rs ss : List Rule} → GrowsBy rs old mid → GrowsBy ss mid new → GrowsBy (rs ++ ss) old new
+more {old} {mid} {new} {rs} {ss} first then = record {
+  app =
+      then.app ∙ ap (λ a. line.with_rules a ss) first.app
+      ∙ ap (λ (l : List Rule). record (app_of old) { top = record (app_of old).top { rules = l } }) (append_assoc (app_of old).top.rules rs ss);
+  local = then.local ∙ first.local;
+}
+
+pub grown : {old new : Command} {a : App} {rs : List Rule} → IsCommandOf a old → GrowsBy rs old new → IsCommandOf (line.with_rules a rs) new
+grown {old} {new} {a} {rs} (is, local) by = (by.app ∙ ap (λ x. line.with_rules x rs) is, by.local ∙ local)
+
+pub with_sub : (old sub new : Command) (a b : App) → IsCommandOf a old → AddsSubcommand old sub new → IsCommandOf b sub → IsCommandOf (with_subcommand a b.top) new
+with_sub old sub new a b (is, local) adds (same, leaf) = (
+  adds.shape leaf ∙ ap₂ with_subcommand is (ap (λ (x : App). x.top) same),
+  adds.globals ∙ or_false (out-Command old).has_globals (out-Command sub).has_globals leaf ∙ local,
+)
+
+pub whole : (top one first two second three new : Command) (f a : ValueParser) → line.AreFormats f → line.AreAnnotations a
+    → IsCommandOf (line.wants_command (new_app (codes "cbor-edn"))) top
+    → AddsSubcommand top one first → IsCommandOf (line.diag2cbor f) one
+    → AddsSubcommand first two second → IsCommandOf (line.cbor2diag f a) two
+    → AddsSubcommand second three new → IsCommandOf (line.diag2diag a) three
+    → IsProgram new
+whole top one first two second three new f a are too is adds own then its adds_last last =
+    (f, a, are, too, with_sub second three new _ _ (with_sub first two second _ _ (with_sub top one first _ _ is adds own) then its) adds_last last)
+
+pub program_simple : (formats annotations : ValueParser) → is_simple (line.program formats annotations) ≡ true
+unfolding clap_on_literals
+program_simple formats annotations = refl

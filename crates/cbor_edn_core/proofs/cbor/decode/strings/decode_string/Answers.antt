@@ -1,0 +1,24 @@
+use Rattle.std.proofs.Common.{suc, length, map}
+use Rattle.std.proofs.lemmas.Result.{err_from_is_err_and}
+use Rattle.cbor_edn_core.specs.tree.View.{view_string}
+use Rattle.cbor_edn_model.specs.tree.TreeLeaves.{texts}
+use Rattle.cbor_edn_core.specs.internal.RowBuilder.{grown}
+use Rattle.cbor_edn_core.proofs.lemmas.cbor.CborStrings.{alone_read, chunks_read, chunks_fail}
+use Rattle.cbor_edn_core.proofs.cbor.decode.strings.decode_string.Goals as goal
+
+pub returns-in_err-found-in-None-clause-exact : goal.returns-in_err-found-in-None-clause-exact
+returns-in_err-found-in-None-clause-exact c =
+    let p = err_from_is_err_and c.from_residual-in_err-found-in-None.result c.from_residual-in_err-found-in-None.ensures.1 in
+    rw (p.1, p.2, c.in-None.is) (chunks_fail c.args.kind c.in_err-found-in-None.field-0.0 (suc (length c.args.bytes.now)) c.args.bytes.now c.in_err-found-in-None.ensures.exact)
+
+pub returns-in_ok-item-in-Some-clause-exact : goal.returns-in_ok-item-in-Some-clause-exact
+returns-in_ok-item-in-Some-clause-exact c =
+    let string = c.in_ok-string-in-Some.string in
+    let rest = c.in_ok-string-in-Some.rest.now in
+    rw (c.in-Some.is, c.in_ok-item-in-Some.ensures.view) (alone_read c.args.kind c.in-Some.width c.in-Some.count c.args.bytes.now rest (view_string texts string) c.in_ok-string-in-Some.ensures.exact)
+
+pub returns-in_ok-item-in-None-clause-exact : goal.returns-in_ok-item-in-None-clause-exact
+returns-in_ok-item-in-None-clause-exact c =
+    let found = map (view_string texts) (grown c.in_ok-found-in-None.found) in
+    let rest = c.in_ok-found-in-None.rest.now in
+    rw (c.in-None.is, c.in_ok-item-in-None.ensures, c.finish_strings-strings.ensures) (chunks_read c.args.kind (suc (length c.args.bytes.now)) c.args.bytes.now rest found c.in_ok-found-in-None.ensures.exact)

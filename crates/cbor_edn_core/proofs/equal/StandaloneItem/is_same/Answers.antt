@@ -1,5 +1,0 @@
-use Rattle.cbor_edn_model.specs.code.Same.{same_exactly}
-use Rattle.cbor_edn_core.proofs.equal.StandaloneItem.is_same.Goals as goal
-
-pub returns : goal.returns
-returns c = same_exactly _ _ c.eq.result c.eq.ensures

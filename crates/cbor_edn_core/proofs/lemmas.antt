@@ -1,0 +1,7 @@
+-- Lemmas by topic. The other folders of `proofs/` are those of functions.
+pub mod text
+pub mod cbor
+pub mod layout
+pub mod tree
+pub mod access
+pub mod visit

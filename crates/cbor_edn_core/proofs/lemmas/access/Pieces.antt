@@ -1,0 +1,57 @@
+-- Strings of one piece and of several.
+use Rattle.std.proofs.Common.{◌≡◌, ℕ, List, [], ◌∷◌, true, false, length, map, Option, Some, None, refl, sym, ap, subst, ◌∙◌, arith}
+use Rattle.std.proofs.lemmas.Bool.{false≢true, ne_eqb}
+use Rattle.std.specs.Prelude.{◌==◌}
+use mathlib.Core.Bool.{not}
+use Rattle.cbor_edn_parts.specs.Literal.{IsLiteral, Prefixed}
+use Rattle.cbor_edn_parts.specs.Written.{application_literal}
+use Rattle.std.specs.Option.{is_some}
+use Rattle.cbor_edn_parts.proofs.lemmas.literal.Applications.{one_application}
+use Rattle.cbor_edn_parts.proofs.lemmas.literal.WrittenLiterals.{application_is}
+use Rattle.cbor_edn_model.specs.access.Accessed.{are_several, IsApplicationPiece}
+use Rattle.cbor_edn_model.specs.internal.Same.{same_tree}
+use Rattle.cbor_edn_model.specs.tree.Rows.{pieces_onto}
+use Rattle.cbor_edn_model.specs.tree.Trees.{Tree, OnePiece, OneString, LiteralTree, LastPieceTree, PlusTree}
+use Rattle.cbor_edn_core.specs.tree.ConstructedLaws.{LiteralIsAnswered}
+
+module _ {X : Type 0} (seen : X → Tree OnePiece × List ℕ × List ℕ) where
+  pub several_is : (row : List X) (p : Tree OnePiece) → not (length row == 0) ≡ are_several (pieces_onto (map seen row) (LastPieceTree p))
+  several_is [] p = refl
+  several_is (x ∷ row) p = ap not (ne_eqb (length (x ∷ row)) 0 suc-ne-zero-of)
+    where
+      suc-ne-zero-of : length (x ∷ row) ≡ 0 → ⊥
+      suc-ne-zero-of e = omega (arith, e)
+
+  pub alone_is : (row : List X) (p : Tree OnePiece) → false ≡ are_several (pieces_onto (map seen row) (LastPieceTree p)) → pieces_onto (map seen row) (LastPieceTree p) ≡ LastPieceTree p
+  alone_is [] p e = refl
+  alone_is (x ∷ row) p e = absurd (false≢true e)
+
+pub several_differ : (w : Tree OneString) (p : Tree OnePiece) → true ≡ are_several w → false ≡ same_tree w (LastPieceTree p)
+several_differ (LastPieceTree q) p e = absurd (false≢true (sym e))
+several_differ (PlusTree q s t w) p e = refl
+
+-- what is no string
+pub no_application : (w : Option (Tree OneString)) → w ≡ None → (p v : List ℕ) → (m : Tree OnePiece) × (w ≡ Some (LastPieceTree m)) × IsApplicationPiece m p v → ⊥
+no_application w e p v (m, is, h) = none≢some (sym e ∙ is)
+  where
+    none≢some : None ≡ Some (LastPieceTree m) → ⊥
+    none≢some e = false≢true (ap is_some e)
+
+-- what is no application-oriented literal alone
+pub no_other : (w : Option (Tree OneString)) (l m : Tree OnePiece) (p v : List ℕ) → w ≡ Some (LastPieceTree l) → w ≡ Some (LastPieceTree m) → IsApplicationPiece m p v → IsApplicationPiece l p v
+no_other w l m p v is other h = subst (λ k. IsApplicationPiece k p v) (same (sym other ∙ is)) h
+  where
+    last : Option (Tree OneString) → Tree OnePiece
+    last (Some (LastPieceTree k)) = k
+    last _ = l
+
+    same : Some (LastPieceTree m) ≡ Some (LastPieceTree l) → m ≡ l
+    same e = ap last e
+
+pub literal_is_answered : LiteralIsAnswered
+literal_is_answered p v is all q w =
+    let t = application_literal p v in
+    let made = application_is p v is all in (
+      λ (l, e, h). one_application p v q w t made (no_other (Some (LastPieceTree (LiteralTree t None))) (LiteralTree t None) l q w refl e h),
+      λ (e, f). (LiteralTree t None, refl, subst (λ q. IsLiteral (Prefixed q) w t) (sym e) (subst (λ v. IsLiteral (Prefixed p) v t) (sym f) made)),
+    )

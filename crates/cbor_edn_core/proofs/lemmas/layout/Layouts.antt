@@ -1,0 +1,221 @@
+-- A layout changes spaces alone, keeps each of them in its set, and forgets an earlier layout that kept the comments.
+use Rattle.std.proofs.Common.{ℕ, ◌≡◌, ◌⊎◌, inl, inr, List, true, refl, sym, ap, ◌∙◌, subst}
+use Rattle.std.specs.Prelude.{nat_lt, length}
+use mathlib.Core.Logic.{⊎_elim}
+use Rattle.std.proofs.lemmas.Bool.{cond_both}
+use Rattle.cbor_edn_parts.specs.Spacing.{SpaceKind, S, MS, MSC, SOC, spaced}
+use Rattle.cbor_edn_parts.specs.declared.policy.DelimiterPolicy.{DelimiterPolicy}
+use Rattle.cbor_edn_parts.specs.declared.policy.DelimiterPolicy.TheVariants.{DiscardAll}
+use Rattle.cbor_edn_parts.specs.declared.policy.Spacing.TheVariants.{Least, OneLine}
+use Rattle.cbor_edn_parts.specs.SpacingLaws.{is_of, KeepsComments}
+use Rattle.cbor_edn_parts.proofs.lemmas.layout.Spacings.{spaced_stays, spaced_forgets, least_forgets}
+use Rattle.cbor_edn_model.specs.tree.Items.{Listed, String, Stream, Plus, Element, Pair, Chunk, End, Then}
+use Rattle.cbor_edn_model.specs.text.Spelling.{SpellsOne, SpellsSequence}
+use Rattle.cbor_edn_model.specs.tree.Trees.{Rule, OneItem, Seq, Standalone, Tree, ListHead, NoIndicator, WithIndicator, head_indicator, NumberTree, FloatTree, NamedTree, EnclosedTree, ListTree, StringTree, StreamTree, LiteralTree, DotsTree, EmbeddedTree, LastPieceTree, PlusTree, ElementTree, PairTree, ChunkTree, EmptyTree, FullTree, LastTree, MoreTree, NothingTree, SequenceTree, StandaloneTree, labelled, items, text}
+use Rattle.cbor_edn_model.proofs.lemmas.text.Tested.{IsTestedListHead, Tested, tested, valid}
+use Rattle.cbor_edn_model.specs.layout.Layout.{Layout, Inline, Lines, layout, Slot, First, Between, Last, BeforePlus, AfterPlus, AfterColon, Elsewhere, spacing, respaced, saturating_add, of_parts, fitted, in_chunk, laid_list_head, laid, laid_out}
+use Rattle.cbor_edn_model.specs.layout.LayoutLaws.{KeepsItems, StaysValid, SpellsTheSame, KeepsAllComments, ForgetsLayout, SameTwice}
+use Rattle.cbor_edn_core.proofs.lemmas.text.GrammarLaws.{spelled_by_trees}
+
+-- an item whose parts are laid out is one of the items that its parts give
+fitted_any : (P : Tree OneItem → Type 0) (l : Layout) (part : Layout → Tree OneItem) → ((m : Layout) → P (part m)) → P (fitted l part)
+fitted_any P l part h = h (of_parts l (length (text (part (Inline OneLine)))))
+
+-- ---- items
+
+head_indicator_kept : (l : Layout) (h : ListHead) → head_indicator (laid_list_head l h) ≡ head_indicator h
+head_indicator_kept l NoIndicator = refl
+head_indicator_kept l (WithIndicator i ms) = refl
+
+pub items_kept : {s : Rule} (l : Layout) (w : Tree s) → items (laid l w) ≡ items w
+unfolding items laid
+items_kept l (NumberTree x i) = refl
+items_kept l (FloatTree f i) = refl
+items_kept l (NamedTree b) = refl
+items_kept l (EnclosedTree label w) = fitted_any (λ v. items v ≡ labelled label (items w)) l (λ l. EnclosedTree label (laid l w)) (λ m. ap (labelled label) (items_kept m w))
+items_kept l (ListTree k w) = fitted_any (λ v. items v ≡ Listed k (items w).0 (items w).1) l (λ l. ListTree k (laid l w)) (λ m. ap (λ p. Listed k p.0 p.1) (items_kept m w))
+items_kept l (StringTree w) = fitted_any (λ v. items v ≡ String (items w)) l (λ l. StringTree (laid l w)) (λ m. ap String (items_kept m w))
+items_kept l (StreamTree ms m) = fitted_any (λ v. items v ≡ Stream (items m)) l (λ l. StreamTree (respaced MS First l ms) (laid l m)) (λ l. ap Stream (items_kept l m))
+items_kept l (LiteralTree x i) = refl
+items_kept l (DotsTree x) = refl
+items_kept l (EmbeddedTree w i) = refl
+items_kept l (LastPieceTree p) = refl
+items_kept l (PlusTree p s t w) = ap (Plus (items p)) (items_kept l w)
+items_kept l (ElementTree w) = ap Element (items_kept l w)
+items_kept l (PairTree v s t w) = ap (λ v. Pair v (items (laid l w))) (items_kept l v) ∙ ap (Pair (items v)) (items_kept l w)
+items_kept l (ChunkTree w) = ap Chunk (items_kept (in_chunk l) w)
+items_kept l (EmptyTree i s) = refl
+items_kept l (FullTree h s m) = ap (λ i. (i, items (laid l m))) (head_indicator_kept l h) ∙ ap (λ m. (head_indicator h, m)) (items_kept l m)
+items_kept l (LastTree e s) = ap (λ e. Then e End) (items_kept l e)
+items_kept l (MoreTree e s m) = ap (λ e. Then e (items (laid l m))) (items_kept l e) ∙ ap (Then (items e)) (items_kept l m)
+items_kept l (NothingTree s) = refl
+items_kept l (SequenceTree s m) = items_kept l m
+items_kept l (StandaloneTree s w t) = items_kept l w
+
+pub keeps_items : KeepsItems
+keeps_items s policy w = items_kept (layout policy) w
+
+-- ---- texts in their sets
+
+head_stays : (l : Layout) (h : ListHead) → IsTestedListHead h → IsTestedListHead (laid_list_head l h)
+head_stays l NoIndicator v = tt
+head_stays l (WithIndicator i ms) v = spaced_stays MS (spacing l Elsewhere) ms v
+
+pub stays : {s : Rule} (l : Layout) (w : Tree s) → Tested w → Tested (laid l w)
+unfolding Tested laid
+stays l (NumberTree x i) v = v
+stays l (FloatTree f i) v = v
+stays l (NamedTree b) v = v
+stays l (EnclosedTree label w) v = fitted_any Tested l (λ l. EnclosedTree label (laid l w)) (λ m. (v.0, stays m w v.1))
+stays l (ListTree k w) v = fitted_any Tested l (λ l. ListTree k (laid l w)) (λ m. stays m w v)
+stays l (StringTree w) v = fitted_any Tested l (λ l. StringTree (laid l w)) (λ m. stays m w v)
+stays l (StreamTree ms m) v = fitted_any Tested l (λ l. StreamTree (respaced MS First l ms) (laid l m)) (λ l. (spaced_stays MS (spacing l First) ms v.0, stays l m v.1))
+stays l (LiteralTree x i) v = v
+stays l (DotsTree x) v = v
+stays l (EmbeddedTree w i) v = v
+stays l (LastPieceTree p) v = v
+stays l (PlusTree p s t w) v = (v.0, spaced_stays S (spacing l BeforePlus) s v.1, spaced_stays S (spacing l AfterPlus) t v.2, stays l w v.3)
+stays l (ElementTree w) v = stays l w v
+stays l (PairTree k s t w) v = (stays l k v.0, spaced_stays S (spacing l Elsewhere) s v.1, spaced_stays S (spacing l AfterColon) t v.2, stays l w v.3)
+stays l (ChunkTree w) v = stays (in_chunk l) w v
+stays l (EmptyTree i s) v = spaced_stays S (spacing l Elsewhere) s v
+stays l (FullTree h s m) v = (head_stays l h v.0, spaced_stays S (spacing l First) s v.1, stays l m v.2)
+stays l (LastTree e s) v = (stays l e v.0, spaced_stays SOC (spacing l Last) s v.1)
+stays l (MoreTree e s m) v = (stays l e v.0, spaced_stays MSC (spacing l Between) s v.1, stays l m v.2)
+stays l (NothingTree s) v = spaced_stays S (spacing l Elsewhere) s v
+stays l (SequenceTree s m) v = (spaced_stays S (spacing l Elsewhere) s v.0, stays l m v.1)
+stays l (StandaloneTree s w t) v = (spaced_stays S (spacing l Elsewhere) s v.0, stays l w v.1, spaced_stays S (spacing l Elsewhere) t v.2)
+
+pub stays_valid : StaysValid
+stays_valid s policy w v = valid (laid_out policy w) (stays (layout policy) w (tested w v))
+
+pub spells_the_same : SpellsTheSame
+spells_the_same = (
+  λ policy w v. subst (λ x. SpellsOne x (text (laid_out policy w))) (keeps_items Standalone policy w) (spelled_by_trees.3 (laid_out policy w) (stays_valid Standalone policy w v)),
+  λ policy w v. subst (λ x. SpellsSequence x (text (laid_out policy w))) (keeps_items Seq policy w) (spelled_by_trees.2 (laid_out policy w) (stays_valid Seq policy w v)),
+)
+
+-- ---- an earlier layout
+
+abbrev Keeps : Layout → Type 0
+Keeps (Inline column) = KeepsComments column
+Keeps (Lines base end level width) = Unit {0}
+
+abbrev IsLeast : Layout → Type 0
+IsLeast (Inline Least) = Unit {0}
+IsLeast _ = ⊥
+
+-- the layout l forgets m
+abbrev Forgets : Layout → Layout → Type 0
+Forgets l m = Keeps m ⊎ IsLeast l
+
+spacing_keeps : (l : Layout) (p : Slot) → Keeps l → KeepsComments (spacing l p)
+spacing_keeps (Inline Least) p k = absurd k
+spacing_keeps l First k = tt
+spacing_keeps l Between k = tt
+spacing_keeps l Last k = tt
+spacing_keeps l BeforePlus k = tt
+spacing_keeps l AfterPlus k = tt
+spacing_keeps l AfterColon k = tt
+spacing_keeps l Elsewhere k = tt
+
+spacing_least : (l : Layout) (p : Slot) → IsLeast l → spacing l p ≡ Least
+spacing_least (Inline Least) p h = refl
+spacing_least _ p h = absurd h
+
+space_forgotten : (k : SpaceKind) (p : Slot) (l m : Layout) (x : List ℕ) → Forgets l m → is_of k x ≡ true → respaced k p l (respaced k p m x) ≡ respaced k p l x
+space_forgotten k p l m x h e =
+    ⊎_elim
+    (λ keeps. spaced_forgets k (spacing l p) (spacing m p) x (spacing_keeps m p keeps) e)
+    (λ least. ap (λ c. spaced k c (respaced k p m x)) (spacing_least l p least) ∙ (least_forgets k (respaced k p m x) x ∙ ap (λ c. spaced k c x) (sym (spacing_least l p least))))
+    h
+
+chunk_forgets : (l m : Layout) → Forgets l m → Forgets (in_chunk l) (in_chunk m)
+chunk_forgets l m h = ⊎_elim (λ keeps. inl (keeps_in m keeps)) (λ least. inr (least_in l least)) h where
+  keeps_in : (m : Layout) → Keeps m → Keeps (in_chunk m)
+  keeps_in (Inline OneLine) k = tt
+  keeps_in m k = k
+
+  least_in : (l : Layout) → IsLeast l → IsLeast (in_chunk l)
+  least_in (Inline Least) h = tt
+  least_in _ h = absurd h
+
+forgets_parts : (l m : Layout) (n : ℕ) → Forgets l m → Forgets l (of_parts m n)
+forgets_parts l (Inline column) n f = f
+forgets_parts l (Lines base end level width) n f =
+    cond_both (nat_lt (saturating_add n base) width) (Inline OneLine) (Lines (saturating_add base level) base level width) (λ k. Forgets l k) (λ e. inl tt) (λ e. inl tt)
+
+-- an item that was laid out earlier
+fitted_earlier : (P : Tree OneItem → Type 0) (l m : Layout) (part : Layout → Tree OneItem) → Forgets l m → ((n : Layout) → Forgets l n → P (part n)) → P (fitted m part)
+fitted_earlier P l m part f h = let n = length (text (part (Inline OneLine))) in h (of_parts m n) (forgets_parts l m n f)
+
+only_keeps : (base end level width : ℕ) (m : Layout) → Forgets (Lines base end level width) m → Keeps m
+only_keeps base end level width m f = ⊎_elim (λ k. k) (λ h. absurd h) f
+
+-- and is laid out now
+fitted_now : (l m : Layout) (f g : Layout → Tree OneItem) → Forgets l m → ((n : Layout) → Forgets n m → f n ≡ g n) → fitted l f ≡ fitted l g
+fitted_now (Inline column) m f g forgets h = h (Inline column) forgets
+fitted_now (Lines base end level width) m f g forgets h =
+    let keeps : Keeps m = only_keeps base end level width m forgets in
+    let l : Layout = Lines base end level width in
+    ap (λ v. f (of_parts l (length (text v)))) (h (Inline OneLine) (inl keeps)) ∙ h (of_parts l (length (text (g (Inline OneLine))))) (inl keeps)
+
+head_forgotten : (l m : Layout) (h : ListHead) → Forgets l m → IsTestedListHead h → laid_list_head l (laid_list_head m h) ≡ laid_list_head l h
+head_forgotten l m NoIndicator f v = refl
+head_forgotten l m (WithIndicator i ms) f v = ap (WithIndicator i) (space_forgotten MS Elsewhere l m ms f v)
+
+forgotten : {s : Rule} (l m : Layout) (w : Tree s) → Forgets l m → Tested w → laid l (laid m w) ≡ laid l w
+unfolding Tested laid
+forgotten l m (NumberTree x i) f v = refl
+forgotten l m (FloatTree x i) f v = refl
+forgotten l m (NamedTree b) f v = refl
+forgotten l m (EnclosedTree label w) f v =
+    fitted_earlier (λ x. laid l x ≡ fitted l (λ l. EnclosedTree label (laid l w))) l m (λ l. EnclosedTree label (laid l w)) f (λ n k. fitted_now l n (λ l. EnclosedTree label (laid l (laid n w))) (λ l. EnclosedTree label (laid l w)) k (λ o g. ap (EnclosedTree label) (forgotten o n w g v.1)))
+forgotten l m (ListTree kind w) f v =
+    fitted_earlier (λ x. laid l x ≡ fitted l (λ l. ListTree kind (laid l w))) l m (λ l. ListTree kind (laid l w)) f (λ n k. fitted_now l n (λ l. ListTree kind (laid l (laid n w))) (λ l. ListTree kind (laid l w)) k (λ o g. ap (ListTree kind) (forgotten o n w g v)))
+forgotten l m (StringTree w) f v =
+    fitted_earlier (λ x. laid l x ≡ fitted l (λ l. StringTree (laid l w))) l m (λ l. StringTree (laid l w)) f (λ n k. fitted_now l n (λ l. StringTree (laid l (laid n w))) (λ l. StringTree (laid l w)) k (λ o g. ap StringTree (forgotten o n w g v)))
+forgotten l m (StreamTree ms w) f v =
+    fitted_earlier (λ x. laid l x ≡ fitted l (λ l. StreamTree (respaced MS First l ms) (laid l w))) l m (λ l. StreamTree (respaced MS First l ms) (laid l w)) f
+    (λ n k. fitted_now l n (λ l. StreamTree (respaced MS First l (respaced MS First n ms)) (laid l (laid n w))) (λ l. StreamTree (respaced MS First l ms) (laid l w)) k
+    (λ o g. ap (λ t. StreamTree t (laid o (laid n w))) (space_forgotten MS First o n ms g v.0) ∙ ap (StreamTree (respaced MS First o ms)) (forgotten o n w g v.1)))
+forgotten l m (LiteralTree x i) f v = refl
+forgotten l m (DotsTree x) f v = refl
+forgotten l m (EmbeddedTree w i) f v = refl
+forgotten l m (LastPieceTree p) f v = refl
+forgotten l m (PlusTree p s t w) f v =
+    ap (λ a. PlusTree p a (respaced S AfterPlus l (respaced S AfterPlus m t)) (laid l (laid m w))) (space_forgotten S BeforePlus l m s f v.1)
+    ∙ (ap (λ a. PlusTree p (respaced S BeforePlus l s) a (laid l (laid m w))) (space_forgotten S AfterPlus l m t f v.2) ∙ ap (PlusTree p (respaced S BeforePlus l s) (respaced S AfterPlus l t)) (forgotten l m w f v.3))
+forgotten l m (ElementTree w) f v = ap ElementTree (forgotten l m w f v)
+forgotten l m (PairTree k s t w) f v =
+    ap (λ a. PairTree a (respaced S Elsewhere l (respaced S Elsewhere m s)) (respaced S AfterColon l (respaced S AfterColon m t)) (laid l (laid m w))) (forgotten l m k f v.0)
+    ∙ (ap (λ a. PairTree (laid l k) a (respaced S AfterColon l (respaced S AfterColon m t)) (laid l (laid m w))) (space_forgotten S Elsewhere l m s f v.1)
+    ∙ (ap (λ a. PairTree (laid l k) (respaced S Elsewhere l s) a (laid l (laid m w))) (space_forgotten S AfterColon l m t f v.2) ∙ ap (PairTree (laid l k) (respaced S Elsewhere l s) (respaced S AfterColon l t)) (forgotten l m w f v.3)))
+forgotten l m (ChunkTree w) f v = ap ChunkTree (forgotten (in_chunk l) (in_chunk m) w (chunk_forgets l m f) v)
+forgotten l m (EmptyTree i s) f v = ap (EmptyTree i) (space_forgotten S Elsewhere l m s f v)
+forgotten l m (FullTree h s w) f v =
+    ap (λ a. FullTree a (respaced S First l (respaced S First m s)) (laid l (laid m w))) (head_forgotten l m h f v.0)
+    ∙ (ap (λ a. FullTree (laid_list_head l h) a (laid l (laid m w))) (space_forgotten S First l m s f v.1) ∙ ap (FullTree (laid_list_head l h) (respaced S First l s)) (forgotten l m w f v.2))
+forgotten l m (LastTree e s) f v = ap (λ a. LastTree a (respaced SOC Last l (respaced SOC Last m s))) (forgotten l m e f v.0) ∙ ap (LastTree (laid l e)) (space_forgotten SOC Last l m s f v.1)
+forgotten l m (MoreTree e s w) f v =
+    ap (λ a. MoreTree a (respaced MSC Between l (respaced MSC Between m s)) (laid l (laid m w))) (forgotten l m e f v.0)
+    ∙ (ap (λ a. MoreTree (laid l e) a (laid l (laid m w))) (space_forgotten MSC Between l m s f v.1) ∙ ap (MoreTree (laid l e) (respaced MSC Between l s)) (forgotten l m w f v.2))
+forgotten l m (NothingTree s) f v = ap NothingTree (space_forgotten S Elsewhere l m s f v)
+forgotten l m (SequenceTree s w) f v = ap (λ a. SequenceTree a (laid l (laid m w))) (space_forgotten S Elsewhere l m s f v.0) ∙ ap (SequenceTree (respaced S Elsewhere l s)) (forgotten l m w f v.1)
+forgotten l m (StandaloneTree s w t) f v =
+    ap (λ a. StandaloneTree a (laid l (laid m w)) (respaced S Elsewhere l (respaced S Elsewhere m t))) (space_forgotten S Elsewhere l m s f v.0)
+    ∙ (ap (λ a. StandaloneTree (respaced S Elsewhere l s) a (respaced S Elsewhere l (respaced S Elsewhere m t))) (forgotten l m w f v.1) ∙ ap (StandaloneTree (respaced S Elsewhere l s) (laid l w)) (space_forgotten S Elsewhere l m t f v.2))
+
+policy_keeps : (q : DelimiterPolicy) → KeepsAllComments q → Keeps (layout q)
+policy_keeps DiscardAll k = absurd k
+policy_keeps q k = tt
+
+pub forgets_layout : ForgetsLayout
+forgets_layout s p q w h v = forgotten (layout p) (layout q) w (⊎_elim (λ k. inl (policy_keeps q k)) (λ e. inr (subst (λ p. IsLeast (layout p)) (sym e) tt)) h) (tested w v)
+
+keeps_or_all : (p : DelimiterPolicy) → KeepsAllComments p ⊎ (p ≡ DiscardAll)
+keeps_or_all DiscardAll = inr refl
+keeps_or_all p = inl tt
+
+pub same_twice : SameTwice
+same_twice s p w v = forgets_layout s p p w (keeps_or_all p) v

@@ -1,0 +1,37 @@
+-- Chains of calls at tags and at literals, and what they leave of their closure.
+use Rattle.std.proofs.Common.{ℕ, List, ◌++◌, ◌≡◌, ◌≤◌, ◌<◌, ◌^◌, ◌-◌, Option, Some, None, arith}
+use Rattle.cbor_edn_model.specs.access.Accessed.{tag_number, IsApplicationItem}
+use Rattle.cbor_edn_model.specs.visit.Seeking.{CallArguments, IsTag, IsApplication, number, prefix_and_text}
+use Rattle.cbor_edn_model.specs.internal.Widths.{capped}
+use Rattle.cbor_edn_model.specs.visit.Seeking.{SoughtCall}
+use Rattle.cbor_edn_model.specs.tree.Trees.{Tree, OneItem}
+use Rattle.cbor_edn_model.specs.visit.Visits.{Chain}
+use Rattle.cbor_edn_model.proofs.lemmas.visit.VisitedRows.{Chain-append}
+use Rattle.cbor_edn_core.specs.visit.Sought.{TagCallback, LiteralCallback, IsTagCall, IsLiteralCall, MayVisitTags, MayVisitLiterals}
+
+-- what may be called may be called behind any calls
+module _ {T F : Type 0} (look : T → Tree OneItem) where
+  pub tags_after : (callback : TagCallback T F) {f g : F} {cs : List SoughtCall} → MayVisitTags look callback f → Chain (IsTagCall look callback) f cs g → MayVisitTags look callback g
+  tags_after callback m k = record { at = λ ds h j n x i l. m.at (_ ++ ds) h (Chain-append k j) n x i l }
+
+  pub literals_after : (callback : LiteralCallback T F) {f g : F} {cs : List SoughtCall} → MayVisitLiterals look callback f → Chain (IsLiteralCall look callback) f cs g → MayVisitLiterals look callback g
+  literals_after callback m k = record { at = λ ds h j p s x i. m.at (_ ++ ds) h (Chain-append k j) p s x i }
+
+some_none : {A : Type 0} {x : A} {o : Option A} → o ≡ Some x → o ≡ None → ⊥
+some_none h k = cc
+
+-- an item without a number has no arguments of a call
+pub no_arguments : (w : Tree OneItem) → tag_number w ≡ None → (a : CallArguments) → IsTag w a → ⊥
+no_arguments w h (number n) k = some_none k h
+no_arguments w h (prefix_and_text p v) k = k
+
+pub no_literal_arguments : (w : Tree OneItem) → ((p v : List ℕ) → IsApplicationItem w p v → ⊥) → (a : CallArguments) → IsApplication w a → ⊥
+no_literal_arguments w h (number n) k = k
+no_literal_arguments w h (prefix_and_text p v) k = h p v k
+
+-- a count that is not capped says how deep an item nests, and one that is no more than it too
+pub counted_le : {d e x y : ℕ} → x ≡ capped d → (x ≡ 2 ^ 64 - 1 → ⊥) → y ≡ capped e → y ≤ x → e ≤ d
+counted_le h n k l = omega (arith, h, n, k, l)
+
+pub counted_lt : {d e x y : ℕ} → x ≡ capped d → y ≡ capped e → x < y → d < e
+counted_lt h k l = omega (arith, h, k, l)

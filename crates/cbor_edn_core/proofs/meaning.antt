@@ -1,2 +1,0 @@
--- What items mean, and the items of values.
-pub mod Decodes

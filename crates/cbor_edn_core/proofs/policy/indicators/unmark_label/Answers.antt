@@ -1,6 +1,0 @@
-use Rattle.cbor_edn_model.specs.Leaves.{texts}
-use Rattle.cbor_edn_core.proofs.layout.UnmarkedViews.{no_label}
-use Rattle.cbor_edn_core.proofs.policy.indicators.unmark_label.Goals as goal
-
-pub returns-in_default : goal.returns-in_default
-returns-in_default c = no_label texts c.args.item.now.inner (λ w. c.in_default.not-Enclosed w.0 w.1 w.2)

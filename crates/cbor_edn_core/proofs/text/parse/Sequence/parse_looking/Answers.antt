@@ -1,0 +1,17 @@
+use Rattle.std.proofs.Common.{ap, sym, ◌∙◌, Err}
+use Rattle.cbor_edn_core.proofs.lemmas.text.Whole.{sequence_accepted, sequence_invalid, sequence_too_deep}
+use Rattle.cbor_edn_core.proofs.text.parse.Sequence.parse_looking.Goals as goal
+
+pub returns-in-Ok-clause-parsed : goal.returns-in-Ok-clause-parsed
+returns-in-Ok-clause-parsed c =
+    let all = sequence_accepted c.args.limit _ _ (rw c.new-text.ensures at c.in-Ok.ensures.value) in
+    record { prints = all.0; accepted = all.3; merged = all.2; borrowed = c.in-Ok.ensures.borrowed }
+
+pub returns-in-Err-Told-clause-refused : goal.returns-in-Err-Told-clause-refused
+returns-in-Err-Told-clause-refused c =
+    let read = rw (c.new-text.ensures) at (rw c.in-Err-Told.field-0-is at c.in-Err-Told.ensures.value) in
+    record {
+      invalid = λ k. sequence_invalid c.args.limit _ (read ∙ ap Err (sym c.with_location.ensures.kind ∙ k));
+      too_deep = λ k. sequence_too_deep c.args.limit _ (read ∙ ap Err (sym c.with_location.ensures.kind ∙ k));
+      place = rw c.new-text.ensures at c.with_location.ensures.place;
+    }

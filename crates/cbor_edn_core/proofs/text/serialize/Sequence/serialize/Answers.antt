@@ -1,0 +1,12 @@
+use Rattle.std.proofs.Common.{arith, ◌≡◌}
+use Rattle.std.proofs.lemmas.Grind.{common_steps}
+use Rattle.std.specs.String.{string_bytes}
+use Rattle.cbor_edn_model.specs.tree.Trees.{text}
+use Rattle.cbor_edn_core.specs.tree.View.{sequence_tree}
+use Rattle.cbor_edn_core.proofs.lemmas.text.Printable.{sequence_spelled}
+use Rattle.cbor_edn_core.proofs.text.serialize.Sequence.serialize.Goals as goal
+
+pub returns-clause-spells : goal.returns-clause-spells
+returns-clause-spells c =
+    let printed : string_bytes c.print_sequence.new.out ≡ text (sequence_tree c.args.self.now) = grind (arith, common_steps) in
+    sequence_spelled c.args.self.now _ printed

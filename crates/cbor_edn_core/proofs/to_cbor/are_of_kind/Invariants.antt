@@ -1,8 +1,0 @@
-use Rattle.std.proofs.Common.{◌≡◌, map, drop}
-use Rattle.cbor_edn_core.specs.View.{seen_string}
-use Rattle.cbor_edn_model.specs.Leaves.{texts}
-use Rattle.cbor_edn_model.specs.code.Encoding.{kinds_are, row_items}
-use Rattle.cbor_edn_core.proofs.to_cbor.are_of_kind.Given as goal
-
-abbrev pub invariant-loop-string : goal.invariant-loop-string
-invariant-loop-string l = kinds_are l.kind (row_items (map (seen_string texts) l.row)) ≡ kinds_are l.kind (row_items (map (seen_string texts) (drop l.string-index l.row)))

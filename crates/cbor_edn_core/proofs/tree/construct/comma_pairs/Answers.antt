@@ -1,0 +1,14 @@
+use Rattle.std.proofs.Common.{◌++◌, ◌∷◌, [], Some, ap, sym, ◌∙◌}
+use Rattle.cbor_edn_core.specs.tree.Constructed.{comma_row}
+use Rattle.cbor_edn_core.specs.tree.View.{view_pair}
+use Rattle.cbor_edn_model.specs.tree.TreeLeaves.{texts}
+use Rattle.cbor_edn_core.proofs.lemmas.tree.Commas.{commas_made}
+use Rattle.cbor_edn_core.proofs.lemmas.tree.Views.{view_pairs_made}
+use Rattle.cbor_edn_core.proofs.tree.construct.comma_pairs.Goals as goal
+
+pub returns : goal.returns
+returns c =
+    let all = c.in-Some.ensures.items ∙ ap (λ xs. xs ++ (c.in-Some.last ∷ [])) (sym c.in_ok-row.ensures.entries) in
+    ap (λ m. Some m) (view_pairs_made texts _)
+    ∙ commas_made (view_pair texts) c.in_ok-row.row.items c.in-Some.last _ _ c.in_ok-row.ensures.commas c.empty.ensures all
+    ∙ ap comma_row c.in_ok-pairs.ensures

@@ -1,5 +1,0 @@
-use Rattle.std.proofs.Common.{refl}
-use Rattle.cbor_edn_core.proofs.visitor.array.call.Goals as goal
-
-pub returns : goal.returns
-returns g c = record { called = record { shown = _; begins = refl; answer = _; answers = refl; left = _; leaves = refl; called = record { shown = _; shows = refl; left = _; called = c.f.ensures; leaves = refl } } }

@@ -1,0 +1,2 @@
+-- Texts that are parsed.
+pub mod Parsing

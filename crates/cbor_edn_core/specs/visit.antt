@@ -1,0 +1,3 @@
+-- Calls of a visit.
+pub mod Callbacks
+pub mod Sought

@@ -1,0 +1,4 @@
+//! CBOR: what items mean, and items from their encoding.
+
+pub mod decode;
+pub(crate) mod encode;

@@ -1,0 +1,9 @@
+//! The spaces of trees: delimiter policies, comments, and encoding indicators that are removed.
+
+mod indicators;
+mod lay;
+mod measure;
+mod policy;
+mod print;
+mod room;
+mod strings;

@@ -1,0 +1,313 @@
+//! The text of a tree with the spaces of a layout, which the tree itself does not get.
+ghost use Rattle.std.specs.Prelude.{◌≡◌, ◌++◌, map, OnOk};
+ghost use Rattle.std.specs.String.{string_bytes};
+ghost use Rattle.cbor_edn_parts.specs.LayoutColumns.{of_parts};
+ghost use Rattle.cbor_edn_model.specs.layout.Layout.{laid};
+ghost use Rattle.cbor_edn_model.specs.tree.Rows.{entries_text, pieces_text};
+ghost use Rattle.cbor_edn_model.specs.tree.TreeLeaves.{texts};
+ghost use Rattle.cbor_edn_model.specs.tree.Trees.{text};
+ghost use Rattle.cbor_edn_model.specs.internal.Laying.{laid_stream};
+ghost use Rattle.cbor_edn_model.specs.internal.LayoutRows.{laid_entry, laid_piece};
+ghost use Rattle.cbor_edn_model.specs.internal.Widths.{measured};
+ghost use Rattle.cbor_edn_core.specs.tree.View.{view_list, view_items, seen, view_pair_list, view_pairs, view_pair, seen_pair, view_string, seen_piece, view_stream, view_strings, seen_string, item_tree, standalone_tree, sequence_tree};
+
+use super::room::line_width;
+use crate::text::serialize;
+use crate::tree::{
+    CborString, InnerItem, Item, ItemList, Items, Kp, PairList, Pairs, Piece, Sequence,
+    StandaloneItem, Stream, Strings,
+};
+use cbor_edn_model::text::list_head::print_laid_head;
+use cbor_edn_model::text::write::{print_indicator, print_label};
+use cbor_edn_parts::layout::{
+    Layout, Slot, print_end, print_mandatory, print_separator, print_space,
+};
+use cbor_edn_parts::space::{Msc, S};
+use std::alloc::{AllocError, Global};
+
+/// The layout of the parts of an item.
+fn layout_of_parts(layout: Layout, item: &Item<'_>) -> Layout
+    ensures { result ≡ of_parts layout (measured (item_tree item.now)) }
+{
+    match layout {
+        Layout::Inline(_) => layout,
+        Layout::Lines { base, width, .. } => layout.of_parts(line_width(base, width, item)),
+    }
+}
+
+#[tactic(auto, using(crate::proofs::lemmas::tree::Views::view_sequence_is, cbor_edn_model::proofs::lemmas::layout::LaidTexts::text_laid_nothing, cbor_edn_model::proofs::lemmas::layout::LaidTexts::text_laid_sequence, std::proofs::Common::append_assoc))]
+pub(super) fn print_sequence(
+    out: &mut String,
+    alloc: Global,
+    sequence: &Sequence<'_>,
+    layout: Layout,
+) -> Result<(), AllocError>
+    ensures { OnOk result (string_bytes out.new ≡ string_bytes out.old ++ text (laid layout (sequence_tree sequence.now))) }
+{
+    print_space(out, alloc, &sequence.before, layout, Slot::Elsewhere)?;
+    match &sequence.items {
+        None => Ok(()),
+        Some(items) => print_items(out, alloc, items, layout),
+    }
+}
+
+#[cycle(print_laid)]
+#[tactic(auto, using(cbor_edn_model::proofs::lemmas::layout::LaidTexts::text_laid_standalone, std::proofs::Common::append_assoc))]
+pub(super) fn print_standalone(
+    out: &mut String,
+    alloc: Global,
+    item: &StandaloneItem<'_>,
+    layout: Layout,
+) -> Result<(), AllocError>
+    ensures { OnOk result (string_bytes out.new ≡ string_bytes out.old ++ text (laid layout (standalone_tree item.now))) }
+{
+    print_space(out, alloc, &item.before, layout, Slot::Elsewhere)?;
+    print_item(out, alloc, &item.item, layout)?;
+    print_space(out, alloc, &item.after, layout, Slot::Elsewhere)
+}
+
+#[cycle(print_laid)]
+#[tactic(auto, using(crate::proofs::lemmas::tree::Views::view_string_is, crate::proofs::lemmas::tree::Views::view_stream_is, cbor_edn_model::proofs::lemmas::layout::LaidTexts::text_laid_number, cbor_edn_model::proofs::lemmas::layout::LaidTexts::text_laid_float, cbor_edn_model::proofs::lemmas::layout::LaidTexts::text_laid_named, cbor_edn_model::proofs::lemmas::layout::LaidTexts::text_laid_enclosed, cbor_edn_model::proofs::lemmas::layout::LaidTexts::text_laid_list, cbor_edn_model::proofs::lemmas::layout::LaidTexts::text_laid_string, crate::proofs::lemmas::layout::LaidStrings::text_laid_piece, cbor_edn_model::proofs::lemmas::layout::LaidTexts::text_laid_stream, std::proofs::Common::append_assoc))]
+pub(super) fn print_item(
+    out: &mut String,
+    alloc: Global,
+    item: &Item<'_>,
+    layout: Layout,
+) -> Result<(), AllocError>
+    ensures { OnOk result (string_bytes out.new ≡ string_bytes out.old ++ text (laid layout (item_tree item.now))) }
+{
+    match &item.inner {
+        InnerItem::Number(..)
+        | InnerItem::NonFinite(..)
+        | InnerItem::Named(_)
+        | InnerItem::Literal(..) => serialize::print_item(out, item),
+        InnerItem::Enclosed(label, content) => {
+            let parts = layout_of_parts(layout, item);
+            print_label(out, label.kind)?;
+            out.push_str("(")?;
+            print_standalone(out, alloc, content, parts)?;
+            out.push_str(")")
+        }
+        InnerItem::Array(list) => {
+            let parts = layout_of_parts(layout, item);
+            out.push_str("[")?;
+            print_list(out, alloc, list, parts)?;
+            out.push_str("]")
+        }
+        InnerItem::Map(list) => {
+            let parts = layout_of_parts(layout, item);
+            out.push_str("{")?;
+            print_pair_list(out, alloc, list, parts)?;
+            out.push_str("}")
+        }
+        InnerItem::String(string) => {
+            let parts = layout_of_parts(layout, item);
+            print_string(out, alloc, string, parts)
+        }
+        InnerItem::Stream(stream) => {
+            let parts = layout_of_parts(layout, item);
+            print_stream(out, alloc, stream, parts)
+        }
+    }
+}
+
+#[tactic(auto, using(cbor_edn_model::proofs::lemmas::layout::LaidTexts::text_laid_pieces, std::proofs::Common::append_assoc))]
+fn print_string(
+    out: &mut String,
+    alloc: Global,
+    string: &CborString<'_>,
+    layout: Layout,
+) -> Result<(), AllocError>
+    ensures { OnOk result (string_bytes out.new ≡ string_bytes out.old ++ text (laid layout (view_string texts string.now))) }
+{
+    print_piece_row(out, alloc, &string.row, layout)?;
+    serialize::print_piece(out, &string.last)
+}
+
+fn print_piece_row(
+    out: &mut String,
+    alloc: Global,
+    row: &[(Piece<'_>, S<'_>, S<'_>)],
+    layout: Layout,
+) -> Result<(), AllocError>
+    ensures { OnOk result (string_bytes out.new ≡ string_bytes out.old ++ pieces_text (map (laid_piece layout) (map (seen_piece texts) row.now))) }
+{
+    for (piece, before, after) in row {
+        serialize::print_piece(out, piece)?;
+        print_space(out, alloc, before, layout, Slot::BeforePlus)?;
+        out.push_str("+")?;
+        print_space(out, alloc, after, layout, Slot::AfterPlus)?;
+    }
+    Ok(())
+}
+
+#[tactic(auto, using(crate::proofs::lemmas::tree::Views::view_stream_is, cbor_edn_model::proofs::lemmas::text::Texts::text_stream, std::proofs::Common::append_assoc))]
+fn print_stream(
+    out: &mut String,
+    alloc: Global,
+    stream: &Stream<'_>,
+    layout: Layout,
+) -> Result<(), AllocError>
+    ensures { OnOk result (string_bytes out.new ≡ string_bytes out.old ++ text (laid_stream layout (view_stream texts stream.now))) }
+{
+    out.push_str("(_")?;
+    print_mandatory(out, alloc, &stream.ms, layout, Slot::First)?;
+    print_strings(out, alloc, &stream.strings, layout)?;
+    out.push_str(")")
+}
+
+#[tactic(auto, using(crate::proofs::lemmas::tree::Views::view_strings_is, cbor_edn_model::proofs::lemmas::layout::LaidTexts::text_laid_rest, cbor_edn_model::proofs::lemmas::layout::LaidTexts::text_laid_chunk, std::proofs::Common::append_assoc))]
+fn print_strings(
+    out: &mut String,
+    alloc: Global,
+    strings: &Strings<'_>,
+    layout: Layout,
+) -> Result<(), AllocError>
+    ensures { OnOk result (string_bytes out.new ≡ string_bytes out.old ++ text (laid layout (view_strings texts strings.now))) }
+{
+    print_string_row(out, alloc, &strings.row, layout)?;
+    print_string(out, alloc, &strings.last, layout.in_chunk())?;
+    print_end(out, alloc, &strings.soc, layout)
+}
+
+#[tactic(auto, unfolding(cbor_edn_model::specs::layout::Layout::laid, cbor_edn_model::specs::tree::Trees::onto))]
+fn print_string_row(
+    out: &mut String,
+    alloc: Global,
+    row: &[(CborString<'_>, Msc<'_>)],
+    layout: Layout,
+) -> Result<(), AllocError>
+    ensures { OnOk result (string_bytes out.new ≡ string_bytes out.old ++ entries_text (map (laid_entry layout) (map (seen_string texts) row.now))) }
+{
+    for (string, separator) in row {
+        print_string(out, alloc, string, layout.in_chunk())?;
+        print_separator(out, alloc, separator, layout)?;
+    }
+    Ok(())
+}
+
+#[cycle(print_laid)]
+#[tactic(auto, using(cbor_edn_model::proofs::lemmas::layout::LaidTexts::text_laid_empty, cbor_edn_model::proofs::lemmas::layout::LaidTexts::text_laid_full, std::proofs::Common::append_assoc))]
+fn print_list(
+    out: &mut String,
+    alloc: Global,
+    list: &ItemList<'_>,
+    layout: Layout,
+) -> Result<(), AllocError>
+    ensures { OnOk result (string_bytes out.new ≡ string_bytes out.old ++ text (laid layout (view_list texts list.now))) }
+{
+    match list {
+        ItemList::Present { head, s, items } => {
+            print_laid_head(out, alloc, head, layout)?;
+            print_space(out, alloc, s, layout, Slot::First)?;
+            print_items(out, alloc, items, layout)
+        }
+        ItemList::Absent { indicator, s } => {
+            print_indicator(out, *indicator)?;
+            print_space(out, alloc, s, layout, Slot::Elsewhere)
+        }
+    }
+}
+
+#[cycle(print_laid)]
+#[tactic(auto, using(crate::proofs::lemmas::tree::Views::view_items_is, cbor_edn_model::proofs::lemmas::layout::LaidTexts::text_laid_rest, cbor_edn_model::proofs::lemmas::layout::LaidTexts::text_laid_element, std::proofs::Common::append_assoc))]
+fn print_items(
+    out: &mut String,
+    alloc: Global,
+    items: &Items<'_>,
+    layout: Layout,
+) -> Result<(), AllocError>
+    ensures { OnOk result (string_bytes out.new ≡ string_bytes out.old ++ text (laid layout (view_items texts items.now))) }
+{
+    print_row(out, alloc, &items.row, layout)?;
+    print_item(out, alloc, &items.last, layout)?;
+    print_end(out, alloc, &items.soc, layout)
+}
+
+#[cycle(print_laid)]
+#[tactic(auto, unfolding(cbor_edn_model::specs::layout::Layout::laid, cbor_edn_model::specs::tree::Trees::onto))]
+fn print_row(
+    out: &mut String,
+    alloc: Global,
+    row: &[(Item<'_>, Msc<'_>)],
+    layout: Layout,
+) -> Result<(), AllocError>
+    ensures { OnOk result (string_bytes out.new ≡ string_bytes out.old ++ entries_text (map (laid_entry layout) (map (seen texts) row.now))) }
+{
+    for (item, separator) in row {
+        print_item(out, alloc, item, layout)?;
+        print_separator(out, alloc, separator, layout)?;
+    }
+    Ok(())
+}
+
+#[cycle(print_laid)]
+#[tactic(auto, using(cbor_edn_model::proofs::lemmas::layout::LaidTexts::text_laid_empty, cbor_edn_model::proofs::lemmas::layout::LaidTexts::text_laid_full, std::proofs::Common::append_assoc))]
+fn print_pair_list(
+    out: &mut String,
+    alloc: Global,
+    list: &PairList<'_>,
+    layout: Layout,
+) -> Result<(), AllocError>
+    ensures { OnOk result (string_bytes out.new ≡ string_bytes out.old ++ text (laid layout (view_pair_list texts list.now))) }
+{
+    match list {
+        PairList::Present { head, s, pairs } => {
+            print_laid_head(out, alloc, head, layout)?;
+            print_space(out, alloc, s, layout, Slot::First)?;
+            print_pairs(out, alloc, pairs, layout)
+        }
+        PairList::Absent { indicator, s } => {
+            print_indicator(out, *indicator)?;
+            print_space(out, alloc, s, layout, Slot::Elsewhere)
+        }
+    }
+}
+
+#[cycle(print_laid)]
+#[tactic(auto, using(crate::proofs::lemmas::tree::Views::view_pairs_is, cbor_edn_model::proofs::lemmas::layout::LaidTexts::text_laid_rest, std::proofs::Common::append_assoc))]
+fn print_pairs(
+    out: &mut String,
+    alloc: Global,
+    pairs: &Pairs<'_>,
+    layout: Layout,
+) -> Result<(), AllocError>
+    ensures { OnOk result (string_bytes out.new ≡ string_bytes out.old ++ text (laid layout (view_pairs texts pairs.now))) }
+{
+    print_pair_row(out, alloc, &pairs.row, layout)?;
+    print_pair(out, alloc, &pairs.last, layout)?;
+    print_end(out, alloc, &pairs.soc, layout)
+}
+
+#[cycle(print_laid)]
+fn print_pair_row(
+    out: &mut String,
+    alloc: Global,
+    row: &[(Kp<'_>, Msc<'_>)],
+    layout: Layout,
+) -> Result<(), AllocError>
+    ensures { OnOk result (string_bytes out.new ≡ string_bytes out.old ++ entries_text (map (laid_entry layout) (map (seen_pair texts) row.now))) }
+{
+    for (pair, separator) in row {
+        print_pair(out, alloc, pair, layout)?;
+        print_separator(out, alloc, separator, layout)?;
+    }
+    Ok(())
+}
+
+#[cycle(print_laid)]
+#[tactic(auto, using(cbor_edn_model::proofs::lemmas::layout::LaidTexts::text_laid_pair, std::proofs::Common::append_assoc))]
+fn print_pair(
+    out: &mut String,
+    alloc: Global,
+    pair: &Kp<'_>,
+    layout: Layout,
+) -> Result<(), AllocError>
+    ensures { OnOk result (string_bytes out.new ≡ string_bytes out.old ++ text (laid layout (view_pair texts pair.now))) }
+{
+    print_item(out, alloc, &pair.key, layout)?;
+    print_space(out, alloc, &pair.before_colon, layout, Slot::Elsewhere)?;
+    out.push_str(":")?;
+    print_space(out, alloc, &pair.after_colon, layout, Slot::AfterColon)?;
+    print_item(out, alloc, &pair.value, layout)
+}

@@ -1,0 +1,5 @@
+//! Texts: read and printed.
+
+mod grammar;
+mod parse;
+pub(crate) mod serialize;

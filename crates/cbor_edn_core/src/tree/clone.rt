@@ -1,0 +1,507 @@
+//! Copies of trees. Memory comes from the allocator of what is copied.
+ghost use Rattle.std.specs.Prelude.{◌≡◌, ◌∷◌, ◌++◌, [], map, IfOk, OnOk};
+ghost use Rattle.cbor_edn_parts.specs.Leaves.{s_bytes, ms_bytes, msc_bytes, soc_bytes, number_bytes, literal_bytes, dots_bytes};
+ghost use Rattle.cbor_edn_core.specs.tree.View.{row_onto, pair_row_onto, string_row_onto, view_some, view_list, view_items, seen, view_pair_list, view_pair, seen_pair, view_string, view_piece, seen_piece, view_stream, seen_string, item_tree, standalone_tree, sequence_tree};
+ghost use Rattle.cbor_edn_model.specs.tree.Items.{Array, Map};
+ghost use Rattle.cbor_edn_model.specs.tree.TreeLeaves.{texts};
+ghost use Rattle.cbor_edn_model.specs.tree.Trees.{NumberTree, EnclosedTree, ListTree, FullTree, EmptyTree, StringTree, StreamTree, ChunkTree, LastPieceTree, LiteralTree, DotsTree, EmbeddedTree, ElementTree, LastTree};
+ghost use Rattle.cbor_edn_model.specs.text.ListHeads.{view_list_head};
+
+use crate::tree::{
+    CborString, Indicator, InnerItem, Item, ItemList, ItemOf, Items, Kp, Label, PairList, Pairs,
+    Piece, Sequence, SequenceOf, StandaloneItem, StandaloneItemOf, Stream, Strings,
+};
+use cbor_edn_model::text::list_head::clone_list_head;
+use cbor_edn_model::tree::copy::clone_spaces;
+use cbor_edn_parts::number::Number;
+use cbor_edn_parts::space::{Ms, Msc, S, Soc};
+use cbor_edn_parts::string::{Dots, Literal};
+use std::alloc::{AllocError, Global};
+
+impl<'a> Item<'a> {
+    /// A copy of the item, with the spaces in it. What is borrowed from a text is borrowed by the copy too. Fails where memory runs out.
+    pub fn clone(&self) -> Result<Item<'a>, AllocError>
+        ensures { IfOk result (λ t. item_tree t ≡ item_tree self.now) }
+    {
+        clone_item(self)
+    }
+}
+
+impl<'a> StandaloneItem<'a> {
+    /// A copy of the item, with the spaces round it. What is borrowed from a text is borrowed by the copy too. Fails where memory runs
+    /// out.
+    pub fn clone(&self) -> Result<StandaloneItem<'a>, AllocError>
+        ensures { IfOk result (λ t. standalone_tree t ≡ standalone_tree self.now) }
+    {
+        clone_standalone(self)
+    }
+}
+
+impl<'a> Sequence<'a> {
+    /// A copy of the items, with the spaces round them. What is borrowed from a text is borrowed by the copy too. Fails where memory runs
+    /// out.
+    pub fn clone(&self) -> Result<Sequence<'a>, AllocError>
+        ensures { IfOk result (λ t. sequence_tree t ≡ sequence_tree self.now) }
+    {
+        clone_sequence(self)
+    }
+}
+
+// A copy nests as deep as its tree. So a function that recurs holds copies of what nests alone, and hands them to one out of
+// line, which copies the leaves round them.
+
+#[cycle(copy)]
+#[tactic(auto, using(crate::proofs::lemmas::tree::Views::view_string_is))]
+fn clone_item<'a>(item: &Item<'a>) -> Result<Item<'a>, AllocError>
+    ensures { IfOk result (λ t. item_tree t ≡ item_tree item.now) }
+{
+    match &item.inner {
+        InnerItem::Number(indicator, number) => clone_number(number, *indicator),
+        InnerItem::NonFinite(indicator, float) => Ok(ItemOf {
+            inner: InnerItem::NonFinite(*indicator, *float),
+        }),
+        InnerItem::Named(name) => Ok(ItemOf {
+            inner: InnerItem::Named(*name),
+        }),
+        InnerItem::Enclosed(label, content) => {
+            clone_enclosed(*Box::allocator(content), *label, content)
+        }
+        InnerItem::Array(list) => clone_array(*Box::allocator(list), list),
+        InnerItem::Map(list) => clone_map(*Box::allocator(list), list),
+        InnerItem::Literal(indicator, literal) => clone_lone_literal(literal, *indicator),
+        InnerItem::String(string) => clone_joined(*Box::allocator(string), string),
+        InnerItem::Stream(stream) => clone_stream(*Box::allocator(stream), stream),
+    }
+}
+
+#[inline(never)]
+fn clone_number<'a>(
+    number: &Number<'a>,
+    indicator: Option<Indicator>,
+) -> Result<Item<'a>, AllocError>
+    ensures { IfOk result (λ t. item_tree t ≡ NumberTree (number_bytes number.now) indicator) }
+{
+    let number = number.clone()?;
+    Ok(ItemOf {
+        inner: InnerItem::Number(indicator, number),
+    })
+}
+
+#[inline(never)]
+fn clone_lone_literal<'a>(
+    literal: &Literal<'a>,
+    indicator: Option<Indicator>,
+) -> Result<Item<'a>, AllocError>
+    ensures { IfOk result (λ t. item_tree t ≡ StringTree (LastPieceTree (LiteralTree (literal_bytes literal.now) indicator))) }
+{
+    let literal = literal.clone()?;
+    Ok(Item::literal(indicator, literal))
+}
+
+#[cycle(copy)]
+#[inline(never)]
+fn clone_enclosed<'a>(
+    alloc: Global,
+    label: Label,
+    content: &StandaloneItem<'a>,
+) -> Result<Item<'a>, AllocError>
+    ensures { IfOk result (λ t. item_tree t ≡ EnclosedTree label.kind (standalone_tree content.now)) }
+{
+    let copy = clone_standalone(content)?;
+    Item::enclosed(alloc, label, copy)
+}
+
+#[cycle(copy)]
+#[inline(never)]
+fn clone_standalone<'a>(content: &StandaloneItem<'a>) -> Result<StandaloneItem<'a>, AllocError>
+    ensures { IfOk result (λ t. standalone_tree t ≡ standalone_tree content.now) }
+{
+    let (before, after) = clone_spaces(&content.before, &content.after)?;
+    let item = clone_item(&content.item)?;
+    Ok(StandaloneItemOf {
+        before,
+        item,
+        after,
+    })
+}
+
+#[cycle(copy)]
+#[inline(never)]
+fn clone_array<'a>(alloc: Global, list: &ItemList<'a>) -> Result<Item<'a>, AllocError>
+    ensures { IfOk result (λ t. item_tree t ≡ ListTree Array (view_list texts list.now)) }
+{
+    match list {
+        ItemList::Present { head, s, items } => {
+            let items = clone_items(items)?;
+            make_array(alloc, head, s, items)
+        }
+        ItemList::Absent { indicator, s } => make_empty_array(alloc, *indicator, s),
+    }
+}
+
+#[inline(never)]
+fn make_array<'a>(
+    alloc: Global,
+    head: &Option<(Indicator, Ms<'a>)>,
+    s: &S<'a>,
+    items: Items<'a>,
+) -> Result<Item<'a>, AllocError>
+    ensures { IfOk result (λ t. item_tree t ≡ ListTree Array (FullTree (view_list_head texts head.now) (s_bytes s.now) (view_items texts items.entry))) }
+{
+    let head = clone_list_head(head)?;
+    let s = s.clone()?;
+    Item::array(alloc, ItemList::Present { head, s, items })
+}
+
+#[inline(never)]
+fn make_empty_array<'a>(
+    alloc: Global,
+    indicator: Option<Indicator>,
+    s: &S<'a>,
+) -> Result<Item<'a>, AllocError>
+    ensures { IfOk result (λ t. item_tree t ≡ ListTree Array (EmptyTree indicator (s_bytes s.now))) }
+{
+    let s = s.clone()?;
+    Item::array(alloc, ItemList::Absent { indicator, s })
+}
+
+#[cycle(copy)]
+#[inline(never)]
+#[tactic(auto, using(crate::proofs::lemmas::tree::Views::view_pairs_is))]
+fn clone_map<'a>(alloc: Global, list: &PairList<'a>) -> Result<Item<'a>, AllocError>
+    ensures { IfOk result (λ t. item_tree t ≡ ListTree Map (view_pair_list texts list.now)) }
+{
+    match list {
+        PairList::Present { head, s, pairs } => {
+            let row = clone_pair_row(&pairs.row)?;
+            let last = clone_pair(&pairs.last)?;
+            make_map(alloc, head, s, row, last, &pairs.soc)
+        }
+        PairList::Absent { indicator, s } => make_empty_map(alloc, *indicator, s),
+    }
+}
+
+#[inline(never)]
+#[tactic(auto, using(crate::proofs::lemmas::tree::Views::view_pairs_made))]
+fn make_map<'a>(
+    alloc: Global,
+    head: &Option<(Indicator, Ms<'a>)>,
+    s: &S<'a>,
+    row: Vec<(Kp<'a>, Msc<'a>)>,
+    last: Kp<'a>,
+    soc: &Soc<'a>,
+) -> Result<Item<'a>, AllocError>
+    ensures { IfOk result (λ t. item_tree t ≡ ListTree Map (FullTree (view_list_head texts head.now) (s_bytes s.now) (pair_row_onto texts row.entry.items (LastTree (view_pair texts last.entry) (soc_bytes soc.now))))) }
+{
+    let head = clone_list_head(head)?;
+    let s = s.clone()?;
+    let soc = soc.clone()?;
+    let pairs = Pairs { row, last, soc };
+    Item::map(alloc, PairList::Present { head, s, pairs })
+}
+
+#[inline(never)]
+fn make_empty_map<'a>(
+    alloc: Global,
+    indicator: Option<Indicator>,
+    s: &S<'a>,
+) -> Result<Item<'a>, AllocError>
+    ensures { IfOk result (λ t. item_tree t ≡ ListTree Map (EmptyTree indicator (s_bytes s.now))) }
+{
+    let s = s.clone()?;
+    Item::map(alloc, PairList::Absent { indicator, s })
+}
+
+#[cycle(copy)]
+#[inline(never)]
+#[tactic(auto, using(crate::proofs::lemmas::tree::Views::view_string_is))]
+fn clone_joined<'a>(alloc: Global, string: &CborString<'a>) -> Result<Item<'a>, AllocError>
+    ensures { IfOk result (λ t. item_tree t ≡ StringTree (view_string texts string.now)) }
+{
+    let copy = clone_string(string)?;
+    Item::string(alloc, copy)
+}
+
+#[cycle(copy)]
+#[inline(never)]
+fn clone_string<'a>(string: &CborString<'a>) -> Result<CborString<'a>, AllocError>
+    ensures { IfOk result (λ t. view_string texts t ≡ view_string texts string.now) }
+{
+    let row = clone_piece_row(&string.row)?;
+    let last = clone_piece(&string.last)?;
+    Ok(CborString { row, last })
+}
+
+#[cycle(copy)]
+#[inline(never)]
+fn clone_piece_row<'a>(
+    row: &Vec<(Piece<'a>, S<'a>, S<'a>)>,
+) -> Result<Vec<(Piece<'a>, S<'a>, S<'a>)>, AllocError>
+    ensures { IfOk result (λ t. map (seen_piece texts) t.items ≡ map (seen_piece texts) row.now.items) }
+{
+    let mut copy = Vec::new(*row.allocator());
+    for (piece, before, after) in row {
+        let piece = clone_piece(piece)?;
+        push_piece(&mut copy, piece, before, after)?;
+    }
+    Ok(copy)
+}
+
+#[inline(never)]
+fn push_piece<'a>(
+    row: &mut Vec<(Piece<'a>, S<'a>, S<'a>)>,
+    piece: Piece<'a>,
+    before: &S<'a>,
+    after: &S<'a>,
+) -> Result<(), AllocError>
+    ensures { OnOk result (map (seen_piece texts) row.new.items ≡ map (seen_piece texts) row.old.items ++ (view_piece texts piece.entry, s_bytes before.now, s_bytes after.now) ∷ []) }
+{
+    let (before, after) = clone_spaces(before, after)?;
+    row.push((piece, before, after))?;
+    Ok(())
+}
+
+#[cycle(copy)]
+#[inline(never)]
+fn clone_piece<'a>(piece: &Piece<'a>) -> Result<Piece<'a>, AllocError>
+    ensures { IfOk result (λ t. view_piece texts t ≡ view_piece texts piece.now) }
+{
+    match piece {
+        Piece::Literal(indicator, literal) => clone_literal(literal, *indicator),
+        Piece::Dots(dots) => clone_dots(dots),
+        Piece::Embedded(indicator, sequence) => {
+            clone_embedded(*Box::allocator(sequence), sequence, *indicator)
+        }
+    }
+}
+
+#[inline(never)]
+fn clone_literal<'a>(
+    literal: &Literal<'a>,
+    indicator: Option<Indicator>,
+) -> Result<Piece<'a>, AllocError>
+    ensures { IfOk result (λ t. view_piece texts t ≡ LiteralTree (literal_bytes literal.now) indicator) }
+{
+    let literal = literal.clone()?;
+    Ok(Piece::Literal(indicator, literal))
+}
+
+#[inline(never)]
+fn clone_dots<'a>(dots: &Dots<'a>) -> Result<Piece<'a>, AllocError>
+    ensures { IfOk result (λ t. view_piece texts t ≡ DotsTree (dots_bytes dots.now)) }
+{
+    let dots = dots.clone()?;
+    Ok(Piece::Dots(dots))
+}
+
+#[cycle(copy)]
+#[inline(never)]
+#[tactic(auto, using(crate::proofs::lemmas::tree::Views::view_sequence_is))]
+fn clone_embedded<'a>(
+    alloc: Global,
+    sequence: &Sequence<'a>,
+    indicator: Option<Indicator>,
+) -> Result<Piece<'a>, AllocError>
+    ensures { IfOk result (λ t. view_piece texts t ≡ EmbeddedTree (sequence_tree sequence.now) indicator) }
+{
+    let items = match &sequence.items {
+        None => None,
+        Some(items) => Some(clone_items(items)?),
+    };
+    make_embedded(alloc, &sequence.before, items, indicator)
+}
+
+#[inline(never)]
+fn make_embedded<'a>(
+    alloc: Global,
+    before: &S<'a>,
+    items: Option<Items<'a>>,
+    indicator: Option<Indicator>,
+) -> Result<Piece<'a>, AllocError>
+    ensures { IfOk result (λ t. view_piece texts t ≡ EmbeddedTree (view_some texts (s_bytes before.now) items.entry) indicator) }
+{
+    let sequence = make_sequence(before, items)?;
+    let sequence = Box::new(alloc, sequence)?;
+    Ok(Piece::Embedded(indicator, sequence))
+}
+
+#[tactic(auto, using(crate::proofs::lemmas::tree::Views::view_sequence_is))]
+fn clone_sequence<'a>(sequence: &Sequence<'a>) -> Result<Sequence<'a>, AllocError>
+    ensures { IfOk result (λ t. sequence_tree t ≡ sequence_tree sequence.now) }
+{
+    let items = match &sequence.items {
+        None => None,
+        Some(items) => Some(clone_items(items)?),
+    };
+    make_sequence(&sequence.before, items)
+}
+
+#[tactic(auto, using(crate::proofs::lemmas::tree::Views::view_sequence_made))]
+fn make_sequence<'a>(before: &S<'a>, items: Option<Items<'a>>) -> Result<Sequence<'a>, AllocError>
+    ensures { IfOk result (λ t. sequence_tree t ≡ view_some texts (s_bytes before.now) items.entry) }
+{
+    let before = before.clone()?;
+    Ok(SequenceOf { before, items })
+}
+
+#[cycle(copy)]
+#[inline(never)]
+#[tactic(auto, using(crate::proofs::lemmas::tree::Views::view_stream_is, crate::proofs::lemmas::tree::Views::view_strings_is))]
+fn clone_stream<'a>(alloc: Global, stream: &Stream<'a>) -> Result<Item<'a>, AllocError>
+    ensures { IfOk result (λ t. item_tree t ≡ view_stream texts stream.now) }
+{
+    let row = clone_string_row(&stream.strings.row)?;
+    let last = clone_string(&stream.strings.last)?;
+    make_stream(alloc, &stream.ms, row, last, &stream.strings.soc)
+}
+
+#[inline(never)]
+#[tactic(auto, using(crate::proofs::lemmas::tree::Views::view_stream_made, crate::proofs::lemmas::tree::Views::view_strings_made))]
+fn make_stream<'a>(
+    alloc: Global,
+    ms: &Ms<'a>,
+    row: Vec<(CborString<'a>, Msc<'a>)>,
+    last: CborString<'a>,
+    soc: &Soc<'a>,
+) -> Result<Item<'a>, AllocError>
+    ensures { IfOk result (λ t. item_tree t ≡ StreamTree (ms_bytes ms.now) (string_row_onto texts row.entry.items (LastTree (ChunkTree (view_string texts last.entry)) (soc_bytes soc.now)))) }
+{
+    let ms = ms.clone()?;
+    let soc = soc.clone()?;
+    let strings = Strings { row, last, soc };
+    Item::stream(alloc, Stream { ms, strings })
+}
+
+#[cycle(copy)]
+#[inline(never)]
+fn clone_string_row<'a>(
+    row: &Vec<(CborString<'a>, Msc<'a>)>,
+) -> Result<Vec<(CborString<'a>, Msc<'a>)>, AllocError>
+    ensures { IfOk result (λ t. map (seen_string texts) t.items ≡ map (seen_string texts) row.now.items) }
+{
+    let mut copy = Vec::new(*row.allocator());
+    for (string, separator) in row {
+        let string = clone_string(string)?;
+        push_string(&mut copy, string, separator)?;
+    }
+    Ok(copy)
+}
+
+#[inline(never)]
+fn push_string<'a>(
+    row: &mut Vec<(CborString<'a>, Msc<'a>)>,
+    string: CborString<'a>,
+    separator: &Msc<'a>,
+) -> Result<(), AllocError>
+    ensures { OnOk result (map (seen_string texts) row.new.items ≡ map (seen_string texts) row.old.items ++ (ChunkTree (view_string texts string.entry), msc_bytes separator.now) ∷ []) }
+{
+    let separator = separator.clone()?;
+    row.push((string, separator))?;
+    Ok(())
+}
+
+#[cycle(copy)]
+#[inline(never)]
+#[tactic(auto, using(crate::proofs::lemmas::tree::Views::view_items_is))]
+fn clone_items<'a>(items: &Items<'a>) -> Result<Items<'a>, AllocError>
+    ensures { IfOk result (λ t. view_items texts t ≡ view_items texts items.now) }
+{
+    let row = clone_row(&items.row)?;
+    let last = clone_item(&items.last)?;
+    make_items(row, last, &items.soc)
+}
+
+#[inline(never)]
+#[tactic(auto, using(crate::proofs::lemmas::tree::Views::view_items_made))]
+fn make_items<'a>(
+    row: Vec<(Item<'a>, Msc<'a>)>,
+    last: Item<'a>,
+    soc: &Soc<'a>,
+) -> Result<Items<'a>, AllocError>
+    ensures { IfOk result (λ t. view_items texts t ≡ row_onto texts row.entry.items (LastTree (ElementTree (item_tree last.entry)) (soc_bytes soc.now))) }
+{
+    let soc = soc.clone()?;
+    Ok(Items { row, last, soc })
+}
+
+#[cycle(copy)]
+#[inline(never)]
+fn clone_row<'a>(row: &Vec<(Item<'a>, Msc<'a>)>) -> Result<Vec<(Item<'a>, Msc<'a>)>, AllocError>
+    ensures { IfOk result (λ t. map (seen texts) t.items ≡ map (seen texts) row.now.items) }
+{
+    let mut copy = Vec::new(*row.allocator());
+    for (item, separator) in row {
+        let item = clone_item(item)?;
+        push_item(&mut copy, item, separator)?;
+    }
+    Ok(copy)
+}
+
+#[inline(never)]
+fn push_item<'a>(
+    row: &mut Vec<(Item<'a>, Msc<'a>)>,
+    item: Item<'a>,
+    separator: &Msc<'a>,
+) -> Result<(), AllocError>
+    ensures { OnOk result (map (seen texts) row.new.items ≡ map (seen texts) row.old.items ++ (ElementTree (item_tree item.entry), msc_bytes separator.now) ∷ []) }
+{
+    let separator = separator.clone()?;
+    row.push((item, separator))?;
+    Ok(())
+}
+
+#[cycle(copy)]
+#[inline(never)]
+fn clone_pair_row<'a>(row: &Vec<(Kp<'a>, Msc<'a>)>) -> Result<Vec<(Kp<'a>, Msc<'a>)>, AllocError>
+    ensures { IfOk result (λ t. map (seen_pair texts) t.items ≡ map (seen_pair texts) row.now.items) }
+{
+    let mut copy = Vec::new(*row.allocator());
+    for (pair, separator) in row {
+        let pair = clone_pair(pair)?;
+        push_pair(&mut copy, pair, separator)?;
+    }
+    Ok(copy)
+}
+
+#[inline(never)]
+fn push_pair<'a>(
+    row: &mut Vec<(Kp<'a>, Msc<'a>)>,
+    pair: Kp<'a>,
+    separator: &Msc<'a>,
+) -> Result<(), AllocError>
+    ensures { OnOk result (map (seen_pair texts) row.new.items ≡ map (seen_pair texts) row.old.items ++ (view_pair texts pair.entry, msc_bytes separator.now) ∷ []) }
+{
+    let separator = separator.clone()?;
+    row.push((pair, separator))?;
+    Ok(())
+}
+
+#[cycle(copy)]
+#[inline(never)]
+fn clone_pair<'a>(pair: &Kp<'a>) -> Result<Kp<'a>, AllocError>
+    ensures { IfOk result (λ t. view_pair texts t ≡ view_pair texts pair.now) }
+{
+    let key = clone_item(&pair.key)?;
+    make_pair(pair, key, clone_item(&pair.value))
+}
+
+// Takes the value's copy as it came: a key that is dropped where that failed would take stack in `clone_pair`.
+#[inline(never)]
+fn make_pair<'a>(
+    pair: &Kp<'a>,
+    key: Item<'a>,
+    value: Result<Item<'a>, AllocError>,
+) -> Result<Kp<'a>, AllocError>
+    requires key { item_tree key ≡ item_tree pair.now.key }
+    requires value { IfOk value (λ t. item_tree t ≡ item_tree pair.now.value) }
+    ensures { IfOk result (λ t. view_pair texts t ≡ view_pair texts pair.now) }
+{
+    let value = value?;
+    let (before_colon, after_colon) = clone_spaces(&pair.before_colon, &pair.after_colon)?;
+    Ok(Kp {
+        key,
+        before_colon,
+        after_colon,
+        value,
+    })
+}

@@ -1,0 +1,91 @@
+//! Uses of `cbor_edn`, as a caller writes them: each contract follows from those of the calls alone.
+#![tactic(auto)]
+
+ghost use Rattle.std.specs.Prelude.{◌≡◌, ◌≤◌, Some, None, IsNone, IfOk, IsErr, OnOk};
+ghost use Rattle.std.specs.Option.{OnSome};
+ghost use Rattle.std.specs.String.{string_bytes};
+ghost use Rattle.cbor_edn_model.specs.cbor.Decoded.{items_of, IsDecodedSequence};
+ghost use Rattle.cbor_edn_model.specs.tree.Items.{Items, nesting};
+ghost use Rattle.cbor_edn_core.specs.access.Lent.{with_tag_content};
+ghost use Rattle.cbor_edn_model.specs.cbor.Meaning.{means};
+ghost use Rattle.cbor_edn_model.specs.access.Paths.{at_sequence, with_at_sequence};
+ghost use Rattle.cbor_edn_model.specs.visit.Seeking.{IsTag, IsApplication};
+ghost use Rattle.cbor_edn_model.specs.text.Spelling.{SpellsSequence};
+ghost use Rattle.cbor_edn_model.specs.tree.Trees.{Tree, Seq, items, text};
+ghost use Rattle.cbor_edn_model.specs.cbor.Value.{Values, ValuesFit, EncAll};
+ghost use Rattle.cbor_edn_model.specs.visit.Visits.{whole};
+ghost use Rattle.cbor_edn_core.specs.tree.View.{item_tree, sequence_tree, standalone_tree};
+ghost use Rattle.cbor_edn_conversions.specs.All.{resolve_all, pretty_all};
+ghost use Rattle.cbor_edn_application.specs.Acts.{IsVisited};
+ghost use Rattle.cbor_edn_application.specs.Sequences.{with_claims_sets};
+
+use cbor_edn::application::laws::calls_resolve_again;
+use cbor_edn::application::visits::{annotate_claims_sets, prettify, resolve};
+use cbor_edn::engine::RunError;
+use cbor_edn::{DelimiterPolicy, Item, Sequence, StandaloneItem, TypeMismatch};
+use std::alloc::{AllocError, Global};
+
+/// The CBOR that a text means, as for a commented configuration that ships as CBOR. Fails where the text is no EDN, nests too
+/// deep or means nothing, and where memory runs out.
+pub fn shipped(alloc: Global, text: &str) -> Result<Vec<u8>, RunError>
+    ensures { IfOk result (λ b. (x : Items) × (vs : Values) × SpellsSequence x text.now × (nesting x ≤ 512) × (means x ≡ Some vs) × EncAll b.items vs) }
+{
+    let sequence = Sequence::parse(alloc, text)?;
+    Ok(sequence.to_cbor(alloc)?)
+}
+
+/// The indented text of what bytes encode, as for a token or a signed object that is looked into. Fails where they encode
+/// nothing that can be shown or nests too deep, and where memory runs out.
+pub fn shown(alloc: Global, bytes: &[u8]) -> Result<String, RunError>
+    ensures { IfOk result (λ s. (vs : Values) × EncAll bytes.now vs × SpellsSequence (items_of vs) (string_bytes s)) }
+{
+    let mut sequence: Sequence<'_> = Sequence::from_cbor(alloc, bytes)?;
+    sequence.set_delimiters(alloc, DelimiterPolicy::indented())?;
+    Ok(sequence.serialize(alloc)?)
+}
+
+/// Puts another content into a tag, as for a token that is wrapped anew. Fails where the item is no tag; it stays then.
+pub fn retagged<'a>(item: &mut Item<'a>, content: StandaloneItem<'a>) -> Result<(), TypeMismatch>
+    ensures replaced { IfOk result (λ _. item_tree item.new ≡ with_tag_content (standalone_tree content.entry) (item_tree item.old)) }
+    ensures refused { IsErr result → item.new ≡ item.old }
+{
+    *item.get_tagged_mut()? = content;
+    Ok(())
+}
+
+/// Puts another item where a path leads, as for one value of a configuration. None where the path leads nowhere; the sequence
+/// stays then.
+pub fn replaced<'a>(sequence: &mut Sequence<'a>, path: &[usize], item: Item<'a>) -> Option<()>
+    ensures placed { OnSome result (sequence_tree sequence.new ≡ with_at_sequence path.now (item_tree item.entry) (sequence_tree sequence.old)) }
+    ensures nowhere { IsNone result → (at_sequence path.now (sequence_tree sequence.old) ≡ None) × (sequence_tree sequence.new ≡ sequence_tree sequence.old) }
+{
+    match sequence.at_mut(path) {
+        Some(place) => {
+            *place = item;
+            Some(())
+        }
+        None => None,
+    }
+}
+
+/// Shows times, addresses and bignums as people read them, works on the text in between, say, and puts back what they stand for. Where the
+/// items were decoded, they mean what they meant. Fails where memory runs out.
+pub fn prettified_and_resolved(alloc: Global, sequence: &mut Sequence<'_>) -> Result<(), AllocError>
+    ensures visits { OnOk result ((pretty : Tree Seq) × IsVisited IsTag pretty_all (sequence_tree sequence.old) whole pretty × IsVisited IsApplication resolve_all pretty whole (sequence_tree sequence.new)) }
+    ensures meant { OnOk result ((vs : Values) → ValuesFit vs → items (sequence_tree sequence.old) ≡ items_of vs → means (items (sequence_tree sequence.new)) ≡ Some vs) }
+{
+    prettify(alloc, sequence)?;
+    resolve(alloc, sequence)?;
+    calls_resolve_again();
+    Ok(())
+}
+
+/// The text of a token's claims with the names of their keys, and with its times as literals. Fails where the bytes encode nothing that can be
+/// shown or nest too deep, and where memory runs out.
+pub fn inspected(alloc: Global, bytes: &[u8]) -> Result<String, RunError>
+    ensures { IfOk result (λ s. (w : Tree Seq) × IsDecodedSequence 512 bytes.now w × (string_bytes s ≡ text (with_claims_sets w))) }
+{
+    let mut sequence: Sequence<'_> = Sequence::from_cbor(alloc, bytes)?;
+    annotate_claims_sets(alloc, &mut sequence)?;
+    Ok(sequence.serialize(alloc)?)
+}

@@ -1,0 +1,4 @@
+-- Parts of items, paths and loans.
+pub mod AddedBytes
+pub mod CountedItems
+pub mod ReplacedItems

@@ -1,0 +1,19 @@
+-- CBOR: what items mean, and the items of values; the plain reader of bytes is sound and complete, so a byte string has one value.
+pub mod CborAgain
+pub mod CborHeads
+pub mod CborOneValue
+pub mod CborOutcomes
+pub mod CborSpecials
+pub mod CborTakes
+pub mod CborTrees
+pub mod CborValues
+pub mod Nestings
+pub mod CborEncodes
+pub mod CborIntegers
+pub mod StringEncodes
+pub mod StringKinds
+pub mod DecodedLiterals
+pub mod Decoding
+pub mod MeaningExamples
+pub mod MeaningSteps
+pub mod Meanings

@@ -1,0 +1,19 @@
+-- Spaces by a policy, comments, and items without indicators.
+pub mod WrittenFields
+pub mod Digits
+pub mod BareExamples
+pub mod BareItems
+pub mod BareParts
+pub mod Begun
+pub mod CommentedItems
+pub mod Countings
+pub mod FewestIndicators
+pub mod LayoutExamples
+pub mod LaidTrees
+pub mod LaidRows
+pub mod LaidTexts
+pub mod RegularLayout
+pub mod RegularTrees
+pub mod RowsWithoutIndicators
+pub mod WithoutIndicators
+pub mod MeasuredWidths

@@ -1,0 +1,213 @@
+-- Widths measured part by part are those of the texts, so that each item needs to be measured once.
+use Rattle.std.proofs.Common.{ℕ, ◌+◌, ◌-◌, ◌^◌, ◌≡◌, List, [], ◌∷◌, ◌++◌, length, refl, sym, ap, ◌∙◌, length-append, arith}
+use Rattle.std.specs.Prelude.{min, nat_lt}
+use Rattle.std.proofs.lemmas.List.{reverse-append, reverse-reverse}
+use Rattle.cbor_edn_parts.specs.Indicator.{indicator_text}
+use Rattle.cbor_edn_parts.specs.Spacing.{SpaceKind, S, MS, MSC, SOC}
+use Rattle.cbor_edn_parts.specs.declared.policy.Spacing.{Spacing}
+use Rattle.cbor_edn_parts.specs.declared.policy.Spacing.TheVariants.{Least, Comments, OneLine, NewLine, OneSpace}
+use Rattle.cbor_edn_model.specs.declared.layout.width.Spaces.{Spaces}
+use Rattle.cbor_edn_model.specs.declared.layout.width.Spaces.TheVariants.{Kept, By}
+use Rattle.cbor_edn_model.specs.tree.Items.{Row}
+use Rattle.cbor_edn_model.specs.text.Spelling.{ending}
+use Rattle.cbor_edn_model.specs.tree.Trees.{Rule, OneItem, OnePiece, OneString, OneEntry, Rest, ListHead, NoIndicator, WithIndicator, Tree, NumberTree, FloatTree, NamedTree, EnclosedTree, ListTree, StringTree, StreamTree, LiteralTree, DotsTree, EmbeddedTree, LastPieceTree, PlusTree, ElementTree, PairTree, ChunkTree, EmptyTree, FullTree, LastTree, MoreTree, NothingTree, SequenceTree, StandaloneTree, list_head_text, onto, text}
+use Rattle.cbor_edn_model.specs.tree.Rows.{entries_onto, pieces_onto}
+use Rattle.cbor_edn_model.specs.layout.Layout.{Inline, First, Between, Last, BeforePlus, AfterPlus, AfterColon, Elsewhere, respaced, in_chunk, saturating_add, laid_list_head, laid}
+use Rattle.cbor_edn_model.specs.internal.Widths.{space_width, wide, in_stream, head_width, width, measured, entries_width, pieces_width, widths_onto, widths_by, entries_widths_by, stack}
+
+-- A space text of a single column, at any slot but round a plus sign and behind a colon.
+at_slot : (kind : SpaceKind) (c : Spacing) (x : List ℕ) → (length (respaced kind First (Inline c) x) ≡ space_width kind (By c) x) × (length (respaced kind Between (Inline c) x) ≡ space_width kind (By c) x) × (length (respaced kind Last (Inline c) x) ≡ space_width kind (By c) x) × (length (respaced kind Elsewhere (Inline c) x) ≡ space_width kind (By c) x)
+at_slot kind Least x = (refl, refl, refl, refl)
+at_slot kind Comments x = (refl, refl, refl, refl)
+at_slot kind OneLine x = (refl, refl, refl, refl)
+at_slot kind (NewLine n) x = (refl, refl, refl, refl)
+at_slot kind OneSpace x = (refl, refl, refl, refl)
+
+-- and there
+at_wide : (c : Spacing) (x : List ℕ) → (length (respaced S BeforePlus (Inline c) x) ≡ space_width S (wide (By c)) x) × (length (respaced S AfterPlus (Inline c) x) ≡ space_width S (wide (By c)) x) × (length (respaced S AfterColon (Inline c) x) ≡ space_width S (wide (By c)) x)
+at_wide Least x = (refl, refl, refl)
+at_wide Comments x = (refl, refl, refl)
+at_wide OneLine x = (refl, refl, refl)
+at_wide (NewLine n) x = (refl, refl, refl)
+at_wide OneSpace x = (refl, refl, refl)
+
+-- Spaces that are kept: the width is that of the text.
+flat_onto : {s : Rule} (w : Tree s) (r : List ℕ) → length (onto w r) ≡ width Kept w + length r
+unfolding onto width
+flat_onto (NumberTree x i) r = simp length-append (omega arith)
+flat_onto (FloatTree f i) r = simp length-append (omega arith)
+flat_onto (NamedTree b) r = simp length-append (omega arith)
+flat_onto (EnclosedTree l w) r = let h = flat_onto w (41 ∷ r) in simp length-append (omega (arith, h))
+flat_onto (ListTree k w) r = let h = flat_onto w (ending k ∷ r) in omega (arith, h)
+flat_onto (StringTree w) r = flat_onto w r
+flat_onto (StreamTree ms m) r = let h = flat_onto m (41 ∷ r) in simp length-append (omega (arith, h))
+flat_onto (LiteralTree x i) r = simp length-append (omega arith)
+flat_onto (DotsTree x) r = simp length-append (omega arith)
+flat_onto (EmbeddedTree w i) r =
+    let h : length (onto w (62 ∷ 62 ∷ (indicator_text i ++ r))) ≡ width Kept w + (length (indicator_text i) + length r + 2) = flat_onto w (62 ∷ 62 ∷ (indicator_text i ++ r)) ∙ simp length-append (omega arith) in
+    omega (arith, h)
+flat_onto (LastPieceTree p) r = flat_onto p r
+flat_onto (PlusTree p s t w) r = let ih = flat_onto w r in flat_onto p (s ++ (43 ∷ (t ++ onto w r))) ∙ simp length-append (omega (arith, ih))
+flat_onto (ElementTree w) r = flat_onto w r
+flat_onto (PairTree v s t w) r = let ih = flat_onto w r in flat_onto v (s ++ (58 ∷ (t ++ onto w r))) ∙ simp length-append (omega (arith, ih))
+flat_onto (ChunkTree w) r = flat_onto w r
+flat_onto (EmptyTree i s) r = simp length-append (omega arith)
+flat_onto (FullTree h s m) r = let ih = flat_onto m r in let head = head_is h in simp length-append (omega (arith, ih, head)) where
+  head_is : (h : ListHead) → length (list_head_text h) ≡ head_width Kept h
+  head_is NoIndicator = refl
+  head_is (WithIndicator i ms) = simp length-append refl
+flat_onto (LastTree e s) r = flat_onto e (s ++ r) ∙ simp length-append (omega arith)
+flat_onto (MoreTree e s m) r = let ih = flat_onto m r in flat_onto e (s ++ onto m r) ∙ simp length-append (omega (arith, ih))
+flat_onto (NothingTree s) r = simp length-append (omega arith)
+flat_onto (SequenceTree s m) r = let ih = flat_onto m r in simp length-append (omega (arith, ih))
+flat_onto (StandaloneTree s w t) r = let ih = flat_onto w (t ++ r) in simp length-append (rw ih (simp length-append (omega arith)))
+
+-- a piece has no space, and what it embeds is kept
+piece_width : (c : Spacing) (p : Tree OnePiece) (r : List ℕ) → length (onto p r) ≡ width (By c) p + length r
+unfolding width
+piece_width c (LiteralTree x i) r = flat_onto (LiteralTree x i) r
+piece_width c (DotsTree x) r = flat_onto (DotsTree x) r
+piece_width c (EmbeddedTree w i) r = flat_onto (EmbeddedTree w i) r
+
+head_is : (c : Spacing) (h : ListHead) → length (list_head_text (laid_list_head (Inline c) h)) ≡ head_width (By c) h
+head_is c NoIndicator = refl
+head_is c (WithIndicator i ms) = let s = (at_slot MS c ms).3 in simp length-append (omega (arith, s))
+
+-- the column in the strings of a stream
+abbrev chunk_column : Spacing → Spacing
+chunk_column OneLine = Comments
+chunk_column c = c
+
+chunk_is : (c : Spacing) → (in_chunk (Inline c) ≡ Inline (chunk_column c)) × (in_stream (By c) ≡ By (chunk_column c))
+chunk_is Least = (refl, refl)
+chunk_is Comments = (refl, refl)
+chunk_is OneLine = (refl, refl)
+chunk_is (NewLine n) = (refl, refl)
+chunk_is OneSpace = (refl, refl)
+
+width_onto : {s : Rule} (c : Spacing) (w : Tree s) (r : List ℕ) → length (onto (laid (Inline c) w) r) ≡ width (By c) w + length r
+unfolding onto laid width
+width_onto c (NumberTree x i) r = simp length-append (omega arith)
+width_onto c (FloatTree f i) r = simp length-append (omega arith)
+width_onto c (NamedTree b) r = simp length-append (omega arith)
+width_onto c (EnclosedTree l w) r = let h = width_onto c w (41 ∷ r) in simp length-append (omega (arith, h))
+width_onto c (ListTree k w) r = let h = width_onto c w (ending k ∷ r) in omega (arith, h)
+width_onto c (StringTree w) r = width_onto c w r
+width_onto c (StreamTree ms m) r = let h = width_onto c m (41 ∷ r) in let a = (at_slot MS c ms).0 in simp length-append (omega (arith, h, a))
+width_onto c (LiteralTree x i) r = piece_width c (LiteralTree x i) r
+width_onto c (DotsTree x) r = piece_width c (DotsTree x) r
+width_onto c (EmbeddedTree w i) r = piece_width c (EmbeddedTree w i) r
+width_onto c (LastPieceTree p) r = piece_width c p r
+width_onto c (PlusTree p s t w) r =
+    let ih = width_onto c w r in
+    let a = (at_wide c s).0 in
+    let b = (at_wide c t).1 in
+    piece_width c p (respaced S BeforePlus (Inline c) s ++ (43 ∷ (respaced S AfterPlus (Inline c) t ++ onto (laid (Inline c) w) r))) ∙ simp length-append (omega (arith, ih, a, b))
+width_onto c (ElementTree w) r = width_onto c w r
+width_onto c (PairTree v s t w) r =
+    let ih = width_onto c w r in
+    let a = (at_slot S c s).3 in
+    let b = (at_wide c t).2 in
+    width_onto c v (respaced S Elsewhere (Inline c) s ++ (58 ∷ (respaced S AfterColon (Inline c) t ++ onto (laid (Inline c) w) r))) ∙ simp length-append (omega (arith, ih, a, b))
+width_onto c (ChunkTree w) r =
+    ap (λ l. length (onto (laid l w) r)) (chunk_is c).0
+    ∙ width_onto (chunk_column c) w r
+    ∙ ap (λ k. width k w + length r) (sym (chunk_is c).1)
+width_onto c (EmptyTree i s) r = let a = (at_slot S c s).3 in simp length-append (omega (arith, a))
+width_onto c (FullTree h s m) r = let ih = width_onto c m r in let a = (at_slot S c s).0 in let head = head_is c h in simp length-append (omega (arith, ih, a, head))
+width_onto c (LastTree e s) r = let a = (at_slot SOC c s).2 in width_onto c e (respaced SOC Last (Inline c) s ++ r) ∙ simp length-append (omega (arith, a))
+width_onto c (MoreTree e s m) r =
+    let ih = width_onto c m r in
+    let a = (at_slot MSC c s).1 in
+    width_onto c e (respaced MSC Between (Inline c) s ++ onto (laid (Inline c) m) r) ∙ simp length-append (omega (arith, ih, a))
+width_onto c (NothingTree s) r = let a = (at_slot S c s).3 in simp length-append (omega (arith, a))
+width_onto c (SequenceTree s m) r = let ih = width_onto c m r in let a = (at_slot S c s).3 in simp length-append (omega (arith, ih, a))
+width_onto c (StandaloneTree s w t) r =
+    let ih = width_onto c w (respaced S Elsewhere (Inline c) t ++ r) in
+    let a = (at_slot S c s).3 in
+    let b = (at_slot S c t).3 in
+    simp length-append (rw ih (simp length-append (omega (arith, a, b))))
+
+pub width_is : {s : Rule} (c : Spacing) (w : Tree s) → width (By c) w ≡ length (text (laid (Inline c) w))
+width_is c w = let h = width_onto c w [] in omega (arith, h)
+
+-- The test of an item by its measured width is that by its text: sums end at the greatest `usize` in both.
+pub test_is : (w : Tree OneItem) (base limit : ℕ) → nat_lt (saturating_add (measured w) base) limit ≡ nat_lt (saturating_add (length (text (laid (Inline OneLine) w))) base) limit
+test_is w base limit = ap (λ n. nat_lt n limit) (ends_once (width (By OneLine) w) base) ∙ ap (λ n. nat_lt (saturating_add n base) limit) (width_is OneLine w) where
+  ends_once : (n base : ℕ) → saturating_add (min n (2 ^ 64 - 1)) base ≡ saturating_add n base
+  ends_once n base = omega arith
+
+-- Spaces that are kept leave no widths.
+pub kept_none : {s : Rule} (w : Tree s) (r : List ℕ) → widths_by Kept w r ≡ r
+unfolding widths_by
+kept_none (NumberTree x i) r = refl
+kept_none (FloatTree f i) r = refl
+kept_none (NamedTree b) r = refl
+kept_none (EnclosedTree l w) r = kept_none w r
+kept_none (ListTree k w) r = kept_none w r
+kept_none (StringTree w) r = refl
+kept_none (StreamTree ms m) r = refl
+kept_none (LiteralTree x i) r = refl
+kept_none (DotsTree x) r = refl
+kept_none (EmbeddedTree w i) r = refl
+kept_none (LastPieceTree p) r = refl
+kept_none (PlusTree p s t w) r = refl
+kept_none (ElementTree w) r = kept_none w r
+kept_none (PairTree v s t w) r = kept_none v (widths_by Kept w r) ∙ kept_none w r
+kept_none (ChunkTree w) r = refl
+kept_none (EmptyTree i s) r = refl
+kept_none (FullTree h s m) r = kept_none m r
+kept_none (LastTree e s) r = kept_none e r
+kept_none (MoreTree e s m) r = kept_none e (widths_by Kept m r) ∙ kept_none m r
+kept_none (NothingTree s) r = refl
+kept_none (SequenceTree s m) r = kept_none m r
+kept_none (StandaloneTree s w t) r = kept_none w r
+
+pub line_widths : {s : Rule} (w : Tree s) (r : List ℕ) → widths_by (By OneLine) w r ≡ widths_onto w r
+unfolding widths_by widths_onto
+line_widths (NumberTree x i) r = refl
+line_widths (FloatTree f i) r = refl
+line_widths (NamedTree b) r = refl
+line_widths (EnclosedTree l w) r = ap (λ ns. measured (EnclosedTree l w) ∷ ns) (line_widths w r)
+line_widths (ListTree k w) r = ap (λ ns. measured (ListTree k w) ∷ ns) (line_widths w r)
+line_widths (StringTree w) r = refl
+line_widths (StreamTree ms m) r = refl
+line_widths (LiteralTree x i) r = refl
+line_widths (DotsTree x) r = refl
+line_widths (EmbeddedTree w i) r = refl
+line_widths (LastPieceTree p) r = refl
+line_widths (PlusTree p s t w) r = refl
+line_widths (ElementTree w) r = line_widths w r
+line_widths (PairTree v s t w) r = line_widths v (widths_by (By OneLine) w r) ∙ ap (widths_onto v) (line_widths w r)
+line_widths (ChunkTree w) r = refl
+line_widths (EmptyTree i s) r = refl
+line_widths (FullTree h s m) r = line_widths m r
+line_widths (LastTree e s) r = line_widths e r
+line_widths (MoreTree e s m) r = line_widths e (widths_by (By OneLine) m r) ∙ ap (widths_onto e) (line_widths m r)
+line_widths (NothingTree s) r = refl
+line_widths (SequenceTree s m) r = line_widths m r
+line_widths (StandaloneTree s w t) r = line_widths w r
+
+-- a number that is pushed is on top
+pub stack_push : (ns : List ℕ) (n : ℕ) → stack (ns ++ (n ∷ [])) ≡ n ∷ stack ns
+stack_push ns n = reverse-append ns (n ∷ [])
+
+pub stack_same : (ns ms : List ℕ) → stack ns ≡ stack ms → ns ≡ ms
+stack_same ns ms e = sym (reverse-reverse ns) ∙ ap stack e ∙ reverse-reverse ms
+
+-- ---- rows
+
+pub width_entries : {k : Row} (c : Spaces) (ps : List (Tree (OneEntry k) × List ℕ)) (m : Tree (Rest k)) → width c (entries_onto ps m) ≡ entries_width c ps + width c m
+unfolding width
+width_entries c [] m = omega arith
+width_entries c (p ∷ ps) m = let h = width_entries c ps m in omega (arith, h)
+
+pub width_pieces : (c : Spaces) (ps : List (Tree OnePiece × List ℕ × List ℕ)) (w : Tree OneString) → width c (pieces_onto ps w) ≡ pieces_width c ps + width c w
+unfolding width
+width_pieces c [] w = omega arith
+width_pieces c (p ∷ ps) w = let h = width_pieces c ps w in omega (arith, h)
+
+pub by_entries : {k : Row} (c : Spaces) (ps : List (Tree (OneEntry k) × List ℕ)) (m : Tree (Rest k)) (r : List ℕ) → widths_by c (entries_onto ps m) r ≡ entries_widths_by c ps (widths_by c m r)
+unfolding widths_by
+by_entries c [] m r = refl
+by_entries c (p ∷ ps) m r = ap (widths_by c p.0) (by_entries c ps m r)

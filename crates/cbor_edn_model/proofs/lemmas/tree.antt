@@ -1,0 +1,2 @@
+-- Trees of Rust values, compared and made.
+pub mod EqualRows

@@ -1,0 +1,4 @@
+-- Visits, from the calls to the whole.
+pub mod VisitedRows
+pub mod VisitsOfParts
+pub mod RowDepths

@@ -1,9 +1,0 @@
-use Rattle.std.proofs.Common.{refl}
-use Rattle.cbor_edn_model.proofs.code.CborEncodes.{number_means, no_number}
-use Rattle.cbor_edn_model.proofs.to_cbor.push_number.Goals as goal
-
-pub returns-in-Some : goal.returns-in-Some
-returns-in-Some c = rw (number_means _ _ _ c.in-Some.ensures.some) c.push_integer.ensures
-
-pub returns-in-None : goal.returns-in-None
-returns-in-None c = no_number _ _ (c.in-None.ensures.none refl)

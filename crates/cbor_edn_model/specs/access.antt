@@ -1,0 +1,3 @@
+-- Parts of trees, and paths.
+pub mod Accessed
+pub mod Paths

@@ -1,0 +1,3 @@
+//! Parts of trees, copied and compared.
+
+pub mod copy;

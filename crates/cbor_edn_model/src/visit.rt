@@ -1,0 +1,3 @@
+//! How deep what a visit enters may nest.
+
+pub mod depth;

@@ -1,0 +1,3 @@
+-- Bytes by their kinds.
+pub mod ByteKinds
+pub mod KindTable

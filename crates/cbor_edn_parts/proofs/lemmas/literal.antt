@@ -1,0 +1,21 @@
+-- Quoted texts and dots: what they are, what they stand for, and those made from values.
+pub mod WrittenLiterals
+pub mod PrefixTests
+pub mod DotTexts
+pub mod LiteralContents
+pub mod ContentTexts
+pub mod LiteralRuns
+pub mod LiteralSteps
+pub mod LiteralTexts
+pub mod OptionTests
+pub mod ByteLoops
+pub mod Applications
+pub mod Bases
+pub mod Hexadecimals
+pub mod Quoted
+pub mod HexTexts
+pub mod Bits
+pub mod StringLiterals
+pub mod Escapes
+pub mod WhereRefused
+pub mod LiteralPrefixes

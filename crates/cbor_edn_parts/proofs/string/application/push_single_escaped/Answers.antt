@@ -1,6 +1,0 @@
-use Rattle.std.proofs.Common.{arith}
-use Rattle.cbor_edn_parts.proofs.WrittenLiterals.{character_same}
-use Rattle.cbor_edn_parts.proofs.string.application.push_single_escaped.Goals as goal
-
-pub returns-in_default : goal.returns-in_default
-returns-in_default c = rw (character_same c.args.character (λ h. omega arith) (λ h. omega arith)) c.push_escaped.ensures

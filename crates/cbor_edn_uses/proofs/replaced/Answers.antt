@@ -1,6 +1,0 @@
-use Rattle.cbor_edn_model.specs.Leaves.{texts}
-use Rattle.cbor_edn_uses.proofs.Loans.{where_lent}
-use Rattle.cbor_edn_uses.proofs.replaced.Goals as goal
-
-pub returns-in-Some-clause-placed : goal.returns-in-Some-clause-placed
-returns-in-Some-clause-placed c = where_lent c.in-Some.is (c.at_mut.follows.holds c.args.item) texts
