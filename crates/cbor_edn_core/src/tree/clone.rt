@@ -1,10 +1,14 @@
 //! Copies of trees. Memory comes from the allocator of what is copied.
 ghost use Rattle.std.specs.Prelude.{◌≡◌, ◌∷◌, ◌++◌, [], map, IfOk, OnOk};
-ghost use Rattle.cbor_edn_parts.specs.Leaves.{s_bytes, ms_bytes, msc_bytes, soc_bytes, number_bytes, literal_bytes, dots_bytes};
-ghost use Rattle.cbor_edn_core.specs.tree.View.{row_onto, pair_row_onto, string_row_onto, view_some, view_list, view_items, seen, view_pair_list, view_pair, seen_pair, view_string, view_piece, seen_piece, view_stream, seen_string, item_tree, standalone_tree, sequence_tree};
+ghost use Rattle.cbor_edn_parts.specs.Leaves.{s_bytes, msc_bytes, soc_bytes, number_bytes, literal_bytes, dots_bytes};
+ghost use Rattle.cbor_edn_core.specs.declared.tree.ItemsOf.{out-ItemsOf};
+ghost use Rattle.cbor_edn_core.specs.declared.tree.SequenceOf.{out-SequenceOf};
+ghost use Rattle.cbor_edn_core.specs.declared.tree.StreamOf.{out-StreamOf};
+ghost use Rattle.cbor_edn_core.specs.declared.tree.StringsOf.{out-StringsOf};
+ghost use Rattle.cbor_edn_core.specs.tree.View.{pair_row_onto, view_some, view_list, view_items, seen, view_pair_list, view_pair, seen_pair, view_string, view_piece, seen_piece, view_stream, seen_string, item_tree, standalone_tree, sequence_tree};
 ghost use Rattle.cbor_edn_model.specs.tree.Items.{Array, Map};
 ghost use Rattle.cbor_edn_model.specs.tree.TreeLeaves.{texts};
-ghost use Rattle.cbor_edn_model.specs.tree.Trees.{NumberTree, EnclosedTree, ListTree, FullTree, EmptyTree, StringTree, StreamTree, ChunkTree, LastPieceTree, LiteralTree, DotsTree, EmbeddedTree, ElementTree, LastTree};
+ghost use Rattle.cbor_edn_model.specs.tree.Trees.{NumberTree, EnclosedTree, ListTree, FullTree, EmptyTree, StringTree, ChunkTree, LastPieceTree, LiteralTree, DotsTree, EmbeddedTree, SequenceTree, NothingTree, ElementTree, LastTree};
 ghost use Rattle.cbor_edn_model.specs.text.ListHeads.{view_list_head};
 
 use crate::tree::{
@@ -48,7 +52,8 @@ impl<'a> Sequence<'a> {
 }
 
 // A copy nests as deep as its tree. So a function that recurs holds copies of what nests alone, and hands them to one out of
-// line, which copies the leaves round them.
+// line, which copies the leaves round them. The last copy is handed over as it came: looking into it, and dropping those before
+// it where it failed, would take stack in the function that recurs.
 
 #[cycle(copy)]
 #[tactic(auto, using(crate::proofs::lemmas::tree::Views::view_string_is))]
@@ -228,7 +233,20 @@ fn clone_string<'a>(string: &CborString<'a>) -> Result<CborString<'a>, AllocErro
     ensures { IfOk result (λ t. view_string texts t ≡ view_string texts string.now) }
 {
     let row = clone_piece_row(&string.row)?;
-    let last = clone_piece(&string.last)?;
+    make_string(string, row, clone_piece(&string.last))
+}
+
+#[inline(never)]
+fn make_string<'a>(
+    string: &CborString<'a>,
+    row: Vec<(Piece<'a>, S<'a>, S<'a>)>,
+    last: Result<Piece<'a>, AllocError>,
+) -> Result<CborString<'a>, AllocError>
+    requires row { map (seen_piece texts) row.items ≡ map (seen_piece texts) string.now.row.items }
+    requires last { IfOk last (λ t. view_piece texts t ≡ view_piece texts string.now.last) }
+    ensures { IfOk result (λ t. view_string texts t ≡ view_string texts string.now) }
+{
+    let last = last?;
     Ok(CborString { row, last })
 }
 
@@ -304,23 +322,37 @@ fn clone_embedded<'a>(
 ) -> Result<Piece<'a>, AllocError>
     ensures { IfOk result (λ t. view_piece texts t ≡ EmbeddedTree (sequence_tree sequence.now) indicator) }
 {
-    let items = match &sequence.items {
-        None => None,
-        Some(items) => Some(clone_items(items)?),
-    };
-    make_embedded(alloc, &sequence.before, items, indicator)
+    match &sequence.items {
+        Some(items) => make_embedded(alloc, sequence, clone_items(items), indicator),
+        None => make_empty_embedded(alloc, &sequence.before, indicator),
+    }
 }
 
 #[inline(never)]
 fn make_embedded<'a>(
     alloc: Global,
-    before: &S<'a>,
-    items: Option<Items<'a>>,
+    sequence: &Sequence<'a>,
+    items: Result<Items<'a>, AllocError>,
     indicator: Option<Indicator>,
 ) -> Result<Piece<'a>, AllocError>
-    ensures { IfOk result (λ t. view_piece texts t ≡ EmbeddedTree (view_some texts (s_bytes before.now) items.entry) indicator) }
+    requires items { IfOk items (λ t. SequenceTree (s_bytes (out-SequenceOf _ _ _ _ _ _ _ sequence.now).before) (view_items texts t) ≡ sequence_tree sequence.now) }
+    ensures { IfOk result (λ t. view_piece texts t ≡ EmbeddedTree (sequence_tree sequence.now) indicator) }
 {
-    let sequence = make_sequence(before, items)?;
+    let items = items?;
+    let sequence = make_sequence(&sequence.before, Some(items))?;
+    let sequence = Box::new(alloc, sequence)?;
+    Ok(Piece::Embedded(indicator, sequence))
+}
+
+#[inline(never)]
+fn make_empty_embedded<'a>(
+    alloc: Global,
+    before: &S<'a>,
+    indicator: Option<Indicator>,
+) -> Result<Piece<'a>, AllocError>
+    ensures { IfOk result (λ t. view_piece texts t ≡ EmbeddedTree (NothingTree (s_bytes before.now)) indicator) }
+{
+    let sequence = make_sequence(before, None)?;
     let sequence = Box::new(alloc, sequence)?;
     Ok(Piece::Embedded(indicator, sequence))
 }
@@ -346,28 +378,28 @@ fn make_sequence<'a>(before: &S<'a>, items: Option<Items<'a>>) -> Result<Sequenc
 
 #[cycle(copy)]
 #[inline(never)]
-#[tactic(auto, using(crate::proofs::lemmas::tree::Views::view_stream_is, crate::proofs::lemmas::tree::Views::view_strings_is))]
 fn clone_stream<'a>(alloc: Global, stream: &Stream<'a>) -> Result<Item<'a>, AllocError>
     ensures { IfOk result (λ t. item_tree t ≡ view_stream texts stream.now) }
 {
     let row = clone_string_row(&stream.strings.row)?;
-    let last = clone_string(&stream.strings.last)?;
-    make_stream(alloc, &stream.ms, row, last, &stream.strings.soc)
+    make_stream(alloc, stream, row, clone_string(&stream.strings.last))
 }
 
 #[inline(never)]
-#[tactic(auto, using(crate::proofs::lemmas::tree::Views::view_stream_made, crate::proofs::lemmas::tree::Views::view_strings_made))]
+#[tactic(auto, using(crate::proofs::lemmas::tree::Views::view_stream_is, crate::proofs::lemmas::tree::Views::view_strings_is, crate::proofs::lemmas::tree::Views::view_stream_made, crate::proofs::lemmas::tree::Views::view_strings_made))]
 fn make_stream<'a>(
     alloc: Global,
-    ms: &Ms<'a>,
+    stream: &Stream<'a>,
     row: Vec<(CborString<'a>, Msc<'a>)>,
-    last: CborString<'a>,
-    soc: &Soc<'a>,
+    last: Result<CborString<'a>, AllocError>,
 ) -> Result<Item<'a>, AllocError>
-    ensures { IfOk result (λ t. item_tree t ≡ StreamTree (ms_bytes ms.now) (string_row_onto texts row.entry.items (LastTree (ChunkTree (view_string texts last.entry)) (soc_bytes soc.now)))) }
+    requires row { map (seen_string texts) row.items ≡ map (seen_string texts) (out-StringsOf _ _ _ _ _ _ _ (out-StreamOf _ _ _ _ _ _ _ stream.now).strings).row.items }
+    requires last { IfOk last (λ t. view_string texts t ≡ view_string texts (out-StringsOf _ _ _ _ _ _ _ (out-StreamOf _ _ _ _ _ _ _ stream.now).strings).last) }
+    ensures { IfOk result (λ t. item_tree t ≡ view_stream texts stream.now) }
 {
-    let ms = ms.clone()?;
-    let soc = soc.clone()?;
+    let last = last?;
+    let ms = stream.ms.clone()?;
+    let soc = stream.strings.soc.clone()?;
     let strings = Strings { row, last, soc };
     Item::stream(alloc, Stream { ms, strings })
 }
@@ -402,25 +434,26 @@ fn push_string<'a>(
 
 #[cycle(copy)]
 #[inline(never)]
-#[tactic(auto, using(crate::proofs::lemmas::tree::Views::view_items_is))]
 fn clone_items<'a>(items: &Items<'a>) -> Result<Items<'a>, AllocError>
     ensures { IfOk result (λ t. view_items texts t ≡ view_items texts items.now) }
 {
     let row = clone_row(&items.row)?;
-    let last = clone_item(&items.last)?;
-    make_items(row, last, &items.soc)
+    make_items(items, row, clone_item(&items.last))
 }
 
 #[inline(never)]
-#[tactic(auto, using(crate::proofs::lemmas::tree::Views::view_items_made))]
+#[tactic(auto, using(crate::proofs::lemmas::tree::Views::view_items_is, crate::proofs::lemmas::tree::Views::view_items_made))]
 fn make_items<'a>(
+    items: &Items<'a>,
     row: Vec<(Item<'a>, Msc<'a>)>,
-    last: Item<'a>,
-    soc: &Soc<'a>,
+    last: Result<Item<'a>, AllocError>,
 ) -> Result<Items<'a>, AllocError>
-    ensures { IfOk result (λ t. view_items texts t ≡ row_onto texts row.entry.items (LastTree (ElementTree (item_tree last.entry)) (soc_bytes soc.now))) }
+    requires row { map (seen texts) row.items ≡ map (seen texts) (out-ItemsOf _ _ _ _ _ _ _ items.now).row.items }
+    requires last { IfOk last (λ t. item_tree t ≡ item_tree (out-ItemsOf _ _ _ _ _ _ _ items.now).last) }
+    ensures { IfOk result (λ t. view_items texts t ≡ view_items texts items.now) }
 {
-    let soc = soc.clone()?;
+    let last = last?;
+    let soc = items.soc.clone()?;
     Ok(Items { row, last, soc })
 }
 
@@ -485,7 +518,6 @@ fn clone_pair<'a>(pair: &Kp<'a>) -> Result<Kp<'a>, AllocError>
     make_pair(pair, key, clone_item(&pair.value))
 }
 
-// Takes the value's copy as it came: a key that is dropped where that failed would take stack in `clone_pair`.
 #[inline(never)]
 fn make_pair<'a>(
     pair: &Kp<'a>,
