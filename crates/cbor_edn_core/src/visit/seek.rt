@@ -134,7 +134,8 @@ fn element_answer(answer: Result<(), CallbackError>) -> Result<Option<String>, C
     }
 }
 
-/// The call at a tag, with its comment.
+/// The call at a tag, with its comment. What is no tag, as most items, is passed over at once.
+#[inline]
 fn reach_tag<'a, X: TakesComment, F: FnMut(u64, &mut Item<'a>) -> Result<(), CallbackError>>(
     item: &mut Item<'a>,
     space: &mut X,
@@ -148,6 +149,22 @@ fn reach_tag<'a, X: TakesComment, F: FnMut(u64, &mut Item<'a>) -> Result<(), Cal
     let Ok(tag) = item.get_tag() else {
         return Ok(true);
     };
+    reach_numbered(tag, item, space, alloc, f)
+}
+
+#[inline(never)]
+fn reach_numbered<'a, X: TakesComment, F: FnMut(u64, &mut Item<'a>) -> Result<(), CallbackError>>(
+    tag: u64,
+    item: &mut Item<'a>,
+    space: &mut X,
+    alloc: Global,
+    f: &mut F,
+) -> Result<bool, AllocError>
+    requires callable { MayVisitTags item_tree F.FnMut f.old }
+    requires is_tag { tag_number (item_tree item.old) ≡ Some tag }
+    ensures callable_after { MayVisitTags item_tree F.FnMut f.new }
+    ensures reached { (cs : List SoughtCall) × Chain (IsTagCall item_tree F.FnMut) f.old cs f.new × Reaches IsTag (item_tree item.old) (X.bytes space.old) cs (item_tree item.new) (X.bytes space.new) result }
+{
     let before = item_depth(item);
     if before == usize::MAX {
         return Err(AllocError);

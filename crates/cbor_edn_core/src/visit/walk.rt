@@ -1,7 +1,7 @@
 //! The walk of the visits of tags and of application literals: parts in text order, parents before children.
-ghost use Rattle.std.specs.Prelude.{List, map};
+ghost use Rattle.std.specs.Prelude.{List, [], IsTrue, map};
 ghost use Rattle.cbor_edn_model.specs.visit.Seeking.{SoughtCall, VisitEntry, VisitParts};
-ghost use Rattle.cbor_edn_model.specs.visit.Visits.{Chain};
+ghost use Rattle.cbor_edn_model.specs.visit.Visits.{Chain, whole};
 ghost use Rattle.cbor_edn_model.specs.internal.Reaching.{SoughtFront, SoughtPieces, VisitIf, VisitKey};
 ghost use Rattle.cbor_edn_core.specs.visit.Callbacks.{ending};
 ghost use Rattle.cbor_edn_core.specs.tree.View.{seen, seen_pair, seen_piece, seen_string, view_inner, view_item, view_items, view_list, view_pair, view_pair_list, view_pairs, view_piece, view_sequence, view_standalone, view_string, view_strings};
@@ -58,8 +58,9 @@ impl<
         }
     }
 
-    /// What stands in an item that is to be entered.
+    /// What stands in an item that is to be entered. For a leaf, as most items are, no function is called.
     #[cycle(visit)]
+    #[inline(always)]
     fn visit_if(
         enters: bool,
         item: &mut ItemOf<O, M, C, E, N, L, D>,
@@ -70,10 +71,26 @@ impl<
         ensures callable_after { K.ready f.new }
         ensures visited { (cs : List SoughtCall) × Chain K.calls f.old cs f.new × VisitIf K.sought enters (view_item K.leaves item.old) cs (view_item K.leaves item.new) (ending result) }
     {
-        if enters {
-            Self::visit_inner(&mut item.inner, alloc, f)
-        } else {
-            Ok(())
+        if !enters {
+            return Ok(());
+        }
+        if Self::is_leaf(&item.inner) {
+            return Ok(());
+        }
+        Self::visit_inner(&mut item.inner, alloc, f)
+    }
+
+    /// Whether an item is a number, a word or a literal, in which nothing stands.
+    #[inline(always)]
+    fn is_leaf(inner: &InnerItemOf<O, M, C, E, N, L, D>) -> bool
+        ensures { IsTrue result → VisitParts K.sought _ (view_inner K.leaves inner.now) [] (view_inner K.leaves inner.now) whole }
+    {
+        match inner {
+            InnerItemOf::Number(..) => true,
+            InnerItemOf::NonFinite(..) => true,
+            InnerItemOf::Named(_) => true,
+            InnerItemOf::Literal(..) => true,
+            _ => false,
         }
     }
 

@@ -15,9 +15,13 @@ use Rattle.cbor_edn_core.proofs.lemmas.visit.ElementVisits.{cut_short}
 use Rattle.cbor_edn_core.proofs.lemmas.visit.Walks.{entry_more, entry_cut, entries_all, piece_more, piece_cut, key_cut, key_then, key_value, number_walked, float_walked, name_walked, literal_alone_walked, tag_walked, simple_walked, array_walked, map_walked, string_walked, stream_walked, literal_walked, dots_walked, embedded_walked, nothing_walked, sequence_walked, list_walked, empty_list_walked, pair_list_walked, empty_pair_list_walked, items_row_cut, items_last_walked, items_all_walked, pairs_row_cut, pairs_all_walked, strings_row_cut, strings_all_walked, tag_less, array_less, map_less, string_less, stream_less, embedded_less, sequence_less, list_less, pair_list_less, standalone_less, key_less, value_less, last_key_less, items_row_less, items_last_less, pairs_row_less, pairs_last_less, string_row_less, string_last_less, strings_row_less, strings_last_less, element_less, row_key_less, row_value_less, chunk_less, piece_less}
 use Rattle.cbor_edn_core.proofs.visit.walk.Walk.+visit.Goals as goal
 
-pub visit_if-returns-else-enters-clause-visited : goal.visit_if-returns-else-enters-clause-visited
-visit_if-returns-else-enters-clause-visited g t c =
-    ([], no_calls, rw c.if-enters.false (refl, refl, refl))
+pub visit_if-returns-then-not-enters-clause-visited : goal.visit_if-returns-then-not-enters-clause-visited
+visit_if-returns-then-not-enters-clause-visited g t c =
+    ([], no_calls, rw c.if-not-enters.true (refl, refl, refl))
+
+pub visit_if-returns-then-is_leaf-clause-visited : goal.visit_if-returns-then-is_leaf-clause-visited
+visit_if-returns-then-is_leaf-clause-visited g t c =
+    ([], no_calls, rw c.if-not-enters.false (c.is_leaf.ensures c.if-is_leaf.true))
 
 pub visit_inner-visit_standalone-requires : goal.visit_inner-visit_standalone-requires
 visit_inner-visit_standalone-requires g t c κs within =
