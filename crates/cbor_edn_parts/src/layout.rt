@@ -180,53 +180,41 @@ pub fn lay_end<'a>(end: &mut Soc<'a>, alloc: Global, layout: Layout) -> Result<(
 /// Writes an optional space as it is laid out at its slot at the end of a text. Fails where memory runs out.
 pub fn print_space(
     out: &mut String,
-    alloc: Global,
     space: &S<'_>,
     layout: Layout,
     slot: Slot,
 ) -> Result<(), AllocError>
     ensures { OnOk result (string_bytes out.new ≡ string_bytes out.old ++ respaced kind.S slot layout (s_bytes space.now)) }
 {
-    out.push_str(space.spaced(alloc, layout.spacing(slot))?.as_str())
+    space.print_spaced(out, layout.spacing(slot))
 }
 
 /// Writes a mandatory space as it is laid out at its slot at the end of a text. Fails where memory runs out.
 pub fn print_mandatory(
     out: &mut String,
-    alloc: Global,
     space: &Ms<'_>,
     layout: Layout,
     slot: Slot,
 ) -> Result<(), AllocError>
     ensures { OnOk result (string_bytes out.new ≡ string_bytes out.old ++ respaced kind.MS slot layout (ms_bytes space.now)) }
 {
-    out.push_str(space.spaced(alloc, layout.spacing(slot))?.as_str())
+    space.print_spaced(out, layout.spacing(slot))
 }
 
 /// Writes the separator between two entries as it is laid out at the end of a text. Fails where memory runs out.
 pub fn print_separator(
     out: &mut String,
-    alloc: Global,
     separator: &Msc<'_>,
     layout: Layout,
 ) -> Result<(), AllocError>
     ensures { OnOk result (string_bytes out.new ≡ string_bytes out.old ++ respaced kind.MSC spec.Between layout (msc_bytes separator.now)) }
 {
-    out.push_str(
-        separator
-            .spaced(alloc, layout.spacing(Slot::Between))?
-            .as_str(),
-    )
+    separator.print_spaced(out, layout.spacing(Slot::Between))
 }
 
 /// Writes the end of a list as it is laid out at the end of a text. Fails where memory runs out.
-pub fn print_end(
-    out: &mut String,
-    alloc: Global,
-    end: &Soc<'_>,
-    layout: Layout,
-) -> Result<(), AllocError>
+pub fn print_end(out: &mut String, end: &Soc<'_>, layout: Layout) -> Result<(), AllocError>
     ensures { OnOk result (string_bytes out.new ≡ string_bytes out.old ++ respaced kind.SOC spec.Last layout (soc_bytes end.now)) }
 {
-    out.push_str(end.spaced(alloc, layout.spacing(Slot::Last))?.as_str())
+    end.print_spaced(out, layout.spacing(Slot::Last))
 }

@@ -50,7 +50,7 @@ impl<'a> Item<'a> {
         ensures { IfOk result (λ s. string_bytes s ≡ text (laid_out policy (item_tree self.now))) }
     {
         let mut out = String::new(alloc);
-        print_item(&mut out, alloc, self, Layout::of(policy))?;
+        print_item(&mut out, self, Layout::of(policy))?;
         Ok(out)
     }
 
@@ -98,7 +98,7 @@ impl<'a> StandaloneItem<'a> {
         ensures { IfOk result (λ s. string_bytes s ≡ text (laid_out policy (standalone_tree self.now))) }
     {
         let mut out = String::new(alloc);
-        print_standalone(&mut out, alloc, self, Layout::of(policy))?;
+        print_standalone(&mut out, self, Layout::of(policy))?;
         Ok(out)
     }
 
@@ -156,7 +156,7 @@ impl<'a> Sequence<'a> {
         ensures { IfOk result (λ s. string_bytes s ≡ text (laid_out policy (sequence_tree self.now))) }
     {
         let mut out = String::new(alloc);
-        print_sequence(&mut out, alloc, self, Layout::of(policy))?;
+        print_sequence(&mut out, self, Layout::of(policy))?;
         Ok(out)
     }
 }

@@ -23,7 +23,7 @@ use cbor_edn_parts::layout::{
     Layout, Slot, print_end, print_mandatory, print_separator, print_space,
 };
 use cbor_edn_parts::space::{Msc, S};
-use std::alloc::{AllocError, Global};
+use std::alloc::AllocError;
 
 /// The layout of the parts of an item.
 fn layout_of_parts(layout: Layout, item: &Item<'_>) -> Layout
@@ -38,16 +38,15 @@ fn layout_of_parts(layout: Layout, item: &Item<'_>) -> Layout
 #[tactic(auto, using(crate::proofs::lemmas::tree::Views::view_sequence_is, cbor_edn_model::proofs::lemmas::layout::LaidTexts::text_laid_nothing, cbor_edn_model::proofs::lemmas::layout::LaidTexts::text_laid_sequence, std::proofs::Common::append_assoc))]
 pub(super) fn print_sequence(
     out: &mut String,
-    alloc: Global,
     sequence: &Sequence<'_>,
     layout: Layout,
 ) -> Result<(), AllocError>
     ensures { OnOk result (string_bytes out.new ≡ string_bytes out.old ++ text (laid layout (sequence_tree sequence.now))) }
 {
-    print_space(out, alloc, &sequence.before, layout, Slot::Elsewhere)?;
+    print_space(out, &sequence.before, layout, Slot::Elsewhere)?;
     match &sequence.items {
         None => Ok(()),
-        Some(items) => print_items(out, alloc, items, layout),
+        Some(items) => print_items(out, items, layout),
     }
 }
 
@@ -55,22 +54,20 @@ pub(super) fn print_sequence(
 #[tactic(auto, using(cbor_edn_model::proofs::lemmas::layout::LaidTexts::text_laid_standalone, std::proofs::Common::append_assoc))]
 pub(super) fn print_standalone(
     out: &mut String,
-    alloc: Global,
     item: &StandaloneItem<'_>,
     layout: Layout,
 ) -> Result<(), AllocError>
     ensures { OnOk result (string_bytes out.new ≡ string_bytes out.old ++ text (laid layout (standalone_tree item.now))) }
 {
-    print_space(out, alloc, &item.before, layout, Slot::Elsewhere)?;
-    print_item(out, alloc, &item.item, layout)?;
-    print_space(out, alloc, &item.after, layout, Slot::Elsewhere)
+    print_space(out, &item.before, layout, Slot::Elsewhere)?;
+    print_item(out, &item.item, layout)?;
+    print_space(out, &item.after, layout, Slot::Elsewhere)
 }
 
 #[cycle(print_laid)]
 #[tactic(auto, using(crate::proofs::lemmas::tree::Views::view_string_is, crate::proofs::lemmas::tree::Views::view_stream_is, cbor_edn_model::proofs::lemmas::layout::LaidTexts::text_laid_number, cbor_edn_model::proofs::lemmas::layout::LaidTexts::text_laid_float, cbor_edn_model::proofs::lemmas::layout::LaidTexts::text_laid_named, cbor_edn_model::proofs::lemmas::layout::LaidTexts::text_laid_enclosed, cbor_edn_model::proofs::lemmas::layout::LaidTexts::text_laid_list, cbor_edn_model::proofs::lemmas::layout::LaidTexts::text_laid_string, crate::proofs::lemmas::layout::LaidStrings::text_laid_piece, cbor_edn_model::proofs::lemmas::layout::LaidTexts::text_laid_stream, std::proofs::Common::append_assoc))]
 pub(super) fn print_item(
     out: &mut String,
-    alloc: Global,
     item: &Item<'_>,
     layout: Layout,
 ) -> Result<(), AllocError>
@@ -85,48 +82,42 @@ pub(super) fn print_item(
             let parts = layout_of_parts(layout, item);
             print_label(out, label.kind)?;
             out.push_str("(")?;
-            print_standalone(out, alloc, content, parts)?;
+            print_standalone(out, content, parts)?;
             out.push_str(")")
         }
         InnerItem::Array(list) => {
             let parts = layout_of_parts(layout, item);
             out.push_str("[")?;
-            print_list(out, alloc, list, parts)?;
+            print_list(out, list, parts)?;
             out.push_str("]")
         }
         InnerItem::Map(list) => {
             let parts = layout_of_parts(layout, item);
             out.push_str("{")?;
-            print_pair_list(out, alloc, list, parts)?;
+            print_pair_list(out, list, parts)?;
             out.push_str("}")
         }
         InnerItem::String(string) => {
             let parts = layout_of_parts(layout, item);
-            print_string(out, alloc, string, parts)
+            print_string(out, string, parts)
         }
         InnerItem::Stream(stream) => {
             let parts = layout_of_parts(layout, item);
-            print_stream(out, alloc, stream, parts)
+            print_stream(out, stream, parts)
         }
     }
 }
 
 #[tactic(auto, using(cbor_edn_model::proofs::lemmas::layout::LaidTexts::text_laid_pieces, std::proofs::Common::append_assoc))]
-fn print_string(
-    out: &mut String,
-    alloc: Global,
-    string: &CborString<'_>,
-    layout: Layout,
-) -> Result<(), AllocError>
+fn print_string(out: &mut String, string: &CborString<'_>, layout: Layout) -> Result<(), AllocError>
     ensures { OnOk result (string_bytes out.new ≡ string_bytes out.old ++ text (laid layout (view_string texts string.now))) }
 {
-    print_piece_row(out, alloc, &string.row, layout)?;
+    print_piece_row(out, &string.row, layout)?;
     serialize::print_piece(out, &string.last)
 }
 
 fn print_piece_row(
     out: &mut String,
-    alloc: Global,
     row: &[(Piece<'_>, S<'_>, S<'_>)],
     layout: Layout,
 ) -> Result<(), AllocError>
@@ -134,180 +125,142 @@ fn print_piece_row(
 {
     for (piece, before, after) in row {
         serialize::print_piece(out, piece)?;
-        print_space(out, alloc, before, layout, Slot::BeforePlus)?;
+        print_space(out, before, layout, Slot::BeforePlus)?;
         out.push_str("+")?;
-        print_space(out, alloc, after, layout, Slot::AfterPlus)?;
+        print_space(out, after, layout, Slot::AfterPlus)?;
     }
     Ok(())
 }
 
 #[tactic(auto, using(crate::proofs::lemmas::tree::Views::view_stream_is, cbor_edn_model::proofs::lemmas::text::Texts::text_stream, std::proofs::Common::append_assoc))]
-fn print_stream(
-    out: &mut String,
-    alloc: Global,
-    stream: &Stream<'_>,
-    layout: Layout,
-) -> Result<(), AllocError>
+fn print_stream(out: &mut String, stream: &Stream<'_>, layout: Layout) -> Result<(), AllocError>
     ensures { OnOk result (string_bytes out.new ≡ string_bytes out.old ++ text (laid_stream layout (view_stream texts stream.now))) }
 {
     out.push_str("(_")?;
-    print_mandatory(out, alloc, &stream.ms, layout, Slot::First)?;
-    print_strings(out, alloc, &stream.strings, layout)?;
+    print_mandatory(out, &stream.ms, layout, Slot::First)?;
+    print_strings(out, &stream.strings, layout)?;
     out.push_str(")")
 }
 
 #[tactic(auto, using(crate::proofs::lemmas::tree::Views::view_strings_is, cbor_edn_model::proofs::lemmas::layout::LaidTexts::text_laid_rest, cbor_edn_model::proofs::lemmas::layout::LaidTexts::text_laid_chunk, std::proofs::Common::append_assoc))]
-fn print_strings(
-    out: &mut String,
-    alloc: Global,
-    strings: &Strings<'_>,
-    layout: Layout,
-) -> Result<(), AllocError>
+fn print_strings(out: &mut String, strings: &Strings<'_>, layout: Layout) -> Result<(), AllocError>
     ensures { OnOk result (string_bytes out.new ≡ string_bytes out.old ++ text (laid layout (view_strings texts strings.now))) }
 {
-    print_string_row(out, alloc, &strings.row, layout)?;
-    print_string(out, alloc, &strings.last, layout.in_chunk())?;
-    print_end(out, alloc, &strings.soc, layout)
+    print_string_row(out, &strings.row, layout)?;
+    print_string(out, &strings.last, layout.in_chunk())?;
+    print_end(out, &strings.soc, layout)
 }
 
 #[tactic(auto, unfolding(cbor_edn_model::specs::layout::Layout::laid, cbor_edn_model::specs::tree::Trees::onto))]
 fn print_string_row(
     out: &mut String,
-    alloc: Global,
     row: &[(CborString<'_>, Msc<'_>)],
     layout: Layout,
 ) -> Result<(), AllocError>
     ensures { OnOk result (string_bytes out.new ≡ string_bytes out.old ++ entries_text (map (laid_entry layout) (map (seen_string texts) row.now))) }
 {
     for (string, separator) in row {
-        print_string(out, alloc, string, layout.in_chunk())?;
-        print_separator(out, alloc, separator, layout)?;
+        print_string(out, string, layout.in_chunk())?;
+        print_separator(out, separator, layout)?;
     }
     Ok(())
 }
 
 #[cycle(print_laid)]
 #[tactic(auto, using(cbor_edn_model::proofs::lemmas::layout::LaidTexts::text_laid_empty, cbor_edn_model::proofs::lemmas::layout::LaidTexts::text_laid_full, std::proofs::Common::append_assoc))]
-fn print_list(
-    out: &mut String,
-    alloc: Global,
-    list: &ItemList<'_>,
-    layout: Layout,
-) -> Result<(), AllocError>
+fn print_list(out: &mut String, list: &ItemList<'_>, layout: Layout) -> Result<(), AllocError>
     ensures { OnOk result (string_bytes out.new ≡ string_bytes out.old ++ text (laid layout (view_list texts list.now))) }
 {
     match list {
         ItemList::Present { head, s, items } => {
-            print_laid_head(out, alloc, head, layout)?;
-            print_space(out, alloc, s, layout, Slot::First)?;
-            print_items(out, alloc, items, layout)
+            print_laid_head(out, head, layout)?;
+            print_space(out, s, layout, Slot::First)?;
+            print_items(out, items, layout)
         }
         ItemList::Absent { indicator, s } => {
             print_indicator(out, *indicator)?;
-            print_space(out, alloc, s, layout, Slot::Elsewhere)
+            print_space(out, s, layout, Slot::Elsewhere)
         }
     }
 }
 
 #[cycle(print_laid)]
 #[tactic(auto, using(crate::proofs::lemmas::tree::Views::view_items_is, cbor_edn_model::proofs::lemmas::layout::LaidTexts::text_laid_rest, cbor_edn_model::proofs::lemmas::layout::LaidTexts::text_laid_element, std::proofs::Common::append_assoc))]
-fn print_items(
-    out: &mut String,
-    alloc: Global,
-    items: &Items<'_>,
-    layout: Layout,
-) -> Result<(), AllocError>
+fn print_items(out: &mut String, items: &Items<'_>, layout: Layout) -> Result<(), AllocError>
     ensures { OnOk result (string_bytes out.new ≡ string_bytes out.old ++ text (laid layout (view_items texts items.now))) }
 {
-    print_row(out, alloc, &items.row, layout)?;
-    print_item(out, alloc, &items.last, layout)?;
-    print_end(out, alloc, &items.soc, layout)
+    print_row(out, &items.row, layout)?;
+    print_item(out, &items.last, layout)?;
+    print_end(out, &items.soc, layout)
 }
 
 #[cycle(print_laid)]
 #[tactic(auto, unfolding(cbor_edn_model::specs::layout::Layout::laid, cbor_edn_model::specs::tree::Trees::onto))]
 fn print_row(
     out: &mut String,
-    alloc: Global,
     row: &[(Item<'_>, Msc<'_>)],
     layout: Layout,
 ) -> Result<(), AllocError>
     ensures { OnOk result (string_bytes out.new ≡ string_bytes out.old ++ entries_text (map (laid_entry layout) (map (seen texts) row.now))) }
 {
     for (item, separator) in row {
-        print_item(out, alloc, item, layout)?;
-        print_separator(out, alloc, separator, layout)?;
+        print_item(out, item, layout)?;
+        print_separator(out, separator, layout)?;
     }
     Ok(())
 }
 
 #[cycle(print_laid)]
 #[tactic(auto, using(cbor_edn_model::proofs::lemmas::layout::LaidTexts::text_laid_empty, cbor_edn_model::proofs::lemmas::layout::LaidTexts::text_laid_full, std::proofs::Common::append_assoc))]
-fn print_pair_list(
-    out: &mut String,
-    alloc: Global,
-    list: &PairList<'_>,
-    layout: Layout,
-) -> Result<(), AllocError>
+fn print_pair_list(out: &mut String, list: &PairList<'_>, layout: Layout) -> Result<(), AllocError>
     ensures { OnOk result (string_bytes out.new ≡ string_bytes out.old ++ text (laid layout (view_pair_list texts list.now))) }
 {
     match list {
         PairList::Present { head, s, pairs } => {
-            print_laid_head(out, alloc, head, layout)?;
-            print_space(out, alloc, s, layout, Slot::First)?;
-            print_pairs(out, alloc, pairs, layout)
+            print_laid_head(out, head, layout)?;
+            print_space(out, s, layout, Slot::First)?;
+            print_pairs(out, pairs, layout)
         }
         PairList::Absent { indicator, s } => {
             print_indicator(out, *indicator)?;
-            print_space(out, alloc, s, layout, Slot::Elsewhere)
+            print_space(out, s, layout, Slot::Elsewhere)
         }
     }
 }
 
 #[cycle(print_laid)]
 #[tactic(auto, using(crate::proofs::lemmas::tree::Views::view_pairs_is, cbor_edn_model::proofs::lemmas::layout::LaidTexts::text_laid_rest, std::proofs::Common::append_assoc))]
-fn print_pairs(
-    out: &mut String,
-    alloc: Global,
-    pairs: &Pairs<'_>,
-    layout: Layout,
-) -> Result<(), AllocError>
+fn print_pairs(out: &mut String, pairs: &Pairs<'_>, layout: Layout) -> Result<(), AllocError>
     ensures { OnOk result (string_bytes out.new ≡ string_bytes out.old ++ text (laid layout (view_pairs texts pairs.now))) }
 {
-    print_pair_row(out, alloc, &pairs.row, layout)?;
-    print_pair(out, alloc, &pairs.last, layout)?;
-    print_end(out, alloc, &pairs.soc, layout)
+    print_pair_row(out, &pairs.row, layout)?;
+    print_pair(out, &pairs.last, layout)?;
+    print_end(out, &pairs.soc, layout)
 }
 
 #[cycle(print_laid)]
 fn print_pair_row(
     out: &mut String,
-    alloc: Global,
     row: &[(Kp<'_>, Msc<'_>)],
     layout: Layout,
 ) -> Result<(), AllocError>
     ensures { OnOk result (string_bytes out.new ≡ string_bytes out.old ++ entries_text (map (laid_entry layout) (map (seen_pair texts) row.now))) }
 {
     for (pair, separator) in row {
-        print_pair(out, alloc, pair, layout)?;
-        print_separator(out, alloc, separator, layout)?;
+        print_pair(out, pair, layout)?;
+        print_separator(out, separator, layout)?;
     }
     Ok(())
 }
 
 #[cycle(print_laid)]
 #[tactic(auto, using(cbor_edn_model::proofs::lemmas::layout::LaidTexts::text_laid_pair, std::proofs::Common::append_assoc))]
-fn print_pair(
-    out: &mut String,
-    alloc: Global,
-    pair: &Kp<'_>,
-    layout: Layout,
-) -> Result<(), AllocError>
+fn print_pair(out: &mut String, pair: &Kp<'_>, layout: Layout) -> Result<(), AllocError>
     ensures { OnOk result (string_bytes out.new ≡ string_bytes out.old ++ text (laid layout (view_pair texts pair.now))) }
 {
-    print_item(out, alloc, &pair.key, layout)?;
-    print_space(out, alloc, &pair.before_colon, layout, Slot::Elsewhere)?;
+    print_item(out, &pair.key, layout)?;
+    print_space(out, &pair.before_colon, layout, Slot::Elsewhere)?;
     out.push_str(":")?;
-    print_space(out, alloc, &pair.after_colon, layout, Slot::AfterColon)?;
-    print_item(out, alloc, &pair.value, layout)
+    print_space(out, &pair.after_colon, layout, Slot::AfterColon)?;
+    print_item(out, &pair.value, layout)
 }

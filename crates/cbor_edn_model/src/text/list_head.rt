@@ -87,7 +87,6 @@ pub fn lay_head<'a>(
 /// Writes the indicator of a list and the space behind it as it is laid out at the end of a text. Fails where memory runs out.
 pub fn print_laid_head(
     out: &mut String,
-    alloc: Global,
     head: &Option<(Indicator, Ms<'_>)>,
     layout: Layout,
 ) -> Result<(), AllocError>
@@ -97,7 +96,7 @@ pub fn print_laid_head(
         None => Ok(()),
         Some((indicator, space)) => {
             out.push_str(indicator.as_str())?;
-            print_mandatory(out, alloc, space, layout, Slot::Elsewhere)
+            print_mandatory(out, space, layout, Slot::Elsewhere)
         }
     }
 }

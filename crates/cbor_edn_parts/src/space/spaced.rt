@@ -30,6 +30,13 @@ impl<'a> S<'a> {
         let text = comments_in_column(alloc, spacing, &self.text)?;
         Ok(S { text })
     }
+
+    /// Appends the text by a column of the table. Fails where memory runs out.
+    pub(crate) fn print_spaced(&self, out: &mut String, spacing: Spacing) -> Result<(), AllocError>
+        ensures { OnOk result (string_bytes out.new ≡ string_bytes out.old ++ table.spaced table.S spacing (s_bytes self.now)) }
+    {
+        print_in_column(out, spacing, comments(self.as_str()), "")
+    }
 }
 
 impl<'a> Ms<'a> {
@@ -42,6 +49,18 @@ impl<'a> Ms<'a> {
     {
         let text = or_space(comments_in_column(alloc, spacing, &self.text)?);
         Ok(Ms { text })
+    }
+
+    /// Appends the text by a column of the table. Fails where memory runs out.
+    pub(crate) fn print_spaced(&self, out: &mut String, spacing: Spacing) -> Result<(), AllocError>
+        ensures { OnOk result (string_bytes out.new ≡ string_bytes out.old ++ table.spaced table.MS spacing (ms_bytes self.now)) }
+    {
+        let comments = comments(self.as_str());
+        match spacing {
+            Spacing::Least => out.push_str(" "),
+            Spacing::Comments | Spacing::OneLine if comments.is_empty() => out.push_str(" "),
+            _ => print_in_column(out, spacing, comments, ""),
+        }
     }
 }
 
@@ -56,6 +75,13 @@ impl<'a> Msc<'a> {
         let text = with_comma(alloc, spacing, self.as_str())?;
         Ok(Msc { text })
     }
+
+    /// Appends the text by a column of the table. Fails where memory runs out.
+    pub(crate) fn print_spaced(&self, out: &mut String, spacing: Spacing) -> Result<(), AllocError>
+        ensures { OnOk result (string_bytes out.new ≡ string_bytes out.old ++ table.spaced table.MSC spacing (msc_bytes self.now)) }
+    {
+        print_with_comma(out, spacing, self.as_str())
+    }
 }
 
 impl<'a> Soc<'a> {
@@ -69,6 +95,14 @@ impl<'a> Soc<'a> {
         let (before, after) = comments_round_comma(self.as_str());
         let text = in_column(alloc, spacing, before, after)?;
         Ok(Soc { text })
+    }
+
+    /// Appends the text by a column of the table. Fails where memory runs out.
+    pub(crate) fn print_spaced(&self, out: &mut String, spacing: Spacing) -> Result<(), AllocError>
+        ensures { OnOk result (string_bytes out.new ≡ string_bytes out.old ++ table.spaced table.SOC spacing (soc_bytes self.now)) }
+    {
+        let (before, after) = comments_round_comma(self.as_str());
+        print_in_column(out, spacing, before, after)
     }
 }
 
@@ -101,38 +135,49 @@ fn in_column<'a>(
     ensures least { spacing ≡ table.Least → IsOk result }
     ensures free { table.IsShortSpacing spacing → before.now ≡ [] → after.now ≡ [] → IsOk result }
 {
+    let is_bare = before.is_empty() && after.is_empty();
     match spacing {
-        Spacing::Least => Ok(LeafText::Borrowed("")),
-        Spacing::Comments | Spacing::OneLine => behind(alloc, "", before, after),
-        Spacing::OneSpace => behind(alloc, " ", before, after),
-        Spacing::NewLine(indent) if indent <= SHORT => {
-            behind(alloc, short_line(indent), before, after)
+        Spacing::Least => return Ok(LeafText::Borrowed("")),
+        Spacing::Comments | Spacing::OneLine if is_bare => return Ok(LeafText::Borrowed("")),
+        Spacing::OneSpace if is_bare => return Ok(LeafText::Borrowed(" ")),
+        Spacing::NewLine(indent) if is_bare && indent <= SHORT => {
+            return Ok(LeafText::Borrowed(short_line(indent)));
         }
-        Spacing::NewLine(indent) => {
-            let mut text = String::new(alloc);
-            print_line(&mut text, indent)?;
-            text.push_str(before)?;
-            text.push_str(after)?;
-            LeafText::own(alloc, text)
-        }
+        _ => {}
     }
+    let mut text = String::new(alloc);
+    print_in_column(&mut text, spacing, before, after)?;
+    LeafText::own(alloc, text)
 }
 
-/// Comments, one behind the other, behind these blanks. No memory is taken where there are no comments.
-fn behind<'a>(
-    alloc: Global,
-    blanks: &'static str,
+/// Appends comments, one behind the other, behind the blanks of a column. Fails where memory runs out.
+fn print_in_column(
+    out: &mut String,
+    spacing: Spacing,
     before: &str,
     after: &str,
-) -> Result<LeafText<'a>, AllocError>
-    ensures bytes { IfOk result (λ t. leaf_bytes t ≡ blanks.now ++ (before.now ++ after.now)) }
-    ensures free { before.now ≡ [] → after.now ≡ [] → IsOk result }
+) -> Result<(), AllocError>
+    ensures { OnOk result (string_bytes out.new ≡ string_bytes out.old ++ in_column spacing (before.now ++ after.now)) }
 {
-    if before.is_empty() && after.is_empty() {
-        return Ok(LeafText::Borrowed(blanks));
+    match spacing {
+        Spacing::Least => return Ok(()),
+        Spacing::Comments | Spacing::OneLine => {}
+        Spacing::OneSpace => out.push_str(" ")?,
+        Spacing::NewLine(indent) => print_line(out, indent)?,
     }
-    let text = format!(in alloc; "{blanks}{before}{after}")?;
-    LeafText::own(alloc, text)
+    print_comments(out, before)?;
+    print_comments(out, after)
+}
+
+/// Appends comments, of which there mostly are none.
+#[inline(always)]
+fn print_comments(out: &mut String, comments: &str) -> Result<(), AllocError>
+    ensures { OnOk result (string_bytes out.new ≡ string_bytes out.old ++ comments.now) }
+{
+    if comments.is_empty() {
+        return Ok(());
+    }
+    out.push_str(comments)
 }
 
 /// One space in place of nothing.
@@ -154,7 +199,7 @@ fn with_comma<'a>(alloc: Global, spacing: Spacing, text: &str) -> Result<LeafTex
 {
     let (before, after) = comments_round_comma(text);
     let is_empty = before.is_empty() && after.is_empty();
-    let text = match spacing {
+    match spacing {
         Spacing::Least => return Ok(LeafText::Borrowed(",")),
         Spacing::Comments if is_empty => return Ok(LeafText::Borrowed(",")),
         Spacing::OneLine if is_empty => return Ok(LeafText::Borrowed(", ")),
@@ -162,18 +207,31 @@ fn with_comma<'a>(alloc: Global, spacing: Spacing, text: &str) -> Result<LeafTex
         Spacing::NewLine(indent) if is_empty && indent <= SHORT => {
             return Ok(LeafText::Borrowed(comma_line(indent)));
         }
-        Spacing::Comments => format!(in alloc; "{before},{after}")?,
-        Spacing::OneLine => format!(in alloc; "{before}, {after}")?,
-        Spacing::OneSpace => format!(in alloc; " {before},{after}")?,
-        Spacing::NewLine(indent) => {
-            let mut text = String::from_str(alloc, before)?;
-            text.push(',')?;
-            print_line(&mut text, indent)?;
-            text.push_str(after)?;
-            text
-        }
-    };
-    LeafText::own(alloc, text)
+        _ => {}
+    }
+    let mut spaced = String::new(alloc);
+    print_with_comma(&mut spaced, spacing, text)?;
+    LeafText::own(alloc, spaced)
+}
+
+/// Appends a separator by a column: its comments with a comma between those in front of it and those behind it. Fails where memory
+/// runs out.
+fn print_with_comma(out: &mut String, spacing: Spacing, text: &str) -> Result<(), AllocError>
+    ensures { OnOk result (string_bytes out.new ≡ string_bytes out.old ++ table.spaced table.MSC spacing text.now) }
+{
+    let (ahead, behind) = comments_round_comma(text);
+    match spacing {
+        Spacing::Least => return out.push_str(","),
+        Spacing::OneSpace => out.push_str(" ")?,
+        Spacing::Comments | Spacing::OneLine | Spacing::NewLine(_) => {}
+    }
+    print_comments(out, ahead)?;
+    match spacing {
+        Spacing::OneLine => out.push_str(", ")?,
+        Spacing::NewLine(indent) => print_comma_line(out, indent)?,
+        Spacing::Least | Spacing::Comments | Spacing::OneSpace => out.push_str(",")?,
+    }
+    print_comments(out, behind)
 }
 
 /// A comma, a line feed and so many spaces.
@@ -192,8 +250,29 @@ fn short_line(indent: usize) -> &'static str
     &comma_line(indent)[1..]
 }
 
-/// Appends a line feed and so many spaces. Where there is no memory for these it fails before it writes them.
+/// Appends a comma, a line feed and so many spaces.
+fn print_comma_line(text: &mut String, indent: usize) -> Result<(), AllocError>
+    ensures { OnOk result (string_bytes text.new ≡ string_bytes text.old ++ 44 ∷ line indent) }
+{
+    if indent <= SHORT {
+        return text.push_str(comma_line(indent));
+    }
+    text.push(',')?;
+    print_line(text, indent)
+}
+
+/// Appends a line feed and so many spaces.
 fn print_line(text: &mut String, indent: usize) -> Result<(), AllocError>
+    ensures { OnOk result (string_bytes text.new ≡ string_bytes text.old ++ line indent) }
+{
+    if indent <= SHORT {
+        return text.push_str(short_line(indent));
+    }
+    print_long_line(text, indent)
+}
+
+/// Appends a line feed and so many spaces. Where there is no memory for these it fails before it writes them.
+fn print_long_line(text: &mut String, indent: usize) -> Result<(), AllocError>
     ensures { OnOk result (string_bytes text.new ≡ string_bytes text.old ++ line indent) }
 {
     text.push('\n')?;

@@ -3,7 +3,7 @@ use Rattle.std.specs.Prelude.{encode_utf8}
 use Rattle.std.proofs.lemmas.List.{replicate_more}
 use Rattle.std.proofs.lemmas.Str.{encode_ascii}
 use Rattle.cbor_edn_parts.specs.Spacing.{line}
-use Rattle.cbor_edn_parts.proofs.space.spaced.print_line.Goals as goal
+use Rattle.cbor_edn_parts.proofs.space.spaced.print_long_line.Goals as goal
 
 pub spaces-init : goal.spaces-init
 unfolding line
