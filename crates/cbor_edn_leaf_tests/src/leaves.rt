@@ -1,10 +1,14 @@
 //! The leaves of a tree at a place of a text: spaces and encoding indicators, and the locations of refusals.
+ghost use Rattle.std.specs.Str.{IsCharBoundary};
+ghost use Rattle.cbor_edn_parts.specs.internal.Scans.{ScanLands};
+ghost use Rattle.cbor_edn_parts.specs.internal.Text.{text_bytes};
+
 use cbor_edn_expect::failures::Failures;
 use cbor_edn_expect::{expect, expect_row};
 use cbor_edn_parts::error::Refusal;
 use cbor_edn_parts::indicator::{Indicator, indicator_at};
 use cbor_edn_parts::looks::Looks;
-use cbor_edn_parts::number::number_at;
+use cbor_edn_parts::number::{Number, number_start};
 use cbor_edn_parts::policy::{DelimiterPolicy, Spacing};
 use cbor_edn_parts::space::{
     ItemEnd, Ms, Msc, S, Soc, separator, separator_behind, space, space_behind,
@@ -59,6 +63,18 @@ fn expect_between(alloc: Global, text: &str, wanted: &str) -> Result<(), Fail> {
     let between = between_of(text)?;
     expect("copy", between.clone()? == between)?;
     expect_row(alloc, text, between.as_str(), wanted)
+}
+
+// The number at a place, and the place behind it.
+fn number_at<'a>(
+    text: &Text<'a>,
+    from: usize,
+    looks: &mut Looks,
+) -> Result<(Number<'a>, usize), Refusal>
+    requires { IsCharBoundary (text_bytes text.now) from }
+    ensures { ScanLands (text_bytes text.now) from result }
+{
+    number_start(text, from, looks).number(text, from, looks)
 }
 
 fn expect_number_behind(alloc: Global, text: &str, wanted: &str) -> Result<(), Fail> {

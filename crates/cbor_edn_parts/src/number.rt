@@ -11,14 +11,12 @@ ghost use Rattle.cbor_edn_parts.specs.internal.StateLaws.{number_stays, number_i
 use crate::bytes::Kind;
 use crate::leaf_text::LeafText;
 use crate::scan::State;
-pub use read::number_at;
 pub use small::SmallInteger;
 pub use start::{NumberStart, number_start};
 use std::alloc::AllocError;
 use std::num::ParseIntError;
 
 mod range;
-mod read;
 mod small;
 mod start;
 mod write;

@@ -110,7 +110,7 @@ fn run<T: State>(
 }
 
 /// Whether a byte stands there that is known to leave the state as it is.
-pub(crate) fn is_kept<T: State>(state: T, byte: Option<u8>) -> bool
+fn is_kept<T: State>(state: T, byte: Option<u8>) -> bool
     ensures { IsTrue result → (c : ℕ) × (byte ≡ Some c) × (c < 256) × (T.automaton.step c state ≡ Some state) }
 {
     match byte {

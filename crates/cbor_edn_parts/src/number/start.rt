@@ -4,7 +4,7 @@ ghost use Rattle.std.specs.Str.{IsCharBoundary};
 ghost use Rattle.cbor_edn_parts.specs.Bytes.{Follow};
 ghost use Rattle.cbor_edn_parts.specs.Leaves.{number_bytes, BorrowsNumber};
 ghost use Rattle.cbor_edn_parts.specs.internal.Lex.{token};
-ghost use Rattle.cbor_edn_parts.specs.internal.NumberStarts.{IsStart, follows_at};
+ghost use Rattle.cbor_edn_parts.specs.internal.NumberStarts.{IsStart, IsPastDigits, follows_at};
 ghost use Rattle.cbor_edn_parts.specs.internal.NumberTokens as tokens;
 ghost use Rattle.cbor_edn_parts.specs.internal.Scans.{IsRead, Comes, Scans, ScanLands, Costs};
 ghost use Rattle.cbor_edn_parts.specs.internal.Text.{text_bytes};
@@ -14,7 +14,7 @@ use crate::bytes::Kind;
 use crate::error::Refusal;
 use crate::leaf_text::LeafText;
 use crate::looks::Looks;
-use crate::scan::{State, is_kept, token_end};
+use crate::scan::{State, token_end};
 use crate::text::Text;
 
 /// How far the scan of a number has come: behind a sign and a zero or other decimal digits, where these stand there.
@@ -31,6 +31,8 @@ pub struct NumberStart {
 pub fn number_start(text: &Text<'_>, from: usize, looks: &mut Looks) -> NumberStart
     requires { IsCharBoundary (text_bytes text.now) from }
     ensures start { IsStart (text_bytes text.now) from result }
+    ensures sign { result.next ≡ Some 45 → result.state ≡ NumberState.Start → ⊥ }
+    ensures digits { IsPastDigits result }
     ensures cost { looks.new.count + from ≡ looks.old.count + result.at + 1 }
 {
     match text.byte(from, looks) {
@@ -54,8 +56,10 @@ fn unsigned_start(
     requires zero { tokens.number.step 48 state ≡ Some NumberState.AfterZero }
     requires digits { (c : ℕ) → 49 ≤ c → c ≤ 57 → tokens.number.step c state ≡ Some NumberState.DecimalDigits }
     requires begins { IsRead (text_bytes text.now) from first }
+    ensures first { result.state ≡ NumberState.Start → (state ≡ NumberState.Start) × (result.next ≡ first) }
     ensures comes { Comes tokens.number (text_bytes text.now) state from result.state result.at }
     ensures read { IsRead (text_bytes text.now) result.at result.next }
+    ensures digits { IsPastDigits result }
     ensures cost { looks.new.count + from ≡ looks.old.count + result.at }
 {
     if is_leading_digit(first) {
@@ -81,13 +85,15 @@ fn unsigned_start(
 #[inline(always)]
 fn behind_digits(text: &Text<'_>, from: usize, looks: &mut Looks) -> NumberStart
     requires { IsCharBoundary (text_bytes text.now) from }
+    ensures state { result.state ≡ NumberState.DecimalDigits }
     ensures comes { Comes tokens.number (text_bytes text.now) NumberState.DecimalDigits from result.state result.at }
     ensures read { IsRead (text_bytes text.now) result.at result.next }
+    ensures digits { IsPastDigits result }
     ensures cost { looks.new.count + from ≡ looks.old.count + result.at + 1 }
 {
     let mut at = from;
     let mut next = text.byte(at, looks);
-    'digits: while is_kept(NumberState::DecimalDigits, next) {
+    'digits: while is_digit(next) {
         at += 1;
         next = text.byte(at, looks);
     }
@@ -98,15 +104,25 @@ fn behind_digits(text: &Text<'_>, from: usize, looks: &mut Looks) -> NumberStart
     }
 }
 
+/// Whether a byte is a decimal digit.
+fn is_digit(byte: Option<u8>) -> bool
+    ensures digit { IsTrue result → (c : ℕ) × (byte ≡ Some c) × (48 ≤ c) × (c ≤ 57) }
+    ensures other { (c : ℕ) → byte ≡ Some c → 48 ≤ c → c ≤ 57 → IsTrue result }
+{
+    matches!(byte, Some(b'0'..=b'9'))
+}
+
 /// Whether a byte is a decimal digit but zero.
 fn is_leading_digit(byte: Option<u8>) -> bool
-    ensures { IsTrue result → (c : ℕ) × (byte ≡ Some c) × (49 ≤ c) × (c ≤ 57) }
+    ensures digit { IsTrue result → (c : ℕ) × (byte ≡ Some c) × (49 ≤ c) × (c ≤ 57) }
+    ensures other { (c : ℕ) → byte ≡ Some c → 49 ≤ c → c ≤ 57 → IsTrue result }
 {
     matches!(byte, Some(b'1'..=b'9'))
 }
 
 fn is_zero(byte: Option<u8>) -> bool
-    ensures { IsTrue result → byte ≡ Some 48 }
+    ensures zero { IsTrue result → byte ≡ Some 48 }
+    ensures other { byte ≡ Some 48 → IsTrue result }
 {
     matches!(byte, Some(b'0'))
 }

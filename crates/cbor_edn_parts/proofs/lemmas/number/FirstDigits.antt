@@ -1,4 +1,4 @@
--- The states that a sign and the first decimal digit of a number lead to.
+-- The states that a sign and the decimal digits behind it lead to.
 use Rattle.std.proofs.Common.{ℕ, ◌≡◌, ◌≤◌, Bool, true, false, Option, Some, refl, sym, subst, arith}
 use Rattle.std.specs.Prelude.{ltb, ◌||◌}
 use Rattle.std.proofs.lemmas.Bool.{agree_below, agree_below_at, or_cases, ltb-true, false≢true}
@@ -30,17 +30,21 @@ decimal_is (Some DecimalDigits) e = refl
 decimal_is _ e = absurd (false≢true e)
 
 -- where a table of all bytes says so
-by_digit : (m : NumberState) → agree_below (λ c. ltb c 49 || ltb 57 c || is_decimal (number_step (kind c) m)) (λ c. true) 256 ≡ true → (c : ℕ) → 49 ≤ c → c ≤ 57 → tokens.number.step c m ≡ Some DecimalDigits
-by_digit m table c low high =
+by_digit : (d : ℕ) (m : NumberState) → agree_below (λ c. ltb c d || ltb 57 c || is_decimal (number_step (kind c) m)) (λ c. true) 256 ≡ true → (c : ℕ) → d ≤ c → c ≤ 57 → tokens.number.step c m ≡ Some DecimalDigits
+by_digit d m table c low high =
     ⊎_elim
-    (λ out. ⊎_elim (λ below. absurd (omega (arith, low, ltb-true c 49 below))) (λ above. absurd (omega (arith, high, ltb-true 57 c above))) (or_cases (ltb c 49) (ltb 57 c) out))
+    (λ out. ⊎_elim (λ below. absurd (omega (arith, low, ltb-true c d below))) (λ above. absurd (omega (arith, high, ltb-true 57 c above))) (or_cases (ltb c d) (ltb 57 c) out))
     (decimal_is (number_step (kind c) m))
-    (or_cases (ltb c 49 || ltb 57 c) (is_decimal (number_step (kind c) m)) (agree_below_at (λ c. ltb c 49 || ltb 57 c || is_decimal (number_step (kind c) m)) (λ c. true) 256 c table (omega arith)))
+    (or_cases (ltb c d || ltb 57 c) (is_decimal (number_step (kind c) m)) (agree_below_at (λ c. ltb c d || ltb 57 c || is_decimal (number_step (kind c) m)) (λ c. true) 256 c table (omega arith)))
 
 pub digits_from_start : (c : ℕ) → 49 ≤ c → c ≤ 57 → tokens.number.step c Start ≡ Some DecimalDigits
 unfolding kind
-digits_from_start = by_digit Start refl
+digits_from_start = by_digit 49 Start refl
 
 pub digits_from_sign : (c : ℕ) → 49 ≤ c → c ≤ 57 → tokens.number.step c Signed ≡ Some DecimalDigits
 unfolding kind
-digits_from_sign = by_digit Signed refl
+digits_from_sign = by_digit 49 Signed refl
+
+pub digits_on : (c : ℕ) → 48 ≤ c → c ≤ 57 → tokens.number.step c DecimalDigits ≡ Some DecimalDigits
+unfolding kind
+digits_on = by_digit 48 DecimalDigits refl
