@@ -242,8 +242,13 @@ fn encode_lone_literal(
 ) -> Result<(), Fault<InconsistentEdn>>
     ensures { Encodes encoding (means (nodes.String (nodes.LastPiece (nodes.Literal (literal_bytes literal.now) indicator)))) out.old.items out.new.items result }
 {
-    let (kind, bytes) = literal.content(*out.allocator())?;
-    encode_string(out, kind, indicator, &bytes)
+    match literal.plain_content() {
+        Some((kind, bytes)) => encode_string(out, kind, indicator, bytes),
+        None => {
+            let (kind, bytes) = literal.content(*out.allocator())?;
+            encode_string(out, kind, indicator, &bytes)
+        }
+    }
 }
 
 /// Writes one of the strings of a stream.

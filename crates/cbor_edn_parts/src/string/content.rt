@@ -1,5 +1,5 @@
 //! What literals contribute to a string.
-ghost use Rattle.std.specs.Prelude.{◌≡◌, ◌++◌, ◌↔◌, IsTrue, IfOk, OnOk, Some, None, not, position};
+ghost use Rattle.std.specs.Prelude.{◌≡◌, ◌≤◌, ◌++◌, length, ◌↔◌, IsTrue, IfOk, IfSome, OnOk, Some, None, not, position};
 ghost use Rattle.cbor_edn_parts.specs.Contents.{HasContent, NoContent, IsSupported, IsRefusal};
 ghost use Rattle.cbor_edn_parts.specs.internal.ContentReading as reading;
 ghost use Rattle.cbor_edn_parts.specs.internal.Ended.{ended_bytes};
@@ -23,12 +23,25 @@ impl Literal<'_> {
     {
         let kind = self.kind();
         let prefix = self.prefix();
-        let value = kind.quote().decode(alloc, self.quoted())?;
+        let quote = kind.quote();
         if prefix.is_empty() {
-            Ok((kind, value))
+            Ok((kind, quote.decode(alloc, self.quoted())?))
         } else {
-            Ok((kind, prefixed(alloc, prefix, &value)?))
+            Ok((kind, prefixed_quoted(alloc, prefix, quote, self.quoted())?))
         }
+    }
+
+    /// The kind and the bytes of a string as most are, whose text between the quotes stands for itself: of a literal without prefix and
+    /// escapes, where they stand. Takes no memory.
+    pub fn plain_content(&self) -> Option<(StringKind, &[u8])>
+        ensures { IfSome result (λ p. HasContent (literal_bytes self.now) p.0 p.1.now) }
+    {
+        if !self.prefix().is_empty() {
+            return None;
+        }
+        let kind = self.kind();
+        let plain = kind.quote().plain(self.quoted())?;
+        Some((kind, plain))
     }
 
     /// What stands before the first quote.
@@ -75,6 +88,23 @@ fn is_supported_prefix(prefix: &str) -> bool
     matches!(prefix, "" | "h" | "b64" | "b32" | "h32")
 }
 
+/// The bytes of a quoted text behind a prefix. A text that stands for itself is not copied.
+fn prefixed_quoted(
+    alloc: Global,
+    prefix: &str,
+    quote: Quote,
+    quoted: &[u8],
+) -> Result<Vec<u8>, Fault<InconsistentEdn>>
+    ensures bytes { IfOk result (λ v. reading.prefixed_bytes prefix.now (tokens.decoded quote QuotedState.Between quoted.now) ≡ Some v.items) }
+    ensures none { IfTold result (λ e. reading.prefixed_bytes prefix.now (tokens.decoded quote QuotedState.Between quoted.now) ≡ None) }
+    ensures told { IfTold result (λ e. e ≡ reading.refusal (reading.is_decoded prefix.now)) }
+{
+    match quote.plain(quoted) {
+        Some(text) => prefixed(alloc, prefix, text),
+        None => prefixed(alloc, prefix, &quote.decode(alloc, quoted)?),
+    }
+}
+
 /// The bytes of a text behind a prefix.
 fn prefixed(alloc: Global, prefix: &str, text: &[u8]) -> Result<Vec<u8>, Fault<InconsistentEdn>>
     ensures bytes { IfOk result (λ v. reading.prefixed_bytes prefix.now text.now ≡ Some v.items) }
@@ -113,11 +143,14 @@ impl Quote {
     pub(super) fn decode(self, alloc: Global, text: &[u8]) -> Result<Vec<u8>, AllocError>
         ensures { IfOk result (λ v. v.items ≡ tokens.decoded self QuotedState.Between text.now) }
     {
-        let (plain, rest) = self.split_plain(text);
         let mut bytes = Vec::new(alloc);
-        bytes.extend_from_slice(plain)?;
         let mut part = QuotedState::Between;
-        for byte in rest {
+        let mut rest = text;
+        'parts: loop {
+            rest = self.append_plain(part, rest, &mut bytes)?;
+            let [byte, behind @ ..] = rest else {
+                break;
+            };
             if self.ends(part, *byte) {
                 break;
             }
@@ -126,13 +159,43 @@ impl Quote {
             };
             ended.append_to(&mut bytes)?;
             part = next;
+            rest = behind;
         }
         Ok(bytes)
     }
 
+    /// Appends the plain bytes that stand between two characters, and answers what stands behind them.
+    fn append_plain<'t>(
+        self,
+        part: QuotedState,
+        text: &'t [u8],
+        bytes: &mut Vec<u8>,
+    ) -> Result<&'t [u8], AllocError>
+        ensures bytes { IfOk result (λ r. bytes.old.items ++ tokens.decoded self part text.now ≡ bytes.new.items ++ tokens.decoded self part r.now) }
+        ensures behind { IfOk result (λ r. length r.now ≤ length text.now) }
+    {
+        if !matches!(part, QuotedState::Between) {
+            return Ok(text);
+        }
+        let (plain, rest) = self.split_plain(text);
+        bytes.extend_from_slice(plain)?;
+        Ok(rest)
+    }
+
+    /// The text behind an opening quote, up to the quote that ends it, where all of it is plain: it stands for itself.
+    fn plain(self, text: &[u8]) -> Option<&[u8]>
+        ensures { IfSome result (λ p. tokens.decoded self QuotedState.Between text.now ≡ p.now) }
+    {
+        match self.split_plain(text) {
+            (plain, [last]) if self.ends(QuotedState::Between, *last) => Some(plain),
+            _ => None,
+        }
+    }
+
     /// Plain bytes that the text behind an opening quote begins with, mostly all but the quote that ends it, and the rest.
     fn split_plain(self, text: &[u8]) -> (&[u8], &[u8])
-        ensures { tokens.decoded self QuotedState.Between text.now ≡ result.0.now ++ tokens.decoded self QuotedState.Between result.1.now }
+        ensures bytes { tokens.decoded self QuotedState.Between text.now ≡ result.0.now ++ tokens.decoded self QuotedState.Between result.1.now }
+        ensures rest { length result.1.now ≤ length text.now }
     {
         match self.first_other(text) {
             Some(at) => text.split_at(at),

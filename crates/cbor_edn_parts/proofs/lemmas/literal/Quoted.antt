@@ -62,24 +62,27 @@ decoded_all : (q : Quote) (m : QuotedState) → decoded q m [] ≡ []
 unfolding decoded
 decoded_all q m = refl
 
--- A loop stands at i in the state m, and has read xs.
-module _ (q : Quote) (m : QuotedState) (total xs text : List ℕ) (i : ℕ) (so_far : total ≡ xs ++ decoded q m (drop i text)) where
-  on : i < length text → total ≡ xs ++ decoded q m (get_or text i 0 ∷ drop (i + 1) text)
-  on within = so_far ∙ ap (λ ys. xs ++ ys) (at_drop_more (decoded q m) text i 0 within)
+-- A loop stands in the state m in front of the rest, and has read xs.
+module _ (q : Quote) (m : QuotedState) (total xs rest : List ℕ) (so_far : total ≡ xs ++ decoded q m rest) where
+  pub quoted_all : rest ≡ [] → xs ≡ total
+  quoted_all none = sym (so_far ∙ ap (λ ys. xs ++ ys) (ap (decoded q m) none ∙ decoded_all q m) ∙ append-nil xs)
 
-  pub quoted_more : (byte : ℕ) (n : QuotedState) (bs : List ℕ) → i < length text → byte ≡ quote_byte q → false ≡ ends q (get_or text i 0) m → Some (n, bs) ≡ quoted_step byte (get_or text i 0) m
-      → total ≡ xs ++ bs ++ decoded q n (drop (i + 1) text)
-  quoted_more byte n bs within quote e s =
-      on within ∙ ap (λ ys. xs ++ ys) (decoded_step q m (get_or text i 0) (drop (i + 1) text) n bs e (rw quote at s)) ∙ sym (append_assoc xs bs (decoded q n (drop (i + 1) text)))
+  module _ (c : ℕ) (t : List ℕ) (is : rest ≡ c ∷ t) where
+    on : total ≡ xs ++ decoded q m (c ∷ t)
+    on = so_far ∙ ap (λ ys. xs ++ decoded q m ys) is
 
-  pub quoted_end : i < length text → true ≡ ends q (get_or text i 0) m → xs ≡ total
-  quoted_end within e = sym (on within ∙ ap (λ ys. xs ++ ys) (decoded_end q m (get_or text i 0) (drop (i + 1) text) e) ∙ append-nil xs)
+    pub quoted_more : (n : QuotedState) (bs : List ℕ) → false ≡ ends q c m → Some (n, bs) ≡ quoted_step (quote_byte q) c m → total ≡ xs ++ bs ++ decoded q n t
+    quoted_more n bs e s = on ∙ ap (λ ys. xs ++ ys) (decoded_step q m c t n bs e s) ∙ sym (append_assoc xs bs (decoded q n t))
 
-  pub quoted_none : (byte : ℕ) → i < length text → byte ≡ quote_byte q → false ≡ ends q (get_or text i 0) m → None ≡ quoted_step byte (get_or text i 0) m → xs ≡ total
-  quoted_none byte within quote e s = sym (on within ∙ ap (λ ys. xs ++ ys) (decoded_none q m (get_or text i 0) (drop (i + 1) text) e (rw quote at s)) ∙ append-nil xs)
+    pub quoted_end : true ≡ ends q c m → xs ≡ total
+    quoted_end e = sym (on ∙ ap (λ ys. xs ++ ys) (decoded_end q m c t e) ∙ append-nil xs)
 
-  pub quoted_all : length text ≤ i → xs ≡ total
-  quoted_all over = sym (so_far ∙ ap (λ ys. xs ++ ys) (at_drop_all (decoded q m) text i over ∙ decoded_all q m) ∙ append-nil xs)
+    pub quoted_none : false ≡ ends q c m → None ≡ quoted_step (quote_byte q) c m → xs ≡ total
+    quoted_none e s = sym (on ∙ ap (λ ys. xs ++ ys) (decoded_none q m c t e s) ∙ append-nil xs)
+
+-- What stands for itself up to the quote that ends it is all that is quoted.
+pub decoded_plain : (q : Quote) (x t : List ℕ) (c : ℕ) → decoded q Between x ≡ t ++ decoded q Between (c ∷ []) → true ≡ ends q c Between → decoded q Between x ≡ t
+decoded_plain q x t c split e = split ∙ ap (λ ys. t ++ ys) (decoded_end q Between c [] e) ∙ append-nil t
 
 -- A plain byte between two parts is no quote that ends the text, and stands for itself.
 plain_step : (q : Quote) (c : ℕ) → is_plain q c ≡ true → (ends q c Between ≡ false) × (quoted_step (quote_byte q) c Between ≡ Some (Between, c ∷ []))

@@ -8,15 +8,21 @@ use Rattle.cbor_edn_model.specs.tree.Items.{LastPiece, Literal}
 use Rattle.cbor_edn_model.proofs.lemmas.cbor.StringEncodes.{string_pushed, string_lacks}
 use Rattle.cbor_edn_core.proofs.cbor.encode.encode_lone_literal.Goals as goal
 
-pub returns-in_err-kind : goal.returns-in_err-kind
+pub returns-in-Some : goal.returns-in-Some
 unfolding means
-returns-in_err-kind c =
-    let refused = err_from_is_err_and c.from_residual.result c.from_residual.ensures.1 in
-    let unread = told_weaker c.in_err-kind.field-0.0 _ _ (λ _. content_unread (literal_bytes c.args.literal.now) c.args.literal.now.spelled) c.in_err-kind.ensures.none in
-    rw (refused.1, refused.2) (string_lacks (LastPiece (Literal (literal_bytes c.args.literal.now) c.args.indicator)) c.args.out.now.items c.args.out.now.items c.in_err-kind.field-0.0 unread)
+returns-in-Some c =
+    let read = content_reads (literal_bytes c.args.literal.now) c.in-Some.kind c.in-Some.bytes.now c.in-Some.ensures in
+    string_pushed (LastPiece (Literal (literal_bytes c.args.literal.now) c.args.indicator)) c.args.indicator c.in-Some.kind c.in-Some.bytes.now c.args.out.now.items c.encode_string.new.out.items c.encode_string.result refl read c.encode_string.ensures
 
-pub returns : goal.returns
+pub returns-in_err-kind-in-None : goal.returns-in_err-kind-in-None
 unfolding means
-returns c =
-    let read = content_reads (literal_bytes c.args.literal.now) c.in_ok-kind.kind c.in_ok-kind.bytes.items c.in_ok-kind.ensures.content in
-    string_pushed (LastPiece (Literal (literal_bytes c.args.literal.now) c.args.indicator)) c.args.indicator c.in_ok-kind.kind c.in_ok-kind.bytes.items c.args.out.now.items c.encode_string.new.out.items c.encode_string.result refl read (rw (← c.deref.ensures.value) c.encode_string.ensures)
+returns-in_err-kind-in-None c =
+    let refused = err_from_is_err_and c.from_residual.result c.from_residual.ensures.1 in
+    let unread = told_weaker c.in_err-kind-in-None.field-0.0 _ _ (λ _. content_unread (literal_bytes c.args.literal.now) c.args.literal.now.spelled) c.in_err-kind-in-None.ensures.none in
+    rw (refused.1, refused.2) (string_lacks (LastPiece (Literal (literal_bytes c.args.literal.now) c.args.indicator)) c.args.out.now.items c.args.out.now.items c.in_err-kind-in-None.field-0.0 unread)
+
+pub returns-in_ok-kind-in-None : goal.returns-in_ok-kind-in-None
+unfolding means
+returns-in_ok-kind-in-None c =
+    let read = content_reads (literal_bytes c.args.literal.now) c.in_ok-kind-in-None.kind c.in_ok-kind-in-None.bytes.items c.in_ok-kind-in-None.ensures.content in
+    string_pushed (LastPiece (Literal (literal_bytes c.args.literal.now) c.args.indicator)) c.args.indicator c.in_ok-kind-in-None.kind c.in_ok-kind-in-None.bytes.items c.args.out.now.items c.encode_string-in-None.new.out.items c.encode_string-in-None.result refl read (rw (← c.deref.ensures.value) c.encode_string-in-None.ensures)
