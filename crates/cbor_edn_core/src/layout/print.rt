@@ -65,7 +65,7 @@ pub(super) fn print_standalone(
 }
 
 #[cycle(print_laid)]
-#[tactic(auto, using(crate::proofs::lemmas::tree::Views::view_string_is, crate::proofs::lemmas::tree::Views::view_stream_is, cbor_edn_model::proofs::lemmas::layout::LaidTexts::text_laid_number, cbor_edn_model::proofs::lemmas::layout::LaidTexts::text_laid_float, cbor_edn_model::proofs::lemmas::layout::LaidTexts::text_laid_named, cbor_edn_model::proofs::lemmas::layout::LaidTexts::text_laid_enclosed, cbor_edn_model::proofs::lemmas::layout::LaidTexts::text_laid_list, cbor_edn_model::proofs::lemmas::layout::LaidTexts::text_laid_string, crate::proofs::lemmas::layout::LaidStrings::text_laid_piece, cbor_edn_model::proofs::lemmas::layout::LaidTexts::text_laid_stream, std::proofs::Common::append_assoc))]
+#[tactic(auto, using(crate::proofs::lemmas::tree::Views::view_string_is, crate::proofs::lemmas::tree::Views::view_stream_is, cbor_edn_model::proofs::lemmas::layout::LaidTexts::text_laid_number, cbor_edn_model::proofs::lemmas::layout::LaidTexts::text_laid_float, cbor_edn_model::proofs::lemmas::layout::LaidTexts::text_laid_named, cbor_edn_model::proofs::lemmas::layout::LaidTexts::text_laid_enclosed, cbor_edn_model::proofs::lemmas::layout::LaidTexts::text_laid_list, cbor_edn_model::proofs::lemmas::layout::LaidTexts::text_laid_string, crate::proofs::lemmas::layout::LaidStrings::text_laid_piece, cbor_edn_model::proofs::lemmas::text::Texts::text_string, cbor_edn_model::proofs::lemmas::text::Texts::text_last_piece, cbor_edn_model::proofs::lemmas::layout::LaidTexts::text_laid_stream, std::proofs::Common::append_assoc))]
 pub(super) fn print_item(
     out: &mut String,
     item: &Item<'_>,
@@ -74,10 +74,8 @@ pub(super) fn print_item(
     ensures { OnOk result (string_bytes out.new ≡ string_bytes out.old ++ text (laid layout (item_tree item.now))) }
 {
     match &item.inner {
-        InnerItem::Number(..)
-        | InnerItem::NonFinite(..)
-        | InnerItem::Named(_)
-        | InnerItem::Literal(..) => serialize::print_item(out, item),
+        InnerItem::Number(indicator, number) => serialize::print_number(out, number, *indicator),
+        InnerItem::NonFinite(..) | InnerItem::Named(_) => serialize::print_item(out, item),
         InnerItem::Enclosed(label, content) => {
             let parts = layout_of_parts(layout, item);
             print_label(out, label.kind)?;
@@ -96,6 +94,9 @@ pub(super) fn print_item(
             out.push_str("{")?;
             print_pair_list(out, list, parts)?;
             out.push_str("}")
+        }
+        InnerItem::Literal(indicator, literal) => {
+            serialize::print_literal(out, literal, *indicator)
         }
         InnerItem::String(string) => {
             let parts = layout_of_parts(layout, item);

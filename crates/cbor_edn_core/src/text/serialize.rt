@@ -1,18 +1,21 @@
 //! The text of a tree.
 ghost use Rattle.std.specs.Prelude.{◌≡◌, ◌++◌, OnOk, IfOk};
 ghost use Rattle.std.specs.String.{string_bytes};
-ghost use Rattle.cbor_edn_model.specs.tree.Trees.{text, items};
+ghost use Rattle.cbor_edn_parts.specs.Leaves.{number_bytes, literal_bytes};
+ghost use Rattle.cbor_edn_model.specs.tree.Trees.{NumberTree, LiteralTree, text, items};
 ghost use Rattle.cbor_edn_model.specs.text.Spelling.{Spells, SpellsSequence, SpellsOne};
 ghost use Rattle.cbor_edn_core.specs.tree.View.{view_list, view_items, row_text, view_pair_list, view_pairs, view_pair, pair_row_text, view_string, view_piece, piece_row_text, view_stream, view_strings, string_row_text, item_tree, standalone_tree, sequence_tree};
 ghost use Rattle.cbor_edn_model.specs.tree.TreeLeaves.{texts};
 
 use crate::tree::{
-    CborString, InnerItem, Item, ItemList, Items, Kp, PairList, Pairs, Piece, Sequence,
+    CborString, Indicator, InnerItem, Item, ItemList, Items, Kp, PairList, Pairs, Piece, Sequence,
     StandaloneItem, Stream, Strings,
 };
 use cbor_edn_model::text::list_head::print_list_head;
 use cbor_edn_model::text::write::{print_indicator, print_label};
+use cbor_edn_parts::number::Number;
 use cbor_edn_parts::space::{Msc, S};
+use cbor_edn_parts::string::Literal;
 use std::alloc::{AllocError, Global};
 
 impl Item<'_> {
@@ -73,16 +76,41 @@ fn print_standalone(out: &mut String, item: &StandaloneItem<'_>) -> Result<(), A
     out.push_str(item.after.as_str())
 }
 
+/// Writes a number with its indicator.
+#[inline]
+#[tactic(auto, using(cbor_edn_model::proofs::lemmas::text::Texts::text_number, std::proofs::Common::append_assoc))]
+pub(crate) fn print_number(
+    out: &mut String,
+    number: &Number<'_>,
+    indicator: Option<Indicator>,
+) -> Result<(), AllocError>
+    ensures { OnOk result (string_bytes out.new ≡ string_bytes out.old ++ text (NumberTree (number_bytes number.now) indicator)) }
+{
+    out.push_str(number.as_str())?;
+    print_indicator(out, indicator)
+}
+
+/// Writes a literal with its indicator.
+#[inline]
+#[tactic(auto, using(cbor_edn_model::proofs::lemmas::text::Texts::text_literal, std::proofs::Common::append_assoc))]
+pub(crate) fn print_literal(
+    out: &mut String,
+    literal: &Literal<'_>,
+    indicator: Option<Indicator>,
+) -> Result<(), AllocError>
+    ensures { OnOk result (string_bytes out.new ≡ string_bytes out.old ++ text (LiteralTree (literal_bytes literal.now) indicator)) }
+{
+    out.push_str(literal.as_str())?;
+    print_indicator(out, indicator)
+}
+
 #[cycle(print)]
 #[tactic(auto, using(crate::proofs::lemmas::tree::Views::view_string_is, cbor_edn_model::proofs::lemmas::text::Texts::text_number, cbor_edn_model::proofs::lemmas::text::Texts::text_float, cbor_edn_model::proofs::lemmas::text::Texts::text_named, cbor_edn_model::proofs::lemmas::text::Texts::text_enclosed, cbor_edn_model::proofs::lemmas::text::Texts::text_list, cbor_edn_model::proofs::lemmas::text::Texts::text_string, cbor_edn_model::proofs::lemmas::text::Texts::text_last_piece, cbor_edn_model::proofs::lemmas::text::Texts::text_literal, std::proofs::Common::append_assoc))]
 pub(crate) fn print_item(out: &mut String, item: &Item<'_>) -> Result<(), AllocError>
     ensures { OnOk result (string_bytes out.new ≡ string_bytes out.old ++ text (item_tree item.now)) }
 {
     match &item.inner {
-        InnerItem::Number(indicator, number) => {
-            out.push_str(number.as_str())?;
-            print_indicator(out, *indicator)
-        }
+        InnerItem::Number(indicator, number) => print_number(out, number, *indicator),
         InnerItem::NonFinite(indicator, float) => {
             out.push_str(float.as_str())?;
             print_indicator(out, *indicator)
@@ -104,10 +132,7 @@ pub(crate) fn print_item(out: &mut String, item: &Item<'_>) -> Result<(), AllocE
             print_pair_list(out, list)?;
             out.push_str("}")
         }
-        InnerItem::Literal(indicator, literal) => {
-            out.push_str(literal.as_str())?;
-            print_indicator(out, *indicator)
-        }
+        InnerItem::Literal(indicator, literal) => print_literal(out, literal, *indicator),
         InnerItem::String(string) => print_string(out, string),
         InnerItem::Stream(stream) => print_stream(out, stream),
     }
@@ -141,10 +166,7 @@ pub(crate) fn print_piece(out: &mut String, piece: &Piece<'_>) -> Result<(), All
     ensures { OnOk result (string_bytes out.new ≡ string_bytes out.old ++ text (view_piece texts piece.now)) }
 {
     match piece {
-        Piece::Literal(indicator, literal) => {
-            out.push_str(literal.as_str())?;
-            print_indicator(out, *indicator)
-        }
+        Piece::Literal(indicator, literal) => print_literal(out, literal, *indicator),
         Piece::Dots(dots) => out.push_str(dots.as_str()),
         Piece::Embedded(indicator, sequence) => {
             out.push_str("<<")?;

@@ -13,8 +13,21 @@ pub(super) fn comments(text: &str) -> &str
     to_last(from_first(text))
 }
 
-/// The comments in front of the comma of a text, and those behind it. Most texts are blanks round a comma, and have none.
+/// The comments in front of the comma of a text, and those behind it. Most texts are a comma with one blank behind it or none.
+#[inline]
 pub(super) fn comments_round_comma(text: &str) -> (&str, &str)
+    ensures before { result.0.now ≡ comments_before text.now }
+    ensures after { result.1.now ≡ comments_after text.now }
+{
+    match text.as_bytes() {
+        [b','] => ("", ""),
+        [b',', b' '] => ("", ""),
+        _ => comments_in_parts(text),
+    }
+}
+
+/// The same of any text. Most others are blanks round a comma too.
+fn comments_in_parts(text: &str) -> (&str, &str)
     ensures before { result.0.now ≡ comments_before text.now }
     ensures after { result.1.now ≡ comments_after text.now }
 {

@@ -1,7 +1,4 @@
-use Rattle.std.proofs.Common.{ℕ, ◌≡◌, ◌≤◌, ◌<◌, ◌-◌, List, [], ◌∷◌, length, get_or, ap, ◌∙◌, refl, arith}
-use Rattle.std.proofs.lemmas.Slice.{first_rest}
-use Rattle.cbor_edn_parts.specs.internal.LiteralTokens.{decoded}
-use Rattle.cbor_edn_parts.specs.declared.string.QuotedState.TheVariants.{Between}
+use Rattle.std.proofs.Common.{ℕ, ◌≡◌, ◌≤◌, ◌<◌, List, [], ◌∷◌, length, get_or, refl, arith}
 use Rattle.cbor_edn_parts.proofs.lemmas.literal.Quoted.{decoded_plain}
 use Rattle.cbor_edn_parts.proofs.string.Quote.plain.Goals as goal
 
