@@ -1,11 +1,13 @@
 //! What literals contribute to a string.
-ghost use Rattle.std.specs.Prelude.{◌≡◌, ◌≤◌, ◌++◌, length, ◌↔◌, IsTrue, IfOk, IfSome, OnOk, Some, None, not, position};
+ghost use Rattle.std.specs.Prelude.{◌≡◌, ◌≤◌, ◌∷◌, ◌++◌, ℕ, List, [], true, length, drop, ◌↔◌, All, IsTrue, IfOk, IfSome, IsNone, OnOk, Some, None, not, position};
+ghost use Rattle.std.specs.List.{position_or_len};
 ghost use Rattle.cbor_edn_parts.specs.Contents.{HasContent, NoContent, IsSupported, IsRefusal};
 ghost use Rattle.cbor_edn_parts.specs.internal.ContentReading as reading;
 ghost use Rattle.cbor_edn_parts.specs.internal.Ended.{ended_bytes};
 ghost use Rattle.cbor_edn_parts.specs.Leaves.{literal_bytes};
 ghost use Rattle.cbor_edn_parts.specs.internal.LiteralTokens as tokens;
 ghost use Rattle.cbor_edn_parts.specs.Refusals.{IfTold};
+ghost use Rattle.cbor_edn_parts.specs.declared.string.Quote.{Quote};
 
 use super::base::Alphabet;
 use super::{Ended, Literal, Quote, QuotedState, StringKind, hexadecimal};
@@ -34,7 +36,8 @@ impl Literal<'_> {
     /// The kind and the bytes of a string as most are, whose text between the quotes stands for itself: of a literal without prefix and
     /// escapes, where they stand. Takes no memory.
     pub fn plain_content(&self) -> Option<(StringKind, &[u8])>
-        ensures { IfSome result (λ p. HasContent (literal_bytes self.now) p.0 p.1.now) }
+        ensures content { IfSome result (λ p. HasContent (literal_bytes self.now) p.0 p.1.now) }
+        ensures plain { IsNone result → (quote : Quote) (text : List ℕ) → literal_bytes self.now ≡ tokens.quote_byte quote ∷ (text ++ (tokens.quote_byte quote ∷ [])) → All (λ c. tokens.is_plain quote c ≡ true) text → ⊥ }
     {
         if !self.prefix().is_empty() {
             return None;
@@ -184,18 +187,28 @@ impl Quote {
 
     /// The text behind an opening quote, up to the quote that ends it, where all of it is plain: it stands for itself.
     fn plain(self, text: &[u8]) -> Option<&[u8]>
-        ensures { IfSome result (λ p. tokens.decoded self QuotedState.Between text.now ≡ p.now) }
+        ensures some { IfSome result (λ p. tokens.decoded self QuotedState.Between text.now ≡ p.now) }
+        ensures none { IsNone result → (plain : List ℕ) → text.now ≡ plain ++ (tokens.quote_byte self ∷ []) → All (λ c. tokens.is_plain self c ≡ true) plain → ⊥ }
     {
-        match self.split_plain(text) {
-            (plain, [last]) if self.ends(QuotedState::Between, *last) => Some(plain),
-            _ => None,
+        let (plain, rest) = self.split_plain(text);
+        if self.is_end(rest) { Some(plain) } else { None }
+    }
+
+    /// Whether nothing but the quote that ends the text stands there.
+    fn is_end(self, rest: &[u8]) -> bool
+        ensures end { IsTrue result → rest.now ≡ tokens.quote_byte self ∷ [] }
+        ensures other { rest.now ≡ tokens.quote_byte self ∷ [] → IsTrue result }
+    {
+        match rest {
+            [last] => *last == self.byte(),
+            _ => false,
         }
     }
 
     /// Plain bytes that the text behind an opening quote begins with, mostly all but the quote that ends it, and the rest.
     fn split_plain(self, text: &[u8]) -> (&[u8], &[u8])
         ensures bytes { tokens.decoded self QuotedState.Between text.now ≡ result.0.now ++ tokens.decoded self QuotedState.Between result.1.now }
-        ensures rest { length result.1.now ≤ length text.now }
+        ensures rest { result.1.now ≡ drop (position_or_len (λ c. not (tokens.is_plain self c)) text.now) text.now }
     {
         match self.first_other(text) {
             Some(at) => text.split_at(at),

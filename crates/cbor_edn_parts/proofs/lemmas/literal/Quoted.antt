@@ -1,9 +1,10 @@
 -- The text that stands between quotes.
 use Rattle.std.proofs.Common.{ℕ, ◌≡◌, Bool, true, false, List, [], ◌∷◌, ◌++◌, length, take, drop, Option, Some, None, cond, ltb, one-add, refl, sym, ap, ◌∙◌, subst, append_assoc, arith}
-use Rattle.std.specs.Prelude.{◌==◌, not, nat_le, nat_lt, position}
+use Rattle.std.specs.Prelude.{◌==◌, not, nat_le, nat_lt, position, All}
 use Rattle.std.specs.List.{position_or_len}
 use Rattle.std.proofs.lemmas.Bool.{and_parts, not-true, eqb-false, leb-true, ltb-true, ltb-false}
 use Rattle.std.proofs.lemmas.List.{append-nil}
+use Rattle.std.proofs.lemmas.List.Elements.{All-head, All-tail}
 use Rattle.std.proofs.lemmas.List.Sums.{prefix_len-le-length}
 use Rattle.cbor_edn_parts.specs.Literal.{backslash}
 use Rattle.cbor_edn_parts.specs.internal.Lex.{Accepts}
@@ -46,13 +47,17 @@ pub passes-append : {q : Quote} {m k n : QuotedState} {xs ys bs cs : List ℕ} �
 passes-append stay r = r
 passes-append (pass {bs = bs} {cs = ds} e s p) r = rw append_assoc (pass e s (passes-append p r))
 
+at_end : (q : Quote) → decoded q Between (quote_byte q ∷ []) ≡ []
+at_end Single = decoded_end Single Between 39 [] refl
+at_end Double = decoded_end Double Between 34 [] refl
+
 -- a quoted text is what is passed, and ends with its quote
 pub decoded_passed : {q : Quote} {xs bs : List ℕ} → Passes q Between xs Between bs → decoded q Between (xs ++ (quote_byte q ∷ [])) ≡ bs
 decoded_passed {q} {bs = bs} p = passed p (quote_byte q ∷ []) ∙ ap (λ ys. bs ++ ys) (at_end q) ∙ append-nil bs
-  where
-    at_end : (q : Quote) → decoded q Between (quote_byte q ∷ []) ≡ []
-    at_end Single = decoded_end Single Between 39 [] refl
-    at_end Double = decoded_end Double Between 34 [] refl
+
+-- What stands for itself up to the quote that ends it is all that is quoted.
+pub decoded_plain : (q : Quote) (x t : List ℕ) → decoded q Between x ≡ t ++ decoded q Between (quote_byte q ∷ []) → decoded q Between x ≡ t
+decoded_plain q x t split = split ∙ ap (λ ys. t ++ ys) (at_end q) ∙ append-nil t
 
 pub closes : (q : Quote) → Accepts literal (Inside q Between) (quote_byte q ∷ [])
 closes Single = (Closed, refl, refl)
@@ -80,10 +85,6 @@ module _ (q : Quote) (m : QuotedState) (total xs rest : List ℕ) (so_far : tota
     pub quoted_none : false ≡ ends q c m → None ≡ quoted_step (quote_byte q) c m → xs ≡ total
     quoted_none e s = sym (on ∙ ap (λ ys. xs ++ ys) (decoded_none q m c t e s) ∙ append-nil xs)
 
--- What stands for itself up to the quote that ends it is all that is quoted.
-pub decoded_plain : (q : Quote) (x t : List ℕ) (c : ℕ) → decoded q Between x ≡ t ++ decoded q Between (c ∷ []) → true ≡ ends q c Between → decoded q Between x ≡ t
-decoded_plain q x t c split e = split ∙ ap (λ ys. t ++ ys) (decoded_end q Between c [] e) ∙ append-nil t
-
 -- A plain byte between two parts is no quote that ends the text, and stands for itself.
 plain_step : (q : Quote) (c : ℕ) → is_plain q c ≡ true → (ends q c Between ≡ false) × (quoted_step (quote_byte q) c Between ≡ Some (Between, c ∷ []))
 plain_step q c e =
@@ -107,6 +108,15 @@ module _ (q : Quote) where
   splits : (t : List ℕ) → Splits (position_or_len is_other t) t
   splits [] = refl
   splits (c ∷ t) = splits_by (is_plain q c) c t refl (splits t)
+
+  quote_other : (p : Quote) → is_plain p (quote_byte p) ≡ false
+  quote_other Single = refl
+  quote_other Double = refl
+
+  -- plain bytes up to the quote that ends the text
+  pub plain_rest : (v : List ℕ) → All (λ c. is_plain q c ≡ true) v → drop (position_or_len is_other (v ++ (quote_byte q ∷ []))) (v ++ (quote_byte q ∷ [])) ≡ quote_byte q ∷ []
+  plain_rest [] all = rw (quote_other q) refl
+  plain_rest (c ∷ v) all = rw (All-head (λ c. is_plain q c ≡ true) c v all, one-add) (plain_rest v (All-tail (λ c. is_plain q c ≡ true) c v all))
 
   module _ (t : List ℕ) where
     abbrev place : ℕ

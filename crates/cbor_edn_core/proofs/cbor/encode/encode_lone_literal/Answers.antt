@@ -11,7 +11,7 @@ use Rattle.cbor_edn_core.proofs.cbor.encode.encode_lone_literal.Goals as goal
 pub returns-in-Some : goal.returns-in-Some
 unfolding means
 returns-in-Some c =
-    let read = content_reads (literal_bytes c.args.literal.now) c.in-Some.kind c.in-Some.bytes.now c.in-Some.ensures in
+    let read = content_reads (literal_bytes c.args.literal.now) c.in-Some.kind c.in-Some.bytes.now c.in-Some.ensures.content in
     string_pushed (LastPiece (Literal (literal_bytes c.args.literal.now) c.args.indicator)) c.args.indicator c.in-Some.kind c.in-Some.bytes.now c.args.out.now.items c.encode_string.new.out.items c.encode_string.result refl read c.encode_string.ensures
 
 pub returns-in_err-kind-in-None : goal.returns-in_err-kind-in-None
