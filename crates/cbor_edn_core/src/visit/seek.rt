@@ -152,6 +152,7 @@ fn reach_tag<'a, X: TakesComment, F: FnMut(u64, &mut Item<'a>) -> Result<(), Cal
     reach_numbered(tag, item, space, alloc, f)
 }
 
+/// The call at a tag of this number.
 #[inline(never)]
 fn reach_numbered<'a, X: TakesComment, F: FnMut(u64, &mut Item<'a>) -> Result<(), CallbackError>>(
     tag: u64,
