@@ -5,7 +5,7 @@ use Rattle.std.specs.List.{position_or_len}
 use Rattle.std.specs.Str.{IsCharBoundary}
 use Rattle.std.proofs.lemmas.Bool.{false≢true, and_parts}
 use Rattle.std.proofs.lemmas.Bool.Decides.{nat_tests}
-use Rattle.std.proofs.lemmas.List.{drop_at, take_all, length-append}
+use Rattle.std.proofs.lemmas.List.{drop_at, take_all, length-append, nil_from_length}
 use Rattle.std.proofs.lemmas.List.Quantifiers.{position-Some}
 use Rattle.std.proofs.lemmas.Str.{IsCharBoundary-before_ascii}
 use Rattle.cbor_edn_parts.specs.internal.Lex.{Accepts}
@@ -203,3 +203,10 @@ module _ (t : List ℕ) (is : is_literal t ≡ true) where
 
   pub bytes_kind : prefix_of t ≢ [] → literal_kind t ≡ Bytes
   bytes_kind some = filled (prefix_of t) (literal_kind t) some prefixed_kind
+
+-- what a test for no prefix tells
+pub prefix_empty : (p : List ℕ) → true ≡ eqb (length p) 0 → p ≡ []
+prefix_empty p e = nil_from_length p (grind (arith, nat_tests))
+
+pub prefix_filled : (p : List ℕ) → false ≡ eqb (length p) 0 → p ≢ []
+prefix_filled p e empty = let zero : length p ≡ 0 = rw empty refl in absurd (grind (arith, nat_tests))

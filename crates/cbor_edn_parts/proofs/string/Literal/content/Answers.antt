@@ -1,6 +1,4 @@
-use Rattle.std.proofs.Common.{◌≡◌, ◌≢◌, ℕ, List, [], true, false, refl, ap, sym, ◌∙◌, eqb, length, Option, arith}
-use Rattle.std.proofs.lemmas.Bool.Decides.{nat_tests}
-use Rattle.std.proofs.lemmas.List.{nil_from_length}
+use Rattle.std.proofs.Common.{◌≡◌, ◌≢◌, ℕ, List, [], true, ap, sym, ◌∙◌, Option}
 use Rattle.std.proofs.lemmas.Result.{err_from_is_err_and}
 use Rattle.cbor_edn_parts.specs.Contents.{IsRefusal}
 use Rattle.cbor_edn_parts.specs.internal.ContentReading.{of_bytes, prefixed_bytes, literal_content, is_decoded, refusal, literal_kind, quote_of, behind_quote}
@@ -12,21 +10,15 @@ use Rattle.cbor_edn_parts.specs.declared.string.Quote.{Quote}
 use Rattle.cbor_edn_parts.specs.declared.string.StringKind.{StringKind}
 use Rattle.cbor_edn_parts.specs.declared.string.StringKind.TheVariants.{Bytes}
 use Rattle.cbor_edn_parts.proofs.lemmas.literal.ContentTexts.{content_read, no_content, refusal_is}
-use Rattle.cbor_edn_parts.proofs.lemmas.literal.LiteralPrefixes.{differ, plain_content, prefixed_content, bytes_kind}
+use Rattle.cbor_edn_parts.proofs.lemmas.literal.LiteralPrefixes.{differ, plain_content, prefixed_content, bytes_kind, prefix_empty, prefix_filled}
 use Rattle.cbor_edn_parts.proofs.lemmas.literal.WhereRefused.{told_weaker}
 use Rattle.cbor_edn_parts.proofs.string.Literal.content.Goals as goal
-
-none : (p : List ℕ) → true ≡ eqb (length p) 0 → p ≡ []
-none p e = nil_from_length p (grind (arith, nat_tests))
-
-some : (p : List ℕ) → false ≡ eqb (length p) 0 → p ≢ []
-some p e empty = let zero : length p ≡ 0 = rw empty refl in absurd (grind (arith, nat_tests))
 
 pub returns-in_ok-decode-clause-content : goal.returns-in_ok-decode-clause-content
 returns-in_ok-decode-clause-content c =
     content_read (literal_bytes c.args.self.now) c.args.self.now.spelled _ _
     (rw (c.in_ok-decode.ensures, c.quote-quote.ensures, c.quoted.ensures, c.kind-kind.ensures)
-    (plain_content (literal_bytes c.args.self.now) c.args.self.now.spelled (sym c.prefix-prefix.ensures ∙ none c.prefix-prefix.result.now c.if-is_empty.ensures)))
+    (plain_content (literal_bytes c.args.self.now) c.args.self.now.spelled (sym c.prefix-prefix.ensures ∙ prefix_empty c.prefix-prefix.result.now c.if-is_empty.ensures)))
 
 -- What the prefix makes of the text between the quotes.
 module _ (t p b : List ℕ) (k : StringKind) (q : Quote) (o : Option (List ℕ)) (is : is_literal t ≡ true) (p_is : p ≡ prefix_of t) (filled : p ≢ []) (k_is : k ≡ literal_kind t) (q_is : q ≡ quote_of k)
@@ -44,7 +36,7 @@ pub returns-in_ok-prefixed_quoted-clause-content : goal.returns-in_ok-prefixed_q
 returns-in_ok-prefixed_quoted-clause-content c =
     let t = literal_bytes c.args.self.now in
     let p = c.prefix-prefix.result.now in
-    let filled = some p c.if-is_empty.ensures in
+    let filled = prefix_filled p c.if-is_empty.ensures in
     let spelled = c.args.self.now.spelled in
     let found = c.in_ok-prefixed_quoted.ensures.bytes in
     content_read t spelled _ _
@@ -57,7 +49,7 @@ returns-in_err-prefixed_quoted-clause-none c =
     let p = c.prefix-prefix.result.now in
     let refused = err_from_is_err_and c.from_residual-in_err-prefixed_quoted.result c.from_residual-in_err-prefixed_quoted.ensures.1 in
     rw (refused.1, refused.2) (told_weaker c.in_err-prefixed_quoted.field-0.0 _ _
-    (λ _ bytes. no_content t (content_is t p _ _ _ _ c.args.self.now.spelled c.prefix-prefix.ensures (some p c.if-is_empty.ensures) c.kind-kind.ensures c.quote-quote.ensures c.quoted-else-is_empty.ensures bytes))
+    (λ _ bytes. no_content t (content_is t p _ _ _ _ c.args.self.now.spelled c.prefix-prefix.ensures (prefix_filled p c.if-is_empty.ensures) c.kind-kind.ensures c.quote-quote.ensures c.quoted-else-is_empty.ensures bytes))
     c.in_err-prefixed_quoted.ensures.none)
 
 -- what is told of a prefix is told of the literal
@@ -69,5 +61,5 @@ returns-in_err-prefixed_quoted-clause-told c =
     let p = c.prefix-prefix.result.now in
     let refused = err_from_is_err_and c.from_residual-in_err-prefixed_quoted.result c.from_residual-in_err-prefixed_quoted.ensures.1 in
     rw (refused.1, refused.2) (told_weaker c.in_err-prefixed_quoted.field-0.0 _ _
-    (refusal_by (literal_bytes c.args.self.now) p c.args.self.now.spelled c.prefix-prefix.ensures (some p c.if-is_empty.ensures))
+    (refusal_by (literal_bytes c.args.self.now) p c.args.self.now.spelled c.prefix-prefix.ensures (prefix_filled p c.if-is_empty.ensures))
     c.in_err-prefixed_quoted.ensures.told)

@@ -1,22 +1,18 @@
-use Rattle.std.proofs.Common.{◌≡◌, ℕ, List, [], ◌∷◌, true, refl, sym, ◌∙◌, eqb, length, arith}
+use Rattle.std.proofs.Common.{◌≡◌, ℕ, List, [], ◌∷◌, refl, sym, ◌∙◌, length, arith}
 use Rattle.std.proofs.lemmas.Bool.Decides.{nat_tests}
-use Rattle.std.proofs.lemmas.List.{nil_from_length}
 use Rattle.cbor_edn_parts.specs.Leaves.{literal_bytes}
 use Rattle.cbor_edn_parts.specs.internal.LiteralTokens.{quote_byte, prefix_of}
 use Rattle.cbor_edn_parts.specs.declared.string.Quote.{Quote}
 use Rattle.cbor_edn_parts.specs.declared.string.Quote.TheVariants.{Single, Double}
 use Rattle.cbor_edn_parts.proofs.lemmas.literal.ContentTexts.{content_read}
-use Rattle.cbor_edn_parts.proofs.lemmas.literal.LiteralPrefixes.{plain_content}
+use Rattle.cbor_edn_parts.proofs.lemmas.literal.LiteralPrefixes.{plain_content, prefix_empty}
 use Rattle.cbor_edn_parts.proofs.string.Literal.plain_content.Goals as goal
-
-none : (p : List ℕ) → true ≡ eqb (length p) 0 → p ≡ []
-none p e = nil_from_length p (grind (arith, nat_tests))
 
 pub returns-clause-content : goal.returns-clause-content
 returns-clause-content c =
     content_read (literal_bytes c.args.self.now) c.args.self.now.spelled _ _
     (rw (← c.in_ok-plain.ensures.some, c.quote.ensures, c.quoted.ensures, c.kind-kind.ensures)
-    (plain_content (literal_bytes c.args.self.now) c.args.self.now.spelled (sym c.prefix.ensures ∙ none c.prefix.result.now c.if-not-is_empty.ensures)))
+    (plain_content (literal_bytes c.args.self.now) c.args.self.now.spelled (sym c.prefix.ensures ∙ prefix_empty c.prefix.result.now c.if-not-is_empty.ensures)))
 
 -- a quote that stands first has no prefix
 prefix_none : (q : Quote) (t : List ℕ) → prefix_of (quote_byte q ∷ t) ≡ []
