@@ -1,0 +1,122 @@
+//! Calls of `cbor_edn_model` on heads, labels and spaces, under their own clauses. Bodies that these clauses refuse stand in
+//! `must-fail/`: a check here is that of a small crate, and what a clause refuses here it refuses where the call is written.
+#![tactic(auto)]
+
+ghost use Rattle.std.specs.Prelude.{◌≡◌, ◌++◌, IfOk, IfSome, IfNone, OnOk, Ok, Err};
+ghost use Rattle.cbor_edn_parts.specs.Buffer.{buffer_bytes};
+ghost use Rattle.cbor_edn_parts.specs.Indicator.{indicator_text};
+ghost use Rattle.cbor_edn_parts.specs.Leaves as leaves;
+ghost use Rattle.cbor_edn_parts.specs.Leaves.{s_bytes};
+ghost use Rattle.cbor_edn_parts.specs.declared.error.ParseErrorKind.TheVariants.{Invalid};
+ghost use Rattle.cbor_edn_model.specs.cbor.Meaning as meaning;
+ghost use Rattle.cbor_edn_model.specs.cbor.Meaning.{means_integer};
+ghost use Rattle.cbor_edn_model.specs.cbor.Value.{encoding};
+ghost use Rattle.cbor_edn_model.specs.internal.CborReading.{argument_indicator};
+ghost use Rattle.cbor_edn_model.specs.internal.Encoding.{Encodes, Finds};
+ghost use Rattle.cbor_edn_model.specs.internal.Lookahead.{Opens};
+ghost use Rattle.cbor_edn_model.specs.internal.Moved.{space_or};
+ghost use Rattle.cbor_edn_model.specs.internal.Reading.{list_head_of};
+ghost use Rattle.cbor_edn_model.specs.internal.Same.{same_head};
+ghost use Rattle.cbor_edn_model.specs.internal.Widths.{capped};
+ghost use Rattle.cbor_edn_model.specs.layout.Bare.{first_space};
+ghost use Rattle.cbor_edn_model.specs.text.ListHeads.{view_list_head};
+ghost use Rattle.cbor_edn_model.specs.tree.TreeLeaves.{texts};
+ghost use Rattle.cbor_edn_model.specs.visit.Depth.{embedded_depth};
+
+use cbor_edn_model::cbor::decode::head::Argument;
+use cbor_edn_model::cbor::heads::Width;
+use cbor_edn_model::text::lookahead::Opening;
+use cbor_edn_parts::buffer::TextBuffer;
+use cbor_edn_parts::error::{Fault, InconsistentEdn};
+use cbor_edn_parts::indicator::Indicator;
+use cbor_edn_parts::looks::Looks;
+use cbor_edn_parts::number::Integer;
+use cbor_edn_parts::space::{Ms, S};
+use cbor_edn_parts::text::Text;
+use std::alloc::{AllocError, Global};
+
+/// `tree::copy::clone_spaces`.
+pub fn clone_spaces<'a>(before: &S<'a>, after: &S<'a>) -> Result<(S<'a>, S<'a>), AllocError>
+    ensures { IfOk result (λ p. (s_bytes p.0 ≡ s_bytes before.now) × (s_bytes p.1 ≡ s_bytes after.now)) }
+{
+    cbor_edn_model::tree::copy::clone_spaces(before, after)
+}
+
+/// `visit::depth::depth_of_embedded`.
+pub fn depth_of_embedded(items: usize) -> usize
+    ensures { result ≡ capped (embedded_depth items) }
+{
+    cbor_edn_model::visit::depth::depth_of_embedded(items)
+}
+
+/// `text::list_head::have_same_head`.
+pub fn have_same_head(a: &Option<(Indicator, Ms<'_>)>, b: &Option<(Indicator, Ms<'_>)>) -> bool
+    ensures { result ≡ same_head (view_list_head texts a.now) (view_list_head texts b.now) }
+{
+    cbor_edn_model::text::list_head::have_same_head(a, b)
+}
+
+/// `text::lookahead::list_head_and_space`.
+pub fn list_head_and_space<'a>(
+    indicator: Option<Indicator>,
+    s: S<'a>,
+) -> Option<(Option<(Indicator, Ms<'a>)>, S<'a>)>
+    ensures some { IfSome result (λ p. list_head_of indicator (s_bytes s.entry) ≡ Ok (view_list_head texts p.0, s_bytes p.1)) }
+    ensures none { IfNone result (list_head_of indicator (s_bytes s.entry) ≡ Err Invalid) }
+{
+    cbor_edn_model::text::lookahead::list_head_and_space(indicator, s)
+}
+
+/// `text::lookahead::opening_at`, where the text begins.
+pub fn opening_of(input: &str, looks: &mut Looks) -> Opening
+    ensures { Opens input.now 0 result }
+{
+    let text = Text::new(input);
+    cbor_edn_model::text::lookahead::opening_at(&text, text.start(), looks)
+}
+
+/// `text::write::print_indicator`.
+pub fn print_indicator(out: &mut TextBuffer, indicator: Option<Indicator>) -> Result<(), AllocError>
+    ensures { OnOk result (buffer_bytes out.new ≡ buffer_bytes out.old ++ indicator_text indicator) }
+{
+    cbor_edn_model::text::write::print_indicator(out, indicator)
+}
+
+/// `layout::bare::moved_space`.
+pub fn moved_space<'a>(
+    head: &Option<(Indicator, Ms<'a>)>,
+    first: &S<'a>,
+    alloc: Global,
+) -> Result<Option<S<'a>>, AllocError>
+    ensures { IfOk result (λ moved. space_or moved (s_bytes first.now) ≡ first_space (view_list_head texts head.now) (s_bytes first.now)) }
+{
+    cbor_edn_model::layout::bare::moved_space(head, first, alloc)
+}
+
+/// `cbor::decode::head::indicator_of`.
+pub fn indicator_of(argument: Argument) -> Option<Indicator>
+    ensures { result ≡ argument_indicator argument }
+{
+    cbor_edn_model::cbor::decode::head::indicator_of(argument)
+}
+
+/// `cbor::heads::width_of`.
+pub fn width_of(
+    indicator: Option<Indicator>,
+    argument: u64,
+) -> Result<Width, Fault<InconsistentEdn>>
+    ensures { Finds (meaning.width_of indicator argument) result }
+{
+    cbor_edn_model::cbor::heads::width_of(indicator, argument)
+}
+
+/// `cbor::heads::encode_integer`.
+pub fn encode_integer(
+    out: &mut Vec<u8>,
+    number: Integer,
+    indicator: Option<Indicator>,
+) -> Result<(), Fault<InconsistentEdn>>
+    ensures { Encodes encoding (means_integer indicator (leaves.integer number)) out.old.items out.new.items result }
+{
+    cbor_edn_model::cbor::heads::encode_integer(out, number, indicator)
+}
