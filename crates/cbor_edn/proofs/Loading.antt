@@ -12,11 +12,10 @@ use Rattle.cbor_edn_core.proofs.lemmas.text.Printable.{sequence_valid}
 use Rattle.cbor_edn_core.proofs.lemmas.layout.Layouts.{keeps_items, stays_valid}
 use Rattle.cbor_edn_parts.specs.Spacing.{indented}
 use Rattle.cbor_edn_model.proofs.lemmas.text.Tested.{valid}
-use Rattle.std.proofs.lemmas.Str.{IsUtf8-string_bytes}
-use Rattle.std.specs.Prelude.{Result, Ok, Err, IfOk, string_bytes}
+use Rattle.std.specs.Prelude.{Result, Ok, Err, IfOk}
 use Rattle.std.specs.declared.alloc.AllocError.{AllocError}
 use Rattle.std.specs.declared.alloc.Global.{Global}
-use Rattle.std.specs.declared.string.String.{String}
+use Rattle.std.specs.declared.vec.Vec.{Vec}
 use Rattle.cbor_edn_parts.specs.Refusals.{IfTold}
 use Rattle.cbor_edn_parts.specs.declared.error.Fault.{Fault}
 use Rattle.cbor_edn_parts.specs.declared.error.Fault.TheVariants.{Memory, Told}
@@ -72,10 +71,10 @@ shown_valid : (asked : Bool) (w v : Tree Seq) → Where asked (IsLaidOut indente
 shown_valid true w v laid is = subst Valid (sym laid) (stays_valid Seq indented w is)
 shown_valid false w v same is = subst Valid (sym same) is
 
-pub printed_text : (o : Options) (w : Tree Seq) (between : Sequence) (r : Result (String Global) AllocError) → ((v : Tree Seq) → Last o (sequence_tree between) v → StepsGive o w v)
-    → IfOk r (λ out. (v : Tree Seq) × Last o (sequence_tree between) v × (string_bytes out ≡ text v)) → IfOk r (λ out. IsShownAs o w (string_bytes out))
-printed_text o w between (Ok out) give (v, laid, is) = (v, give v laid, (shown_valid (not o.preserve_space) (sequence_tree between) v laid (valid (sequence_tree between) (sequence_valid between)), IsUtf8-string_bytes out, is))
-printed_text o w between (Err e) give is = tt
+pub printed_text : (o : Options) (w : Tree Seq) (between : Sequence) (r : Result (Vec ℕ Global) AllocError) → ((v : Tree Seq) → Last o (sequence_tree between) v → StepsGive o w v)
+    → IfOk r (λ out. (v : Tree Seq) × Last o (sequence_tree between) v × (out.items ≡ text v)) → IfOk r (λ out. IsUtf8 out.items) → IfOk r (λ out. IsShownAs o w out.items)
+printed_text o w between (Ok out) give (v, laid, is) utf8 = (v, give v laid, (shown_valid (not o.preserve_space) (sequence_tree between) v laid (valid (sequence_tree between) (sequence_valid between)), utf8, is))
+printed_text o w between (Err e) give is utf8 = tt
 
 -- a tree that is printed where it is lent
 pub printed_as : (o : Options) (out : List ℕ) (lent x : Sequence) → lent ≡ x → IsShownAs o (sequence_tree lent) out → IsShownAs o (sequence_tree x) out

@@ -147,16 +147,16 @@ fn printed(
     alloc: Global,
     options: &Options,
     sequence: &mut Sequence<'_>,
-) -> Result<String, AllocError>
-    ensures { IfOk result (λ t. (v : Tree Seq) × StepsGive options.now (sequence_tree sequence.old) v × IsPrintedAs v (string_bytes t)) }
+) -> Result<Vec<u8>, AllocError>
+    ensures { IfOk result (λ out. (v : Tree Seq) × StepsGive options.now (sequence_tree sequence.old) v × IsPrintedAs v out.items) }
 {
     steps::take(alloc, options, sequence)?;
     steps::spaced_text(alloc, options, sequence)
 }
 
 // The text of the items that bytes encode.
-fn diagnosed(alloc: Global, options: &Options, bytes: &[u8]) -> Result<String, RunError>
-    ensures ok { IfOk result (λ t. IsDiagnosed options.now bytes.now (string_bytes t)) }
+fn diagnosed(alloc: Global, options: &Options, bytes: &[u8]) -> Result<Vec<u8>, RunError>
+    ensures ok { IfOk result (λ out. IsDiagnosed options.now bytes.now out.items) }
     ensures err { IfErr result (IsUndiagnosed options.now bytes.now) }
 {
     let mut sequence = boxed(
@@ -167,8 +167,8 @@ fn diagnosed(alloc: Global, options: &Options, bytes: &[u8]) -> Result<String, R
 }
 
 // The text of the items of a text.
-fn reprinted(alloc: Global, options: &Options, input: &[u8]) -> Result<String, RunError>
-    ensures ok { IfOk result (λ t. IsReprinted options.now input.now (string_bytes t)) }
+fn reprinted(alloc: Global, options: &Options, input: &[u8]) -> Result<Vec<u8>, RunError>
+    ensures ok { IfOk result (λ out. IsReprinted options.now input.now out.items) }
     ensures err { IfErr result (IsUnread options.now.limit input.now) }
 {
     let mut sequence = parsed(alloc, options.limit, input)?;
@@ -194,12 +194,12 @@ pub fn converted(alloc: Global, options: &Options, input: &[u8]) -> Result<Vec<u
         Command::Cbor2Diag => {
             if options.hex {
                 let bytes = hexadecimal::decoded(alloc, input)?;
-                Ok(diagnosed(alloc, options, &bytes)?.into_bytes())
+                Ok(diagnosed(alloc, options, &bytes)?)
             } else {
-                Ok(diagnosed(alloc, options, input)?.into_bytes())
+                Ok(diagnosed(alloc, options, input)?)
             }
         }
-        Command::Diag2Diag => Ok(reprinted(alloc, options, input)?.into_bytes()),
+        Command::Diag2Diag => Ok(reprinted(alloc, options, input)?),
     }
 }
 

@@ -16,6 +16,7 @@ pub use cbor_edn_core::cbor::decode::CborError;
 pub use cbor_edn_core::tree::{Item, NESTING_LIMIT, Sequence, StandaloneItem};
 pub use cbor_edn_core::visit::MapValueHandler;
 pub use cbor_edn_model::text::keyword::NamedSimple;
+pub use cbor_edn_parts::buffer::TextBuffer;
 pub use cbor_edn_parts::error::{CallbackError, Fault, InconsistentEdn, ParseError};
 pub use cbor_edn_parts::indicator::Indicator;
 pub use cbor_edn_parts::looks::Looks;

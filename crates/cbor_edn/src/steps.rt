@@ -1,6 +1,7 @@
 //! What the options of a run make of the items that it reads, step by step.
-ghost use Rattle.std.specs.Prelude.{◌≡◌, not, OnOk, IfOk};
-ghost use Rattle.std.specs.String.{string_bytes};
+ghost use Rattle.std.specs.Prelude.{◌≡◌, ◌++◌, not, OnOk, IfOk};
+ghost use Rattle.std.specs.Str.{IsUtf8};
+ghost use Rattle.cbor_edn_parts.specs.Buffer.{buffer_bytes};
 ghost use Rattle.cbor_edn_core.specs.tree.View.{sequence_tree};
 ghost use Rattle.cbor_edn_model.specs.tree.Trees.{Tree, Seq, text};
 ghost use Rattle.cbor_edn_parts.specs.Spacing.{indented};
@@ -18,6 +19,7 @@ use cbor_edn_application::visits::{
 };
 use cbor_edn_command::options::Options;
 use cbor_edn_core::tree::Sequence;
+use cbor_edn_parts::buffer::TextBuffer;
 use cbor_edn_parts::policy::DelimiterPolicy;
 use std::alloc::{AllocError, Global};
 
@@ -42,13 +44,26 @@ pub(crate) fn spaced_text(
     alloc: Global,
     options: &Options,
     sequence: &Sequence<'_>,
-) -> Result<String, AllocError>
-    ensures { IfOk result (λ t. (v : Tree Seq) × Where (not options.now.preserve_space) (IsLaidOut indented) (sequence_tree sequence.now) v × (string_bytes t ≡ text v)) }
+) -> Result<Vec<u8>, AllocError>
+    ensures spaced { IfOk result (λ out. (v : Tree Seq) × Where (not options.now.preserve_space) (IsLaidOut indented) (sequence_tree sequence.now) v × (out.items ≡ text v)) }
+    ensures utf8 { IfOk result (λ out. IsUtf8 out.items) }
+{
+    let mut out = TextBuffer::new(alloc);
+    print_spaced(&mut out, options, sequence)?;
+    Ok(out.into_bytes())
+}
+
+fn print_spaced(
+    out: &mut TextBuffer,
+    options: &Options,
+    sequence: &Sequence<'_>,
+) -> Result<(), AllocError>
+    ensures { OnOk result ((v : Tree Seq) × Where (not options.now.preserve_space) (IsLaidOut indented) (sequence_tree sequence.now) v × (buffer_bytes out.new ≡ buffer_bytes out.old ++ text v)) }
 {
     if options.preserve_space {
-        sequence.serialize(alloc)
+        sequence.print(out)
     } else {
-        sequence.serialize_laid_out(alloc, DelimiterPolicy::indented())
+        sequence.print_laid_out(out, DelimiterPolicy::indented())
     }
 }
 

@@ -7,5 +7,6 @@ mod placing;
 mod tags;
 
 pub use items::ip_aol_to_item;
+pub(crate) use items::is_address;
 pub use literals::ip_item_to_aol;
 pub use tags::ip_tag_to_aol;

@@ -34,7 +34,7 @@ pub fn any_aol_to_tag999<'a>(
 }
 
 /// Whether literals mean bytes with this prefix.
-fn is_built_in(prefix: &str) -> bool
+pub(crate) fn is_built_in(prefix: &str) -> bool
     ensures { result ≡ is_built_in_text prefix.now }
 {
     matches!(prefix, "h" | "b64" | "b32" | "h32")

@@ -1,5 +1,5 @@
 //! Times: literals as `dt'1970-01-01T00:00:42+00:00'`, and the numbers that they stand for.
-ghost use Rattle.std.specs.Prelude.{◌≡◌, true, ℕ, List, Some, None, Ok, Err, IfOk, IfSome, IfNone, string_bytes};
+ghost use Rattle.std.specs.Prelude.{◌≡◌, true, false, ℕ, List, Some, None, Ok, Err, IfOk, IfSome, IfNone, string_bytes};
 ghost use Rattle.cbor_edn_parts.specs.Refusals.{IfTold};
 ghost use Rattle.cbor_edn_model.specs.visit.Seeking.{number, prefix_and_text};
 ghost use Rattle.cbor_edn_core.specs.visit.Sought.{sought_answer};
@@ -45,6 +45,13 @@ fn is_tag_wanted(prefix: &str) -> Option<bool>
         "DT" => Some(true),
         _ => None,
     }
+}
+
+/// Whether literals of a prefix stand for times.
+pub(crate) fn is_time(prefix: &str) -> bool
+    ensures { result ≡ false → (t : List ℕ) → time_of_literal prefix.now t ≡ None }
+{
+    is_tag_wanted(prefix).is_some()
 }
 
 /// The literal of the time that a number of seconds stands for: `dt'..'`, or with `wrap` `DT'..'`, which stands for the number in tag 1.

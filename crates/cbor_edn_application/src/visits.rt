@@ -1,13 +1,14 @@
 //! Whole visits with the functions of the crate.
-ghost use Rattle.std.specs.Prelude.{◌≡◌, None, OnOk};
+ghost use Rattle.std.specs.Prelude.{◌≡◌, ℕ, List, false, None, OnOk};
 ghost use Rattle.std.specs.String.{string_bytes};
 ghost use Rattle.cbor_edn_parts.specs.Refusals.{IfTold};
 ghost use Rattle.cbor_edn_core.specs.visit.Callbacks.{ending, IfVisited};
 ghost use Rattle.cbor_edn_core.specs.visit.Sought.{sought_answer};
 ghost use Rattle.cbor_edn_core.specs.tree.View.{item_tree, sequence_tree};
 ghost use Rattle.cbor_edn_model.specs.access.Accessed.{map_items};
-ghost use Rattle.cbor_edn_model.specs.visit.Seeking.{IsTag, IsApplication, number as tag_arguments, prefix_and_text};
-ghost use Rattle.cbor_edn_model.specs.tree.Trees.{items};
+ghost use Rattle.cbor_edn_model.specs.visit.Seeking.{CallArguments, IsTag, IsApplication, number as tag_arguments, prefix_and_text};
+ghost use Rattle.cbor_edn_model.specs.visit.Visits.{fine};
+ghost use Rattle.cbor_edn_model.specs.tree.Trees.{Tree, OneItem, items};
 ghost use Rattle.cbor_edn_conversions.specs.Addresses.{resolve_address, pretty_address};
 ghost use Rattle.cbor_edn_conversions.specs.All.{resolve_all, pretty_all};
 ghost use Rattle.cbor_edn_conversions.specs.Annotations.{commenting, comment_lang};
@@ -19,14 +20,14 @@ ghost use Rattle.cbor_edn_application.specs.Acts.{ActsBy, IsVisited};
 ghost use Rattle.cbor_edn_application.specs.Handlers.{AreKeysVisited};
 ghost use Rattle.cbor_edn_application.specs.VisitActs.{tag_act, literal_act};
 
-use crate::address::{ip_aol_to_item, ip_tag_to_aol};
+use crate::address::{ip_aol_to_item, ip_tag_to_aol, is_address};
 use crate::all::{all_aol_to_item, all_tag_prettify};
 use crate::bignum::tag23_to_edn_integer;
 use crate::claims::comment_ccs;
 pub use crate::claims_sets::annotate_claims_sets;
 use crate::language::comment_lang_tag;
-use crate::tag999::any_aol_to_tag999;
-use crate::time::{dt_aol_to_item, dt_tag_to_aol};
+use crate::tag999::{any_aol_to_tag999, is_built_in};
+use crate::time::{dt_aol_to_item, dt_tag_to_aol, is_time};
 use cbor_edn_core::access::TypeMismatch;
 use cbor_edn_core::tree::{Item, Sequence};
 use cbor_edn_parts::error::{CallbackError, Fault};
@@ -65,10 +66,7 @@ fn visit_literals(
 ) -> Result<(), AllocError>
     ensures { IsVisited IsApplication (literal_act act) (sequence_tree sequence.old) (ending result) (sequence_tree sequence.new) }
 {
-    sequence.visit_application_literals(
-        alloc,
-        &mut |prefix, text, item| at_literal(alloc, act, prefix, text, item),
-    )
+    sequence.visit_application_items(alloc, &mut |item| at_literal(alloc, act, item))
 }
 
 fn at_tag(
@@ -89,7 +87,37 @@ fn at_tag(
     }
 }
 
-fn at_literal(
+/// What is called at a literal. Where nothing is done at its prefix, as `h`, it answers at once, without memory.
+fn at_literal(alloc: Global, act: LiteralAct, item: &mut Item<'_>) -> Result<(), CallbackError>
+    ensures { (a : CallArguments) → IsApplication (item_tree item.old) a → ActsBy (literal_act act) a (item_tree item.old) (sought_answer result) (item_tree item.new) }
+{
+    let Some(prefix) = item.application_prefix() else {
+        return Ok(());
+    };
+    if !is_sought(act, prefix) {
+        return Ok(());
+    }
+    let (prefix, text) = match item.get_application_literal(alloc) {
+        Ok(literal) => literal,
+        Err(Fault::Told(_)) => return Ok(()),
+        Err(Fault::Memory(refused)) => return Err(CallbackError::Memory(refused)),
+    };
+    act_at(alloc, act, prefix, text, item)
+}
+
+/// Whether anything is done at literals of a prefix.
+fn is_sought(act: LiteralAct, prefix: &str) -> bool
+    ensures { result ≡ false → (t : List ℕ) (w : Tree OneItem) → literal_act act (prefix_and_text prefix.now t) w ≡ (fine, w) }
+{
+    match act {
+        LiteralAct::Resolve => is_time(prefix) || is_address(prefix),
+        LiteralAct::Addresses => is_address(prefix),
+        LiteralAct::Times => is_time(prefix),
+        LiteralAct::To999 => !is_built_in(prefix),
+    }
+}
+
+fn act_at(
     alloc: Global,
     act: LiteralAct,
     prefix: String,

@@ -5,17 +5,17 @@
 ghost use Rattle.std.specs.Prelude.{◌≡◌, Ok, Err, IfOk, OnOk, option_map};
 ghost use Rattle.std.specs.String.{string_bytes};
 ghost use Rattle.cbor_edn_parts.specs.Refusals.{IfTold};
-ghost use Rattle.cbor_edn_model.specs.visit.Seeking.{number, prefix_and_text};
-ghost use Rattle.cbor_edn_core.specs.visit.Callbacks.{answer_of, handler_of, key_answer};
+ghost use Rattle.cbor_edn_model.specs.visit.Seeking.{IsApplication, number, prefix_and_text};
+ghost use Rattle.cbor_edn_core.specs.visit.Callbacks.{answer_of, ending, handler_of, key_answer};
 ghost use Rattle.cbor_edn_core.specs.visit.Sought.{sought_answer};
 ghost use Rattle.cbor_edn_core.specs.tree.View.{item_tree, sequence_tree};
 ghost use Rattle.cbor_edn_conversions.specs.Addresses.{address_literal, resolve_address};
-ghost use Rattle.cbor_edn_conversions.specs.All.{pretty_all};
+ghost use Rattle.cbor_edn_conversions.specs.All.{pretty_all, resolve_all};
 ghost use Rattle.cbor_edn_conversions.specs.Annotations.{comment_lang};
 ghost use Rattle.cbor_edn_conversions.specs.Bignums.{pretty_bignum};
 ghost use Rattle.cbor_edn_conversions.specs.Claims.{claim_key};
 ghost use Rattle.cbor_edn_conversions.specs.Times.{pretty_time};
-ghost use Rattle.cbor_edn_application.specs.Acts.{ActsBy};
+ghost use Rattle.cbor_edn_application.specs.Acts.{ActsBy, IsVisited};
 ghost use Rattle.cbor_edn_application.specs.Handlers.{at_claim, KeyAnswers, ValueAnswers};
 ghost use Rattle.cbor_edn_application.specs.Sequences.{with_claims_sets};
 
@@ -113,4 +113,11 @@ pub fn annotate_claims_sets(alloc: Global, sequence: &mut Sequence<'_>) -> Resul
     ensures { OnOk result (sequence_tree sequence.new ≡ with_claims_sets (sequence_tree sequence.old)) }
 {
     cbor_edn_application::visits::annotate_claims_sets(alloc, sequence)
+}
+
+/// `visits::resolve`.
+pub fn resolve(alloc: Global, sequence: &mut Sequence<'_>) -> Result<(), AllocError>
+    ensures { IsVisited IsApplication resolve_all (sequence_tree sequence.old) (ending result) (sequence_tree sequence.new) }
+{
+    cbor_edn_application::visits::resolve(alloc, sequence)
 }

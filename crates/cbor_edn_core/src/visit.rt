@@ -1,7 +1,7 @@
 //! Visits: callbacks at parts of items.
 ghost use Rattle.std.specs.Prelude.{◌≡◌, ◌≢◌, OnOk, OnErr, Option, Result, List, None};
 ghost use Rattle.cbor_edn_core.specs.visit.Callbacks.{answer_of, ending};
-ghost use Rattle.cbor_edn_core.specs.visit.Sought.{IsTagCall, IsLiteralCall, MayVisitTags, MayVisitLiterals};
+ghost use Rattle.cbor_edn_core.specs.visit.Sought.{IsTagCall, IsLiteralCall, IsItemCall, MayVisitTags, MayVisitLiterals, MayVisitItems};
 ghost use Rattle.cbor_edn_core.specs.tree.View.{item_tree, standalone_tree, sequence_tree};
 ghost use Rattle.cbor_edn_model.specs.visit.Seeking.{SoughtCall, VisitParts, IsTag, IsApplication};
 ghost use Rattle.cbor_edn_model.specs.visit.Visits.{no_memory, fine, answered, Chain};
@@ -18,7 +18,7 @@ use cbor_edn_parts::number::Number;
 use cbor_edn_parts::space::{Ms, Msc, S, Soc, TakesComment};
 use cbor_edn_parts::string::{Dots, Literal};
 pub use map::MapValueHandler;
-use seek::{Literals, Tags};
+use seek::{ApplicationItems, Literals, Tags};
 use std::alloc::{AllocError, Global};
 use walk::Walk;
 
@@ -106,5 +106,18 @@ impl<'a> Sequence<'a> {
         ensures visited { (cs : List SoughtCall) × Chain (IsLiteralCall item_tree F.FnMut) f.old cs f.new × VisitParts IsApplication _ (sequence_tree self.old) cs (sequence_tree self.new) (ending result) }
     {
         TextWalk::<F, Literals>::visit_sequence(self, alloc, f)
+    }
+    /// Calls `f` at each string of all items that is one literal with a prefix, with the item alone: no prefix and no text is made for a
+    /// call, and [`Item::application_prefix`] tells the prefix without memory. Order, comments, what is entered and what fails are as in
+    /// [`Sequence::visit_tag`].
+    pub fn visit_application_items<F: FnMut(&mut Item<'a>) -> Result<(), CallbackError>>(
+        &mut self,
+        alloc: Global,
+        f: &mut F,
+    ) -> Result<(), AllocError>
+        requires callable { MayVisitItems item_tree F.FnMut f.old }
+        ensures visited { (cs : List SoughtCall) × Chain (IsItemCall item_tree F.FnMut) f.old cs f.new × VisitParts IsApplication _ (sequence_tree self.old) cs (sequence_tree self.new) (ending result) }
+    {
+        TextWalk::<F, ApplicationItems>::visit_sequence(self, alloc, f)
     }
 }

@@ -1,11 +1,12 @@
 //! How the spaces of each part of a tree are changed.
 ghost use Rattle.std.specs.Prelude.{◌≡◌, ◌++◌, IsOk, OnOk};
-ghost use Rattle.std.specs.String.{string_bytes};
+ghost use Rattle.cbor_edn_parts.specs.Buffer.{buffer_bytes};
 ghost use Rattle.cbor_edn_parts.specs.LayoutColumns as spec;
 ghost use Rattle.cbor_edn_parts.specs.LayoutColumns.{least, respaced};
 ghost use Rattle.cbor_edn_parts.specs.Leaves.{s_bytes, ms_bytes, msc_bytes, soc_bytes};
 ghost use Rattle.cbor_edn_parts.specs.Spacing as kind;
 
+use crate::buffer::TextBuffer;
 use crate::policy::{DelimiterPolicy, Spacing};
 use crate::space::{Ms, Msc, S, Soc};
 use std::alloc::{AllocError, Global};
@@ -179,42 +180,42 @@ pub fn lay_end<'a>(end: &mut Soc<'a>, alloc: Global, layout: Layout) -> Result<(
 
 /// Writes an optional space as it is laid out at its slot at the end of a text. Fails where memory runs out.
 pub fn print_space(
-    out: &mut String,
+    out: &mut TextBuffer,
     space: &S<'_>,
     layout: Layout,
     slot: Slot,
 ) -> Result<(), AllocError>
-    ensures { OnOk result (string_bytes out.new ≡ string_bytes out.old ++ respaced kind.S slot layout (s_bytes space.now)) }
+    ensures { OnOk result (buffer_bytes out.new ≡ buffer_bytes out.old ++ respaced kind.S slot layout (s_bytes space.now)) }
 {
     space.print_spaced(out, layout.spacing(slot))
 }
 
 /// Writes a mandatory space as it is laid out at its slot at the end of a text. Fails where memory runs out.
 pub fn print_mandatory(
-    out: &mut String,
+    out: &mut TextBuffer,
     space: &Ms<'_>,
     layout: Layout,
     slot: Slot,
 ) -> Result<(), AllocError>
-    ensures { OnOk result (string_bytes out.new ≡ string_bytes out.old ++ respaced kind.MS slot layout (ms_bytes space.now)) }
+    ensures { OnOk result (buffer_bytes out.new ≡ buffer_bytes out.old ++ respaced kind.MS slot layout (ms_bytes space.now)) }
 {
     space.print_spaced(out, layout.spacing(slot))
 }
 
 /// Writes the separator between two entries as it is laid out at the end of a text. Fails where memory runs out.
 pub fn print_separator(
-    out: &mut String,
+    out: &mut TextBuffer,
     separator: &Msc<'_>,
     layout: Layout,
 ) -> Result<(), AllocError>
-    ensures { OnOk result (string_bytes out.new ≡ string_bytes out.old ++ respaced kind.MSC spec.Between layout (msc_bytes separator.now)) }
+    ensures { OnOk result (buffer_bytes out.new ≡ buffer_bytes out.old ++ respaced kind.MSC spec.Between layout (msc_bytes separator.now)) }
 {
     separator.print_spaced(out, layout.spacing(Slot::Between))
 }
 
 /// Writes the end of a list as it is laid out at the end of a text. Fails where memory runs out.
-pub fn print_end(out: &mut String, end: &Soc<'_>, layout: Layout) -> Result<(), AllocError>
-    ensures { OnOk result (string_bytes out.new ≡ string_bytes out.old ++ respaced kind.SOC spec.Last layout (soc_bytes end.now)) }
+pub fn print_end(out: &mut TextBuffer, end: &Soc<'_>, layout: Layout) -> Result<(), AllocError>
+    ensures { OnOk result (buffer_bytes out.new ≡ buffer_bytes out.old ++ respaced kind.SOC spec.Last layout (soc_bytes end.now)) }
 {
     end.print_spaced(out, layout.spacing(Slot::Last))
 }

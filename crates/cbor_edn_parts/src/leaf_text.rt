@@ -1,5 +1,5 @@
 //! The texts of leaves.
-ghost use Rattle.std.specs.Prelude.{◌≡◌, ◌≤◌, ◌+◌, ◌++◌, length, nat_eq, take, IfOk, IsOk, string_bytes};
+ghost use Rattle.std.specs.Prelude.{◌≡◌, ◌≤◌, ◌+◌, ◌++◌, length, nat_eq, take, if◌then◌else◌, is_ok, IfOk, IsOk, string_bytes};
 ghost use Rattle.std.specs.Str.{IsUtf8};
 ghost use Rattle.std.specs.Cmp.{on_per, partial_equiv_from_equiv};
 ghost use Rattle.std.specs.Cmp.Lexicographic.{pointwise, nat_list_eq_equiv};
@@ -60,7 +60,25 @@ impl ShortText {
     fn as_str(&self) -> &str
         ensures { result.now ≡ short_bytes self.now }
     {
-        str::from_utf8(&self.bytes[..self.length as usize]).unwrap()
+        str::from_utf8(self.as_bytes()).unwrap()
+    }
+
+    #[inline(always)]
+    fn as_bytes(&self) -> &[u8]
+        ensures { result.now ≡ short_bytes self.now }
+    {
+        &self.bytes[..self.length as usize]
+    }
+
+    /// Appends the text to bytes. All the room is copied and what is behind the text cut off, since a copy of a fixed length takes no call.
+    #[inline(always)]
+    pub(crate) fn append_to(&self, out: &mut Vec<u8>) -> Result<(), AllocError>
+        ensures { out.new.items ≡ (if is_ok result then out.old.items ++ short_bytes self.now else out.old.items) }
+    {
+        let front = out.len();
+        out.extend_from_slice(&self.bytes)?;
+        out.truncate(front + self.length as usize);
+        Ok(())
     }
 }
 
@@ -131,6 +149,19 @@ impl<'a> LeafText<'a> {
             LeafText::Borrowed(text) => text,
             LeafText::Short(text) => text.as_str(),
             LeafText::Long(text) => text.as_str(),
+        }
+    }
+
+    /// Its bytes.
+    #[inline(always)]
+    pub fn as_bytes(&self) -> &[u8]
+        ensures bytes { result.now ≡ leaf_bytes self.now }
+        ensures utf8 { ∥ IsUtf8 result.now ∥₁ }
+    {
+        match self {
+            LeafText::Borrowed(text) => text.as_bytes(),
+            LeafText::Short(text) => text.as_bytes(),
+            LeafText::Long(text) => text.as_str().as_bytes(),
         }
     }
 

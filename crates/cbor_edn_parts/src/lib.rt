@@ -1,6 +1,7 @@
 //! The parts of the text of CBOR's Extended Diagnostic Notation (EDN): spaces, numbers, encoding indicators, and what refuses them.
 #![tactic(auto)]
 
+pub mod buffer;
 pub mod bytes;
 pub mod error;
 pub mod indicator;

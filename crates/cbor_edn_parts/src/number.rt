@@ -1,5 +1,6 @@
 //! Numbers.
-ghost use Rattle.std.specs.Prelude.{◌≡◌, ◌<◌, ◌≤◌, ◌^◌, ◌↔◌, length, ℤ, pos, neg_ℤ, if◌then◌else◌, IsTrue, IfOk, IfSome, IsNone, drop, true, unsigned_abs};
+ghost use Rattle.std.specs.Prelude.{◌≡◌, ◌++◌, ◌<◌, ◌≤◌, ◌^◌, ◌↔◌, length, ℤ, pos, neg_ℤ, if◌then◌else◌, IsTrue, IfOk, OnOk, IfSome, IsNone, drop, true, unsigned_abs};
+ghost use Rattle.cbor_edn_parts.specs.Buffer.{buffer_bytes};
 ghost use Rattle.cbor_edn_parts.specs.LeafTexts.{leaf_bytes};
 ghost use Rattle.std.specs.Str.Parse.{IsNumeral, ParsesUnsigned, digits_value};
 ghost use Rattle.cbor_edn_parts.specs.Number.{MinusSign, radix, HasInteger};
@@ -8,6 +9,7 @@ ghost use Rattle.cbor_edn_parts.specs.internal.NumberTokens as tokens;
 ghost use Rattle.cbor_edn_parts.specs.internal.NumberTokens.{is_number};
 ghost use Rattle.cbor_edn_parts.specs.internal.StateLaws.{number_stays, number_inside};
 
+use crate::buffer::TextBuffer;
 use crate::bytes::Kind;
 use crate::leaf_text::LeafText;
 use crate::scan::State;
@@ -282,6 +284,14 @@ impl<'a> Number<'a> {
         ensures { result.now ≡ number_bytes self.now }
     {
         self.text.as_str()
+    }
+
+    /// Writes the text at the end of another. Fails where memory runs out.
+    #[inline(always)]
+    pub fn print(&self, out: &mut TextBuffer) -> Result<(), AllocError>
+        ensures { OnOk result (buffer_bytes out.new ≡ buffer_bytes out.old ++ number_bytes self.now) }
+    {
+        out.push_leaf(&self.text)
     }
 
     /// Its length in bytes.

@@ -3,13 +3,13 @@ ghost use Rattle.std.specs.Prelude.{◌≡◌, ◌↔◌, IsTrue, [], ◌∷◌,
 ghost use Rattle.cbor_edn_parts.specs.LeafTexts.{leaf_bytes};
 ghost use Rattle.cbor_edn_parts.specs.internal.SpaceTokens as tokens;
 ghost use Rattle.cbor_edn_parts.specs.internal.SpaceTokens.{is_s, is_ms, is_msc, is_soc};
-ghost use Rattle.cbor_edn_parts.specs.internal.StateLaws.{space_stays, space_inside, separator_stays, separator_inside};
+ghost use Rattle.cbor_edn_parts.specs.internal.StateLaws.{space_stays, space_inside};
 
 use crate::bytes::Kind;
 use crate::leaf_text::LeafText;
 use crate::scan::State;
 pub use note::TakesComment;
-pub use read::{ItemEnd, separator, separator_behind, space, space_behind};
+pub use read::{ItemEnd, separator_behind, space, space_behind};
 use std::alloc::AllocError;
 
 mod comments;
@@ -216,13 +216,6 @@ pub enum SpaceState {
     InHash,
 }
 
-/// Where a scan of a separator stands: before its comma or behind it.
-#[derive(Clone, Copy, Debug, PartialEq)]
-pub enum SeparatorState {
-    Before(SpaceState),
-    After(SpaceState),
-}
-
 impl State for SpaceState {
     ghost automaton = { tokens.space };
 
@@ -256,32 +249,4 @@ impl SpaceState {
             _ => Some(self),
         }
     }
-}
-
-impl State for SeparatorState {
-    ghost automaton = { tokens.separator };
-
-    fn step(self, byte: u8) -> Option<SeparatorState> {
-        let kind = Kind::of(byte);
-        match (kind, self) {
-            (Kind::Blank, _) => Some(self),
-            (Kind::Comma, SeparatorState::Before(SpaceState::Between)) => {
-                Some(SeparatorState::After(SpaceState::Between))
-            }
-            (_, SeparatorState::Before(within)) => Some(SeparatorState::Before(within.behind(
-                kind,
-            )?)),
-            (_, SeparatorState::After(within)) => Some(SeparatorState::After(within.behind(kind)?)),
-        }
-    }
-
-    fn is_final(self) -> bool {
-        match self {
-            SeparatorState::Before(within) | SeparatorState::After(within) => within.is_final(),
-        }
-    }
-
-    ghost stays = { separator_stays };
-
-    ghost inside = { separator_inside };
 }

@@ -1,5 +1,6 @@
 //! Literals: quoted texts, with or without a prefix, and dots.
-ghost use Rattle.std.specs.Prelude.{◌≡◌, ◌==◌, IsTrue, IfOk, Some, None, [], length, if◌then◌else◌};
+ghost use Rattle.std.specs.Prelude.{◌≡◌, ◌++◌, ◌==◌, IsTrue, IfOk, OnOk, Some, None, [], length, if◌then◌else◌};
+ghost use Rattle.cbor_edn_parts.specs.Buffer.{buffer_bytes};
 ghost use Rattle.cbor_edn_parts.specs.LeafTexts.{leaf_bytes};
 ghost use Rattle.cbor_edn_parts.specs.internal.Ended.{Steps};
 ghost use Rattle.cbor_edn_parts.specs.Literal.{letter_escape};
@@ -7,6 +8,7 @@ ghost use Rattle.cbor_edn_parts.specs.internal.LiteralTokens as tokens;
 ghost use Rattle.cbor_edn_parts.specs.internal.LiteralTokens.{is_literal, are_dots, quote_byte};
 ghost use Rattle.cbor_edn_parts.specs.internal.StateLaws.{literal_stays, literal_inside, dots_stays, dots_inside};
 
+use crate::buffer::TextBuffer;
 use crate::leaf_text::LeafText;
 use crate::scan::State;
 pub use read::{dots_at, literal_at};
@@ -107,6 +109,14 @@ impl<'a> Literal<'a> {
         ensures { result.now ≡ literal_bytes self.now }
     {
         self.text.as_str()
+    }
+
+    /// Writes the text at the end of another. Fails where memory runs out.
+    #[inline(always)]
+    pub fn print(&self, out: &mut TextBuffer) -> Result<(), AllocError>
+        ensures { OnOk result (buffer_bytes out.new ≡ buffer_bytes out.old ++ literal_bytes self.now) }
+    {
+        out.push_leaf(&self.text)
     }
 
     /// Its length in bytes.

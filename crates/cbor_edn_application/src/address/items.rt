@@ -1,5 +1,5 @@
 //! The items that address literals stand for.
-ghost use Rattle.std.specs.Prelude.{◌≡◌, ◌∷◌, [], ℕ, pos, map, List, Ok, Err, Some, None, IfOk, IfSome, IfNone, string_bytes};
+ghost use Rattle.std.specs.Prelude.{◌≡◌, ◌∷◌, [], ℕ, false, pos, map, List, Ok, Err, Some, None, IfOk, IfSome, IfNone, string_bytes};
 ghost use Rattle.cbor_edn_parts.specs.Refusals.{IfTold};
 ghost use Rattle.cbor_edn_model.specs.visit.Seeking.{prefix_and_text};
 ghost use Rattle.cbor_edn_literals.specs.Address.{version_of};
@@ -49,6 +49,13 @@ fn is_tag_wanted(prefix: &str) -> Option<bool>
         "IP" => Some(true),
         _ => None,
     }
+}
+
+/// Whether literals of a prefix stand for addresses.
+pub(crate) fn is_address(prefix: &str) -> bool
+    ensures { result ≡ false → (t : List ℕ) → address_of_literal prefix.now t ≡ None }
+{
+    is_tag_wanted(prefix).is_some()
 }
 
 /// The item that the literal of a text stands for, with `wrap` in the tag of its version.

@@ -6,10 +6,10 @@ use Rattle.std.specs.declared.string.String.{String}
 use Rattle.std.specs.declared.alloc.Global.{Global}
 use Rattle.cbor_edn_parts.specs.declared.error.CallbackError.{CallbackError}
 use Rattle.cbor_edn_model.specs.access.Accessed.{tag_number, IsApplicationItem}
-use Rattle.cbor_edn_model.specs.visit.Seeking.{SoughtCall, number, prefix_and_text}
+use Rattle.cbor_edn_model.specs.visit.Seeking.{CallArguments, SoughtCall, IsApplication, number, prefix_and_text}
 use Rattle.cbor_edn_model.specs.tree.Trees.{Tree, OneItem}
 use Rattle.cbor_edn_model.specs.visit.Visits.{Answer, fine, Chain}
-use Rattle.cbor_edn_core.specs.visit.Callbacks.{error_answer}
+use Rattle.cbor_edn_core.specs.visit.Callbacks.{Callback, error_answer}
 
 -- the text of a comment, want of memory, or nothing
 abbrev pub sought_answer : Result (Unit {0}) CallbackError → Answer
@@ -23,6 +23,10 @@ TagCallback T F = Mut F (ℕ × (MutBor T × Unit {0})) (Result (Unit {0}) Callb
 -- those that are called with the prefix and the text of a literal
 abbrev pub LiteralCallback : Type 0 → Type 0 → Type 1
 LiteralCallback T F = Mut F (String Global × (String Global × (MutBor T × Unit {0}))) (Result (Unit {0}) CallbackError × (MutBor T × Unit {0}))
+
+-- those that are called with the item alone
+abbrev pub ItemCallback : Type 0 → Type 0 → Type 1
+ItemCallback T F = Callback T (Result (Unit {0}) CallbackError) F
 
 module _ {T : Type 0} (look : T → Tree OneItem) where
   -- The call c of f, which leaves g.
@@ -52,6 +56,17 @@ module _ {T : Type 0} (look : T → Tree OneItem) where
     pub leaves : look left.now ≡ c.after
     pub called : Called callback f (prefix, (text, (shown, tt))) (answer, (left, tt)) g
 
+  -- The same at a literal whose prefix and text f is not told: they are those of the item.
+  pub record IsItemCall {F : Type 0} (callback : ItemCallback T F) (f : F) (c : SoughtCall) (g : F) : Type 0 where
+    pub sought : IsApplication c.before c.arguments
+    pub shown : MutBor T
+    pub begins : look shown.now ≡ c.before
+    pub answer : Result (Unit {0}) CallbackError
+    pub answers : sought_answer answer ≡ c.answer
+    pub left : MutBor T
+    pub leaves : look left.now ≡ c.after
+    pub called : Called callback f (shown, tt) (answer, (left, tt)) g
+
   -- f may be called at any tag, in each state that such calls leave
   pub record MayVisitTags {F : Type 0} (callback : TagCallback T F) (f : F) : Type 0 where
     pub at : (cs : List SoughtCall) (g : F) → Chain (IsTagCall callback) f cs g → (n : ℕ) (x : MutBor T) → tag_number (look x.now) ≡ Some n → n < 2 ^ 64 → callback.pre g (n, (x, tt))
@@ -60,3 +75,6 @@ module _ {T : Type 0} (look : T → Tree OneItem) where
   pub record MayVisitLiterals {F : Type 0} (callback : LiteralCallback T F) (f : F) : Type 0 where
     pub at : (cs : List SoughtCall) (g : F) → Chain (IsLiteralCall callback) f cs g → (p s : String Global) (x : MutBor T)
         → IsApplicationItem (look x.now) (string_bytes p) (string_bytes s) → callback.pre g (p, (s, (x, tt)))
+
+  pub record MayVisitItems {F : Type 0} (callback : ItemCallback T F) (f : F) : Type 0 where
+    pub at : (cs : List SoughtCall) (g : F) → Chain (IsItemCall callback) f cs g → (a : CallArguments) (x : MutBor T) → IsApplication (look x.now) a → callback.pre g (x, tt)

@@ -1,7 +1,8 @@
 //! Literals of a prefix and a text.
-ghost use Rattle.std.specs.Prelude.{◌≡◌, ℕ, List, None, true, false, IfOk, IfSome, OnErr, string_bytes};
+ghost use Rattle.std.specs.Prelude.{◌≡◌, ◌↔◌, ℕ, List, None, true, false, IfOk, IfSome, IfNone, OnErr, position, string_bytes};
 ghost use Rattle.cbor_edn_parts.specs.Leaves.{literal_bytes};
 ghost use Rattle.cbor_edn_parts.specs.Literal.{IsLiteral, Prefixed};
+ghost use Rattle.cbor_edn_parts.specs.internal.LiteralTokens.{is_quote};
 ghost use Rattle.cbor_edn_parts.specs.Refusals.{IfTold, OnMemory};
 ghost use Rattle.cbor_edn_model.specs.access.Accessed.{IsApplicationItem, IsApplicationPiece, are_several, string_tree};
 ghost use Rattle.cbor_edn_model.specs.tree.TreeLeaves.{texts};
@@ -15,6 +16,15 @@ use cbor_edn_parts::string::Literal;
 use std::alloc::{AllocError, Global};
 
 impl<'a> Item<'a> {
+    /// The prefix of a string that is one literal with a prefix, whatever its encoding indicator, as `b64` of `b64'Yg'`: none of any
+    /// other item. It is lent, and takes no memory.
+    pub fn application_prefix(&self) -> Option<&str>
+        ensures found { IfSome result (λ p. (v : List ℕ) × IsApplicationItem (item_tree self.now) p.now v) }
+        ensures none { IfNone result ((p v : List ℕ) → IsApplicationItem (item_tree self.now) p v → ⊥) }
+    {
+        prefix_of(lone_literal(self)?)
+    }
+
     /// The prefix and the text of a string that is one literal with a prefix, whatever its encoding indicator, as `b64` and `Yg`
     /// of `b64'Yg'`. Fails with `SingleApplicationLiteral` where the item is a string of several pieces, with
     /// `ApplicationLiteral` where it is anything else, and where memory runs out, which only such a literal takes.
@@ -50,7 +60,7 @@ impl<'a> Item<'a> {
 }
 
 /// Whether the item may be a literal with a prefix, by its form and its first byte: a look that takes less than
-/// [`Item::get_application_literal`].
+/// [`Item::application_prefix`].
 #[inline]
 #[tactic(auto, using(crate::proofs::lemmas::tree::Views::view_stream_is))]
 pub(crate) fn may_have_prefix(item: &Item<'_>) -> bool
@@ -73,6 +83,60 @@ fn begins_with_quote(literal: &Literal<'_>) -> bool
     ensures { result ≡ true → (p v : List ℕ) → IsLiteral (Prefixed p) v (literal_bytes literal.now) → ⊥ }
 {
     matches!(literal.as_str().as_bytes(), [b'\'' | b'"', ..])
+}
+
+/// The literal that an item is alone.
+#[tactic(auto, using(crate::proofs::lemmas::tree::Views::view_stream_is))]
+fn lone_literal<'i, 'a>(item: &'i Item<'a>) -> Option<&'i Literal<'a>>
+    ensures literal { IfSome result (λ l. (p v : List ℕ) → IsApplicationItem (item_tree item.now) p v ↔ IsLiteral (Prefixed p) v (literal_bytes l.now)) }
+    ensures other { IfNone result ((p v : List ℕ) → IsApplicationItem (item_tree item.now) p v → ⊥) }
+{
+    match &item.inner {
+        InnerItem::Literal(_, literal) => Some(literal),
+        InnerItem::String(string) => {
+            if has_several_pieces(string) {
+                return None;
+            }
+            piece_literal(&string.last)
+        }
+        InnerItem::Number(..)
+        | InnerItem::NonFinite(..)
+        | InnerItem::Named(_)
+        | InnerItem::Enclosed(..)
+        | InnerItem::Array(_)
+        | InnerItem::Map(_)
+        | InnerItem::Stream(_) => None,
+    }
+}
+
+/// The literal that a piece is.
+fn piece_literal<'p, 'a>(piece: &'p Piece<'a>) -> Option<&'p Literal<'a>>
+    ensures literal { IfSome result (λ l. (p v : List ℕ) → IsApplicationPiece (view_piece texts piece.now) p v ↔ IsLiteral (Prefixed p) v (literal_bytes l.now)) }
+    ensures other { IfNone result ((p v : List ℕ) → IsApplicationPiece (view_piece texts piece.now) p v → ⊥) }
+{
+    match piece {
+        Piece::Literal(_, literal) => Some(literal),
+        Piece::Dots(_) | Piece::Embedded(..) => None,
+    }
+}
+
+/// The prefix of a literal.
+fn prefix_of<'l>(literal: &'l Literal<'_>) -> Option<&'l str>
+    ensures found { IfSome result (λ p. (v : List ℕ) × IsLiteral (Prefixed p.now) v (literal_bytes literal.now)) }
+    ensures none { IfNone result ((p v : List ℕ) → IsLiteral (Prefixed p) v (literal_bytes literal.now) → ⊥) }
+{
+    let text = literal.as_str();
+    let end = first_quote(text.as_bytes())?;
+    if end == 0 {
+        return None;
+    }
+    Some(&text[..end])
+}
+
+fn first_quote(text: &[u8]) -> Option<usize>
+    ensures { result ≡ position is_quote text.now }
+{
+    text.iter().position(|byte| matches!(*byte, b'\'' | b'"'))
 }
 
 pub(crate) fn has_several_pieces(string: &CborString<'_>) -> bool

@@ -1,6 +1,7 @@
 //! Delimiter policies, and comments in front of items.
-ghost use Rattle.std.specs.Prelude.{◌≡◌, IfOk, IfErr, IsOk, OnOk};
+ghost use Rattle.std.specs.Prelude.{◌≡◌, ◌++◌, IfOk, IfErr, IsOk, OnOk};
 ghost use Rattle.std.specs.String.{string_bytes};
+ghost use Rattle.cbor_edn_parts.specs.Buffer.{buffer_bytes};
 ghost use Rattle.cbor_edn_parts.specs.declared.policy.DelimiterPolicy.TheVariants as policies;
 ghost use Rattle.cbor_edn_parts.specs.LayoutColumns.{least};
 ghost use Rattle.cbor_edn_model.specs.layout.Commented.{commented};
@@ -15,6 +16,7 @@ use super::lay::{lay_item, lay_sequence, lay_standalone};
 use super::measure::{item_widths, sequence_widths, standalone_widths};
 use super::print::{print_item, print_sequence, print_standalone};
 use crate::tree::{Item, Sequence, StandaloneItem};
+use cbor_edn_parts::buffer::TextBuffer;
 use cbor_edn_parts::layout::Layout;
 use cbor_edn_parts::policy::DelimiterPolicy;
 use cbor_edn_parts::space::S;
@@ -49,9 +51,9 @@ impl<'a> Item<'a> {
     ) -> Result<String, AllocError>
         ensures { IfOk result (λ s. string_bytes s ≡ text (laid_out policy (item_tree self.now))) }
     {
-        let mut out = String::new(alloc);
+        let mut out = TextBuffer::new(alloc);
         print_item(&mut out, self, Layout::of(policy))?;
-        Ok(out)
+        Ok(out.into_string())
     }
 
     /// The item with a comment in front of it: `/ a /1`, or lines behind `#` where the comment has a slash itself. Control characters but
@@ -97,9 +99,9 @@ impl<'a> StandaloneItem<'a> {
     ) -> Result<String, AllocError>
         ensures { IfOk result (λ s. string_bytes s ≡ text (laid_out policy (standalone_tree self.now))) }
     {
-        let mut out = String::new(alloc);
+        let mut out = TextBuffer::new(alloc);
         print_standalone(&mut out, self, Layout::of(policy))?;
-        Ok(out)
+        Ok(out.into_string())
     }
 
     /// The item with a comment in place of all space in front of it: `/ comment /`, or lines behind `#` where the comment
@@ -155,9 +157,21 @@ impl<'a> Sequence<'a> {
     ) -> Result<String, AllocError>
         ensures { IfOk result (λ s. string_bytes s ≡ text (laid_out policy (sequence_tree self.now))) }
     {
-        let mut out = String::new(alloc);
-        print_sequence(&mut out, self, Layout::of(policy))?;
-        Ok(out)
+        let mut out = TextBuffer::new(alloc);
+        self.print_laid_out(&mut out, policy)?;
+        Ok(out.into_string())
+    }
+
+    /// Writes the text that [`Sequence::serialize_laid_out`] gives at the end of another, which is quicker: the text is not tested. Fails
+    /// where memory runs out.
+    pub fn print_laid_out(
+        &self,
+        out: &mut TextBuffer,
+        policy: DelimiterPolicy,
+    ) -> Result<(), AllocError>
+        ensures { OnOk result (buffer_bytes out.new ≡ buffer_bytes out.old ++ text (laid_out policy (sequence_tree self.now))) }
+    {
+        print_sequence(out, self, Layout::of(policy))
     }
 }
 

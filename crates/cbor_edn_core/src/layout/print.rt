@@ -1,6 +1,6 @@
 //! The text of a tree with the spaces of a layout, which the tree itself does not get.
 ghost use Rattle.std.specs.Prelude.{◌≡◌, ◌++◌, map, OnOk};
-ghost use Rattle.std.specs.String.{string_bytes};
+ghost use Rattle.cbor_edn_parts.specs.Buffer.{buffer_bytes};
 ghost use Rattle.cbor_edn_parts.specs.LayoutColumns.{of_parts};
 ghost use Rattle.cbor_edn_model.specs.layout.Layout.{laid};
 ghost use Rattle.cbor_edn_model.specs.tree.Rows.{entries_text, pieces_text};
@@ -19,6 +19,7 @@ use crate::tree::{
 };
 use cbor_edn_model::text::list_head::print_laid_head;
 use cbor_edn_model::text::write::{print_indicator, print_label};
+use cbor_edn_parts::buffer::TextBuffer;
 use cbor_edn_parts::layout::{
     Layout, Slot, print_end, print_mandatory, print_separator, print_space,
 };
@@ -37,11 +38,11 @@ fn layout_of_parts(layout: Layout, item: &Item<'_>) -> Layout
 
 #[tactic(auto, using(crate::proofs::lemmas::tree::Views::view_sequence_is, cbor_edn_model::proofs::lemmas::layout::LaidTexts::text_laid_nothing, cbor_edn_model::proofs::lemmas::layout::LaidTexts::text_laid_sequence, std::proofs::Common::append_assoc))]
 pub(super) fn print_sequence(
-    out: &mut String,
+    out: &mut TextBuffer,
     sequence: &Sequence<'_>,
     layout: Layout,
 ) -> Result<(), AllocError>
-    ensures { OnOk result (string_bytes out.new ≡ string_bytes out.old ++ text (laid layout (sequence_tree sequence.now))) }
+    ensures { OnOk result (buffer_bytes out.new ≡ buffer_bytes out.old ++ text (laid layout (sequence_tree sequence.now))) }
 {
     print_space(out, &sequence.before, layout, Slot::Elsewhere)?;
     match &sequence.items {
@@ -53,11 +54,11 @@ pub(super) fn print_sequence(
 #[cycle(print_laid)]
 #[tactic(auto, using(cbor_edn_model::proofs::lemmas::layout::LaidTexts::text_laid_standalone, std::proofs::Common::append_assoc))]
 pub(super) fn print_standalone(
-    out: &mut String,
+    out: &mut TextBuffer,
     item: &StandaloneItem<'_>,
     layout: Layout,
 ) -> Result<(), AllocError>
-    ensures { OnOk result (string_bytes out.new ≡ string_bytes out.old ++ text (laid layout (standalone_tree item.now))) }
+    ensures { OnOk result (buffer_bytes out.new ≡ buffer_bytes out.old ++ text (laid layout (standalone_tree item.now))) }
 {
     print_space(out, &item.before, layout, Slot::Elsewhere)?;
     print_item(out, &item.item, layout)?;
@@ -67,11 +68,11 @@ pub(super) fn print_standalone(
 #[cycle(print_laid)]
 #[tactic(auto, using(crate::proofs::lemmas::tree::Views::view_string_is, crate::proofs::lemmas::tree::Views::view_stream_is, cbor_edn_model::proofs::lemmas::layout::LaidTexts::text_laid_number, cbor_edn_model::proofs::lemmas::layout::LaidTexts::text_laid_float, cbor_edn_model::proofs::lemmas::layout::LaidTexts::text_laid_named, cbor_edn_model::proofs::lemmas::layout::LaidTexts::text_laid_enclosed, cbor_edn_model::proofs::lemmas::layout::LaidTexts::text_laid_list, cbor_edn_model::proofs::lemmas::layout::LaidTexts::text_laid_string, crate::proofs::lemmas::layout::LaidStrings::text_laid_piece, cbor_edn_model::proofs::lemmas::text::Texts::text_string, cbor_edn_model::proofs::lemmas::text::Texts::text_last_piece, cbor_edn_model::proofs::lemmas::layout::LaidTexts::text_laid_stream, std::proofs::Common::append_assoc))]
 pub(super) fn print_item(
-    out: &mut String,
+    out: &mut TextBuffer,
     item: &Item<'_>,
     layout: Layout,
 ) -> Result<(), AllocError>
-    ensures { OnOk result (string_bytes out.new ≡ string_bytes out.old ++ text (laid layout (item_tree item.now))) }
+    ensures { OnOk result (buffer_bytes out.new ≡ buffer_bytes out.old ++ text (laid layout (item_tree item.now))) }
 {
     match &item.inner {
         InnerItem::Number(indicator, number) => serialize::print_number(out, number, *indicator),
@@ -110,19 +111,23 @@ pub(super) fn print_item(
 }
 
 #[tactic(auto, using(cbor_edn_model::proofs::lemmas::layout::LaidTexts::text_laid_pieces, std::proofs::Common::append_assoc))]
-fn print_string(out: &mut String, string: &CborString<'_>, layout: Layout) -> Result<(), AllocError>
-    ensures { OnOk result (string_bytes out.new ≡ string_bytes out.old ++ text (laid layout (view_string texts string.now))) }
+fn print_string(
+    out: &mut TextBuffer,
+    string: &CborString<'_>,
+    layout: Layout,
+) -> Result<(), AllocError>
+    ensures { OnOk result (buffer_bytes out.new ≡ buffer_bytes out.old ++ text (laid layout (view_string texts string.now))) }
 {
     print_piece_row(out, &string.row, layout)?;
     serialize::print_piece(out, &string.last)
 }
 
 fn print_piece_row(
-    out: &mut String,
+    out: &mut TextBuffer,
     row: &[(Piece<'_>, S<'_>, S<'_>)],
     layout: Layout,
 ) -> Result<(), AllocError>
-    ensures { OnOk result (string_bytes out.new ≡ string_bytes out.old ++ pieces_text (map (laid_piece layout) (map (seen_piece texts) row.now))) }
+    ensures { OnOk result (buffer_bytes out.new ≡ buffer_bytes out.old ++ pieces_text (map (laid_piece layout) (map (seen_piece texts) row.now))) }
 {
     for (piece, before, after) in row {
         serialize::print_piece(out, piece)?;
@@ -134,8 +139,8 @@ fn print_piece_row(
 }
 
 #[tactic(auto, using(crate::proofs::lemmas::tree::Views::view_stream_is, cbor_edn_model::proofs::lemmas::text::Texts::text_stream, std::proofs::Common::append_assoc))]
-fn print_stream(out: &mut String, stream: &Stream<'_>, layout: Layout) -> Result<(), AllocError>
-    ensures { OnOk result (string_bytes out.new ≡ string_bytes out.old ++ text (laid_stream layout (view_stream texts stream.now))) }
+fn print_stream(out: &mut TextBuffer, stream: &Stream<'_>, layout: Layout) -> Result<(), AllocError>
+    ensures { OnOk result (buffer_bytes out.new ≡ buffer_bytes out.old ++ text (laid_stream layout (view_stream texts stream.now))) }
 {
     out.push_str("(_")?;
     print_mandatory(out, &stream.ms, layout, Slot::First)?;
@@ -144,8 +149,12 @@ fn print_stream(out: &mut String, stream: &Stream<'_>, layout: Layout) -> Result
 }
 
 #[tactic(auto, using(crate::proofs::lemmas::tree::Views::view_strings_is, cbor_edn_model::proofs::lemmas::layout::LaidTexts::text_laid_rest, cbor_edn_model::proofs::lemmas::layout::LaidTexts::text_laid_chunk, std::proofs::Common::append_assoc))]
-fn print_strings(out: &mut String, strings: &Strings<'_>, layout: Layout) -> Result<(), AllocError>
-    ensures { OnOk result (string_bytes out.new ≡ string_bytes out.old ++ text (laid layout (view_strings texts strings.now))) }
+fn print_strings(
+    out: &mut TextBuffer,
+    strings: &Strings<'_>,
+    layout: Layout,
+) -> Result<(), AllocError>
+    ensures { OnOk result (buffer_bytes out.new ≡ buffer_bytes out.old ++ text (laid layout (view_strings texts strings.now))) }
 {
     print_string_row(out, &strings.row, layout)?;
     print_string(out, &strings.last, layout.in_chunk())?;
@@ -154,11 +163,11 @@ fn print_strings(out: &mut String, strings: &Strings<'_>, layout: Layout) -> Res
 
 #[tactic(auto, unfolding(cbor_edn_model::specs::layout::Layout::laid, cbor_edn_model::specs::tree::Trees::onto))]
 fn print_string_row(
-    out: &mut String,
+    out: &mut TextBuffer,
     row: &[(CborString<'_>, Msc<'_>)],
     layout: Layout,
 ) -> Result<(), AllocError>
-    ensures { OnOk result (string_bytes out.new ≡ string_bytes out.old ++ entries_text (map (laid_entry layout) (map (seen_string texts) row.now))) }
+    ensures { OnOk result (buffer_bytes out.new ≡ buffer_bytes out.old ++ entries_text (map (laid_entry layout) (map (seen_string texts) row.now))) }
 {
     for (string, separator) in row {
         print_string(out, string, layout.in_chunk())?;
@@ -167,10 +176,26 @@ fn print_string_row(
     Ok(())
 }
 
+/// As [`print_item`], without its call where the item is a number or a literal, as most are.
+#[inline(always)]
+#[cycle(print_laid)]
+#[tactic(auto, using(crate::proofs::lemmas::tree::Views::view_string_is, cbor_edn_model::proofs::lemmas::layout::LaidTexts::text_laid_number, cbor_edn_model::proofs::lemmas::layout::LaidTexts::text_laid_string, crate::proofs::lemmas::layout::LaidStrings::text_laid_piece, cbor_edn_model::proofs::lemmas::text::Texts::text_string, cbor_edn_model::proofs::lemmas::text::Texts::text_last_piece))]
+fn print_at_once(out: &mut TextBuffer, item: &Item<'_>, layout: Layout) -> Result<(), AllocError>
+    ensures { OnOk result (buffer_bytes out.new ≡ buffer_bytes out.old ++ text (laid layout (item_tree item.now))) }
+{
+    match &item.inner {
+        InnerItem::Number(indicator, number) => serialize::print_number(out, number, *indicator),
+        InnerItem::Literal(indicator, literal) => {
+            serialize::print_literal(out, literal, *indicator)
+        }
+        _ => print_item(out, item, layout),
+    }
+}
+
 #[cycle(print_laid)]
 #[tactic(auto, using(cbor_edn_model::proofs::lemmas::layout::LaidTexts::text_laid_empty, cbor_edn_model::proofs::lemmas::layout::LaidTexts::text_laid_full, std::proofs::Common::append_assoc))]
-fn print_list(out: &mut String, list: &ItemList<'_>, layout: Layout) -> Result<(), AllocError>
-    ensures { OnOk result (string_bytes out.new ≡ string_bytes out.old ++ text (laid layout (view_list texts list.now))) }
+fn print_list(out: &mut TextBuffer, list: &ItemList<'_>, layout: Layout) -> Result<(), AllocError>
+    ensures { OnOk result (buffer_bytes out.new ≡ buffer_bytes out.old ++ text (laid layout (view_list texts list.now))) }
 {
     match list {
         ItemList::Present { head, s, items } => {
@@ -187,8 +212,8 @@ fn print_list(out: &mut String, list: &ItemList<'_>, layout: Layout) -> Result<(
 
 #[cycle(print_laid)]
 #[tactic(auto, using(crate::proofs::lemmas::tree::Views::view_items_is, cbor_edn_model::proofs::lemmas::layout::LaidTexts::text_laid_rest, cbor_edn_model::proofs::lemmas::layout::LaidTexts::text_laid_element, std::proofs::Common::append_assoc))]
-fn print_items(out: &mut String, items: &Items<'_>, layout: Layout) -> Result<(), AllocError>
-    ensures { OnOk result (string_bytes out.new ≡ string_bytes out.old ++ text (laid layout (view_items texts items.now))) }
+fn print_items(out: &mut TextBuffer, items: &Items<'_>, layout: Layout) -> Result<(), AllocError>
+    ensures { OnOk result (buffer_bytes out.new ≡ buffer_bytes out.old ++ text (laid layout (view_items texts items.now))) }
 {
     print_row(out, &items.row, layout)?;
     print_item(out, &items.last, layout)?;
@@ -198,14 +223,14 @@ fn print_items(out: &mut String, items: &Items<'_>, layout: Layout) -> Result<()
 #[cycle(print_laid)]
 #[tactic(auto, unfolding(cbor_edn_model::specs::layout::Layout::laid, cbor_edn_model::specs::tree::Trees::onto))]
 fn print_row(
-    out: &mut String,
+    out: &mut TextBuffer,
     row: &[(Item<'_>, Msc<'_>)],
     layout: Layout,
 ) -> Result<(), AllocError>
-    ensures { OnOk result (string_bytes out.new ≡ string_bytes out.old ++ entries_text (map (laid_entry layout) (map (seen texts) row.now))) }
+    ensures { OnOk result (buffer_bytes out.new ≡ buffer_bytes out.old ++ entries_text (map (laid_entry layout) (map (seen texts) row.now))) }
 {
     for (item, separator) in row {
-        print_item(out, item, layout)?;
+        print_at_once(out, item, layout)?;
         print_separator(out, separator, layout)?;
     }
     Ok(())
@@ -213,8 +238,12 @@ fn print_row(
 
 #[cycle(print_laid)]
 #[tactic(auto, using(cbor_edn_model::proofs::lemmas::layout::LaidTexts::text_laid_empty, cbor_edn_model::proofs::lemmas::layout::LaidTexts::text_laid_full, std::proofs::Common::append_assoc))]
-fn print_pair_list(out: &mut String, list: &PairList<'_>, layout: Layout) -> Result<(), AllocError>
-    ensures { OnOk result (string_bytes out.new ≡ string_bytes out.old ++ text (laid layout (view_pair_list texts list.now))) }
+fn print_pair_list(
+    out: &mut TextBuffer,
+    list: &PairList<'_>,
+    layout: Layout,
+) -> Result<(), AllocError>
+    ensures { OnOk result (buffer_bytes out.new ≡ buffer_bytes out.old ++ text (laid layout (view_pair_list texts list.now))) }
 {
     match list {
         PairList::Present { head, s, pairs } => {
@@ -231,8 +260,8 @@ fn print_pair_list(out: &mut String, list: &PairList<'_>, layout: Layout) -> Res
 
 #[cycle(print_laid)]
 #[tactic(auto, using(crate::proofs::lemmas::tree::Views::view_pairs_is, cbor_edn_model::proofs::lemmas::layout::LaidTexts::text_laid_rest, std::proofs::Common::append_assoc))]
-fn print_pairs(out: &mut String, pairs: &Pairs<'_>, layout: Layout) -> Result<(), AllocError>
-    ensures { OnOk result (string_bytes out.new ≡ string_bytes out.old ++ text (laid layout (view_pairs texts pairs.now))) }
+fn print_pairs(out: &mut TextBuffer, pairs: &Pairs<'_>, layout: Layout) -> Result<(), AllocError>
+    ensures { OnOk result (buffer_bytes out.new ≡ buffer_bytes out.old ++ text (laid layout (view_pairs texts pairs.now))) }
 {
     print_pair_row(out, &pairs.row, layout)?;
     print_pair(out, &pairs.last, layout)?;
@@ -241,11 +270,11 @@ fn print_pairs(out: &mut String, pairs: &Pairs<'_>, layout: Layout) -> Result<()
 
 #[cycle(print_laid)]
 fn print_pair_row(
-    out: &mut String,
+    out: &mut TextBuffer,
     row: &[(Kp<'_>, Msc<'_>)],
     layout: Layout,
 ) -> Result<(), AllocError>
-    ensures { OnOk result (string_bytes out.new ≡ string_bytes out.old ++ entries_text (map (laid_entry layout) (map (seen_pair texts) row.now))) }
+    ensures { OnOk result (buffer_bytes out.new ≡ buffer_bytes out.old ++ entries_text (map (laid_entry layout) (map (seen_pair texts) row.now))) }
 {
     for (pair, separator) in row {
         print_pair(out, pair, layout)?;
@@ -256,12 +285,12 @@ fn print_pair_row(
 
 #[cycle(print_laid)]
 #[tactic(auto, using(cbor_edn_model::proofs::lemmas::layout::LaidTexts::text_laid_pair, std::proofs::Common::append_assoc))]
-fn print_pair(out: &mut String, pair: &Kp<'_>, layout: Layout) -> Result<(), AllocError>
-    ensures { OnOk result (string_bytes out.new ≡ string_bytes out.old ++ text (laid layout (view_pair texts pair.now))) }
+fn print_pair(out: &mut TextBuffer, pair: &Kp<'_>, layout: Layout) -> Result<(), AllocError>
+    ensures { OnOk result (buffer_bytes out.new ≡ buffer_bytes out.old ++ text (laid layout (view_pair texts pair.now))) }
 {
-    print_item(out, &pair.key, layout)?;
+    print_at_once(out, &pair.key, layout)?;
     print_space(out, &pair.before_colon, layout, Slot::Elsewhere)?;
     out.push_str(":")?;
     print_space(out, &pair.after_colon, layout, Slot::AfterColon)?;
-    print_item(out, &pair.value, layout)
+    print_at_once(out, &pair.value, layout)
 }

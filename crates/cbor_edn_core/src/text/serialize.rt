@@ -1,6 +1,7 @@
 //! The text of a tree.
 ghost use Rattle.std.specs.Prelude.{◌≡◌, ◌++◌, OnOk, IfOk};
 ghost use Rattle.std.specs.String.{string_bytes};
+ghost use Rattle.cbor_edn_parts.specs.Buffer.{buffer_bytes};
 ghost use Rattle.cbor_edn_parts.specs.Leaves.{number_bytes, literal_bytes};
 ghost use Rattle.cbor_edn_model.specs.tree.Trees.{NumberTree, LiteralTree, text, items};
 ghost use Rattle.cbor_edn_model.specs.text.Spelling.{Spells, SpellsSequence, SpellsOne};
@@ -13,6 +14,7 @@ use crate::tree::{
 };
 use cbor_edn_model::text::list_head::print_list_head;
 use cbor_edn_model::text::write::{print_indicator, print_label};
+use cbor_edn_parts::buffer::TextBuffer;
 use cbor_edn_parts::number::Number;
 use cbor_edn_parts::space::{Msc, S};
 use cbor_edn_parts::string::Literal;
@@ -24,9 +26,9 @@ impl Item<'_> {
         ensures text { IfOk result (λ s. string_bytes s ≡ text (item_tree self.now)) }
         ensures spells { IfOk result (λ s. Spells (items (item_tree self.now)) (string_bytes s)) }
     {
-        let mut out = String::new(alloc);
+        let mut out = TextBuffer::new(alloc);
         print_item(&mut out, self)?;
-        Ok(out)
+        Ok(out.into_string())
     }
 }
 
@@ -36,9 +38,9 @@ impl StandaloneItem<'_> {
         ensures text { IfOk result (λ s. string_bytes s ≡ text (standalone_tree self.now)) }
         ensures spells { IfOk result (λ s. SpellsOne (items (standalone_tree self.now)) (string_bytes s)) }
     {
-        let mut out = String::new(alloc);
+        let mut out = TextBuffer::new(alloc);
         print_standalone(&mut out, self)?;
-        Ok(out)
+        Ok(out.into_string())
     }
 }
 
@@ -48,16 +50,24 @@ impl Sequence<'_> {
         ensures text { IfOk result (λ s. string_bytes s ≡ text (sequence_tree self.now)) }
         ensures spells { IfOk result (λ s. SpellsSequence (items (sequence_tree self.now)) (string_bytes s)) }
     {
-        let mut out = String::new(alloc);
-        print_sequence(&mut out, self)?;
-        Ok(out)
+        let mut out = TextBuffer::new(alloc);
+        self.print(&mut out)?;
+        Ok(out.into_string())
+    }
+
+    /// Writes the text that [`Sequence::serialize`] gives at the end of another, which is quicker: the text is not tested. Fails where
+    /// memory runs out.
+    pub fn print(&self, out: &mut TextBuffer) -> Result<(), AllocError>
+        ensures { OnOk result (buffer_bytes out.new ≡ buffer_bytes out.old ++ text (sequence_tree self.now)) }
+    {
+        print_sequence(out, self)
     }
 }
 
 #[cycle(print)]
 #[tactic(auto, using(crate::proofs::lemmas::tree::Views::view_sequence_is, cbor_edn_model::proofs::lemmas::text::Texts::text_nothing, cbor_edn_model::proofs::lemmas::text::Texts::text_sequence, std::proofs::Common::append_assoc))]
-fn print_sequence(out: &mut String, sequence: &Sequence<'_>) -> Result<(), AllocError>
-    ensures { OnOk result (string_bytes out.new ≡ string_bytes out.old ++ text (sequence_tree sequence.now)) }
+fn print_sequence(out: &mut TextBuffer, sequence: &Sequence<'_>) -> Result<(), AllocError>
+    ensures { OnOk result (buffer_bytes out.new ≡ buffer_bytes out.old ++ text (sequence_tree sequence.now)) }
 {
     out.push_str(sequence.before.as_str())?;
     match &sequence.items {
@@ -68,8 +78,8 @@ fn print_sequence(out: &mut String, sequence: &Sequence<'_>) -> Result<(), Alloc
 
 #[cycle(print)]
 #[tactic(auto, using(cbor_edn_model::proofs::lemmas::text::Texts::text_standalone, std::proofs::Common::append_assoc))]
-fn print_standalone(out: &mut String, item: &StandaloneItem<'_>) -> Result<(), AllocError>
-    ensures { OnOk result (string_bytes out.new ≡ string_bytes out.old ++ text (standalone_tree item.now)) }
+fn print_standalone(out: &mut TextBuffer, item: &StandaloneItem<'_>) -> Result<(), AllocError>
+    ensures { OnOk result (buffer_bytes out.new ≡ buffer_bytes out.old ++ text (standalone_tree item.now)) }
 {
     out.push_str(item.before.as_str())?;
     print_item(out, &item.item)?;
@@ -80,13 +90,13 @@ fn print_standalone(out: &mut String, item: &StandaloneItem<'_>) -> Result<(), A
 #[inline]
 #[tactic(auto, using(cbor_edn_model::proofs::lemmas::text::Texts::text_number, std::proofs::Common::append_assoc))]
 pub(crate) fn print_number(
-    out: &mut String,
+    out: &mut TextBuffer,
     number: &Number<'_>,
     indicator: Option<Indicator>,
 ) -> Result<(), AllocError>
-    ensures { OnOk result (string_bytes out.new ≡ string_bytes out.old ++ text (NumberTree (number_bytes number.now) indicator)) }
+    ensures { OnOk result (buffer_bytes out.new ≡ buffer_bytes out.old ++ text (NumberTree (number_bytes number.now) indicator)) }
 {
-    out.push_str(number.as_str())?;
+    number.print(out)?;
     print_indicator(out, indicator)
 }
 
@@ -94,20 +104,20 @@ pub(crate) fn print_number(
 #[inline]
 #[tactic(auto, using(cbor_edn_model::proofs::lemmas::text::Texts::text_literal, std::proofs::Common::append_assoc))]
 pub(crate) fn print_literal(
-    out: &mut String,
+    out: &mut TextBuffer,
     literal: &Literal<'_>,
     indicator: Option<Indicator>,
 ) -> Result<(), AllocError>
-    ensures { OnOk result (string_bytes out.new ≡ string_bytes out.old ++ text (LiteralTree (literal_bytes literal.now) indicator)) }
+    ensures { OnOk result (buffer_bytes out.new ≡ buffer_bytes out.old ++ text (LiteralTree (literal_bytes literal.now) indicator)) }
 {
-    out.push_str(literal.as_str())?;
+    literal.print(out)?;
     print_indicator(out, indicator)
 }
 
 #[cycle(print)]
 #[tactic(auto, using(crate::proofs::lemmas::tree::Views::view_string_is, cbor_edn_model::proofs::lemmas::text::Texts::text_number, cbor_edn_model::proofs::lemmas::text::Texts::text_float, cbor_edn_model::proofs::lemmas::text::Texts::text_named, cbor_edn_model::proofs::lemmas::text::Texts::text_enclosed, cbor_edn_model::proofs::lemmas::text::Texts::text_list, cbor_edn_model::proofs::lemmas::text::Texts::text_string, cbor_edn_model::proofs::lemmas::text::Texts::text_last_piece, cbor_edn_model::proofs::lemmas::text::Texts::text_literal, std::proofs::Common::append_assoc))]
-pub(crate) fn print_item(out: &mut String, item: &Item<'_>) -> Result<(), AllocError>
-    ensures { OnOk result (string_bytes out.new ≡ string_bytes out.old ++ text (item_tree item.now)) }
+pub(crate) fn print_item(out: &mut TextBuffer, item: &Item<'_>) -> Result<(), AllocError>
+    ensures { OnOk result (buffer_bytes out.new ≡ buffer_bytes out.old ++ text (item_tree item.now)) }
 {
     match &item.inner {
         InnerItem::Number(indicator, number) => print_number(out, number, *indicator),
@@ -140,16 +150,19 @@ pub(crate) fn print_item(out: &mut String, item: &Item<'_>) -> Result<(), AllocE
 
 #[cycle(print)]
 #[tactic(auto, using(cbor_edn_model::proofs::lemmas::text::Texts::text_pieces, cbor_edn_model::proofs::lemmas::text::Texts::text_last_piece, std::proofs::Common::append_assoc))]
-fn print_string(out: &mut String, string: &CborString<'_>) -> Result<(), AllocError>
-    ensures { OnOk result (string_bytes out.new ≡ string_bytes out.old ++ text (view_string texts string.now)) }
+fn print_string(out: &mut TextBuffer, string: &CborString<'_>) -> Result<(), AllocError>
+    ensures { OnOk result (buffer_bytes out.new ≡ buffer_bytes out.old ++ text (view_string texts string.now)) }
 {
     print_piece_row(out, &string.row)?;
     print_piece(out, &string.last)
 }
 
 #[cycle(print)]
-fn print_piece_row(out: &mut String, row: &[(Piece<'_>, S<'_>, S<'_>)]) -> Result<(), AllocError>
-    ensures { OnOk result (string_bytes out.new ≡ string_bytes out.old ++ piece_row_text texts row.now) }
+fn print_piece_row(
+    out: &mut TextBuffer,
+    row: &[(Piece<'_>, S<'_>, S<'_>)],
+) -> Result<(), AllocError>
+    ensures { OnOk result (buffer_bytes out.new ≡ buffer_bytes out.old ++ piece_row_text texts row.now) }
 {
     for (piece, before, after) in row {
         print_piece(out, piece)?;
@@ -162,8 +175,8 @@ fn print_piece_row(out: &mut String, row: &[(Piece<'_>, S<'_>, S<'_>)]) -> Resul
 
 #[cycle(print)]
 #[tactic(auto, using(cbor_edn_model::proofs::lemmas::text::Texts::text_literal, cbor_edn_model::proofs::lemmas::text::Texts::text_dots, cbor_edn_model::proofs::lemmas::text::Texts::text_embedded, std::proofs::Common::append_assoc))]
-pub(crate) fn print_piece(out: &mut String, piece: &Piece<'_>) -> Result<(), AllocError>
-    ensures { OnOk result (string_bytes out.new ≡ string_bytes out.old ++ text (view_piece texts piece.now)) }
+pub(crate) fn print_piece(out: &mut TextBuffer, piece: &Piece<'_>) -> Result<(), AllocError>
+    ensures { OnOk result (buffer_bytes out.new ≡ buffer_bytes out.old ++ text (view_piece texts piece.now)) }
 {
     match piece {
         Piece::Literal(indicator, literal) => print_literal(out, literal, *indicator),
@@ -179,8 +192,8 @@ pub(crate) fn print_piece(out: &mut String, piece: &Piece<'_>) -> Result<(), All
 
 #[cycle(print)]
 #[tactic(auto, using(crate::proofs::lemmas::tree::Views::view_stream_is, cbor_edn_model::proofs::lemmas::text::Texts::text_stream, std::proofs::Common::append_assoc))]
-fn print_stream(out: &mut String, stream: &Stream<'_>) -> Result<(), AllocError>
-    ensures { OnOk result (string_bytes out.new ≡ string_bytes out.old ++ text (view_stream texts stream.now)) }
+fn print_stream(out: &mut TextBuffer, stream: &Stream<'_>) -> Result<(), AllocError>
+    ensures { OnOk result (buffer_bytes out.new ≡ buffer_bytes out.old ++ text (view_stream texts stream.now)) }
 {
     out.push_str("(_")?;
     out.push_str(stream.ms.as_str())?;
@@ -190,8 +203,8 @@ fn print_stream(out: &mut String, stream: &Stream<'_>) -> Result<(), AllocError>
 
 #[cycle(print)]
 #[tactic(auto, using(crate::proofs::lemmas::tree::Views::view_strings_is, cbor_edn_model::proofs::lemmas::text::Texts::text_entries, cbor_edn_model::proofs::lemmas::text::Texts::text_last, cbor_edn_model::proofs::lemmas::text::Texts::text_chunk, std::proofs::Common::append_assoc))]
-fn print_strings(out: &mut String, strings: &Strings<'_>) -> Result<(), AllocError>
-    ensures { OnOk result (string_bytes out.new ≡ string_bytes out.old ++ text (view_strings texts strings.now)) }
+fn print_strings(out: &mut TextBuffer, strings: &Strings<'_>) -> Result<(), AllocError>
+    ensures { OnOk result (buffer_bytes out.new ≡ buffer_bytes out.old ++ text (view_strings texts strings.now)) }
 {
     print_string_row(out, &strings.row)?;
     print_string(out, &strings.last)?;
@@ -200,8 +213,11 @@ fn print_strings(out: &mut String, strings: &Strings<'_>) -> Result<(), AllocErr
 
 #[cycle(print)]
 #[tactic(auto, unfolding(cbor_edn_model::specs::tree::Trees::onto))]
-fn print_string_row(out: &mut String, row: &[(CborString<'_>, Msc<'_>)]) -> Result<(), AllocError>
-    ensures { OnOk result (string_bytes out.new ≡ string_bytes out.old ++ string_row_text texts row.now) }
+fn print_string_row(
+    out: &mut TextBuffer,
+    row: &[(CborString<'_>, Msc<'_>)],
+) -> Result<(), AllocError>
+    ensures { OnOk result (buffer_bytes out.new ≡ buffer_bytes out.old ++ string_row_text texts row.now) }
 {
     for (string, separator) in row {
         print_string(out, string)?;
@@ -212,8 +228,8 @@ fn print_string_row(out: &mut String, row: &[(CborString<'_>, Msc<'_>)]) -> Resu
 
 #[cycle(print)]
 #[tactic(auto, using(cbor_edn_model::proofs::lemmas::text::Texts::text_empty, cbor_edn_model::proofs::lemmas::text::Texts::text_full, std::proofs::Common::append_assoc))]
-fn print_list(out: &mut String, list: &ItemList<'_>) -> Result<(), AllocError>
-    ensures { OnOk result (string_bytes out.new ≡ string_bytes out.old ++ text (view_list texts list.now)) }
+fn print_list(out: &mut TextBuffer, list: &ItemList<'_>) -> Result<(), AllocError>
+    ensures { OnOk result (buffer_bytes out.new ≡ buffer_bytes out.old ++ text (view_list texts list.now)) }
 {
     match list {
         ItemList::Present { head, s, items } => {
@@ -230,8 +246,8 @@ fn print_list(out: &mut String, list: &ItemList<'_>) -> Result<(), AllocError>
 
 #[cycle(print)]
 #[tactic(auto, using(crate::proofs::lemmas::tree::Views::view_items_is, cbor_edn_model::proofs::lemmas::text::Texts::text_entries, cbor_edn_model::proofs::lemmas::text::Texts::text_last, cbor_edn_model::proofs::lemmas::text::Texts::text_element, std::proofs::Common::append_assoc))]
-fn print_items(out: &mut String, items: &Items<'_>) -> Result<(), AllocError>
-    ensures { OnOk result (string_bytes out.new ≡ string_bytes out.old ++ text (view_items texts items.now)) }
+fn print_items(out: &mut TextBuffer, items: &Items<'_>) -> Result<(), AllocError>
+    ensures { OnOk result (buffer_bytes out.new ≡ buffer_bytes out.old ++ text (view_items texts items.now)) }
 {
     print_row(out, &items.row)?;
     print_item(out, &items.last)?;
@@ -240,8 +256,8 @@ fn print_items(out: &mut String, items: &Items<'_>) -> Result<(), AllocError>
 
 #[cycle(print)]
 #[tactic(auto, unfolding(cbor_edn_model::specs::tree::Trees::onto))]
-fn print_row(out: &mut String, row: &[(Item<'_>, Msc<'_>)]) -> Result<(), AllocError>
-    ensures { OnOk result (string_bytes out.new ≡ string_bytes out.old ++ row_text texts row.now) }
+fn print_row(out: &mut TextBuffer, row: &[(Item<'_>, Msc<'_>)]) -> Result<(), AllocError>
+    ensures { OnOk result (buffer_bytes out.new ≡ buffer_bytes out.old ++ row_text texts row.now) }
 {
     for (item, separator) in row {
         print_item(out, item)?;
@@ -252,8 +268,8 @@ fn print_row(out: &mut String, row: &[(Item<'_>, Msc<'_>)]) -> Result<(), AllocE
 
 #[cycle(print)]
 #[tactic(auto, using(cbor_edn_model::proofs::lemmas::text::Texts::text_empty, cbor_edn_model::proofs::lemmas::text::Texts::text_full, std::proofs::Common::append_assoc))]
-fn print_pair_list(out: &mut String, list: &PairList<'_>) -> Result<(), AllocError>
-    ensures { OnOk result (string_bytes out.new ≡ string_bytes out.old ++ text (view_pair_list texts list.now)) }
+fn print_pair_list(out: &mut TextBuffer, list: &PairList<'_>) -> Result<(), AllocError>
+    ensures { OnOk result (buffer_bytes out.new ≡ buffer_bytes out.old ++ text (view_pair_list texts list.now)) }
 {
     match list {
         PairList::Present { head, s, pairs } => {
@@ -270,8 +286,8 @@ fn print_pair_list(out: &mut String, list: &PairList<'_>) -> Result<(), AllocErr
 
 #[cycle(print)]
 #[tactic(auto, using(crate::proofs::lemmas::tree::Views::view_pairs_is, cbor_edn_model::proofs::lemmas::text::Texts::text_entries, cbor_edn_model::proofs::lemmas::text::Texts::text_last, std::proofs::Common::append_assoc))]
-fn print_pairs(out: &mut String, pairs: &Pairs<'_>) -> Result<(), AllocError>
-    ensures { OnOk result (string_bytes out.new ≡ string_bytes out.old ++ text (view_pairs texts pairs.now)) }
+fn print_pairs(out: &mut TextBuffer, pairs: &Pairs<'_>) -> Result<(), AllocError>
+    ensures { OnOk result (buffer_bytes out.new ≡ buffer_bytes out.old ++ text (view_pairs texts pairs.now)) }
 {
     print_pair_row(out, &pairs.row)?;
     print_pair(out, &pairs.last)?;
@@ -279,8 +295,8 @@ fn print_pairs(out: &mut String, pairs: &Pairs<'_>) -> Result<(), AllocError>
 }
 
 #[cycle(print)]
-fn print_pair_row(out: &mut String, row: &[(Kp<'_>, Msc<'_>)]) -> Result<(), AllocError>
-    ensures { OnOk result (string_bytes out.new ≡ string_bytes out.old ++ pair_row_text texts row.now) }
+fn print_pair_row(out: &mut TextBuffer, row: &[(Kp<'_>, Msc<'_>)]) -> Result<(), AllocError>
+    ensures { OnOk result (buffer_bytes out.new ≡ buffer_bytes out.old ++ pair_row_text texts row.now) }
 {
     for (pair, separator) in row {
         print_pair(out, pair)?;
@@ -291,8 +307,8 @@ fn print_pair_row(out: &mut String, row: &[(Kp<'_>, Msc<'_>)]) -> Result<(), All
 
 #[cycle(print)]
 #[tactic(auto, using(cbor_edn_model::proofs::lemmas::text::Texts::text_pair, std::proofs::Common::append_assoc))]
-fn print_pair(out: &mut String, pair: &Kp<'_>) -> Result<(), AllocError>
-    ensures { OnOk result (string_bytes out.new ≡ string_bytes out.old ++ text (view_pair texts pair.now)) }
+fn print_pair(out: &mut TextBuffer, pair: &Kp<'_>) -> Result<(), AllocError>
+    ensures { OnOk result (buffer_bytes out.new ≡ buffer_bytes out.old ++ text (view_pair texts pair.now)) }
 {
     print_item(out, &pair.key)?;
     out.push_str(pair.before_colon.as_str())?;

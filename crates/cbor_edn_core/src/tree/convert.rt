@@ -52,6 +52,7 @@ impl<'a> Item<'a> {
     }
 
     /// A string of any pieces.
+    #[inline(always)]
     pub(crate) fn string(alloc: Global, string: CborString<'a>) -> Result<Item<'a>, AllocError>
         ensures view { IfOk result (λ t. item_tree t ≡ StringTree (view_string texts string.entry)) }
         ensures borrowed { BorrowsString string.entry → IfOk result BorrowsItem }
@@ -75,6 +76,7 @@ impl<'a> Item<'a> {
         }
     }
 
+    #[inline(never)]
     #[tactic(auto, using(crate::proofs::lemmas::tree::Views::view_string_is, crate::proofs::lemmas::text::Borrows::borrows_string_made))]
     fn joined(alloc: Global, string: CborString<'a>) -> Result<Item<'a>, AllocError>
         ensures view { IfOk result (λ t. item_tree t ≡ StringTree (view_string texts string.entry)) }

@@ -8,7 +8,7 @@ ghost use Rattle.cbor_edn_model.specs.tree.Trees.{Tree, OneItem};
 ghost use Rattle.cbor_edn_model.specs.visit.Visits.{Chain};
 ghost use Rattle.cbor_edn_model.specs.internal.Reaching.{Reaches};
 ghost use Rattle.cbor_edn_core.specs.visit.Callbacks.{answer_of};
-ghost use Rattle.cbor_edn_core.specs.visit.Sought.{IsTagCall, IsLiteralCall, MayVisitTags, MayVisitLiterals, sought_answer};
+ghost use Rattle.cbor_edn_core.specs.visit.Sought.{IsTagCall, IsLiteralCall, IsItemCall, MayVisitTags, MayVisitLiterals, MayVisitItems, sought_answer};
 ghost use Rattle.cbor_edn_core.specs.tree.View.{item_tree, view_item};
 
 use super::depth::item_depth;
@@ -69,6 +69,9 @@ pub(super) struct Tags;
 /// The visit of strings that are one literal with a prefix.
 pub(super) struct Literals;
 
+/// The same visit, whose calls get the item alone.
+pub(super) struct ApplicationItems;
+
 /// How the items of a tree over any leaves are seen.
 trait LeafView<O: Drop, M: Drop, C: Drop, E: Drop, N: Drop, L: Drop, D: Drop> {
     ghost leaves: { Ghosts O M C E N L D };
@@ -122,6 +125,25 @@ fn call_literal<
     ensures called { IsLiteralCall (view_item W.leaves) F.FnMut f.old (record { arguments = prefix_and_text (string_bytes prefix) (string_bytes text); before = view_item W.leaves item.old; answer = sought_answer result; after = view_item W.leaves item.new }) f.new }
 {
     f(prefix, text, item)
+}
+
+/// The call at a literal that is not told its prefix and its text.
+fn call_item<
+    O: Drop,
+    M: Drop,
+    C: Drop,
+    E: Drop,
+    N: Drop,
+    L: Drop,
+    D: Drop,
+    W: LeafView<O, M, C, E, N, L, D>,
+    F: FnMut(&mut ItemOf<O, M, C, E, N, L, D>) -> Result<(), CallbackError>,
+>(item: &mut ItemOf<O, M, C, E, N, L, D>, f: &mut F) -> Result<(), CallbackError>
+    requires callable { MayVisitItems (view_item W.leaves) F.FnMut f.old }
+    requires is_literal { (a : CallArguments) × IsApplication (view_item W.leaves item.old) a }
+    ensures called { (a : CallArguments) → IsApplication (view_item W.leaves item.old) a → IsItemCall (view_item W.leaves) F.FnMut f.old (record { arguments = a; before = view_item W.leaves item.old; answer = sought_answer result; after = view_item W.leaves item.new }) f.new }
+{
+    f(item)
 }
 
 /// The answer as one at an element, which may have a comment.
@@ -244,6 +266,60 @@ fn reach_application<
     }
 }
 
+/// The call at a literal with the item alone, with its comment. What has no prefix, as most items, is passed over at once.
+#[inline]
+fn reach_item<'a, X: TakesComment, F: FnMut(&mut Item<'a>) -> Result<(), CallbackError>>(
+    item: &mut Item<'a>,
+    space: &mut X,
+    alloc: Global,
+    f: &mut F,
+) -> Result<bool, AllocError>
+    requires callable { MayVisitItems item_tree F.FnMut f.old }
+    ensures callable_after { MayVisitItems item_tree F.FnMut f.new }
+    ensures reached { (cs : List SoughtCall) × Chain (IsItemCall item_tree F.FnMut) f.old cs f.new × Reaches IsApplication (item_tree item.old) (X.bytes space.old) cs (item_tree item.new) (X.bytes space.new) result }
+{
+    if !may_have_prefix(item) {
+        return Ok(true);
+    }
+    reach_application_item(item, space, alloc, f)
+}
+
+#[inline(never)]
+fn reach_application_item<
+    'a,
+    X: TakesComment,
+    F: FnMut(&mut Item<'a>) -> Result<(), CallbackError>,
+>(item: &mut Item<'a>, space: &mut X, alloc: Global, f: &mut F) -> Result<bool, AllocError>
+    requires callable { MayVisitItems item_tree F.FnMut f.old }
+    ensures callable_after { MayVisitItems item_tree F.FnMut f.new }
+    ensures reached { (cs : List SoughtCall) × Chain (IsItemCall item_tree F.FnMut) f.old cs f.new × Reaches IsApplication (item_tree item.old) (X.bytes space.old) cs (item_tree item.new) (X.bytes space.new) result }
+{
+    let Some(_) = item.application_prefix() else {
+        return Ok(true);
+    };
+    let before = item_depth(item);
+    if before == usize::MAX {
+        return Err(AllocError);
+    }
+    let answer = call_item::<
+        S<'a>,
+        Ms<'a>,
+        Msc<'a>,
+        Soc<'a>,
+        Number<'a>,
+        Literal<'a>,
+        Dots<'a>,
+        Texts,
+        F,
+    >(item, f);
+    put_answer(element_answer(answer), space, alloc)?;
+    if item_depth(item) <= before {
+        Ok(true)
+    } else {
+        Ok(false)
+    }
+}
+
 impl<'a, F: FnMut(u64, &mut Item<'a>) -> Result<(), CallbackError>> Seek<
     F,
     S<'a>,
@@ -333,5 +409,51 @@ impl<'a, F: FnMut(String, String, &mut Item<'a>) -> Result<(), CallbackError>> S
         f: &mut F,
     ) -> Result<bool, AllocError> {
         reach_literal(item, end, alloc, f)
+    }
+}
+
+impl<'a, F: FnMut(&mut Item<'a>) -> Result<(), CallbackError>> Seek<
+    F,
+    S<'a>,
+    Ms<'a>,
+    Msc<'a>,
+    Soc<'a>,
+    Number<'a>,
+    Literal<'a>,
+    Dots<'a>,
+> for ApplicationItems {
+    ghost leaves = { texts };
+
+    ghost sought = { IsApplication };
+
+    ghost calls = { IsItemCall item_tree F.FnMut };
+
+    ghost ready = { MayVisitItems item_tree F.FnMut };
+
+    fn reach_spaced(
+        item: &mut Item<'a>,
+        space: &mut S<'a>,
+        alloc: Global,
+        f: &mut F,
+    ) -> Result<bool, AllocError> {
+        reach_item(item, space, alloc, f)
+    }
+
+    fn reach_separated(
+        item: &mut Item<'a>,
+        separator: &mut Msc<'a>,
+        alloc: Global,
+        f: &mut F,
+    ) -> Result<bool, AllocError> {
+        reach_item(item, separator, alloc, f)
+    }
+
+    fn reach_last(
+        item: &mut Item<'a>,
+        end: &mut Soc<'a>,
+        alloc: Global,
+        f: &mut F,
+    ) -> Result<bool, AllocError> {
+        reach_item(item, end, alloc, f)
     }
 }

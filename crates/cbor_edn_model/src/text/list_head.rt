@@ -1,6 +1,6 @@
 //! What stands in front of the entries of a list: an indicator and the space behind it, if they are there.
 ghost use Rattle.std.specs.Prelude.{◌≡◌, ◌++◌, IfOk, IsOk, OnOk};
-ghost use Rattle.std.specs.String.{string_bytes};
+ghost use Rattle.cbor_edn_parts.specs.Buffer.{buffer_bytes};
 ghost use Rattle.cbor_edn_parts.specs.LayoutColumns.{least};
 ghost use Rattle.cbor_edn_model.specs.layout.Layout.{laid_list_head};
 ghost use Rattle.cbor_edn_model.specs.tree.TreeLeaves.{texts};
@@ -10,6 +10,7 @@ ghost use Rattle.cbor_edn_model.specs.tree.Trees.{list_head_text, head_indicator
 ghost use Rattle.cbor_edn_model.specs.internal.Same.{same_head};
 ghost use Rattle.cbor_edn_model.specs.internal.Regular.{spaced_list_head};
 
+use cbor_edn_parts::buffer::TextBuffer;
 use cbor_edn_parts::indicator::Indicator;
 use cbor_edn_parts::layout::{Layout, Slot, lay_mandatory, print_mandatory};
 use cbor_edn_parts::space::Ms;
@@ -44,10 +45,10 @@ pub fn have_same_head(a: &Option<(Indicator, Ms<'_>)>, b: &Option<(Indicator, Ms
 /// Writes the indicator of a list and the space behind it at the end of a text: what stands behind the bracket of `[_0 1]`. Fails where
 /// memory runs out.
 pub fn print_list_head(
-    out: &mut String,
+    out: &mut TextBuffer,
     head: &Option<(Indicator, Ms<'_>)>,
 ) -> Result<(), AllocError>
-    ensures { OnOk result (string_bytes out.new ≡ string_bytes out.old ++ list_head_text (view_list_head texts head.now)) }
+    ensures { OnOk result (buffer_bytes out.new ≡ buffer_bytes out.old ++ list_head_text (view_list_head texts head.now)) }
 {
     match head {
         None => Ok(()),
@@ -86,11 +87,11 @@ pub fn lay_head<'a>(
 
 /// Writes the indicator of a list and the space behind it as it is laid out at the end of a text. Fails where memory runs out.
 pub fn print_laid_head(
-    out: &mut String,
+    out: &mut TextBuffer,
     head: &Option<(Indicator, Ms<'_>)>,
     layout: Layout,
 ) -> Result<(), AllocError>
-    ensures { OnOk result (string_bytes out.new ≡ string_bytes out.old ++ list_head_text (laid_list_head layout (view_list_head texts head.now))) }
+    ensures { OnOk result (buffer_bytes out.new ≡ buffer_bytes out.old ++ list_head_text (laid_list_head layout (view_list_head texts head.now))) }
 {
     match head {
         None => Ok(()),

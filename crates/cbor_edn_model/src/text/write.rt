@@ -1,16 +1,17 @@
 //! Indicators and labels as texts.
 ghost use Rattle.std.specs.Prelude.{◌≡◌, ◌++◌, OnOk};
-ghost use Rattle.std.specs.String.{string_bytes};
+ghost use Rattle.cbor_edn_parts.specs.Buffer.{buffer_bytes};
 ghost use Rattle.cbor_edn_parts.specs.Indicator.{indicator_text};
 ghost use Rattle.cbor_edn_model.specs.tree.Trees.{label_text};
 
 use crate::text::label::LabelKind;
+use cbor_edn_parts::buffer::TextBuffer;
 use cbor_edn_parts::indicator::Indicator;
 use std::alloc::AllocError;
 
 /// Writes an encoding indicator with its underscore at the end of a text, if there is one. Fails where memory runs out.
-pub fn print_indicator(out: &mut String, indicator: Option<Indicator>) -> Result<(), AllocError>
-    ensures { OnOk result (string_bytes out.new ≡ string_bytes out.old ++ indicator_text indicator) }
+pub fn print_indicator(out: &mut TextBuffer, indicator: Option<Indicator>) -> Result<(), AllocError>
+    ensures { OnOk result (buffer_bytes out.new ≡ buffer_bytes out.old ++ indicator_text indicator) }
 {
     match indicator {
         None => Ok(()),
@@ -19,12 +20,12 @@ pub fn print_indicator(out: &mut String, indicator: Option<Indicator>) -> Result
 }
 
 /// Writes a label at the end of a text: `1_0` or `simple`. Fails where memory runs out, and a part of it may stand then.
-pub fn print_label(out: &mut String, label: LabelKind) -> Result<(), AllocError>
-    ensures { OnOk result (string_bytes out.new ≡ string_bytes out.old ++ label_text label) }
+pub fn print_label(out: &mut TextBuffer, label: LabelKind) -> Result<(), AllocError>
+    ensures { OnOk result (buffer_bytes out.new ≡ buffer_bytes out.old ++ label_text label) }
 {
     match label {
         LabelKind::Tag(indicator, number) => {
-            write!(out, "{number}")?;
+            out.push_str(itoa::Buffer::new().format(number))?;
             print_indicator(out, indicator)
         }
         LabelKind::Simple => out.push_str("simple"),

@@ -7,6 +7,7 @@ pub mod ContentTexts
 pub mod LiteralRuns
 pub mod LiteralSteps
 pub mod LiteralTexts
+pub mod PlainTexts
 pub mod OptionTests
 pub mod ByteLoops
 pub mod Applications

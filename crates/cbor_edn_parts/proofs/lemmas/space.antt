@@ -1,7 +1,8 @@
 -- Spaces, separators and comments.
-pub mod SeparatorTokens
-pub mod SpaceTexts
+pub mod Blanks
+pub mod CommentScans
 pub mod CommentTexts
 pub mod NoteSpaces
 pub mod NoteTexts
-pub mod CommentScans
+pub mod SeparatorTokens
+pub mod SpaceTexts

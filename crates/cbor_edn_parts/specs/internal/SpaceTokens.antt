@@ -4,8 +4,6 @@ use Rattle.cbor_edn_parts.specs.Bytes.{Kind, kind, Blank, Tab, Lf, Control, Slas
 use Rattle.cbor_edn_parts.specs.internal.Lex.{Automaton, is_token}
 use Rattle.cbor_edn_parts.specs.declared.space.SpaceState.{SpaceState}
 use Rattle.cbor_edn_parts.specs.declared.space.SpaceState.TheVariants.{Between, InSlashes, InHash}
-use Rattle.cbor_edn_parts.specs.declared.space.SeparatorState.{SeparatorState}
-use Rattle.cbor_edn_parts.specs.declared.space.SeparatorState.TheVariants.{Before, After}
 
 abbrev pub space_step : Kind → SpaceState → Option SpaceState
 space_step Blank m = Some m
@@ -28,6 +26,11 @@ space_final _ = false
 -- S
 abbrev pub space : Automaton SpaceState
 space = record { step = λ c. space_step (kind c); final = space_final; start = Between }
+
+-- where a separator stands: in front of its comma, or behind it
+pub data SeparatorState : Type 0 where
+  Before : SpaceState → SeparatorState
+  After : SpaceState → SeparatorState
 
 abbrev pub before : Option SpaceState → Option SeparatorState
 before None = None

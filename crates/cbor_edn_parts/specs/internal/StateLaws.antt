@@ -7,7 +7,7 @@ use mathlib.Core.Logic.{⊎_elim}
 use Rattle.cbor_edn_parts.specs.Bytes.{Kind, Other, IsLong, kind}
 use Rattle.cbor_edn_parts.specs.internal.Lex.{Automaton}
 use Rattle.cbor_edn_parts.specs.internal.SpaceTokens as spaces
-use Rattle.cbor_edn_parts.specs.internal.SpaceTokens.{space_step, space_final, separator_step, separator_final}
+use Rattle.cbor_edn_parts.specs.internal.SpaceTokens.{space_step, space_final}
 use Rattle.cbor_edn_parts.specs.internal.NumberTokens as numbers
 use Rattle.cbor_edn_parts.specs.internal.NumberTokens.{number_step, number_final}
 use Rattle.cbor_edn_parts.specs.internal.LiteralTokens as literals
@@ -15,8 +15,6 @@ use Rattle.cbor_edn_parts.specs.internal.LiteralTokens.{with_digit, unit_digit, 
 use Rattle.cbor_edn_parts.specs.declared.space.SpaceState.{SpaceState}
 use Rattle.cbor_edn_parts.specs.declared.space.SpaceState.TheVariants as within
 use Rattle.cbor_edn_parts.specs.declared.space.SpaceState.TheVariants.{InSlashes, InHash}
-use Rattle.cbor_edn_parts.specs.declared.space.SeparatorState.{SeparatorState}
-use Rattle.cbor_edn_parts.specs.declared.space.SeparatorState.TheVariants.{Before, After}
 use Rattle.cbor_edn_parts.specs.declared.number.NumberState.{NumberState}
 use Rattle.cbor_edn_parts.specs.declared.string.Quote.{Quote}
 use Rattle.cbor_edn_parts.specs.declared.string.Quote.TheVariants.{Single, Double}
@@ -76,31 +74,6 @@ space_stays = stays_by spaces.space (space_step Other) space_long space_loops
 
 pub space_inside : (c : ℕ) → IsLong c → (m : SpaceState) → space_final m ≡ true → spaces.space.step c m ≡ None
 space_inside = inside_by spaces.space (space_step Other) space_long space_ends
-
-separator_long : (c : ℕ) → IsLong c → (m : SeparatorState) → spaces.separator.step c m ≡ separator_step Other m
-separator_long c long m = ap (λ k. separator_step k m) (kind_long c long)
-
-separator_loops : (m : SeparatorState) → Loops (separator_step Other) (separator_step Other m)
-separator_loops (Before within.Between) = tt
-separator_loops (Before InSlashes) = refl
-separator_loops (Before InHash) = refl
-separator_loops (After within.Between) = tt
-separator_loops (After InSlashes) = refl
-separator_loops (After InHash) = refl
-
-separator_ends : (m : SeparatorState) → separator_final m ≡ true → separator_step Other m ≡ None
-separator_ends (Before within.Between) e = refl
-separator_ends (Before InSlashes) e = absurd (false≢true e)
-separator_ends (Before InHash) e = absurd (false≢true e)
-separator_ends (After within.Between) e = refl
-separator_ends (After InSlashes) e = absurd (false≢true e)
-separator_ends (After InHash) e = absurd (false≢true e)
-
-pub separator_stays : (c d : ℕ) → IsLong c → IsLong d → (m n : SeparatorState) → spaces.separator.step c m ≡ Some n → spaces.separator.step d n ≡ Some n
-separator_stays = stays_by spaces.separator (separator_step Other) separator_long separator_loops
-
-pub separator_inside : (c : ℕ) → IsLong c → (m : SeparatorState) → separator_final m ≡ true → spaces.separator.step c m ≡ None
-separator_inside = inside_by spaces.separator (separator_step Other) separator_long separator_ends
 
 number_long : (c : ℕ) → IsLong c → (m : NumberState) → numbers.number.step c m ≡ None
 number_long c long m = ap (λ k. number_step k m) (kind_long c long)

@@ -14,7 +14,7 @@ pub(super) fn comments(text: &str) -> &str
 }
 
 /// The comments in front of the comma of a text, and those behind it. Most texts are a comma with one blank behind it or none.
-#[inline]
+#[inline(always)]
 pub(super) fn comments_round_comma(text: &str) -> (&str, &str)
     ensures before { result.0.now ≡ comments_before text.now }
     ensures after { result.1.now ≡ comments_after text.now }

@@ -1,18 +1,20 @@
 //! Space texts at a place of a text.
-ghost use Rattle.std.specs.Prelude.{IfOk, drop};
+ghost use Rattle.std.specs.Prelude.{◌≡◌, ◌+◌, ◌<◌, ◌≤◌, IfOk, IfSome, drop, false};
 ghost use Rattle.std.specs.Str.{IsCharBoundary};
 ghost use Rattle.cbor_edn_parts.specs.internal.Lex.{token};
 ghost use Rattle.cbor_edn_parts.specs.Leaves.{s_bytes, soc_bytes, BorrowsS, BorrowsSoc};
 ghost use Rattle.cbor_edn_parts.specs.internal.Ends.{IsEnd, reached};
-ghost use Rattle.cbor_edn_parts.specs.internal.Scans.{Scans, ScanLands, Costs};
+ghost use Rattle.cbor_edn_parts.specs.internal.Blanks.{is_blank_at, begins_comment_at};
+ghost use Rattle.cbor_edn_parts.specs.internal.Scans.{IsRead, Comes, Ends, Scans, ScanLands, Costs};
 ghost use Rattle.cbor_edn_parts.specs.internal.SpaceTokens as tokens;
 ghost use Rattle.cbor_edn_parts.specs.internal.Text.{text_bytes};
 
-use super::{S, SeparatorState, Soc, SpaceState};
+use super::{S, Soc, SpaceState};
+use crate::bytes::Kind;
 use crate::error::Refusal;
 use crate::leaf_text::LeafText;
 use crate::looks::Looks;
-use crate::scan::scan;
+use crate::scan::token_end;
 use crate::text::Text;
 
 /// The optional space at a place, and the place behind it.
@@ -23,31 +25,82 @@ pub fn space<'a>(text: &Text<'a>, from: usize, looks: &mut Looks) -> Result<(S<'
     ensures place { ScanLands (text_bytes text.now) from result }
     ensures cost { Costs 1 1 1 (text_bytes text.now) from looks.old.count looks.new.count result }
 {
-    let (text, to) = scan(SpaceState::Between, text, from, looks)?;
-    let text = LeafText::Borrowed(text);
+    let (_, to) = space_end(text, from, looks)?;
+    let text = LeafText::Borrowed(text.slice(from, to));
     Ok((S { text }, to))
 }
 
-/// The space with at most one comma at a place, and the place behind it.
-pub fn separator<'a>(
-    text: &Text<'a>,
+/// The byte behind the optional space at a place, and the place of that byte. Most space has no comment.
+#[inline(always)]
+fn space_end(
+    text: &Text<'_>,
     from: usize,
     looks: &mut Looks,
-) -> Result<(Soc<'a>, usize), Refusal>
+) -> Result<(Option<u8>, usize), Refusal>
     requires { IsCharBoundary (text_bytes text.now) from }
-    ensures value { Scans soc_bytes (text_bytes text.now) result (token tokens.separator (drop from (text_bytes text.now))) }
-    ensures borrowed { IfOk result (λ p. BorrowsSoc p.0) }
+    ensures value { Ends (text_bytes text.now) from result (token tokens.space (drop from (text_bytes text.now))) }
     ensures place { ScanLands (text_bytes text.now) from result }
     ensures cost { Costs 1 1 1 (text_bytes text.now) from looks.old.count looks.new.count result }
+    ensures behind { IfOk result (λ p. looks.old.count + p.1 + 1 ≤ looks.new.count + from) }
 {
-    let (text, to) = scan(
-        SeparatorState::Before(SpaceState::Between),
-        text,
-        from,
-        looks,
-    )?;
-    let text = LeafText::Borrowed(text);
-    Ok((Soc { text }, to))
+    let (next, at) = blanks(text, from, looks);
+    if begins_comment(next) {
+        return comments_end(text, at, next, looks);
+    }
+    Ok((next, at))
+}
+
+/// The same from a place whose byte is read.
+#[inline(never)]
+fn comments_end(
+    text: &Text<'_>,
+    from: usize,
+    first: Option<u8>,
+    looks: &mut Looks,
+) -> Result<(Option<u8>, usize), Refusal>
+    requires { IsRead (text_bytes text.now) from first }
+    ensures value { Ends (text_bytes text.now) from result (token tokens.space (drop from (text_bytes text.now))) }
+    ensures place { ScanLands (text_bytes text.now) from result }
+    ensures cost { Costs 1 0 0 (text_bytes text.now) from looks.old.count looks.new.count result }
+{
+    token_end(SpaceState::Between, text, from, first, looks)
+}
+
+/// The first byte at a place that is no blank, and its place.
+#[inline(always)]
+fn blanks(text: &Text<'_>, from: usize, looks: &mut Looks) -> (Option<u8>, usize)
+    requires { IsCharBoundary (text_bytes text.now) from }
+    ensures comes { Comes tokens.space (text_bytes text.now) SpaceState.Between from SpaceState.Between result.1 }
+    ensures read { IsRead (text_bytes text.now) result.1 result.0 }
+    ensures other { is_blank_at result.0 ≡ false }
+    ensures cost { looks.new.count + from ≡ looks.old.count + result.1 + 1 }
+{
+    let mut at = from;
+    let mut next = text.byte(at, looks);
+    'blanks: while is_blank(next) {
+        at += 1;
+        next = text.byte(at, looks);
+    }
+    (next, at)
+}
+
+fn is_blank(byte: Option<u8>) -> bool
+    ensures blank { result ≡ is_blank_at byte }
+    ensures byte { IfSome byte (λ c. c < 256) }
+{
+    match byte {
+        Some(byte) => matches!(Kind::of(byte), Kind::Blank | Kind::Tab | Kind::Lf),
+        None => false,
+    }
+}
+
+fn begins_comment(byte: Option<u8>) -> bool
+    ensures { result ≡ begins_comment_at byte }
+{
+    match byte {
+        Some(byte) => matches!(Kind::of(byte), Kind::Slash | Kind::Hash),
+        None => false,
+    }
 }
 
 /// Where an item ends, and where the space behind it does, if that is read.
@@ -59,7 +112,27 @@ pub struct ItemEnd {
     pub space: Option<usize>,
 }
 
-/// The optional space behind an item, and the place behind it. Space that is read is not read again.
+/// The byte behind the optional space that follows an item, and the place of that byte. Space that is read is not read again.
+#[inline(always)]
+fn end_of_space(
+    text: &Text<'_>,
+    end: ItemEnd,
+    looks: &mut Looks,
+) -> Result<(Option<u8>, usize), Refusal>
+    requires { IsEnd (text_bytes text.now) end }
+    ensures value { Ends (text_bytes text.now) end.at result (token tokens.space (drop end.at (text_bytes text.now))) }
+    ensures order { IfOk result (λ p. end.at ≤ p.1) }
+    ensures place { ScanLands (text_bytes text.now) (reached end) result }
+    ensures cost { Costs 1 1 1 (text_bytes text.now) (reached end) looks.old.count looks.new.count result }
+    ensures behind { IfOk result (λ p. looks.old.count + p.1 + 1 ≤ looks.new.count + reached end) }
+{
+    match end.space {
+        None => space_end(text, end.at, looks),
+        Some(at) => Ok((text.byte(at, looks), at)),
+    }
+}
+
+/// The optional space behind an item, and the place behind it.
 pub fn space_behind<'a>(
     text: &Text<'a>,
     end: ItemEnd,
@@ -71,16 +144,12 @@ pub fn space_behind<'a>(
     ensures place { ScanLands (text_bytes text.now) (reached end) result }
     ensures cost { Costs 1 1 1 (text_bytes text.now) (reached end) looks.old.count looks.new.count result }
 {
-    match end.space {
-        None => space(text, end.at, looks),
-        Some(to) => {
-            let text = LeafText::Borrowed(text.slice(end.at, to));
-            Ok((S { text }, to))
-        }
-    }
+    let (_, to) = end_of_space(text, end, looks)?;
+    let text = LeafText::Borrowed(text.slice(end.at, to));
+    Ok((S { text }, to))
 }
 
-/// The space with at most one comma behind an item, and the place behind it. Space that is read is not read again.
+/// The space with at most one comma behind an item, and the place behind it.
 pub fn separator_behind<'a>(
     text: &Text<'a>,
     end: ItemEnd,
@@ -92,11 +161,9 @@ pub fn separator_behind<'a>(
     ensures place { ScanLands (text_bytes text.now) (reached end) result }
     ensures cost { Costs 1 2 2 (text_bytes text.now) (reached end) looks.old.count looks.new.count result }
 {
-    let Some(at) = end.space else {
-        return separator(text, end.at, looks);
-    };
-    let to = match text.byte(at, looks) {
-        Some(b',') => space(text, at + 1, looks)?.1,
+    let (next, at) = end_of_space(text, end, looks)?;
+    let to = match next {
+        Some(b',') => space_end(text, at + 1, looks)?.1,
         _ => at,
     };
     let text = LeafText::Borrowed(text.slice(end.at, to));

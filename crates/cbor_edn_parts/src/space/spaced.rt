@@ -1,5 +1,6 @@
 //! Space texts by a column of the table of spaces.
-ghost use Rattle.std.specs.Prelude.{◌≡◌, ◌≤◌, [], ◌∷◌, ◌++◌, IfOk, IsOk, OnOk, string_bytes};
+ghost use Rattle.std.specs.Prelude.{◌≡◌, ◌≤◌, [], ◌∷◌, ◌++◌, IfOk, IsOk, OnOk};
+ghost use Rattle.cbor_edn_parts.specs.Buffer.{buffer_bytes};
 ghost use Rattle.cbor_edn_parts.specs.LeafTexts.{leaf_bytes};
 ghost use Rattle.cbor_edn_parts.specs.internal.CommentReading.{comments_of};
 ghost use Rattle.cbor_edn_parts.specs.Leaves.{s_bytes, ms_bytes, msc_bytes, soc_bytes};
@@ -9,6 +10,7 @@ ghost use Rattle.cbor_edn_parts.specs.internal.Columns.{in_column};
 
 use super::comments::{comments, comments_round_comma};
 use super::{Ms, Msc, S, Soc};
+use crate::buffer::TextBuffer;
 use crate::leaf_text::LeafText;
 use crate::policy::Spacing;
 use std::alloc::{AllocError, Global};
@@ -32,8 +34,12 @@ impl<'a> S<'a> {
     }
 
     /// Appends the text by a column of the table. Fails where memory runs out.
-    pub(crate) fn print_spaced(&self, out: &mut String, spacing: Spacing) -> Result<(), AllocError>
-        ensures { OnOk result (string_bytes out.new ≡ string_bytes out.old ++ table.spaced table.S spacing (s_bytes self.now)) }
+    pub(crate) fn print_spaced(
+        &self,
+        out: &mut TextBuffer,
+        spacing: Spacing,
+    ) -> Result<(), AllocError>
+        ensures { OnOk result (buffer_bytes out.new ≡ buffer_bytes out.old ++ table.spaced table.S spacing (s_bytes self.now)) }
     {
         print_in_column(out, spacing, comments(self.as_str()), "")
     }
@@ -52,8 +58,12 @@ impl<'a> Ms<'a> {
     }
 
     /// Appends the text by a column of the table. Fails where memory runs out.
-    pub(crate) fn print_spaced(&self, out: &mut String, spacing: Spacing) -> Result<(), AllocError>
-        ensures { OnOk result (string_bytes out.new ≡ string_bytes out.old ++ table.spaced table.MS spacing (ms_bytes self.now)) }
+    pub(crate) fn print_spaced(
+        &self,
+        out: &mut TextBuffer,
+        spacing: Spacing,
+    ) -> Result<(), AllocError>
+        ensures { OnOk result (buffer_bytes out.new ≡ buffer_bytes out.old ++ table.spaced table.MS spacing (ms_bytes self.now)) }
     {
         let comments = comments(self.as_str());
         match spacing {
@@ -77,8 +87,12 @@ impl<'a> Msc<'a> {
     }
 
     /// Appends the text by a column of the table. Fails where memory runs out.
-    pub(crate) fn print_spaced(&self, out: &mut String, spacing: Spacing) -> Result<(), AllocError>
-        ensures { OnOk result (string_bytes out.new ≡ string_bytes out.old ++ table.spaced table.MSC spacing (msc_bytes self.now)) }
+    pub(crate) fn print_spaced(
+        &self,
+        out: &mut TextBuffer,
+        spacing: Spacing,
+    ) -> Result<(), AllocError>
+        ensures { OnOk result (buffer_bytes out.new ≡ buffer_bytes out.old ++ table.spaced table.MSC spacing (msc_bytes self.now)) }
     {
         print_with_comma(out, spacing, self.as_str())
     }
@@ -98,8 +112,12 @@ impl<'a> Soc<'a> {
     }
 
     /// Appends the text by a column of the table. Fails where memory runs out.
-    pub(crate) fn print_spaced(&self, out: &mut String, spacing: Spacing) -> Result<(), AllocError>
-        ensures { OnOk result (string_bytes out.new ≡ string_bytes out.old ++ table.spaced table.SOC spacing (soc_bytes self.now)) }
+    pub(crate) fn print_spaced(
+        &self,
+        out: &mut TextBuffer,
+        spacing: Spacing,
+    ) -> Result<(), AllocError>
+        ensures { OnOk result (buffer_bytes out.new ≡ buffer_bytes out.old ++ table.spaced table.SOC spacing (soc_bytes self.now)) }
     {
         let (before, after) = comments_round_comma(self.as_str());
         print_in_column(out, spacing, before, after)
@@ -145,19 +163,19 @@ fn in_column<'a>(
         }
         _ => {}
     }
-    let mut text = String::new(alloc);
-    print_in_column(&mut text, spacing, before, after)?;
-    LeafText::own(alloc, text)
+    let mut out = TextBuffer::new(alloc);
+    print_in_column(&mut out, spacing, before, after)?;
+    LeafText::own(alloc, out.into_string())
 }
 
 /// Appends comments, one behind the other, behind the blanks of a column. Fails where memory runs out.
 fn print_in_column(
-    out: &mut String,
+    out: &mut TextBuffer,
     spacing: Spacing,
     before: &str,
     after: &str,
 ) -> Result<(), AllocError>
-    ensures { OnOk result (string_bytes out.new ≡ string_bytes out.old ++ in_column spacing (before.now ++ after.now)) }
+    ensures { OnOk result (buffer_bytes out.new ≡ buffer_bytes out.old ++ in_column spacing (before.now ++ after.now)) }
 {
     match spacing {
         Spacing::Least => return Ok(()),
@@ -171,8 +189,8 @@ fn print_in_column(
 
 /// Appends comments, of which there mostly are none.
 #[inline(always)]
-fn print_comments(out: &mut String, comments: &str) -> Result<(), AllocError>
-    ensures { OnOk result (string_bytes out.new ≡ string_bytes out.old ++ comments.now) }
+fn print_comments(out: &mut TextBuffer, comments: &str) -> Result<(), AllocError>
+    ensures { OnOk result (buffer_bytes out.new ≡ buffer_bytes out.old ++ comments.now) }
 {
     if comments.is_empty() {
         return Ok(());
@@ -209,15 +227,15 @@ fn with_comma<'a>(alloc: Global, spacing: Spacing, text: &str) -> Result<LeafTex
         }
         _ => {}
     }
-    let mut spaced = String::new(alloc);
-    print_with_comma(&mut spaced, spacing, text)?;
-    LeafText::own(alloc, spaced)
+    let mut out = TextBuffer::new(alloc);
+    print_with_comma(&mut out, spacing, text)?;
+    LeafText::own(alloc, out.into_string())
 }
 
 /// Appends a separator by a column: its comments with a comma between those in front of it and those behind it. Fails where memory
 /// runs out.
-fn print_with_comma(out: &mut String, spacing: Spacing, text: &str) -> Result<(), AllocError>
-    ensures { OnOk result (string_bytes out.new ≡ string_bytes out.old ++ table.spaced table.MSC spacing text.now) }
+fn print_with_comma(out: &mut TextBuffer, spacing: Spacing, text: &str) -> Result<(), AllocError>
+    ensures { OnOk result (buffer_bytes out.new ≡ buffer_bytes out.old ++ table.spaced table.MSC spacing text.now) }
 {
     let (ahead, behind) = comments_round_comma(text);
     match spacing {
@@ -251,34 +269,34 @@ fn short_line(indent: usize) -> &'static str
 }
 
 /// Appends a comma, a line feed and so many spaces.
-fn print_comma_line(text: &mut String, indent: usize) -> Result<(), AllocError>
-    ensures { OnOk result (string_bytes text.new ≡ string_bytes text.old ++ 44 ∷ line indent) }
+fn print_comma_line(out: &mut TextBuffer, indent: usize) -> Result<(), AllocError>
+    ensures { OnOk result (buffer_bytes out.new ≡ buffer_bytes out.old ++ 44 ∷ line indent) }
 {
     if indent <= SHORT {
-        return text.push_str(comma_line(indent));
+        return out.push_str(comma_line(indent));
     }
-    text.push(',')?;
-    print_line(text, indent)
+    out.push_str(",")?;
+    print_line(out, indent)
 }
 
 /// Appends a line feed and so many spaces.
-fn print_line(text: &mut String, indent: usize) -> Result<(), AllocError>
-    ensures { OnOk result (string_bytes text.new ≡ string_bytes text.old ++ line indent) }
+fn print_line(out: &mut TextBuffer, indent: usize) -> Result<(), AllocError>
+    ensures { OnOk result (buffer_bytes out.new ≡ buffer_bytes out.old ++ line indent) }
 {
     if indent <= SHORT {
-        return text.push_str(short_line(indent));
+        return out.push_str(short_line(indent));
     }
-    print_long_line(text, indent)
+    print_long_line(out, indent)
 }
 
 /// Appends a line feed and so many spaces. Where there is no memory for these it fails before it writes them.
-fn print_long_line(text: &mut String, indent: usize) -> Result<(), AllocError>
-    ensures { OnOk result (string_bytes text.new ≡ string_bytes text.old ++ line indent) }
+fn print_long_line(out: &mut TextBuffer, indent: usize) -> Result<(), AllocError>
+    ensures { OnOk result (buffer_bytes out.new ≡ buffer_bytes out.old ++ line indent) }
 {
-    text.push('\n')?;
-    text.reserve(indent)?;
+    out.push_str("\n")?;
+    out.reserve(indent)?;
     'spaces: for _ in 0..indent {
-        text.push(' ')?;
+        out.push_str(" ")?;
     }
     Ok(())
 }

@@ -1,11 +1,10 @@
-use Rattle.std.specs.String.{string_bytes}
 use Rattle.cbor_edn_core.specs.tree.View.{sequence_tree}
 use Rattle.cbor_edn.proofs.Loading.{of_boxed, decoded_as, printed_as}
 use Rattle.cbor_edn.proofs.engine.diagnosed.Goals as goal
 
 pub returns-clause-ok : goal.returns-clause-ok
 returns-clause-ok c =
-    let shown = printed_as c.args.options.now (string_bytes c.in_ok-printed.field-0) _ c.in_ok-sequence.sequence.value c.deref_mut.ensures.value c.in_ok-printed.ensures in
+    let shown = printed_as c.args.options.now c.in_ok-printed.field-0.items _ c.in_ok-sequence.sequence.value c.deref_mut.ensures.value c.in_ok-printed.ensures in
     let read = decoded_as c.args.options.now.limit c.args.bytes.now c.in_ok-sequence.sequence.value
     (of_boxed _ _ _ c.in_ok-sequence.ensures.ok c.from_cbor_within.ensures.accepted) in
     (sequence_tree c.in_ok-sequence.sequence.value, shown.0, read, shown.1, shown.2)

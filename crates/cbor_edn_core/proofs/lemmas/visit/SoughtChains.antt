@@ -7,7 +7,7 @@ use Rattle.cbor_edn_model.specs.visit.Seeking.{SoughtCall}
 use Rattle.cbor_edn_model.specs.tree.Trees.{Tree, OneItem}
 use Rattle.cbor_edn_model.specs.visit.Visits.{Chain}
 use Rattle.cbor_edn_model.proofs.lemmas.visit.VisitedRows.{Chain-append}
-use Rattle.cbor_edn_core.specs.visit.Sought.{TagCallback, LiteralCallback, IsTagCall, IsLiteralCall, MayVisitTags, MayVisitLiterals}
+use Rattle.cbor_edn_core.specs.visit.Sought.{TagCallback, LiteralCallback, ItemCallback, IsTagCall, IsLiteralCall, IsItemCall, MayVisitTags, MayVisitLiterals, MayVisitItems}
 
 -- what may be called may be called behind any calls
 module _ {T F : Type 0} (look : T → Tree OneItem) where
@@ -16,6 +16,9 @@ module _ {T F : Type 0} (look : T → Tree OneItem) where
 
   pub literals_after : (callback : LiteralCallback T F) {f g : F} {cs : List SoughtCall} → MayVisitLiterals look callback f → Chain (IsLiteralCall look callback) f cs g → MayVisitLiterals look callback g
   literals_after callback m k = record { at = λ ds h j p s x i. m.at (_ ++ ds) h (Chain-append k j) p s x i }
+
+  pub items_after : (callback : ItemCallback T F) {f g : F} {cs : List SoughtCall} → MayVisitItems look callback f → Chain (IsItemCall look callback) f cs g → MayVisitItems look callback g
+  items_after callback m k = record { at = λ ds h j a x i. m.at (_ ++ ds) h (Chain-append k j) a x i }
 
 some_none : {A : Type 0} {x : A} {o : Option A} → o ≡ Some x → o ≡ None → ⊥
 some_none h k = cc

@@ -165,6 +165,7 @@ fn string<'a>(
 
 /// A piece of a string.
 #[cycle(item)]
+#[inline(always)]
 fn piece<'a>(
     alloc: Global,
     text: &Text<'a>,
@@ -192,6 +193,7 @@ fn piece<'a>(
 
 /// A sequence between `<<` and `>>`, and its indicator.
 #[cycle(item)]
+#[inline(never)]
 fn embedded_piece<'a>(
     alloc: Global,
     text: &Text<'a>,

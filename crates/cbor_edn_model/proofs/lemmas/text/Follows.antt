@@ -14,8 +14,8 @@ use Rattle.cbor_edn_parts.specs.internal.NumberTokens.{number, number_step}
 use Rattle.cbor_edn_parts.proofs.lemmas.number.NumberEnds.{number_stop}
 use Rattle.cbor_edn_parts.specs.declared.space.SpaceState.{SpaceState}
 use Rattle.cbor_edn_parts.specs.declared.space.SpaceState.TheVariants.{Between}
-use Rattle.cbor_edn_parts.specs.declared.space.SeparatorState.{SeparatorState}
-use Rattle.cbor_edn_parts.specs.declared.space.SeparatorState.TheVariants.{Before, After}
+use Rattle.cbor_edn_parts.specs.internal.SpaceTokens.{SeparatorState}
+use Rattle.cbor_edn_parts.specs.internal.SpaceTokens.{Before, After}
 use Rattle.cbor_edn_parts.specs.declared.number.NumberState.{NumberState}
 use Rattle.cbor_edn_parts.specs.declared.number.NumberState.TheVariants.{Start}
 use Rattle.cbor_edn_parts.specs.internal.LiteralTokens.{literal, dots, literal_step, literal_final}

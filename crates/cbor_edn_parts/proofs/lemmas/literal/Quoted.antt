@@ -86,7 +86,7 @@ module _ (q : Quote) (m : QuotedState) (total xs rest : List ℕ) (so_far : tota
     quoted_none e s = sym (on ∙ ap (λ ys. xs ++ ys) (decoded_none q m c t e s) ∙ append-nil xs)
 
 -- A plain byte between two parts is no quote that ends the text, and stands for itself.
-plain_step : (q : Quote) (c : ℕ) → is_plain q c ≡ true → (ends q c Between ≡ false) × (quoted_step (quote_byte q) c Between ≡ Some (Between, c ∷ []))
+pub plain_step : (q : Quote) (c : ℕ) → is_plain q c ≡ true → (ends q c Between ≡ false) × (quoted_step (quote_byte q) c Between ≡ Some (Between, c ∷ []))
 plain_step q c e =
     let high = and_parts (nat_le 32 c) _ e in
     let byte = and_parts (nat_lt c 256) _ high.1 in

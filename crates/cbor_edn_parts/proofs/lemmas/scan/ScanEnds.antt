@@ -4,7 +4,7 @@ use Rattle.std.specs.Prelude.{slice_range}
 use Rattle.std.proofs.lemmas.List.{drop-drop}
 use Rattle.cbor_edn_parts.specs.declared.error.Refusal.{Refusal}
 use Rattle.cbor_edn_parts.specs.internal.Lex.{Automaton, front, munch}
-use Rattle.cbor_edn_parts.specs.internal.Scans.{IsRead, Comes, ScanLands, Costs}
+use Rattle.cbor_edn_parts.specs.internal.Scans.{IsRead, Comes, Ends, ScanLands, Costs}
 use Rattle.cbor_edn_parts.proofs.lemmas.scan.ScanLoops.{Stands, begun, going}
 
 -- A scan stands where it begins.
@@ -56,6 +56,11 @@ comes_some T text m n from at to comes order some =
 pub comes_none : {State : Type 0} (T : Automaton State) (text : List ℕ) (m n : State) (from at : ℕ) → Comes T text m from n at → munch T n (drop at text) ≡ None → munch T m (drop from text) ≡ None
 unfolding front
 comes_none T text m n from at comes none = comes.reads ∙ ap (front (slice_range text from at)) none
+
+-- what a scan finds from a place that another one came to
+pub ends_before : {State : Type 0} (T : Automaton State) (text : List ℕ) (m n : State) (from at : ℕ) (r : Result (Option ℕ × ℕ) Refusal) → Comes T text m from n at → ScanLands text at r → Ends text at r (munch T n (drop at text)) → Ends text from r (munch T m (drop from text))
+ends_before T text m n from at (Ok p) comes lands ends = (ends.0, comes_some T text m n from at p.1 comes lands.0 ends.1)
+ends_before T text m n from at (Err e) comes lands ends = (comes_none T text m n from at comes ends.0, ends.1)
 
 pub lands_before : {X : Type 0} (text : List ℕ) (from at : ℕ) (r : Result (X × ℕ) Refusal) → from ≤ at → ScanLands text at r → ScanLands text from r
 lands_before text from at (Ok p) order lands = (omega (arith, order, lands.0), lands.1)

@@ -129,10 +129,10 @@ at_end text at none within =
 
 -- There a character begins, or the text ends.
 pub over_read : {State : Type 0} (T : Automaton State) (start : State) (text : List ℕ) (from old : ℕ) (m : State) (at count : ℕ) (byte : Option ℕ) → Stands T start text from old m at byte count
-    → MatchOption byte ⊤ (λ c. (c < 256) × (T.step c m ≡ None)) → IsRead text at byte
+    → MatchOption byte ⊤ (λ c. (c < 256) × (IsLong c → T.step c m ≡ None)) → IsRead text at byte
 over_read T start text from old m at count None s none = record { place = at_end text at s.here s.within; here = s.here; behind = s.behind }
 over_read T start text from old m at count (Some c) s none = record {
-  place = ascii_or_long c none.0 (before_ascii text at c (drop (at + 1) text) s.here.0 s.here.1) (λ long. s.place c long none.1);
+  place = ascii_or_long c none.0 (before_ascii text at c (drop (at + 1) text) s.here.0 s.here.1) (λ long. s.place c long (none.1 long));
   here = s.here;
   behind = s.behind;
 }

@@ -12,7 +12,7 @@ use Rattle.cbor_edn_parts.specs.internal.SpaceTokens as tokens
 use Rattle.cbor_edn_parts.specs.internal.SpaceTokens.{space_step, separator_step, before, after}
 use Rattle.cbor_edn_parts.specs.declared.space.SpaceState.{SpaceState}
 use Rattle.cbor_edn_parts.specs.declared.space.SpaceState.TheVariants.{Between, InSlashes, InHash}
-use Rattle.cbor_edn_parts.specs.declared.space.SeparatorState.TheVariants.{Before, After}
+use Rattle.cbor_edn_parts.specs.internal.SpaceTokens.{Before, After}
 use Rattle.cbor_edn_parts.proofs.lemmas.bytes.ByteKinds.{kind-comma}
 use Rattle.cbor_edn_parts.proofs.lemmas.scan.ScanLoops.{front, munch_some, munch_none}
 use Rattle.cbor_edn_parts.proofs.lemmas.scan.Tokens.{munch-took}
@@ -151,3 +151,7 @@ separator_read text from at to spaced (comma {c = c} {x = x} {r = r} e is taken 
 pub separator_refused : (text : List ℕ) (from at c : ℕ) (r : List ℕ) → IsSpaced text from (Some at) → drop at text ≡ c ∷ r → c ≡ 44 → token tokens.space r ≡ None → token tokens.separator (drop from text) ≡ None
 unfolding front
 separator_refused text from at c r spaced e is none = by_comma text from at c r None spaced e is none
+
+-- nor where no space is read in front of it
+pub separator_unread : (xs : List ℕ) → token tokens.space xs ≡ None → token tokens.separator xs ≡ None
+separator_unread xs none = separator_token xs ∙ ap with_comma none

@@ -13,8 +13,8 @@ use Rattle.cbor_edn_parts.specs.internal.SpaceTokens as tokens
 use Rattle.cbor_edn_parts.specs.internal.SpaceTokens.{space_step, separator_step, before, after, is_empty, is_s, is_ms, is_soc, is_msc}
 use Rattle.cbor_edn_parts.specs.declared.space.SpaceState.{SpaceState}
 use Rattle.cbor_edn_parts.specs.declared.space.SpaceState.TheVariants.{Between, InSlashes, InHash}
-use Rattle.cbor_edn_parts.specs.declared.space.SeparatorState.{SeparatorState}
-use Rattle.cbor_edn_parts.specs.declared.space.SeparatorState.TheVariants.{Before, After}
+use Rattle.cbor_edn_parts.specs.internal.SpaceTokens.{SeparatorState}
+use Rattle.cbor_edn_parts.specs.internal.SpaceTokens.{Before, After}
 use Rattle.cbor_edn_parts.proofs.lemmas.bytes.ByteKinds.{at_each, kind-comma}
 use Rattle.cbor_edn_parts.proofs.lemmas.scan.Tokens.{token_texts}
 

@@ -48,4 +48,4 @@ pub returns-in_default-step-clause-read : goal.returns-in_default-step-clause-re
 returns-in_default-step-clause-read g c =
     let small : c.in-Some.read < 256 = omega arith in
     let none : g.T.State.automaton.step c.in-Some.read c.bytes.state ≡ None = cc in
-    subst (IsRead (text_bytes c.args.text.now) c.kept.at) c.in-Some.is (over_read g.T.State.automaton _ _ _ _ _ _ _ _ c.kept.invariant.stands (rw c.in-Some.is (small, none)))
+    subst (IsRead (text_bytes c.args.text.now) c.kept.at) c.in-Some.is (over_read g.T.State.automaton _ _ _ _ _ _ _ _ c.kept.invariant.stands (rw c.in-Some.is (small, λ _. none)))

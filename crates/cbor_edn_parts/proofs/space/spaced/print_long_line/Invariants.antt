@@ -1,6 +1,7 @@
-use Rattle.std.proofs.Common.{◌≡◌, ◌++◌, string_bytes}
+use Rattle.std.proofs.Common.{◌≡◌, ◌++◌}
+use Rattle.cbor_edn_parts.specs.Buffer.{buffer_bytes}
 use Rattle.cbor_edn_parts.specs.Spacing.{line}
 use Rattle.cbor_edn_parts.proofs.space.spaced.print_long_line.Given as goal
 
 abbrev pub invariant-spaces : goal.invariant-spaces
-invariant-spaces l = string_bytes l.text ≡ string_bytes l.fn.text ++ line l.counter
+invariant-spaces l = buffer_bytes l.out ≡ buffer_bytes l.fn.out ++ line l.counter

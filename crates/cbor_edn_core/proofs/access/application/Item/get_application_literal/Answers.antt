@@ -1,4 +1,4 @@
-use Rattle.std.proofs.Common.{rules, ◌≡◌, ℕ, List, Bool, true, false, Option, Some, None, Result, Ok, Err, IfOk, IfSome, string_bytes, refl, sym, ap, ◌∙◌}
+use Rattle.std.proofs.Common.{rules, ◌≡◌, ℕ, List, true, Option, Some, None, Result, Ok, Err, IfOk, IfSome, string_bytes, refl, sym, ap, ◌∙◌}
 use Rattle.std.proofs.lemmas.Bool.{false≢true}
 use Rattle.cbor_edn_parts.specs.declared.error.Fault.{Fault}
 use Rattle.cbor_edn_parts.specs.declared.error.Fault.TheVariants.{Memory, Told}
@@ -11,7 +11,7 @@ use Rattle.cbor_edn_model.specs.tree.Trees.{Tree, OnePiece, OneString, LastPiece
 use Rattle.cbor_edn_core.specs.declared.access.TypeMismatch.TheVariants.{ApplicationLiteral, SingleApplicationLiteral}
 use Rattle.cbor_edn_core.specs.access.Mismatch.{literal_mismatch}
 use Rattle.cbor_edn_core.specs.tree.View.{item_tree, seen_piece, view_inner, view_piece, view_string}
-use Rattle.cbor_edn_core.proofs.lemmas.access.Pieces.{alone_is, no_application, no_other}
+use Rattle.cbor_edn_core.proofs.lemmas.access.Pieces.{alone_is, no_application, no_other, several_no_literal}
 use Rattle.cbor_edn_core.proofs.lemmas.tree.Views.{view_stream_is, view_string_at}
 use Rattle.cbor_edn_core.proofs.access.application.Item.get_application_literal.Goals as goal
 
@@ -33,11 +33,7 @@ refused w l only None none = (sym (ap literal_mismatch only), λ p v (m, is, h).
 
 several : (w : Tree OneString) → true ≡ are_several w → (SingleApplicationLiteral ≡ literal_mismatch (Some w)) × ((p v : List ℕ) → (m : Tree OnePiece) × (Some w ≡ Some (LastPieceTree m)) × IsApplicationPiece m p v → ⊥)
 several (LastPieceTree l) e = absurd (false≢true (sym e))
-several (PlusTree l s t w) e = (refl, λ p v (m, is, h). false≢true (sym (ap several_of is)))
-  where
-    several_of : Option (Tree OneString) → Bool
-    several_of (Some u) = are_several u
-    several_of None = false
+several (PlusTree l s t w) e = (refl, several_no_literal (PlusTree l s t w) e)
 
 no_string : (w : Option (Tree OneString)) → w ≡ None → (ApplicationLiteral ≡ literal_mismatch w) × ((p v : List ℕ) → (m : Tree OnePiece) × (w ≡ Some (LastPieceTree m)) × IsApplicationPiece m p v → ⊥)
 no_string w e = (sym (ap literal_mismatch e), no_application w e)

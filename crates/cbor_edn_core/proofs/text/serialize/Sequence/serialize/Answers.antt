@@ -8,5 +8,5 @@ use Rattle.cbor_edn_core.proofs.text.serialize.Sequence.serialize.Goals as goal
 
 pub returns-clause-spells : goal.returns-clause-spells
 returns-clause-spells c =
-    let printed : string_bytes c.print_sequence.new.out ≡ text (sequence_tree c.args.self.now) = grind (arith, common_steps) in
+    let printed : string_bytes c.into_string.result ≡ text (sequence_tree c.args.self.now) = grind (arith, common_steps) in
     sequence_spelled c.args.self.now _ printed

@@ -8,5 +8,5 @@ use Rattle.cbor_edn_core.proofs.text.serialize.StandaloneItem.serialize.Goals as
 
 pub returns-clause-spells : goal.returns-clause-spells
 returns-clause-spells c =
-    let printed : string_bytes c.print_standalone.new.out ≡ text (standalone_tree c.args.self.now) = grind (arith, common_steps) in
+    let printed : string_bytes c.into_string.result ≡ text (standalone_tree c.args.self.now) = grind (arith, common_steps) in
     standalone_spelled c.args.self.now _ printed
