@@ -346,8 +346,8 @@ def check_endless():
 
 # The slowest inputs of 64 KB that are known: a list in so many tags, for each of which a literal that would stand for it is looked for.
 # Their time is the size times the depth. No known input of 64 KB takes more than 2 seconds on the machine of docs/PERFORMANCE.md.
-# Machines differ, so here they are held to a number of times what a flat MB takes on the same one (0.23 seconds on that machine).
-MOST_FLAT_MEGABYTES = 12
+# Machines differ, so here they are held to a number of times what a flat MB takes on the same one (0.12 seconds on that machine).
+MOST_FLAT_MEGABYTES = 20
 SLOWEST = [
     ("addresses in tags 52", 250, "52([h'00000000',", "])"),
     ("addresses in tags 54", 250, "54([h'00000000000000000000000000000000',", "])"),
