@@ -11,11 +11,11 @@ cd "$(dirname "$(readlink -f "$0")")/.."
 # shellcheck source=scripts/count.sh
 . scripts/count.sh
 
-# The files below crates/ in which a text stands, in each library and program, must be these.
+# The files below crates/ in which a text stands, in each library and program (not those of tests and wrong bodies), must be these.
 stands_in() {
   local what=$1 found
   shift
-  found=$(grep -rlF --include='*.rt' -- "$what" crates/*/src | grep -Ev '^crates/cbor_edn_([a-z_]*_)?(tests|memory)/' | sort)
+  found=$(grep -rlF --include='*.rt' -- "$what" crates/*/src | grep -Ev '^crates/cbor_edn_([a-z_]*_)?(tests|memory|wrong_bodies)/' | sort)
   count "'$what' stands in ${found//$'\n'/ }" test "$found" = "$(printf '%s\n' "$@" | sort)"
 }
 
@@ -23,7 +23,7 @@ stands_in() {
 stands_in 'Looks::new(' crates/cbor_edn_core/src/text/parse.rt
 stands_in 'Text::new(' crates/cbor_edn_core/src/text/parse.rt
 # Pieces of a text are cut where scans and spaces have seen them byte by byte, for leaves.
-stands_in '.slice(' crates/cbor_edn_parts/src/number/start.rt crates/cbor_edn_parts/src/scan.rt crates/cbor_edn_parts/src/space/read.rt
+stands_in '.slice(' crates/cbor_edn_parts/src/number/start.rt crates/cbor_edn_parts/src/scan.rt crates/cbor_edn_parts/src/space/read.rt crates/cbor_edn_parts/src/string/read.rt
 
 by_hand=$(find crates -path '*/out' -prune -o -name Proof.antt -print | sort)
 wanted='crates/cbor_edn_command/proofs/count/Count/after/Proof.antt

@@ -40,7 +40,7 @@ SHAPES = {
     **{f"From<Fault<{fault}>> for RunError": rf"\bfault: Fault<{fault}> = [^}}]*?\bRunError::from\(fault\)"
        for fault in ("CborError", "ParseError", "InconsistentEdn", "DeviceFault")},
     "Display for ParseError": r"\brefused\.too_deep\([^}]*\brefused\.to_string\(", "Display for InconsistentEdn": r"refused: InconsistentEdn,[^}]*\brefused\.to_string\(",
-    "Display for CborError": r"\bCborError::TooDeep\.to_string\(", "Display for TypeMismatch": r"\bno_array\.to_string\(",
+    "Display for CborError": r"\bCborError::TooDeep\.to_string\(", "Display for TypeMismatch": r"refused: Option<TypeMismatch>[^}]*\brefused\.to_string\(",
     "Display for CallbackError": r"\blet comment = CallbackError::Comment\([^}]*\bcomment\.to_string\(",
     "Display for ScriptError": r"\bScriptError \{ done: 2 \}[^}]*\brefused\.to_string\(",
     "Display for RunError": r"\(RunError::[^]]*\][^}]*\bfault\.to_string\(",

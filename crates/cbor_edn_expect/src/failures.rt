@@ -30,6 +30,18 @@ impl Failures {
         Ok(())
     }
 
+    /// The same of an answer. Fails where there is none.
+    pub fn told(
+        &mut self,
+        alloc: Global,
+        row: &str,
+        told: Result<String, Fail>,
+        wanted: &str,
+    ) -> Result<(), Fail> {
+        let told = told?;
+        Ok(self.row(alloc, row, told.as_str(), wanted)?)
+    }
+
     /// Adds the row where it does not hold.
     pub fn holds(&mut self, alloc: Global, row: &str, holds: bool) -> Result<(), AllocError> {
         if !holds {
@@ -37,6 +49,17 @@ impl Failures {
             self.lines.push_str(line.as_str())?;
         }
         Ok(())
+    }
+
+    /// The same of an answer. Fails where there is none.
+    pub fn held(
+        &mut self,
+        alloc: Global,
+        row: &str,
+        holds: Result<bool, Fail>,
+    ) -> Result<(), Fail> {
+        let holds = holds?;
+        Ok(self.holds(alloc, row, holds)?)
     }
 
     /// Fails with all rows that were added.

@@ -29,6 +29,12 @@ pub fn expect_text(alloc: Global, told: &str, wanted: &str) -> Result<(), Fail>
     }
 }
 
+/// The same of an answer. Fails where there is none.
+pub fn expect_told(alloc: Global, told: Result<String, Fail>, wanted: &str) -> Result<(), Fail> {
+    let told = told?;
+    expect_text(alloc, told.as_str(), wanted)
+}
+
 /// Fails with the row whose answer is not the wanted one.
 pub fn expect_row(alloc: Global, row: &str, told: &str, wanted: &str) -> Result<(), Fail>
     ensures { OnOk result (told.now ≡ wanted.now) }
@@ -38,6 +44,14 @@ pub fn expect_row(alloc: Global, row: &str, told: &str, wanted: &str) -> Result<
     } else {
         Err(Fail::new(format!(in alloc; "{row:?}: {told:?}, and not {wanted:?}")?))
     }
+}
+
+/// A value in a box: a proof writes out what a function holds, and of a box only that it is one.
+pub fn boxed<T: Drop, E: Debug + Drop>(
+    alloc: Global,
+    answer: Result<T, E>,
+) -> Result<Box<T>, Fail> {
+    Ok(Box::new(alloc, answer?)?)
 }
 
 /// Bytes in lower case digits, or the name of the refusal. Fails where memory runs out.

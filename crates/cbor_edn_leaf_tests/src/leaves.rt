@@ -4,64 +4,78 @@ ghost use Rattle.cbor_edn_parts.specs.internal.Scans.{ScanLands};
 ghost use Rattle.cbor_edn_parts.specs.internal.Text.{text_bytes};
 
 use cbor_edn_expect::failures::Failures;
-use cbor_edn_expect::{expect, expect_row};
+use cbor_edn_expect::{boxed, expect, expect_row};
 use cbor_edn_parts::error::Refusal;
 use cbor_edn_parts::indicator::{Indicator, indicator_at};
 use cbor_edn_parts::looks::Looks;
 use cbor_edn_parts::number::{Number, number_start};
 use cbor_edn_parts::policy::{DelimiterPolicy, Spacing};
-use cbor_edn_parts::space::{
-    ItemEnd, Ms, Msc, S, Soc, separator, separator_behind, space, space_behind,
-};
-use cbor_edn_parts::string::{dots_at, literal_at};
+use cbor_edn_parts::space::{ItemEnd, Ms, Msc, S, Soc, separator_behind, space, space_behind};
+use cbor_edn_parts::string::{Dots, dots_at, literal_at};
 use cbor_edn_parts::text::Text;
 use std::alloc::Global;
 use std::test::Fail;
 
 // The space that a text begins with, and the separator.
-fn space_of(text: &str) -> Result<S<'_>, Fail> {
+fn space_of(alloc: Global, text: &str) -> Result<Box<S<'_>>, Fail> {
     let text = Text::new(text);
     let (before, _) = space(&text, text.start(), &mut Looks::new())?;
-    Ok(before)
+    Ok(Box::new(alloc, before)?)
 }
 
-fn mandatory_of(text: &str) -> Result<Ms<'_>, Fail> {
-    Ok(space_of(text)?.into_ms().ok_or("no space")?)
+fn mandatory_of(alloc: Global, text: &str) -> Result<Box<Ms<'_>>, Fail> {
+    let text = Text::new(text);
+    let (before, _) = space(&text, text.start(), &mut Looks::new())?;
+    boxed(alloc, before.into_ms().ok_or("no space"))
 }
 
-fn separator_of(text: &str) -> Result<Soc<'_>, Fail> {
+// The separator at a place.
+fn separator<'a>(text: &Text<'a>, at: usize, looks: &mut Looks) -> Result<(Soc<'a>, usize), Refusal>
+    requires { IsCharBoundary (text_bytes text.now) at }
+    ensures { ScanLands (text_bytes text.now) at result }
+{
+    separator_behind(text, ItemEnd { at, space: None }, looks)
+}
+
+fn separator_of(alloc: Global, text: &str) -> Result<Box<Soc<'_>>, Fail> {
     let text = Text::new(text);
     let (end, _) = separator(&text, text.start(), &mut Looks::new())?;
-    Ok(end)
+    Ok(Box::new(alloc, end)?)
 }
 
-fn between_of(text: &str) -> Result<Msc<'_>, Fail> {
-    Ok(separator_of(text)?.into_msc().ok_or("no separator")?)
+fn between_of(alloc: Global, text: &str) -> Result<Box<Msc<'_>>, Fail> {
+    let text = Text::new(text);
+    let (end, _) = separator(&text, text.start(), &mut Looks::new())?;
+    boxed(alloc, end.into_msc().ok_or("no separator"))
 }
 
 fn expect_space(alloc: Global, text: &str, wanted: &str) -> Result<(), Fail> {
-    let before = space_of(text)?;
-    expect("copy", before.clone()? == before)?;
-    expect("no space", before != S::empty())?;
+    let before = space_of(alloc, text)?;
+    let copy = boxed(alloc, before.clone())?;
+    expect("copy", *copy == *before)?;
+    expect("no space", *before != S::empty())?;
     expect_row(alloc, text, before.as_str(), wanted)
 }
 
 fn expect_mandatory(alloc: Global, text: &str, wanted: &str) -> Result<(), Fail> {
-    let before = mandatory_of(text)?;
-    expect("copy", before.clone()? == before)?;
-    expect("plain space", before != Ms::space())?;
+    let before = mandatory_of(alloc, text)?;
+    let copy = boxed(alloc, before.clone())?;
+    expect("copy", *copy == *before)?;
+    expect("plain space", *before != Ms::space())?;
     expect_row(alloc, text, before.as_str(), wanted)
 }
 
 fn expect_separator(alloc: Global, text: &str, wanted: &str) -> Result<(), Fail> {
-    let end = separator_of(text)?;
-    expect("copy", end.clone()? == end)?;
+    let end = separator_of(alloc, text)?;
+    let copy = boxed(alloc, end.clone())?;
+    expect("copy", *copy == *end)?;
     expect_row(alloc, text, end.as_str(), wanted)
 }
 
 fn expect_between(alloc: Global, text: &str, wanted: &str) -> Result<(), Fail> {
-    let between = between_of(text)?;
-    expect("copy", between.clone()? == between)?;
+    let between = between_of(alloc, text)?;
+    let copy = boxed(alloc, between.clone())?;
+    expect("copy", *copy == *between)?;
     expect_row(alloc, text, between.as_str(), wanted)
 }
 
@@ -81,7 +95,12 @@ fn expect_number_behind(alloc: Global, text: &str, wanted: &str) -> Result<(), F
     let text = Text::new(text);
     let (_, to) = separator(&text, text.start(), &mut Looks::new())?;
     let (number, _) = number_at(&text, to, &mut Looks::new())?;
-    expect("copy", number.clone()? == number)?;
+    expect_number(alloc, &number, wanted)
+}
+
+fn expect_number(alloc: Global, number: &Number<'_>, wanted: &str) -> Result<(), Fail> {
+    let copy = boxed(alloc, number.clone())?;
+    expect("copy", *copy == *number)?;
     expect_row(alloc, "number", number.as_str(), wanted)
 }
 
@@ -143,16 +162,28 @@ const SPACES: &[(&str, Spacing, &str, &str)] = &[
     ),
 ];
 
+fn space_by(alloc: Global, text: &str, spacing: Spacing) -> Result<String, Fail> {
+    let before = space_of(alloc, text)?;
+    let told = boxed(alloc, before.spaced(alloc, spacing))?;
+    Ok(String::from_str(alloc, told.as_str())?)
+}
+
+fn mandatory_by(alloc: Global, text: &str, spacing: Spacing) -> Result<String, Fail> {
+    let before = mandatory_of(alloc, text)?;
+    let told = boxed(alloc, before.spaced(alloc, spacing))?;
+    Ok(String::from_str(alloc, told.as_str())?)
+}
+
 #[test]
 fn columns_of_space(rt: HostRuntime) -> Result<(), Fail> {
     let alloc = rt.alloc();
     let mut failures = Failures::new(alloc);
     for &(text, spacing, optional, mandatory) in SPACES {
         let row = format!(in alloc; "{text} by {spacing:?}")?;
-        let told = space_of(text)?.spaced(alloc, spacing)?;
-        failures.row(alloc, row.as_str(), told.as_str(), optional)?;
-        let told = mandatory_of(text)?.spaced(alloc, spacing)?;
-        failures.row(alloc, row.as_str(), told.as_str(), mandatory)?;
+        let told = space_by(alloc, text, spacing);
+        failures.told(alloc, row.as_str(), told, optional)?;
+        let told = mandatory_by(alloc, text, spacing);
+        failures.told(alloc, row.as_str(), told, mandatory)?;
     }
     failures.end()
 }
@@ -182,16 +213,28 @@ const SEPARATORS: &[(&str, Spacing, &str, &str)] = &[
     (" ", Spacing::OneSpace, " ", " ,"),
 ];
 
+fn separator_by(alloc: Global, text: &str, spacing: Spacing) -> Result<String, Fail> {
+    let end = separator_of(alloc, text)?;
+    let told = boxed(alloc, end.spaced(alloc, spacing))?;
+    Ok(String::from_str(alloc, told.as_str())?)
+}
+
+fn between_by(alloc: Global, text: &str, spacing: Spacing) -> Result<String, Fail> {
+    let between = between_of(alloc, text)?;
+    let told = boxed(alloc, between.spaced(alloc, spacing))?;
+    Ok(String::from_str(alloc, told.as_str())?)
+}
+
 #[test]
 fn columns_of_separators(rt: HostRuntime) -> Result<(), Fail> {
     let alloc = rt.alloc();
     let mut failures = Failures::new(alloc);
     for &(text, spacing, end, between) in SEPARATORS {
         let row = format!(in alloc; "{text} by {spacing:?}")?;
-        let told = separator_of(text)?.spaced(alloc, spacing)?;
-        failures.row(alloc, row.as_str(), told.as_str(), end)?;
-        let told = between_of(text)?.spaced(alloc, spacing)?;
-        failures.row(alloc, row.as_str(), told.as_str(), between)?;
+        let told = separator_by(alloc, text, spacing);
+        failures.told(alloc, row.as_str(), told, end)?;
+        let told = between_by(alloc, text, spacing);
+        failures.told(alloc, row.as_str(), told, between)?;
     }
     failures.end()
 }
@@ -200,11 +243,28 @@ fn columns_of_separators(rt: HostRuntime) -> Result<(), Fail> {
 #[test]
 fn endless_indents(rt: HostRuntime) -> Result<(), Fail> {
     let alloc = rt.alloc();
-    let spacing = Spacing::NewLine(usize::MAX);
-    expect("S", S::empty().spaced(alloc, spacing).is_err())?;
-    expect("Ms", Ms::space().spaced(alloc, spacing).is_err())?;
-    expect("Msc", Msc::comma().spaced(alloc, spacing).is_err())?;
-    expect("Soc", Soc::empty().spaced(alloc, spacing).is_err())
+    expect("S", is_space_refused(alloc))?;
+    expect("Ms", is_mandatory_refused(alloc))?;
+    expect("Msc", is_between_refused(alloc))?;
+    expect("Soc", is_separator_refused(alloc))
+}
+
+const ENDLESS: Spacing = Spacing::NewLine(usize::MAX);
+
+fn is_space_refused(alloc: Global) -> bool {
+    S::empty().spaced(alloc, ENDLESS).is_err()
+}
+
+fn is_mandatory_refused(alloc: Global) -> bool {
+    Ms::space().spaced(alloc, ENDLESS).is_err()
+}
+
+fn is_between_refused(alloc: Global) -> bool {
+    Msc::comma().spaced(alloc, ENDLESS).is_err()
+}
+
+fn is_separator_refused(alloc: Global) -> bool {
+    Soc::empty().spaced(alloc, ENDLESS).is_err()
 }
 
 /// Comments, and how they are written, by `parts/specs/Notes.antt`.
@@ -276,7 +336,8 @@ fn spaces_behind_items(rt: HostRuntime) -> Result<(), Fail> {
 fn expect_literal(alloc: Global, text: &str, wanted: &str) -> Result<(), Fail> {
     let text = Text::new(text);
     let (literal, _) = literal_at(&text, text.start(), &mut Looks::new())?;
-    expect("copy", literal.clone()? == literal)?;
+    let copy = boxed(alloc, literal.clone())?;
+    expect("copy", *copy == literal)?;
     expect_row(alloc, "literal", literal.as_str(), wanted)
 }
 
@@ -284,7 +345,12 @@ fn expect_dots(alloc: Global, text: &str, wanted: &str) -> Result<(), Fail> {
     let text = Text::new(text);
     let (_, to) = literal_at(&text, text.start(), &mut Looks::new())?;
     let (dots, _) = dots_at(&text, to, &mut Looks::new())?;
-    expect("copy", dots.clone()? == dots)?;
+    expect_equal_dots(alloc, &dots, wanted)
+}
+
+fn expect_equal_dots(alloc: Global, dots: &Dots<'_>, wanted: &str) -> Result<(), Fail> {
+    let copy = boxed(alloc, dots.clone())?;
+    expect("copy", *copy == *dots)?;
     expect_row(alloc, "dots", dots.as_str(), wanted)
 }
 

@@ -6,9 +6,11 @@ use cbor_edn_parts::error::CallbackError;
 use std::alloc::Global;
 use std::test::Fail;
 
+type Form = (&'static str, &'static str, &'static str, &'static [usize]);
+
 /// Forms that nest round a literal: openings, closings, closings where tags have comments, and a path through the openings:
 /// by hand from the grammar in `docs/SUPPORTED.md` and the docstrings of `at_mut` and of the visits.
-const FORMS: &[(&str, &str, &str, &[usize])] = &[
+const FORMS: &[Form] = &[
     ("[", "]", "]", &[0]),
     ("[2,", ",3]", ",3]", &[1]),
     ("{", ":2}", ":2}", &[0]),
@@ -30,21 +32,28 @@ const INSIDE: &str = "h'00'";
 
 const COMMENTED: &str = "h'00'/ c /";
 
-/// How often openings of so many levels stand in one another.
-fn turns(levels: usize) -> Result<usize, Fail> {
-    Ok(NESTING_LIMIT.checked_div(levels).ok_or("no level")?)
+/// How often the openings of a form stand in one another.
+fn turns(form: &Form) -> Result<usize, Fail> {
+    Ok(NESTING_LIMIT.checked_div(form.3.len()).ok_or("no level")?)
 }
 
-fn nested(
-    alloc: Global,
-    turns: usize,
-    open: &str,
-    inside: &str,
-    close: &str,
-) -> Result<String, Fail> {
-    let open = open.repeat(alloc, turns)?;
+fn nested(alloc: Global, form: &Form, inside: &str, close: &str) -> Result<String, Fail> {
+    let turns = turns(form)?;
+    let open = form.0.repeat(alloc, turns)?;
     let close = close.repeat(alloc, turns)?;
     Ok(format!(in alloc; "{open}{inside}{close}")?)
+}
+
+/// Whether an answer is that.
+fn is_nested(
+    alloc: Global,
+    told: Result<String, Fail>,
+    form: &Form,
+    inside: &str,
+    close: &str,
+) -> Result<bool, Fail> {
+    let told = told?;
+    Ok(told == nested(alloc, form, inside, close)?)
 }
 
 // Under `rt try`, which compiles with checks, these tests ask for more stack than is common: `ulimit -s hard` gives it.
@@ -59,14 +68,17 @@ fn text_at(alloc: Global, text: &str, path: &[usize]) -> Result<String, Fail> {
 fn paths_lead_to_the_deepest(rt: HostRuntime) -> Result<(), Fail> {
     let alloc = rt.alloc();
     let mut failures = Failures::new(alloc);
-    for &(open, close, _, steps) in FORMS {
-        let turns = turns(steps.len())?;
-        let deepest = nested(alloc, turns, open, INSIDE, close)?;
-        let path = steps.repeat(alloc, turns)?;
-        let told = text_at(alloc, deepest.as_str(), path.as_slice())?;
-        failures.row(alloc, open, told.as_str(), INSIDE)?;
+    for form in FORMS {
+        failures.told(alloc, form.0, innermost(alloc, form), INSIDE)?;
     }
     failures.end()
+}
+
+/// The text of the item where the longest path leads.
+fn innermost(alloc: Global, form: &Form) -> Result<String, Fail> {
+    let deepest = nested(alloc, form, INSIDE, form.1)?;
+    let path = form.3.repeat(alloc, turns(form)?)?;
+    text_at(alloc, deepest.as_str(), path.as_slice())
 }
 
 fn comment(alloc: Global) -> Result<(), CallbackError> {
@@ -99,15 +111,21 @@ fn literals_commented(alloc: Global, text: &str) -> Result<String, Fail> {
 fn visits_enter_the_deepest(rt: HostRuntime) -> Result<(), Fail> {
     let alloc = rt.alloc();
     let mut failures = Failures::new(alloc);
-    for &(open, close, commented, steps) in FORMS {
-        let turns = turns(steps.len())?;
-        let deepest = nested(alloc, turns, open, INSIDE, close)?;
-        let told = tags_commented(alloc, deepest.as_str())?;
-        let is_wanted = told == nested(alloc, turns, open, INSIDE, commented)?;
-        failures.holds(alloc, open, is_wanted)?;
-        let told = literals_commented(alloc, deepest.as_str())?;
-        let is_wanted = told == nested(alloc, turns, open, COMMENTED, close)?;
-        failures.holds(alloc, open, is_wanted)?;
+    for form in FORMS {
+        failures.held(alloc, form.0, are_tags_commented(alloc, form))?;
+        failures.held(alloc, form.0, are_literals_commented(alloc, form))?;
     }
     failures.end()
+}
+
+fn are_tags_commented(alloc: Global, form: &Form) -> Result<bool, Fail> {
+    let deepest = nested(alloc, form, INSIDE, form.1)?;
+    let told = tags_commented(alloc, deepest.as_str());
+    is_nested(alloc, told, form, INSIDE, form.2)
+}
+
+fn are_literals_commented(alloc: Global, form: &Form) -> Result<bool, Fail> {
+    let deepest = nested(alloc, form, INSIDE, form.1)?;
+    let told = literals_commented(alloc, deepest.as_str());
+    is_nested(alloc, told, form, COMMENTED, form.1)
 }

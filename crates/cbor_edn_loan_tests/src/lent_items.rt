@@ -3,7 +3,7 @@ use crate::common::sequence_of;
 use cbor_edn_core::access::TypeMismatch;
 use cbor_edn_core::tree::{Item, Sequence};
 use cbor_edn_expect::failures::Failures;
-use std::alloc::Global;
+use std::alloc::{AllocError, Global};
 use std::mem::swap;
 use std::test::Fail;
 
@@ -86,8 +86,7 @@ fn items_are_lent_in_turn(rt: HostRuntime) -> Result<(), Fail> {
     let alloc = rt.alloc();
     let mut failures = Failures::new(alloc);
     for &(lender, text, wanted) in OVERWRITTEN {
-        let told = overwritten(alloc, text, lender)?;
-        failures.row(alloc, text, told.as_str(), wanted)?;
+        failures.told(alloc, text, overwritten(alloc, text, lender), wanted)?;
     }
     failures.end()
 }
@@ -130,7 +129,7 @@ fn pairs_are_lent_in_turn(rt: HostRuntime) -> Result<(), Fail> {
     let alloc = rt.alloc();
     let mut failures = Failures::new(alloc);
     for &(text, wanted) in EXCHANGED {
-        failures.row(alloc, text, exchanged(alloc, text)?.as_str(), wanted)?;
+        failures.told(alloc, text, exchanged(alloc, text), wanted)?;
     }
     failures.end()
 }
@@ -140,17 +139,18 @@ fn unlent_in(alloc: Global, item: Option<&mut Item<'_>>) -> Result<String, Fail>
     let Some(item) = item else {
         return Ok(String::new(alloc));
     };
-    let mut told = String::new(alloc);
-    if let Some(no_array) = item.get_array_items_mut().err() {
-        told.push_str(no_array.to_string(alloc)?.as_str())?;
+    let no_array = words(alloc, item.get_array_items_mut().err())?;
+    let no_map = words(alloc, item.get_map_items_mut().err())?;
+    let text = item.serialize(alloc)?;
+    Ok(format!(in alloc; "{no_array};{no_map};{text}")?)
+}
+
+/// The message of a refusal, and the empty text of none.
+fn words(alloc: Global, refused: Option<TypeMismatch>) -> Result<String, AllocError> {
+    match refused {
+        Some(refused) => refused.to_string(alloc),
+        None => Ok(String::new(alloc)),
     }
-    told.push(';')?;
-    if let Some(no_map) = item.get_map_items_mut().err() {
-        told.push_str(no_map.to_string(alloc)?.as_str())?;
-    }
-    told.push(';')?;
-    told.push_str(item.serialize(alloc)?.as_str())?;
-    Ok(told)
 }
 
 fn unlent(alloc: Global, text: &str) -> Result<String, Fail> {
@@ -179,7 +179,7 @@ fn other_items_lend_none(rt: HostRuntime) -> Result<(), Fail> {
     let alloc = rt.alloc();
     let mut failures = Failures::new(alloc);
     for &(text, wanted) in UNLENT {
-        failures.row(alloc, text, unlent(alloc, text)?.as_str(), wanted)?;
+        failures.told(alloc, text, unlent(alloc, text), wanted)?;
     }
     failures.end()
 }

@@ -54,8 +54,7 @@ fn paths_lead_to_items(rt: HostRuntime) -> Result<(), Fail> {
     let mut failures = Failures::new(alloc);
     for &(text, path, wanted) in REACHED {
         let row = format!(in alloc; "{path:?} of {text}")?;
-        let told = text_at(alloc, text, path)?;
-        failures.row(alloc, row.as_str(), told.as_str(), wanted)?;
+        failures.told(alloc, row.as_str(), text_at(alloc, text, path), wanted)?;
     }
     failures.end()
 }
@@ -69,8 +68,8 @@ fn paths_lead_from_an_item(rt: HostRuntime) -> Result<(), Fail> {
     let mut failures = Failures::new(alloc);
     for &(path, wanted) in REACHED_IN_ITEM {
         let row = format!(in alloc; "{path:?}")?;
-        let told = text_in_item(alloc, " [0, {1: 2}] ", path)?;
-        failures.row(alloc, row.as_str(), told.as_str(), wanted)?;
+        let told = text_in_item(alloc, " [0, {1: 2}] ", path);
+        failures.told(alloc, row.as_str(), told, wanted)?;
     }
     failures.end()
 }
@@ -143,8 +142,8 @@ fn items_are_replaced(rt: HostRuntime) -> Result<(), Fail> {
     let mut failures = Failures::new(alloc);
     for &(text, path, new, wanted) in REPLACED {
         let row = format!(in alloc; "{new} at {path:?} of {text}")?;
-        let told = replaced(alloc, text, path, new)?;
-        failures.row(alloc, row.as_str(), told.as_str(), wanted)?;
+        let told = replaced(alloc, text, path, new);
+        failures.told(alloc, row.as_str(), told, wanted)?;
     }
     failures.end()
 }
@@ -257,7 +256,7 @@ fn literals_of_texts_are_answered(rt: HostRuntime) -> Result<(), Fail> {
     let alloc = rt.alloc();
     let mut failures = Failures::new(alloc);
     for &(text, wanted) in LITERALS {
-        failures.row(alloc, text, literal_of(alloc, text)?.as_str(), wanted)?;
+        failures.told(alloc, text, literal_of(alloc, text), wanted)?;
     }
     failures.end()
 }

@@ -154,11 +154,17 @@ fn tags_are_visited_in_order(rt: HostRuntime) -> Result<(), Fail> {
     let alloc = rt.alloc();
     let mut failures = Failures::new(alloc);
     for &(text, what, wanted) in TAGS {
-        failures.row(alloc, text, visited(alloc, text, what)?.as_str(), wanted)?;
+        failures.told(alloc, text, visited(alloc, text, what), wanted)?;
     }
+    failures.end()
+}
+
+#[test]
+fn tags_of_standalone_items_are_visited_in_order(rt: HostRuntime) -> Result<(), Fail> {
+    let alloc = rt.alloc();
+    let mut failures = Failures::new(alloc);
     for &(text, what, wanted) in TAGS_ALONE {
-        let told = visited_alone(alloc, text, what)?;
-        failures.row(alloc, text, told.as_str(), wanted)?;
+        failures.told(alloc, text, visited_alone(alloc, text, what), wanted)?;
     }
     failures.end()
 }
@@ -174,10 +180,48 @@ fn at_literal<'a>(
     let (prefix, text) = words;
     let word = format!(in alloc; "{prefix}:{text};")?;
     told.push_str(word.as_str())?;
+    answer(item, alloc, puts)
+}
+
+fn answer<'a>(
+    item: &mut Item<'a>,
+    alloc: Global,
+    puts: Option<&'a str>,
+) -> Result<(), CallbackError> {
     match puts {
         Some(other) => put(item, alloc, other),
         None => Err(CallbackError::Comment(String::from_str(alloc, "c")?)),
     }
+}
+
+/// The call at a literal that is given as an item: it tells the prefix.
+fn at_item<'a>(
+    item: &mut Item<'a>,
+    alloc: Global,
+    told: &mut String,
+    puts: Option<&'a str>,
+) -> Result<(), CallbackError> {
+    told.push_str(item.application_prefix().unwrap_or("no prefix"))?;
+    told.push_str(";")?;
+    answer(item, alloc, puts)
+}
+
+/// The prefixes of the literals that a visit tells as items, and the text that it leaves.
+fn items(alloc: Global, text: &'static str, puts: Option<&'static str>) -> Result<String, Fail> {
+    let mut sequence = sequence_of(alloc, text)?;
+    items_of(&mut sequence, alloc, puts)
+}
+
+fn items_of(
+    sequence: &mut Sequence<'static>,
+    alloc: Global,
+    puts: Option<&'static str>,
+) -> Result<String, Fail> {
+    let mut told = String::new(alloc);
+    sequence.visit_application_items(alloc, &mut |item| at_item(item, alloc, &mut told, puts))?;
+    let text = sequence.serialize(alloc)?;
+    told.push_str(text.as_str())?;
+    Ok(told)
 }
 
 /// The literals that a visit tells, and the text that it leaves.
@@ -257,6 +301,18 @@ const LITERALS: &[(&str, Option<&str>, &str)] = &[
     ),
 ];
 
+/// The same of calls that are given the item alone.
+const ITEMS: &[(&str, Option<&str>, &str)] = &[
+    (
+        "[dt'1', \"a\", ip'2' ]",
+        None,
+        "dt;ip;[dt'1'/ c /, \"a\", ip'2'/ c / ]",
+    ),
+    ("'a'", None, "'a'"),
+    ("h'00' + h'01'", None, "h'00' + h'01'"),
+    ("x'1'_1", Some("<<x'1'>>"), "x;<<x'1'>>"),
+];
+
 /// The same of standalone items, whose spaces stay.
 const LITERALS_ALONE: &[(&str, Option<&str>, &str)] = &[
     (" x'1' # d\n", None, "x:1; x'1'/ c / # d\n"),
@@ -278,11 +334,27 @@ fn literals_are_visited_in_order(rt: HostRuntime) -> Result<(), Fail> {
     let alloc = rt.alloc();
     let mut failures = Failures::new(alloc);
     for &(text, puts, wanted) in LITERALS {
-        failures.row(alloc, text, literals(alloc, text, puts)?.as_str(), wanted)?;
+        failures.told(alloc, text, literals(alloc, text, puts), wanted)?;
     }
+    failures.end()
+}
+
+#[test]
+fn literals_of_standalone_items_are_visited_in_order(rt: HostRuntime) -> Result<(), Fail> {
+    let alloc = rt.alloc();
+    let mut failures = Failures::new(alloc);
     for &(text, puts, wanted) in LITERALS_ALONE {
-        let told = literals_alone(alloc, text, puts)?;
-        failures.row(alloc, text, told.as_str(), wanted)?;
+        failures.told(alloc, text, literals_alone(alloc, text, puts), wanted)?;
+    }
+    failures.end()
+}
+
+#[test]
+fn literals_are_visited_as_items(rt: HostRuntime) -> Result<(), Fail> {
+    let alloc = rt.alloc();
+    let mut failures = Failures::new(alloc);
+    for &(text, puts, wanted) in ITEMS {
+        failures.told(alloc, text, items(alloc, text, puts), wanted)?;
     }
     failures.end()
 }

@@ -129,7 +129,7 @@ fn visits_call_in_order(rt: HostRuntime) -> Result<(), Fail> {
     let alloc = rt.alloc();
     let mut failures = Failures::new(alloc);
     for &(text, visit, wanted) in VISITED {
-        failures.row(alloc, text, visited(alloc, text, visit)?.as_str(), wanted)?;
+        failures.told(alloc, text, visited(alloc, text, visit), wanted)?;
     }
     failures.end()
 }

@@ -1,16 +1,34 @@
-//! The callers of `cbor_edn_examples`, each once where it answers and where it does not.
+//! The callers of `cbor_edn_examples`, each where it answers and where it does not.
 use cbor_edn_examples::{shipped, shown};
+use cbor_edn_expect::expect;
+use std::alloc::Global;
 use std::test::Fail;
+
+const TEXT: &str = "[1, 0x1f, 'a' + b64'Yg'] # a comment\n";
+
+const BYTES: &[u8] = b"\x83\x01\x18\x1f\x42ab";
+
+fn ships(alloc: Global, text: &str, wanted: &[u8]) -> Result<bool, Fail> {
+    let bytes = shipped(alloc, text)?;
+    Ok(bytes.as_slice() == wanted)
+}
+
+fn shows(alloc: Global, bytes: &[u8], wanted: &str) -> Result<bool, Fail> {
+    let text = shown(alloc, bytes)?;
+    Ok(text.as_str() == wanted)
+}
 
 #[test]
 fn callers_answer(rt: HostRuntime) -> Result<(), Fail> {
     let alloc = rt.alloc();
-    let bytes = shipped(alloc, "[1, 0x1f, 'a' + b64'Yg'] # a comment\n")?;
-    assert_eq!(rt; bytes.as_slice(), b"\x83\x01\x18\x1f\x42ab".as_slice());
-    assert!(rt; shipped(alloc, "[1").is_err());
-    assert!(rt; shipped(alloc, "1.5").is_err());
-    let text = shown(alloc, b"\x83\x01\x18\x1f\x42ab")?;
-    assert_eq!(rt; text.as_str(), "[1, 31, h'6162']\n");
-    assert!(rt; shown(alloc, b"\x82\x01").is_err());
-    Ok(())
+    expect("bytes", ships(alloc, TEXT, BYTES)?)?;
+    expect("a text", shows(alloc, BYTES, "[1, 31, h'6162']\n")?)
+}
+
+#[test]
+fn callers_refuse(rt: HostRuntime) -> Result<(), Fail> {
+    let alloc = rt.alloc();
+    expect("no text", shipped(alloc, "[1").is_err())?;
+    expect("no encoding", shipped(alloc, "1.5").is_err())?;
+    expect("no item", shown(alloc, b"\x82\x01").is_err())
 }

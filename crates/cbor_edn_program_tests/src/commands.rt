@@ -1,6 +1,7 @@
 //! The three commands, as their words ask for them: outputs, fault lines, limits and statuses.
 use cbor_edn::engine::{StdSink, StdSource, serve};
 use cbor_edn::words::options;
+use cbor_edn_expect::expect;
 use cbor_edn_expect::failures::Failures;
 use std::alloc::Global;
 use std::test::Fail;
@@ -54,50 +55,87 @@ pub(crate) const FROM_HEX: &[&str] = &["cbor-edn", "cbor2diag", "-i", "hex"];
 
 pub(crate) const TO_DIAG: &[&str] = &["cbor-edn", "diag2diag"];
 
+// Words, an input, and what a run writes that ends well.
+type Written = (&'static [&'static str], &'static str, &'static [u8]);
+
+fn all_write(alloc: Global, rows: &[Written]) -> Result<(), Fail> {
+    let mut failures = Failures::new(alloc);
+    for &(words, input, output) in rows {
+        failures.held(alloc, input, writes(alloc, words, input, output))?;
+    }
+    failures.end()
+}
+
+// Words, an input, and the line of the fault.
+type Told = (&'static [&'static str], &'static [u8], &'static str);
+
+fn all_tell(alloc: Global, rows: &[Told]) -> Result<(), Fail> {
+    let mut failures = Failures::new(alloc);
+    for &(words, input, line) in rows {
+        failures.held(alloc, line, tells(alloc, words, input, line))?;
+    }
+    failures.end()
+}
+
 #[test]
 fn encodes(rt: HostRuntime) -> Result<(), Fail> {
-    let alloc = rt.alloc();
-    assert!(rt; writes(alloc, TO_CBOR, "[1, 0x1f, []]\n", b"\x83\x01\x18\x1f\x80")?);
-    assert!(rt; writes(alloc, TO_HEX, "", b"")?);
-    assert!(rt; writes(alloc, TO_HEX, "[_ 3]", b"9f03ff\n")?);
-    let long = ["cbor-edn", "diag2cbor", "--output-format", "hex"];
-    assert!(rt; writes(alloc, &long, "[_ 3]", b"9f03ff\n")?);
-    let binary = ["cbor-edn", "diag2cbor", "--output-format=binary"];
-    assert!(rt; writes(alloc, &binary, "[_ 3]", b"\x9f\x03\xff")?);
-    let auto = ["cbor-edn", "diag2cbor", "-oauto"];
-    assert!(rt; writes(alloc, &auto, "[_ 3]", b"\x9f\x03\xff")?);
-    Ok(())
+    all_write(
+        rt.alloc(),
+        &[
+            (TO_CBOR, "[1, 0x1f, []]\n", b"\x83\x01\x18\x1f\x80"),
+            (TO_HEX, "", b""),
+            (TO_HEX, "[_ 3]", b"9f03ff\n"),
+            (
+                &["cbor-edn", "diag2cbor", "--output-format", "hex"],
+                "[_ 3]",
+                b"9f03ff\n",
+            ),
+            (
+                &["cbor-edn", "diag2cbor", "--output-format=binary"],
+                "[_ 3]",
+                b"\x9f\x03\xff",
+            ),
+            (
+                &["cbor-edn", "diag2cbor", "-oauto"],
+                "[_ 3]",
+                b"\x9f\x03\xff",
+            ),
+        ],
+    )
 }
 
 // A line has 64 digits: 31 bytes and their head of two make one that is full, and one more byte.
 #[test]
 fn encodes_in_lines(rt: HostRuntime) -> Result<(), Fail> {
-    let alloc = rt.alloc();
-    let text = "'aaaaaaaaaaaaaaaaaaaaaaaaaaaaaaa'";
-    let line = "581f616161616161616161616161616161616161616161616161616161616161\n61\n";
-    assert!(rt; writes(alloc, TO_HEX, text, line.as_bytes())?);
-    let full = "581e6161616161616161616161616161616161616161616161616161616161\
-61\n";
-    assert!(rt;
-        writes(
-            alloc,
-            TO_HEX,
-            "'aaaaaaaaaaaaaaaaaaaaaaaaaaaaaa'",
-            full.as_bytes()
-        )?
-    );
-    Ok(())
+    all_write(
+        rt.alloc(),
+        &[
+            (
+                TO_HEX,
+                "'aaaaaaaaaaaaaaaaaaaaaaaaaaaaaaa'",
+                b"581f616161616161616161616161616161616161616161616161616161616161\n61\n",
+            ),
+            (
+                TO_HEX,
+                "'aaaaaaaaaaaaaaaaaaaaaaaaaaaaaa'",
+                b"581e616161616161616161616161616161616161616161616161616161616161\n",
+            ),
+        ],
+    )
 }
 
 #[test]
 fn decodes(rt: HostRuntime) -> Result<(), Fail> {
-    let alloc = rt.alloc();
-    assert!(rt; writes(alloc, FROM_HEX, "83 0102\n03", b"[1, 2, 3]\n")?);
-    assert!(rt; writes(alloc, FROM_HEX, "9F\t03\r\n fF", b"[_ 3]\n")?);
-    assert!(rt; writes(alloc, FROM_CBOR, "\x01\x02", b"1,\n2\n")?);
-    assert!(rt; writes(alloc, FROM_CBOR, "", b"")?);
-    assert!(rt; writes(alloc, FROM_HEX, " \n", b"")?);
-    Ok(())
+    all_write(
+        rt.alloc(),
+        &[
+            (FROM_HEX, "83 0102\n03", b"[1, 2, 3]\n"),
+            (FROM_HEX, "9F\t03\r\n fF", b"[_ 3]\n"),
+            (FROM_CBOR, "\x01\x02", b"1,\n2\n"),
+            (FROM_CBOR, "", b""),
+            (FROM_HEX, " \n", b""),
+        ],
+    )
 }
 
 // Bytes that are no text in UTF-8, and what they are shown as, by docs/SUPPORTED.md ("Times and addresses").
@@ -126,35 +164,61 @@ fn decodes_bytes(rt: HostRuntime) -> Result<(), Fail> {
 
 #[test]
 fn sets_spaces(rt: HostRuntime) -> Result<(), Fail> {
-    let alloc = rt.alloc();
-    let literal = "[1, 2, 'x', ip'2001:db1::/64']\n";
-    assert!(rt; writes(alloc, TO_DIAG, literal, literal.as_bytes())?);
-    let bare = ["cbor-edn", "diag2diag", "--remove-comments"];
-    assert!(rt; writes(alloc, &bare, "[1 /c/, 2]\n", b"[1, 2]\n")?);
-    let kept = ["cbor-edn", "diag2diag", "--preserve-space"];
-    assert!(rt; writes(alloc, &kept, "[1,2]\n", b"[1,2]\n")?);
-    let both = [
-        "cbor-edn",
-        "diag2diag",
-        "--preserve-space",
-        "--remove-comments",
-    ];
-    assert!(rt; writes(alloc, &both, " [1 /c/ 2]\n", b"[1,2]")?);
-    Ok(())
+    all_write(
+        rt.alloc(),
+        &[
+            (
+                TO_DIAG,
+                "[1, 2, 'x', ip'2001:db1::/64']\n",
+                b"[1, 2, 'x', ip'2001:db1::/64']\n",
+            ),
+            (
+                &["cbor-edn", "diag2diag", "--remove-comments"],
+                "[1 /c/, 2]\n",
+                b"[1, 2]\n",
+            ),
+            (
+                &["cbor-edn", "diag2diag", "--preserve-space"],
+                "[1,2]\n",
+                b"[1,2]\n",
+            ),
+            (
+                &[
+                    "cbor-edn",
+                    "diag2diag",
+                    "--preserve-space",
+                    "--remove-comments",
+                ],
+                " [1 /c/ 2]\n",
+                b"[1,2]",
+            ),
+        ],
+    )
 }
 
 #[test]
 fn tells_faults(rt: HostRuntime) -> Result<(), Fail> {
-    let alloc = rt.alloc();
-    let inconsistent = "cbor-edn: Error encoding output data: Number has no encoding\n";
-    assert!(rt; tells(alloc, TO_CBOR, b"1.0", inconsistent)?);
-    let unread = "cbor-edn: Error processing input file\n";
-    assert!(rt; tells(alloc, TO_DIAG, b"\xff", unread)?);
-    let unparsed = "cbor-edn: Error parsing input data: Invalid EDN in line 1 column 2 (byte 1)\n";
-    assert!(rt; tells(alloc, TO_DIAG, b"[,]", unparsed)?);
-    let missing = "cbor-edn: Error decoding input data: Missing argument bytes\n";
-    assert!(rt; tells(alloc, FROM_CBOR, b"\x19\x01", missing)?);
-    Ok(())
+    all_tell(
+        rt.alloc(),
+        &[
+            (
+                TO_CBOR,
+                b"1.0",
+                "cbor-edn: Error encoding output data: Number has no encoding\n",
+            ),
+            (TO_DIAG, b"\xff", "cbor-edn: Error processing input file\n"),
+            (
+                TO_DIAG,
+                b"[,]",
+                "cbor-edn: Error parsing input data: Invalid EDN in line 1 column 2 (byte 1)\n",
+            ),
+            (
+                FROM_CBOR,
+                b"\x19\x01",
+                "cbor-edn: Error decoding input data: Missing argument bytes\n",
+            ),
+        ],
+    )
 }
 
 // No pairs of hexadecimal digits (`specs/Hexadecimal.antt` of `cbor_edn_command`): an odd count of them, and a letter that is none.
@@ -215,46 +279,109 @@ fn indented_arrays(alloc: Global, depth: usize) -> Result<String, Fail> {
     Ok(text)
 }
 
+const ONE: &[&str] = &["cbor-edn", "diag2diag", "--max-nesting", "1"];
+
+// Texts, and where they nest deeper than one level.
+const DEEP_TEXTS: &[(&str, usize)] = &[("[[]]", 1), ("[simple(20)]", 7), ("<<[1]>>", 2)];
+
 #[test]
 fn limits_texts(rt: HostRuntime) -> Result<(), Fail> {
     let alloc = rt.alloc();
-    let one = ["cbor-edn", "diag2diag", "--max-nesting", "1"];
-    let two = ["cbor-edn", "diag2cbor", "--max-nesting=2"];
-    assert!(rt; tells_depth(alloc, &one, "[[]]", 1)?);
-    assert!(rt; writes(alloc, &two, "[[]]", b"\x81\x80")?);
-    assert!(rt; tells_depth(alloc, &one, "[simple(20)]", 7)?);
-    assert!(rt; tells_depth(alloc, &one, "<<[1]>>", 2)?);
+    let mut failures = Failures::new(alloc);
+    for &(text, at) in DEEP_TEXTS {
+        failures.held(alloc, text, tells_depth(alloc, ONE, text, at))?;
+    }
+    failures.end()
+}
+
+fn shows_the_deepest_text(alloc: Global) -> Result<bool, Fail> {
     let nested = arrays(alloc, 512)?;
     let shown = indented_arrays(alloc, 512)?;
-    assert!(rt; writes(alloc, TO_DIAG, &nested, shown.as_bytes())?);
-    assert!(rt; tells_depth(alloc, TO_CBOR, &arrays(alloc, 513)?, 512)?);
-    assert!(rt; tells_depth(alloc, TO_DIAG, &"[".repeat(alloc, 100_000)?, 512)?);
-    Ok(())
+    writes(alloc, TO_DIAG, &nested, shown.as_bytes())
+}
+
+fn tells_of_deeper_text(alloc: Global) -> Result<bool, Fail> {
+    let deeper = arrays(alloc, 513)?;
+    tells_depth(alloc, TO_CBOR, &deeper, 512)
+}
+
+fn tells_of_open_text(alloc: Global) -> Result<bool, Fail> {
+    let open = "[".repeat(alloc, 100_000)?;
+    tells_depth(alloc, TO_DIAG, &open, 512)
+}
+
+#[test]
+fn limits_texts_to_512(rt: HostRuntime) -> Result<(), Fail> {
+    let alloc = rt.alloc();
+    expect("512 arrays", shows_the_deepest_text(alloc)?)?;
+    expect("513 arrays", tells_of_deeper_text(alloc)?)?;
+    expect("100,000 open arrays", tells_of_open_text(alloc)?)
+}
+
+const ONE_HEX: &[&str] = &[
+    "cbor-edn",
+    "cbor2diag",
+    "--input-format",
+    "hex",
+    "--max-nesting",
+    "1",
+];
+
+const NONE_HEX: &[&str] = &["cbor-edn", "cbor2diag", "--max-nesting", "0", "-i", "hex"];
+
+#[test]
+fn takes_what_nests_as_deep_as_it_may(rt: HostRuntime) -> Result<(), Fail> {
+    all_write(
+        rt.alloc(),
+        &[
+            (
+                &["cbor-edn", "diag2cbor", "--max-nesting=2"],
+                "[[]]",
+                b"\x81\x80",
+            ),
+            (ONE_HEX, "81f4", b"[false]\n"),
+            (NONE_HEX, "01", b"1\n"),
+        ],
+    )
 }
 
 #[test]
 fn limits_bytes(rt: HostRuntime) -> Result<(), Fail> {
-    let alloc = rt.alloc();
-    let one = [
-        "cbor-edn",
-        "cbor2diag",
-        "--input-format",
-        "hex",
-        "--max-nesting",
-        "1",
-    ];
-    assert!(rt; writes(alloc, &one, "81f4", b"[false]\n")?);
-    assert!(rt; tells(alloc, &one, b"81e4", DEEP_BYTES)?);
-    let none = ["cbor-edn", "cbor2diag", "--max-nesting", "0", "-i", "hex"];
-    assert!(rt; writes(alloc, &none, "01", b"1\n")?);
-    assert!(rt; tells(alloc, &none, b"80", DEEP_BYTES)?);
-    let nested = "81".repeat(alloc, 511)?;
-    let inner = format!(in alloc; "{nested}80")?;
+    all_tell(
+        rt.alloc(),
+        &[
+            (ONE_HEX, b"81e4", DEEP_BYTES),
+            (NONE_HEX, b"80", DEEP_BYTES),
+        ],
+    )
+}
+
+// The digits of arrays of one entry, so many, and the empty one inside.
+fn array_digits(alloc: Global, around: usize) -> Result<String, Fail> {
+    let nested = "81".repeat(alloc, around)?;
+    Ok(format!(in alloc; "{nested}80")?)
+}
+
+fn shows_the_deepest_bytes(alloc: Global) -> Result<bool, Fail> {
+    let nested = array_digits(alloc, 511)?;
     let shown = indented_arrays(alloc, 512)?;
-    assert!(rt; writes(alloc, FROM_HEX, &inner, shown.as_bytes())?);
-    let deeper = format!(in alloc; "81{inner}")?;
-    assert!(rt; tells(alloc, FROM_HEX, deeper.as_bytes(), DEEP_BYTES)?);
+    writes(alloc, FROM_HEX, &nested, shown.as_bytes())
+}
+
+fn tells_of_deeper_bytes(alloc: Global) -> Result<bool, Fail> {
+    let deeper = array_digits(alloc, 512)?;
+    tells(alloc, FROM_HEX, deeper.as_bytes(), DEEP_BYTES)
+}
+
+fn tells_of_open_bytes(alloc: Global) -> Result<bool, Fail> {
     let open = "81".repeat(alloc, 100_000)?;
-    assert!(rt; tells(alloc, FROM_HEX, open.as_bytes(), DEEP_BYTES)?);
-    Ok(())
+    tells(alloc, FROM_HEX, open.as_bytes(), DEEP_BYTES)
+}
+
+#[test]
+fn limits_bytes_to_512(rt: HostRuntime) -> Result<(), Fail> {
+    let alloc = rt.alloc();
+    expect("512 arrays", shows_the_deepest_bytes(alloc)?)?;
+    expect("513 arrays", tells_of_deeper_bytes(alloc)?)?;
+    expect("100,000 open arrays", tells_of_open_bytes(alloc)?)
 }

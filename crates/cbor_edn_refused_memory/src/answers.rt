@@ -3,6 +3,7 @@ use crate::trees::{sequence_of, standalone_of};
 use cbor_edn_application::{IpVersion, dt_item_to_aol, ip_item_to_aol};
 use cbor_edn_core::tree::{Item, Sequence, StandaloneItem};
 use cbor_edn_expect::memory::{Failure, boxed};
+use cbor_edn_parts::buffer::TextBuffer;
 use cbor_edn_parts::error::Fault;
 use cbor_edn_parts::looks::Looks;
 use cbor_edn_parts::policy::DelimiterPolicy;
@@ -80,6 +81,9 @@ pub(crate) enum BytesBy {
     Recoded(&'static [u8]),
     Content(&'static str),
     Literal(&'static str),
+    /// These print at the end of another text.
+    Printed(&'static str),
+    PrintedLaidOut(&'static str, DelimiterPolicy),
 }
 
 #[derive(Clone, Copy)]
@@ -109,16 +113,34 @@ pub(crate) type Row = (&'static str, Call, &'static [u8]);
 /// Makes the call of a row.
 pub(crate) fn answered(alloc: Global, row: &Row) -> Result<bool, Failure> {
     match row.1 {
-        Call::Item(call) => Ok(item_by(alloc, call)?.serialize(alloc)?.as_bytes() == row.2),
-        Call::Standalone(call) => {
-            Ok(standalone_by(alloc, call)?.serialize(alloc)?.as_bytes() == row.2)
-        }
-        Call::Sequence(call) => Ok(sequence_by(alloc, call)?.serialize(alloc)?.as_bytes() == row.2),
-        Call::Bytes(call) => Ok(bytes_by(alloc, call)?.as_slice() == row.2),
-        Call::LaidOut(call) => Ok(laid_out_by(alloc, call)?.as_bytes() == row.2),
-        Call::Debug => Ok(outlines(alloc)?.as_bytes() == row.2),
-        Call::Refused(call) => Ok(refused_by(alloc, call)?.as_bytes() == row.2),
+        Call::Item(call) => is_text(item_text(alloc, call), row.2),
+        Call::Standalone(call) => is_text(standalone_text(alloc, call), row.2),
+        Call::Sequence(call) => is_text(sequence_text(alloc, call), row.2),
+        Call::Bytes(call) => are_bytes(bytes_by(alloc, call), row.2),
+        Call::LaidOut(call) => is_text(laid_out_by(alloc, call), row.2),
+        Call::Debug => is_text(outlines(alloc), row.2),
+        Call::Refused(call) => is_text(refused_by(alloc, call), row.2),
     }
+}
+
+fn is_text(answer: Result<String, Failure>, wanted: &[u8]) -> Result<bool, Failure> {
+    Ok(answer?.as_bytes() == wanted)
+}
+
+fn are_bytes(answer: Result<Vec<u8>, Failure>, wanted: &[u8]) -> Result<bool, Failure> {
+    Ok(answer?.as_slice() == wanted)
+}
+
+fn item_text(alloc: Global, call: ItemBy) -> Result<String, Failure> {
+    Ok(item_by(alloc, call)?.serialize(alloc)?)
+}
+
+fn standalone_text(alloc: Global, call: StandaloneBy) -> Result<String, Failure> {
+    Ok(standalone_by(alloc, call)?.serialize(alloc)?)
+}
+
+fn sequence_text(alloc: Global, call: SequenceBy) -> Result<String, Failure> {
+    Ok(sequence_by(alloc, call)?.serialize(alloc)?)
 }
 
 fn item_by<'a>(alloc: Global, call: ItemBy) -> Result<Box<Item<'a>>, Failure> {
@@ -354,7 +376,32 @@ fn bytes_by(alloc: Global, call: BytesBy) -> Result<Vec<u8>, Failure> {
         BytesBy::Recoded(bytes) => Ok(decoded(alloc, bytes)?.to_cbor(alloc)?),
         BytesBy::Content(text) => Ok(standalone_of(alloc, text)?.item().get_bytes(alloc)?),
         BytesBy::Literal(text) => literal_of(alloc, standalone_of(alloc, text)?.item()),
+        BytesBy::Printed(text) => printed(alloc, text),
+        BytesBy::PrintedLaidOut(text, policy) => printed_laid_out(alloc, text, policy),
     }
+}
+
+fn printed(alloc: Global, text: &'static str) -> Result<Vec<u8>, Failure> {
+    let mut out = begun(alloc)?;
+    sequence_of(alloc, text)?.print(&mut out)?;
+    Ok(out.into_bytes())
+}
+
+fn printed_laid_out(
+    alloc: Global,
+    text: &'static str,
+    policy: DelimiterPolicy,
+) -> Result<Vec<u8>, Failure> {
+    let mut out = begun(alloc)?;
+    sequence_of(alloc, text)?.print_laid_out(&mut out, policy)?;
+    Ok(out.into_bytes())
+}
+
+/// A text that others are printed behind.
+pub(crate) fn begun(alloc: Global) -> Result<TextBuffer, Failure> {
+    let mut out = TextBuffer::new(alloc);
+    out.push_str("0,")?;
+    Ok(out)
 }
 
 fn laid_out_by(alloc: Global, call: LaidOutBy) -> Result<String, Failure> {

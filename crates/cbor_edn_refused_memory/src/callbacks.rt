@@ -72,6 +72,16 @@ pub(crate) fn comment_literals(
     )
 }
 
+pub(crate) fn comment_sequence_items(
+    alloc: Global,
+    sequence: &mut Sequence<'_>,
+) -> Result<(), AllocError> {
+    sequence.visit_application_items(
+        alloc,
+        &mut |_| Err(CallbackError::Comment(String::from_str(alloc, LONG)?)),
+    )
+}
+
 pub(crate) fn comment_sequence_literals(
     alloc: Global,
     sequence: &mut Sequence<'_>,

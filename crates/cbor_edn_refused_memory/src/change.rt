@@ -1,8 +1,8 @@
 //! The calls that change a tree in its place.
 use crate::acts::{Act, acted};
 use crate::callbacks::{
-    comment_claims, comment_elements, comment_keys, comment_literals, comment_sequence_literals,
-    comment_sequence_tags, comment_tags,
+    comment_claims, comment_elements, comment_keys, comment_literals, comment_sequence_items,
+    comment_sequence_literals, comment_sequence_tags, comment_tags,
 };
 use cbor_edn_application::visits;
 use cbor_edn_core::tree::{Item, Sequence, StandaloneItem};
@@ -52,6 +52,7 @@ pub(crate) enum OfSequence {
     IndentAndDiscardIndicators,
     Tags,
     Literals,
+    LiteralItems,
     Prettify,
     PrettifyAddresses,
     PrettifyTimes,
@@ -106,6 +107,7 @@ fn call_sequence(
         }
         OfSequence::Tags => comment_sequence_tags(alloc, sequence),
         OfSequence::Literals => comment_sequence_literals(alloc, sequence),
+        OfSequence::LiteralItems => comment_sequence_items(alloc, sequence),
         OfSequence::Prettify => visits::prettify(alloc, sequence),
         OfSequence::PrettifyAddresses => visits::prettify_addresses(alloc, sequence),
         OfSequence::PrettifyTimes => visits::prettify_times(alloc, sequence),

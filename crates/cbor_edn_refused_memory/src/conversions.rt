@@ -26,6 +26,15 @@ pub(crate) const VISITS: &[Row] = &[
         ],
     ),
     (
+        "Sequence::visit_application_items",
+        Change::Sequence(OfSequence::LiteralItems),
+        &[
+            PAIR,
+            "{4: 1(0), 8: {4: {3: -17}}} , [_ h'00'/ a comment of some length /, <<dt'1970-01-01T00:00:23Z'>>]",
+            "{4: 1(0), 8: {4: {3: -17}}} , [_ h'00'/ a comment of some length /, <<dt'1970-01-01T00:00:23Z'/ a comment of some length />>]",
+        ],
+    ),
+    (
         "StandaloneItem::visit_tag",
         Change::Standalone(OfStandalone::Tags),
         &[

@@ -6,6 +6,7 @@ use cbor_edn_core::cbor::decode::CborError;
 use cbor_edn_core::tree::{Indicator, Item, Sequence, StandaloneItem};
 use cbor_edn_expect::memory::{Failure, boxed};
 use cbor_edn_model::text::keyword::NamedSimple;
+use cbor_edn_parts::buffer::TextBuffer;
 use cbor_edn_parts::error::{CallbackError, Fault, InconsistentEdn, ParseError, ParseErrorKind};
 use cbor_edn_parts::looks::Looks;
 use cbor_edn_parts::policy::DelimiterPolicy;
@@ -21,6 +22,7 @@ pub(crate) enum Group {
     FromItem,
     Refusals,
     Made,
+    Buffers,
     Conversions,
     /// A call that takes memory, by which it is seen that requests are refused.
     Control,
@@ -40,6 +42,7 @@ pub(crate) const FREE: &[Row] = &[
     ("From<Item>", Group::FromItem),
     ("line, column, offset, too_deep", Group::Refusals),
     ("indented, Looks, as_str", Group::Made),
+    ("into_bytes, into_string", Group::Buffers),
     ("From<AllocError> and the like", Group::Conversions),
     ("a call that takes memory", Group::Control),
 ];
@@ -57,6 +60,7 @@ pub(crate) fn called(alloc: Global, ready: Ready<'_>) -> Result<bool, Failure> {
         Ready::FromItem(item) => Ok(is_five_alone(Box::into_inner(item))),
         Ready::Refusals(refused) => Ok(is_told(&refused)),
         Ready::Made => Ok(is_made()),
+        Ready::Buffers(bytes, text) => Ok(are_taken(bytes, text)),
         Ready::Conversions => Ok(is_converted()),
         Ready::Control => control(alloc),
     }
@@ -98,7 +102,11 @@ fn is_word(item: Option<&Item<'_>>) -> bool {
 
 fn is_string(item: Option<&Item<'_>>) -> bool {
     match item {
-        Some(item) => item.is_plain_string() && item.get_number().is_none(),
+        Some(item) => {
+            item.is_plain_string()
+                && item.get_number().is_none()
+                && item.application_prefix().is_none()
+        }
         None => false,
     }
 }
@@ -297,6 +305,10 @@ fn is_made() -> bool {
                 indent_level: 4,
                 max_width: 80,
             }
+}
+
+fn are_taken(bytes: TextBuffer, text: TextBuffer) -> bool {
+    bytes.into_bytes().as_slice() == b"0,".as_slice() && text.into_string().as_str() == "0,"
 }
 
 fn is_converted() -> bool {

@@ -1,8 +1,10 @@
 //! What the calls of `free` are made on. It is made while memory is there.
+use crate::answers::begun;
 use crate::free::{Group, Row};
 use crate::trees::{sequence_of, standalone_of};
 use cbor_edn_core::tree::{Item, Sequence, StandaloneItem};
 use cbor_edn_expect::memory::{Failure, boxed};
+use cbor_edn_parts::buffer::TextBuffer;
 use cbor_edn_parts::error::{Fault, ParseError};
 use std::alloc::{AllocFailed, Global};
 
@@ -52,6 +54,7 @@ pub(crate) enum Ready<'a> {
     FromItem(Box<Item<'a>>),
     Refusals(ParseError),
     Made,
+    Buffers(TextBuffer, TextBuffer),
     Conversions,
     Control,
 }
@@ -73,6 +76,7 @@ pub(crate) fn prepared<'a>(alloc: Global, row: &Row) -> Result<Ready<'a>, Failur
         }
         Group::Refusals => Ok(Ready::Refusals(refusal(alloc)?)),
         Group::Made => Ok(Ready::Made),
+        Group::Buffers => Ok(Ready::Buffers(begun(alloc)?, begun(alloc)?)),
         Group::Conversions => Ok(Ready::Conversions),
         Group::Control => Ok(Ready::Control),
     }

@@ -247,6 +247,19 @@ pub(crate) const ANSWERS: &[Row] = &[
         b"1/ a comment of some length /,\n[\n 2\n]\n",
     ),
     (
+        "Sequence::print",
+        Call::Bytes(BytesBy::Printed("1 / a comment of some length /, [2]")),
+        b"0,1 / a comment of some length /, [2]",
+    ),
+    (
+        "Sequence::print_laid_out",
+        Call::Bytes(BytesBy::PrintedLaidOut(
+            "1 / a comment of some length /, [2]",
+            DelimiterPolicy::DiscardAll,
+        )),
+        b"0,1,[2]",
+    ),
+    (
         "Item::get_bytes",
         Call::Bytes(BytesBy::Content("(_ 'a', h'62' + 'c')")),
         b"abc",

@@ -11,8 +11,8 @@ use std::test::Fail;
 pub(crate) fn all_mean(alloc: Global, rows: &[(&str, &str)]) -> Result<(), Fail> {
     let mut failures = Failures::new(alloc);
     for &(text, wanted) in rows {
-        failures.row(alloc, text, encoded(alloc, text)?.as_str(), wanted)?;
-        failures.row(alloc, text, printed(alloc, text)?.as_str(), text)?;
+        failures.told(alloc, text, encoded(alloc, text), wanted)?;
+        failures.told(alloc, text, printed(alloc, text), text)?;
     }
     failures.end()
 }
@@ -21,7 +21,7 @@ pub(crate) fn all_mean(alloc: Global, rows: &[(&str, &str)]) -> Result<(), Fail>
 pub(crate) fn all_unparsed(alloc: Global, texts: &[&str]) -> Result<(), Fail> {
     let mut failures = Failures::new(alloc);
     for &text in texts {
-        failures.row(alloc, text, encoded(alloc, text)?.as_str(), "parse")?;
+        failures.told(alloc, text, encoded(alloc, text), "parse")?;
     }
     failures.end()
 }
@@ -58,7 +58,11 @@ pub(crate) fn encoded_alone(alloc: Global, text: &str) -> Result<String, Fail> {
 /// The text of the items that bytes, given in digits, encode, or the name of the refusal.
 pub(crate) fn decoded(alloc: Global, digits: &str) -> Result<String, Fail> {
     let bytes = hex::decode(alloc, digits)?;
-    match Sequence::from_cbor(alloc, bytes.as_slice()) {
+    decoded_sequence(alloc, bytes.as_slice())
+}
+
+fn decoded_sequence(alloc: Global, bytes: &[u8]) -> Result<String, Fail> {
+    match Sequence::from_cbor(alloc, bytes) {
         Ok(sequence) => Ok(sequence.serialize(alloc)?),
         Err(fault) => name_of(alloc, fault),
     }
@@ -88,10 +92,9 @@ pub(crate) fn stand_for_each_other(
     text: &str,
     digits: &str,
 ) -> Result<(), Fail> {
-    failures.row(alloc, text, encoded(alloc, text)?.as_str(), digits)?;
-    failures.row(alloc, digits, decoded(alloc, digits)?.as_str(), text)?;
-    failures.row(alloc, text, printed(alloc, text)?.as_str(), text)?;
-    Ok(())
+    failures.told(alloc, text, encoded(alloc, text), digits)?;
+    failures.told(alloc, digits, decoded(alloc, digits), text)?;
+    failures.told(alloc, text, printed(alloc, text), text)
 }
 
 /// The same of each text and its bytes.

@@ -3,7 +3,7 @@ use crate::common::{cbor_error, decoded, decoded_item, repeated, stand_for_each_
 use cbor_edn_core::cbor::decode::CborError;
 use cbor_edn_core::tree::{Item, NESTING_LIMIT, Sequence, StandaloneItem};
 use cbor_edn_expect::failures::Failures;
-use cbor_edn_expect::{digits_of, expect_row, name_of};
+use cbor_edn_expect::{digits_of, expect_row, expect_told, name_of};
 use std::alloc::Global;
 use std::test::Fail;
 
@@ -133,9 +133,8 @@ fn refuses_bytes(rt: HostRuntime) -> Result<(), Fail> {
     let alloc = rt.alloc();
     let mut failures = Failures::new(alloc);
     for &(digits, name) in REFUSED {
-        failures.row(alloc, digits, decoded(alloc, digits)?.as_str(), name)?;
-        let told = item_of(alloc, digits, NESTING_LIMIT)?;
-        failures.row(alloc, digits, told.as_str(), name)?;
+        failures.told(alloc, digits, decoded(alloc, digits), name)?;
+        failures.told(alloc, digits, item_of(alloc, digits, NESTING_LIMIT), name)?;
     }
     failures.end()
 }
@@ -152,8 +151,7 @@ fn refuses_other_than_one_item(rt: HostRuntime) -> Result<(), Fail> {
     let alloc = rt.alloc();
     let mut failures = Failures::new(alloc);
     for &(digits, name) in NOT_ONE {
-        let told = item_of(alloc, digits, NESTING_LIMIT)?;
-        failures.row(alloc, digits, told.as_str(), name)?;
+        failures.told(alloc, digits, item_of(alloc, digits, NESTING_LIMIT), name)?;
     }
     failures.end()
 }
@@ -205,12 +203,15 @@ fn refuses_beginnings(rt: HostRuntime) -> Result<(), Fail> {
     let alloc = rt.alloc();
     let mut failures = Failures::new(alloc);
     for &(digits, text) in WHOLE {
-        let told = item_of(alloc, digits, NESTING_LIMIT)?;
-        failures.row(alloc, digits, told.as_str(), text)?;
-        let is_cut_before = first_uncut(alloc, digits)? == digits.len() / 2;
-        failures.holds(alloc, digits, is_cut_before)?;
+        failures.told(alloc, digits, item_of(alloc, digits, NESTING_LIMIT), text)?;
+        failures.held(alloc, digits, is_cut_before_its_end(alloc, digits))?;
     }
     failures.end()
+}
+
+/// Whether each beginning of what is given in digits is refused for want of more.
+fn is_cut_before_its_end(alloc: Global, digits: &str) -> Result<bool, Fail> {
+    Ok(first_uncut(alloc, digits)? == digits.len() / 2)
 }
 
 /// Bytes, how deep their item nests, and its text, by `docs/SUPPORTED.md`. Simple values that have names do not nest.
@@ -236,12 +237,21 @@ fn counts_what_nests(rt: HostRuntime) -> Result<(), Fail> {
     for &(digits, depth, text) in NESTED {
         for limit in 0..3 {
             let wanted = if limit < depth { "TooDeep" } else { text };
-            let row = format!(in alloc; "{digits} at {limit}")?;
-            let told = item_of(alloc, digits, limit)?;
-            failures.row(alloc, row.as_str(), told.as_str(), wanted)?;
+            see_item(&mut failures, alloc, digits, limit, wanted)?;
         }
     }
     failures.end()
+}
+
+fn see_item(
+    failures: &mut Failures,
+    alloc: Global,
+    digits: &str,
+    limit: usize,
+    wanted: &str,
+) -> Result<(), Fail> {
+    let row = format!(in alloc; "{digits} at {limit}")?;
+    failures.told(alloc, row.as_str(), item_of(alloc, digits, limit), wanted)
 }
 
 /// Arrays of one entry, so many, the innermost of them empty.
@@ -271,12 +281,15 @@ fn refuses_what_is_deeper(rt: HostRuntime) -> Result<(), Fail> {
     let alloc = rt.alloc();
     let mut failures = Failures::new(alloc);
     for &depth in DEEPER {
-        let bytes = nested(alloc, depth)?;
         let row = format!(in alloc; "{depth} arrays")?;
-        let told = decoded_item(alloc, bytes.as_slice(), NESTING_LIMIT)?;
-        failures.row(alloc, row.as_str(), told.as_str(), "TooDeep")?;
+        failures.told(alloc, row.as_str(), deep_item(alloc, depth), "TooDeep")?;
     }
     failures.end()
+}
+
+fn deep_item(alloc: Global, depth: usize) -> Result<String, Fail> {
+    let bytes = nested(alloc, depth)?;
+    decoded_item(alloc, bytes.as_slice(), NESTING_LIMIT)
 }
 
 /// The text of the item that bytes begin with, which may nest so deep or has no limit of its own, and the bytes behind it; or the
@@ -312,11 +325,12 @@ fn see_first(
     failures: &mut Failures,
     alloc: Global,
     row: &str,
-    told: (String, &[u8]),
+    told: Result<(String, &[u8]), Fail>,
     wanted: (&str, &[u8]),
 ) -> Result<(), Fail> {
-    failures.row(alloc, row, told.0.as_str(), wanted.0)?;
-    failures.holds(alloc, row, told.1 == wanted.1)?;
+    let (text, rest) = told?;
+    failures.row(alloc, row, text.as_str(), wanted.0)?;
+    failures.holds(alloc, row, rest == wanted.1)?;
     Ok(())
 }
 
@@ -337,9 +351,9 @@ fn answers_the_rest(rt: HostRuntime) -> Result<(), Fail> {
     let mut failures = Failures::new(alloc);
     for &(bytes, limit, text, rest) in BEGUN {
         let row = format!(in alloc; "{bytes:?} within {limit:?}")?;
-        let told = first_item(alloc, bytes, limit)?;
+        let told = first_item(alloc, bytes, limit);
         see_first(&mut failures, alloc, row.as_str(), told, (text, rest))?;
-        let told = first_standalone(alloc, bytes, limit)?;
+        let told = first_standalone(alloc, bytes, limit);
         see_first(&mut failures, alloc, row.as_str(), told, (text, rest))?;
     }
     failures.end()
@@ -397,17 +411,30 @@ fn encodes_items_again(rt: HostRuntime) -> Result<(), Fail> {
     let alloc = rt.alloc();
     let mut failures = Failures::new(alloc);
     for &(bytes, limit, wanted) in AGAIN {
-        let row = format!(in alloc; "{bytes:?} within {limit}")?;
-        let told = item_again(alloc, bytes, limit)?;
-        failures.row(alloc, row.as_str(), told.as_str(), wanted)?;
-        let told = standalone_again(alloc, bytes, limit)?;
-        failures.row(alloc, row.as_str(), told.as_str(), wanted)?;
-        let told = sequence_again(alloc, bytes, limit)?;
-        failures.row(alloc, row.as_str(), told.as_str(), wanted)?;
+        see_again(&mut failures, alloc, bytes, limit, wanted)?;
     }
-    failures.end()?;
-    let told = unlimited_again(alloc, b"\x82\x01\x81\x80")?;
-    expect_row(alloc, "a standalone item", told.as_str(), "82018180")?;
-    let told = sequence_again(alloc, b"\x80\x81\x80", 2)?;
-    expect_row(alloc, "a sequence of two", told.as_str(), "808180")
+    failures.end()
+}
+
+fn see_again(
+    failures: &mut Failures,
+    alloc: Global,
+    bytes: &[u8],
+    limit: usize,
+    wanted: &str,
+) -> Result<(), Fail> {
+    let row = format!(in alloc; "{bytes:?} within {limit}")?;
+    let row = row.as_str();
+    failures.told(alloc, row, item_again(alloc, bytes, limit), wanted)?;
+    failures.told(alloc, row, standalone_again(alloc, bytes, limit), wanted)?;
+    failures.told(alloc, row, sequence_again(alloc, bytes, limit), wanted)
+}
+
+#[test]
+fn encodes_standalone_items_and_sequences_again(rt: HostRuntime) -> Result<(), Fail> {
+    let alloc = rt.alloc();
+    let told = unlimited_again(alloc, b"\x82\x01\x81\x80");
+    expect_told(alloc, told, "82018180")?;
+    let told = sequence_again(alloc, b"\x80\x81\x80", 2);
+    expect_told(alloc, told, "808180")
 }

@@ -23,8 +23,12 @@ fn answer_of(alloc: Global, text: &str, limit: usize) -> Result<Answer, Fail> {
     }
 }
 
+fn is_answer(alloc: Global, text: &str, limit: usize, wanted: Answer) -> Result<bool, Fail> {
+    Ok(answer_of(alloc, text, limit)? == wanted)
+}
+
 fn expect_answer(alloc: Global, text: &str, limit: usize, wanted: Answer) -> Result<(), Fail> {
-    expect(text, answer_of(alloc, text, limit)? == wanted)
+    expect(text, is_answer(alloc, text, limit, wanted)?)
 }
 
 fn accepts_standalone(alloc: Global, text: &str, limit: usize) -> bool {
@@ -62,12 +66,16 @@ fn counts_what_nests(rt: HostRuntime) -> Result<(), Fail> {
                 Answer::Accepted
             };
             let row = format!(in alloc; "{text} at {limit}")?;
-            let is_wanted = answer_of(alloc, text, limit)? == wanted;
-            failures.holds(alloc, row.as_str(), is_wanted)?;
+            let is_wanted = is_answer(alloc, text, limit, wanted);
+            failures.held(alloc, row.as_str(), is_wanted)?;
         }
     }
-    failures.end()?;
-    expect_answer(alloc, ",1", 0, Answer::Invalid)
+    failures.end()
+}
+
+#[test]
+fn refuses_wrong_texts_as_invalid(rt: HostRuntime) -> Result<(), Fail> {
+    expect_answer(rt.alloc(), ",1", 0, Answer::Invalid)
 }
 
 #[test]

@@ -151,13 +151,22 @@ fn see_words(
     Ok(())
 }
 
+fn see_inconsistent(
+    failures: &mut Failures,
+    alloc: Global,
+    text: &str,
+    refused: InconsistentEdn,
+) -> Result<(), Fail> {
+    let name = format!(in alloc; "{refused:?}")?;
+    failures.told(alloc, text, encoded(alloc, text), name.as_str())
+}
+
 #[test]
 fn words_of_inconsistencies(rt: HostRuntime) -> Result<(), Fail> {
     let alloc = rt.alloc();
     let mut failures = Failures::new(alloc);
     for &(text, refused, words) in INCONSISTENT {
-        let name = format!(in alloc; "{refused:?}")?;
-        failures.row(alloc, text, encoded(alloc, text)?.as_str(), name.as_str())?;
+        see_inconsistent(&mut failures, alloc, text, refused)?;
         see_words(&mut failures, alloc, refused, words)?;
     }
     for &(refused, words) in UNTOLD {
@@ -257,12 +266,31 @@ fn words_of_cbor_errors(rt: HostRuntime) -> Result<(), Fail> {
     let alloc = rt.alloc();
     let mut failures = Failures::new(alloc);
     for &(digits, refused, words) in CBOR_ERRORS {
-        let is_refused = error_of(alloc, digits)? == Some(refused);
-        failures.holds(alloc, digits, is_refused)?;
-        failures.holds(alloc, digits, !refused.too_deep())?;
-        failures.row(alloc, digits, refused.to_string(alloc)?.as_str(), words)?;
+        failures.held(alloc, digits, is_refused(alloc, digits, refused))?;
+        see_words_of_cbor(&mut failures, alloc, digits, refused, words)?;
     }
-    failures.end()?;
+    failures.end()
+}
+
+fn is_refused(alloc: Global, digits: &str, refused: CborError) -> Result<bool, Fail> {
+    Ok(error_of(alloc, digits)? == Some(refused))
+}
+
+fn see_words_of_cbor(
+    failures: &mut Failures,
+    alloc: Global,
+    digits: &str,
+    refused: CborError,
+    words: &str,
+) -> Result<(), Fail> {
+    failures.holds(alloc, digits, !refused.too_deep())?;
+    failures.row(alloc, digits, refused.to_string(alloc)?.as_str(), words)?;
+    Ok(())
+}
+
+#[test]
+fn words_of_nesting_too_deep(rt: HostRuntime) -> Result<(), Fail> {
+    let alloc = rt.alloc();
     expect("too deep", CborError::TooDeep.too_deep())?;
     let words = CborError::TooDeep.to_string(alloc)?;
     expect_row(alloc, "too deep", words.as_str(), "Nested too deeply")

@@ -84,7 +84,7 @@ fn encodes_standalone_items(rt: HostRuntime) -> Result<(), Fail> {
     let alloc = rt.alloc();
     let mut failures = Failures::new(alloc);
     for &(text, wanted) in ALONE {
-        failures.row(alloc, text, encoded_alone(alloc, text)?.as_str(), wanted)?;
+        failures.told(alloc, text, encoded_alone(alloc, text), wanted)?;
     }
     failures.end()
 }

@@ -3,7 +3,7 @@ use crate::common::{Made, make, standalone_of, tag_of};
 use cbor_edn_core::access::TypeMismatch;
 use cbor_edn_core::tree::Item;
 use cbor_edn_expect::failures::Failures;
-use cbor_edn_expect::{expect, expect_text};
+use cbor_edn_expect::{expect, expect_text, expect_told};
 use cbor_edn_parts::error::Fault;
 use std::alloc::Global;
 use std::test::Fail;
@@ -26,11 +26,20 @@ fn integers_are_answered(rt: HostRuntime) -> Result<(), Fail> {
     let alloc = rt.alloc();
     let mut failures = Failures::new(alloc);
     for &(made, wanted) in INTEGERS {
-        let row = format!(in alloc; "{wanted:?}")?;
-        let is_wanted = integer(alloc, made)? == wanted;
-        failures.holds(alloc, row.as_str(), is_wanted)?;
+        see_integer(&mut failures, alloc, made, wanted)?;
     }
     failures.end()
+}
+
+fn see_integer(
+    failures: &mut Failures,
+    alloc: Global,
+    made: Made<'_>,
+    wanted: Result<i128, TypeMismatch>,
+) -> Result<(), Fail> {
+    let row = format!(in alloc; "{wanted:?}")?;
+    let is_wanted = integer(alloc, made)? == wanted;
+    Ok(failures.holds(alloc, row.as_str(), is_wanted)?)
 }
 
 /// The number of a tag, and the text of what stands between its parentheses.
@@ -106,7 +115,7 @@ fn forms_are_answered(rt: HostRuntime) -> Result<(), Fail> {
     let alloc = rt.alloc();
     let mut failures = Failures::new(alloc);
     for &(text, wanted) in TOLD {
-        failures.row(alloc, text, told(alloc, text)?.as_str(), wanted)?;
+        failures.told(alloc, text, told(alloc, text), wanted)?;
     }
     failures.end()
 }
@@ -131,10 +140,8 @@ fn array_items(alloc: Global, made: Made<'_>) -> Result<String, Fail> {
 #[test]
 fn items_of_arrays_are_answered(rt: HostRuntime) -> Result<(), Fail> {
     let alloc = rt.alloc();
-    let told = array_items(alloc, Made::Array(&[1, 2]))?;
-    expect_text(alloc, told.as_str(), "1;2;")?;
-    let told = array_items(alloc, Made::Array(&[]))?;
-    expect_text(alloc, told.as_str(), "")
+    expect_told(alloc, array_items(alloc, Made::Array(&[1, 2])), "1;2;")?;
+    expect_told(alloc, array_items(alloc, Made::Array(&[])), "")
 }
 
 fn map_items(alloc: Global, made: Made<'_>) -> Result<String, Fail> {
@@ -150,10 +157,9 @@ fn map_items(alloc: Global, made: Made<'_>) -> Result<String, Fail> {
 #[test]
 fn items_of_maps_are_answered(rt: HostRuntime) -> Result<(), Fail> {
     let alloc = rt.alloc();
-    let told = map_items(alloc, Made::Map(&[(1, 2), (3, 4)]))?;
-    expect_text(alloc, told.as_str(), "1;2;3;4;")?;
-    let told = map_items(alloc, Made::Map(&[]))?;
-    expect_text(alloc, told.as_str(), "")
+    let told = map_items(alloc, Made::Map(&[(1, 2), (3, 4)]));
+    expect_told(alloc, told, "1;2;3;4;")?;
+    expect_told(alloc, map_items(alloc, Made::Map(&[])), "")
 }
 
 fn bytes_of(alloc: Global, made: Made<'_>) -> Result<Option<Vec<u8>>, Fail> {
@@ -177,13 +183,16 @@ fn bytes_are_answered(rt: HostRuntime) -> Result<(), Fail> {
     let alloc = rt.alloc();
     let mut failures = Failures::new(alloc);
     for &(name, made, wanted) in BYTES {
-        let is_wanted = match bytes_of(alloc, made)? {
-            Some(bytes) => bytes.as_slice() == wanted,
-            None => false,
-        };
-        failures.holds(alloc, name, is_wanted)?;
+        failures.held(alloc, name, has_bytes(alloc, made, wanted))?;
     }
     failures.end()
+}
+
+fn has_bytes(alloc: Global, made: Made<'_>, wanted: &[u8]) -> Result<bool, Fail> {
+    match bytes_of(alloc, made)? {
+        Some(bytes) => Ok(bytes.as_slice() == wanted),
+        None => Ok(false),
+    }
 }
 
 /// Items that have no bytes by the same docstring.
@@ -209,10 +218,13 @@ fn other_items_have_no_bytes(rt: HostRuntime) -> Result<(), Fail> {
     let alloc = rt.alloc();
     let mut failures = Failures::new(alloc);
     for &(name, made) in NO_BYTES {
-        let has_none = bytes_of(alloc, made)?.is_none();
-        failures.holds(alloc, name, has_none)?;
+        failures.held(alloc, name, has_no_bytes(alloc, made))?;
     }
     failures.end()
+}
+
+fn has_no_bytes(alloc: Global, made: Made<'_>) -> Result<bool, Fail> {
+    Ok(bytes_of(alloc, made)?.is_none())
 }
 
 fn parts_of(alloc: Global, made: Made<'_>) -> Result<String, Fail> {
@@ -251,7 +263,7 @@ fn application_literals_are_answered(rt: HostRuntime) -> Result<(), Fail> {
     let alloc = rt.alloc();
     let mut failures = Failures::new(alloc);
     for &(name, made, wanted) in PARTS {
-        failures.row(alloc, name, parts_of(alloc, made)?.as_str(), wanted)?;
+        failures.told(alloc, name, parts_of(alloc, made), wanted)?;
     }
     failures.end()
 }

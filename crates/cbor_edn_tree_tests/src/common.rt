@@ -1,7 +1,7 @@
 //! How the tests make items, and how they compare texts.
 use cbor_edn_core::tree::{Item, Sequence, StandaloneItem};
-use cbor_edn_expect::expect;
 use cbor_edn_expect::failures::Failures;
+use cbor_edn_expect::{boxed, expect};
 use cbor_edn_parts::policy::DelimiterPolicy;
 use std::alloc::Global;
 use std::test::Fail;
@@ -23,7 +23,7 @@ pub(crate) enum Made<'m> {
 
 /// The tree of a text.
 pub(crate) fn sequence_of<'a>(alloc: Global, text: &'a str) -> Result<Box<Sequence<'a>>, Fail> {
-    Ok(Box::new(alloc, Sequence::parse(alloc, text)?)?)
+    boxed(alloc, Sequence::parse(alloc, text))
 }
 
 /// The same of a standalone item's text.
@@ -31,25 +31,37 @@ pub(crate) fn standalone_of<'a>(
     alloc: Global,
     text: &'a str,
 ) -> Result<Box<StandaloneItem<'a>>, Fail> {
-    Ok(Box::new(alloc, StandaloneItem::parse(alloc, text)?)?)
+    boxed(alloc, StandaloneItem::parse(alloc, text))
 }
 
 /// An item that is made by the constructor of its kind.
 pub(crate) fn make<'a>(alloc: Global, made: Made<'_>) -> Result<Box<Item<'a>>, Fail> {
-    Ok(Box::new(alloc, make_item(alloc, made)?)?)
+    match made {
+        Made::Decimal(integer) => boxed(alloc, Item::new_integer_decimal(alloc, integer)),
+        Made::Hex(integer) => boxed(alloc, Item::new_integer_hex(alloc, integer)),
+        Made::Bytes(bytes) => boxed(alloc, Item::new_bytes_hex(alloc, bytes)),
+        Made::Text(text) => boxed(alloc, Item::new_text(alloc, text)),
+        Made::Literal(prefix, text) => {
+            boxed(alloc, Item::new_application_literal(alloc, prefix, text))
+        }
+        Made::Array(numbers) => array_of(alloc, numbers),
+        Made::Map(numbers) => map_of(alloc, numbers),
+        Made::Decoded(bytes) => decoded(alloc, bytes),
+    }
 }
 
-pub(crate) fn make_item<'a>(alloc: Global, made: Made<'_>) -> Result<Item<'a>, Fail> {
-    match made {
-        Made::Decimal(integer) => Ok(Item::new_integer_decimal(alloc, integer)?),
-        Made::Hex(integer) => Ok(Item::new_integer_hex(alloc, integer)?),
-        Made::Bytes(bytes) => Ok(Item::new_bytes_hex(alloc, bytes)?),
-        Made::Text(text) => Ok(Item::new_text(alloc, text)?),
-        Made::Literal(prefix, text) => Ok(Item::new_application_literal(alloc, prefix, text)?),
-        Made::Array(numbers) => Ok(Item::new_array(alloc, list(alloc, numbers)?)?),
-        Made::Map(numbers) => Ok(Item::new_map(alloc, pairs(alloc, numbers)?)?),
-        Made::Decoded(bytes) => Ok(Item::from_cbor(alloc, bytes)?),
-    }
+pub(crate) fn array_of<'a>(alloc: Global, numbers: &[i128]) -> Result<Box<Item<'a>>, Fail> {
+    let items: Vec<Item<'a>> = list(alloc, numbers)?;
+    boxed(alloc, Item::new_array(alloc, items))
+}
+
+fn map_of<'a>(alloc: Global, numbers: &[(i128, i128)]) -> Result<Box<Item<'a>>, Fail> {
+    let entries: Vec<(Item<'a>, Item<'a>)> = pairs(alloc, numbers)?;
+    boxed(alloc, Item::new_map(alloc, entries))
+}
+
+fn decoded<'a>(alloc: Global, bytes: &[u8]) -> Result<Box<Item<'a>>, Fail> {
+    boxed(alloc, Item::from_cbor(alloc, bytes))
 }
 
 pub(crate) fn list<'a>(alloc: Global, numbers: &[i128]) -> Result<Vec<Item<'a>>, Fail> {
@@ -78,7 +90,7 @@ fn pairs<'a>(alloc: Global, numbers: &[(i128, i128)]) -> Result<Vec<(Item<'a>, I
 pub(crate) fn all_written(alloc: Global, rows: &[(Made<'_>, &str)]) -> Result<(), Fail> {
     let mut failures = Failures::new(alloc);
     for &(made, wanted) in rows {
-        failures.row(alloc, wanted, text_of(alloc, made)?.as_str(), wanted)?;
+        failures.told(alloc, wanted, text_of(alloc, made), wanted)?;
     }
     failures.end()
 }
@@ -90,8 +102,10 @@ fn text_of(alloc: Global, made: Made<'_>) -> Result<String, Fail> {
 
 /// The item that is a tag round what a text says.
 pub(crate) fn tag_of<'a>(alloc: Global, number: u64, text: &'a str) -> Result<Box<Item<'a>>, Fail> {
-    let content = StandaloneItem::parse(alloc, text)?;
-    Ok(Box::new(alloc, content.tagged(alloc, number)?)?)
+    boxed(
+        alloc,
+        StandaloneItem::parse(alloc, text)?.tagged(alloc, number),
+    )
 }
 
 /// The five policies, the indented one as it is by default.
@@ -128,11 +142,19 @@ fn edit_alone(
         item.set_comment(alloc, comment)?;
     }
     for &policy in policies {
-        let laid_out = item.serialize_laid_out(alloc, policy)?;
-        item.set_delimiters(alloc, policy)?;
-        expect("text as laid out", item.serialize(alloc)? == laid_out)?;
+        lay_out_alone(item, alloc, policy)?;
     }
     Ok(item.serialize(alloc)?)
+}
+
+fn lay_out_alone(
+    item: &mut StandaloneItem<'_>,
+    alloc: Global,
+    policy: DelimiterPolicy,
+) -> Result<(), Fail> {
+    let laid_out = item.serialize_laid_out(alloc, policy)?;
+    item.set_delimiters(alloc, policy)?;
+    expect("text as laid out", item.serialize(alloc)? == laid_out)
 }
 
 /// What is done to a sequence or an item: its indicators go, it gets the spaces of a policy, or there is no memory for these.
@@ -150,18 +172,25 @@ pub(crate) fn edited_sequence(alloc: Global, text: &str, edit: Edit) -> Result<S
 }
 
 fn edit_sequence(sequence: &mut Sequence<'_>, alloc: Global, edit: Edit) -> Result<String, Fail> {
-    let (answer, is_done) = match edit {
-        Edit::Bare => (sequence.discard_encoding_indicators(alloc), true),
-        Edit::LaidOut(policy) => {
-            let laid_out = sequence.serialize_laid_out(alloc, policy)?;
-            sequence.set_delimiters(alloc, policy)?;
-            expect("text as laid out", sequence.serialize(alloc)? == laid_out)?;
-            (Ok(()), true)
+    match edit {
+        Edit::Bare => sequence.discard_encoding_indicators(alloc)?,
+        Edit::LaidOut(policy) => lay_out(sequence, alloc, policy)?,
+        Edit::Refused(policy) => {
+            let is_refused = sequence.set_delimiters(alloc, policy).is_err();
+            expect("no memory for spaces", is_refused)?;
         }
-        Edit::Refused(policy) => (sequence.set_delimiters(alloc, policy), false),
-    };
-    expect("edit of a sequence", answer.is_ok() == is_done)?;
+    }
     Ok(sequence.serialize(alloc)?)
+}
+
+fn lay_out(
+    sequence: &mut Sequence<'_>,
+    alloc: Global,
+    policy: DelimiterPolicy,
+) -> Result<(), Fail> {
+    let laid_out = sequence.serialize_laid_out(alloc, policy)?;
+    sequence.set_delimiters(alloc, policy)?;
+    expect("text as laid out", sequence.serialize(alloc)? == laid_out)
 }
 
 /// A text's items without spaces and comments between them.
@@ -176,16 +205,19 @@ pub(crate) fn edited_item(alloc: Global, made: Made<'_>, edit: Edit) -> Result<S
 }
 
 fn edit_item(item: &mut Item<'_>, alloc: Global, edit: Edit) -> Result<String, Fail> {
-    let (answer, is_done) = match edit {
-        Edit::Bare => (item.discard_encoding_indicators(alloc), true),
-        Edit::LaidOut(policy) => {
-            let laid_out = item.serialize_laid_out(alloc, policy)?;
-            item.set_delimiters(alloc, policy)?;
-            expect("text as laid out", item.serialize(alloc)? == laid_out)?;
-            (Ok(()), true)
+    match edit {
+        Edit::Bare => item.discard_encoding_indicators(alloc)?,
+        Edit::LaidOut(policy) => lay_out_item(item, alloc, policy)?,
+        Edit::Refused(policy) => {
+            let is_refused = item.set_delimiters(alloc, policy).is_err();
+            expect("no memory for spaces", is_refused)?;
         }
-        Edit::Refused(policy) => (item.set_delimiters(alloc, policy), false),
-    };
-    expect("edit of an item", answer.is_ok() == is_done)?;
+    }
     Ok(item.serialize(alloc)?)
+}
+
+fn lay_out_item(item: &mut Item<'_>, alloc: Global, policy: DelimiterPolicy) -> Result<(), Fail> {
+    let laid_out = item.serialize_laid_out(alloc, policy)?;
+    item.set_delimiters(alloc, policy)?;
+    expect("text as laid out", item.serialize(alloc)? == laid_out)
 }

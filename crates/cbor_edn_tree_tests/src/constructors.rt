@@ -1,8 +1,8 @@
 //! Items and sequences that are made from values.
-use crate::common::{Made, all_written, list, make, make_item, tag_of};
+use crate::common::{Made, all_written, list, make, tag_of};
 use cbor_edn_core::tree::{Item, Sequence};
-use cbor_edn_expect::expect_text;
 use cbor_edn_expect::failures::Failures;
+use cbor_edn_expect::{boxed, expect_told};
 use cbor_edn_parts::error::{Fault, InconsistentEdn};
 use std::alloc::Global;
 use std::test::Fail;
@@ -94,8 +94,7 @@ fn literals_are_written_behind_prefixes_alone(rt: HostRuntime) -> Result<(), Fai
     let alloc = rt.alloc();
     let mut failures = Failures::new(alloc);
     for &(prefix, text, wanted) in LITERALS {
-        let told = literal(alloc, prefix, text)?;
-        failures.row(alloc, prefix, told.as_str(), wanted)?;
+        failures.told(alloc, prefix, literal(alloc, prefix, text), wanted)?;
     }
     failures.end()
 }
@@ -108,11 +107,12 @@ fn tagged_text(alloc: Global, text: &str, number: u64) -> Result<String, Fail> {
 #[test]
 fn tags_keep_spaces(rt: HostRuntime) -> Result<(), Fail> {
     let alloc = rt.alloc();
-    expect_text(alloc, tagged_text(alloc, " 2 ", 1)?.as_str(), "1( 2 )")
+    expect_told(alloc, tagged_text(alloc, " 2 ", 1), "1( 2 )")
 }
 
-fn tagged(alloc: Global, made: Made<'_>, number: u64) -> Result<String, Fail> {
-    let item = make_item(alloc, made)?.tagged(alloc, number)?;
+fn array_in_tag(alloc: Global, numbers: &[i128], number: u64) -> Result<String, Fail> {
+    let array: Item<'_> = Item::new_array(alloc, list(alloc, numbers)?)?;
+    let item = boxed(alloc, array.tagged(alloc, number))?;
     Ok(item.serialize(alloc)?)
 }
 
@@ -126,10 +126,9 @@ fn put_into_tag(alloc: Global, made: Made<'_>, number: u64) -> Result<String, Fa
 #[test]
 fn tags_of_arrays_are_written(rt: HostRuntime) -> Result<(), Fail> {
     let alloc = rt.alloc();
-    let told = tagged(alloc, Made::Array(&[1, 2]), 24)?;
-    expect_text(alloc, told.as_str(), "24([1,2])")?;
-    let told = put_into_tag(alloc, Made::Array(&[1, 2]), 24)?;
-    expect_text(alloc, told.as_str(), "24([1,2])")
+    expect_told(alloc, array_in_tag(alloc, &[1, 2], 24), "24([1,2])")?;
+    let told = put_into_tag(alloc, Made::Array(&[1, 2]), 24);
+    expect_told(alloc, told, "24([1,2])")
 }
 
 /// The number that is written so, or the empty text where it is none.
@@ -151,34 +150,35 @@ fn numbers_are_written_as_told(rt: HostRuntime) -> Result<(), Fail> {
     let alloc = rt.alloc();
     let mut failures = Failures::new(alloc);
     for &text in NUMBERS {
-        failures.row(alloc, text, number(alloc, text)?.as_str(), text)?;
+        failures.told(alloc, text, number(alloc, text), text)?;
     }
     for &text in NO_NUMBERS {
-        failures.row(alloc, text, number(alloc, text)?.as_str(), "")?;
+        failures.told(alloc, text, number(alloc, text), "")?;
     }
     failures.end()
 }
 
 fn sequence(alloc: Global, numbers: &[i128]) -> Result<String, Fail> {
-    let sequence = Sequence::new(alloc, list(alloc, numbers)?)?;
+    let items: Vec<Item<'_>> = list(alloc, numbers)?;
+    let sequence = boxed(alloc, Sequence::new(alloc, items))?;
     Ok(sequence.serialize(alloc)?)
 }
 
 #[test]
 fn sequences_are_written(rt: HostRuntime) -> Result<(), Fail> {
     let alloc = rt.alloc();
-    expect_text(alloc, sequence(alloc, &[1, 2])?.as_str(), "1,2")?;
-    expect_text(alloc, sequence(alloc, &[])?.as_str(), "")
+    expect_told(alloc, sequence(alloc, &[1, 2]), "1,2")?;
+    expect_told(alloc, sequence(alloc, &[]), "")
 }
 
 fn reversed(alloc: Global, numbers: &[i128]) -> Result<String, Fail> {
     let items: Vec<Item<'_>> = list(alloc, numbers)?;
-    let array = Item::new_array(alloc, items.into_iter().rev())?;
+    let array = boxed(alloc, Item::new_array(alloc, items.into_iter().rev()))?;
     Ok(array.serialize(alloc)?)
 }
 
 #[test]
 fn arrays_take_iterators(rt: HostRuntime) -> Result<(), Fail> {
     let alloc = rt.alloc();
-    expect_text(alloc, reversed(alloc, &[1, 2, 3])?.as_str(), "[3,2,1]")
+    expect_told(alloc, reversed(alloc, &[1, 2, 3]), "[3,2,1]")
 }

@@ -2,12 +2,13 @@
 use crate::common::{Made, make, tag_of};
 use cbor_edn_core::access::TypeMismatch;
 use cbor_edn_core::tree::{Item, StandaloneItem};
-use cbor_edn_expect::{expect, expect_text};
+use cbor_edn_expect::{boxed, expect, expect_told};
 use std::alloc::Global;
 use std::test::Fail;
 
 fn overwrite<'a>(item: &mut Item<'a>, alloc: Global, content: &'a str) -> Result<String, Fail> {
-    *item.get_tagged_mut()? = StandaloneItem::parse(alloc, content)?;
+    let mut content = boxed(alloc, StandaloneItem::parse(alloc, content))?;
+    std::mem::swap(item.get_tagged_mut()?, &mut *content);
     Ok(item.serialize(alloc)?)
 }
 
@@ -20,10 +21,8 @@ fn overwritten<'a>(alloc: Global, text: &'a str, content: &'a str) -> Result<Str
 #[test]
 fn tags_lend_their_content(rt: HostRuntime) -> Result<(), Fail> {
     let alloc = rt.alloc();
-    let told = overwritten(alloc, " 2 ", "[3] ")?;
-    expect_text(alloc, told.as_str(), "1([3] )")?;
-    let told = overwritten(alloc, "2", " 1(2)")?;
-    expect_text(alloc, told.as_str(), "1( 1(2))")
+    expect_told(alloc, overwritten(alloc, " 2 ", "[3] "), "1([3] )")?;
+    expect_told(alloc, overwritten(alloc, "2", " 1(2)"), "1( 1(2))")
 }
 
 /// The text of an item that is no tag, after its content was asked for.
@@ -37,8 +36,7 @@ fn unlent(alloc: Global, made: Made<'_>) -> Result<String, Fail> {
 #[test]
 fn others_lend_no_content(rt: HostRuntime) -> Result<(), Fail> {
     let alloc = rt.alloc();
-    let told = unlent(alloc, Made::Decimal(7))?;
-    expect_text(alloc, told.as_str(), "7")?;
-    let told = unlent(alloc, Made::Decoded(b"\xf8\x20"))?;
-    expect_text(alloc, told.as_str(), "simple(32)")
+    expect_told(alloc, unlent(alloc, Made::Decimal(7)), "7")?;
+    let told = unlent(alloc, Made::Decoded(b"\xf8\x20"));
+    expect_told(alloc, told, "simple(32)")
 }

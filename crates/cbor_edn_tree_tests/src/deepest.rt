@@ -12,10 +12,12 @@ use cbor_edn_parts::policy::DelimiterPolicy;
 use std::alloc::Global;
 use std::test::Fail;
 
+type Form = (usize, &'static str, &'static str, &'static str, usize, bool);
+
 /// Forms that nest round a literal: how many levels openings have, openings, closings, closings where tags have comments,
 /// how many elements or keys the outermost one has, and whether visits enter it and it has an encoding:
 /// by hand from the grammar in `docs/SUPPORTED.md` and the docstrings of the visits.
-const FORMS: &[(usize, &str, &str, &str, usize, bool)] = &[
+const FORMS: &[Form] = &[
     (1, "[", "]", "]", 1, true),
     (1, "[2,", ",3]", ",3]", 3, true),
     (1, "{2:", "}", "}", 1, true),
@@ -51,18 +53,24 @@ const INSIDE: &str = "h'00'";
 
 const COMMENTED: &str = "h'00'/ c /";
 
-/// As many levels as texts may have.
-fn nested(
-    alloc: Global,
-    levels: usize,
-    open: &str,
-    inside: &str,
-    close: &str,
-) -> Result<String, Fail> {
-    let turns = NESTING_LIMIT.checked_div(levels).ok_or("no level")?;
-    let open = open.repeat(alloc, turns)?;
+/// A form with as many levels as texts may have.
+fn nested(alloc: Global, form: &Form, inside: &str, close: &str) -> Result<String, Fail> {
+    let turns = NESTING_LIMIT.checked_div(form.0).ok_or("no level")?;
+    let open = form.1.repeat(alloc, turns)?;
     let close = close.repeat(alloc, turns)?;
     Ok(format!(in alloc; "{open}{inside}{close}")?)
+}
+
+/// Whether an answer is that.
+fn is_nested(
+    alloc: Global,
+    told: Result<String, Fail>,
+    form: &Form,
+    inside: &str,
+    close: &str,
+) -> Result<bool, Fail> {
+    let told = told?;
+    Ok(told == nested(alloc, form, inside, close)?)
 }
 
 // Under `rt try`, which compiles with checks, these tests ask for more stack than is common: `ulimit -s hard` gives it.
@@ -80,30 +88,53 @@ fn has_encoding(alloc: Global, text: &str) -> Result<bool, Fail> {
 fn the_deepest_are_copied_and_encoded(rt: HostRuntime) -> Result<(), Fail> {
     let alloc = rt.alloc();
     let mut failures = Failures::new(alloc);
-    for &(levels, open, close, _, _, is_encoded) in FORMS {
-        let deepest = nested(alloc, levels, open, INSIDE, close)?;
-        let is_copied = is_own_copy(alloc, deepest.as_str())?;
-        failures.holds(alloc, open, is_copied)?;
-        let is_wanted = has_encoding(alloc, deepest.as_str())? == is_encoded;
-        failures.holds(alloc, open, is_wanted)?;
+    for form in FORMS {
+        failures.held(alloc, form.1, is_copied(alloc, form))?;
+        failures.held(alloc, form.1, is_encoded(alloc, form))?;
     }
     failures.end()
+}
+
+fn is_copied(alloc: Global, form: &Form) -> Result<bool, Fail> {
+    let deepest = nested(alloc, form, INSIDE, form.2)?;
+    is_own_copy(alloc, deepest.as_str())
+}
+
+/// Whether the deepest of a form has an encoding just where the form says so.
+fn is_encoded(alloc: Global, form: &Form) -> Result<bool, Fail> {
+    let deepest = nested(alloc, form, INSIDE, form.2)?;
+    Ok(has_encoding(alloc, deepest.as_str())? == form.5)
 }
 
 /// Each of the deepest keeps its items under the policies.
 fn all_laid_out(alloc: Global, policies: &[DelimiterPolicy]) -> Result<(), Fail> {
     let mut failures = Failures::new(alloc);
-    for &(levels, open, close, _, _, _) in FORMS {
-        let deepest = nested(alloc, levels, open, INSIDE, close)?;
-        let items = bare(alloc, deepest.as_str())?;
+    for form in FORMS {
         for &policy in policies {
-            let row = format!(in alloc; "{open} by {policy:?}")?;
-            let laid_out = edited_sequence(alloc, deepest.as_str(), Edit::LaidOut(policy))?;
-            let has_items = bare(alloc, laid_out.as_str())? == items;
-            failures.holds(alloc, row.as_str(), has_items)?;
+            see_laid_out(&mut failures, alloc, form, policy)?;
         }
     }
     failures.end()
+}
+
+fn see_laid_out(
+    failures: &mut Failures,
+    alloc: Global,
+    form: &Form,
+    policy: DelimiterPolicy,
+) -> Result<(), Fail> {
+    let row = format!(in alloc; "{} by {policy:?}", form.1)?;
+    failures.held(alloc, row.as_str(), keeps_items(alloc, form, policy))
+}
+
+fn keeps_items(alloc: Global, form: &Form, policy: DelimiterPolicy) -> Result<bool, Fail> {
+    let deepest = nested(alloc, form, INSIDE, form.2)?;
+    let laid_out = edited_sequence(alloc, deepest.as_str(), Edit::LaidOut(policy))?;
+    are_same_items(alloc, deepest.as_str(), laid_out.as_str())
+}
+
+fn are_same_items(alloc: Global, one: &str, other: &str) -> Result<bool, Fail> {
+    Ok(bare(alloc, one)? == bare(alloc, other)?)
 }
 
 const ON_ONE_LINE: &[DelimiterPolicy] = &[
@@ -134,14 +165,17 @@ fn the_deepest_are_indented(rt: HostRuntime) -> Result<(), Fail> {
 fn the_deepest_lose_their_indicators(rt: HostRuntime) -> Result<(), Fail> {
     let alloc = rt.alloc();
     let mut failures = Failures::new(alloc);
-    for &(levels, open, close, _, _, _) in FORMS {
-        let deepest = nested(alloc, levels, open, "1_0", close)?;
-        let told = edited_sequence(alloc, deepest.as_str(), Edit::Bare)?;
-        let inside = if open.contains("<<") { "1_0" } else { "1" };
-        let is_wanted = told == nested(alloc, levels, open, inside, close)?;
-        failures.holds(alloc, open, is_wanted)?;
+    for form in FORMS {
+        failures.held(alloc, form.1, is_bare(alloc, form))?;
     }
     failures.end()
+}
+
+fn is_bare(alloc: Global, form: &Form) -> Result<bool, Fail> {
+    let deepest = nested(alloc, form, "1_0", form.2)?;
+    let told = edited_sequence(alloc, deepest.as_str(), Edit::Bare);
+    let inside = if form.1.contains("<<") { "1_0" } else { "1" };
+    is_nested(alloc, told, form, inside, form.2)
 }
 
 fn comment(alloc: Global) -> Result<(), CallbackError> {
@@ -212,17 +246,28 @@ fn entries(alloc: Global, text: &str) -> Result<usize, Fail> {
 fn visits_enter_the_deepest(rt: HostRuntime) -> Result<(), Fail> {
     let alloc = rt.alloc();
     let mut failures = Failures::new(alloc);
-    for &(levels, open, close, commented, count, is_entered) in FORMS {
-        let deepest = nested(alloc, levels, open, INSIDE, close)?;
-        let told = tags_commented(alloc, deepest.as_str())?;
-        let is_wanted = told == nested(alloc, levels, open, INSIDE, commented)?;
-        failures.holds(alloc, open, is_wanted)?;
-        let inside = if is_entered { COMMENTED } else { INSIDE };
-        let told = literals_commented(alloc, deepest.as_str())?;
-        let is_wanted = told == nested(alloc, levels, open, inside, close)?;
-        failures.holds(alloc, open, is_wanted)?;
-        let is_wanted = entries(alloc, deepest.as_str())? == count;
-        failures.holds(alloc, open, is_wanted)?;
+    for form in FORMS {
+        failures.held(alloc, form.1, are_tags_commented(alloc, form))?;
+        failures.held(alloc, form.1, are_literals_commented(alloc, form))?;
+        failures.held(alloc, form.1, are_entries_called(alloc, form))?;
     }
     failures.end()
+}
+
+fn are_tags_commented(alloc: Global, form: &Form) -> Result<bool, Fail> {
+    let deepest = nested(alloc, form, INSIDE, form.2)?;
+    let told = tags_commented(alloc, deepest.as_str());
+    is_nested(alloc, told, form, INSIDE, form.3)
+}
+
+fn are_literals_commented(alloc: Global, form: &Form) -> Result<bool, Fail> {
+    let deepest = nested(alloc, form, INSIDE, form.2)?;
+    let told = literals_commented(alloc, deepest.as_str());
+    let inside = if form.5 { COMMENTED } else { INSIDE };
+    is_nested(alloc, told, form, inside, form.2)
+}
+
+fn are_entries_called(alloc: Global, form: &Form) -> Result<bool, Fail> {
+    let deepest = nested(alloc, form, INSIDE, form.2)?;
+    Ok(entries(alloc, deepest.as_str())? == form.4)
 }

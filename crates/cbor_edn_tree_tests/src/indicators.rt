@@ -1,6 +1,6 @@
 //! Removal of encoding indicators.
 use crate::common::{Edit, Made, edited_item, edited_sequence};
-use cbor_edn_expect::expect_text;
+use cbor_edn_expect::expect_told;
 use cbor_edn_expect::failures::Failures;
 use std::test::Fail;
 
@@ -22,8 +22,12 @@ fn indicators_go(rt: HostRuntime) -> Result<(), Fail> {
     let alloc = rt.alloc();
     let mut failures = Failures::new(alloc);
     for &(text, wanted) in BARE {
-        let told = edited_sequence(alloc, text, Edit::Bare)?;
-        failures.row(alloc, text, told.as_str(), wanted)?;
+        failures.told(
+            alloc,
+            text,
+            edited_sequence(alloc, text, Edit::Bare),
+            wanted,
+        )?;
     }
     failures.end()
 }
@@ -31,6 +35,6 @@ fn indicators_go(rt: HostRuntime) -> Result<(), Fail> {
 #[test]
 fn indicators_of_decoded_items_go(rt: HostRuntime) -> Result<(), Fail> {
     let alloc = rt.alloc();
-    let told = edited_item(alloc, Made::Decoded(b"\x9f\x03\xff"), Edit::Bare)?;
-    expect_text(alloc, told.as_str(), "[3]")
+    let told = edited_item(alloc, Made::Decoded(b"\x9f\x03\xff"), Edit::Bare);
+    expect_told(alloc, told, "[3]")
 }

@@ -1,6 +1,6 @@
 //! Spaces by delimiter policies.
 use crate::common::{Edit, Made, POLICIES, bare, edited, edited_item, edited_sequence};
-use cbor_edn_expect::expect_text;
+use cbor_edn_expect::expect_told;
 use cbor_edn_expect::failures::Failures;
 use cbor_edn_parts::policy::DelimiterPolicy;
 use std::alloc::Global;
@@ -23,11 +23,10 @@ fn see_laid_out(
     wanted: &str,
 ) -> Result<(), Fail> {
     let row = format!(in alloc; "{text} by {policy:?}")?;
-    let once = edited(alloc, text, None, &[policy])?;
-    failures.row(alloc, row.as_str(), once.as_str(), wanted)?;
-    let twice = edited(alloc, text, None, &[policy, policy])?;
-    failures.row(alloc, row.as_str(), twice.as_str(), wanted)?;
-    Ok(())
+    let once = edited(alloc, text, None, &[policy]);
+    failures.told(alloc, row.as_str(), once, wanted)?;
+    let twice = edited(alloc, text, None, &[policy, policy]);
+    failures.told(alloc, row.as_str(), twice, wanted)
 }
 
 const SPACED: &str = " [ 1 , 2 /c/ , ] ";
@@ -104,12 +103,12 @@ fn lines_are_regular(rt: HostRuntime) -> Result<(), Fail> {
 fn sequences_are_laid_out(rt: HostRuntime) -> Result<(), Fail> {
     let alloc = rt.alloc();
     let lines = indented(2, 4, 80);
-    let told = edited_sequence(alloc, " 1 2", Edit::LaidOut(lines))?;
-    expect_text(alloc, told.as_str(), "1,\n  2\n  ")?;
-    let told = edited_sequence(alloc, " ", Edit::LaidOut(DelimiterPolicy::DiscardAll))?;
-    expect_text(alloc, told.as_str(), "")?;
-    let told = edited_sequence(alloc, " ", Edit::LaidOut(lines))?;
-    expect_text(alloc, told.as_str(), "")
+    let told = edited_sequence(alloc, " 1 2", Edit::LaidOut(lines));
+    expect_told(alloc, told, "1,\n  2\n  ")?;
+    let told = edited_sequence(alloc, " ", Edit::LaidOut(DelimiterPolicy::DiscardAll));
+    expect_told(alloc, told, "")?;
+    let told = edited_sequence(alloc, " ", Edit::LaidOut(lines));
+    expect_told(alloc, told, "")
 }
 
 /// Bytes, an indent, a level and a width, and the text of the item by these: by hand from the same two.
@@ -155,9 +154,8 @@ fn see_decoded(
     wanted: &str,
 ) -> Result<(), Fail> {
     let row = format!(in alloc; "{bytes:?} by {policy:?}")?;
-    let told = edited_item(alloc, Made::Decoded(bytes), Edit::LaidOut(policy))?;
-    failures.row(alloc, row.as_str(), told.as_str(), wanted)?;
-    Ok(())
+    let told = edited_item(alloc, Made::Decoded(bytes), Edit::LaidOut(policy));
+    failures.told(alloc, row.as_str(), told, wanted)
 }
 
 /// Texts, an indent, a level and a width of lines that no machine has memory for, and the texts' items, which stay by
@@ -180,15 +178,29 @@ fn greatest_indents_are_refused(rt: HostRuntime) -> Result<(), Fail> {
     let alloc = rt.alloc();
     let mut failures = Failures::new(alloc);
     for &(text, (base, level, width), items) in ENDLESS {
-        let left = edited_sequence(alloc, text, Edit::Refused(indented(base, level, width)))?;
-        failures.row(alloc, text, bare(alloc, left.as_str())?.as_str(), items)?;
+        let told = items_left(alloc, text, indented(base, level, width));
+        failures.told(alloc, text, told, items)?;
     }
     for &(bytes, (base, level, width), items) in DECODED_ENDLESS {
-        let edit = Edit::Refused(indented(base, level, width));
-        let left = edited_item(alloc, Made::Decoded(bytes), edit)?;
-        failures.row(alloc, items, bare(alloc, left.as_str())?.as_str(), items)?;
+        let told = decoded_items_left(alloc, bytes, indented(base, level, width));
+        failures.told(alloc, items, told, items)?;
     }
     failures.end()
+}
+
+/// The items of a text for whose spaces there was no memory.
+fn items_left(alloc: Global, text: &str, policy: DelimiterPolicy) -> Result<String, Fail> {
+    let left = edited_sequence(alloc, text, Edit::Refused(policy))?;
+    bare(alloc, left.as_str())
+}
+
+fn decoded_items_left(
+    alloc: Global,
+    bytes: &[u8],
+    policy: DelimiterPolicy,
+) -> Result<String, Fail> {
+    let left = edited_item(alloc, Made::Decoded(bytes), Edit::Refused(policy))?;
+    bare(alloc, left.as_str())
 }
 
 /// The characters that may need care in a comment: those below U+0020, and the slash.
@@ -205,16 +217,30 @@ fn see_comments_stay(
         let comment = CHARACTERS
             .get(at..(at + 1).min(CHARACTERS.len()))
             .unwrap_or("");
-        let text = edited(alloc, "0", Some(comment), &[policy])?;
-        let row = format!(in alloc; "{comment} by {policy:?}")?;
-        failures.row(
-            alloc,
-            row.as_str(),
-            bare(alloc, text.as_str())?.as_str(),
-            "0",
-        )?;
+        see_comment_stays(failures, alloc, comment, policy)?;
     }
     Ok(())
+}
+
+fn see_comment_stays(
+    failures: &mut Failures,
+    alloc: Global,
+    comment: &str,
+    policy: DelimiterPolicy,
+) -> Result<(), Fail> {
+    let row = format!(in alloc; "{comment} by {policy:?}")?;
+    failures.told(
+        alloc,
+        row.as_str(),
+        items_behind(alloc, comment, policy),
+        "0",
+    )
+}
+
+/// The items of a text of one behind a comment and the spaces of a policy.
+fn items_behind(alloc: Global, comment: &str, policy: DelimiterPolicy) -> Result<String, Fail> {
+    let text = edited(alloc, "0", Some(comment), &[policy])?;
+    bare(alloc, text.as_str())
 }
 
 #[test]

@@ -1,15 +1,26 @@
 //! Copies and comparisons of trees, and trees that are made of others.
-use crate::common::{Made, make, make_item, sequence_of, standalone_of};
+use crate::common::{Made, make, sequence_of, standalone_of};
 use cbor_edn_core::tree::{Item, Sequence, StandaloneItem};
 use cbor_edn_expect::failures::Failures;
-use cbor_edn_expect::{expect, expect_text};
+use cbor_edn_expect::{boxed, expect, expect_text, expect_told};
+use cbor_edn_parts::buffer::TextBuffer;
+use cbor_edn_parts::policy::DelimiterPolicy;
 use std::alloc::Global;
 use std::test::Fail;
 
 fn is_copied(sequence: &Sequence<'_>, alloc: Global, text: &str) -> Result<bool, Fail> {
-    let copy = sequence.clone()?;
+    let copy = boxed(alloc, sequence.clone())?;
+    is_copy(sequence, &copy, alloc, text)
+}
+
+fn is_copy<'a>(
+    sequence: &Sequence<'a>,
+    copy: &Sequence<'a>,
+    alloc: Global,
+    text: &str,
+) -> Result<bool, Fail> {
     let printed = copy.serialize(alloc)?;
-    Ok(copy == *sequence && copy.is_same(sequence) && printed.as_str() == text)
+    Ok(*copy == *sequence && copy.is_same(sequence) && printed.as_str() == text)
 }
 
 /// Whether a text's sequence equals its copy, which prints the text.
@@ -29,7 +40,7 @@ fn is_copy_alone<'a>(
 }
 
 fn is_copied_alone(item: &StandaloneItem<'_>, alloc: Global, text: &str) -> Result<bool, Fail> {
-    let copy = item.clone()?;
+    let copy = boxed(alloc, item.clone())?;
     is_copy_alone(item, &copy, alloc, text)
 }
 
@@ -48,6 +59,27 @@ fn copies_texts(rt: HostRuntime) -> Result<(), Fail> {
     expect(text, is_own_copy_alone(alloc, text)?)
 }
 
+fn prints_behind(sequence: &Sequence<'_>, alloc: Global) -> Result<TextBuffer, Fail> {
+    let mut out = TextBuffer::new(alloc);
+    out.push_str("0,")?;
+    sequence.print(&mut out)?;
+    out.push_str(";")?;
+    sequence.print_laid_out(&mut out, DelimiterPolicy::DiscardAll)?;
+    Ok(out)
+}
+
+#[test]
+fn prints_behind_a_text(rt: HostRuntime) -> Result<(), Fail> {
+    let alloc = rt.alloc();
+    let sequence = sequence_of(alloc, "[ 1 , 'a' ] /c/ 2 ")?;
+    let printed = prints_behind(&sequence, alloc)?.into_string();
+    expect_text(alloc, printed.as_str(), "0,[ 1 , 'a' ] /c/ 2 ;[1,'a'],2")?;
+    let decoded: Sequence<'_> = Sequence::from_cbor(alloc, b"\x82\x19\x01\0\x61a\x20")?;
+    let printed = prints_behind(&decoded, alloc)?.into_bytes();
+    let wanted = b"0,[256, \"a\"], -1;[256,\"a\"],-1".as_slice();
+    expect("printed, decoded", printed.as_slice() == wanted)
+}
+
 // An item of every form that is decoded.
 const MIXED: &[u8] =
     b"\xbf\x01\x82\x5f\x41a\xff\x61b\x58\x00\x20\xc1\xf8\x63\x82\xf4\xf9\x7c\x00\xff";
@@ -55,7 +87,16 @@ const MIXED: &[u8] =
 const MIXED_TEXT: &str = "{_ 1: [(_ h'61'), \"b\"], h''_0: -1, 1(simple(99)): [false, Infinity_1]}";
 
 fn is_copied_item(item: &Item<'_>, alloc: Global, text: &str) -> Result<bool, Fail> {
-    let copy = item.clone()?;
+    let copy = boxed(alloc, item.clone())?;
+    is_copy_of_item(item, &copy, alloc, text)
+}
+
+fn is_copy_of_item<'a>(
+    item: &Item<'a>,
+    copy: &Item<'a>,
+    alloc: Global,
+    text: &str,
+) -> Result<bool, Fail> {
     let printed = copy.serialize(alloc)?;
     Ok(copy.is_same(item) && printed.as_str() == text)
 }
@@ -97,23 +138,32 @@ fn compares_items(rt: HostRuntime) -> Result<(), Fail> {
     let alloc = rt.alloc();
     let mut failures = Failures::new(alloc);
     for &(one, other, are_equal) in COMPARED {
-        let row = format!(in alloc; "{one:?} and {other:?}")?;
-        let is_wanted = are_equal_items(alloc, one, other)? == are_equal;
-        failures.holds(alloc, row.as_str(), is_wanted)?;
+        see_compared(&mut failures, alloc, one, other, are_equal)?;
     }
     failures.end()
 }
 
+fn see_compared(
+    failures: &mut Failures,
+    alloc: Global,
+    one: &[u8],
+    other: &[u8],
+    are_equal: bool,
+) -> Result<(), Fail> {
+    let row = format!(in alloc; "{one:?} and {other:?}")?;
+    let is_wanted = are_equal_items(alloc, one, other)? == are_equal;
+    Ok(failures.holds(alloc, row.as_str(), is_wanted)?)
+}
+
 fn printed_alone(alloc: Global, bytes: &[u8]) -> Result<String, Fail> {
-    let item = StandaloneItem::from(make_item(alloc, Made::Decoded(bytes))?);
+    let item = StandaloneItem::from(Item::from_cbor(alloc, bytes)?);
     Ok(item.serialize(alloc)?)
 }
 
 #[test]
 fn a_standalone_item_has_no_space_at_first(rt: HostRuntime) -> Result<(), Fail> {
     let alloc = rt.alloc();
-    let told = printed_alone(alloc, b"\x82\x02\x03")?;
-    expect_text(alloc, told.as_str(), "[2, 3]")
+    expect_told(alloc, printed_alone(alloc, b"\x82\x02\x03"), "[2, 3]")
 }
 
 fn shown(alloc: Global, text: &str) -> Result<String, Fail> {
@@ -143,11 +193,16 @@ fn shows_numbers_words_literals_and_forms(rt: HostRuntime) -> Result<(), Fail> {
     let alloc = rt.alloc();
     let mut failures = Failures::new(alloc);
     for &(text, outline) in OUTLINES {
-        failures.row(alloc, text, shown(alloc, text)?.as_str(), outline)?;
+        failures.told(alloc, text, shown(alloc, text), outline)?;
     }
-    failures.end()?;
-    expect_text(alloc, shown_alone(alloc, " 1_1 ")?.as_str(), "1 1")?;
-    expect_text(alloc, shown_alone(alloc, "[1] ")?.as_str(), "[..] [..]")
+    failures.end()
+}
+
+#[test]
+fn shows_standalone_items(rt: HostRuntime) -> Result<(), Fail> {
+    let alloc = rt.alloc();
+    expect_told(alloc, shown_alone(alloc, " 1_1 "), "1 1")?;
+    expect_told(alloc, shown_alone(alloc, "[1] "), "[..] [..]")
 }
 
 // A list keeps its items side by side, so that each byte of an item counts.
@@ -219,10 +274,20 @@ fn spaces_tell_trees_apart(rt: HostRuntime) -> Result<(), Fail> {
     let mut failures = Failures::new(alloc);
     for (i, &one) in APART.iter().enumerate() {
         for (j, &other) in APART.iter().enumerate() {
-            let row = format!(in alloc; "{one:?} and {other:?}")?;
-            let is_wanted = are_equal(alloc, one, other)? == (i == j);
-            failures.holds(alloc, row.as_str(), is_wanted)?;
+            see_apart(&mut failures, alloc, one, other, i == j)?;
         }
     }
     failures.end()
+}
+
+fn see_apart(
+    failures: &mut Failures,
+    alloc: Global,
+    one: &str,
+    other: &str,
+    is_same: bool,
+) -> Result<(), Fail> {
+    let row = format!(in alloc; "{one:?} and {other:?}")?;
+    let is_wanted = are_equal(alloc, one, other)? == is_same;
+    Ok(failures.holds(alloc, row.as_str(), is_wanted)?)
 }
