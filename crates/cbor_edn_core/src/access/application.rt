@@ -1,8 +1,7 @@
 //! Literals of a prefix and a text.
-ghost use Rattle.std.specs.Prelude.{◌≡◌, ◌↔◌, ℕ, List, None, true, false, IfOk, IfSome, IfNone, OnErr, position, string_bytes};
+ghost use Rattle.std.specs.Prelude.{◌≡◌, ◌↔◌, ℕ, List, None, true, false, IfOk, IfSome, IfNone, OnErr, string_bytes};
 ghost use Rattle.cbor_edn_parts.specs.Leaves.{literal_bytes};
 ghost use Rattle.cbor_edn_parts.specs.Literal.{IsLiteral, Prefixed};
-ghost use Rattle.cbor_edn_parts.specs.internal.LiteralTokens.{is_quote};
 ghost use Rattle.cbor_edn_parts.specs.Refusals.{IfTold, OnMemory};
 ghost use Rattle.cbor_edn_model.specs.access.Accessed.{IsApplicationItem, IsApplicationPiece, are_several, string_tree};
 ghost use Rattle.cbor_edn_model.specs.tree.TreeLeaves.{texts};
@@ -22,7 +21,7 @@ impl<'a> Item<'a> {
         ensures found { IfSome result (λ p. (v : List ℕ) × IsApplicationItem (item_tree self.now) p.now v) }
         ensures none { IfNone result ((p v : List ℕ) → IsApplicationItem (item_tree self.now) p v → ⊥) }
     {
-        prefix_of(lone_literal(self)?)
+        lone_literal(self)?.application_prefix()
     }
 
     /// The prefix and the text of a string that is one literal with a prefix, whatever its encoding indicator, as `b64` and `Yg`
@@ -118,25 +117,6 @@ fn piece_literal<'p, 'a>(piece: &'p Piece<'a>) -> Option<&'p Literal<'a>>
         Piece::Literal(_, literal) => Some(literal),
         Piece::Dots(_) | Piece::Embedded(..) => None,
     }
-}
-
-/// The prefix of a literal.
-fn prefix_of<'l>(literal: &'l Literal<'_>) -> Option<&'l str>
-    ensures found { IfSome result (λ p. (v : List ℕ) × IsLiteral (Prefixed p.now) v (literal_bytes literal.now)) }
-    ensures none { IfNone result ((p v : List ℕ) → IsLiteral (Prefixed p) v (literal_bytes literal.now) → ⊥) }
-{
-    let text = literal.as_str();
-    let end = first_quote(text.as_bytes())?;
-    if end == 0 {
-        return None;
-    }
-    Some(&text[..end])
-}
-
-fn first_quote(text: &[u8]) -> Option<usize>
-    ensures { result ≡ position is_quote text.now }
-{
-    text.iter().position(|byte| matches!(*byte, b'\'' | b'"'))
 }
 
 pub(crate) fn has_several_pieces(string: &CborString<'_>) -> bool

@@ -163,7 +163,7 @@ impl<'a> Sequence<'a> {
     }
 
     /// Writes the text that [`Sequence::serialize_laid_out`] gives at the end of another, which is quicker: the text is not tested. Fails
-    /// where memory runs out.
+    /// where memory runs out, and a part of it may stand there then.
     pub fn print_laid_out(
         &self,
         out: &mut TextBuffer,

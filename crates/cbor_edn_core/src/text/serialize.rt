@@ -56,7 +56,7 @@ impl Sequence<'_> {
     }
 
     /// Writes the text that [`Sequence::serialize`] gives at the end of another, which is quicker: the text is not tested. Fails where
-    /// memory runs out.
+    /// memory runs out, and a part of it may stand there then.
     pub fn print(&self, out: &mut TextBuffer) -> Result<(), AllocError>
         ensures { OnOk result (buffer_bytes out.new ≡ buffer_bytes out.old ++ text (sequence_tree self.now)) }
     {

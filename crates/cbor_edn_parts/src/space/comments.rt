@@ -84,7 +84,7 @@ fn to_last(text: &str) -> &str
     &text[..end]
 }
 
-fn is_blank(byte: u8) -> bool
+pub(super) fn is_blank(byte: u8) -> bool
     ensures { result ≡ definition.is_blank byte }
 {
     matches!(byte, b'\t' | b'\n' | b'\r' | b' ')

@@ -9,8 +9,8 @@ ghost use Rattle.cbor_edn_parts.specs.internal.Scans.{IsRead, Comes, Ends, Scans
 ghost use Rattle.cbor_edn_parts.specs.internal.SpaceTokens as tokens;
 ghost use Rattle.cbor_edn_parts.specs.internal.Text.{text_bytes};
 
+use super::comments::is_blank;
 use super::{S, Soc, SpaceState};
-use crate::bytes::Kind;
 use crate::error::Refusal;
 use crate::leaf_text::LeafText;
 use crate::looks::Looks;
@@ -44,7 +44,7 @@ fn space_end(
     ensures behind { IfOk result (λ p. looks.old.count + p.1 + 1 ≤ looks.new.count + from) }
 {
     let (next, at) = blanks(text, from, looks);
-    if begins_comment(next) {
+    if is_comment_there(next) {
         return comments_end(text, at, next, looks);
     }
     Ok((next, at))
@@ -77,30 +77,27 @@ fn blanks(text: &Text<'_>, from: usize, looks: &mut Looks) -> (Option<u8>, usize
 {
     let mut at = from;
     let mut next = text.byte(at, looks);
-    'blanks: while is_blank(next) {
+    'blanks: while is_blank_there(next) {
         at += 1;
         next = text.byte(at, looks);
     }
     (next, at)
 }
 
-fn is_blank(byte: Option<u8>) -> bool
+fn is_blank_there(byte: Option<u8>) -> bool
     ensures blank { result ≡ is_blank_at byte }
     ensures byte { IfSome byte (λ c. c < 256) }
 {
     match byte {
-        Some(byte) => matches!(Kind::of(byte), Kind::Blank | Kind::Tab | Kind::Lf),
+        Some(byte) => is_blank(byte),
         None => false,
     }
 }
 
-fn begins_comment(byte: Option<u8>) -> bool
+fn is_comment_there(byte: Option<u8>) -> bool
     ensures { result ≡ begins_comment_at byte }
 {
-    match byte {
-        Some(byte) => matches!(Kind::of(byte), Kind::Slash | Kind::Hash),
-        None => false,
-    }
+    matches!(byte, Some(b'/' | b'#'))
 }
 
 /// Where an item ends, and where the space behind it does, if that is read.

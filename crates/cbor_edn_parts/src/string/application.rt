@@ -1,5 +1,5 @@
 //! Literals of a prefix and a text.
-ghost use Rattle.std.specs.Prelude.{◌≡◌, ◌++◌, IfOk, IfSome, OnOk, OnErr, None, List, ℕ, encode_utf8, string_bytes};
+ghost use Rattle.std.specs.Prelude.{◌≡◌, ◌++◌, IfOk, IfSome, IfNone, OnOk, OnErr, None, List, ℕ, encode_utf8, string_bytes};
 ghost use Rattle.cbor_edn_parts.specs.Leaves.{literal_bytes};
 ghost use Rattle.cbor_edn_parts.specs.Literal.{IsPrefix, IsLiteral, Prefixed};
 ghost use Rattle.cbor_edn_parts.specs.internal.Prefixes as prefixes;
@@ -39,6 +39,18 @@ impl<'a> Literal<'a> {
 }
 
 impl Literal<'_> {
+    /// The prefix of a literal with a prefix, as `b64` of `b64'Yg'`: none of any other. It is lent, and takes no memory.
+    pub fn application_prefix(&self) -> Option<&str>
+        ensures found { IfSome result (λ p. (v : List ℕ) × IsLiteral (Prefixed p.now) v (literal_bytes self.now)) }
+        ensures none { IfNone result ((p v : List ℕ) → IsLiteral (Prefixed p) v (literal_bytes self.now) → ⊥) }
+    {
+        let prefix = self.prefix();
+        if prefix.is_empty() {
+            return None;
+        }
+        Some(prefix)
+    }
+
     /// The prefix and the text of a literal with a prefix, as `b64` and `a'b` of `b64'a\'b'`: none where it has no prefix. Fails
     /// where memory runs out, which only a literal with a prefix takes.
     pub fn application_parts(&self, alloc: Global) -> Result<Option<(String, String)>, AllocError>

@@ -1,5 +1,5 @@
 //! The literal and the dots at a place of a text.
-ghost use Rattle.std.specs.Prelude.{◌≡◌, ◌+◌, ◌<◌, IsTrue, IfOk, IfSome, Some, drop};
+ghost use Rattle.std.specs.Prelude.{◌≡◌, ◌+◌, ◌<◌, IsTrue, IfOk, IfSome, Some, drop, false};
 ghost use Rattle.std.specs.Str.{IsCharBoundary};
 ghost use Rattle.cbor_edn_parts.specs.internal.Lex.{token};
 ghost use Rattle.cbor_edn_parts.specs.Leaves.{literal_bytes, dots_bytes, BorrowsLiteral, BorrowsDots};
@@ -71,6 +71,7 @@ fn plain_end(text: &Text<'_>, from: usize, looks: &mut Looks) -> (Option<u8>, us
     requires { IsCharBoundary (text_bytes text.now) from }
     ensures comes { Comes tokens.literal (text_bytes text.now) in_text from in_text result.1 }
     ensures read { IsRead (text_bytes text.now) result.1 result.0 }
+    ensures other { is_plain_at result.0 ≡ false }
     ensures cost { looks.new.count + from ≡ looks.old.count + result.1 + 1 }
 {
     let mut at = from;
@@ -83,7 +84,8 @@ fn plain_end(text: &Text<'_>, from: usize, looks: &mut Looks) -> (Option<u8>, us
 }
 
 fn is_double_quote(byte: Option<u8>) -> bool
-    ensures { IsTrue result → byte ≡ Some 34 }
+    ensures quote { IsTrue result → byte ≡ Some 34 }
+    ensures other { byte ≡ Some 34 → IsTrue result }
 {
     matches!(byte, Some(b'"'))
 }

@@ -1,17 +1,12 @@
 -- Strings of one piece and of several.
-use Rattle.std.proofs.Common.{◌≡◌, ℕ, suc, ◌+◌, Bool, List, [], ◌∷◌, ◌++◌, true, false, length, length-append, map, Option, Some, None, IfSome, refl, sym, ap, subst, ◌∙◌, arith}
+use Rattle.std.proofs.Common.{◌≡◌, ℕ, suc, Bool, List, [], ◌∷◌, true, false, length, map, Option, Some, None, IfSome, refl, sym, ap, subst, ◌∙◌, arith}
 use Rattle.std.proofs.lemmas.Bool.{false≢true, ne_eqb}
-use Rattle.std.specs.Prelude.{◌==◌, ◌↔◌, IfNone, position}
+use Rattle.std.specs.Prelude.{◌==◌, ◌↔◌, IfNone}
 use mathlib.Core.Bool.{not}
-use Rattle.cbor_edn_parts.specs.Literal.{IsLiteral, Prefixed, single_quote}
-use Rattle.cbor_edn_parts.specs.internal.LiteralTokens.{is_literal, is_quote, prefix_of, decoded}
-use Rattle.cbor_edn_parts.specs.internal.ContentReading.{behind_quote}
-use Rattle.cbor_edn_parts.specs.declared.string.QuotedState.TheVariants.{Between}
-use Rattle.cbor_edn_parts.specs.declared.string.Quote.TheVariants.{Single}
+use Rattle.cbor_edn_parts.specs.Literal.{IsLiteral, Prefixed}
 use Rattle.cbor_edn_parts.specs.Written.{application_literal}
 use Rattle.std.specs.Option.{is_some}
-use Rattle.cbor_edn_parts.proofs.lemmas.literal.Applications.{one_application, prefixed_read, unprefixed_read}
-use Rattle.cbor_edn_parts.proofs.lemmas.literal.LiteralPrefixes.{prefix_whole}
+use Rattle.cbor_edn_parts.proofs.lemmas.literal.Applications.{one_application}
 use Rattle.cbor_edn_parts.proofs.lemmas.literal.WrittenLiterals.{application_is}
 use Rattle.cbor_edn_model.specs.access.Accessed.{are_several, IsApplicationPiece}
 use Rattle.cbor_edn_model.specs.internal.Same.{same_tree}
@@ -75,19 +70,6 @@ several_no_literal w e p v (m, is, h) = false≢true (sym (e ∙ ap several_of i
     several_of : Option (Tree OneString) → Bool
     several_of (Some u) = are_several u
     several_of None = false
-
--- what stands in front of the first quote of a literal, where that is something
-pub prefix_read : (t r : List ℕ) → is_literal t ≡ true → r ≡ prefix_of t → (length r ≡ 0 → ⊥) → (v : List ℕ) × IsLiteral (Prefixed r) v t
-prefix_read t r is named filled = subst (λ p. (v : List ℕ) × IsLiteral (Prefixed p) v t) (sym named) (decoded Single Between (behind_quote t), prefixed_read t (λ empty. filled (ap length (named ∙ empty))) is)
-
--- a literal with a prefix holds a quote
-pub quote_found : (p v t : List ℕ) → IsLiteral (Prefixed p) v t → is_literal t ≡ true → None ≡ position is_quote t → ⊥
-quote_found p v t h is none =
-    let whole : t ≡ prefix_of t = prefix_whole t none in
-    let named : prefix_of t ≡ p = (one_application p v (prefix_of t) _ t h (prefixed_read t (λ empty. unprefixed_read t empty p v h) is)).0 in
-    let long : length t ≡ length p + suc (length (h.0 ++ (single_quote ∷ []))) = ap length h.3 ∙ length-append p (single_quote ∷ (h.0 ++ (single_quote ∷ []))) in
-    let short : length t ≡ length p = ap length (whole ∙ named) in
-    omega (arith, long, short)
 
 pub literal_is_answered : LiteralIsAnswered
 literal_is_answered p v is all q w =

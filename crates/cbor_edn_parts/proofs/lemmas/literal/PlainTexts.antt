@@ -11,8 +11,8 @@ use Rattle.cbor_edn_parts.specs.internal.Scans.{IsAt, Comes}
 use Rattle.cbor_edn_parts.specs.declared.string.Quote.TheVariants.{Double}
 use Rattle.cbor_edn_parts.specs.declared.string.LiteralState.TheVariants.{Start, Closed}
 use Rattle.cbor_edn_parts.proofs.lemmas.literal.Quoted.{plain_step}
-use Rattle.cbor_edn_parts.proofs.lemmas.scan.ScanEnds.{comes_byte, comes_on, comes_some}
-use Rattle.cbor_edn_parts.proofs.lemmas.scan.ScanLoops.{munch_none, munch_end, piece_none}
+use Rattle.cbor_edn_parts.proofs.lemmas.scan.ScanEnds.{comes_byte, comes_on, comes_done}
+use Rattle.cbor_edn_parts.proofs.lemmas.scan.ScanLoops.{munch_none, munch_end}
 
 stays : (c : ℕ) → is_plain Double c ≡ true → tokens.literal.step c in_text ≡ Some in_text
 stays c e = let step = plain_step Double c e in cond-false _ _ _ step.0 ∙ ap (inside Double) step.1
@@ -47,4 +47,4 @@ pub whole_text : (text : List ℕ) (from at : ℕ) → drop from text ≡ 34 ∷
     → token tokens.literal (drop from text) ≡ Some (slice_range text from (at + 1), drop (at + 1) text)
 whole_text text from at first comes last =
     let all = comes_on tokens.literal text Start in_text Closed from (from + 1) (at + 1) (opened text from first) (comes_on tokens.literal text in_text in_text Closed (from + 1) at (at + 1) comes (comes_byte tokens.literal text in_text Closed at 34 last refl)) in
-    comes_some tokens.literal text Start Closed from (at + 1) (at + 1) all (omega arith) (closed (drop (at + 1) text) ∙ ap (λ (x : List ℕ). Some (x, drop (at + 1) text)) (sym (piece_none text (at + 1))))
+    comes_done tokens.literal text Start Closed from (at + 1) all (closed (drop (at + 1) text))

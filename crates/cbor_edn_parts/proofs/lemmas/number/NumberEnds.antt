@@ -1,5 +1,6 @@
 -- No number goes on with what may stand behind an item.
-use Rattle.std.proofs.Common.{ℕ, ◌+◌, ◌≡◌, List, [], drop, true, Option, Some, None, refl, sym, ap, subst, ◌∙◌}
+use Rattle.std.proofs.Common.{ℕ, ◌≡◌, List, [], drop, true, Option, Some, None, refl, sym, subst}
+use Rattle.std.specs.Prelude.{MatchOption, ⊤}
 use Rattle.cbor_edn_parts.specs.Bytes.{Kind, Plus, Minus, Zero, One, TwoToSeven, EightOrNine, Dot, B, E, HexLetter, O, P, X, follows, kind, Follow}
 use Rattle.cbor_edn_parts.specs.internal.Lex.{munch}
 use Rattle.cbor_edn_parts.specs.internal.NumberStarts.{follows_at}
@@ -8,7 +9,7 @@ use Rattle.cbor_edn_parts.specs.internal.NumberTokens.{number_step, number_final
 use Rattle.cbor_edn_parts.specs.internal.Scans.{IsAt}
 use Rattle.cbor_edn_parts.specs.declared.number.NumberState.{NumberState}
 use Rattle.cbor_edn_parts.specs.declared.number.NumberState.TheVariants.{AfterZero, DecimalDigits, Fraction, ExponentDigits, HexadecimalDigits, BinaryExponentDigits, OctalDigits, BinaryDigits}
-use Rattle.cbor_edn_parts.proofs.lemmas.scan.ScanLoops.{munch_none, munch_end}
+use Rattle.cbor_edn_parts.proofs.lemmas.scan.ScanLoops.{halted}
 
 pub number_stop : (k : Kind) (m : NumberState) → number_final m ≡ true → follows k ≡ true → number_step k m ≡ None
 number_stop Plus AfterZero e h = refl
@@ -43,7 +44,10 @@ pub there_follows : (text : List ℕ) (at : ℕ) (next : Option ℕ) → IsAt te
 there_follows text at None here follow = refl
 there_follows text at (Some c) here follow = subst Follow here.0 follow
 
+leads_nowhere : (next : Option ℕ) (m : NumberState) → number_final m ≡ true → follows_at next ≡ true → MatchOption next ⊤ (λ c. tokens.number.step c m ≡ None)
+leads_nowhere None m final follows = tt
+leads_nowhere (Some c) m final follows = number_stop (kind c) m final follows
+
 -- so a number ends there
 pub stopped_there : (text : List ℕ) (at : ℕ) (next : Option ℕ) (m : NumberState) → IsAt text at next → number_final m ≡ true → follows_at next ≡ true → munch tokens.number m (drop at text) ≡ Some ([], drop at text)
-stopped_there text at None m here final follows = ap (munch tokens.number m) here ∙ (munch_end tokens.number m ∙ rw (final, here) refl)
-stopped_there text at (Some c) m here final follows = ap (munch tokens.number m) here.0 ∙ (munch_none tokens.number m c (drop (at + 1) text) (number_stop (kind c) m final follows) ∙ rw (final, here.0) refl)
+stopped_there text at next m here final follows = halted tokens.number m text at next final here (leads_nowhere next m final follows)

@@ -1,11 +1,11 @@
 -- A scan that comes to a place goes on from there: what is read from there on is read from where it began.
-use Rattle.std.proofs.Common.{ℕ, ◌+◌, ◌-◌, ◌≤◌, ◌≡◌, List, ◌∷◌, ◌++◌, drop, take-add, Option, Some, None, Result, Ok, Err, refl, ap, ◌∙◌, append_assoc, arith}
+use Rattle.std.proofs.Common.{ℕ, ◌+◌, ◌-◌, ◌≤◌, ◌≡◌, List, [], ◌∷◌, ◌++◌, drop, take-add, Option, Some, None, Result, Ok, Err, refl, sym, ap, ◌∙◌, append_assoc, arith}
 use Rattle.std.specs.Prelude.{slice_range}
 use Rattle.std.proofs.lemmas.List.{drop-drop}
 use Rattle.cbor_edn_parts.specs.declared.error.Refusal.{Refusal}
 use Rattle.cbor_edn_parts.specs.internal.Lex.{Automaton, front, munch}
 use Rattle.cbor_edn_parts.specs.internal.Scans.{IsRead, Comes, Ends, ScanLands, Costs}
-use Rattle.cbor_edn_parts.proofs.lemmas.scan.ScanLoops.{Stands, begun, going}
+use Rattle.cbor_edn_parts.proofs.lemmas.scan.ScanLoops.{Stands, begun, going, piece_none}
 
 -- A scan stands where it begins.
 pub standing : {State : Type 0} (T : Automaton State) (m : State) (text : List ℕ) (from old count : ℕ) (byte : Option ℕ) → IsRead text from byte → count ≡ old → Stands T m text from old m from byte count
@@ -52,6 +52,10 @@ pub comes_some : {State : Type 0} (T : Automaton State) (text : List ℕ) (m n :
 unfolding front
 comes_some T text m n from at to comes order some =
     comes.reads ∙ (ap (front (slice_range text from at)) some ∙ ap (λ (x : List ℕ). Some (x, drop to text)) (pieces text from at to comes.order order))
+
+-- where its token ends, it is read up to there
+pub comes_done : {State : Type 0} (T : Automaton State) (text : List ℕ) (m n : State) (from at : ℕ) → Comes T text m from n at → munch T n (drop at text) ≡ Some ([], drop at text) → munch T m (drop from text) ≡ Some (slice_range text from at, drop at text)
+comes_done T text m n from at comes done = comes_some T text m n from at at comes (omega arith) (done ∙ ap (λ (x : List ℕ). Some (x, drop at text)) (sym (piece_none text at)))
 
 pub comes_none : {State : Type 0} (T : Automaton State) (text : List ℕ) (m n : State) (from at : ℕ) → Comes T text m from n at → munch T n (drop at text) ≡ None → munch T m (drop from text) ≡ None
 unfolding front

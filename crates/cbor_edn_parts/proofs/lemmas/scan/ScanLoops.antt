@@ -116,6 +116,11 @@ pub over : {State : Type 0} (T : Automaton State) (start : State) (text : List �
 over T start text from old m at count None s none = ended T (munch T start (drop from text)) text from at m s.here s.reads
 over T start text from old m at count (Some c) s none = stopped T (munch T start (drop from text)) text from at c (drop (at + 1) text) m s.here.0 none s.reads
 
+-- Where the byte that is there leads no further, or none is there, a token ends in a final state.
+pub halted : {State : Type 0} (T : Automaton State) (m : State) (text : List ℕ) (at : ℕ) (next : Option ℕ) → T.final m ≡ true → IsAt text at next → MatchOption next ⊤ (λ c. T.step c m ≡ None) → munch T m (drop at text) ≡ Some ([], drop at text)
+halted T m text at None final here none = ap (munch T m) here ∙ (munch_end T m ∙ rw (final, here) refl)
+halted T m text at (Some c) final here none = ap (munch T m) here.0 ∙ (munch_none T m c (drop (at + 1) text) none ∙ rw (final, here.0) refl)
+
 before_ascii : (text : List ℕ) (at c : ℕ) (rest : List ℕ) → drop at text ≡ c ∷ rest → at < length text → c < 128 → IsCharBoundary text at
 before_ascii text at c rest here within ascii =
     let same : get_or (drop at text) 0 0 ≡ c = rw here refl in

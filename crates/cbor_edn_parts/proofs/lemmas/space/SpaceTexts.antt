@@ -6,6 +6,7 @@ use Rattle.std.proofs.lemmas.Bool.{agree_below_at, false≢true, and_parts, and_
 use Rattle.std.proofs.lemmas.Bool.Decides.{nat_tests, Decides-or, Decides-and, Decides-not, Decides-eqb, Decides-ltb, Decides-like}
 use Rattle.std.specs.Bool.{Decides}
 use Rattle.cbor_edn_parts.specs.Bytes.{Kind, Control, Comma, kind}
+use Rattle.cbor_edn_parts.specs.internal.CommentReading.{is_blank}
 use Rattle.cbor_edn_parts.specs.internal.Lex.{Accepts, Is}
 use Rattle.cbor_edn_parts.specs.Space as set
 use Rattle.cbor_edn_parts.specs.Space.{IsBlank, IsPrintable, Each, end, next, slashes, hash, IsS, empty, blank, comment, IsMs, IsSoc, IsMsc, space, comma, comma_first, space_alone, space_comma}
@@ -30,9 +31,6 @@ Moves InHash InHash c = set.InHash c
 Moves InHash Between c = c ≡ 10
 Moves InHash InSlashes c = ⊥
 
-abbrev is_blank : ℕ → Bool
-is_blank c = eqb c 9 || (eqb c 10 || (eqb c 13 || eqb c 32))
-
 abbrev is_printable : ℕ → Bool
 is_printable c = ltb 31 c && ltb c 256
 
@@ -47,7 +45,7 @@ moves InHash InHash c = eqb c 9 || (eqb c 13 || is_printable c)
 moves InHash Between c = eqb c 10
 moves InHash InSlashes c = false
 
-decides_blank : (c : ℕ) → Decides (is_blank c) (IsBlank c)
+pub decides_blank : (c : ℕ) → Decides (is_blank c) (IsBlank c)
 decides_blank c = Decides-or (eqb c 9) _ (Decides-eqb c 9) (Decides-or (eqb c 10) _ (Decides-eqb c 10) (Decides-or (eqb c 13) _ (Decides-eqb c 13) (Decides-eqb c 32)))
 
 decides_printable : (c : ℕ) → Decides (is_printable c) (IsPrintable c)

@@ -12,8 +12,8 @@ blanks-init c = standing tokens.space Between _ _ _ _ _ (record { place = c.requ
 
 pub blanks-preserved : goal.blanks-preserved
 blanks-preserved c =
-    let read = blank_there _ c.is_blank.ensures.byte (sym c.is_blank.ensures.blank ∙ c.blanks-test.true) in
+    let read = blank_there _ c.is_blank_there.ensures.byte (sym c.is_blank_there.ensures.blank ∙ c.blanks-test.true) in
     onward tokens.space space_stays _ _ _ _ _ _ _ _ _ _ _ _ c.blanks.invariant read.1 read.2 read.3 c.byte-next-in-blanks.ensures.value c.byte-next-in-blanks.ensures.behind c.byte-next-in-blanks.ensures.count
 
 pub returns-clause-read : goal.returns-clause-read
-returns-clause-read c = over_read tokens.space _ _ _ _ _ _ _ _ c.blanks.invariant (other_there _ c.is_blank.ensures.byte)
+returns-clause-read c = over_read tokens.space _ _ _ _ _ _ _ _ c.blanks.invariant (other_there _ c.is_blank_there.ensures.byte)

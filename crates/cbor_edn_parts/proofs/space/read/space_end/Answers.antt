@@ -4,10 +4,10 @@ use Rattle.cbor_edn_parts.proofs.lemmas.scan.ScanEnds.{ends_before}
 use Rattle.cbor_edn_parts.proofs.lemmas.space.Blanks.{blanks_whole}
 use Rattle.cbor_edn_parts.proofs.space.read.space_end.Goals as goal
 
-pub returns-then-begins_comment-clause-value : goal.returns-then-begins_comment-clause-value
-returns-then-begins_comment-clause-value c = ends_before tokens.space _ _ _ _ _ _ c.blanks-next.ensures.comes c.comments_end.ensures.place c.comments_end.ensures.value
+pub returns-then-is_comment_there-clause-value : goal.returns-then-is_comment_there-clause-value
+returns-then-is_comment_there-clause-value c = ends_before tokens.space _ _ _ _ _ _ c.blanks-next.ensures.comes c.comments_end.ensures.place c.comments_end.ensures.value
 
 pub returns-clause-value : goal.returns-clause-value
 returns-clause-value c =
     let read = c.blanks-next.ensures in
-    (read.read, blanks_whole _ _ _ _ read.comes read.read.here read.other (sym c.begins_comment.ensures ∙ c.if-begins_comment.false))
+    (read.read, blanks_whole _ _ _ _ read.comes read.read.here read.other (sym c.is_comment_there.ensures ∙ c.if-is_comment_there.false))

@@ -13,7 +13,7 @@ module _ {A : Type 0} (P Q : List ℕ → List ℕ → Type 0) (same : (p v : Li
   none None h = λ p v k. h p v ((same p v).0 k)
 
 pub returns-clause-found : goal.returns-clause-found
-returns-clause-found c = found _ _ c.in_ok-lone_literal.ensures.literal (λ p. p.now) c.prefix_of.result c.prefix_of.ensures.found
+returns-clause-found c = found _ _ c.in_ok-lone_literal.ensures.literal (λ p. p.now) c.application_prefix.result c.application_prefix.ensures.found
 
 pub returns-clause-none : goal.returns-clause-none
-returns-clause-none c = none _ _ c.in_ok-lone_literal.ensures.literal (λ p. p.now) c.prefix_of.result c.prefix_of.ensures.none
+returns-clause-none c = none _ _ c.in_ok-lone_literal.ensures.literal (λ p. p.now) c.application_prefix.result c.application_prefix.ensures.none

@@ -1,4 +1,4 @@
-use Rattle.std.proofs.Common.{ℕ, ◌≡◌, ◌∙◌, List, drop, true, Some, sym, ap, arith}
+use Rattle.std.proofs.Common.{ℕ, ◌≡◌, ◌∙◌, List, drop, true, Some, sym}
 use Rattle.std.specs.Prelude.{slice_range}
 use Rattle.std.proofs.lemmas.Bool.{both_ways}
 use Rattle.cbor_edn_parts.specs.declared.number.NumberState.TheVariants.{Start}
@@ -8,8 +8,7 @@ use Rattle.cbor_edn_parts.specs.internal.NumberStarts.{IsStart, follows_at}
 use Rattle.cbor_edn_parts.specs.internal.NumberTokens as tokens
 use Rattle.cbor_edn_parts.specs.internal.Text.{text_bytes}
 use Rattle.cbor_edn_parts.proofs.lemmas.number.NumberEnds.{follow_there, there_follows, stopped_there}
-use Rattle.cbor_edn_parts.proofs.lemmas.scan.ScanLoops.{piece_none}
-use Rattle.cbor_edn_parts.proofs.lemmas.scan.ScanEnds.{comes_some}
+use Rattle.cbor_edn_parts.proofs.lemmas.scan.ScanEnds.{comes_done}
 use Rattle.cbor_edn_parts.proofs.lemmas.scan.Tokens.{taken}
 use Rattle.cbor_edn_parts.proofs.number.start.NumberStart.plain.Goals as goal
 
@@ -23,7 +22,7 @@ returns-then-not-may_follow-clause-none c = λ _ final follow.
 -- the token, where its scan may end
 whole : (text : List ℕ) (from : ℕ) (s : NumberStart) → IsStart text from s → tokens.number_final s.state ≡ true → follows_at s.next ≡ true → token tokens.number (drop from text) ≡ Some (slice_range text from s.at, drop s.at text)
 whole text from s start final follows =
-    comes_some tokens.number text Start s.state from s.at s.at start.comes (omega arith) (stopped_there text s.at s.next s.state start.read.here final follows ∙ ap (λ (x : List ℕ). Some (x, drop s.at text)) (sym (piece_none text s.at)))
+    comes_done tokens.number text Start s.state from s.at start.comes (stopped_there text s.at s.next s.state start.read.here final follows)
 
 pub invariant_of-result : goal.invariant_of-result
 invariant_of-result c = record {
