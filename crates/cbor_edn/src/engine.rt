@@ -194,12 +194,12 @@ pub fn converted(alloc: Global, options: &Options, input: &[u8]) -> Result<Vec<u
         Command::Cbor2Diag => {
             if options.hex {
                 let bytes = hexadecimal::decoded(alloc, input)?;
-                Ok(diagnosed(alloc, options, &bytes)?)
+                diagnosed(alloc, options, &bytes)
             } else {
-                Ok(diagnosed(alloc, options, input)?)
+                diagnosed(alloc, options, input)
             }
         }
-        Command::Diag2Diag => Ok(reprinted(alloc, options, input)?),
+        Command::Diag2Diag => reprinted(alloc, options, input),
     }
 }
 
