@@ -4,8 +4,8 @@ use Rattle.cbor_edn_parts.specs.declared.policy.DelimiterPolicy.{DelimiterPolicy
 use Rattle.cbor_edn_parts.specs.declared.policy.DelimiterPolicy.TheVariants.{DiscardAll}
 use Rattle.cbor_edn_parts.specs.Spacing.{indented}
 use Rattle.cbor_edn_model.specs.layout.Layout.{laid_out}
-use Rattle.cbor_edn_model.specs.visit.Seeking.{CallArguments, IsTag, IsApplication}
-use Rattle.cbor_edn_model.specs.tree.Trees.{Tree, OneItem, Seq}
+use Rattle.cbor_edn_model.specs.visit.Seeking.{IsTag, IsApplication}
+use Rattle.cbor_edn_model.specs.tree.Trees.{Tree, Seq}
 use Rattle.cbor_edn_model.specs.visit.Visits.{whole}
 use Rattle.cbor_edn_conversions.specs.Addresses.{resolve_address, pretty_address}
 use Rattle.cbor_edn_conversions.specs.Annotations.{comment_lang}

@@ -1,5 +1,5 @@
 -- What a run writes, what it answers, and what it leaves.
-use Rattle.std.specs.Prelude.{◌≡◌, ◌≢◌, ℕ, ◌≤◌, ◌++◌, ◌∷◌, [], List, All, codes, Bool, not, ◌⊎◌, if◌then◌else◌, Option, Some, None, Result, Ok, Err, IfSome, IsErr}
+use Rattle.std.specs.Prelude.{◌≡◌, ◌≢◌, ℕ, ◌≤◌, ◌++◌, ◌∷◌, [], List, All, codes, Bool, ◌⊎◌, if◌then◌else◌, Option, Some, None, Result, Ok, Err, IfSome, IsErr}
 use Rattle.std.specs.Str.{IsUtf8}
 use Rattle.std.specs.Io.KnownBytes.{Appends, Keeps}
 use Rattle.cbor_edn_parts.specs.declared.error.Fault.{Fault}
