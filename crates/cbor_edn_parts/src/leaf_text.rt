@@ -120,6 +120,7 @@ impl<'a> LeafText<'a> {
     }
 
     /// A text between two others, as a text of its own. Fails where memory runs out, which at most 22 bytes don't need.
+    #[inline(always)]
     pub fn enclosed(
         alloc: Global,
         first: &str,

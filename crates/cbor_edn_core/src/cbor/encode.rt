@@ -19,7 +19,7 @@ use crate::tree::{
 use cbor_edn_model::cbor::encode::{encode_empty, encode_literal, encode_number, simple_of};
 use cbor_edn_model::cbor::heads::{
     encode_chunk, encode_float, encode_indicated_head, encode_list_end, encode_list_head,
-    encode_simple, encode_string, length_of, named_number, same_kind, string_major,
+    encode_simple, encode_string, encode_text, length_of, named_number, same_kind, string_major,
 };
 use cbor_edn_model::text::list_head::indicator_of_head;
 use cbor_edn_parts::error::{Fault, InconsistentEdn};
@@ -243,7 +243,7 @@ fn encode_lone_literal(
     ensures { Encodes encoding (means (nodes.String (nodes.LastPiece (nodes.Literal (literal_bytes literal.now) indicator)))) out.old.items out.new.items result }
 {
     match literal.plain_content() {
-        Some((kind, bytes)) => encode_string(out, kind, indicator, bytes),
+        Some((kind, text)) => encode_text(out, kind, indicator, text),
         None => {
             let (kind, bytes) = literal.content(*out.allocator())?;
             encode_string(out, kind, indicator, &bytes)

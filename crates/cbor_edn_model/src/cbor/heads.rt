@@ -1,5 +1,5 @@
 //! CBOR: the heads of data items, and integers.
-ghost use Rattle.std.specs.Prelude.{◌≡◌, ◌<◌, ◌++◌, OnOk, IfOk, nat_lt};
+ghost use Rattle.std.specs.Prelude.{◌≡◌, ◌<◌, ◌++◌, true, OnOk, IfOk, nat_lt};
 ghost use Rattle.cbor_edn_parts.specs.Leaves as leaves;
 ghost use Rattle.cbor_edn_model.specs.cbor.Value as values;
 ghost use Rattle.cbor_edn_model.specs.cbor.Value.{head, ArgumentFits, LengthFits, chunk_encoding, encoding, limit_of};
@@ -191,12 +191,41 @@ pub fn encode_string(
 ) -> Result<(), Fault<InconsistentEdn>>
     ensures { Encodes encoding (meaning.string_of (kind, content.now) indicator) out.old.items out.new.items result }
 {
+    if !is_content(kind, content) {
+        return Err(Fault::Told(InconsistentEdn::InvalidUtf8));
+    }
+    encode_valid_string(out, kind, indicator, content)
+}
+
+/// Writes a string at the end, as [`encode_string`] does, whose content is a text: it is not tested again. Fails with
+/// `IndicatorDoesNotFit`, and where memory runs out.
+pub fn encode_text(
+    out: &mut Vec<u8>,
+    kind: StringKind,
+    indicator: Option<Indicator>,
+    content: &str,
+) -> Result<(), Fault<InconsistentEdn>>
+    ensures { Encodes encoding (meaning.string_of (kind, content.now) indicator) out.old.items out.new.items result }
+{
+    encode_valid_string(out, kind, indicator, content.as_bytes())
+}
+
+#[inline(always)]
+fn encode_valid_string(
+    out: &mut Vec<u8>,
+    kind: StringKind,
+    indicator: Option<Indicator>,
+    content: &[u8],
+) -> Result<(), Fault<InconsistentEdn>>
+    requires { values.is_content kind content.now ≡ true }
+    ensures { Encodes encoding (meaning.string_of (kind, content.now) indicator) out.old.items out.new.items result }
+{
     if content.is_empty() && indicator == Some(Indicator::Indefinite) {
         encode_list_head(out, string_major(kind), None, 0)?;
         encode_list_end(out, None)?;
         return Ok(());
     }
-    encode_chunk(out, kind, indicator, content)
+    encode_valid_chunk(out, kind, indicator, content)
 }
 
 /// Writes a string of definite length. Fails with `InvalidUtf8` where it is a text and its bytes are not UTF-8, with
@@ -212,6 +241,19 @@ pub fn encode_chunk(
     if !is_content(kind, content) {
         return Err(Fault::Told(InconsistentEdn::InvalidUtf8));
     }
+    encode_valid_chunk(out, kind, indicator, content)
+}
+
+#[inline(always)]
+fn encode_valid_chunk(
+    out: &mut Vec<u8>,
+    kind: StringKind,
+    indicator: Option<Indicator>,
+    content: &[u8],
+) -> Result<(), Fault<InconsistentEdn>>
+    requires { values.is_content kind content.now ≡ true }
+    ensures { Encodes (λ p. chunk_encoding p.0 p.1) (meaning.chunk_of (kind, content.now) indicator) out.old.items out.new.items result }
+{
     encode_indicated_head(out, string_major(kind), indicator, content.len() as u64)?;
     out.extend_from_slice(content)?;
     Ok(())

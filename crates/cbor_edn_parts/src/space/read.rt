@@ -147,6 +147,7 @@ pub fn space_behind<'a>(
 }
 
 /// The space with at most one comma behind an item, and the place behind it.
+#[inline(always)]
 pub fn separator_behind<'a>(
     text: &Text<'a>,
     end: ItemEnd,

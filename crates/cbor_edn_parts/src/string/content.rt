@@ -33,9 +33,9 @@ impl Literal<'_> {
         }
     }
 
-    /// The kind and the bytes of a string as most are, whose text between the quotes stands for itself: of a literal without prefix and
-    /// escapes, where they stand. Takes no memory.
-    pub fn plain_content(&self) -> Option<(StringKind, &[u8])>
+    /// The kind and the content of a string as most are, whose text between the quotes stands for itself: of a literal without prefix and
+    /// escapes, where it stands. Takes no memory.
+    pub fn plain_content(&self) -> Option<(StringKind, &str)>
         ensures content { IfSome result (λ p. HasContent (literal_bytes self.now) p.0 p.1.now) }
         ensures plain { IsNone result → (quote : Quote) (text : List ℕ) → literal_bytes self.now ≡ tokens.quote_byte quote ∷ (text ++ (tokens.quote_byte quote ∷ [])) → All (λ c. tokens.is_plain quote c ≡ true) text → ⊥ }
     {
@@ -44,7 +44,7 @@ impl Literal<'_> {
         }
         let kind = self.kind();
         let plain = kind.quote().plain(self.quoted())?;
-        Some((kind, plain))
+        Some((kind, &self.as_str()[1..1 + plain.len()]))
     }
 
     /// What stands before the first quote.
@@ -188,6 +188,7 @@ impl Quote {
     /// The text behind an opening quote, up to the quote that ends it, where all of it is plain: it stands for itself.
     fn plain(self, text: &[u8]) -> Option<&[u8]>
         ensures some { IfSome result (λ p. tokens.decoded self QuotedState.Between text.now ≡ p.now) }
+        ensures whole { IfSome result (λ p. text.now ≡ p.now ++ (tokens.quote_byte self ∷ [])) }
         ensures none { IsNone result → (plain : List ℕ) → text.now ≡ plain ++ (tokens.quote_byte self ∷ []) → All (λ c. tokens.is_plain self c ≡ true) plain → ⊥ }
     {
         let (plain, rest) = self.split_plain(text);
@@ -208,6 +209,7 @@ impl Quote {
     /// Plain bytes that the text behind an opening quote begins with, mostly all but the quote that ends it, and the rest.
     fn split_plain(self, text: &[u8]) -> (&[u8], &[u8])
         ensures bytes { tokens.decoded self QuotedState.Between text.now ≡ result.0.now ++ tokens.decoded self QuotedState.Between result.1.now }
+        ensures whole { text.now ≡ result.0.now ++ result.1.now }
         ensures rest { result.1.now ≡ drop (position_or_len (λ c. not (tokens.is_plain self c)) text.now) text.now }
     {
         match self.first_other(text) {

@@ -135,9 +135,8 @@ pub(super) fn decode_string<'a, 'b>(
 {
     match argument {
         Some((width, count)) => {
-            let (string, rest) = definite(alloc, kind, width, count, bytes)?;
-            let item = Item::string(alloc, string)?;
-            Ok((item, rest))
+            let (literal, rest) = decode_literal(alloc, kind, count, bytes)?;
+            Ok((Item::literal(indicator_of(argument), literal), rest))
         }
         None => {
             let (found, rest) = decode_chunks_until(alloc, kind, bytes)?;

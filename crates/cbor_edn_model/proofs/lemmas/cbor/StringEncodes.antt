@@ -1,14 +1,16 @@
 -- What is gathered and pushed of strings is the encoding of what they mean.
 use Rattle.std.proofs.Common.{◌≡◌, ℕ, ◌<◌, ◌≤◌, Bool, true, false, cond, ◌&&◌, List, [], ◌∷◌, ◌++◌, length, map, get_or, Option, Some, None, is_none, is_some, not, Result, Ok, Err, refl, sym, ap, subst, ◌∙◌, append_assoc, arith, inl, inr}
 use Rattle.std.specs.Option.{unwrap_or}
+use Rattle.std.specs.Str.{IsUtf8}
 use Rattle.std.proofs.lemmas.List.{append-nil}
+use Rattle.std.proofs.lemmas.Str.{IsUtf8-nil, is_utf8-from_IsUtf8}
 use Rattle.cbor_edn_parts.specs.declared.error.Fault.{Fault}
 use Rattle.cbor_edn_parts.specs.declared.error.Fault.TheVariants.{Memory, Told}
 use Rattle.cbor_edn_parts.specs.declared.error.InconsistentEdn.{InconsistentEdn}
 use Rattle.cbor_edn_parts.specs.declared.indicator.Indicator.{Indicator}
 use Rattle.cbor_edn_parts.specs.declared.indicator.Indicator.TheVariants as indicator
 use Rattle.cbor_edn_parts.specs.declared.string.StringKind.{StringKind}
-use Rattle.cbor_edn_parts.specs.declared.string.StringKind.TheVariants.{Bytes}
+use Rattle.cbor_edn_parts.specs.declared.string.StringKind.TheVariants.{Bytes, Text}
 use Rattle.cbor_edn_parts.specs.Contents.{Content}
 use Rattle.cbor_edn_parts.specs.Refusals.{IfTold}
 use Rattle.cbor_edn_model.specs.declared.cbor.heads.Width.{Width}
@@ -24,6 +26,16 @@ use Rattle.cbor_edn_model.proofs.lemmas.cbor.MeaningSteps.{bind, both_steps, som
 use Rattle.cbor_edn_model.proofs.lemmas.cbor.Meanings.{given_chunk, string_value, stream_value, chunks_are}
 use Rattle.cbor_edn_model.proofs.lemmas.cbor.StringKinds.{Strings_of, is_or_not, chunk_of_kind, all_of_kind, one_of_other_kind}
 use Rattle.cbor_edn_model.proofs.lemmas.cbor.CborEncodes.{Pushed}
+
+-- The bytes of a text are the content of any kind of string.
+pub text_content : (k : StringKind) (bs : List ℕ) → IsUtf8 bs → is_content k bs ≡ true
+text_content Bytes bs utf8 = refl
+text_content Text bs utf8 = is_utf8-from_IsUtf8 bs utf8
+
+-- what is no content makes no string
+pub no_string : (k : StringKind) (bs : List ℕ) (i : Option Indicator) → is_content k bs ≡ false → string_of (k, bs) i ≡ None
+no_string k [] i invalid = let valid = text_content k [] IsUtf8-nil in absurd cc
+no_string k (b ∷ bs) i invalid = ap (λ s. cond s (width_of i (length (b ∷ bs)) >>= given_chunk k (b ∷ bs)) None >>= string_value) invalid
 
 abbrev pub Gathered : Type 0
 Gathered = Result StringKind (Fault InconsistentEdn)

@@ -1,13 +1,14 @@
 -- The prefix of a literal, and what stands behind its first quote.
-use Rattle.std.proofs.Common.{ℕ, ◌+◌, ◌≤◌, ◌≡◌, ◌≢◌, Bool, true, false, List, [], ◌∷◌, ◌++◌, length, take, drop, Option, Some, None, cond, eqb, ltb, eqb-true, one-add, refl, sym, ap, ◌∙◌, subst, append_assoc, arith}
+use Rattle.std.proofs.Common.{ℕ, ◌+◌, ◌-◌, ◌≤◌, ◌<◌, ◌≡◌, ◌≢◌, Bool, true, false, List, [], ◌∷◌, ◌++◌, length, take, drop, get_or, Option, Some, None, cond, eqb, ltb, eqb-true, one-add, refl, sym, ap, ◌∙◌, subst, append_assoc, arith}
 use Rattle.std.specs.Prelude.{if◌then◌else◌, ◌||◌, ◌&&◌, position}
 use Rattle.std.specs.List.{position_or_len}
-use Rattle.std.specs.Str.{IsCharBoundary}
+use Rattle.std.specs.Str.{IsCharBoundary, IsUtf8}
 use Rattle.std.proofs.lemmas.Bool.{false≢true, and_parts}
 use Rattle.std.proofs.lemmas.Bool.Decides.{nat_tests}
 use Rattle.std.proofs.lemmas.List.{drop_at, take_all, length-append, nil_from_length}
 use Rattle.std.proofs.lemmas.List.Quantifiers.{position-Some}
-use Rattle.std.proofs.lemmas.Str.{IsCharBoundary-before_ascii}
+use Rattle.std.proofs.lemmas.Str.{IsCharBoundary-after_ascii, IsCharBoundary-before_ascii}
+use Rattle.std.proofs.Math.Seq.{get_or-append_seam, take-append_seam}
 use Rattle.cbor_edn_parts.specs.internal.Lex.{Accepts}
 use Rattle.cbor_edn_parts.specs.internal.LiteralTokens as tokens
 use Rattle.cbor_edn_parts.specs.internal.LiteralTokens.{is_quote, is_lower, is_upper, is_digit, literal_step, literal_final, is_literal, prefix_of, quoted_of, decoded}
@@ -146,6 +147,16 @@ first_is (d ∷ t) c p e = first_by (is_quote d) refl
     first_by true q = let none = (at_quote d t q).0 in absurd (cc)
     first_by false q = let some = (in_front d t q).0 in let same : d ≡ c = cc in rw same at q
 
+-- what stands behind a prefix begins with a quote
+quoted_head : (t : List ℕ) (q : ℕ) (x : List ℕ) → quoted_of t ≡ q ∷ x → is_quote q ≡ true
+unfolding quoted_of
+quoted_head [] q x e = absurd (cc)
+quoted_head (d ∷ t) q x e = head_by (is_quote d) refl (λ f. quoted_head t q x (sym f ∙ e))
+  where
+    head_by : (b : Bool) → is_quote d ≡ b → (quoted_of (d ∷ t) ≡ quoted_of t → is_quote q ≡ true) → is_quote q ≡ true
+    head_by true is rest = let first = (at_quote d t is).1 in let same : d ≡ q = cc in rw same at is
+    head_by false is rest = rest (in_front d t is).1
+
 plain : (q : ℕ) (x : List ℕ) (k : StringKind) (b : Bool) → eqb q 34 ≡ b → k ≡ (if eqb q 34 then Text else Bytes) → content_behind [] (q ∷ x) ≡ Some (k, decoded (quote_of k) Between x)
 plain q x k true e k_is = rw (k_is, e)
 plain q x k false e k_is = rw (k_is, e)
@@ -182,6 +193,30 @@ module _ (t : List ℕ) (is : is_literal t ≡ true) where
   quoted_is : quoted_of t ≡ quote ∷ behind_quote t
   unfolding quote behind
   quoted_is = (literal_opened t is).2 ∙ ap (λ y. quote ∷ y) behind_is
+
+  -- What stands between the quotes of a literal without prefix is a part of the text.
+  module _ (none : prefix_of t ≡ []) (p : List ℕ) (b : ℕ) (last : b < 128) (ended : behind_quote t ≡ p ++ (b ∷ [])) where
+    lone : t ≡ quote ∷ (p ++ (b ∷ []))
+    lone = whole ∙ ap (λ y. y ++ (quote ∷ behind)) none ∙ ap (λ y. quote ∷ y) (behind_is ∙ ended)
+
+    first : get_or t 0 0 < 128
+    unfolding quote
+    first = rw lone (let head = quoted_head t (literal_opened t is).0 (literal_opened t is).1 (literal_opened t is).2 in grind (arith, nat_tests, head))
+
+    ends : get_or t (1 + length p) 0 < 128
+    ends = rw (lone, one-add, get_or-append_seam p b [] 0) last
+
+    long : length t ≡ 2 + length p
+    long = omega (arith, ap length lone, length-append p (b ∷ []))
+
+    pub lone_begins : IsUtf8 t → IsCharBoundary t 1
+    lone_begins utf8 = IsCharBoundary-after_ascii t 0 utf8 (omega (arith, long)) first
+
+    pub lone_ends : IsCharBoundary t (1 + length p)
+    lone_ends = IsCharBoundary-before_ascii t (1 + length p) (omega (arith, long)) ends
+
+    pub lone_between : take (1 + length p - 1) (drop 1 t) ≡ p
+    lone_between = let count : 1 + length p - 1 ≡ length p = omega arith in rw (lone, count) (take-append_seam p (b ∷ []))
 
   abbrev value : List ℕ
   value = decoded (quote_of (literal_kind t)) Between (behind_quote t)

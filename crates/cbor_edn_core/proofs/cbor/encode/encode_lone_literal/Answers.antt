@@ -11,8 +11,8 @@ use Rattle.cbor_edn_core.proofs.cbor.encode.encode_lone_literal.Goals as goal
 pub returns-in-Some : goal.returns-in-Some
 unfolding means
 returns-in-Some c =
-    let read = content_reads (literal_bytes c.args.literal.now) c.in-Some.kind c.in-Some.bytes.now c.in-Some.ensures.content in
-    string_pushed (LastPiece (Literal (literal_bytes c.args.literal.now) c.args.indicator)) c.args.indicator c.in-Some.kind c.in-Some.bytes.now c.args.out.now.items c.encode_string.new.out.items c.encode_string.result refl read c.encode_string.ensures
+    let read = content_reads (literal_bytes c.args.literal.now) c.in-Some.kind c.in-Some.text.now c.in-Some.ensures.content in
+    string_pushed (LastPiece (Literal (literal_bytes c.args.literal.now) c.args.indicator)) c.args.indicator c.in-Some.kind c.in-Some.text.now c.args.out.now.items c.encode_text.new.out.items c.encode_text.result refl read c.encode_text.ensures
 
 pub returns-in_err-kind-in-None : goal.returns-in_err-kind-in-None
 unfolding means
@@ -25,4 +25,4 @@ pub returns-in_ok-kind-in-None : goal.returns-in_ok-kind-in-None
 unfolding means
 returns-in_ok-kind-in-None c =
     let read = content_reads (literal_bytes c.args.literal.now) c.in_ok-kind-in-None.kind c.in_ok-kind-in-None.bytes.items c.in_ok-kind-in-None.ensures.content in
-    string_pushed (LastPiece (Literal (literal_bytes c.args.literal.now) c.args.indicator)) c.args.indicator c.in_ok-kind-in-None.kind c.in_ok-kind-in-None.bytes.items c.args.out.now.items c.encode_string-in-None.new.out.items c.encode_string-in-None.result refl read (rw (← c.deref.ensures.value) c.encode_string-in-None.ensures)
+    string_pushed (LastPiece (Literal (literal_bytes c.args.literal.now) c.args.indicator)) c.args.indicator c.in_ok-kind-in-None.kind c.in_ok-kind-in-None.bytes.items c.args.out.now.items c.encode_string.new.out.items c.encode_string.result refl read (rw (← c.deref.ensures.value) c.encode_string.ensures)
