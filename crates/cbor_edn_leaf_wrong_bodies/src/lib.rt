@@ -32,6 +32,7 @@ use cbor_edn_parts::indicator::Indicator;
 use cbor_edn_parts::looks::Looks;
 use cbor_edn_parts::number::Integer;
 use cbor_edn_parts::space::{Ms, S};
+use cbor_edn_parts::string::StringKind;
 use cbor_edn_parts::text::Text;
 use std::alloc::{AllocError, Global};
 
@@ -119,4 +120,16 @@ pub fn encode_integer(
     ensures { Encodes encoding (means_integer indicator (leaves.integer number)) out.old.items out.new.items result }
 {
     cbor_edn_model::cbor::heads::encode_integer(out, number, indicator)
+}
+
+/// `cbor::heads::encode_text`.
+pub fn encode_text(
+    out: &mut Vec<u8>,
+    kind: StringKind,
+    indicator: Option<Indicator>,
+    content: &str,
+) -> Result<(), Fault<InconsistentEdn>>
+    ensures { Encodes encoding (meaning.string_of (kind, content.now) indicator) out.old.items out.new.items result }
+{
+    cbor_edn_model::cbor::heads::encode_text(out, kind, indicator, content)
 }
