@@ -203,6 +203,7 @@ pub fn print_mandatory(
 }
 
 /// Writes the separator between two entries as it is laid out at the end of a text. Fails where memory runs out.
+#[inline(always)]
 pub fn print_separator(
     out: &mut TextBuffer,
     separator: &Msc<'_>,

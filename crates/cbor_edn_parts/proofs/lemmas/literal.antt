@@ -18,5 +18,6 @@ pub mod HexTexts
 pub mod Bits
 pub mod StringLiterals
 pub mod Escapes
+pub mod EscapedParts
 pub mod WhereRefused
 pub mod LiteralPrefixes

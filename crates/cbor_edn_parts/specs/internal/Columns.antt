@@ -10,6 +10,14 @@ in_column OneLine t = t
 in_column (NewLine n) t = line n ++ t
 in_column OneSpace t = 32 ∷ t
 
+-- the comma of a column, with no comment round it
+abbrev pub comma_in_column : Spacing → List ℕ
+comma_in_column Least = 44 ∷ []
+comma_in_column Comments = 44 ∷ []
+comma_in_column OneLine = 44 ∷ 32 ∷ []
+comma_in_column (NewLine n) = 44 ∷ line n
+comma_in_column OneSpace = 32 ∷ 44 ∷ []
+
 -- how long so many bytes of comments are behind the blanks of a column
 abbrev pub column_length : Spacing → ℕ → ℕ
 column_length Least k = 0

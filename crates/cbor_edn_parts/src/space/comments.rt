@@ -1,5 +1,5 @@
 //! The comments of a space text, and its comma.
-ghost use Rattle.std.specs.Prelude.{◌≡◌, ◌&&◌};
+ghost use Rattle.std.specs.Prelude.{◌≡◌, ◌&&◌, [], IsTrue};
 ghost use Rattle.cbor_edn_parts.specs.Spacing.{comments_before, comments_after};
 ghost use Rattle.cbor_edn_parts.specs.internal.CommentReading as definition;
 ghost use Rattle.cbor_edn_parts.specs.internal.CommentReading.{before_comma, after_comma, comments_of};
@@ -13,21 +13,46 @@ pub(super) fn comments(text: &str) -> &str
     to_last(from_first(text))
 }
 
-/// The comments in front of the comma of a text, and those behind it. Most texts are a comma with one blank behind it or none.
+/// The same of a text that mostly is nothing, or one space.
+#[inline(always)]
+pub(super) fn comments_mostly_none(text: &str) -> &str
+    ensures { result.now ≡ comments_of text.now }
+{
+    match text.as_bytes() {
+        [] => "",
+        [b' '] => "",
+        _ => comments(text),
+    }
+}
+
+/// The comments in front of the comma of a text, and those behind it.
 #[inline(always)]
 pub(super) fn comments_round_comma(text: &str) -> (&str, &str)
     ensures before { result.0.now ≡ comments_before text.now }
     ensures after { result.1.now ≡ comments_after text.now }
 {
+    if is_bare_separator(text) {
+        return ("", "");
+    }
+    comments_in_parts(text)
+}
+
+/// Whether a text is a comma, a blank, or the one behind the other, as most are. Then it has no comment.
+#[inline(always)]
+pub(super) fn is_bare_separator(text: &str) -> bool
+    ensures before { IsTrue result → comments_before text.now ≡ [] }
+    ensures after { IsTrue result → comments_after text.now ≡ [] }
+{
     match text.as_bytes() {
-        [b','] => ("", ""),
-        [b',', b' '] => ("", ""),
-        _ => comments_in_parts(text),
+        [b','] => true,
+        [b' '] => true,
+        [b',', b' '] => true,
+        _ => false,
     }
 }
 
-/// The same of any text. Most others are blanks round a comma too.
-fn comments_in_parts(text: &str) -> (&str, &str)
+/// As [`comments_round_comma`], of any text. Most others are blanks round a comma too.
+pub(super) fn comments_in_parts(text: &str) -> (&str, &str)
     ensures before { result.0.now ≡ comments_before text.now }
     ensures after { result.1.now ≡ comments_after text.now }
 {

@@ -6,9 +6,11 @@ ghost use Rattle.cbor_edn_parts.specs.internal.CommentReading.{comments_of};
 ghost use Rattle.cbor_edn_parts.specs.Leaves.{s_bytes, ms_bytes, msc_bytes, soc_bytes};
 ghost use Rattle.cbor_edn_parts.specs.Spacing as table;
 ghost use Rattle.cbor_edn_parts.specs.Spacing.{line};
-ghost use Rattle.cbor_edn_parts.specs.internal.Columns.{in_column};
+ghost use Rattle.cbor_edn_parts.specs.internal.Columns.{in_column, comma_in_column};
 
-use super::comments::{comments, comments_round_comma};
+use super::comments::{
+    comments, comments_in_parts, comments_mostly_none, comments_round_comma, is_bare_separator,
+};
 use super::{Ms, Msc, S, Soc};
 use crate::buffer::TextBuffer;
 use crate::leaf_text::LeafText;
@@ -41,7 +43,11 @@ impl<'a> S<'a> {
     ) -> Result<(), AllocError>
         ensures { OnOk result (buffer_bytes out.new ≡ buffer_bytes out.old ++ table.spaced table.S spacing (s_bytes self.now)) }
     {
-        print_in_column(out, spacing, comments(self.as_str()), "")
+        let comments = comments_mostly_none(self.as_str());
+        if comments.is_empty() {
+            return print_blanks(out, spacing);
+        }
+        print_in_column(out, spacing, comments, "")
     }
 }
 
@@ -87,6 +93,7 @@ impl<'a> Msc<'a> {
     }
 
     /// Appends the text by a column of the table. Fails where memory runs out.
+    #[inline(always)]
     pub(crate) fn print_spaced(
         &self,
         out: &mut TextBuffer,
@@ -177,14 +184,24 @@ fn print_in_column(
 ) -> Result<(), AllocError>
     ensures { OnOk result (buffer_bytes out.new ≡ buffer_bytes out.old ++ in_column spacing (before.now ++ after.now)) }
 {
-    match spacing {
-        Spacing::Least => return Ok(()),
-        Spacing::Comments | Spacing::OneLine => {}
-        Spacing::OneSpace => out.push_str(" ")?,
-        Spacing::NewLine(indent) => print_line(out, indent)?,
+    if matches!(spacing, Spacing::Least) {
+        return Ok(());
     }
+    print_blanks(out, spacing)?;
     print_comments(out, before)?;
     print_comments(out, after)
+}
+
+/// Appends the blanks of a column.
+#[inline(always)]
+fn print_blanks(out: &mut TextBuffer, spacing: Spacing) -> Result<(), AllocError>
+    ensures { OnOk result (buffer_bytes out.new ≡ buffer_bytes out.old ++ in_column spacing []) }
+{
+    match spacing {
+        Spacing::Least | Spacing::Comments | Spacing::OneLine => Ok(()),
+        Spacing::OneSpace => out.push_str(" "),
+        Spacing::NewLine(indent) => print_line(out, indent),
+    }
 }
 
 /// Appends comments, of which there mostly are none.
@@ -234,10 +251,35 @@ fn with_comma<'a>(alloc: Global, spacing: Spacing, text: &str) -> Result<LeafTex
 
 /// Appends a separator by a column: its comments with a comma between those in front of it and those behind it. Fails where memory
 /// runs out.
+#[inline(always)]
 fn print_with_comma(out: &mut TextBuffer, spacing: Spacing, text: &str) -> Result<(), AllocError>
     ensures { OnOk result (buffer_bytes out.new ≡ buffer_bytes out.old ++ table.spaced table.MSC spacing text.now) }
 {
-    let (ahead, behind) = comments_round_comma(text);
+    if is_bare_separator(text) {
+        return print_comma(out, spacing);
+    }
+    print_round_comma(out, spacing, text)
+}
+
+/// Appends the comma of a separator without comments.
+#[inline(always)]
+fn print_comma(out: &mut TextBuffer, spacing: Spacing) -> Result<(), AllocError>
+    ensures { OnOk result (buffer_bytes out.new ≡ buffer_bytes out.old ++ comma_in_column spacing) }
+{
+    match spacing {
+        Spacing::Least | Spacing::Comments => out.push_str(","),
+        Spacing::OneLine => out.push_str(", "),
+        Spacing::OneSpace => out.push_str(" ,"),
+        Spacing::NewLine(indent) => print_comma_line(out, indent),
+    }
+}
+
+/// As [`print_with_comma`], of a text that may have comments.
+#[inline(never)]
+fn print_round_comma(out: &mut TextBuffer, spacing: Spacing, text: &str) -> Result<(), AllocError>
+    ensures { OnOk result (buffer_bytes out.new ≡ buffer_bytes out.old ++ table.spaced table.MSC spacing text.now) }
+{
+    let (ahead, behind) = comments_in_parts(text);
     match spacing {
         Spacing::Least => return out.push_str(","),
         Spacing::OneSpace => out.push_str(" ")?,
@@ -269,14 +311,22 @@ fn short_line(indent: usize) -> &'static str
 }
 
 /// Appends a comma, a line feed and so many spaces.
+#[inline(always)]
 fn print_comma_line(out: &mut TextBuffer, indent: usize) -> Result<(), AllocError>
     ensures { OnOk result (buffer_bytes out.new ≡ buffer_bytes out.old ++ 44 ∷ line indent) }
 {
     if indent <= SHORT {
         return out.push_str(comma_line(indent));
     }
+    print_long_comma_line(out, indent)
+}
+
+#[inline(never)]
+fn print_long_comma_line(out: &mut TextBuffer, indent: usize) -> Result<(), AllocError>
+    ensures { OnOk result (buffer_bytes out.new ≡ buffer_bytes out.old ++ 44 ∷ line indent) }
+{
     out.push_str(",")?;
-    print_line(out, indent)
+    print_long_line(out, indent)
 }
 
 /// Appends a line feed and so many spaces.

@@ -146,7 +146,7 @@ impl Quote {
     pub(super) fn decode(self, alloc: Global, text: &[u8]) -> Result<Vec<u8>, AllocError>
         ensures { IfOk result (λ v. v.items ≡ tokens.decoded self QuotedState.Between text.now) }
     {
-        let mut bytes = Vec::new(alloc);
+        let mut bytes = Vec::with_capacity(alloc, text.len())?;
         let mut part = QuotedState::Between;
         let mut rest = text;
         'parts: loop {

@@ -71,12 +71,26 @@ fn double_quoted<'a>(alloc: Global, text: &str) -> Result<LeafText<'a>, AllocErr
     if is_plain(text) {
         return LeafText::enclosed(alloc, "\"", text, "\"");
     }
-    let mut literal = String::from_str(alloc, "\"")?;
-    for character in text.chars() {
-        print_escaped(&mut literal, character)?;
-    }
+    let mut literal = String::with_capacity(alloc, text.len())?;
+    literal.push('"')?;
+    print_between(&mut literal, text)?;
     literal.push('"')?;
     LeafText::own(alloc, literal)
+}
+
+/// Appends a text as it stands between double quotes. What stands for itself up to a character that doesn't is appended at once.
+fn print_between(literal: &mut String, text: &str) -> Result<(), AllocError>
+    ensures { OnOk result (string_bytes literal.new ≡ string_bytes literal.old ++ all_escaped text.now) }
+{
+    let mut from = 0;
+    'bytes: for (at, &byte) in text.as_bytes().iter().enumerate() {
+        if !stands_for_itself(byte) {
+            literal.push_str(&text[from..at])?;
+            print_escaped(literal, char::from(byte))?;
+            from = at + 1;
+        }
+    }
+    literal.push_str(&text[from..])
 }
 
 /// Whether each byte of a text stands for itself between double quotes.
