@@ -5,5 +5,4 @@ mod Returns
 mod RunsOnce
 mod ShownNesting
 mod StepsKept
-mod UntaggedSteps
 mod WrittenOutput

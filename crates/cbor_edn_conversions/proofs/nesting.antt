@@ -3,4 +3,3 @@ pub mod DirectAnswers
 pub mod DirectClaims
 pub mod DirectVisits
 pub mod Meant
-pub mod TagDepths

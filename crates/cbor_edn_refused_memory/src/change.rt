@@ -2,7 +2,7 @@
 use crate::acts::{Act, acted};
 use crate::callbacks::{
     comment_claims, comment_elements, comment_keys, comment_literals, comment_sequence_items,
-    comment_sequence_literals, comment_sequence_tags, comment_tags, comment_tags_that_stay,
+    comment_sequence_literals, comment_sequence_tags, comment_tags,
 };
 use cbor_edn_application::visits;
 use cbor_edn_core::tree::{Item, Sequence, StandaloneItem};
@@ -51,7 +51,6 @@ pub(crate) enum OfSequence {
     DiscardIndicators,
     IndentAndDiscardIndicators,
     Tags,
-    TagsThatStay,
     Literals,
     LiteralItems,
     Prettify,
@@ -107,7 +106,6 @@ fn call_sequence(
             sequence.discard_encoding_indicators(alloc)
         }
         OfSequence::Tags => comment_sequence_tags(alloc, sequence),
-        OfSequence::TagsThatStay => comment_tags_that_stay(alloc, sequence),
         OfSequence::Literals => comment_sequence_literals(alloc, sequence),
         OfSequence::LiteralItems => comment_sequence_items(alloc, sequence),
         OfSequence::Prettify => visits::prettify(alloc, sequence),

@@ -2,4 +2,3 @@
 pub mod VisitedRows
 pub mod VisitsOfParts
 pub mod RowDepths
-pub mod Untagged
