@@ -5,4 +5,5 @@ mod Returns
 mod RunsOnce
 mod ShownNesting
 mod StepsKept
+mod UntaggedSteps
 mod WrittenOutput

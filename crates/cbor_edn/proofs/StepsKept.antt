@@ -41,7 +41,7 @@ ResolvesLiterals = InTurn (LiteralsVisited resolve_address) (LiteralsVisited res
 taken : (b : Bool) (P : Step) (w v : Tree Seq) → b ≡ true → Where b P w v → P w v
 taken b P w v e h = subst (λ b. Where b P w v) e h
 
-not_taken : (b : Bool) (P : Step) (w v : Tree Seq) → b ≡ false → Where b P w v → v ≡ w
+pub not_taken : (b : Bool) (P : Step) (w v : Tree Seq) → b ≡ false → Where b P w v → v ≡ w
 not_taken b P w v e h = subst (λ b. Where b P w v) e h
 
 stays : (b : Bool) (P : Step) (w : Tree Seq) → b ≡ false → Where b P w w

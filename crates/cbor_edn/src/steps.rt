@@ -1,9 +1,10 @@
 //! What the options of a run make of the items that it reads, step by step.
-ghost use Rattle.std.specs.Prelude.{◌≡◌, ◌++◌, not, OnOk, IfOk};
+ghost use Rattle.std.specs.Prelude.{◌≡◌, ◌++◌, ◌&&◌, ◌||◌, not, OnOk, IfOk};
 ghost use Rattle.std.specs.Str.{IsUtf8};
 ghost use Rattle.cbor_edn_parts.specs.Buffer.{buffer_bytes};
 ghost use Rattle.cbor_edn_core.specs.tree.View.{sequence_tree};
 ghost use Rattle.cbor_edn_model.specs.tree.Trees.{Tree, Seq, text};
+ghost use Rattle.cbor_edn_model.specs.visit.Tagged.{has_tag};
 ghost use Rattle.cbor_edn_parts.specs.Spacing.{indented};
 ghost use Rattle.cbor_edn_parts.specs.declared.policy.DelimiterPolicy.TheVariants.{DiscardAll};
 ghost use Rattle.cbor_edn_conversions.specs.Addresses.{resolve_address, pretty_address};
@@ -31,11 +32,13 @@ pub(crate) fn take(
 ) -> Result<(), AllocError>
     ensures { OnOk result ((v : Tree Seq) → Where (not options.now.preserve_space) (IsLaidOut indented) (sequence_tree sequence.new) v → StepsGive options.now (sequence_tree sequence.old) v) }
 {
-    annotate_tags(alloc, options.annotate_tags, sequence)?;
+    let tagged = has_tag_for(options, sequence);
+    annotate_tags(alloc, options.annotate_tags, tagged, sequence)?;
     remove_comments(alloc, options.remove_comments, sequence)?;
     resolve_literals(alloc, options.aol_to_item, sequence)?;
     annotate_claims(alloc, options.annotate_ccs, sequence)?;
-    show_bignums(alloc, options.bignum_from_tags, sequence)?;
+    let tagged = may_have_tag(options, tagged);
+    show_bignums(alloc, options.bignum_from_tags, tagged, sequence)?;
     tag_literals(alloc, options.apply_999, sequence)
 }
 
@@ -67,10 +70,29 @@ fn print_spaced(
     }
 }
 
-fn annotate_tags(alloc: Global, asked: bool, sequence: &mut Sequence<'_>) -> Result<(), AllocError>
-    ensures { OnOk result (Where asked (InTurn (TagsVisited pretty_address) (InTurn (TagsVisited pretty_time) (TagsVisited comment_lang))) (sequence_tree sequence.old) (sequence_tree sequence.new)) }
+/// Whether a step that visits tags is asked for, and there are any: where none stands, no visit of tags does anything.
+fn has_tag_for(options: &Options, sequence: &Sequence<'_>) -> bool
+    ensures { result ≡ (options.now.annotate_tags || options.now.bignum_from_tags) && has_tag (sequence_tree sequence.now) }
 {
-    if !asked {
+    (options.annotate_tags || options.bignum_from_tags) && sequence.has_tag()
+}
+
+/// The same behind the steps between those two kinds of visits: each may put a tag where none stood.
+fn may_have_tag(options: &Options, tagged: bool) -> bool
+    ensures { result ≡ tagged || (options.now.remove_comments || (options.now.aol_to_item || options.now.annotate_ccs)) }
+{
+    tagged || options.remove_comments || options.aol_to_item || options.annotate_ccs
+}
+
+fn annotate_tags(
+    alloc: Global,
+    asked: bool,
+    tagged: bool,
+    sequence: &mut Sequence<'_>,
+) -> Result<(), AllocError>
+    ensures { OnOk result (Where (asked && tagged) (InTurn (TagsVisited pretty_address) (InTurn (TagsVisited pretty_time) (TagsVisited comment_lang))) (sequence_tree sequence.old) (sequence_tree sequence.new)) }
+{
+    if !asked || !tagged {
         return Ok(());
     }
     prettify_addresses(alloc, sequence)?;
@@ -120,10 +142,15 @@ fn annotate_claims(
     }
 }
 
-fn show_bignums(alloc: Global, asked: bool, sequence: &mut Sequence<'_>) -> Result<(), AllocError>
-    ensures { OnOk result (Where asked (TagsVisited pretty_bignum) (sequence_tree sequence.old) (sequence_tree sequence.new)) }
+fn show_bignums(
+    alloc: Global,
+    asked: bool,
+    tagged: bool,
+    sequence: &mut Sequence<'_>,
+) -> Result<(), AllocError>
+    ensures { OnOk result (Where (asked && tagged) (TagsVisited pretty_bignum) (sequence_tree sequence.old) (sequence_tree sequence.new)) }
 {
-    if asked {
+    if asked && tagged {
         prettify_bignums(alloc, sequence)
     } else {
         Ok(())

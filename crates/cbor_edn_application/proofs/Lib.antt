@@ -8,6 +8,7 @@ pub mod KnownResults
 pub mod TagContents
 pub mod Unmoved
 pub mod VisitChains
+pub mod DepthsLeft
 pub mod Replies
 pub mod TagParts
 pub mod InstantNumbers

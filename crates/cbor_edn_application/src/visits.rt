@@ -56,7 +56,7 @@ pub(crate) enum LiteralAct {
 fn visit_tags(alloc: Global, sequence: &mut Sequence<'_>, act: TagAct<'_>) -> Result<(), AllocError>
     ensures { IsVisited IsTag (tag_act act.entry) (sequence_tree sequence.old) (ending result) (sequence_tree sequence.new) }
 {
-    sequence.visit_tag(alloc, &mut |tag, item| at_tag(alloc, act, tag, item))
+    sequence.visit_tag_no_deeper(alloc, &mut |tag, item| at_tag(alloc, act, tag, item))
 }
 
 fn visit_literals(

@@ -3,3 +3,4 @@ pub mod DirectAnswers
 pub mod DirectClaims
 pub mod DirectVisits
 pub mod Meant
+pub mod TagDepths

@@ -1,8 +1,9 @@
 //! Visits: callbacks at parts of items.
 ghost use Rattle.std.specs.Prelude.{◌≡◌, ◌≢◌, OnOk, OnErr, Option, Result, List, None};
 ghost use Rattle.cbor_edn_core.specs.visit.Callbacks.{answer_of, ending};
-ghost use Rattle.cbor_edn_core.specs.visit.Sought.{IsTagCall, IsLiteralCall, IsItemCall, MayVisitTags, MayVisitLiterals, MayVisitItems};
+ghost use Rattle.cbor_edn_core.specs.visit.Sought.{IsTagCall, IsLiteralCall, IsItemCall, LeavesNoneDeeper, MayVisitTags, MayVisitLiterals, MayVisitItems};
 ghost use Rattle.cbor_edn_core.specs.tree.View.{item_tree, standalone_tree, sequence_tree};
+ghost use Rattle.cbor_edn_model.specs.visit.Tagged.{has_tag};
 ghost use Rattle.cbor_edn_model.specs.visit.Seeking.{SoughtCall, VisitParts, IsTag, IsApplication};
 ghost use Rattle.cbor_edn_model.specs.visit.Visits.{no_memory, fine, answered, Chain};
 
@@ -10,6 +11,7 @@ mod array;
 mod depth;
 mod map;
 mod seek;
+mod tagged;
 mod walk;
 
 use crate::tree::{Item, Sequence, StandaloneItem};
@@ -18,8 +20,9 @@ use cbor_edn_parts::number::Number;
 use cbor_edn_parts::space::{Ms, Msc, S, Soc, TakesComment};
 use cbor_edn_parts::string::{Dots, Literal};
 pub use map::MapValueHandler;
-use seek::{ApplicationItems, Literals, Tags};
+use seek::{ApplicationItems, Literals, Tags, TagsNoDeeper};
 use std::alloc::{AllocError, Global};
+use tagged::sequence_has_tag;
 use walk::Walk;
 
 /// The walk over trees of a text.
@@ -95,6 +98,27 @@ impl<'a> Sequence<'a> {
         ensures visited { (cs : List SoughtCall) × Chain (IsTagCall item_tree F.FnMut) f.old cs f.new × VisitParts IsTag _ (sequence_tree self.old) cs (sequence_tree self.new) (ending result) }
     {
         TextWalk::<F, Tags>::visit_sequence(self, alloc, f)
+    }
+
+    /// The same for an `f` that never leaves an item that nests deeper than the tag did, as [`Sequence::visit_tag`] finds by a count
+    /// before each call and behind it. Nothing is counted here: time grows with the size of the items.
+    pub fn visit_tag_no_deeper<F: FnMut(u64, &mut Item<'a>) -> Result<(), CallbackError>>(
+        &mut self,
+        alloc: Global,
+        f: &mut F,
+    ) -> Result<(), AllocError>
+        requires callable { MayVisitTags item_tree F.FnMut f.old }
+        requires no_deeper { LeavesNoneDeeper item_tree F.FnMut }
+        ensures visited { (cs : List SoughtCall) × Chain (IsTagCall item_tree F.FnMut) f.old cs f.new × VisitParts IsTag _ (sequence_tree self.old) cs (sequence_tree self.new) (ending result) }
+    {
+        TextWalk::<F, TagsNoDeeper>::visit_sequence(self, alloc, f)
+    }
+
+    /// Whether a visit of tags makes a call: a tag stands in the items, at any depth and in embedded sequences too.
+    pub fn has_tag(&self) -> bool
+        ensures { result ≡ has_tag (sequence_tree self.now) }
+    {
+        sequence_has_tag(self)
     }
 
     /// Calls `f` at each string of all items that is one literal with a prefix, with the prefix and the text, which take memory. Order,

@@ -1,4 +1,7 @@
 //! Visits of tags and of application literals: which items are called at, and the texts that are left.
+ghost use Rattle.std.specs.Prelude.{◌≡◌};
+ghost use Rattle.cbor_edn_core.specs.tree.View.{item_tree};
+
 use crate::common::{sequence_of, standalone_of};
 use cbor_edn_core::tree::{Item, Sequence, StandaloneItem};
 use cbor_edn_expect::failures::Failures;
@@ -148,6 +151,98 @@ const TAGS_ALONE: &[(&str, Done, &str)] = &[
     (" 1(2(3(0))) ", Done::Unwraps, "1;3; 2(0) "),
     (" [0] ", Done::Comment, " [0] "),
 ];
+
+/// Tells the number of a tag, and answers a comment. The tag stays.
+fn note(
+    number: u64,
+    item: &mut Item<'_>,
+    alloc: Global,
+    calls: &mut String,
+) -> Result<(), CallbackError>
+    ensures { item_tree item.new ≡ item_tree item.old }
+{
+    let word = format!(in alloc; "{number};")?;
+    calls.push_str(word.as_str())?;
+    Err(CallbackError::Comment(String::from_str(alloc, "t")?))
+}
+
+/// The numbers that a visit tells whose calls leave the tags, and the text that it leaves.
+fn noted(alloc: Global, text: &'static str) -> Result<String, Fail> {
+    let mut sequence = sequence_of(alloc, text)?;
+    noted_sequence(&mut sequence, alloc)
+}
+
+fn noted_sequence(sequence: &mut Sequence<'static>, alloc: Global) -> Result<String, Fail> {
+    let mut told = String::new(alloc);
+    sequence.visit_tag_no_deeper(
+        alloc,
+        &mut |number, item| note(number, item, alloc, &mut told),
+    )?;
+    let text = sequence.serialize(alloc)?;
+    told.push_str(text.as_str())?;
+    Ok(told)
+}
+
+/// Whether a tag stands in a text, in words.
+fn tagged(alloc: Global, text: &'static str) -> Result<String, Fail> {
+    let sequence = sequence_of(alloc, text)?;
+    let word = if sequence.has_tag() { "tagged" } else { "none" };
+    Ok(String::from_str(alloc, word)?)
+}
+
+/// Texts, and the numbers of their tags with the text that has a comment behind each.
+const NOTED: &[(&str, &str)] = &[
+    ("1(2(3))", "1;2;1(2(3)/ t /)/ t /"),
+    (
+        "[1(0), {2(0): 3(0)}], 4(0)",
+        "1;2;3;4;[1(0)/ t /, {2(0)/ t /: 3(0)/ t /}], 4(0)/ t /",
+    ),
+    ("simple(1(0))", "simple(1(0))"),
+    (
+        "(_ <<1(0)>>, 'a', <<[2(0)]>>)",
+        "1;2;(_ <<1(0)/ t />>, 'a', <<[2(0)/ t /]>>)",
+    ),
+];
+
+/// Texts, and whether a visit of their tags makes a call: each form that is entered, and the last place of each row.
+const TAGGED: &[(&str, &str)] = &[
+    ("", "none"),
+    ("1, [2, {3: 'a'}], (_ 'b'), <<4>>", "none"),
+    ("simple(1(0))", "none"),
+    ("1(0)", "tagged"),
+    ("1, 2, 3(0)", "tagged"),
+    ("[1(0), 2]", "tagged"),
+    ("[1, 2(0)]", "tagged"),
+    ("{1(0): 2, 3: 4}", "tagged"),
+    ("{1: 2(0), 3: 4}", "tagged"),
+    ("{1: 2, 3(0): 4}", "tagged"),
+    ("{1: 2, 3: 4(0)}", "tagged"),
+    ("<<1(0)>>", "tagged"),
+    ("<<1(0)>> + 'a'", "tagged"),
+    ("'a' + <<1(0)>>", "tagged"),
+    ("(_ <<1(0)>>, 'a')", "tagged"),
+    ("(_ 'a', <<1(0)>>)", "tagged"),
+];
+
+#[test]
+fn tags_are_visited_without_a_count(rt: HostRuntime) -> Result<(), Fail> {
+    let alloc = rt.alloc();
+    let mut failures = Failures::new(alloc);
+    for &(text, wanted) in NOTED {
+        failures.told(alloc, text, noted(alloc, text), wanted)?;
+    }
+    failures.end()
+}
+
+#[test]
+fn tags_are_found(rt: HostRuntime) -> Result<(), Fail> {
+    let alloc = rt.alloc();
+    let mut failures = Failures::new(alloc);
+    for &(text, wanted) in TAGGED {
+        failures.told(alloc, text, tagged(alloc, text), wanted)?;
+    }
+    failures.end()
+}
 
 #[test]
 fn tags_are_visited_in_order(rt: HostRuntime) -> Result<(), Fail> {

@@ -15,6 +15,7 @@ pub mod Reading
 pub mod Regular
 pub mod Results
 pub mod Same
+pub mod TaggedRows
 pub mod IndicatorRemoval
 pub mod Visiting
 pub mod Widths

@@ -1,5 +1,6 @@
 //! Visits whose callbacks take memory for their answers.
-ghost use Rattle.std.specs.Prelude.{⊤};
+ghost use Rattle.std.specs.Prelude.{⊤, ◌≡◌};
+ghost use Rattle.cbor_edn_core.specs.tree.View.{item_tree};
 
 use cbor_edn_application::comment_ccs;
 use cbor_edn_core::access::TypeMismatch;
@@ -60,6 +61,20 @@ pub(crate) fn comment_sequence_tags(
         alloc,
         &mut |_, _| Err(CallbackError::Comment(String::from_str(alloc, "t")?)),
     )
+}
+
+pub(crate) fn comment_tags_that_stay(
+    alloc: Global,
+    sequence: &mut Sequence<'_>,
+) -> Result<(), AllocError> {
+    sequence.visit_tag_no_deeper(alloc, &mut |_, item| note(alloc, item))
+}
+
+/// Answers a comment; the item stays.
+fn note(alloc: Global, item: &mut Item<'_>) -> Result<(), CallbackError>
+    ensures { item_tree item.new ≡ item_tree item.old }
+{
+    Err(CallbackError::Comment(String::from_str(alloc, LONG)?))
 }
 
 pub(crate) fn comment_literals(

@@ -2,7 +2,7 @@
 use crate::acts::{Act, acted};
 use crate::callbacks::{
     comment_claims, comment_elements, comment_keys, comment_literals, comment_sequence_items,
-    comment_sequence_literals, comment_sequence_tags, comment_tags,
+    comment_sequence_literals, comment_sequence_tags, comment_tags, comment_tags_that_stay,
 };
 use cbor_edn_application::visits;
 use cbor_edn_core::tree::{Item, Sequence, StandaloneItem};
@@ -51,6 +51,7 @@ pub(crate) enum OfSequence {
     DiscardIndicators,
     IndentAndDiscardIndicators,
     Tags,
+    TagsThatStay,
     Literals,
     LiteralItems,
     Prettify,
@@ -106,6 +107,7 @@ fn call_sequence(
             sequence.discard_encoding_indicators(alloc)
         }
         OfSequence::Tags => comment_sequence_tags(alloc, sequence),
+        OfSequence::TagsThatStay => comment_tags_that_stay(alloc, sequence),
         OfSequence::Literals => comment_sequence_literals(alloc, sequence),
         OfSequence::LiteralItems => comment_sequence_items(alloc, sequence),
         OfSequence::Prettify => visits::prettify(alloc, sequence),

@@ -17,6 +17,14 @@ pub(crate) const VISITS: &[Row] = &[
         ],
     ),
     (
+        "Sequence::visit_tag_no_deeper",
+        Change::Sequence(OfSequence::TagsThatStay),
+        &[
+            PAIR,
+            "{4: 1(0)/ a comment of some length /, 8: {4: {3: -17}}} , [_ h'00', <<dt'1970-01-01T00:00:23Z'>>]",
+        ],
+    ),
+    (
         "Sequence::visit_application_literals",
         Change::Sequence(OfSequence::Literals),
         &[

@@ -35,7 +35,7 @@ pub(crate) type Row = (&'static str, Group);
 /// `ParseError`.
 pub(crate) const FREE: &[Row] = &[
     ("accessors", Group::Parts),
-    ("at_mut, iterators that lend", Group::Loans),
+    ("at_mut, iterators that lend, has_tag", Group::Loans),
     ("==, is_same", Group::Comparisons),
     ("set_delimiters with DiscardAll", Group::Discarding),
     ("visits of items of another type", Group::Mismatches),
@@ -161,6 +161,7 @@ fn are_parts_lent(sequence: &mut Sequence<'_>) -> bool {
         && are_pairs_lent(sequence.at_mut(&[0, 0]))
         && is_content_lent(sequence.at_mut(&[0, 1]))
         && sequence.at_mut(&[0, 2]).is_none()
+        && sequence.has_tag()
 }
 
 fn are_items_lent(sequence: &mut Sequence<'_>) -> bool {

@@ -11,13 +11,14 @@ ghost use Rattle.cbor_edn_core.specs.access.Iterated.{items_left, pairs_left, bo
 ghost use Rattle.cbor_edn_core.specs.access.IteratedMut.{items_to_lend, pairs_to_lend, sequence_items_to_lend};
 ghost use Rattle.cbor_edn_core.specs.access.Lent.{with_tag_content};
 ghost use Rattle.cbor_edn_core.specs.access.Mismatch.{IsIntegerMismatch, literal_mismatch};
-ghost use Rattle.cbor_edn_core.specs.visit.Sought.{IsTagCall, IsLiteralCall, MayVisitTags, MayVisitLiterals};
+ghost use Rattle.cbor_edn_core.specs.visit.Sought.{IsTagCall, IsLiteralCall, LeavesNoneDeeper, MayVisitTags, MayVisitLiterals};
 ghost use Rattle.cbor_edn_core.specs.tree.View.{item_tree, sequence_tree, standalone_tree};
 ghost use Rattle.cbor_edn_model.specs.access.Accessed.{IsApplicationItem, IsIntegerItem, IsLiteralItem, array_items, item_bytes, map_items, string_tree, tag_content, tag_head, tag_number};
 ghost use Rattle.cbor_edn_model.specs.layout.Commented.{commented};
 ghost use Rattle.cbor_edn_model.specs.cbor.Decoded.{alone};
 ghost use Rattle.cbor_edn_model.specs.tree.Items.{Array, Map};
 ghost use Rattle.cbor_edn_model.specs.access.Paths.{at_sequence, items_in};
+ghost use Rattle.cbor_edn_model.specs.visit.Tagged.{has_tag};
 ghost use Rattle.cbor_edn_model.specs.visit.Seeking.{SoughtCall, VisitParts, IsTag, IsApplication};
 ghost use Rattle.cbor_edn_model.specs.tree.Trees.{ListTree, NumberTree, text};
 ghost use Rattle.cbor_edn_model.specs.visit.Visits.{Call, KeyCall, Chain, VisitArray, VisitMap};
@@ -256,6 +257,27 @@ pub fn visit_tag<'a, F: FnMut(u64, &mut Item<'a>) -> Result<(), CallbackError>>(
     ensures visited { (cs : List SoughtCall) × Chain (IsTagCall item_tree F.FnMut) f.old cs f.new × VisitParts IsTag _ (standalone_tree item.old) cs (standalone_tree item.new) (ending result) }
 {
     item.visit_tag(alloc, f)
+}
+
+/// `Sequence::visit_tag_no_deeper`.
+#[tactic(auto, using(cbor_edn_core::proofs::lemmas::visit::SoughtChains::tags_after))]
+pub fn visit_tag_no_deeper<'a, F: FnMut(u64, &mut Item<'a>) -> Result<(), CallbackError>>(
+    sequence: &mut Sequence<'a>,
+    alloc: Global,
+    f: &mut F,
+) -> Result<(), AllocError>
+    requires callable { MayVisitTags item_tree F.FnMut f.old }
+    requires no_deeper { LeavesNoneDeeper item_tree F.FnMut }
+    ensures visited { (cs : List SoughtCall) × Chain (IsTagCall item_tree F.FnMut) f.old cs f.new × VisitParts IsTag _ (sequence_tree sequence.old) cs (sequence_tree sequence.new) (ending result) }
+{
+    sequence.visit_tag_no_deeper(alloc, f)
+}
+
+/// `Sequence::has_tag`.
+pub fn has_tag(sequence: &Sequence<'_>) -> bool
+    ensures { result ≡ has_tag (sequence_tree sequence.now) }
+{
+    sequence.has_tag()
 }
 
 /// `Sequence::visit_application_literals`.

@@ -1,11 +1,12 @@
 -- The calls of the visits of tags and of application literals: what a callback is, what it answers, and that it may be called.
-use Rattle.std.specs.Prelude.{ℕ, List, ◌≡◌, ◌<◌, ◌^◌, Result, Ok, Err, Some, string_bytes}
+use Rattle.std.specs.Prelude.{ℕ, List, ◌≡◌, ◌≤◌, ◌<◌, ◌^◌, Result, Ok, Err, Some, string_bytes}
 use Rattle.std.specs.Borrow.{MutBor}
 use Rattle.std.specs.Fn.{Mut, Called}
 use Rattle.std.specs.declared.string.String.{String}
 use Rattle.std.specs.declared.alloc.Global.{Global}
 use Rattle.cbor_edn_parts.specs.declared.error.CallbackError.{CallbackError}
 use Rattle.cbor_edn_model.specs.access.Accessed.{tag_number, IsApplicationItem}
+use Rattle.cbor_edn_model.specs.visit.Depth.{depth}
 use Rattle.cbor_edn_model.specs.visit.Seeking.{CallArguments, SoughtCall, IsApplication, number, prefix_and_text}
 use Rattle.cbor_edn_model.specs.tree.Trees.{Tree, OneItem}
 use Rattle.cbor_edn_model.specs.visit.Visits.{Answer, fine, Chain}
@@ -78,3 +79,7 @@ module _ {T : Type 0} (look : T → Tree OneItem) where
 
   pub record MayVisitItems {F : Type 0} (callback : ItemCallback T F) (f : F) : Type 0 where
     pub at : (cs : List SoughtCall) (g : F) → Chain (IsItemCall callback) f cs g → (a : CallArguments) (x : MutBor T) → IsApplication (look x.now) a → callback.pre g (x, tt)
+
+  -- No call at a tag leaves an item that nests deeper than the tag did: none puts `[[]]` in the place of `1([])`.
+  abbrev pub LeavesNoneDeeper : {F : Type 0} → TagCallback T F → Type 0
+  LeavesNoneDeeper {F} callback = (f g : F) (c : SoughtCall) → IsTagCall callback f c g → depth c.after ≤ depth c.before

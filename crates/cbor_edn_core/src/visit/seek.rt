@@ -8,7 +8,7 @@ ghost use Rattle.cbor_edn_model.specs.tree.Trees.{Tree, OneItem};
 ghost use Rattle.cbor_edn_model.specs.visit.Visits.{Chain};
 ghost use Rattle.cbor_edn_model.specs.internal.Reaching.{Reaches};
 ghost use Rattle.cbor_edn_core.specs.visit.Callbacks.{answer_of};
-ghost use Rattle.cbor_edn_core.specs.visit.Sought.{IsTagCall, IsLiteralCall, IsItemCall, MayVisitTags, MayVisitLiterals, MayVisitItems, sought_answer};
+ghost use Rattle.cbor_edn_core.specs.visit.Sought.{IsTagCall, IsLiteralCall, IsItemCall, LeavesNoneDeeper, MayVisitTags, MayVisitLiterals, MayVisitItems, sought_answer};
 ghost use Rattle.cbor_edn_core.specs.tree.View.{item_tree, view_item};
 
 use super::depth::item_depth;
@@ -65,6 +65,9 @@ pub(super) trait Seek<F, O: Drop, M: Drop, C: Drop, E: Drop, N: Drop, L: Drop, D
 
 /// The visit of tags.
 pub(super) struct Tags;
+
+/// The visit of tags by calls that leave none that nests deeper: nothing is counted.
+pub(super) struct TagsNoDeeper;
 
 /// The visit of strings that are one literal with a prefix.
 pub(super) struct Literals;
@@ -209,6 +212,35 @@ fn reach_numbered<'a, X: TakesComment, F: FnMut(u64, &mut Item<'a>) -> Result<()
     } else {
         Ok(false)
     }
+}
+
+/// The call at a tag, with its comment. What it left is entered: it nests no deeper.
+#[inline]
+fn reach_tag_no_deeper<
+    'a,
+    X: TakesComment,
+    F: FnMut(u64, &mut Item<'a>) -> Result<(), CallbackError>,
+>(item: &mut Item<'a>, space: &mut X, alloc: Global, f: &mut F) -> Result<bool, AllocError>
+    requires callable { MayVisitTags item_tree F.FnMut f.old × LeavesNoneDeeper item_tree F.FnMut }
+    ensures callable_after { MayVisitTags item_tree F.FnMut f.new × LeavesNoneDeeper item_tree F.FnMut }
+    ensures reached { (cs : List SoughtCall) × Chain (IsTagCall item_tree F.FnMut) f.old cs f.new × Reaches IsTag (item_tree item.old) (X.bytes space.old) cs (item_tree item.new) (X.bytes space.new) result }
+{
+    let Ok(tag) = item.get_tag() else {
+        return Ok(true);
+    };
+    let answer = call_tag::<
+        S<'a>,
+        Ms<'a>,
+        Msc<'a>,
+        Soc<'a>,
+        Number<'a>,
+        Literal<'a>,
+        Dots<'a>,
+        Texts,
+        F,
+    >(tag, item, f);
+    put_answer(element_answer(answer), space, alloc)?;
+    Ok(true)
 }
 
 /// The call at a literal, with its comment. What has no prefix, as most items, is passed over at once.
@@ -363,6 +395,52 @@ impl<'a, F: FnMut(u64, &mut Item<'a>) -> Result<(), CallbackError>> Seek<
         f: &mut F,
     ) -> Result<bool, AllocError> {
         reach_tag(item, end, alloc, f)
+    }
+}
+
+impl<'a, F: FnMut(u64, &mut Item<'a>) -> Result<(), CallbackError>> Seek<
+    F,
+    S<'a>,
+    Ms<'a>,
+    Msc<'a>,
+    Soc<'a>,
+    Number<'a>,
+    Literal<'a>,
+    Dots<'a>,
+> for TagsNoDeeper {
+    ghost leaves = { texts };
+
+    ghost sought = { IsTag };
+
+    ghost calls = { IsTagCall item_tree F.FnMut };
+
+    ghost ready = { λ f. MayVisitTags item_tree F.FnMut f × LeavesNoneDeeper item_tree F.FnMut };
+
+    fn reach_spaced(
+        item: &mut Item<'a>,
+        space: &mut S<'a>,
+        alloc: Global,
+        f: &mut F,
+    ) -> Result<bool, AllocError> {
+        reach_tag_no_deeper(item, space, alloc, f)
+    }
+
+    fn reach_separated(
+        item: &mut Item<'a>,
+        separator: &mut Msc<'a>,
+        alloc: Global,
+        f: &mut F,
+    ) -> Result<bool, AllocError> {
+        reach_tag_no_deeper(item, separator, alloc, f)
+    }
+
+    fn reach_last(
+        item: &mut Item<'a>,
+        end: &mut Soc<'a>,
+        alloc: Global,
+        f: &mut F,
+    ) -> Result<bool, AllocError> {
+        reach_tag_no_deeper(item, end, alloc, f)
     }
 }
 

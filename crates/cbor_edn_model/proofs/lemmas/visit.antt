@@ -2,3 +2,4 @@
 pub mod VisitedRows
 pub mod VisitsOfParts
 pub mod RowDepths
+pub mod Untagged
