@@ -15,14 +15,14 @@ use Rattle.cbor_edn_conversions.specs.Tag999.{to_tag999}
 use Rattle.cbor_edn_conversions.specs.Times.{pretty_time}
 use Rattle.cbor_edn_application.specs.Acts.{Act}
 use Rattle.cbor_edn_command.specs.declared.options.Options.{Options}
-use Rattle.cbor_edn.specs.RunSteps.{Step, Where, InTurn, IsLaidOut, TagsVisited, LiteralsVisited, HasClaims, StepsGive}
+use Rattle.cbor_edn.specs.RunSteps.{Step, Where, IsLaidOut, TagsVisited, LiteralsVisited, HasClaims, StepsGive}
 use Rattle.cbor_edn.proofs.StepsKept.{AnnotatesTags, ResolvesLiterals, not_taken}
 
 visited_untagged : (act : Act) (w : Tree Seq) → has_tag w ≡ false → TagsVisited act w w
 visited_untagged act w none = ([], All-nil (AnswersBy act), sequence_untagged w none)
 
 annotated_untagged : (w : Tree Seq) → has_tag w ≡ false → AnnotatesTags w w
-annotated_untagged w none = (w, visited_untagged pretty_address w none, w, visited_untagged pretty_time w none, visited_untagged comment_lang w none)
+annotated_untagged w none = (w, visited_untagged pretty_address w none, (w, visited_untagged pretty_time w none, visited_untagged comment_lang w none))
 
 -- a step that is asked for, and taken where it does anything
 where_asked : (asked does : Bool) (P : Step) (w v : Tree Seq) → (asked ≡ true → does ≡ false → P w w) → Where (asked && does) P w v → Where asked P w v
@@ -32,26 +32,26 @@ where_asked false does P w v stays h = h
 
 -- a step that is not taken
 left : (asked does : Bool) (P : Step) (w v : Tree Seq) → does ≡ false → Where (asked && does) P w v → v ≡ w
-left true true P w v no h = absurd cc
-left true false P w v no h = h
-left false does P w v no h = h
+left true true P w v off h = absurd cc
+left true false P w v off h = h
+left false does P w v off h = h
 
 -- no tag stands where a step asks for tags
 untagged_first : (first second has tagged : Bool) → tagged ≡ (first || second) && has → first ≡ true → tagged ≡ false → has ≡ false
-untagged_first true second has tagged is asked no = sym is ∙ no
-untagged_first false second has tagged is asked no = absurd cc
+untagged_first true second has tagged is asked off = sym is ∙ off
+untagged_first false second has tagged is asked off = absurd cc
 
 untagged_second : (first second has tagged : Bool) → tagged ≡ (first || second) && has → second ≡ true → tagged ≡ false → has ≡ false
-untagged_second true second has tagged is asked no = sym is ∙ no
-untagged_second false true has tagged is asked no = sym is ∙ no
-untagged_second false false has tagged is asked no = absurd cc
+untagged_second true second has tagged is asked off = sym is ∙ off
+untagged_second false true has tagged is asked off = sym is ∙ off
+untagged_second false false has tagged is asked off = absurd cc
 
 none_of : (a b c d all : Bool) → all ≡ a || (b || (c || d)) → all ≡ false → ((a ≡ false) × (b ≡ false)) × ((c ≡ false) × (d ≡ false))
-none_of true b c d all is no = absurd cc
-none_of false true c d all is no = absurd cc
-none_of false false true d all is no = absurd cc
-none_of false false false true all is no = absurd cc
-none_of false false false false all is no = ((refl, refl), (refl, refl))
+none_of true b c d all is off = absurd cc
+none_of false true c d all is off = absurd cc
+none_of false false true d all is off = absurd cc
+none_of false false false true all is off = absurd cc
+none_of false false false false all is off = ((refl, refl), (refl, refl))
 
 pub steps_give : (o : Options) (w annotated uncommented resolved claimed counted given : Tree Seq) (tagged later : Bool)
     → tagged ≡ (o.annotate_tags || o.bignum_from_tags) && has_tag w
@@ -64,15 +64,15 @@ pub steps_give : (o : Options) (w annotated uncommented resolved claimed counted
     → Where o.apply_999 (LiteralsVisited to_tag999) counted given
     → (v : Tree Seq) → Where (not o.preserve_space) (IsLaidOut indented) given v → StepsGive o w v
 steps_give o w annotated uncommented resolved claimed counted given tagged later is later_is tags comments literals claims bignums others v spaces =
-    let stays : later ≡ false → claimed ≡ w = λ no.
-    let nones = none_of tagged o.remove_comments o.aol_to_item o.annotate_ccs later later_is no in
+    let stays : later ≡ false → claimed ≡ w = λ off.
+    let nones = none_of tagged o.remove_comments o.aol_to_item o.annotate_ccs later later_is off in
     not_taken o.annotate_ccs HasClaims resolved claimed nones.1.1 claims
     ∙ (not_taken o.aol_to_item ResolvesLiterals uncommented resolved nones.1.0 literals
     ∙ (not_taken o.remove_comments (IsLaidOut DiscardAll) annotated uncommented nones.0.1 comments
     ∙ left o.annotate_tags tagged AnnotatesTags w annotated nones.0.0 tags)) in
-    let untagged : o.bignum_from_tags ≡ true → later ≡ false → has_tag claimed ≡ false = λ asked no.
-    let nones = none_of tagged o.remove_comments o.aol_to_item o.annotate_ccs later later_is no in
-    subst (λ t. has_tag t ≡ false) (sym (stays no)) (untagged_second o.annotate_tags o.bignum_from_tags (has_tag w) tagged is asked nones.0.0) in
+    let untagged : o.bignum_from_tags ≡ true → later ≡ false → has_tag claimed ≡ false = λ asked off.
+    let nones = none_of tagged o.remove_comments o.aol_to_item o.annotate_ccs later later_is off in
+    subst (λ t. has_tag t ≡ false) (sym (stays off)) (untagged_second o.annotate_tags o.bignum_from_tags (has_tag w) tagged is asked nones.0.0) in
     record {
       annotated = annotated;
       uncommented = uncommented;
@@ -80,11 +80,11 @@ steps_give o w annotated uncommented resolved claimed counted given tagged later
       claimed = claimed;
       counted = counted;
       tagged = given;
-      tags = where_asked o.annotate_tags tagged AnnotatesTags w annotated (λ asked no. annotated_untagged w (untagged_first o.annotate_tags o.bignum_from_tags (has_tag w) tagged is asked no)) tags;
+      tags = where_asked o.annotate_tags tagged AnnotatesTags w annotated (λ asked off. annotated_untagged w (untagged_first o.annotate_tags o.bignum_from_tags (has_tag w) tagged is asked off)) tags;
       comments = comments;
       literals = literals;
       claims = claims;
-      bignums = where_asked o.bignum_from_tags later (TagsVisited pretty_bignum) claimed counted (λ asked no. visited_untagged pretty_bignum claimed (untagged asked no)) bignums;
+      bignums = where_asked o.bignum_from_tags later (TagsVisited pretty_bignum) claimed counted (λ asked off. visited_untagged pretty_bignum claimed (untagged asked off)) bignums;
       others = others;
       spaces = spaces;
     }
