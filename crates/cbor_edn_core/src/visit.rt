@@ -114,7 +114,7 @@ impl<'a> Sequence<'a> {
         TextWalk::<F, TagsNoDeeper>::visit_sequence(self, alloc, f)
     }
 
-    /// Whether a visit of tags makes a call: a tag stands in the items, at any depth and in embedded sequences too.
+    /// Whether a tag stands in the items, at any depth and in embedded sequences too, but not in `simple(..)`.
     pub fn has_tag(&self) -> bool
         ensures { result ≡ has_tag (sequence_tree self.now) }
     {

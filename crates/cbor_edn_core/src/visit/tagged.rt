@@ -47,7 +47,7 @@ fn inner_has_tag(item: &Item<'_>) -> bool
     }
 }
 
-/// Whether a visit of the tags of a sequence makes a call.
+/// Whether a tag stands in the items of a sequence.
 #[cycle(tagged)]
 #[tactic(auto, using(crate::proofs::lemmas::tree::Views::view_sequence_is), unfolding(cbor_edn_model::specs::visit::Tagged::has_tag))]
 pub(super) fn sequence_has_tag(sequence: &Sequence<'_>) -> bool
