@@ -70,6 +70,7 @@ impl Layout {
     }
 
     /// What is done with the space text at a slot: the column of the table of spaces.
+    #[inline(always)]
     pub fn spacing(self, slot: Slot) -> Spacing
         ensures { result ≡ spec.spacing self slot }
     {
@@ -179,6 +180,7 @@ pub fn lay_end<'a>(end: &mut Soc<'a>, alloc: Global, layout: Layout) -> Result<(
 }
 
 /// Writes an optional space as it is laid out at its slot at the end of a text. Fails where memory runs out.
+#[inline(always)]
 pub fn print_space(
     out: &mut TextBuffer,
     space: &S<'_>,

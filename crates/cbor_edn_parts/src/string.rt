@@ -176,7 +176,7 @@ impl Quote {
     fn is_plain(self, byte: u8) -> bool
         ensures { result ≡ tokens.is_plain self byte }
     {
-        byte >= b' ' && byte != b'\\' && byte != self.byte()
+        byte > b'\\' || byte >= b' ' && byte != b'\\' && byte != self.byte()
     }
 }
 

@@ -270,6 +270,7 @@ fn room_behind_pair_row(room: usize, spaces: Spaces, row: &[(Kp<'_>, Msc<'_>)]) 
     Some(room)
 }
 
+#[inline(always)]
 #[cycle(room)]
 #[tactic(auto, unfolding(cbor_edn_model::specs::internal::Widths::width))]
 fn room_behind_pair(room: usize, spaces: Spaces, pair: &Kp<'_>) -> Option<usize>

@@ -49,6 +49,7 @@ impl Spaces {
 }
 
 /// How many bytes an optional space counts. The greatest number stands for any that is more.
+#[inline(always)]
 pub fn s_len(spaces: Spaces, space: &S<'_>) -> usize
     ensures { result ≡ capped (space_width kind.S spaces (s_bytes space.now)) }
 {

@@ -6,22 +6,15 @@ ghost use Rattle.cbor_edn_parts.specs.internal.CommentReading.{before_comma, aft
 
 use super::SpaceState;
 
-/// The part of a text from its first comment to the end of its last.
-pub(super) fn comments(text: &str) -> &str
-    ensures { result.now ≡ comments_of text.now }
-{
-    to_last(from_first(text))
-}
-
-/// The same of a text that mostly is nothing, or one space.
+/// The part of a text from its first comment to the end of its last. Most texts are nothing, or one space.
 #[inline(always)]
-pub(super) fn comments_mostly_none(text: &str) -> &str
+pub(super) fn comments(text: &str) -> &str
     ensures { result.now ≡ comments_of text.now }
 {
     match text.as_bytes() {
         [] => "",
         [b' '] => "",
-        _ => comments(text),
+        _ => to_last(from_first(text)),
     }
 }
 
@@ -112,7 +105,7 @@ fn to_last(text: &str) -> &str
 pub(super) fn is_blank(byte: u8) -> bool
     ensures { result ≡ definition.is_blank byte }
 {
-    matches!(byte, b'\t' | b'\n' | b'\r' | b' ')
+    byte <= b' ' && matches!(byte, b'\t' | b'\n' | b'\r' | b' ')
 }
 
 impl SpaceState {

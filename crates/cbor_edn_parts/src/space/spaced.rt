@@ -8,9 +8,7 @@ ghost use Rattle.cbor_edn_parts.specs.Spacing as table;
 ghost use Rattle.cbor_edn_parts.specs.Spacing.{line};
 ghost use Rattle.cbor_edn_parts.specs.internal.Columns.{in_column, comma_in_column};
 
-use super::comments::{
-    comments, comments_in_parts, comments_mostly_none, comments_round_comma, is_bare_separator,
-};
+use super::comments::{comments, comments_in_parts, comments_round_comma, is_bare_separator};
 use super::{Ms, Msc, S, Soc};
 use crate::buffer::TextBuffer;
 use crate::leaf_text::LeafText;
@@ -43,7 +41,7 @@ impl<'a> S<'a> {
     ) -> Result<(), AllocError>
         ensures { OnOk result (buffer_bytes out.new ≡ buffer_bytes out.old ++ table.spaced table.S spacing (s_bytes self.now)) }
     {
-        let comments = comments_mostly_none(self.as_str());
+        let comments = comments(self.as_str());
         if comments.is_empty() {
             return print_blanks(out, spacing);
         }

@@ -10,6 +10,7 @@ use crate::policy::Spacing;
 
 impl S<'_> {
     /// How long the text is by a column of the table, or the greatest number where it is longer.
+    #[inline(always)]
     pub fn spaced_len(&self, spacing: Spacing) -> usize
         ensures { result ≡ min (length (table.spaced table.S spacing (s_bytes self.now))) (2 ^ 64 - 1) }
     {

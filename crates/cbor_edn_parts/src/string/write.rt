@@ -108,7 +108,8 @@ fn is_plain(text: &str) -> bool
 fn stands_for_itself(byte: u8) -> bool
     ensures { IsTrue result ↔ escaped byte ≡ byte ∷ [] }
 {
-    (byte >= b' ' || byte == b'\n') && byte != b'"' && byte != b'\'' && byte != b'\\'
+    byte > b'\\'
+        || (byte >= b' ' || byte == b'\n') && byte != b'"' && byte != b'\'' && byte != b'\\'
 }
 
 /// Appends a character as it stands between double quotes.

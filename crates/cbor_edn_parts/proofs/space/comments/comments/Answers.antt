@@ -1,6 +1,6 @@
 use Rattle.std.proofs.Common.{ℕ, ◌≡◌, ◌<◌, ◌≤◌, List, [], ◌∷◌, length, get_or, refl, arith}
 use Rattle.cbor_edn_parts.specs.internal.CommentReading.{from_first, to_last, comments_of}
-use Rattle.cbor_edn_parts.proofs.space.comments.comments_mostly_none.Goals as goal
+use Rattle.cbor_edn_parts.proofs.space.comments.comments.Goals as goal
 
 nothing : (t : List ℕ) → length t < 1 → [] ≡ comments_of t
 unfolding from_first to_last
