@@ -1,6 +1,8 @@
 -- The steps of a run that visits no tags where none stands.
-use Rattle.std.proofs.Common.{◌≡◌, Bool, true, false, [], refl, sym, ◌∙◌, subst}
+use Rattle.std.proofs.Common.{◌≡◌, Bool, true, false, [], refl, sym, ap, ◌∙◌, subst}
 use Rattle.std.specs.Prelude.{◌&&◌, ◌||◌, not}
+use Rattle.std.proofs.Math.Bool.{and-false}
+use Rattle.std.proofs.lemmas.Bool.{or_parts, or_left, or_right}
 use Rattle.std.proofs.lemmas.List.Elements.{All-nil}
 use Rattle.cbor_edn_parts.specs.Spacing.{indented}
 use Rattle.cbor_edn_parts.specs.declared.policy.DelimiterPolicy.TheVariants.{DiscardAll}
@@ -30,30 +32,12 @@ where_asked true true P w v stays h = h
 where_asked true false P w v stays h = subst (P w) (sym h) (stays refl refl)
 where_asked false does P w v stays h = h
 
--- a step that is not taken
-left : (asked does : Bool) (P : Step) (w v : Tree Seq) → does ≡ false → Where (asked && does) P w v → v ≡ w
-left true true P w v off h = absurd cc
-left true false P w v off h = h
-left false does P w v off h = h
-
 -- no tag stands where a step asks for tags
-untagged_first : (first second has tagged : Bool) → tagged ≡ (first || second) && has → first ≡ true → tagged ≡ false → has ≡ false
-untagged_first true second has tagged is asked off = sym is ∙ off
-untagged_first false second has tagged is asked off = absurd cc
+none_tagged : (asks has tagged : Bool) → tagged ≡ asks && has → asks ≡ true → tagged ≡ false → has ≡ false
+none_tagged true has tagged is asked off = sym is ∙ off
+none_tagged false has tagged is asked off = absurd cc
 
-untagged_second : (first second has tagged : Bool) → tagged ≡ (first || second) && has → second ≡ true → tagged ≡ false → has ≡ false
-untagged_second true second has tagged is asked off = sym is ∙ off
-untagged_second false true has tagged is asked off = sym is ∙ off
-untagged_second false false has tagged is asked off = absurd cc
-
-none_of : (a b c d all : Bool) → all ≡ a || (b || (c || d)) → all ≡ false → ((a ≡ false) × (b ≡ false)) × ((c ≡ false) × (d ≡ false))
-none_of true b c d all is off = absurd cc
-none_of false true c d all is off = absurd cc
-none_of false false true d all is off = absurd cc
-none_of false false false true all is off = absurd cc
-none_of false false false false all is off = ((refl, refl), (refl, refl))
-
-pub steps_give : (o : Options) (w annotated uncommented resolved claimed counted given : Tree Seq) (tagged later : Bool)
+pub guarded_steps_give : (o : Options) (w annotated uncommented resolved claimed counted given : Tree Seq) (tagged later : Bool)
     → tagged ≡ (o.annotate_tags || o.bignum_from_tags) && has_tag w
     → later ≡ tagged || (o.remove_comments || (o.aol_to_item || o.annotate_ccs))
     → Where (o.annotate_tags && tagged) AnnotatesTags w annotated
@@ -63,16 +47,19 @@ pub steps_give : (o : Options) (w annotated uncommented resolved claimed counted
     → Where (o.bignum_from_tags && later) (TagsVisited pretty_bignum) claimed counted
     → Where o.apply_999 (LiteralsVisited to_tag999) counted given
     → (v : Tree Seq) → Where (not o.preserve_space) (IsLaidOut indented) given v → StepsGive o w v
-steps_give o w annotated uncommented resolved claimed counted given tagged later is later_is tags comments literals claims bignums others v spaces =
-    let stays : later ≡ false → claimed ≡ w = λ off.
-    let nones = none_of tagged o.remove_comments o.aol_to_item o.annotate_ccs later later_is off in
-    not_taken o.annotate_ccs HasClaims resolved claimed nones.1.1 claims
-    ∙ (not_taken o.aol_to_item ResolvesLiterals uncommented resolved nones.1.0 literals
-    ∙ (not_taken o.remove_comments (IsLaidOut DiscardAll) annotated uncommented nones.0.1 comments
-    ∙ left o.annotate_tags tagged AnnotatesTags w annotated nones.0.0 tags)) in
-    let untagged : o.bignum_from_tags ≡ true → later ≡ false → has_tag claimed ≡ false = λ asked off.
-    let nones = none_of tagged o.remove_comments o.aol_to_item o.annotate_ccs later later_is off in
-    subst (λ t. has_tag t ≡ false) (sym (stays off)) (untagged_second o.annotate_tags o.bignum_from_tags (has_tag w) tagged is asked nones.0.0) in
+guarded_steps_give o w annotated uncommented resolved claimed counted given tagged later is later_is tags comments literals claims bignums others v spaces =
+    -- where no step is asked for that may put a tag, the first steps leave the items
+    let left : later ≡ false → (claimed ≡ w) × (tagged ≡ false) = λ off.
+      let first = or_parts tagged (o.remove_comments || (o.aol_to_item || o.annotate_ccs)) (sym later_is ∙ off) in
+      let second = or_parts o.remove_comments (o.aol_to_item || o.annotate_ccs) first.1 in
+      let third = or_parts o.aol_to_item o.annotate_ccs second.1 in
+      ( not_taken o.annotate_ccs HasClaims resolved claimed third.1 claims
+        ∙ (not_taken o.aol_to_item ResolvesLiterals uncommented resolved third.0 literals
+        ∙ (not_taken o.remove_comments (IsLaidOut DiscardAll) annotated uncommented second.0 comments
+        ∙ not_taken (o.annotate_tags && tagged) AnnotatesTags w annotated (ap (λ t. o.annotate_tags && t) first.0 ∙ and-false o.annotate_tags) tags))
+      , first.0) in
+    let untagged : (o.annotate_tags || o.bignum_from_tags) ≡ true → tagged ≡ false → has_tag w ≡ false =
+      none_tagged (o.annotate_tags || o.bignum_from_tags) (has_tag w) tagged is in
     record {
       annotated = annotated;
       uncommented = uncommented;
@@ -80,11 +67,12 @@ steps_give o w annotated uncommented resolved claimed counted given tagged later
       claimed = claimed;
       counted = counted;
       tagged = given;
-      tags = where_asked o.annotate_tags tagged AnnotatesTags w annotated (λ asked off. annotated_untagged w (untagged_first o.annotate_tags o.bignum_from_tags (has_tag w) tagged is asked off)) tags;
+      tags = where_asked o.annotate_tags tagged AnnotatesTags w annotated (λ asked off. annotated_untagged w (untagged (or_left o.annotate_tags o.bignum_from_tags asked) off)) tags;
       comments = comments;
       literals = literals;
       claims = claims;
-      bignums = where_asked o.bignum_from_tags later (TagsVisited pretty_bignum) claimed counted (λ asked off. visited_untagged pretty_bignum claimed (untagged asked off)) bignums;
+      bignums = where_asked o.bignum_from_tags later (TagsVisited pretty_bignum) claimed counted
+          (λ asked off. visited_untagged pretty_bignum claimed (subst (λ t. has_tag t ≡ false) (sym (left off).0) (untagged (or_right o.annotate_tags o.bignum_from_tags asked) (left off).1))) bignums;
       others = others;
       spaces = spaces;
     }

@@ -131,6 +131,7 @@ impl<'a> Sequence<'a> {
     {
         TextWalk::<F, Literals>::visit_sequence(self, alloc, f)
     }
+
     /// Calls `f` at each string of all items that is one literal with a prefix, with the item alone: no prefix and no text is made for a
     /// call, and [`Item::application_prefix`] tells the prefix without memory. Order, comments, what is entered and what fails are as in
     /// [`Sequence::visit_tag`].

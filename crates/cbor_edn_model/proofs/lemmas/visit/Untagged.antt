@@ -1,5 +1,6 @@
 -- Rows with tags, by their entries, and the visit of what has no tag.
 use Rattle.std.proofs.Common.{ℕ, Bool, true, false, ◌||◌, ◌≡◌, List, [], ◌∷◌, refl, ap, ◌∙◌}
+use Rattle.std.proofs.lemmas.Bool.{or_parts}
 use Rattle.cbor_edn_model.specs.visit.Tagged.{has_tag}
 use Rattle.cbor_edn_model.specs.visit.Seeking.{CallArguments, IsTag, number, prefix_and_text, passed, VisitParts, of_number, of_float, of_name, of_simple, of_list, of_string, of_stream, of_literal, of_dots, of_embedded, of_last_piece, of_pieces, of_none_inside, of_all_inside, of_last, of_more, of_nothing, of_sequence, VisitEntry, of_element, of_pair, of_chunk}
 use Rattle.cbor_edn_model.specs.declared.text.label.LabelKind.TheVariants as label
@@ -22,14 +23,6 @@ pub has_tag_pieces : (ps : List (Tree OnePiece × List ℕ × List ℕ)) (w : Tr
 unfolding has_tag
 has_tag_pieces [] w = refl
 has_tag_pieces (p ∷ ps) w = ap (λ b. has_tag p.0 || b) (has_tag_pieces ps w) ∙ either_more (has_tag p.0) (pieces_have_tag ps) (has_tag w)
-
-first_not : (a b : Bool) → a || b ≡ false → a ≡ false
-first_not true b h = h
-first_not false b h = refl
-
-second_not : (a b : Bool) → a || b ≡ false → b ≡ false
-second_not true b h = absurd cc
-second_not false b h = h
 
 -- an item in which no tag stands is none
 no_tag : (w : Tree OneItem) → has_tag w ≡ false → (a : CallArguments) → IsTag w a → ⊥
@@ -65,7 +58,7 @@ mutual
 
   string_untagged : (w : Tree OneString) → has_tag w ≡ false → VisitParts IsTag _ w [] w whole
   string_untagged (LastPieceTree p) h = of_last_piece (piece_untagged p h)
-  string_untagged (PlusTree p s t w) h = of_pieces (piece_untagged p (first_not _ _ h)) (string_untagged w (second_not _ _ h)) refl
+  string_untagged (PlusTree p s t w) h = of_pieces (piece_untagged p (or_parts _ _ h).0) (string_untagged w (or_parts _ _ h).1) refl
 
   inside_untagged : {k : Bracketed} (w : Tree (Inside k)) → has_tag w ≡ false → VisitParts IsTag _ w [] w whole
   inside_untagged (EmptyTree i s) h = of_none_inside
@@ -73,14 +66,13 @@ mutual
 
   rest_untagged : {k : Row} (m : Tree (Rest k)) → has_tag m ≡ false → VisitParts IsTag _ m [] m whole
   rest_untagged (LastTree e s) h = of_last (entry_untagged e s h)
-  rest_untagged (MoreTree e s m) h = of_more (entry_untagged e s (first_not _ _ h)) (rest_untagged m (second_not _ _ h)) refl
+  rest_untagged (MoreTree e s m) h = of_more (entry_untagged e s (or_parts _ _ h).0) (rest_untagged m (or_parts _ _ h).1) refl
 
   entry_untagged : {k : Row} (e : Tree (OneEntry k)) (s : List ℕ) → has_tag e ≡ false → VisitEntry IsTag k e s [] e s whole
   entry_untagged (ElementTree w) s h = of_element (passed (no_tag w h) (item_untagged w h))
   entry_untagged (PairTree v s t w) u h =
-      let a = first_not (has_tag v) (has_tag w) h in
-      let b = second_not (has_tag v) (has_tag w) h in
-      of_pair (passed (no_tag v a) (item_untagged v a)) (passed (no_tag w b) (item_untagged w b)) refl
+      let none = or_parts (has_tag v) (has_tag w) h in
+      of_pair (passed (no_tag v none.0) (item_untagged v none.0)) (passed (no_tag w none.1) (item_untagged w none.1)) refl
   entry_untagged (ChunkTree w) s h = of_chunk (string_untagged w h)
 
   pub sequence_untagged : (w : Tree Seq) → has_tag w ≡ false → VisitParts IsTag _ w [] w whole
