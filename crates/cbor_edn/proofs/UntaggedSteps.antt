@@ -50,16 +50,17 @@ pub guarded_steps_give : (o : Options) (w annotated uncommented resolved claimed
 guarded_steps_give o w annotated uncommented resolved claimed counted given tagged later is later_is tags comments literals claims bignums others v spaces =
     -- where no step is asked for that may put a tag, the first steps leave the items
     let left : later ≡ false → (claimed ≡ w) × (tagged ≡ false) = λ off.
-      let first = or_parts tagged (o.remove_comments || (o.aol_to_item || o.annotate_ccs)) (sym later_is ∙ off) in
-      let second = or_parts o.remove_comments (o.aol_to_item || o.annotate_ccs) first.1 in
-      let third = or_parts o.aol_to_item o.annotate_ccs second.1 in
-      ( not_taken o.annotate_ccs HasClaims resolved claimed third.1 claims
-        ∙ (not_taken o.aol_to_item ResolvesLiterals uncommented resolved third.0 literals
-        ∙ (not_taken o.remove_comments (IsLaidOut DiscardAll) annotated uncommented second.0 comments
-        ∙ not_taken (o.annotate_tags && tagged) AnnotatesTags w annotated (ap (λ t. o.annotate_tags && t) first.0 ∙ and-false o.annotate_tags) tags))
-      , first.0) in
+    let first = or_parts tagged (o.remove_comments || (o.aol_to_item || o.annotate_ccs)) (sym later_is ∙ off) in
+    let second = or_parts o.remove_comments (o.aol_to_item || o.annotate_ccs) first.1 in
+    let third = or_parts o.aol_to_item o.annotate_ccs second.1 in (
+      not_taken o.annotate_ccs HasClaims resolved claimed third.1 claims
+          ∙ (not_taken o.aol_to_item ResolvesLiterals uncommented resolved third.0 literals
+          ∙ (not_taken o.remove_comments (IsLaidOut DiscardAll) annotated uncommented second.0 comments
+          ∙ not_taken (o.annotate_tags && tagged) AnnotatesTags w annotated (ap (λ t. o.annotate_tags && t) first.0 ∙ and-false o.annotate_tags) tags)),
+      first.0,
+    ) in
     let untagged : (o.annotate_tags || o.bignum_from_tags) ≡ true → tagged ≡ false → has_tag w ≡ false =
-      none_tagged (o.annotate_tags || o.bignum_from_tags) (has_tag w) tagged is in
+    none_tagged (o.annotate_tags || o.bignum_from_tags) (has_tag w) tagged is in
     record {
       annotated = annotated;
       uncommented = uncommented;
