@@ -86,10 +86,27 @@ pub fn encode_empty(
     Ok(())
 }
 
-/// Writes the bytes that a literal stands for, without a head, and answers their kind. They are copied once more on the way. Fails as
-/// [`Literal::content`] does.
+/// Writes the bytes that a literal stands for, without a head, and answers their kind. Unless they stand there as they are, they take
+/// memory on the way. Fails as [`Literal::content`] does.
 #[tactic(auto, using(cbor_edn_parts::proofs::lemmas::literal::ContentTexts::content_reads))]
 pub fn encode_literal(
+    out: &mut Vec<u8>,
+    literal: &Literal<'_>,
+) -> Result<StringKind, Fault<InconsistentEdn>>
+    ensures { Gathers (literal_content (literal_bytes literal.now)) out.old.items out.new.items result }
+{
+    match literal.plain_content() {
+        Some((kind, text)) => {
+            out.extend_from_slice(text.as_bytes())?;
+            Ok(kind)
+        }
+        None => encode_decoded(out, literal),
+    }
+}
+
+/// The same of any literal, whose bytes take memory of their own.
+#[tactic(auto, using(cbor_edn_parts::proofs::lemmas::literal::ContentTexts::content_reads))]
+fn encode_decoded(
     out: &mut Vec<u8>,
     literal: &Literal<'_>,
 ) -> Result<StringKind, Fault<InconsistentEdn>>

@@ -105,7 +105,7 @@ fn to_last(text: &str) -> &str
 pub(super) fn is_blank(byte: u8) -> bool
     ensures { result ≡ definition.is_blank byte }
 {
-    byte <= b' ' && matches!(byte, b'\t' | b'\n' | b'\r' | b' ')
+    matches!(byte, b'\t' | b'\n' | b'\r' | b' ')
 }
 
 impl SpaceState {
