@@ -14,8 +14,8 @@ use Rattle.cbor_edn_model.specs.text.Spelling.{SpellsSequence}
 use Rattle.cbor_edn_model.specs.tree.Trees.{Tree, Seq, items}
 use Rattle.cbor_edn_model.specs.cbor.Value.{Values}
 use Rattle.cbor_edn_model.proofs.lemmas.cbor.MeaningSteps.{some_is}
-use Rattle.cbor_edn_core.specs.text.Parsing.{Unparsed}
-use Rattle.cbor_edn_core.proofs.lemmas.text.GrammarLaws.{spelled_by_trees}
+use Rattle.cbor_edn_model.specs.text.Parsing.{Unparsed}
+use Rattle.cbor_edn_model.proofs.lemmas.text.GrammarLaws.{spelled_by_trees}
 use Rattle.cbor_edn_command.specs.Hexadecimal.{input_bytes}
 use Rattle.cbor_edn_command.specs.declared.options.Command.{Command}
 use Rattle.cbor_edn_command.specs.declared.options.Command.TheVariants.{Diag2Cbor, Cbor2Diag, Diag2Diag}

@@ -9,7 +9,7 @@ use Rattle.cbor_edn_model.specs.tree.Trees.{Tree, Seq, Valid, items, text}
 use Rattle.cbor_edn_model.specs.cbor.Value.{Values, EncAll}
 use Rattle.cbor_edn_core.specs.tree.View.{Sequence, sequence_tree}
 use Rattle.cbor_edn_core.proofs.lemmas.text.Printable.{sequence_valid}
-use Rattle.cbor_edn_core.proofs.lemmas.layout.Layouts.{keeps_items, stays_valid}
+use Rattle.cbor_edn_model.proofs.lemmas.layout.Layouts.{keeps_items, stays_valid}
 use Rattle.cbor_edn_parts.specs.Spacing.{indented}
 use Rattle.cbor_edn_model.proofs.lemmas.text.Tested.{valid}
 use Rattle.std.specs.Prelude.{Result, Ok, Err, IfOk}

@@ -7,7 +7,7 @@ use Rattle.cbor_edn_model.specs.cbor.Value.{Value, Values, Enc, EncAll, encoding
 use Rattle.cbor_edn_model.specs.cbor.Meaning.{MeaningOf, means}
 use Rattle.cbor_edn_model.specs.cbor.Decoded.{IsDecoded, IsDecodedSequence, alone}
 use Rattle.cbor_edn.specs.Recoding.{IsTextOf, IsTextOfItem, IsTextOfItems}
-use Rattle.cbor_edn_core.proofs.lemmas.text.GrammarLaws.{unique_items}
+use Rattle.cbor_edn_model.proofs.lemmas.text.GrammarLaws.{unique_items}
 
 same_some : {A : Type 0} (v w : A) → Some v ≡ Some w → v ≡ w
 same_some v w e = cc

@@ -4,7 +4,7 @@ use Rattle.std.specs.Prelude.{if◌then◌else◌}
 use Rattle.cbor_edn_model.specs.tree.Items.{nesting}
 use Rattle.cbor_edn_model.specs.text.Spelling.{SpellsSequence}
 use Rattle.cbor_edn_model.specs.tree.Trees.{Tree, Seq, items}
-use Rattle.cbor_edn_core.proofs.lemmas.text.GrammarLaws.{spelled_by_trees}
+use Rattle.cbor_edn_model.proofs.lemmas.text.GrammarLaws.{spelled_by_trees}
 use Rattle.cbor_edn_conversions.specs.Resolvers.{literal_resolver}
 use Rattle.cbor_edn_conversions.specs.Resolving.{means_by}
 use Rattle.cbor_edn_conversions.proofs.conversions.Literals.{all_no_content}

@@ -9,7 +9,7 @@ use Rattle.cbor_edn_model.specs.cbor.Value.{Value, array, Values, encodings, bre
 use Rattle.cbor_edn_model.proofs.lemmas.cbor.CborOneValue.{one_encoding_holds}
 use Rattle.cbor_edn_model.proofs.lemmas.layout.RegularTrees.{one_single_line}
 use Rattle.cbor_edn_model.proofs.lemmas.cbor.MeaningSteps.{some_is}
-use Rattle.cbor_edn_core.proofs.lemmas.text.GrammarLaws.{unique_spaces}
+use Rattle.cbor_edn_model.proofs.lemmas.text.GrammarLaws.{unique_spaces}
 use Rattle.cbor_edn_conversions.specs.Addresses.{resolve_address, pretty_address}
 use Rattle.cbor_edn_conversions.specs.Annotations.{comment_lang}
 use Rattle.cbor_edn_conversions.specs.Bignums.{pretty_bignum}

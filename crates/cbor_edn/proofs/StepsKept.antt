@@ -11,7 +11,7 @@ use Rattle.cbor_edn_model.specs.visit.Seeking.{IsApplication}
 use Rattle.cbor_edn_model.specs.tree.Trees.{Tree, Seq, items}
 use Rattle.cbor_edn_model.specs.cbor.Value.{Values}
 use Rattle.cbor_edn_model.specs.visit.Visits.{whole}
-use Rattle.cbor_edn_core.proofs.lemmas.layout.Layouts.{keeps_items}
+use Rattle.cbor_edn_model.proofs.lemmas.layout.Layouts.{keeps_items}
 use Rattle.cbor_edn_conversions.specs.Addresses.{resolve_address, pretty_address}
 use Rattle.cbor_edn_conversions.specs.Annotations.{comment_lang}
 use Rattle.cbor_edn_conversions.specs.Bignums.{pretty_bignum}

@@ -8,7 +8,7 @@ use Rattle.cbor_edn_model.specs.declared.cbor.decode.CborError.{CborError}
 use Rattle.cbor_edn_model.specs.declared.cbor.decode.CborError.TheVariants.{TooDeep}
 use Rattle.cbor_edn_model.specs.tree.Items.{nesting}
 use Rattle.cbor_edn_model.specs.text.Spelling.{SpellsSequence}
-use Rattle.cbor_edn_core.specs.text.Parsing.{Unparsed}
+use Rattle.cbor_edn_model.specs.text.Parsing.{Unparsed}
 use Rattle.cbor_edn_model.specs.tree.Trees.{Tree, Seq, Valid, Merged, items, text}
 use Rattle.cbor_edn_model.specs.cbor.Meaning.{means}
 use Rattle.cbor_edn_model.specs.cbor.Value.{Values, EncAll}

@@ -2,8 +2,8 @@
 pub mod recode;
 pub mod runs;
 
-pub use cbor_edn_core::laws::{
-    bare_items, decoded_layout, item_means, item_spells, items_and_spaces, layouts_forget,
-    layouts_keep_items, literal_is_answered, one_encoding, sequence_spells, spelled_by_trees,
-    spelled_means, standalone_spells, unique_reading,
+pub use cbor_edn_core::laws::{item_spells, sequence_spells, standalone_spells};
+pub use cbor_edn_model::laws::{
+    bare_items, decoded_layout, item_means, items_and_spaces, layouts_forget, layouts_keep_items,
+    literal_is_answered, one_encoding, spelled_by_trees, spelled_means, unique_reading,
 };

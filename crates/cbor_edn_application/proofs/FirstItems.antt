@@ -9,7 +9,7 @@ use Rattle.cbor_edn_model.specs.access.Paths.{items_in, at, with_item, with_at, 
 use Rattle.cbor_edn_model.specs.tree.Trees.{Rule, Tree, OneItem, Standalone, NumberTree, FloatTree, NamedTree, EnclosedTree, ListTree, StringTree, StreamTree, LiteralTree, DotsTree, EmbeddedTree, LastPieceTree, PlusTree, ElementTree, PairTree, ChunkTree, EmptyTree, FullTree, LastTree, MoreTree, NothingTree, SequenceTree, StandaloneTree}
 use Rattle.cbor_edn_model.specs.visit.Seeking.{number}
 use Rattle.cbor_edn_model.proofs.lemmas.cbor.MeaningSteps.{some_is}
-use Rattle.cbor_edn_core.specs.tree.Constructed.{tagged_tree}
+use Rattle.cbor_edn_model.specs.tree.Constructed.{tagged_tree}
 use Rattle.cbor_edn_core.specs.access.Lent.{with_tag_content}
 use Rattle.cbor_edn_conversions.specs.Conversions.{called_tag, tag_tree}
 use Rattle.cbor_edn_application.proofs.TagParts.{parts}

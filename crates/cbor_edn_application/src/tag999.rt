@@ -1,7 +1,8 @@
 //! Literals as tags of their prefix and their text.
 ghost use Rattle.std.specs.Prelude.{◌≡◌, ◌∷◌, [], map, IfOk};
 ghost use Rattle.std.specs.String.{string_bytes};
-ghost use Rattle.cbor_edn_core.specs.tree.Constructed.{comma_inside, element_tree};
+ghost use Rattle.cbor_edn_model.specs.tree.Constructed.{comma_inside};
+ghost use Rattle.cbor_edn_core.specs.tree.Constructed.{element_tree};
 ghost use Rattle.cbor_edn_core.specs.visit.Sought.{sought_answer};
 ghost use Rattle.cbor_edn_core.specs.tree.View.{item_tree};
 ghost use Rattle.cbor_edn_model.specs.tree.Items.{Array};

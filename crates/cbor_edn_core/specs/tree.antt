@@ -2,4 +2,3 @@
 pub mod Borrowed
 pub mod View
 pub mod Constructed
-pub mod ConstructedLaws

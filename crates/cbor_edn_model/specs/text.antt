@@ -5,3 +5,4 @@ pub mod TextLaws
 pub mod Openings
 pub mod Spelling
 pub mod Keywords
+pub mod Parsing

@@ -3,3 +3,5 @@ pub mod Items
 pub mod TreeLeaves
 pub mod Rows
 pub mod Trees
+pub mod Constructed
+pub mod ConstructedLaws

@@ -3,6 +3,7 @@
 #![tactic(auto)]
 
 pub mod cbor;
+pub mod laws;
 pub mod layout;
 pub mod text;
 pub mod tree;

@@ -2,7 +2,7 @@
 use Rattle.std.proofs.Common.{◌≡◌, zero, suc, [], ◌∷◌, refl, sym, ap, ◌∙◌, subst}
 use Rattle.std.specs.String.{string_bytes}
 use Rattle.cbor_edn_core.specs.tree.View.{item_tree}
-use Rattle.cbor_edn_core.proofs.lemmas.layout.Layouts.{keeps_items}
+use Rattle.cbor_edn_model.proofs.lemmas.layout.Layouts.{keeps_items}
 use Rattle.cbor_edn_model.specs.visit.Seeking.{CallArguments, SoughtCall, IsTag, IsApplication}
 use Rattle.cbor_edn_model.specs.tree.Items.{Items}
 use Rattle.cbor_edn_model.specs.tree.Trees.{Tree, Seq, items}

@@ -2,7 +2,7 @@
 use Rattle.std.proofs.Common.{◌≡◌, ℕ, Result, Ok, Err, List, [], ◌∷◌, Option, Some, None, refl, sym, ap, ◌∙◌, subst}
 use Rattle.std.specs.Option.{OnSome}
 use Rattle.std.specs.Prelude.{slice_get, option_map, option_and_then, unwrap_or, OnErr, IfErr}
-use Rattle.cbor_edn_core.specs.tree.Constructed.{tagged_tree}
+use Rattle.cbor_edn_model.specs.tree.Constructed.{tagged_tree}
 use Rattle.cbor_edn_model.specs.cbor.Decoded.{alone}
 use Rattle.cbor_edn_model.specs.access.Paths.{items_in, at, at_sequence, with_item, with_at, with_at_sequence}
 use Rattle.cbor_edn_model.specs.tree.Trees.{Rule, Tree, OneItem, Seq}

@@ -4,10 +4,11 @@ use Rattle.cbor_edn_parts.specs.declared.error.ParseErrorKind.{ParseErrorKind}
 use Rattle.cbor_edn_parts.specs.declared.error.ParseErrorKind.TheVariants.{Invalid, TooDeep}
 use Rattle.cbor_edn_parts.specs.Errors.{error_kind}
 use Rattle.cbor_edn_parts.specs.Space.{empty}
-use Rattle.cbor_edn_core.specs.text.Parsing.{IsInvalid, IsTooDeep, ParsedSequence, ParsedStandalone}
+use Rattle.cbor_edn_model.specs.text.Parsing.{IsInvalid, IsTooDeep}
+use Rattle.cbor_edn_core.specs.text.Parsing.{ParsedSequence, ParsedStandalone}
 use Rattle.cbor_edn_core.specs.tree.View.{Item, StandaloneItem, Sequence, item_tree, standalone_tree, sequence_tree}
 use Rattle.cbor_edn_core.proofs.lemmas.text.Printable.{item_spelled, standalone_spelled, sequence_spelled}
-use Rattle.cbor_edn_core.proofs.lemmas.text.GrammarLaws.{unique_items}
+use Rattle.cbor_edn_model.proofs.lemmas.text.GrammarLaws.{unique_items}
 use Rattle.cbor_edn_model.specs.tree.Items as kind
 use Rattle.cbor_edn_model.specs.tree.Items.{Sort, Node, Items, nesting}
 use Rattle.cbor_edn_model.specs.text.Spelling.{Spells, SpellsOne, SpellsSequence}

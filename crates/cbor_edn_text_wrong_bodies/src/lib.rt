@@ -4,7 +4,8 @@
 
 ghost use Rattle.std.specs.Prelude.{◌≡◌, ◌≤◌, ◌+◌, ◌*◌, ◌≢◌, length, IfOk, IsOk, OnOk};
 ghost use Rattle.std.specs.String.{string_bytes};
-ghost use Rattle.cbor_edn_core.specs.text.Parsing.{ParsedSequence, Unparsed};
+ghost use Rattle.cbor_edn_model.specs.text.Parsing.{Unparsed};
+ghost use Rattle.cbor_edn_core.specs.text.Parsing.{ParsedSequence};
 ghost use Rattle.cbor_edn_core.specs.tree.View.{item_tree, sequence_tree, standalone_tree};
 ghost use Rattle.cbor_edn_model.specs.layout.Bare.{without_indicators};
 ghost use Rattle.cbor_edn_model.specs.layout.Commented.{commented};

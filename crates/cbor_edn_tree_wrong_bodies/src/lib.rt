@@ -6,7 +6,8 @@ ghost use Rattle.std.specs.Prelude.{◌≡◌, ℕ, ℤ, FitsSigned, option_map,
 ghost use Rattle.std.specs.Int.{w128};
 ghost use Rattle.std.specs.String.{string_bytes};
 ghost use Rattle.cbor_edn_core.specs.visit.Callbacks.{IsCall, IsKeyCall, IfVisited, ending};
-ghost use Rattle.cbor_edn_core.specs.tree.Constructed.{tagged_tree, element_tree, pair_tree, comma_inside, comma_sequence, Ends, OfAll};
+ghost use Rattle.cbor_edn_model.specs.tree.Constructed.{tagged_tree, comma_inside, comma_sequence};
+ghost use Rattle.cbor_edn_core.specs.tree.Constructed.{element_tree, pair_tree, Ends, OfAll};
 ghost use Rattle.cbor_edn_core.specs.access.Iterated.{items_left, pairs_left, both_trees};
 ghost use Rattle.cbor_edn_core.specs.access.IteratedMut.{items_to_lend, pairs_to_lend, sequence_items_to_lend};
 ghost use Rattle.cbor_edn_core.specs.access.Lent.{with_tag_content};

@@ -3,7 +3,8 @@ ghost use Rattle.std.specs.Prelude.{◌≡◌, ◌∷◌, [], ℕ, false, pos, m
 ghost use Rattle.cbor_edn_parts.specs.Refusals.{IfTold};
 ghost use Rattle.cbor_edn_model.specs.visit.Seeking.{prefix_and_text};
 ghost use Rattle.cbor_edn_literals.specs.Address.{version_of};
-ghost use Rattle.cbor_edn_core.specs.tree.Constructed.{comma_inside, element_tree};
+ghost use Rattle.cbor_edn_model.specs.tree.Constructed.{comma_inside};
+ghost use Rattle.cbor_edn_core.specs.tree.Constructed.{element_tree};
 ghost use Rattle.cbor_edn_core.specs.visit.Sought.{sought_answer};
 ghost use Rattle.cbor_edn_core.specs.tree.View.{item_tree};
 ghost use Rattle.cbor_edn_model.specs.tree.Items.{Array};

@@ -1,6 +1,3 @@
 -- CBOR: the rules of the plain reader of bytes, as the decoder meets them, and what calls that decode answer.
-pub mod CborDeep
 pub mod CborRows
-pub mod CborStrings
-pub mod CborTurns
 pub mod Decodes

@@ -1,6 +1,4 @@
--- Spaces by a policy, comments, and items without indicators.
+-- Spaces by a policy, and items without indicators.
 pub mod LaidStrings
 pub mod LaidViews
-pub mod Layouts
-pub mod Policies
 pub mod ViewsWithoutIndicators

@@ -1,4 +1,3 @@
--- Trees of Rust values, compared and made.
-pub mod Commas
+-- Trees of Rust values.
 pub mod Forms
 pub mod Views

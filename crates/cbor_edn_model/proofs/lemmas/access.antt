@@ -2,3 +2,5 @@
 pub mod AddedBytes
 pub mod CountedItems
 pub mod ReplacedItems
+pub mod Pieces
+pub mod Ties

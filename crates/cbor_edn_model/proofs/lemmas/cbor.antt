@@ -17,3 +17,6 @@ pub mod Decoding
 pub mod MeaningExamples
 pub mod MeaningSteps
 pub mod Meanings
+pub mod CborTurns
+pub mod CborStrings
+pub mod CborDeep

@@ -17,3 +17,5 @@ pub mod RegularTrees
 pub mod RowsWithoutIndicators
 pub mod WithoutIndicators
 pub mod MeasuredWidths
+pub mod Layouts
+pub mod Policies

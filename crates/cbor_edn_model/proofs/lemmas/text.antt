@@ -1,4 +1,4 @@
--- Texts: the plain reader is sound and complete, so a text has one tree; parsing and printing.
+-- Texts: the plain reader is sound and complete, so a text has one tree; what an answer to a whole text says; printing.
 pub mod TagDigits
 pub mod Texts
 pub mod Again
@@ -14,3 +14,5 @@ pub mod StepCounts
 pub mod TagNumbers
 pub mod KeywordTexts
 pub mod Tested
+pub mod GrammarLaws
+pub mod Whole

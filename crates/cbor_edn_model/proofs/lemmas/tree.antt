@@ -1,2 +1,3 @@
--- Trees of Rust values, compared and made.
+-- Rows, compared and made.
 pub mod EqualRows
+pub mod Commas

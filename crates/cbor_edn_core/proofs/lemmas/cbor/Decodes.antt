@@ -30,12 +30,12 @@ use Rattle.cbor_edn_model.specs.internal.Results.{◌>>=◌}
 use Rattle.cbor_edn_model.specs.internal.CborReading.{Decoder, DecoderGives, DecoderFails, shown, item_at, until, past_stop, turn, trees, element_row, sequence_at}
 use Rattle.cbor_edn_model.proofs.lemmas.cbor.Nestings.{value_nesting, values_nesting, item_nests, items_nest}
 use Rattle.cbor_edn_model.proofs.lemmas.cbor.CborHeads.{IsBytes, bind_ok}
-use Rattle.cbor_edn_core.proofs.lemmas.cbor.CborTurns.{shown_ok, shown_err}
+use Rattle.cbor_edn_model.proofs.lemmas.cbor.CborTurns.{shown_ok, shown_err}
 use Rattle.cbor_edn_model.proofs.lemmas.cbor.CborValues.{values_of, list_of, value_at}
 use Rattle.cbor_edn_model.proofs.lemmas.cbor.CborOutcomes.{decoder_outcome, within, beyond, values_many}
 use Rattle.cbor_edn_model.proofs.lemmas.cbor.CborAgain.{item_again, values_until}
 use Rattle.cbor_edn_model.proofs.lemmas.cbor.CborTakes.{Within, item_takes, until_takes, values_are}
-use Rattle.cbor_edn_core.proofs.lemmas.cbor.CborDeep.{item_deep, until_deep}
+use Rattle.cbor_edn_model.proofs.lemmas.cbor.CborDeep.{item_deep, until_deep}
 use Rattle.cbor_edn_model.proofs.lemmas.cbor.CborTrees.{tree_of, tree_of_item, row_tree_of_items, tree_read, until_shown, values_row}
 use Rattle.cbor_edn_model.proofs.lemmas.cbor.Decoding.{row_items, items_again, row_again, item_means, items_mean}
 use Rattle.cbor_edn_model.proofs.lemmas.layout.RegularTrees.{item_regular, sequence_regular}

@@ -1,6 +1,7 @@
 use Rattle.std.proofs.Common.{rules, ◌≡◌, map, ◌∙◌}
 use Rattle.std.proofs.lemmas.Result.{IfOk-weaker}
-use Rattle.cbor_edn_core.specs.tree.Constructed.{comma_inside, element_tree}
+use Rattle.cbor_edn_model.specs.tree.Constructed.{comma_inside}
+use Rattle.cbor_edn_core.specs.tree.Constructed.{element_tree}
 use Rattle.cbor_edn_core.specs.tree.View.{item_tree}
 use Rattle.cbor_edn_model.specs.tree.Items.{Array}
 use Rattle.cbor_edn_model.specs.tree.Trees.{ListTree}

@@ -3,7 +3,7 @@ use Rattle.std.specs.Prelude.{◌==◌}
 use mathlib.Core.Bool.{not}
 use Rattle.cbor_edn_model.specs.tree.TreeLeaves.{texts}
 use Rattle.cbor_edn_core.specs.tree.View.{seen_piece, view_piece}
-use Rattle.cbor_edn_core.proofs.lemmas.access.Pieces.{several_is}
+use Rattle.cbor_edn_model.proofs.lemmas.access.Pieces.{several_is}
 use Rattle.cbor_edn_core.proofs.access.application.has_several_pieces.Goals as goal
 
 pub returns : goal.returns

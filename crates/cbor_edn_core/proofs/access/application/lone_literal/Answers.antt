@@ -4,7 +4,7 @@ use Rattle.cbor_edn_model.specs.access.Accessed.{are_several, string_tree}
 use Rattle.cbor_edn_model.specs.tree.TreeLeaves.{texts}
 use Rattle.cbor_edn_model.specs.tree.Trees.{LiteralTree}
 use Rattle.cbor_edn_core.specs.tree.View.{item_tree, seen_piece, view_inner, view_piece, view_string}
-use Rattle.cbor_edn_core.proofs.lemmas.access.Pieces.{alone_is, alone_same, alone_literal, alone_none, several_no_literal}
+use Rattle.cbor_edn_model.proofs.lemmas.access.Pieces.{alone_is, alone_same, alone_literal, alone_none, several_no_literal}
 use Rattle.cbor_edn_core.proofs.lemmas.tree.Views.{view_string_at}
 use Rattle.cbor_edn_core.proofs.access.application.lone_literal.Goals as goal
 

@@ -6,7 +6,7 @@ use Rattle.cbor_edn_model.specs.access.Accessed.{string_tree}
 use Rattle.cbor_edn_model.specs.tree.TreeLeaves.{texts}
 use Rattle.cbor_edn_model.specs.tree.Trees.{LiteralTree}
 use Rattle.cbor_edn_core.specs.tree.View.{item_tree, view_inner}
-use Rattle.cbor_edn_core.proofs.lemmas.access.Pieces.{no_other}
+use Rattle.cbor_edn_model.proofs.lemmas.access.Pieces.{no_other}
 use Rattle.cbor_edn_core.proofs.access.application.may_have_prefix.Goals as goal
 
 is_so : (b : Bool) → not b ≡ false → b ≡ true

@@ -68,7 +68,7 @@ use Rattle.cbor_edn_core.proofs.access.path.there.Met as l-thm
 use Rattle.cbor_edn_core.proofs.tree.ItemOf.TheLaws.{the_row_laws as item-laws}
 use Rattle.cbor_edn_core.proofs.tree.InnerItemOf.+reach.{statement}
 use Rattle.cbor_edn_core.proofs.tree.InnerItemOf.+reach.Code as code
-use Rattle.cbor_edn_core.proofs.lemmas.access.Ties.{so_weaker, so_follow, so_so, is_true, is_false, next_in, next_few}
+use Rattle.cbor_edn_model.proofs.lemmas.access.Ties.{so_weaker, so_follow, so_so, is_true, is_false, next_in, next_few}
 
 module _ (T0 T1 T2 T3 T4 T5 T6 : RattleType) (T0d T1d T2d T3d T4d T5d T6d : Dict) where
   abbrev args : Args

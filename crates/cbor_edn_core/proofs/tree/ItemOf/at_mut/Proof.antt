@@ -64,7 +64,7 @@ use Rattle.cbor_edn_core.proofs.tree.ItemOf.TheLaws.{the_row_laws as item-laws}
 use Rattle.cbor_edn_core.proofs.tree.ItemOf.at_mut.Statement.{statement}
 use Rattle.cbor_edn_core.proofs.tree.ItemOf.at_mut.Code as code
 use Rattle.cbor_edn_core.proofs.lemmas.access.Replaced.{on_some}
-use Rattle.cbor_edn_core.proofs.lemmas.access.Ties.{itself, related, so_then, is_true, is_false}
+use Rattle.cbor_edn_model.proofs.lemmas.access.Ties.{itself, related, so_then, is_true, is_false}
 
 module _ (T0 T1 T2 T3 T4 T5 T6 : RattleType) (T0d T1d T2d T3d T4d T5d T6d : Dict) where
   abbrev args : Args

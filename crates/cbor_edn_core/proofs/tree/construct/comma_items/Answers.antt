@@ -1,7 +1,7 @@
 use Rattle.std.proofs.Common.{◌++◌, ◌∷◌, [], Some, ap, sym, ◌∙◌}
 use Rattle.cbor_edn_core.specs.tree.Constructed.{element_tree}
 use Rattle.cbor_edn_model.specs.tree.TreeLeaves.{texts}
-use Rattle.cbor_edn_core.proofs.lemmas.tree.Commas.{commas_made}
+use Rattle.cbor_edn_model.proofs.lemmas.tree.Commas.{commas_made}
 use Rattle.cbor_edn_core.proofs.lemmas.tree.Views.{view_items_made}
 use Rattle.cbor_edn_core.proofs.tree.construct.comma_items.Goals as goal
 

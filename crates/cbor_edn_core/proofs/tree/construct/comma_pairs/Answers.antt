@@ -1,8 +1,8 @@
 use Rattle.std.proofs.Common.{◌++◌, ◌∷◌, [], Some, ap, sym, ◌∙◌}
-use Rattle.cbor_edn_core.specs.tree.Constructed.{comma_row}
+use Rattle.cbor_edn_model.specs.tree.Constructed.{comma_row}
 use Rattle.cbor_edn_core.specs.tree.View.{view_pair}
 use Rattle.cbor_edn_model.specs.tree.TreeLeaves.{texts}
-use Rattle.cbor_edn_core.proofs.lemmas.tree.Commas.{commas_made}
+use Rattle.cbor_edn_model.proofs.lemmas.tree.Commas.{commas_made}
 use Rattle.cbor_edn_core.proofs.lemmas.tree.Views.{view_pairs_made}
 use Rattle.cbor_edn_core.proofs.tree.construct.comma_pairs.Goals as goal
 

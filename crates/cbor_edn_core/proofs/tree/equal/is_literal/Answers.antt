@@ -4,7 +4,7 @@ use Rattle.cbor_edn_model.specs.internal.Same.{same_tree}
 use Rattle.cbor_edn_model.specs.tree.Trees.{LastPieceTree, LiteralTree}
 use Rattle.cbor_edn_model.specs.tree.TreeLeaves.{texts}
 use Rattle.cbor_edn_core.specs.tree.View.{seen_piece, view_piece, view_string}
-use Rattle.cbor_edn_core.proofs.lemmas.access.Pieces.{alone_is, several_differ}
+use Rattle.cbor_edn_model.proofs.lemmas.access.Pieces.{alone_is, several_differ}
 use Rattle.cbor_edn_core.proofs.tree.equal.is_literal.Goals as goal
 
 pub returns-then-has_several_pieces : goal.returns-then-has_several_pieces

@@ -11,7 +11,7 @@ use Rattle.cbor_edn_model.specs.tree.Trees.{Tree, OnePiece, OneString, LastPiece
 use Rattle.cbor_edn_core.specs.declared.access.TypeMismatch.TheVariants.{ApplicationLiteral, SingleApplicationLiteral}
 use Rattle.cbor_edn_core.specs.access.Mismatch.{literal_mismatch}
 use Rattle.cbor_edn_core.specs.tree.View.{item_tree, seen_piece, view_inner, view_piece, view_string}
-use Rattle.cbor_edn_core.proofs.lemmas.access.Pieces.{alone_is, no_application, no_other, several_no_literal}
+use Rattle.cbor_edn_model.proofs.lemmas.access.Pieces.{alone_is, no_application, no_other, several_no_literal}
 use Rattle.cbor_edn_core.proofs.lemmas.tree.Views.{view_stream_is, view_string_at}
 use Rattle.cbor_edn_core.proofs.access.application.Item.get_application_literal.Goals as goal
 

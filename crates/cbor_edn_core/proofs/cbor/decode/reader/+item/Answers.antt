@@ -7,7 +7,7 @@ use Rattle.cbor_edn_model.specs.tree.TreeLeaves.{texts}
 use Rattle.cbor_edn_core.specs.internal.RowBuilder.{grown}
 use Rattle.cbor_edn_model.specs.internal.CborReading.{past_stop, item_at, pair_at, trees}
 use Rattle.cbor_edn_model.proofs.lemmas.cbor.CborAgain.{item_at_ok}
-use Rattle.cbor_edn_core.proofs.lemmas.cbor.CborTurns.{goes_on, fails, is_done, until_more, until_fails, until_done, item_fails}
+use Rattle.cbor_edn_model.proofs.lemmas.cbor.CborTurns.{goes_on, fails, is_done, until_more, until_fails, until_done, item_fails}
 use Rattle.cbor_edn_core.proofs.cbor.decode.reader.+item.Goals as goal
 
 pub decode_item-returns-in_err-head-clause-exact : goal.decode_item-returns-in_err-head-clause-exact

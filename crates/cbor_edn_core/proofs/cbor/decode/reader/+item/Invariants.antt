@@ -4,7 +4,7 @@ use Rattle.cbor_edn_core.specs.tree.View.{item_tree, view_pair}
 use Rattle.cbor_edn_model.specs.tree.TreeLeaves.{texts}
 use Rattle.cbor_edn_core.specs.internal.RowBuilder.{grown}
 use Rattle.cbor_edn_model.specs.internal.CborReading.{many, until, item_at, pair_at, trees}
-use Rattle.cbor_edn_core.proofs.lemmas.cbor.CborTurns.{with_front}
+use Rattle.cbor_edn_model.proofs.lemmas.cbor.CborTurns.{with_front}
 use Rattle.cbor_edn_core.proofs.cbor.decode.reader.+item.Given as goal
 
 abbrev pub decreases-decode_array : goal.decreases-decode_array

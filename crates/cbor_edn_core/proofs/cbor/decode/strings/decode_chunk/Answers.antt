@@ -1,7 +1,7 @@
 use Rattle.std.proofs.Common.{◌≡◌, true, false, eqb, arith}
 use Rattle.std.proofs.lemmas.Result.{err_from_is_err_and}
 use Rattle.cbor_edn_model.specs.cbor.Value.{string_major}
-use Rattle.cbor_edn_core.proofs.lemmas.cbor.CborStrings.{chunk_fails, other_chunk, open_chunk, chunk_found}
+use Rattle.cbor_edn_model.proofs.lemmas.cbor.CborStrings.{chunk_fails, other_chunk, open_chunk, chunk_found}
 use Rattle.cbor_edn_core.proofs.cbor.decode.strings.decode_chunk.Goals as goal
 
 pub returns-in_err-major-clause-exact : goal.returns-in_err-major-clause-exact

@@ -6,8 +6,8 @@ use Rattle.cbor_edn_core.specs.tree.View.{view_string}
 use Rattle.cbor_edn_model.specs.tree.TreeLeaves.{texts}
 use Rattle.cbor_edn_core.specs.internal.RowBuilder.{grown}
 use Rattle.cbor_edn_model.specs.internal.CborReading.{past_stop}
-use Rattle.cbor_edn_core.proofs.lemmas.cbor.CborStrings.{one}
-use Rattle.cbor_edn_core.proofs.lemmas.cbor.CborTurns.{until_more, until_fails, until_done}
+use Rattle.cbor_edn_model.proofs.lemmas.cbor.CborStrings.{one}
+use Rattle.cbor_edn_model.proofs.lemmas.cbor.CborTurns.{until_more, until_fails, until_done}
 use Rattle.cbor_edn_core.proofs.cbor.decode.strings.decode_chunks_until.Goals as goal
 
 pub returns-in-Some-clause-exact : goal.returns-in-Some-clause-exact

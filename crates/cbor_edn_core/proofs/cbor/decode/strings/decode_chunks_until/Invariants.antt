@@ -4,8 +4,8 @@ use Rattle.cbor_edn_core.specs.tree.View.{view_string}
 use Rattle.cbor_edn_model.specs.tree.TreeLeaves.{texts}
 use Rattle.cbor_edn_core.specs.internal.RowBuilder.{grown}
 use Rattle.cbor_edn_model.specs.internal.CborReading.{until}
-use Rattle.cbor_edn_core.proofs.lemmas.cbor.CborStrings.{one}
-use Rattle.cbor_edn_core.proofs.lemmas.cbor.CborTurns.{with_front}
+use Rattle.cbor_edn_model.proofs.lemmas.cbor.CborStrings.{one}
+use Rattle.cbor_edn_model.proofs.lemmas.cbor.CborTurns.{with_front}
 use Rattle.cbor_edn_core.proofs.cbor.decode.strings.decode_chunks_until.Given as goal
 
 abbrev pub invariant-turns : goal.invariant-turns

@@ -4,7 +4,7 @@ use Rattle.std.proofs.lemmas.Str.{is_utf8-from_IsUtf8}
 use Rattle.cbor_edn_parts.specs.Contents.{kind_literal}
 use Rattle.cbor_edn_parts.specs.declared.string.StringKind.TheVariants.{Bytes, Text}
 use Rattle.cbor_edn_model.specs.internal.CborReading.{shown}
-use Rattle.cbor_edn_core.proofs.lemmas.cbor.CborStrings.{missing, invalid, literal_read, not_utf8}
+use Rattle.cbor_edn_model.proofs.lemmas.cbor.CborStrings.{missing, invalid, literal_read, not_utf8}
 use Rattle.cbor_edn_core.proofs.cbor.decode.strings.decode_literal.Goals as goal
 use Rattle.cbor_edn_core.proofs.cbor.decode.strings.decode_literal.Goals.{in-Bytes+in_ok-literal-in-Bytes, in-Text+in-Ok+in_ok-literal-in-Ok}
 

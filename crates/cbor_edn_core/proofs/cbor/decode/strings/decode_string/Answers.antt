@@ -4,7 +4,7 @@ use Rattle.cbor_edn_parts.specs.Leaves.{literal_bytes}
 use Rattle.cbor_edn_core.specs.tree.View.{view_string}
 use Rattle.cbor_edn_model.specs.tree.TreeLeaves.{texts}
 use Rattle.cbor_edn_core.specs.internal.RowBuilder.{grown}
-use Rattle.cbor_edn_core.proofs.lemmas.cbor.CborStrings.{alone_read, definite_read, chunks_read, chunks_fail}
+use Rattle.cbor_edn_model.proofs.lemmas.cbor.CborStrings.{alone_read, definite_read, chunks_read, chunks_fail}
 use Rattle.cbor_edn_core.proofs.cbor.decode.strings.decode_string.Goals as goal
 
 pub returns-in_err-found-in-None-clause-exact : goal.returns-in_err-found-in-None-clause-exact

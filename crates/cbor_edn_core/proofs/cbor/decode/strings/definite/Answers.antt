@@ -1,5 +1,5 @@
 use Rattle.cbor_edn_parts.specs.Leaves.{literal_bytes}
-use Rattle.cbor_edn_core.proofs.lemmas.cbor.CborStrings.{definite_read}
+use Rattle.cbor_edn_model.proofs.lemmas.cbor.CborStrings.{definite_read}
 use Rattle.cbor_edn_core.proofs.cbor.decode.strings.definite.Goals as goal
 
 pub returns-clause-exact : goal.returns-clause-exact

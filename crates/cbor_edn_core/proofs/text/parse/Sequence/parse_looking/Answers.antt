@@ -1,5 +1,5 @@
 use Rattle.std.proofs.Common.{ap, sym, ◌∙◌, Err}
-use Rattle.cbor_edn_core.proofs.lemmas.text.Whole.{sequence_accepted, sequence_invalid, sequence_too_deep}
+use Rattle.cbor_edn_model.proofs.lemmas.text.Whole.{sequence_accepted, sequence_invalid, sequence_too_deep}
 use Rattle.cbor_edn_core.proofs.text.parse.Sequence.parse_looking.Goals as goal
 
 pub returns-in-Ok-clause-parsed : goal.returns-in-Ok-clause-parsed

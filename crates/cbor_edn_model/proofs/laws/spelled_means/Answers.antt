@@ -2,8 +2,8 @@ use Rattle.std.proofs.Common.{ap, ◌∙◌}
 use Rattle.cbor_edn_model.specs.cbor.Decoded.{item_of, items_of}
 use Rattle.cbor_edn_model.specs.cbor.Meaning.{means}
 use Rattle.cbor_edn_model.proofs.lemmas.cbor.Decoding.{item_means, items_mean}
-use Rattle.cbor_edn_core.proofs.lemmas.text.GrammarLaws.{unique_items}
-use Rattle.cbor_edn_core.proofs.laws.spelled_means.Goals as goal
+use Rattle.cbor_edn_model.proofs.lemmas.text.GrammarLaws.{unique_items}
+use Rattle.cbor_edn_model.proofs.laws.spelled_means.Goals as goal
 
 pub returns : goal.returns
 returns c = (

@@ -19,7 +19,7 @@ use Rattle.cbor_edn_model.specs.internal.Results.{◌>>=◌}
 use Rattle.cbor_edn_model.specs.internal.CborReading.{DecoderResult, Decoder, shown, head_at, head_by, argument_at, many, until, several, past_stop, turn, string_at, chunk_at, chunk_by, string_by, pair_at, item_by, item_at, array_by, map_by, number_by, tag_by, simple_by, float_by, special_by, float_of}
 use Rattle.cbor_edn_model.proofs.lemmas.cbor.CborHeads.{IsBytes, chosen, Takes, HeadIs, head_takes}
 use Rattle.cbor_edn_model.proofs.lemmas.cbor.CborSpecials.{last_major}
-use Rattle.cbor_edn_core.proofs.lemmas.cbor.CborTurns.{shown_err}
+use Rattle.cbor_edn_model.proofs.lemmas.cbor.CborTurns.{shown_err}
 use Rattle.cbor_edn_model.proofs.lemmas.cbor.CborValues.{values_of, pairs_of, argument_width, makes, value_at, in_front_of}
 use Rattle.cbor_edn_model.proofs.lemmas.cbor.CborTakes.{Sound, Within, BothWithin, pair_encoding, chunk_takes, pair_takes, item_takes}
 

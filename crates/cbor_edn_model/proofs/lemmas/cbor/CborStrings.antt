@@ -18,7 +18,7 @@ use Rattle.cbor_edn_model.specs.cbor.Decoded.{indicator_of}
 use Rattle.cbor_edn_model.specs.internal.CborReading.{Decoder, DecoderFails, shown, head_at, until, string_at, chunk_at, chunk_by, string_by, definite_tree, string_row, chunked_tree, chunks_tree, trees}
 use Rattle.cbor_edn_model.proofs.lemmas.cbor.CborHeads.{chosen}
 use Rattle.cbor_edn_model.proofs.lemmas.cbor.CborTrees.{until_shown, shown_again}
-use Rattle.cbor_edn_core.proofs.lemmas.cbor.CborTurns.{shown_ok, shown_fails, fails_shown}
+use Rattle.cbor_edn_model.proofs.lemmas.cbor.CborTurns.{shown_ok, shown_fails, fails_shown}
 
 -- so many bytes are read
 string_len : (k : StringKind) (n : ℕ) (bytes : List ℕ) (s : List ℕ × List ℕ) → string_at k n bytes ≡ Ok s → length s.0 ≡ n

@@ -3,7 +3,7 @@ use Rattle.std.specs.Prelude.{ℕ, ◌≡◌, ◌<◌, ◌↔◌, All, List}
 use Rattle.cbor_edn_parts.specs.Literal.{IsPrefix}
 use Rattle.cbor_edn_parts.specs.Written.{application_literal}
 use Rattle.cbor_edn_model.specs.access.Accessed.{IsApplicationItem}
-use Rattle.cbor_edn_core.specs.tree.Constructed.{literal_tree}
+use Rattle.cbor_edn_model.specs.tree.Constructed.{literal_tree}
 
 -- The item that is made of a prefix p and the bytes v of a text is the literal of this prefix that stands for this text, and of no
 -- other prefix and text.

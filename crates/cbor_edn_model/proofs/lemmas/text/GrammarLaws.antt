@@ -10,7 +10,7 @@ use Rattle.cbor_edn_model.specs.text.TextLaws.{UniqueItems, UniqueSpaces, Spelle
 use Rattle.cbor_edn_model.proofs.lemmas.text.Outcomes.{within}
 use Rattle.cbor_edn_model.proofs.lemmas.text.StepCounts.{reads-again}
 use Rattle.cbor_edn_model.proofs.lemmas.text.Spelled.{HasTree, tells, spelled_sequence, spelled_one}
-use Rattle.cbor_edn_core.proofs.lemmas.text.Whole.{sequence_made, standalone_made}
+use Rattle.cbor_edn_model.proofs.lemmas.text.Whole.{sequence_made, standalone_made}
 
 -- Read with a limit that is deep enough.
 read_back : {s : Rule} (limit : ℕ) (w : Tree s) (r : List ℕ) → Tested w → Merged w → FollowOf s r → tree_nesting w ≤ limit → reads limit s (onto w r) ≡ Ok (w, r)

@@ -12,7 +12,7 @@ use Rattle.cbor_edn_model.specs.access.Accessed.{are_several, IsApplicationPiece
 use Rattle.cbor_edn_model.specs.internal.Same.{same_tree}
 use Rattle.cbor_edn_model.specs.tree.Rows.{pieces_onto}
 use Rattle.cbor_edn_model.specs.tree.Trees.{Tree, OnePiece, OneString, LiteralTree, LastPieceTree, PlusTree}
-use Rattle.cbor_edn_core.specs.tree.ConstructedLaws.{LiteralIsAnswered}
+use Rattle.cbor_edn_model.specs.tree.ConstructedLaws.{LiteralIsAnswered}
 
 module _ {X : Type 0} (seen : X → Tree OnePiece × List ℕ × List ℕ) where
   pub several_is : (row : List X) (p : Tree OnePiece) → not (length row == 0) ≡ are_several (pieces_onto (map seen row) (LastPieceTree p))

@@ -15,7 +15,7 @@ use Rattle.cbor_edn_model.specs.tree.Trees.{Rule, OneItem, Seq, Standalone, Tree
 use Rattle.cbor_edn_model.proofs.lemmas.text.Tested.{IsTestedListHead, Tested, tested, valid}
 use Rattle.cbor_edn_model.specs.layout.Layout.{Layout, Inline, Lines, layout, Slot, First, Between, Last, BeforePlus, AfterPlus, AfterColon, Elsewhere, spacing, respaced, saturating_add, of_parts, fitted, in_chunk, laid_list_head, laid, laid_out}
 use Rattle.cbor_edn_model.specs.layout.LayoutLaws.{KeepsItems, StaysValid, SpellsTheSame, KeepsAllComments, ForgetsLayout, SameTwice}
-use Rattle.cbor_edn_core.proofs.lemmas.text.GrammarLaws.{spelled_by_trees}
+use Rattle.cbor_edn_model.proofs.lemmas.text.GrammarLaws.{spelled_by_trees}
 
 -- an item whose parts are laid out is one of the items that its parts give
 fitted_any : (P : Tree OneItem → Type 0) (l : Layout) (part : Layout → Tree OneItem) → ((m : Layout) → P (part m)) → P (fitted l part)

@@ -1,6 +1,6 @@
 use Rattle.cbor_edn_model.proofs.lemmas.layout.WithoutIndicators.{without_indicators_is_bare, without_indicators_stays_valid}
 use Rattle.cbor_edn_model.proofs.lemmas.layout.BareItems.{bare_items_mean, fewer_mean}
-use Rattle.cbor_edn_core.proofs.laws.bare_items.Goals as goal
+use Rattle.cbor_edn_model.proofs.laws.bare_items.Goals as goal
 
 pub returns : goal.returns
 returns c = record {

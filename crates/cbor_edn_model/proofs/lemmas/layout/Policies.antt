@@ -9,8 +9,8 @@ use Rattle.cbor_edn_model.specs.cbor.Decoded.{item_of, items_of, alone}
 use Rattle.cbor_edn_model.specs.layout.Layout.{laid_out}
 use Rattle.cbor_edn_model.specs.layout.LayoutLaws.{after_policies, MeansTheSame}
 use Rattle.cbor_edn_model.proofs.lemmas.cbor.Decoding.{item_means, items_mean}
-use Rattle.cbor_edn_core.proofs.lemmas.text.GrammarLaws.{unique_items, spelled_by_trees}
-use Rattle.cbor_edn_core.proofs.lemmas.layout.Layouts.{keeps_items, stays_valid}
+use Rattle.cbor_edn_model.proofs.lemmas.text.GrammarLaws.{unique_items, spelled_by_trees}
+use Rattle.cbor_edn_model.proofs.lemmas.layout.Layouts.{keeps_items, stays_valid}
 
 after_items : {s : Rule} (policies : List DelimiterPolicy) (w : Tree s) → items (after_policies policies w) ≡ items w
 after_items [] w = refl

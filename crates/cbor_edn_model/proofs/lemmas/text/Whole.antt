@@ -10,7 +10,7 @@ use Rattle.cbor_edn_model.specs.tree.Trees.{Rule, Seq, Standalone, Tree, Merged,
 use Rattle.cbor_edn_model.proofs.lemmas.text.Tested.{Tested}
 use Rattle.cbor_edn_model.specs.internal.Reading.{reads_all, at_end, outcome}
 use Rattle.cbor_edn_model.specs.text.Openings.{openings}
-use Rattle.cbor_edn_core.specs.text.Parsing.{IsAccepted, IsInvalid, IsTooDeep}
+use Rattle.cbor_edn_model.specs.text.Parsing.{IsAccepted, IsInvalid, IsTooDeep}
 use Rattle.cbor_edn_model.proofs.lemmas.text.Outcomes.{then_done, outcome-valid, outcome-deep}
 use Rattle.cbor_edn_model.proofs.lemmas.text.Found.{Meets, invalid, deep, fine, bound, Sound}
 use Rattle.cbor_edn_model.proofs.lemmas.text.StepCounts.{reads-again, reads-found}

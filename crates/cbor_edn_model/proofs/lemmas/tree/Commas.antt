@@ -5,7 +5,7 @@ use Rattle.cbor_edn_parts.specs.declared.space.Msc.{Msc}
 use Rattle.cbor_edn_model.specs.tree.Items.{Row}
 use Rattle.cbor_edn_model.specs.tree.Trees.{Tree, OneEntry, LastTree, MoreTree}
 use Rattle.cbor_edn_model.specs.tree.Rows.{entries_onto}
-use Rattle.cbor_edn_core.specs.tree.Constructed.{comma_rest, comma_row}
+use Rattle.cbor_edn_model.specs.tree.Constructed.{comma_rest, comma_row}
 
 abbrev pub AreCommas : {X : Type 0} → List (X × Msc) → Type 0
 AreCommas row = map (λ p. msc_bytes p.1) row ≡ map (λ _. 44 ∷ []) row

@@ -1,5 +1,0 @@
-use Rattle.cbor_edn_core.proofs.lemmas.access.Pieces.{literal_is_answered}
-use Rattle.cbor_edn_core.proofs.laws.literal_is_answered.Goals as goal
-
-pub returns : goal.returns
-returns c = literal_is_answered
