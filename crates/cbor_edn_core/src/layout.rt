@@ -2,7 +2,6 @@
 
 mod indicators;
 mod lay;
-mod measure;
 mod policy;
 mod print;
 mod room;

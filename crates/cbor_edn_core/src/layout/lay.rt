@@ -1,100 +1,74 @@
-//! Trees laid out in place: one walk in the order of the text, with the widths of a table in this order.
+//! Trees laid out in place. Each item is asked whether it fits on its line before any space of it changes.
 ghost use Rattle.std.specs.Prelude.{◌≡◌, map, IsOk, OnOk};
 ghost use Rattle.cbor_edn_parts.specs.LayoutColumns.{least};
+ghost use Rattle.cbor_edn_model.specs.layout.Layout.{laid};
 ghost use Rattle.cbor_edn_model.specs.tree.Trees as definition;
 ghost use Rattle.cbor_edn_model.specs.tree.Trees.{items};
 ghost use Rattle.cbor_edn_core.specs.tree.View.{view_list, view_items, seen, view_pair_list, view_pairs, view_pair, seen_pair, item_tree, standalone_tree, sequence_tree};
 ghost use Rattle.cbor_edn_model.specs.tree.TreeLeaves.{texts};
-ghost use Rattle.cbor_edn_model.specs.internal.Laying.{opened, without, laid_by, entries_without, entries_by};
-ghost use Rattle.cbor_edn_model.specs.internal.LayoutRows.{entry_items};
-ghost use Rattle.cbor_edn_model.specs.internal.Widths.{stack};
+ghost use Rattle.cbor_edn_model.specs.internal.Laying.{opened};
+ghost use Rattle.cbor_edn_model.specs.internal.LayoutRows.{laid_entry, entry_items};
 
+use super::room::layout_of_parts;
 use super::strings::{lay_boxed_string, lay_stream};
 use crate::tree::{
     InnerItem, Item, ItemList, Items, Kp, PairList, Pairs, Sequence, StandaloneItem,
 };
-use cbor_edn_model::layout::width::pop_width;
 use cbor_edn_model::text::list_head::lay_head;
 use cbor_edn_parts::layout::{Layout, Slot, lay_end, lay_separator, lay_space};
 use cbor_edn_parts::space::Msc;
 use std::alloc::{AllocError, Global};
 
 #[cycle(lay)]
-#[tactic(auto, unfolding(cbor_edn_model::specs::internal::Laying::laid_by, cbor_edn_model::specs::internal::Laying::without, cbor_edn_model::specs::tree::Trees::items))]
-pub(super) fn lay_item(
-    item: &mut Item<'_>,
-    alloc: Global,
-    layout: Layout,
-    table: &mut Vec<usize>,
-) -> Result<(), AllocError>
-    ensures laid { OnOk result (item_tree item.new ≡ laid_by layout (item_tree item.old) (stack table.old.items)) }
-    ensures rest { OnOk result (stack table.new.items ≡ without (item_tree item.old) (stack table.old.items)) }
+#[tactic(auto, using(crate::proofs::lemmas::tree::Views::view_string_is, cbor_edn_model::proofs::lemmas::layout::LaidTrees::laid_list, cbor_edn_model::proofs::lemmas::layout::LaidTrees::laid_string), unfolding(cbor_edn_model::specs::layout::Layout::laid, cbor_edn_model::specs::tree::Trees::items))]
+pub(super) fn lay_item(item: &mut Item<'_>, alloc: Global, layout: Layout) -> Result<(), AllocError>
+    ensures laid { OnOk result (item_tree item.new ≡ laid layout (item_tree item.old)) }
     ensures items { items (item_tree item.new) ≡ items (item_tree item.old) }
     ensures least { layout ≡ least → IsOk result }
 {
+    let parts = layout_of_parts(layout, item);
     match &mut item.inner {
-        InnerItem::Number(_, _) => Ok(()),
-        InnerItem::NonFinite(_, _) => Ok(()),
-        InnerItem::Named(_) => Ok(()),
-        InnerItem::Enclosed(_, content) => {
-            let parts = layout.of_parts(pop_width(table));
-            lay_standalone(content, alloc, parts, table)
-        }
-        InnerItem::Array(list) => {
-            let parts = layout.of_parts(pop_width(table));
-            lay_list(list, alloc, parts, table)
-        }
-        InnerItem::Map(list) => {
-            let parts = layout.of_parts(pop_width(table));
-            lay_pair_list(list, alloc, parts, table)
-        }
-        InnerItem::Literal(_, _) => {
-            let _ = pop_width(table);
-            Ok(())
-        }
-        InnerItem::String(string) => {
-            let parts = layout.of_parts(pop_width(table));
-            lay_boxed_string(string, alloc, parts)
-        }
-        InnerItem::Stream(stream) => {
-            let parts = layout.of_parts(pop_width(table));
-            lay_stream(stream, alloc, parts)
-        }
+        InnerItem::Number(_, _)
+        | InnerItem::NonFinite(_, _)
+        | InnerItem::Named(_)
+        | InnerItem::Literal(_, _) => Ok(()),
+        InnerItem::Enclosed(_, content) => lay_standalone(content, alloc, parts),
+        InnerItem::Array(list) => lay_list(list, alloc, parts),
+        InnerItem::Map(list) => lay_pair_list(list, alloc, parts),
+        InnerItem::String(string) => lay_boxed_string(string, alloc, parts),
+        InnerItem::Stream(stream) => lay_stream(stream, alloc, parts),
     }
 }
 
 #[cycle(lay)]
-#[tactic(auto, unfolding(cbor_edn_model::specs::internal::Laying::laid_by, cbor_edn_model::specs::internal::Laying::without, cbor_edn_model::specs::tree::Trees::items))]
+#[tactic(auto, unfolding(cbor_edn_model::specs::layout::Layout::laid, cbor_edn_model::specs::tree::Trees::items))]
 pub(super) fn lay_standalone(
     content: &mut StandaloneItem<'_>,
     alloc: Global,
     layout: Layout,
-    table: &mut Vec<usize>,
 ) -> Result<(), AllocError>
-    ensures laid { OnOk result (standalone_tree content.new ≡ laid_by layout (standalone_tree content.old) (stack table.old.items)) }
-    ensures rest { OnOk result (stack table.new.items ≡ without (standalone_tree content.old) (stack table.old.items)) }
+    ensures laid { OnOk result (standalone_tree content.new ≡ laid layout (standalone_tree content.old)) }
     ensures items { items (standalone_tree content.new) ≡ items (standalone_tree content.old) }
     ensures least { layout ≡ least → IsOk result }
 {
-    lay_item(&mut content.item, alloc, layout, table)?;
+    lay_item(&mut content.item, alloc, layout)?;
     lay_space(&mut content.before, alloc, layout, Slot::Elsewhere)?;
     lay_space(&mut content.after, alloc, layout, Slot::Elsewhere)
 }
 
-#[tactic(auto, using(crate::proofs::lemmas::tree::Views::view_sequence_is, crate::proofs::lemmas::tree::Views::view_sequence_made), unfolding(cbor_edn_model::specs::internal::Laying::laid_by, cbor_edn_model::specs::internal::Laying::without, cbor_edn_model::specs::tree::Trees::items))]
+#[tactic(auto, using(crate::proofs::lemmas::tree::Views::view_sequence_is, crate::proofs::lemmas::tree::Views::view_sequence_made), unfolding(cbor_edn_model::specs::layout::Layout::laid, cbor_edn_model::specs::tree::Trees::items))]
 pub(super) fn lay_sequence(
     sequence: &mut Sequence<'_>,
     alloc: Global,
     layout: Layout,
-    table: &mut Vec<usize>,
 ) -> Result<(), AllocError>
-    ensures laid { OnOk result (sequence_tree sequence.new ≡ laid_by layout (sequence_tree sequence.old) (stack table.old.items)) }
+    ensures laid { OnOk result (sequence_tree sequence.new ≡ laid layout (sequence_tree sequence.old)) }
     ensures items { items (sequence_tree sequence.new) ≡ items (sequence_tree sequence.old) }
     ensures least { layout ≡ least → IsOk result }
 {
     match &mut sequence.items {
         None => {}
-        Some(items) => lay_items(items, alloc, layout, table)?,
+        Some(items) => lay_items(items, alloc, layout)?,
     }
     lay_space(&mut sequence.before, alloc, layout, Slot::Elsewhere)
 }
@@ -136,39 +110,27 @@ fn lay_pair_opening<'a>(
 }
 
 #[cycle(lay)]
-#[tactic(auto, unfolding(cbor_edn_model::specs::internal::Laying::laid_by, cbor_edn_model::specs::internal::Laying::without, cbor_edn_model::specs::tree::Trees::items))]
-fn lay_list(
-    list: &mut ItemList<'_>,
-    alloc: Global,
-    layout: Layout,
-    table: &mut Vec<usize>,
-) -> Result<(), AllocError>
-    ensures laid { OnOk result (view_list texts list.new ≡ laid_by layout (view_list texts list.old) (stack table.old.items)) }
-    ensures rest { OnOk result (stack table.new.items ≡ without (view_list texts list.old) (stack table.old.items)) }
+#[tactic(auto, unfolding(cbor_edn_model::specs::layout::Layout::laid, cbor_edn_model::specs::tree::Trees::items))]
+fn lay_list(list: &mut ItemList<'_>, alloc: Global, layout: Layout) -> Result<(), AllocError>
+    ensures laid { OnOk result (view_list texts list.new ≡ laid layout (view_list texts list.old)) }
     ensures items { items (view_list texts list.new) ≡ items (view_list texts list.old) }
     ensures least { layout ≡ least → IsOk result }
 {
     match list {
-        ItemList::Present { items, .. } => lay_items(items, alloc, layout, table)?,
+        ItemList::Present { items, .. } => lay_items(items, alloc, layout)?,
         ItemList::Absent { .. } => {}
     }
     lay_opening(list, alloc, layout)
 }
 
 #[cycle(lay)]
-fn lay_items(
-    items: &mut Items<'_>,
-    alloc: Global,
-    layout: Layout,
-    table: &mut Vec<usize>,
-) -> Result<(), AllocError>
-    ensures laid { OnOk result (view_items texts items.new ≡ laid_by layout (view_items texts items.old) (stack table.old.items)) }
-    ensures rest { OnOk result (stack table.new.items ≡ without (view_items texts items.old) (stack table.old.items)) }
+fn lay_items(items: &mut Items<'_>, alloc: Global, layout: Layout) -> Result<(), AllocError>
+    ensures laid { OnOk result (view_items texts items.new ≡ laid layout (view_items texts items.old)) }
     ensures items { definition.items (view_items texts items.new) ≡ definition.items (view_items texts items.old) }
     ensures least { layout ≡ least → IsOk result }
 {
-    lay_row(&mut items.row, alloc, layout, table)?;
-    lay_item(&mut items.last, alloc, layout, table)?;
+    lay_row(&mut items.row, alloc, layout)?;
+    lay_item(&mut items.last, alloc, layout)?;
     lay_end(&mut items.soc, alloc, layout)
 }
 
@@ -177,54 +139,40 @@ fn lay_row<'a>(
     row: &mut Vec<(Item<'a>, Msc<'a>)>,
     alloc: Global,
     layout: Layout,
-    table: &mut Vec<usize>,
 ) -> Result<(), AllocError>
-    ensures laid { OnOk result (map (seen texts) row.new.items ≡ entries_by layout (map (seen texts) row.old.items) (stack table.old.items)) }
-    ensures rest { OnOk result (stack table.new.items ≡ entries_without (map (seen texts) row.old.items) (stack table.old.items)) }
+    ensures laid { OnOk result (map (seen texts) row.new.items ≡ map (laid_entry layout) (map (seen texts) row.old.items)) }
     ensures items { map entry_items (map (seen texts) row.new.items) ≡ map entry_items (map (seen texts) row.old.items) }
     ensures least { layout ≡ least → IsOk result }
 {
     for entry in row.iter_mut() {
-        lay_item(&mut entry.0, alloc, layout, table)?;
+        lay_item(&mut entry.0, alloc, layout)?;
         lay_separator(&mut entry.1, alloc, layout)?;
     }
     Ok(())
 }
 
 #[cycle(lay)]
-#[tactic(auto, unfolding(cbor_edn_model::specs::internal::Laying::laid_by, cbor_edn_model::specs::internal::Laying::without, cbor_edn_model::specs::tree::Trees::items))]
-fn lay_pair_list(
-    list: &mut PairList<'_>,
-    alloc: Global,
-    layout: Layout,
-    table: &mut Vec<usize>,
-) -> Result<(), AllocError>
-    ensures laid { OnOk result (view_pair_list texts list.new ≡ laid_by layout (view_pair_list texts list.old) (stack table.old.items)) }
-    ensures rest { OnOk result (stack table.new.items ≡ without (view_pair_list texts list.old) (stack table.old.items)) }
+#[tactic(auto, unfolding(cbor_edn_model::specs::layout::Layout::laid, cbor_edn_model::specs::tree::Trees::items))]
+fn lay_pair_list(list: &mut PairList<'_>, alloc: Global, layout: Layout) -> Result<(), AllocError>
+    ensures laid { OnOk result (view_pair_list texts list.new ≡ laid layout (view_pair_list texts list.old)) }
     ensures items { items (view_pair_list texts list.new) ≡ items (view_pair_list texts list.old) }
     ensures least { layout ≡ least → IsOk result }
 {
     match list {
-        PairList::Present { pairs, .. } => lay_pairs(pairs, alloc, layout, table)?,
+        PairList::Present { pairs, .. } => lay_pairs(pairs, alloc, layout)?,
         PairList::Absent { .. } => {}
     }
     lay_pair_opening(list, alloc, layout)
 }
 
 #[cycle(lay)]
-fn lay_pairs(
-    pairs: &mut Pairs<'_>,
-    alloc: Global,
-    layout: Layout,
-    table: &mut Vec<usize>,
-) -> Result<(), AllocError>
-    ensures laid { OnOk result (view_pairs texts pairs.new ≡ laid_by layout (view_pairs texts pairs.old) (stack table.old.items)) }
-    ensures rest { OnOk result (stack table.new.items ≡ without (view_pairs texts pairs.old) (stack table.old.items)) }
+fn lay_pairs(pairs: &mut Pairs<'_>, alloc: Global, layout: Layout) -> Result<(), AllocError>
+    ensures laid { OnOk result (view_pairs texts pairs.new ≡ laid layout (view_pairs texts pairs.old)) }
     ensures items { items (view_pairs texts pairs.new) ≡ items (view_pairs texts pairs.old) }
     ensures least { layout ≡ least → IsOk result }
 {
-    lay_pair_row(&mut pairs.row, alloc, layout, table)?;
-    lay_pair(&mut pairs.last, alloc, layout, table)?;
+    lay_pair_row(&mut pairs.row, alloc, layout)?;
+    lay_pair(&mut pairs.last, alloc, layout)?;
     lay_end(&mut pairs.soc, alloc, layout)
 }
 
@@ -233,35 +181,27 @@ fn lay_pair_row<'a>(
     row: &mut Vec<(Kp<'a>, Msc<'a>)>,
     alloc: Global,
     layout: Layout,
-    table: &mut Vec<usize>,
 ) -> Result<(), AllocError>
-    ensures laid { OnOk result (map (seen_pair texts) row.new.items ≡ entries_by layout (map (seen_pair texts) row.old.items) (stack table.old.items)) }
-    ensures rest { OnOk result (stack table.new.items ≡ entries_without (map (seen_pair texts) row.old.items) (stack table.old.items)) }
+    ensures laid { OnOk result (map (seen_pair texts) row.new.items ≡ map (laid_entry layout) (map (seen_pair texts) row.old.items)) }
     ensures items { map entry_items (map (seen_pair texts) row.new.items) ≡ map entry_items (map (seen_pair texts) row.old.items) }
     ensures least { layout ≡ least → IsOk result }
 {
     for entry in row.iter_mut() {
-        lay_pair(&mut entry.0, alloc, layout, table)?;
+        lay_pair(&mut entry.0, alloc, layout)?;
         lay_separator(&mut entry.1, alloc, layout)?;
     }
     Ok(())
 }
 
 #[cycle(lay)]
-#[tactic(auto, unfolding(cbor_edn_model::specs::internal::Laying::laid_by, cbor_edn_model::specs::internal::Laying::without, cbor_edn_model::specs::tree::Trees::items))]
-fn lay_pair(
-    pair: &mut Kp<'_>,
-    alloc: Global,
-    layout: Layout,
-    table: &mut Vec<usize>,
-) -> Result<(), AllocError>
-    ensures laid { OnOk result (view_pair texts pair.new ≡ laid_by layout (view_pair texts pair.old) (stack table.old.items)) }
-    ensures rest { OnOk result (stack table.new.items ≡ without (view_pair texts pair.old) (stack table.old.items)) }
+#[tactic(auto, unfolding(cbor_edn_model::specs::layout::Layout::laid, cbor_edn_model::specs::tree::Trees::items))]
+fn lay_pair(pair: &mut Kp<'_>, alloc: Global, layout: Layout) -> Result<(), AllocError>
+    ensures laid { OnOk result (view_pair texts pair.new ≡ laid layout (view_pair texts pair.old)) }
     ensures items { items (view_pair texts pair.new) ≡ items (view_pair texts pair.old) }
     ensures least { layout ≡ least → IsOk result }
 {
-    lay_item(&mut pair.key, alloc, layout, table)?;
-    lay_item(&mut pair.value, alloc, layout, table)?;
+    lay_item(&mut pair.key, alloc, layout)?;
+    lay_item(&mut pair.value, alloc, layout)?;
     lay_space(&mut pair.before_colon, alloc, layout, Slot::Elsewhere)?;
     lay_space(&mut pair.after_colon, alloc, layout, Slot::AfterColon)
 }

@@ -9,11 +9,8 @@ ghost use Rattle.cbor_edn_model.specs.cbor.Decoded.{alone};
 ghost use Rattle.cbor_edn_model.specs.layout.Layout.{laid_out};
 ghost use Rattle.cbor_edn_model.specs.tree.Trees.{items, text};
 ghost use Rattle.cbor_edn_core.specs.tree.View.{item_tree, standalone_tree, sequence_tree};
-ghost use Rattle.cbor_edn_model.specs.internal.Laying.{Ready};
-ghost use Rattle.cbor_edn_model.specs.internal.Widths.{stack};
 
 use super::lay::{lay_item, lay_sequence, lay_standalone};
-use super::measure::{item_widths, sequence_widths, standalone_widths};
 use super::print::{print_item, print_sequence, print_standalone};
 use crate::tree::{Item, Sequence, StandaloneItem};
 use cbor_edn_parts::buffer::TextBuffer;
@@ -25,9 +22,8 @@ use std::alloc::{AllocError, Global};
 impl<'a> Item<'a> {
     /// Gives the item the spaces of a policy: each space text is a column of the policy's table, cut from the text that stood there;
     /// embedded sequences stay. Fails where memory runs out: the items are the same then, and some spaces may be those of the policy
-    /// already. `DiscardAll` takes no memory, the indented policy a table meanwhile, of 8 bytes for each string, list, tag and
-    /// `simple(..)`.
-    #[tactic(auto, using(cbor_edn_model::proofs::lemmas::layout::LaidTrees::laid_ready))]
+    /// already. `DiscardAll` takes no memory. The indented policy measures each item, but no more of it than `max_width` allows: where this
+    /// is very wide, a byte is measured as often as items nest round it.
     pub fn set_delimiters(
         &mut self,
         alloc: Global,
@@ -37,9 +33,7 @@ impl<'a> Item<'a> {
         ensures items { items (item_tree self.new) ≡ items (item_tree self.old) }
         ensures discarded { policy ≡ policies.DiscardAll → IsOk result }
     {
-        let layout = Layout::of(policy);
-        let mut table = item_table(alloc, layout, self)?;
-        lay_item(self, alloc, layout, &mut table)
+        lay_item(self, alloc, Layout::of(policy))
     }
 
     /// The text that the item has under a policy, as [`Item::set_delimiters`] and [`Item::serialize`] give it, without a change of the
@@ -72,9 +66,8 @@ impl<'a> Item<'a> {
 impl<'a> StandaloneItem<'a> {
     /// Gives the item, and the spaces round it, those of a policy: each space text is a column of the policy's table, cut from the text
     /// that stood there; embedded sequences stay. Fails where memory runs out: the items are the same then, and some spaces may be those
-    /// of the policy already. `DiscardAll` takes no memory, the indented policy a table meanwhile, of 8 bytes for each string, list, tag
-    /// and `simple(..)`.
-    #[tactic(auto, using(cbor_edn_model::proofs::lemmas::layout::LaidTrees::laid_ready))]
+    /// of the policy already. `DiscardAll` takes no memory. The indented policy measures each item, but no more of it than `max_width`
+    /// allows: where this is very wide, a byte is measured as often as items nest round it.
     pub fn set_delimiters(
         &mut self,
         alloc: Global,
@@ -84,9 +77,7 @@ impl<'a> StandaloneItem<'a> {
         ensures items { items (standalone_tree self.new) ≡ items (standalone_tree self.old) }
         ensures discarded { policy ≡ policies.DiscardAll → IsOk result }
     {
-        let layout = Layout::of(policy);
-        let mut table = standalone_table(alloc, layout, self)?;
-        lay_standalone(self, alloc, layout, &mut table)
+        lay_standalone(self, alloc, Layout::of(policy))
     }
 
     /// The text that the item, with the spaces round it, has under a policy, as [`StandaloneItem::set_delimiters`] and
@@ -132,8 +123,8 @@ impl<'a> StandaloneItem<'a> {
 impl<'a> Sequence<'a> {
     /// Gives the sequence the spaces of a policy, between its items and in them; embedded sequences stay. Under the indented policy each
     /// item begins a line. Fails where memory runs out: the items are the same then, and some spaces may be those of the policy already.
-    /// `DiscardAll` takes no memory, the indented policy a table meanwhile, of 8 bytes for each string, list, tag and `simple(..)`.
-    #[tactic(auto, using(cbor_edn_model::proofs::lemmas::layout::LaidTrees::laid_ready))]
+    /// `DiscardAll` takes no memory. The indented policy measures each item, but no more of it than `max_width` allows: where this is very
+    /// wide, a byte is measured as often as items nest round it.
     pub fn set_delimiters(
         &mut self,
         alloc: Global,
@@ -143,9 +134,7 @@ impl<'a> Sequence<'a> {
         ensures items { items (sequence_tree self.new) ≡ items (sequence_tree self.old) }
         ensures discarded { policy ≡ policies.DiscardAll → IsOk result }
     {
-        let layout = Layout::of(policy);
-        let mut table = sequence_table(alloc, layout, self)?;
-        lay_sequence(self, alloc, layout, &mut table)
+        lay_sequence(self, alloc, Layout::of(policy))
     }
 
     /// The text that the sequence has under a policy, as [`Sequence::set_delimiters`] and [`Sequence::serialize`] give it, without a change
@@ -172,46 +161,5 @@ impl<'a> Sequence<'a> {
         ensures { OnOk result (buffer_bytes out.new ≡ buffer_bytes out.old ++ text (laid_out policy (sequence_tree self.now))) }
     {
         print_sequence(out, self, Layout::of(policy))
-    }
-}
-
-/// The widths that a layout asks for: those of the whole item where it has lines, else none.
-fn item_table(alloc: Global, layout: Layout, item: &Item<'_>) -> Result<Vec<usize>, AllocError>
-    ensures ready { IfOk result (λ table. Ready layout (item_tree item.now) (stack table.items)) }
-    ensures least { layout ≡ least → IsOk result }
-{
-    match layout {
-        Layout::Inline(_) => Ok(Vec::new(alloc)),
-        Layout::Lines { .. } => item_widths(alloc, item),
-    }
-}
-
-/// The same of an item with the spaces round it.
-fn standalone_table(
-    alloc: Global,
-    layout: Layout,
-    item: &StandaloneItem<'_>,
-) -> Result<Vec<usize>, AllocError>
-    ensures ready { IfOk result (λ table. Ready layout (standalone_tree item.now) (stack table.items)) }
-    ensures least { layout ≡ least → IsOk result }
-{
-    match layout {
-        Layout::Inline(_) => Ok(Vec::new(alloc)),
-        Layout::Lines { .. } => standalone_widths(alloc, item),
-    }
-}
-
-/// The same of the items of a sequence.
-fn sequence_table(
-    alloc: Global,
-    layout: Layout,
-    sequence: &Sequence<'_>,
-) -> Result<Vec<usize>, AllocError>
-    ensures ready { IfOk result (λ table. Ready layout (sequence_tree sequence.now) (stack table.items)) }
-    ensures least { layout ≡ least → IsOk result }
-{
-    match layout {
-        Layout::Inline(_) => Ok(Vec::new(alloc)),
-        Layout::Lines { .. } => sequence_widths(alloc, sequence),
     }
 }

@@ -1,17 +1,15 @@
 //! The text of a tree with the spaces of a layout, which the tree itself does not get.
 ghost use Rattle.std.specs.Prelude.{◌≡◌, ◌++◌, map, OnOk};
 ghost use Rattle.cbor_edn_parts.specs.Buffer.{buffer_bytes};
-ghost use Rattle.cbor_edn_parts.specs.LayoutColumns.{of_parts};
 ghost use Rattle.cbor_edn_model.specs.layout.Layout.{laid};
 ghost use Rattle.cbor_edn_model.specs.tree.Rows.{entries_text, pieces_text};
 ghost use Rattle.cbor_edn_model.specs.tree.TreeLeaves.{texts};
 ghost use Rattle.cbor_edn_model.specs.tree.Trees.{text};
 ghost use Rattle.cbor_edn_model.specs.internal.Laying.{laid_stream};
 ghost use Rattle.cbor_edn_model.specs.internal.LayoutRows.{laid_entry, laid_piece};
-ghost use Rattle.cbor_edn_model.specs.internal.Widths.{measured};
 ghost use Rattle.cbor_edn_core.specs.tree.View.{view_list, view_items, seen, view_pair_list, view_pairs, view_pair, seen_pair, view_string, seen_piece, view_stream, view_strings, seen_string, item_tree, standalone_tree, sequence_tree};
 
-use super::room::line_width;
+use super::room::layout_of_parts;
 use crate::text::serialize;
 use crate::tree::{
     CborString, InnerItem, Item, ItemList, Items, Kp, PairList, Pairs, Piece, Sequence,
@@ -25,16 +23,6 @@ use cbor_edn_parts::layout::{
 };
 use cbor_edn_parts::space::{Msc, S};
 use std::alloc::AllocError;
-
-/// The layout of the parts of an item.
-fn layout_of_parts(layout: Layout, item: &Item<'_>) -> Layout
-    ensures { result ≡ of_parts layout (measured (item_tree item.now)) }
-{
-    match layout {
-        Layout::Inline(_) => layout,
-        Layout::Lines { base, width, .. } => layout.of_parts(line_width(base, width, item)),
-    }
-}
 
 #[tactic(auto, using(crate::proofs::lemmas::tree::Views::view_sequence_is, cbor_edn_model::proofs::lemmas::layout::LaidTexts::text_laid_nothing, cbor_edn_model::proofs::lemmas::layout::LaidTexts::text_laid_sequence, std::proofs::Common::append_assoc))]
 pub(super) fn print_sequence(

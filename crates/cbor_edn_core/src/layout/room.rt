@@ -1,5 +1,5 @@
-//! Whether items fit on a single line, told from no more of them than would fit. Each function answers the room that is left behind a
-//! part of an item, or none where the part is wider than the room.
+//! Whether items fit on a single line, told from no more of them than would fit. Each `room_behind_..` answers the room that is left
+//! behind a part of an item, or none where the part is wider than the room.
 ghost use Rattle.std.specs.Prelude.{◌≡◌, ◌<◌, ◌-◌, ◌^◌, ℕ, map};
 ghost use Rattle.cbor_edn_parts.specs.LayoutColumns.{of_parts};
 ghost use Rattle.cbor_edn_parts.specs.declared.layout.Layout.TheVariants.{Lines};
@@ -14,12 +14,23 @@ use crate::tree::{
 use cbor_edn_model::layout::width::{
     Spaces, head_len, indicator_len, label_len, ms_len, msc_len, room_behind, s_len, soc_len,
 };
+use cbor_edn_parts::layout::Layout;
 use cbor_edn_parts::policy::Spacing;
 use cbor_edn_parts::space::{Msc, S};
 
+/// The layout of the parts of an item.
+pub(super) fn layout_of_parts(layout: Layout, item: &Item<'_>) -> Layout
+    ensures { result ≡ of_parts layout (measured (item_tree item.now)) }
+{
+    match layout {
+        Layout::Inline(_) => layout,
+        Layout::Lines { base, width, .. } => layout.of_parts(line_width(base, width, item)),
+    }
+}
+
 /// How wide an item is on a single line, if it fits on one that is less than `width` bytes wide and begins with `base` spaces; else the
 /// greatest number.
-pub(super) fn line_width(base: usize, width: usize, item: &Item<'_>) -> usize
+fn line_width(base: usize, width: usize, item: &Item<'_>) -> usize
     ensures { (end level : ℕ) → of_parts (Lines base end level width) result ≡ of_parts (Lines base end level width) (measured (item_tree item.now)) }
 {
     if base >= width {

@@ -1,4 +1,4 @@
-//! Strings laid out in place. No string in them has a test of its own, so no width is asked for.
+//! Strings laid out in place. No string in them has a test of its own, so none is asked whether it fits.
 ghost use Rattle.std.specs.Prelude.{◌≡◌, map, IsOk, OnOk};
 ghost use Rattle.cbor_edn_parts.specs.LayoutColumns.{least};
 ghost use Rattle.cbor_edn_model.specs.layout.Layout.{in_chunk, laid, First};

@@ -1,11 +1,10 @@
 -- Rows of entries and of pieces, laid out or without indicators, one by one.
-use Rattle.std.specs.Prelude.{ℕ, List, [], ◌∷◌}
+use Rattle.std.specs.Prelude.{ℕ, List}
 use Rattle.cbor_edn_parts.specs.Spacing.{S, MSC}
 use Rattle.cbor_edn_model.specs.tree.Items.{Row, Entry, Node, Piece}
 use Rattle.cbor_edn_model.specs.tree.Trees.{OnePiece, OneEntry, Tree, items}
 use Rattle.cbor_edn_model.specs.layout.Layout.{Layout, Between, BeforePlus, AfterPlus, respaced, laid}
 use Rattle.cbor_edn_model.specs.layout.Bare.{without_indicators}
-use Rattle.cbor_edn_model.specs.internal.Widths.{widths_onto}
 
 -- an entry and the separator behind it
 abbrev pub laid_entry : {k : Row} → Layout → Tree (OneEntry k) × List ℕ → Tree (OneEntry k) × List ℕ
@@ -16,11 +15,6 @@ entry_without_indicators p = (without_indicators p.0, p.1)
 
 abbrev pub entry_items : {k : Row} → Tree (OneEntry k) × List ℕ → Node (Entry k)
 entry_items p = items p.0
-
--- the widths in entries, in front of others
-abbrev pub entries_widths : {k : Row} → List (Tree (OneEntry k) × List ℕ) → List ℕ → List ℕ
-entries_widths [] r = r
-entries_widths (p ∷ ps) r = widths_onto p.0 (entries_widths ps r)
 
 -- a piece and the spaces round the plus sign behind it
 abbrev pub laid_piece : Layout → Tree OnePiece × List ℕ × List ℕ → Tree OnePiece × List ℕ × List ℕ

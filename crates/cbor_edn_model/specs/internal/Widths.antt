@@ -1,5 +1,5 @@
 -- How many bytes wide the items of a tree are on a single line: what decides which of them have lines of their own, measured part by part.
-use Rattle.std.specs.Prelude.{ℕ, ◌≡◌, ◌<◌, ◌+◌, ◌-◌, ◌^◌, min, Option, MatchOption, List, [], ◌∷◌, length, reverse, Some}
+use Rattle.std.specs.Prelude.{ℕ, ◌≡◌, ◌<◌, ◌+◌, ◌-◌, ◌^◌, min, Option, MatchOption, List, [], ◌∷◌, length, Some}
 use Rattle.cbor_edn_parts.specs.Indicator.{indicator_text}
 use Rattle.cbor_edn_parts.specs.Spacing.{SpaceKind, S, MS, MSC, SOC, spaced}
 use Rattle.cbor_edn_parts.specs.declared.policy.Spacing.TheVariants.{Comments, OneLine, OneSpace}
@@ -76,47 +76,3 @@ entries_width c (p ∷ ps) = width c p.0 + space_width MSC c p.1 + entries_width
 abbrev pub pieces_width : Spaces → List (Tree OnePiece × List ℕ × List ℕ) → ℕ
 pieces_width c [] = 0
 pieces_width c (p ∷ ps) = width c p.0 + space_width S (wide c) p.1 + space_width S (wide c) p.2 + 1 + pieces_width c ps
-
--- The widths of the items that have a test of their own, each in front of those in it, in text order, in front of others.
-unfoldable pub widths_onto : {s : Rule} → Tree s → List ℕ → List ℕ
-widths_onto (EnclosedTree l w) r = measured (EnclosedTree l w) ∷ widths_onto w r
-widths_onto (ListTree k w) r = measured (ListTree k w) ∷ widths_onto w r
-widths_onto (StringTree w) r = measured (StringTree w) ∷ r
-widths_onto (StreamTree ms m) r = measured (StreamTree ms m) ∷ r
-widths_onto (ElementTree w) r = widths_onto w r
-widths_onto (PairTree v s t w) r = widths_onto v (widths_onto w r)
-widths_onto (FullTree h s m) r = widths_onto m r
-widths_onto (LastTree e s) r = widths_onto e r
-widths_onto (MoreTree e s m) r = widths_onto e (widths_onto m r)
-widths_onto (SequenceTree s m) r = widths_onto m r
-widths_onto (StandaloneTree s w t) r = widths_onto w r
-widths_onto _ r = r
-
--- A width in front of others, where a single line is measured.
-abbrev pub pushed : Spaces → ℕ → List ℕ → List ℕ
-pushed (By OneLine) n r = n ∷ r
-pushed c n r = r
-
--- Those widths where a single line is measured, else none.
-unfoldable pub widths_by : {s : Rule} → Spaces → Tree s → List ℕ → List ℕ
-widths_by c (EnclosedTree l w) r = pushed c (capped (width c (EnclosedTree l w))) (widths_by c w r)
-widths_by c (ListTree k w) r = pushed c (capped (width c (ListTree k w))) (widths_by c w r)
-widths_by c (StringTree w) r = pushed c (capped (width c (StringTree w))) r
-widths_by c (StreamTree ms m) r = pushed c (capped (width c (StreamTree ms m))) r
-widths_by c (ElementTree w) r = widths_by c w r
-widths_by c (PairTree v s t w) r = widths_by c v (widths_by c w r)
-widths_by c (FullTree h s m) r = widths_by c m r
-widths_by c (LastTree e s) r = widths_by c e r
-widths_by c (MoreTree e s m) r = widths_by c e (widths_by c m r)
-widths_by c (SequenceTree s m) r = widths_by c m r
-widths_by c (StandaloneTree s w t) r = widths_by c w r
-widths_by c _ r = r
-
--- the same of entries, each with the separator behind it
-abbrev pub entries_widths_by : {k : Row} → Spaces → List (Tree (OneEntry k) × List ℕ) → List ℕ → List ℕ
-entries_widths_by c [] r = r
-entries_widths_by c (p ∷ ps) r = widths_by c p.0 (entries_widths_by c ps r)
-
--- numbers whose last is on top
-abbrev pub stack : List ℕ → List ℕ
-stack ns = reverse ns

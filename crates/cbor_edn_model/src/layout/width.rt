@@ -1,6 +1,6 @@
 //! The widths of what stands in a text beside its items.
 ghost use Rattle.std.specs.Fmt.{decimal};
-ghost use Rattle.std.specs.Prelude.{◌≡◌, length, IfOk};
+ghost use Rattle.std.specs.Prelude.{◌≡◌, length};
 ghost use Rattle.cbor_edn_parts.specs.Indicator.{indicator_text};
 ghost use Rattle.cbor_edn_parts.specs.Leaves.{s_bytes, ms_bytes, msc_bytes, soc_bytes};
 ghost use Rattle.cbor_edn_parts.specs.Spacing as kind;
@@ -8,14 +8,12 @@ ghost use Rattle.cbor_edn_model.specs.tree.TreeLeaves.{texts};
 ghost use Rattle.cbor_edn_model.specs.text.ListHeads.{view_list_head};
 ghost use Rattle.cbor_edn_model.specs.tree.Trees.{label_text};
 ghost use Rattle.cbor_edn_model.specs.internal.Widths as widths;
-ghost use Rattle.cbor_edn_model.specs.internal.Widths.{Leaves, space_width, head_width, capped, pushed, stack};
-ghost use Rattle.cbor_edn_model.specs.internal.Laying.{top, others};
+ghost use Rattle.cbor_edn_model.specs.internal.Widths.{Leaves, space_width, head_width, capped};
 
 use crate::text::label::LabelKind;
 use cbor_edn_parts::indicator::Indicator;
 use cbor_edn_parts::policy::Spacing;
 use cbor_edn_parts::space::{Ms, Msc, S, Soc};
-use std::alloc::AllocError;
 
 /// Which spaces a width counts.
 #[derive(Clone, Copy)]
@@ -141,25 +139,4 @@ pub fn decimal_len(number: u64) -> usize
     } else {
         decimal_len(number / 10) + 1
     }
-}
-
-/// Puts a width on the stack where a single line is measured, and answers it. Fails where memory runs out: each width that is kept takes
-/// 8 bytes.
-#[tactic(auto, using(crate::proofs::lemmas::layout::MeasuredWidths::stack_push))]
-pub fn push_width(table: &mut Vec<usize>, spaces: Spaces, width: usize) -> Result<usize, AllocError>
-    ensures widths { IfOk result (λ _. stack table.new.items ≡ pushed spaces width (stack table.old.items)) }
-    ensures width { IfOk result (λ n. n ≡ width) }
-{
-    if let Spaces::By(Spacing::OneLine) = spaces {
-        table.push(width)?;
-    }
-    Ok(width)
-}
-
-/// Takes a width from the table: 0 from an empty one, since a layout that has no tests needs no widths.
-pub fn pop_width(table: &mut Vec<usize>) -> usize
-    ensures width { result ≡ top (stack table.old.items) }
-    ensures rest { stack table.new.items ≡ others (stack table.old.items) }
-{
-    table.pop().unwrap_or(0)
 }

@@ -1,4 +1,4 @@
--- A row laid out, without indicators or measured is so entry by entry.
+-- A row laid out or without indicators is so entry by entry.
 use Rattle.std.proofs.Common.{ℕ, ◌≡◌, List, [], ◌∷◌, map, refl, ap, ◌∙◌}
 use Rattle.cbor_edn_parts.specs.Spacing.{S, MSC}
 use Rattle.cbor_edn_model.specs.tree.Items.{Row, Plus, Then}
@@ -6,8 +6,7 @@ use Rattle.cbor_edn_model.specs.tree.Trees.{OnePiece, OneString, OneEntry, Rest,
 use Rattle.cbor_edn_model.specs.tree.Rows.{entries_onto, pieces_onto}
 use Rattle.cbor_edn_model.specs.layout.Layout.{Layout, Between, BeforePlus, AfterPlus, respaced, laid}
 use Rattle.cbor_edn_model.specs.layout.Bare.{without_indicators}
-use Rattle.cbor_edn_model.specs.internal.Widths.{widths_onto}
-use Rattle.cbor_edn_model.specs.internal.LayoutRows.{laid_entry, entry_without_indicators, entry_items, entries_widths, laid_piece, piece_without_indicators, piece_items}
+use Rattle.cbor_edn_model.specs.internal.LayoutRows.{laid_entry, entry_without_indicators, entry_items, laid_piece, piece_without_indicators, piece_items}
 
 pub laid_entries : {k : Row} (l : Layout) (ps : List (Tree (OneEntry k) × List ℕ)) (m : Tree (Rest k)) → laid l (entries_onto ps m) ≡ entries_onto (map (laid_entry l) ps) (laid l m)
 unfolding laid
@@ -28,11 +27,6 @@ pub pieces_without_indicators : (ps : List (Tree OnePiece × List ℕ × List �
 unfolding without_indicators
 pieces_without_indicators [] w = refl
 pieces_without_indicators (p ∷ ps) w = ap (PlusTree (without_indicators p.0) p.1 p.2) (pieces_without_indicators ps w)
-
-pub widths_entries : {k : Row} (ps : List (Tree (OneEntry k) × List ℕ)) (m : Tree (Rest k)) (r : List ℕ) → widths_onto (entries_onto ps m) r ≡ entries_widths ps (widths_onto m r)
-unfolding widths_onto
-widths_entries [] m r = refl
-widths_entries (p ∷ ps) m r = ap (widths_onto p.0) (widths_entries ps m r)
 
 -- rows with the same items, whatever their spaces
 pub same_entries : {k : Row} (ps qs : List (Tree (OneEntry k) × List ℕ)) (m n : Tree (Rest k)) → map entry_items ps ≡ map entry_items qs → items m ≡ items n → items (entries_onto ps m) ≡ items (entries_onto qs n)

@@ -1,9 +1,9 @@
 -- The text of a tree that is laid out, by its parts.
-use Rattle.std.proofs.Common.{ℕ, ◌≡◌, List, [], ◌∷◌, ◌++◌, map, refl, sym, ap, ◌∙◌, Option}
+use Rattle.std.proofs.Common.{ℕ, ◌≡◌, List, [], ◌∷◌, ◌++◌, map, refl, ap, ◌∙◌, Option}
 use Rattle.cbor_edn_parts.specs.declared.indicator.Indicator.{Indicator}
 use Rattle.cbor_edn_parts.specs.Indicator.{indicator_text}
 use Rattle.cbor_edn_parts.specs.LayoutColumns.{of_parts}
-use Rattle.cbor_edn_parts.specs.Spacing.{S, MS, SOC}
+use Rattle.cbor_edn_parts.specs.Spacing.{S, SOC}
 use Rattle.cbor_edn_model.specs.declared.text.keyword.NamedSimple.{NamedSimple}
 use Rattle.cbor_edn_model.specs.declared.text.keyword.NonFinite.{NonFinite}
 use Rattle.cbor_edn_model.specs.declared.text.label.LabelKind.{LabelKind}
@@ -16,7 +16,7 @@ use Rattle.cbor_edn_model.specs.internal.Laying.{laid_stream}
 use Rattle.cbor_edn_model.specs.internal.LayoutRows.{laid_entry, laid_piece}
 use Rattle.cbor_edn_model.specs.internal.Widths.{measured}
 use Rattle.cbor_edn_model.proofs.lemmas.layout.LaidRows.{laid_entries, laid_pieces}
-use Rattle.cbor_edn_model.proofs.lemmas.layout.LaidTrees.{fitted_by}
+use Rattle.cbor_edn_model.proofs.lemmas.layout.LaidTrees.{laid_enclosed, laid_list, laid_string, stream_laid}
 use Rattle.cbor_edn_model.proofs.lemmas.text.Texts.{text_enclosed, text_list, text_string, text_pieces, text_last_piece, text_element, text_pair, text_chunk, text_empty, text_full, text_last, text_entries, text_nothing, text_sequence, text_standalone}
 
 -- ---- items, whose parts are laid out as wide as the item is on a single line
@@ -34,20 +34,16 @@ unfolding laid
 text_laid_named l b = refl
 
 pub text_laid_enclosed : (l : Layout) (label : LabelKind) (w : Tree Standalone) → text (laid l (EnclosedTree label w)) ≡ label_text label ++ (40 ∷ (text (laid (of_parts l (measured (EnclosedTree label w))) w) ++ (41 ∷ [])))
-unfolding laid
-text_laid_enclosed l label w = ap text (sym (fitted_by l (EnclosedTree label w) (λ l. EnclosedTree label (laid l w)) refl)) ∙ text_enclosed label _
+text_laid_enclosed l label w = ap text (laid_enclosed l label w) ∙ text_enclosed label _
 
 pub text_laid_list : (l : Layout) (k : Bracketed) (w : Tree (Inside k)) → text (laid l (ListTree k w)) ≡ opening k ∷ (text (laid (of_parts l (measured (ListTree k w))) w) ++ (ending k ∷ []))
-unfolding laid
-text_laid_list l k w = ap text (sym (fitted_by l (ListTree k w) (λ l. ListTree k (laid l w)) refl)) ∙ text_list k _
+text_laid_list l k w = ap text (laid_list l k w) ∙ text_list k _
 
 pub text_laid_string : (l : Layout) (w : Tree OneString) → text (laid l (StringTree w)) ≡ text (laid (of_parts l (measured (StringTree w))) w)
-unfolding laid
-text_laid_string l w = ap text (sym (fitted_by l (StringTree w) (λ l. StringTree (laid l w)) refl)) ∙ text_string _
+text_laid_string l w = ap text (laid_string l w) ∙ text_string _
 
 pub text_laid_stream : (l : Layout) (ms : List ℕ) (m : Tree (Rest Strings)) → text (laid l (StreamTree ms m)) ≡ text (laid_stream (of_parts l (measured (StreamTree ms m))) (StreamTree ms m))
-unfolding laid
-text_laid_stream l ms m = ap text (sym (fitted_by l (StreamTree ms m) (λ l. StreamTree (respaced MS First l ms) (laid l m)) refl))
+text_laid_stream l ms m = ap text (stream_laid l ms m)
 
 -- ---- what stands in items
 

@@ -1,7 +1,6 @@
--- Widths measured part by part are those of the texts, so that each item needs to be measured once.
+-- Widths measured part by part are those of the texts.
 use Rattle.std.proofs.Common.{ℕ, ◌+◌, ◌-◌, ◌^◌, ◌≡◌, List, [], ◌∷◌, ◌++◌, length, refl, sym, ap, ◌∙◌, length-append, arith}
 use Rattle.std.specs.Prelude.{min, nat_lt}
-use Rattle.std.proofs.lemmas.List.{reverse-append, reverse-reverse}
 use Rattle.cbor_edn_parts.specs.Indicator.{indicator_text}
 use Rattle.cbor_edn_parts.specs.Spacing.{SpaceKind, S, MS, MSC, SOC}
 use Rattle.cbor_edn_parts.specs.declared.policy.Spacing.{Spacing}
@@ -13,7 +12,7 @@ use Rattle.cbor_edn_model.specs.text.Spelling.{ending}
 use Rattle.cbor_edn_model.specs.tree.Trees.{Rule, OneItem, OnePiece, OneString, OneEntry, Rest, ListHead, NoIndicator, WithIndicator, Tree, NumberTree, FloatTree, NamedTree, EnclosedTree, ListTree, StringTree, StreamTree, LiteralTree, DotsTree, EmbeddedTree, LastPieceTree, PlusTree, ElementTree, PairTree, ChunkTree, EmptyTree, FullTree, LastTree, MoreTree, NothingTree, SequenceTree, StandaloneTree, list_head_text, onto, text}
 use Rattle.cbor_edn_model.specs.tree.Rows.{entries_onto, pieces_onto}
 use Rattle.cbor_edn_model.specs.layout.Layout.{Inline, First, Between, Last, BeforePlus, AfterPlus, AfterColon, Elsewhere, respaced, in_chunk, saturating_add, laid_list_head, laid}
-use Rattle.cbor_edn_model.specs.internal.Widths.{space_width, wide, in_stream, head_width, width, measured, entries_width, pieces_width, widths_onto, widths_by, entries_widths_by, stack}
+use Rattle.cbor_edn_model.specs.internal.Widths.{space_width, wide, in_stream, head_width, width, measured, entries_width, pieces_width}
 
 -- A space text of a single column, at any slot but round a plus sign and behind a colon.
 at_slot : (kind : SpaceKind) (c : Spacing) (x : List ℕ) → (length (respaced kind First (Inline c) x) ≡ space_width kind (By c) x) × (length (respaced kind Between (Inline c) x) ≡ space_width kind (By c) x) × (length (respaced kind Last (Inline c) x) ≡ space_width kind (By c) x) × (length (respaced kind Elsewhere (Inline c) x) ≡ space_width kind (By c) x)
@@ -137,64 +136,6 @@ test_is w base limit = ap (λ n. nat_lt n limit) (ends_once (width (By OneLine) 
   ends_once : (n base : ℕ) → saturating_add (min n (2 ^ 64 - 1)) base ≡ saturating_add n base
   ends_once n base = omega arith
 
--- Spaces that are kept leave no widths.
-pub kept_none : {s : Rule} (w : Tree s) (r : List ℕ) → widths_by Kept w r ≡ r
-unfolding widths_by
-kept_none (NumberTree x i) r = refl
-kept_none (FloatTree f i) r = refl
-kept_none (NamedTree b) r = refl
-kept_none (EnclosedTree l w) r = kept_none w r
-kept_none (ListTree k w) r = kept_none w r
-kept_none (StringTree w) r = refl
-kept_none (StreamTree ms m) r = refl
-kept_none (LiteralTree x i) r = refl
-kept_none (DotsTree x) r = refl
-kept_none (EmbeddedTree w i) r = refl
-kept_none (LastPieceTree p) r = refl
-kept_none (PlusTree p s t w) r = refl
-kept_none (ElementTree w) r = kept_none w r
-kept_none (PairTree v s t w) r = kept_none v (widths_by Kept w r) ∙ kept_none w r
-kept_none (ChunkTree w) r = refl
-kept_none (EmptyTree i s) r = refl
-kept_none (FullTree h s m) r = kept_none m r
-kept_none (LastTree e s) r = kept_none e r
-kept_none (MoreTree e s m) r = kept_none e (widths_by Kept m r) ∙ kept_none m r
-kept_none (NothingTree s) r = refl
-kept_none (SequenceTree s m) r = kept_none m r
-kept_none (StandaloneTree s w t) r = kept_none w r
-
-pub line_widths : {s : Rule} (w : Tree s) (r : List ℕ) → widths_by (By OneLine) w r ≡ widths_onto w r
-unfolding widths_by widths_onto
-line_widths (NumberTree x i) r = refl
-line_widths (FloatTree f i) r = refl
-line_widths (NamedTree b) r = refl
-line_widths (EnclosedTree l w) r = ap (λ ns. measured (EnclosedTree l w) ∷ ns) (line_widths w r)
-line_widths (ListTree k w) r = ap (λ ns. measured (ListTree k w) ∷ ns) (line_widths w r)
-line_widths (StringTree w) r = refl
-line_widths (StreamTree ms m) r = refl
-line_widths (LiteralTree x i) r = refl
-line_widths (DotsTree x) r = refl
-line_widths (EmbeddedTree w i) r = refl
-line_widths (LastPieceTree p) r = refl
-line_widths (PlusTree p s t w) r = refl
-line_widths (ElementTree w) r = line_widths w r
-line_widths (PairTree v s t w) r = line_widths v (widths_by (By OneLine) w r) ∙ ap (widths_onto v) (line_widths w r)
-line_widths (ChunkTree w) r = refl
-line_widths (EmptyTree i s) r = refl
-line_widths (FullTree h s m) r = line_widths m r
-line_widths (LastTree e s) r = line_widths e r
-line_widths (MoreTree e s m) r = line_widths e (widths_by (By OneLine) m r) ∙ ap (widths_onto e) (line_widths m r)
-line_widths (NothingTree s) r = refl
-line_widths (SequenceTree s m) r = line_widths m r
-line_widths (StandaloneTree s w t) r = line_widths w r
-
--- a number that is pushed is on top
-pub stack_push : (ns : List ℕ) (n : ℕ) → stack (ns ++ (n ∷ [])) ≡ n ∷ stack ns
-stack_push ns n = reverse-append ns (n ∷ [])
-
-pub stack_same : (ns ms : List ℕ) → stack ns ≡ stack ms → ns ≡ ms
-stack_same ns ms e = sym (reverse-reverse ns) ∙ ap stack e ∙ reverse-reverse ms
-
 -- ---- rows
 
 pub width_entries : {k : Row} (c : Spaces) (ps : List (Tree (OneEntry k) × List ℕ)) (m : Tree (Rest k)) → width c (entries_onto ps m) ≡ entries_width c ps + width c m
@@ -206,8 +147,3 @@ pub width_pieces : (c : Spaces) (ps : List (Tree OnePiece × List ℕ × List �
 unfolding width
 width_pieces c [] w = omega arith
 width_pieces c (p ∷ ps) w = let h = width_pieces c ps w in omega (arith, h)
-
-pub by_entries : {k : Row} (c : Spaces) (ps : List (Tree (OneEntry k) × List ℕ)) (m : Tree (Rest k)) (r : List ℕ) → widths_by c (entries_onto ps m) r ≡ entries_widths_by c ps (widths_by c m r)
-unfolding widths_by
-by_entries c [] m r = refl
-by_entries c (p ∷ ps) m r = ap (widths_by c p.0) (by_entries c ps m r)

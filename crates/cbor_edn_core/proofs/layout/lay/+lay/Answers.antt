@@ -1,4 +1,4 @@
-use Rattle.std.proofs.Common.{rules, ◌≡◌, ◌<◌, length, map, set, get_or, ◌+◌, arith, refl, ap, ◌∙◌}
+use Rattle.std.proofs.Common.{rules, ◌≡◌, ◌<◌, length, map, set, get_or, ◌+◌, arith, refl, sym, ap, ◌∙◌}
 use Rattle.std.proofs.lemmas.List.{drop-set-lt}
 use Rattle.std.proofs.lemmas.Grind.{drop_more_same}
 use denote.Param.Weighed.{at_most}
@@ -9,37 +9,39 @@ use Rattle.cbor_edn_parts.specs.declared.space.Soc.{Soc}
 use Rattle.cbor_edn_parts.specs.declared.number.Number.{Number}
 use Rattle.cbor_edn_parts.specs.declared.string.Literal.{Literal}
 use Rattle.cbor_edn_parts.specs.declared.string.Dots.{Dots}
+use Rattle.cbor_edn_parts.specs.LayoutColumns.{of_parts}
 use Rattle.cbor_edn_parts.specs.Leaves.{soc_bytes}
 use Rattle.cbor_edn_parts.specs.Spacing.{SOC}
 use Rattle.cbor_edn_core.specs.declared.tree.ItemOf.{ItemOf}
 use Rattle.cbor_edn_core.specs.declared.tree.KpOf.{KpOf}
+use Rattle.cbor_edn_core.specs.declared.tree.InnerItemOf.TheViews.{out-InnerItemOf}
 use Rattle.cbor_edn_core.specs.declared.tree.ItemsOf.{out-ItemsOf, roll-ItemsOf, out-roll-ItemsOf}
 use Rattle.cbor_edn_core.specs.declared.tree.PairsOf.{out-PairsOf, roll-PairsOf, out-roll-PairsOf}
 use Rattle.cbor_edn_model.specs.tree.Items.{Element}
 use Rattle.cbor_edn_model.specs.layout.Layout.{Last, laid, respaced}
-use Rattle.cbor_edn_model.specs.tree.Trees.{ElementTree, items}
-use Rattle.cbor_edn_core.specs.tree.View.{seen, seen_pair, view_pair, item_tree}
+use Rattle.cbor_edn_model.specs.tree.Trees.{ElementTree, EnclosedTree, items}
+use Rattle.cbor_edn_core.specs.tree.View.{seen, seen_pair, view_inner, view_pair, item_tree, standalone_tree}
 use Rattle.cbor_edn_model.specs.tree.TreeLeaves.{texts}
-use Rattle.cbor_edn_model.specs.internal.Laying.{without, laid_by}
-use Rattle.cbor_edn_model.specs.internal.LayoutRows.{entry_items}
-use Rattle.cbor_edn_model.specs.internal.Widths.{stack}
-use Rattle.cbor_edn_core.proofs.lemmas.tree.Views.{view_string_is}
+use Rattle.cbor_edn_model.specs.internal.LayoutRows.{laid_entry, entry_items}
+use Rattle.cbor_edn_model.specs.internal.Widths.{measured}
+use Rattle.cbor_edn_core.proofs.lemmas.tree.Views.{view_stream_is}
 use Rattle.cbor_edn_model.proofs.lemmas.layout.WrittenFields.{two_written, after_two, three_written}
-use Rattle.cbor_edn_model.proofs.lemmas.layout.Begun.{on_ok, always, kept, same_here, one_same, one_more_by, all_by, left_more, left_all}
-use Rattle.cbor_edn_core.proofs.lemmas.layout.LaidViews.{items_laid, items_rest, items_same, pairs_laid, pairs_rest, pairs_same}
+use Rattle.cbor_edn_model.proofs.lemmas.layout.Begun.{on_ok, kept, same_here, one_more, all_done, one_same}
+use Rattle.cbor_edn_model.proofs.lemmas.layout.LaidTrees.{laid_enclosed, stream_laid}
+use Rattle.cbor_edn_core.proofs.lemmas.layout.LaidViews.{items_laid, items_same, pairs_laid, pairs_same}
 use Rattle.cbor_edn_core.proofs.layout.lay.+lay.Goals as goal
 
-pub lay_item-returns-in-Literal-clause-laid : goal.lay_item-returns-in-Literal-clause-laid
-unfolding laid laid_by
-lay_item-returns-in-Literal-clause-laid t c = rw c.in-Literal.is refl
+pub lay_item-returns-in-Enclosed-clause-laid : goal.lay_item-returns-in-Enclosed-clause-laid
+unfolding out-InnerItemOf denote.Hole.Carrier.out
+lay_item-returns-in-Enclosed-clause-laid t c =
+    let p = c.in-Enclosed in
+    let is = ap (view_inner texts) p.is in
+    let parts = c.layout_of_parts-parts.ensures ∙ ap (λ w. of_parts c.args.layout (measured w)) is in
+    let inside = c.deref_mut.ensures.value ∙ ap (λ b. b.value) p.content-is in
+    rw p.is (on_ok c.lay_standalone.result (λ e. ap (EnclosedTree p.field-0.kind) (e ∙ (λ i. laid (parts i) (standalone_tree (inside i)))) ∙ sym (laid_enclosed c.args.layout p.field-0.kind (standalone_tree p.content.value))) c.lay_standalone.ensures.laid)
 
-pub lay_item-returns-in-String-clause-laid : goal.lay_item-returns-in-String-clause-laid
-unfolding laid_by
-lay_item-returns-in-String-clause-laid t c = search (rules, view_string_is texts)
-
-pub lay_item-returns-in-String-clause-items : goal.lay_item-returns-in-String-clause-items
-unfolding items
-lay_item-returns-in-String-clause-items t c = search (rules, view_string_is texts)
+pub lay_item-returns-in-Stream-clause-laid : goal.lay_item-returns-in-Stream-clause-laid
+lay_item-returns-in-Stream-clause-laid t c = search (rules, view_stream_is texts, stream_laid)
 
 pub lay_items-returns-in_err-lay_row-clause-items : goal.lay_items-returns-in_err-lay_row-clause-items
 lay_items-returns-in_err-lay_row-clause-items t c =
@@ -61,14 +63,8 @@ lay_items-returns-clause-laid t c =
     let back = out-roll-ItemsOf S Ms Msc Soc Number Literal Dots in
     let written = three_written roll out back (λ f. record { row = c.lay_row.new.row; last = f.last; soc = f.soc }) (λ f. record { row = f.row; last = c.lay_item.new.item; soc = f.soc }) (λ f. record { row = f.row; last = f.last; soc = c.lay_end.new.end }) o in
     let two = after_two roll out back (λ f. record { row = c.lay_row.new.row; last = f.last; soc = f.soc }) (λ f. record { row = f.row; last = c.lay_item.new.item; soc = f.soc }) o in
-    let last = ap (λ f. laid_by c.args.layout (item_tree f.last) (stack c.lay_row.new.table.items)) (back (record { row = c.lay_row.new.row; last = o.last; soc = o.soc })) ∙ ap (laid_by c.args.layout (item_tree o.last)) c.in_ok-lay_row.ensures.rest in
-    on_ok c.lay_end.result (λ e. items_laid texts c.args.layout c.args.items.now _ (record { row = c.lay_row.new.row; last = c.lay_item.new.item; soc = c.lay_end.new.end }) (stack c.args.table.now.items) written c.in_ok-lay_row.ensures.laid (c.in_ok-lay_item.ensures.laid ∙ last) (e ∙ ap (λ f. respaced SOC Last c.args.layout (soc_bytes f.soc)) two)) c.lay_end.ensures.laid
-
-pub lay_items-returns-clause-rest : goal.lay_items-returns-clause-rest
-lay_items-returns-clause-rest t c =
-    let o = out-ItemsOf S Ms Msc Soc Number Literal Dots c.args.items.now in
-    let last = ap (λ f. without (item_tree f.last) (stack c.lay_row.new.table.items)) (out-roll-ItemsOf S Ms Msc Soc Number Literal Dots (record { row = c.lay_row.new.row; last = o.last; soc = o.soc })) ∙ ap (without (item_tree o.last)) c.in_ok-lay_row.ensures.rest in
-    always c.lay_end.result (c.in_ok-lay_item.ensures.rest ∙ last ∙ items_rest texts c.args.items.now (stack c.args.table.now.items))
+    let last = ap (λ f. laid c.args.layout (item_tree f.last)) (back (record { row = c.lay_row.new.row; last = o.last; soc = o.soc })) in
+    on_ok c.lay_end.result (λ e. items_laid texts c.args.layout c.args.items.now _ (record { row = c.lay_row.new.row; last = c.lay_item.new.item; soc = c.lay_end.new.end }) written c.in_ok-lay_row.ensures.laid (c.in_ok-lay_item.ensures.laid ∙ last) (e ∙ ap (λ f. respaced SOC Last c.args.layout (soc_bytes f.soc)) two)) c.lay_end.ensures.laid
 
 pub lay_items-returns-clause-items : goal.lay_items-returns-clause-items
 lay_items-returns-clause-items t c =
@@ -83,7 +79,7 @@ lay_items-returns-clause-items t c =
 pub lay_row-lay_item-requires : goal.lay_row-lay_item-requires
 lay_row-lay_item-requires t c =
     let l = c.loop-entry in
-    let same : get_or l.entry-items l.entry-index c.entry-item.result ≡ get_or c.args.row.now.items l.entry-index c.entry-item.result = same_here l.entry-items c.args.row.now.items l.entry-index c.entry-item.result l.invariant.3 in
+    let same : get_or l.entry-items l.entry-index c.entry-item.result ≡ get_or c.args.row.now.items l.entry-index c.entry-item.result = same_here l.entry-items c.args.row.now.items l.entry-index c.entry-item.result l.invariant.2 in
     let long : length c.deref_mut-entry-items.result.now ≡ length c.args.row.now.items = ap length c.deref_mut-entry-items.ensures.value in
     let inside : l.entry-index < length c.args.row.now.items = omega arith in
     rw same (grind (arith, at_most))
@@ -97,7 +93,7 @@ lay_row-returns-in_err-lay_item-clause-items t c =
     let inside : l.entry-index < length l.entry-items = omega arith in
     let y : ItemOf S Ms Msc Soc Number Literal Dots × Msc = (c.lay_item.new.item, x.1) in
     ap (λ ys. map entry_items (map (seen texts) ys)) (kept (set l.entry-items l.entry-index y) _ c.args.row.now.len (search (rules)))
-    ∙ one_same (seen texts) entry_items l.entry-items l.entry-index x y _ l.invariant.2 inside here (ap Element c.lay_item.ensures.items)
+    ∙ one_same (seen texts) entry_items l.entry-items l.entry-index x y _ l.invariant.1 inside here (ap Element c.lay_item.ensures.items)
 
 pub lay_row-returns-in_err-lay_separator-clause-items : goal.lay_row-returns-in_err-lay_separator-clause-items
 unfolding items
@@ -108,38 +104,27 @@ lay_row-returns-in_err-lay_separator-clause-items t c =
     let inside : l.entry-index < length l.entry-items = omega arith in
     let y : ItemOf S Ms Msc Soc Number Literal Dots × Msc = (c.lay_item.new.item, c.lay_separator.new.separator) in
     ap (λ ys. map entry_items (map (seen texts) ys)) (kept (set l.entry-items l.entry-index y) _ c.args.row.now.len (search (rules)))
-    ∙ one_same (seen texts) entry_items l.entry-items l.entry-index x y _ l.invariant.2 inside here (ap Element c.lay_item.ensures.items)
+    ∙ one_same (seen texts) entry_items l.entry-items l.entry-index x y _ l.invariant.1 inside here (ap Element c.lay_item.ensures.items)
 
 pub lay_row-loop-entry-preserved : goal.lay_row-loop-entry-preserved
-unfolding items laid_by without
+unfolding items laid
 lay_row-loop-entry-preserved t c =
     let l = c.loop-entry in
     let x = get_or l.entry-items l.entry-index c.entry-item.result in
     let here : x ≡ get_or l.entry-items l.entry-index x = ap (λ a. get_or l.entry-items l.entry-index a) c.entry-item.is in
     let inside : l.entry-index < length l.entry-items = omega arith in
     let y : ItemOf S Ms Msc Soc Number Literal Dots × Msc = (c.lay_item.new.item, c.lay_separator.new.separator) in
-    let os = c.args.row.now.items in
-    let long : length c.deref_mut-entry-items.result.now ≡ length c.args.row.now.items = ap length c.deref_mut-entry-items.ensures.value in
-    let before : l.entry-index < length c.args.row.now.items = omega arith in
-    let laid_here = c.in_ok-lay_item.ensures.laid ∙ ap (laid_by c.args.layout (item_tree x.0)) l.invariant.1 in
-    let rest_here = c.in_ok-lay_item.ensures.rest ∙ ap (without (item_tree x.0)) l.invariant.1 in (
-      one_more_by (seen texts) c.args.layout l.entry-items l.entry-index x y _ (stack c.args.table.now.items) l.invariant.0 inside here (λ i. (ElementTree (laid_here i), c.in_ok-lay_separator.ensures.laid i)),
-      left_more (seen texts) os l.entry-index x (stack c.args.table.now.items) _ before (here ∙ same_here l.entry-items os l.entry-index x l.invariant.3) rest_here,
-      one_same (seen texts) entry_items l.entry-items l.entry-index x y _ l.invariant.2 inside here (ap Element c.lay_item.ensures.items),
-      drop-set-lt (l.entry-index + 1) l.entry-items l.entry-index y (omega arith) ∙ drop_more_same l.entry-items os l.entry-index l.invariant.3,
+    let os = c.args.row.now.items in (
+      one_more (seen texts) (laid_entry c.args.layout) l.entry-items l.entry-index x y _ l.invariant.0 inside here (λ i. (ElementTree (c.in_ok-lay_item.ensures.laid i), c.in_ok-lay_separator.ensures.laid i)),
+      one_same (seen texts) entry_items l.entry-items l.entry-index x y _ l.invariant.1 inside here (ap Element c.lay_item.ensures.items),
+      drop-set-lt (l.entry-index + 1) l.entry-items l.entry-index y (omega arith) ∙ drop_more_same l.entry-items os l.entry-index l.invariant.2,
     )
 
 pub lay_row-returns-clause-laid : goal.lay_row-returns-clause-laid
 lay_row-returns-clause-laid t c =
     let l = c.loop-entry in
     ap (map (seen texts)) (kept l.entry-items _ c.args.row.now.len (search (rules)))
-    ∙ all_by (seen texts) c.args.layout l.entry-items l.entry-index _ (stack c.args.table.now.items) l.invariant.0 (omega arith)
-
-pub lay_row-returns-clause-rest : goal.lay_row-returns-clause-rest
-lay_row-returns-clause-rest t c =
-    let l = c.loop-entry in
-    let long : length c.deref_mut-entry-items.result.now ≡ length c.args.row.now.items = ap length c.deref_mut-entry-items.ensures.value in
-    l.invariant.1 ∙ left_all (seen texts) c.args.row.now.items l.entry-index (stack c.args.table.now.items) (omega arith)
+    ∙ all_done (seen texts) (laid_entry c.args.layout) l.entry-items l.entry-index _ l.invariant.0 (omega arith)
 
 pub lay_pairs-returns-in_err-lay_pair_row-clause-items : goal.lay_pairs-returns-in_err-lay_pair_row-clause-items
 lay_pairs-returns-in_err-lay_pair_row-clause-items t c =
@@ -161,14 +146,8 @@ lay_pairs-returns-clause-laid t c =
     let back = out-roll-PairsOf S Ms Msc Soc Number Literal Dots in
     let written = three_written roll out back (λ f. record { row = c.lay_pair_row.new.row; last = f.last; soc = f.soc }) (λ f. record { row = f.row; last = c.lay_pair.new.pair; soc = f.soc }) (λ f. record { row = f.row; last = f.last; soc = c.lay_end.new.end }) o in
     let two = after_two roll out back (λ f. record { row = c.lay_pair_row.new.row; last = f.last; soc = f.soc }) (λ f. record { row = f.row; last = c.lay_pair.new.pair; soc = f.soc }) o in
-    let last = ap (λ f. laid_by c.args.layout (view_pair texts f.last) (stack c.lay_pair_row.new.table.items)) (back (record { row = c.lay_pair_row.new.row; last = o.last; soc = o.soc })) ∙ ap (laid_by c.args.layout (view_pair texts o.last)) c.in_ok-lay_pair_row.ensures.rest in
-    on_ok c.lay_end.result (λ e. pairs_laid texts c.args.layout c.args.pairs.now _ (record { row = c.lay_pair_row.new.row; last = c.lay_pair.new.pair; soc = c.lay_end.new.end }) (stack c.args.table.now.items) written c.in_ok-lay_pair_row.ensures.laid (c.in_ok-lay_pair.ensures.laid ∙ last) (e ∙ ap (λ f. respaced SOC Last c.args.layout (soc_bytes f.soc)) two)) c.lay_end.ensures.laid
-
-pub lay_pairs-returns-clause-rest : goal.lay_pairs-returns-clause-rest
-lay_pairs-returns-clause-rest t c =
-    let o = out-PairsOf S Ms Msc Soc Number Literal Dots c.args.pairs.now in
-    let last = ap (λ f. without (view_pair texts f.last) (stack c.lay_pair_row.new.table.items)) (out-roll-PairsOf S Ms Msc Soc Number Literal Dots (record { row = c.lay_pair_row.new.row; last = o.last; soc = o.soc })) ∙ ap (without (view_pair texts o.last)) c.in_ok-lay_pair_row.ensures.rest in
-    always c.lay_end.result (c.in_ok-lay_pair.ensures.rest ∙ last ∙ pairs_rest texts c.args.pairs.now (stack c.args.table.now.items))
+    let last = ap (λ f. laid c.args.layout (view_pair texts f.last)) (back (record { row = c.lay_pair_row.new.row; last = o.last; soc = o.soc })) in
+    on_ok c.lay_end.result (λ e. pairs_laid texts c.args.layout c.args.pairs.now _ (record { row = c.lay_pair_row.new.row; last = c.lay_pair.new.pair; soc = c.lay_end.new.end }) written c.in_ok-lay_pair_row.ensures.laid (c.in_ok-lay_pair.ensures.laid ∙ last) (e ∙ ap (λ f. respaced SOC Last c.args.layout (soc_bytes f.soc)) two)) c.lay_end.ensures.laid
 
 pub lay_pairs-returns-clause-items : goal.lay_pairs-returns-clause-items
 lay_pairs-returns-clause-items t c =
@@ -183,7 +162,7 @@ lay_pairs-returns-clause-items t c =
 pub lay_pair_row-lay_pair-requires : goal.lay_pair_row-lay_pair-requires
 lay_pair_row-lay_pair-requires t c =
     let l = c.loop-entry in
-    let same : get_or l.entry-items l.entry-index c.entry-item.result ≡ get_or c.args.row.now.items l.entry-index c.entry-item.result = same_here l.entry-items c.args.row.now.items l.entry-index c.entry-item.result l.invariant.3 in
+    let same : get_or l.entry-items l.entry-index c.entry-item.result ≡ get_or c.args.row.now.items l.entry-index c.entry-item.result = same_here l.entry-items c.args.row.now.items l.entry-index c.entry-item.result l.invariant.2 in
     let long : length c.deref_mut-entry-items.result.now ≡ length c.args.row.now.items = ap length c.deref_mut-entry-items.ensures.value in
     let inside : l.entry-index < length c.args.row.now.items = omega arith in
     rw same (grind (arith, at_most))
@@ -197,7 +176,7 @@ lay_pair_row-returns-in_err-lay_pair-clause-items t c =
     let inside : l.entry-index < length l.entry-items = omega arith in
     let y : KpOf S Ms Msc Soc Number Literal Dots × Msc = (c.lay_pair.new.pair, x.1) in
     ap (λ ys. map entry_items (map (seen_pair texts) ys)) (kept (set l.entry-items l.entry-index y) _ c.args.row.now.len (search (rules)))
-    ∙ one_same (seen_pair texts) entry_items l.entry-items l.entry-index x y _ l.invariant.2 inside here c.lay_pair.ensures.items
+    ∙ one_same (seen_pair texts) entry_items l.entry-items l.entry-index x y _ l.invariant.1 inside here c.lay_pair.ensures.items
 
 pub lay_pair_row-returns-in_err-lay_separator-clause-items : goal.lay_pair_row-returns-in_err-lay_separator-clause-items
 unfolding items
@@ -208,35 +187,24 @@ lay_pair_row-returns-in_err-lay_separator-clause-items t c =
     let inside : l.entry-index < length l.entry-items = omega arith in
     let y : KpOf S Ms Msc Soc Number Literal Dots × Msc = (c.lay_pair.new.pair, c.lay_separator.new.separator) in
     ap (λ ys. map entry_items (map (seen_pair texts) ys)) (kept (set l.entry-items l.entry-index y) _ c.args.row.now.len (search (rules)))
-    ∙ one_same (seen_pair texts) entry_items l.entry-items l.entry-index x y _ l.invariant.2 inside here c.lay_pair.ensures.items
+    ∙ one_same (seen_pair texts) entry_items l.entry-items l.entry-index x y _ l.invariant.1 inside here c.lay_pair.ensures.items
 
 pub lay_pair_row-loop-entry-preserved : goal.lay_pair_row-loop-entry-preserved
-unfolding items laid_by without
+unfolding items
 lay_pair_row-loop-entry-preserved t c =
     let l = c.loop-entry in
     let x = get_or l.entry-items l.entry-index c.entry-item.result in
     let here : x ≡ get_or l.entry-items l.entry-index x = ap (λ a. get_or l.entry-items l.entry-index a) c.entry-item.is in
     let inside : l.entry-index < length l.entry-items = omega arith in
     let y : KpOf S Ms Msc Soc Number Literal Dots × Msc = (c.lay_pair.new.pair, c.lay_separator.new.separator) in
-    let os = c.args.row.now.items in
-    let long : length c.deref_mut-entry-items.result.now ≡ length c.args.row.now.items = ap length c.deref_mut-entry-items.ensures.value in
-    let before : l.entry-index < length c.args.row.now.items = omega arith in
-    let laid_here = c.in_ok-lay_pair.ensures.laid ∙ ap (laid_by c.args.layout (view_pair texts x.0)) l.invariant.1 in
-    let rest_here = c.in_ok-lay_pair.ensures.rest ∙ ap (without (view_pair texts x.0)) l.invariant.1 in (
-      one_more_by (seen_pair texts) c.args.layout l.entry-items l.entry-index x y _ (stack c.args.table.now.items) l.invariant.0 inside here (λ i. (laid_here i, c.in_ok-lay_separator.ensures.laid i)),
-      left_more (seen_pair texts) os l.entry-index x (stack c.args.table.now.items) _ before (here ∙ same_here l.entry-items os l.entry-index x l.invariant.3) rest_here,
-      one_same (seen_pair texts) entry_items l.entry-items l.entry-index x y _ l.invariant.2 inside here c.lay_pair.ensures.items,
-      drop-set-lt (l.entry-index + 1) l.entry-items l.entry-index y (omega arith) ∙ drop_more_same l.entry-items os l.entry-index l.invariant.3,
+    let os = c.args.row.now.items in (
+      one_more (seen_pair texts) (laid_entry c.args.layout) l.entry-items l.entry-index x y _ l.invariant.0 inside here (λ i. (c.in_ok-lay_pair.ensures.laid i, c.in_ok-lay_separator.ensures.laid i)),
+      one_same (seen_pair texts) entry_items l.entry-items l.entry-index x y _ l.invariant.1 inside here c.lay_pair.ensures.items,
+      drop-set-lt (l.entry-index + 1) l.entry-items l.entry-index y (omega arith) ∙ drop_more_same l.entry-items os l.entry-index l.invariant.2,
     )
 
 pub lay_pair_row-returns-clause-laid : goal.lay_pair_row-returns-clause-laid
 lay_pair_row-returns-clause-laid t c =
     let l = c.loop-entry in
     ap (map (seen_pair texts)) (kept l.entry-items _ c.args.row.now.len (search (rules)))
-    ∙ all_by (seen_pair texts) c.args.layout l.entry-items l.entry-index _ (stack c.args.table.now.items) l.invariant.0 (omega arith)
-
-pub lay_pair_row-returns-clause-rest : goal.lay_pair_row-returns-clause-rest
-lay_pair_row-returns-clause-rest t c =
-    let l = c.loop-entry in
-    let long : length c.deref_mut-entry-items.result.now ≡ length c.args.row.now.items = ap length c.deref_mut-entry-items.ensures.value in
-    l.invariant.1 ∙ left_all (seen_pair texts) c.args.row.now.items l.entry-index (stack c.args.table.now.items) (omega arith)
+    ∙ all_done (seen_pair texts) (laid_entry c.args.layout) l.entry-items l.entry-index _ l.invariant.0 (omega arith)
