@@ -3,6 +3,6 @@
 mod indicators;
 mod lay;
 mod policy;
-mod print;
+pub(crate) mod print;
 mod room;
 mod strings;

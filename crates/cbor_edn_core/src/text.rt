@@ -2,4 +2,4 @@
 
 mod grammar;
 mod parse;
-pub(crate) mod serialize;
+mod serialize;

@@ -34,6 +34,18 @@ impl TextBuffer {
         self.bytes.extend_from_slice(text.as_bytes())
     }
 
+    /// Appends a text that mostly is empty: without a call then. Fails as [`TextBuffer::push_str`] does.
+    #[inline(always)]
+    pub(crate) fn push_if_any(&mut self, text: &str) -> Result<(), AllocError>
+        ensures pushed { OnOk result (buffer_bytes self.new ≡ buffer_bytes self.old ++ text.now) }
+        ensures out_of_memory { OnErr result (buffer_bytes self.new ≡ buffer_bytes self.old) }
+    {
+        if text.is_empty() {
+            return Ok(());
+        }
+        self.push_str(text)
+    }
+
     /// Appends the text of a leaf. Fails where memory runs out, and leaves the text as it was then.
     #[inline(always)]
     pub(crate) fn push_leaf(&mut self, text: &LeafText<'_>) -> Result<(), AllocError>

@@ -14,6 +14,8 @@ use std::alloc::{AllocError, Global};
 /// How the spaces of a part of a tree are changed.
 #[derive(Clone, Copy)]
 pub enum Layout {
+    /// Not at all: each space stays as it stands. No policy asks for this.
+    Kept,
     /// On a single line, or without regard to lines: one column of the table for all.
     Inline(Spacing),
     /// On lines of their own. A line begins with `base` spaces, the one behind the last entry with `end` spaces. An item in it whose
@@ -69,12 +71,13 @@ impl Layout {
         }
     }
 
-    /// What is done with the space text at a slot: the column of the table of spaces.
+    /// What is done with the space text at a slot: the column of the table of spaces, or none where the text is kept.
     #[inline(always)]
-    pub fn spacing(self, slot: Slot) -> Spacing
+    pub fn spacing(self, slot: Slot) -> Option<Spacing>
         ensures { result ≡ spec.spacing self slot }
     {
-        match self {
+        let column = match self {
+            Layout::Kept => return None,
             Layout::Inline(Spacing::OneLine) => match slot {
                 Slot::BeforePlus | Slot::AfterPlus | Slot::AfterColon => Spacing::OneSpace,
                 _ => Spacing::OneLine,
@@ -85,7 +88,8 @@ impl Layout {
                 Slot::Last => Spacing::NewLine(end),
                 _ => Spacing::Comments,
             },
-        }
+        };
+        Some(column)
     }
 
     /// The layout of the parts of an item that is so many bytes wide on a single line: one line where it fits, else lines one level
@@ -94,7 +98,7 @@ impl Layout {
         ensures { result ≡ spec.of_parts self measured }
     {
         match self {
-            Layout::Inline(_) => self,
+            Layout::Kept | Layout::Inline(_) => self,
             Layout::Lines {
                 base,
                 level,
@@ -116,6 +120,7 @@ impl Layout {
     }
 
     /// The layout of the strings of a stream: on a single line no space stands round the plus signs in them.
+    #[inline(always)]
     pub fn in_chunk(self) -> Layout
         ensures { result ≡ spec.in_chunk self }
     {
@@ -136,7 +141,9 @@ pub fn lay_space<'a>(
     ensures laid { OnOk result (s_bytes space.new ≡ respaced kind.S slot layout (s_bytes space.old)) }
     ensures least { layout ≡ least → IsOk result }
 {
-    *space = space.spaced(alloc, layout.spacing(slot))?;
+    if let Some(column) = layout.spacing(slot) {
+        *space = space.spaced(alloc, column)?;
+    }
     Ok(())
 }
 
@@ -151,7 +158,9 @@ pub fn lay_mandatory<'a>(
     ensures laid { OnOk result (ms_bytes space.new ≡ respaced kind.MS slot layout (ms_bytes space.old)) }
     ensures least { layout ≡ least → IsOk result }
 {
-    *space = space.spaced(alloc, layout.spacing(slot))?;
+    if let Some(column) = layout.spacing(slot) {
+        *space = space.spaced(alloc, column)?;
+    }
     Ok(())
 }
 
@@ -165,7 +174,9 @@ pub fn lay_separator<'a>(
     ensures laid { OnOk result (msc_bytes separator.new ≡ respaced kind.MSC spec.Between layout (msc_bytes separator.old)) }
     ensures least { layout ≡ least → IsOk result }
 {
-    *separator = separator.spaced(alloc, layout.spacing(Slot::Between))?;
+    if let Some(column) = layout.spacing(Slot::Between) {
+        *separator = separator.spaced(alloc, column)?;
+    }
     Ok(())
 }
 
@@ -175,7 +186,9 @@ pub fn lay_end<'a>(end: &mut Soc<'a>, alloc: Global, layout: Layout) -> Result<(
     ensures laid { OnOk result (soc_bytes end.new ≡ respaced kind.SOC spec.Last layout (soc_bytes end.old)) }
     ensures least { layout ≡ least → IsOk result }
 {
-    *end = end.spaced(alloc, layout.spacing(Slot::Last))?;
+    if let Some(column) = layout.spacing(Slot::Last) {
+        *end = end.spaced(alloc, column)?;
+    }
     Ok(())
 }
 
@@ -189,10 +202,14 @@ pub fn print_space(
 ) -> Result<(), AllocError>
     ensures { OnOk result (buffer_bytes out.new ≡ buffer_bytes out.old ++ respaced kind.S slot layout (s_bytes space.now)) }
 {
-    space.print_spaced(out, layout.spacing(slot))
+    match layout.spacing(slot) {
+        None => out.push_if_any(space.as_str()),
+        Some(column) => space.print_spaced(out, column),
+    }
 }
 
 /// Writes a mandatory space as it is laid out at its slot at the end of a text. Fails where memory runs out.
+#[inline(always)]
 pub fn print_mandatory(
     out: &mut TextBuffer,
     space: &Ms<'_>,
@@ -201,7 +218,10 @@ pub fn print_mandatory(
 ) -> Result<(), AllocError>
     ensures { OnOk result (buffer_bytes out.new ≡ buffer_bytes out.old ++ respaced kind.MS slot layout (ms_bytes space.now)) }
 {
-    space.print_spaced(out, layout.spacing(slot))
+    match layout.spacing(slot) {
+        None => out.push_if_any(space.as_str()),
+        Some(column) => space.print_spaced(out, column),
+    }
 }
 
 /// Writes the separator between two entries as it is laid out at the end of a text. Fails where memory runs out.
@@ -213,12 +233,19 @@ pub fn print_separator(
 ) -> Result<(), AllocError>
     ensures { OnOk result (buffer_bytes out.new ≡ buffer_bytes out.old ++ respaced kind.MSC spec.Between layout (msc_bytes separator.now)) }
 {
-    separator.print_spaced(out, layout.spacing(Slot::Between))
+    match layout.spacing(Slot::Between) {
+        None => out.push_if_any(separator.as_str()),
+        Some(column) => separator.print_spaced(out, column),
+    }
 }
 
 /// Writes the end of a list as it is laid out at the end of a text. Fails where memory runs out.
+#[inline(always)]
 pub fn print_end(out: &mut TextBuffer, end: &Soc<'_>, layout: Layout) -> Result<(), AllocError>
     ensures { OnOk result (buffer_bytes out.new ≡ buffer_bytes out.old ++ respaced kind.SOC spec.Last layout (soc_bytes end.now)) }
 {
-    end.print_spaced(out, layout.spacing(Slot::Last))
+    match layout.spacing(Slot::Last) {
+        None => out.push_if_any(end.as_str()),
+        Some(column) => end.print_spaced(out, column),
+    }
 }

@@ -1,18 +1,18 @@
-//! The text of a tree with the spaces of a layout, which the tree itself does not get.
+//! The text of a tree with its spaces, or with those of a layout, which the tree itself does not get.
 ghost use Rattle.std.specs.Prelude.{◌≡◌, ◌++◌, map, OnOk};
 ghost use Rattle.cbor_edn_parts.specs.Buffer.{buffer_bytes};
+ghost use Rattle.cbor_edn_parts.specs.Leaves.{number_bytes, literal_bytes};
 ghost use Rattle.cbor_edn_model.specs.layout.Layout.{laid};
 ghost use Rattle.cbor_edn_model.specs.tree.Rows.{entries_text, pieces_text};
 ghost use Rattle.cbor_edn_model.specs.tree.TreeLeaves.{texts};
-ghost use Rattle.cbor_edn_model.specs.tree.Trees.{text};
+ghost use Rattle.cbor_edn_model.specs.tree.Trees.{NumberTree, LiteralTree, text};
 ghost use Rattle.cbor_edn_model.specs.internal.Laying.{laid_stream};
 ghost use Rattle.cbor_edn_model.specs.internal.LayoutRows.{laid_entry, laid_piece};
-ghost use Rattle.cbor_edn_core.specs.tree.View.{view_list, view_items, seen, view_pair_list, view_pairs, view_pair, seen_pair, view_string, seen_piece, view_stream, view_strings, seen_string, item_tree, standalone_tree, sequence_tree};
+ghost use Rattle.cbor_edn_core.specs.tree.View.{view_list, view_items, seen, view_pair_list, view_pairs, view_pair, seen_pair, view_string, view_piece, seen_piece, view_stream, view_strings, seen_string, item_tree, standalone_tree, sequence_tree};
 
 use super::room::layout_of_parts;
-use crate::text::serialize;
 use crate::tree::{
-    CborString, InnerItem, Item, ItemList, Items, Kp, PairList, Pairs, Piece, Sequence,
+    CborString, Indicator, InnerItem, Item, ItemList, Items, Kp, PairList, Pairs, Piece, Sequence,
     StandaloneItem, Stream, Strings,
 };
 use cbor_edn_model::text::list_head::print_laid_head;
@@ -21,11 +21,14 @@ use cbor_edn_parts::buffer::TextBuffer;
 use cbor_edn_parts::layout::{
     Layout, Slot, print_end, print_mandatory, print_separator, print_space,
 };
+use cbor_edn_parts::number::Number;
 use cbor_edn_parts::space::{Msc, S};
+use cbor_edn_parts::string::Literal;
 use std::alloc::AllocError;
 
+#[cycle(print)]
 #[tactic(auto, using(crate::proofs::lemmas::tree::Views::view_sequence_is, cbor_edn_model::proofs::lemmas::layout::LaidTexts::text_laid_nothing, cbor_edn_model::proofs::lemmas::layout::LaidTexts::text_laid_sequence, std::proofs::Common::append_assoc))]
-pub(super) fn print_sequence(
+pub(crate) fn print_sequence(
     out: &mut TextBuffer,
     sequence: &Sequence<'_>,
     layout: Layout,
@@ -39,9 +42,9 @@ pub(super) fn print_sequence(
     }
 }
 
-#[cycle(print_laid)]
+#[cycle(print)]
 #[tactic(auto, using(cbor_edn_model::proofs::lemmas::layout::LaidTexts::text_laid_standalone, std::proofs::Common::append_assoc))]
-pub(super) fn print_standalone(
+pub(crate) fn print_standalone(
     out: &mut TextBuffer,
     item: &StandaloneItem<'_>,
     layout: Layout,
@@ -53,9 +56,37 @@ pub(super) fn print_standalone(
     print_space(out, &item.after, layout, Slot::Elsewhere)
 }
 
-#[cycle(print_laid)]
-#[tactic(auto, using(crate::proofs::lemmas::tree::Views::view_string_is, crate::proofs::lemmas::tree::Views::view_stream_is, cbor_edn_model::proofs::lemmas::layout::LaidTexts::text_laid_number, cbor_edn_model::proofs::lemmas::layout::LaidTexts::text_laid_float, cbor_edn_model::proofs::lemmas::layout::LaidTexts::text_laid_named, cbor_edn_model::proofs::lemmas::layout::LaidTexts::text_laid_enclosed, cbor_edn_model::proofs::lemmas::layout::LaidTexts::text_laid_list, cbor_edn_model::proofs::lemmas::layout::LaidTexts::text_laid_string, crate::proofs::lemmas::layout::LaidStrings::text_laid_piece, cbor_edn_model::proofs::lemmas::text::Texts::text_string, cbor_edn_model::proofs::lemmas::text::Texts::text_last_piece, cbor_edn_model::proofs::lemmas::layout::LaidTexts::text_laid_stream, std::proofs::Common::append_assoc))]
-pub(super) fn print_item(
+/// Writes a number with its indicator.
+#[inline]
+#[tactic(auto, using(cbor_edn_model::proofs::lemmas::text::Texts::text_number, std::proofs::Common::append_assoc))]
+fn print_number(
+    out: &mut TextBuffer,
+    number: &Number<'_>,
+    indicator: Option<Indicator>,
+) -> Result<(), AllocError>
+    ensures { OnOk result (buffer_bytes out.new ≡ buffer_bytes out.old ++ text (NumberTree (number_bytes number.now) indicator)) }
+{
+    number.print(out)?;
+    print_indicator(out, indicator)
+}
+
+/// Writes a literal with its indicator.
+#[inline]
+#[tactic(auto, using(cbor_edn_model::proofs::lemmas::text::Texts::text_literal, std::proofs::Common::append_assoc))]
+fn print_literal(
+    out: &mut TextBuffer,
+    literal: &Literal<'_>,
+    indicator: Option<Indicator>,
+) -> Result<(), AllocError>
+    ensures { OnOk result (buffer_bytes out.new ≡ buffer_bytes out.old ++ text (LiteralTree (literal_bytes literal.now) indicator)) }
+{
+    literal.print(out)?;
+    print_indicator(out, indicator)
+}
+
+#[cycle(print)]
+#[tactic(auto, using(crate::proofs::lemmas::tree::Views::view_string_is, crate::proofs::lemmas::tree::Views::view_stream_is, cbor_edn_model::proofs::lemmas::layout::LaidTexts::text_laid_number, cbor_edn_model::proofs::lemmas::layout::LaidTexts::text_laid_float, cbor_edn_model::proofs::lemmas::layout::LaidTexts::text_laid_named, cbor_edn_model::proofs::lemmas::text::Texts::text_float, cbor_edn_model::proofs::lemmas::text::Texts::text_named, cbor_edn_model::proofs::lemmas::layout::LaidTexts::text_laid_enclosed, cbor_edn_model::proofs::lemmas::layout::LaidTexts::text_laid_list, cbor_edn_model::proofs::lemmas::layout::LaidTexts::text_laid_string, crate::proofs::lemmas::layout::LaidStrings::text_laid_piece, cbor_edn_model::proofs::lemmas::text::Texts::text_string, cbor_edn_model::proofs::lemmas::text::Texts::text_last_piece, cbor_edn_model::proofs::lemmas::layout::LaidTexts::text_laid_stream, std::proofs::Common::append_assoc))]
+pub(crate) fn print_item(
     out: &mut TextBuffer,
     item: &Item<'_>,
     layout: Layout,
@@ -63,8 +94,12 @@ pub(super) fn print_item(
     ensures { OnOk result (buffer_bytes out.new ≡ buffer_bytes out.old ++ text (laid layout (item_tree item.now))) }
 {
     match &item.inner {
-        InnerItem::Number(indicator, number) => serialize::print_number(out, number, *indicator),
-        InnerItem::NonFinite(..) | InnerItem::Named(_) => serialize::print_item(out, item),
+        InnerItem::Number(indicator, number) => print_number(out, number, *indicator),
+        InnerItem::NonFinite(indicator, float) => {
+            out.push_str(float.as_str())?;
+            print_indicator(out, *indicator)
+        }
+        InnerItem::Named(name) => out.push_str(name.as_str()),
         InnerItem::Enclosed(label, content) => {
             let parts = layout_of_parts(layout, item);
             print_label(out, label.kind)?;
@@ -84,9 +119,7 @@ pub(super) fn print_item(
             print_pair_list(out, list, parts)?;
             out.push_str("}")
         }
-        InnerItem::Literal(indicator, literal) => {
-            serialize::print_literal(out, literal, *indicator)
-        }
+        InnerItem::Literal(indicator, literal) => print_literal(out, literal, *indicator),
         InnerItem::String(string) => {
             let parts = layout_of_parts(layout, item);
             print_string(out, string, parts)
@@ -98,6 +131,7 @@ pub(super) fn print_item(
     }
 }
 
+#[cycle(print)]
 #[tactic(auto, using(cbor_edn_model::proofs::lemmas::layout::LaidTexts::text_laid_pieces, std::proofs::Common::append_assoc))]
 fn print_string(
     out: &mut TextBuffer,
@@ -107,9 +141,10 @@ fn print_string(
     ensures { OnOk result (buffer_bytes out.new ≡ buffer_bytes out.old ++ text (laid layout (view_string texts string.now))) }
 {
     print_piece_row(out, &string.row, layout)?;
-    serialize::print_piece(out, &string.last)
+    print_piece(out, &string.last)
 }
 
+#[cycle(print)]
 fn print_piece_row(
     out: &mut TextBuffer,
     row: &[(Piece<'_>, S<'_>, S<'_>)],
@@ -118,7 +153,7 @@ fn print_piece_row(
     ensures { OnOk result (buffer_bytes out.new ≡ buffer_bytes out.old ++ pieces_text (map (laid_piece layout) (map (seen_piece texts) row.now))) }
 {
     for (piece, before, after) in row {
-        serialize::print_piece(out, piece)?;
+        print_piece(out, piece)?;
         print_space(out, before, layout, Slot::BeforePlus)?;
         out.push_str("+")?;
         print_space(out, after, layout, Slot::AfterPlus)?;
@@ -126,6 +161,25 @@ fn print_piece_row(
     Ok(())
 }
 
+/// Writes a piece. What it embeds keeps its spaces.
+#[cycle(print)]
+#[tactic(auto, using(cbor_edn_model::proofs::lemmas::text::Texts::text_literal, cbor_edn_model::proofs::lemmas::text::Texts::text_dots, cbor_edn_model::proofs::lemmas::text::Texts::text_embedded, cbor_edn_model::proofs::lemmas::layout::LaidTrees::laid_kept, std::proofs::Common::append_assoc))]
+fn print_piece(out: &mut TextBuffer, piece: &Piece<'_>) -> Result<(), AllocError>
+    ensures { OnOk result (buffer_bytes out.new ≡ buffer_bytes out.old ++ text (view_piece texts piece.now)) }
+{
+    match piece {
+        Piece::Literal(indicator, literal) => print_literal(out, literal, *indicator),
+        Piece::Dots(dots) => out.push_str(dots.as_str()),
+        Piece::Embedded(indicator, sequence) => {
+            out.push_str("<<")?;
+            print_sequence(out, sequence, Layout::Kept)?;
+            out.push_str(">>")?;
+            print_indicator(out, *indicator)
+        }
+    }
+}
+
+#[cycle(print)]
 #[tactic(auto, using(crate::proofs::lemmas::tree::Views::view_stream_is, cbor_edn_model::proofs::lemmas::text::Texts::text_stream, std::proofs::Common::append_assoc))]
 fn print_stream(out: &mut TextBuffer, stream: &Stream<'_>, layout: Layout) -> Result<(), AllocError>
     ensures { OnOk result (buffer_bytes out.new ≡ buffer_bytes out.old ++ text (laid_stream layout (view_stream texts stream.now))) }
@@ -136,6 +190,7 @@ fn print_stream(out: &mut TextBuffer, stream: &Stream<'_>, layout: Layout) -> Re
     out.push_str(")")
 }
 
+#[cycle(print)]
 #[tactic(auto, using(crate::proofs::lemmas::tree::Views::view_strings_is, cbor_edn_model::proofs::lemmas::layout::LaidTexts::text_laid_rest, cbor_edn_model::proofs::lemmas::layout::LaidTexts::text_laid_chunk, std::proofs::Common::append_assoc))]
 fn print_strings(
     out: &mut TextBuffer,
@@ -149,6 +204,7 @@ fn print_strings(
     print_end(out, &strings.soc, layout)
 }
 
+#[cycle(print)]
 #[tactic(auto, unfolding(cbor_edn_model::specs::layout::Layout::laid, cbor_edn_model::specs::tree::Trees::onto))]
 fn print_string_row(
     out: &mut TextBuffer,
@@ -166,21 +222,19 @@ fn print_string_row(
 
 /// As [`print_item`], without its call where the item is a number or a literal, as most are.
 #[inline(always)]
-#[cycle(print_laid)]
+#[cycle(print)]
 #[tactic(auto, using(crate::proofs::lemmas::tree::Views::view_string_is, cbor_edn_model::proofs::lemmas::layout::LaidTexts::text_laid_number, cbor_edn_model::proofs::lemmas::layout::LaidTexts::text_laid_string, crate::proofs::lemmas::layout::LaidStrings::text_laid_piece, cbor_edn_model::proofs::lemmas::text::Texts::text_string, cbor_edn_model::proofs::lemmas::text::Texts::text_last_piece))]
 fn print_at_once(out: &mut TextBuffer, item: &Item<'_>, layout: Layout) -> Result<(), AllocError>
     ensures { OnOk result (buffer_bytes out.new ≡ buffer_bytes out.old ++ text (laid layout (item_tree item.now))) }
 {
     match &item.inner {
-        InnerItem::Number(indicator, number) => serialize::print_number(out, number, *indicator),
-        InnerItem::Literal(indicator, literal) => {
-            serialize::print_literal(out, literal, *indicator)
-        }
+        InnerItem::Number(indicator, number) => print_number(out, number, *indicator),
+        InnerItem::Literal(indicator, literal) => print_literal(out, literal, *indicator),
         _ => print_item(out, item, layout),
     }
 }
 
-#[cycle(print_laid)]
+#[cycle(print)]
 #[tactic(auto, using(cbor_edn_model::proofs::lemmas::layout::LaidTexts::text_laid_empty, cbor_edn_model::proofs::lemmas::layout::LaidTexts::text_laid_full, std::proofs::Common::append_assoc))]
 fn print_list(out: &mut TextBuffer, list: &ItemList<'_>, layout: Layout) -> Result<(), AllocError>
     ensures { OnOk result (buffer_bytes out.new ≡ buffer_bytes out.old ++ text (laid layout (view_list texts list.now))) }
@@ -198,7 +252,7 @@ fn print_list(out: &mut TextBuffer, list: &ItemList<'_>, layout: Layout) -> Resu
     }
 }
 
-#[cycle(print_laid)]
+#[cycle(print)]
 #[tactic(auto, using(crate::proofs::lemmas::tree::Views::view_items_is, cbor_edn_model::proofs::lemmas::layout::LaidTexts::text_laid_rest, cbor_edn_model::proofs::lemmas::layout::LaidTexts::text_laid_element, std::proofs::Common::append_assoc))]
 fn print_items(out: &mut TextBuffer, items: &Items<'_>, layout: Layout) -> Result<(), AllocError>
     ensures { OnOk result (buffer_bytes out.new ≡ buffer_bytes out.old ++ text (laid layout (view_items texts items.now))) }
@@ -208,7 +262,7 @@ fn print_items(out: &mut TextBuffer, items: &Items<'_>, layout: Layout) -> Resul
     print_end(out, &items.soc, layout)
 }
 
-#[cycle(print_laid)]
+#[cycle(print)]
 #[tactic(auto, unfolding(cbor_edn_model::specs::layout::Layout::laid, cbor_edn_model::specs::tree::Trees::onto))]
 fn print_row(
     out: &mut TextBuffer,
@@ -224,7 +278,7 @@ fn print_row(
     Ok(())
 }
 
-#[cycle(print_laid)]
+#[cycle(print)]
 #[tactic(auto, using(cbor_edn_model::proofs::lemmas::layout::LaidTexts::text_laid_empty, cbor_edn_model::proofs::lemmas::layout::LaidTexts::text_laid_full, std::proofs::Common::append_assoc))]
 fn print_pair_list(
     out: &mut TextBuffer,
@@ -246,7 +300,7 @@ fn print_pair_list(
     }
 }
 
-#[cycle(print_laid)]
+#[cycle(print)]
 #[tactic(auto, using(crate::proofs::lemmas::tree::Views::view_pairs_is, cbor_edn_model::proofs::lemmas::layout::LaidTexts::text_laid_rest, std::proofs::Common::append_assoc))]
 fn print_pairs(out: &mut TextBuffer, pairs: &Pairs<'_>, layout: Layout) -> Result<(), AllocError>
     ensures { OnOk result (buffer_bytes out.new ≡ buffer_bytes out.old ++ text (laid layout (view_pairs texts pairs.now))) }
@@ -256,7 +310,7 @@ fn print_pairs(out: &mut TextBuffer, pairs: &Pairs<'_>, layout: Layout) -> Resul
     print_end(out, &pairs.soc, layout)
 }
 
-#[cycle(print_laid)]
+#[cycle(print)]
 fn print_pair_row(
     out: &mut TextBuffer,
     row: &[(Kp<'_>, Msc<'_>)],
@@ -271,7 +325,7 @@ fn print_pair_row(
     Ok(())
 }
 
-#[cycle(print_laid)]
+#[cycle(print)]
 #[tactic(auto, using(cbor_edn_model::proofs::lemmas::layout::LaidTexts::text_laid_pair, std::proofs::Common::append_assoc))]
 fn print_pair(out: &mut TextBuffer, pair: &Kp<'_>, layout: Layout) -> Result<(), AllocError>
     ensures { OnOk result (buffer_bytes out.new ≡ buffer_bytes out.old ++ text (laid layout (view_pair texts pair.now))) }

@@ -4,10 +4,10 @@ use Rattle.cbor_edn_parts.specs.Spacing.{S, MS, MSC, SOC}
 use Rattle.cbor_edn_parts.specs.declared.policy.DelimiterPolicy.{DelimiterPolicy}
 use Rattle.cbor_edn_parts.specs.declared.policy.Spacing.TheVariants.{OneLine}
 pub use Rattle.cbor_edn_parts.specs.declared.layout.Layout.{Layout}
-pub use Rattle.cbor_edn_parts.specs.declared.layout.Layout.TheVariants.{Inline, Lines}
+pub use Rattle.cbor_edn_parts.specs.declared.layout.Layout.TheVariants.{Kept, Inline, Lines}
 pub use Rattle.cbor_edn_parts.specs.declared.layout.Slot.{Slot}
 pub use Rattle.cbor_edn_parts.specs.declared.layout.Slot.TheVariants.{First, Between, Last, BeforePlus, AfterPlus, AfterColon, Elsewhere}
-pub use Rattle.cbor_edn_parts.specs.LayoutColumns.{layout, spacing, respaced, saturating_add, in_chunk, of_parts}
+pub use Rattle.cbor_edn_parts.specs.LayoutColumns.{layout, spacing, spaced_or_kept, respaced, saturating_add, in_chunk, of_parts}
 use Rattle.cbor_edn_model.specs.tree.Trees.{Rule, OneItem, Tree, ListHead, NoIndicator, WithIndicator, NumberTree, FloatTree, NamedTree, EnclosedTree, ListTree, StringTree, StreamTree, LiteralTree, DotsTree, EmbeddedTree, LastPieceTree, PlusTree, ElementTree, PairTree, ChunkTree, EmptyTree, FullTree, LastTree, MoreTree, NothingTree, SequenceTree, StandaloneTree, text}
 
 -- An item whose parts are laid out by `part`, as wide as the item is on a single line.

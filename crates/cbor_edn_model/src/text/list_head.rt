@@ -42,23 +42,6 @@ pub fn have_same_head(a: &Option<(Indicator, Ms<'_>)>, b: &Option<(Indicator, Ms
     }
 }
 
-/// Writes the indicator of a list and the space behind it at the end of a text: what stands behind the bracket of `[_0 1]`. Fails where
-/// memory runs out.
-pub fn print_list_head(
-    out: &mut TextBuffer,
-    head: &Option<(Indicator, Ms<'_>)>,
-) -> Result<(), AllocError>
-    ensures { OnOk result (buffer_bytes out.new ≡ buffer_bytes out.old ++ list_head_text (view_list_head texts head.now)) }
-{
-    match head {
-        None => Ok(()),
-        Some((indicator, space)) => {
-            out.push_str(indicator.as_str())?;
-            out.push_str(space.as_str())
-        }
-    }
-}
-
 /// The indicator of a list with entries, if it has one.
 pub fn indicator_of_head(head: &Option<(Indicator, Ms<'_>)>) -> Option<Indicator>
     ensures { result ≡ trees.head_indicator (view_list_head texts head.now) }
@@ -86,6 +69,7 @@ pub fn lay_head<'a>(
 }
 
 /// Writes the indicator of a list and the space behind it as it is laid out at the end of a text. Fails where memory runs out.
+#[inline(always)]
 pub fn print_laid_head(
     out: &mut TextBuffer,
     head: &Option<(Indicator, Ms<'_>)>,

@@ -186,8 +186,8 @@ fn print_in_column(
         return Ok(());
     }
     print_blanks(out, spacing)?;
-    print_comments(out, before)?;
-    print_comments(out, after)
+    out.push_if_any(before)?;
+    out.push_if_any(after)
 }
 
 /// Appends the blanks of a column.
@@ -200,17 +200,6 @@ fn print_blanks(out: &mut TextBuffer, spacing: Spacing) -> Result<(), AllocError
         Spacing::OneSpace => out.push_str(" "),
         Spacing::NewLine(indent) => print_line(out, indent),
     }
-}
-
-/// Appends comments, of which there mostly are none.
-#[inline(always)]
-fn print_comments(out: &mut TextBuffer, comments: &str) -> Result<(), AllocError>
-    ensures { OnOk result (buffer_bytes out.new ≡ buffer_bytes out.old ++ comments.now) }
-{
-    if comments.is_empty() {
-        return Ok(());
-    }
-    out.push_str(comments)
 }
 
 /// One space in place of nothing.
@@ -283,13 +272,13 @@ fn print_round_comma(out: &mut TextBuffer, spacing: Spacing, text: &str) -> Resu
         Spacing::OneSpace => out.push_str(" ")?,
         Spacing::Comments | Spacing::OneLine | Spacing::NewLine(_) => {}
     }
-    print_comments(out, ahead)?;
+    out.push_if_any(ahead)?;
     match spacing {
         Spacing::OneLine => out.push_str(", ")?,
         Spacing::NewLine(indent) => print_comma_line(out, indent)?,
         Spacing::Least | Spacing::Comments | Spacing::OneSpace => out.push_str(",")?,
     }
-    print_comments(out, behind)
+    out.push_if_any(behind)
 }
 
 /// A comma, a line feed and so many spaces.

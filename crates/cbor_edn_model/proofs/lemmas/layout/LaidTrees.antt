@@ -6,17 +6,47 @@ use Rattle.cbor_edn_parts.specs.declared.policy.Spacing.TheVariants.{OneLine}
 use Rattle.cbor_edn_parts.specs.LayoutColumns.{of_parts}
 use Rattle.cbor_edn_model.specs.declared.text.label.LabelKind.{LabelKind}
 use Rattle.cbor_edn_model.specs.tree.Items.{Strings, Bracketed, Chunk, End, Then}
-use Rattle.cbor_edn_model.specs.tree.Trees.{OneItem, OnePiece, OneString, OneEntry, Inside, Rest, Standalone, Tree, EnclosedTree, ListTree, StringTree, StreamTree, LastPieceTree, ChunkTree, LastTree, items, text}
+use Rattle.cbor_edn_model.specs.tree.Trees.{Rule, OneItem, OnePiece, OneString, OneEntry, Inside, Rest, Standalone, ListHead, NoIndicator, WithIndicator, Tree, NumberTree, FloatTree, NamedTree, EnclosedTree, ListTree, StringTree, StreamTree, LiteralTree, DotsTree, EmbeddedTree, LastPieceTree, PlusTree, ElementTree, PairTree, ChunkTree, EmptyTree, FullTree, LastTree, MoreTree, NothingTree, SequenceTree, StandaloneTree, items, text}
 use Rattle.cbor_edn_model.specs.tree.Rows.{entries_onto, pieces_onto}
-use Rattle.cbor_edn_model.specs.layout.Layout.{Layout, Inline, Lines, First, Last, respaced, saturating_add, fitted, in_chunk, laid}
+use Rattle.cbor_edn_model.specs.layout.Layout.{Layout, Kept, Inline, Lines, First, Last, respaced, saturating_add, fitted, in_chunk, laid_list_head, laid}
 use Rattle.cbor_edn_model.specs.internal.Laying.{laid_stream}
 use Rattle.cbor_edn_model.specs.internal.LayoutRows.{laid_entry, entry_items, laid_piece, piece_items}
 use Rattle.cbor_edn_model.specs.internal.Widths.{measured}
 use Rattle.cbor_edn_model.proofs.lemmas.layout.LaidRows.{laid_entries, laid_pieces, same_entries, same_pieces}
 use Rattle.cbor_edn_model.proofs.lemmas.layout.MeasuredWidths.{test_is}
 
+-- Where spaces are kept, the tree is the same.
+pub laid_kept : {s : Rule} (w : Tree s) → laid Kept w ≡ w
+unfolding laid
+laid_kept (NumberTree x i) = refl
+laid_kept (FloatTree f i) = refl
+laid_kept (NamedTree b) = refl
+laid_kept (EnclosedTree label w) = ap (EnclosedTree label) (laid_kept w)
+laid_kept (ListTree k w) = ap (ListTree k) (laid_kept w)
+laid_kept (StringTree w) = ap StringTree (laid_kept w)
+laid_kept (StreamTree ms m) = ap (StreamTree ms) (laid_kept m)
+laid_kept (LiteralTree x i) = refl
+laid_kept (DotsTree x) = refl
+laid_kept (EmbeddedTree w i) = refl
+laid_kept (LastPieceTree p) = refl
+laid_kept (PlusTree p a b w) = ap (PlusTree p a b) (laid_kept w)
+laid_kept (ElementTree w) = ap ElementTree (laid_kept w)
+laid_kept (PairTree v a b w) = ap (λ v. PairTree v a b (laid Kept w)) (laid_kept v) ∙ ap (PairTree v a b) (laid_kept w)
+laid_kept (ChunkTree w) = ap ChunkTree (laid_kept w)
+laid_kept (EmptyTree i a) = refl
+laid_kept (FullTree h a m) = ap (λ h. FullTree h a (laid Kept m)) (head_kept h) ∙ ap (FullTree h a) (laid_kept m) where
+  head_kept : (h : ListHead) → laid_list_head Kept h ≡ h
+  head_kept NoIndicator = refl
+  head_kept (WithIndicator i ms) = refl
+laid_kept (LastTree e a) = ap (λ e. LastTree e a) (laid_kept e)
+laid_kept (MoreTree e a m) = ap (λ e. MoreTree e a (laid Kept m)) (laid_kept e) ∙ ap (MoreTree e a) (laid_kept m)
+laid_kept (NothingTree a) = refl
+laid_kept (SequenceTree a m) = ap (SequenceTree a) (laid_kept m)
+laid_kept (StandaloneTree a w b) = ap (λ w. StandaloneTree a w b) (laid_kept w)
+
 -- an item whose layout is told by its width
 fitted_by : (l : Layout) (w : Tree OneItem) (part : Layout → Tree OneItem) → laid (Inline OneLine) w ≡ part (Inline OneLine) → fitted l part ≡ part (of_parts l (measured w))
+fitted_by Kept w part e = refl
 fitted_by (Inline c) w part e = refl
 fitted_by (Lines base end level width) w part e =
     sym (ap (λ b. part (if b then Inline OneLine else Lines (saturating_add base level) base level width)) (test_is w base width ∙ ap (λ v. nat_lt (saturating_add (length (text v)) base) width) e))

@@ -1,9 +1,9 @@
 -- A layout changes spaces alone, keeps each of them in its set, and forgets an earlier layout that kept the comments.
-use Rattle.std.proofs.Common.{ℕ, ◌≡◌, ◌⊎◌, inl, inr, List, true, refl, sym, ap, ◌∙◌, subst}
+use Rattle.std.proofs.Common.{ℕ, ◌≡◌, ◌⊎◌, inl, inr, List, Option, None, Some, true, refl, sym, ap, ◌∙◌, subst}
 use Rattle.std.specs.Prelude.{nat_lt, length}
 use mathlib.Core.Logic.{⊎_elim}
 use Rattle.std.proofs.lemmas.Bool.{cond_both}
-use Rattle.cbor_edn_parts.specs.Spacing.{SpaceKind, S, MS, MSC, SOC, spaced}
+use Rattle.cbor_edn_parts.specs.Spacing.{SpaceKind, S, MS, MSC, SOC, Spacing}
 use Rattle.cbor_edn_parts.specs.declared.policy.DelimiterPolicy.{DelimiterPolicy}
 use Rattle.cbor_edn_parts.specs.declared.policy.DelimiterPolicy.TheVariants.{DiscardAll}
 use Rattle.cbor_edn_parts.specs.declared.policy.Spacing.TheVariants.{Least, OneLine}
@@ -13,7 +13,7 @@ use Rattle.cbor_edn_model.specs.tree.Items.{Listed, String, Stream, Plus, Elemen
 use Rattle.cbor_edn_model.specs.text.Spelling.{SpellsOne, SpellsSequence}
 use Rattle.cbor_edn_model.specs.tree.Trees.{Rule, OneItem, Seq, Standalone, Tree, ListHead, NoIndicator, WithIndicator, head_indicator, NumberTree, FloatTree, NamedTree, EnclosedTree, ListTree, StringTree, StreamTree, LiteralTree, DotsTree, EmbeddedTree, LastPieceTree, PlusTree, ElementTree, PairTree, ChunkTree, EmptyTree, FullTree, LastTree, MoreTree, NothingTree, SequenceTree, StandaloneTree, labelled, items, text}
 use Rattle.cbor_edn_model.proofs.lemmas.text.Tested.{IsTestedListHead, Tested, tested, valid}
-use Rattle.cbor_edn_model.specs.layout.Layout.{Layout, Inline, Lines, layout, Slot, First, Between, Last, BeforePlus, AfterPlus, AfterColon, Elsewhere, spacing, respaced, saturating_add, of_parts, fitted, in_chunk, laid_list_head, laid, laid_out}
+use Rattle.cbor_edn_model.specs.layout.Layout.{Layout, Kept, Inline, Lines, layout, Slot, First, Between, Last, BeforePlus, AfterPlus, AfterColon, Elsewhere, spacing, spaced_or_kept, respaced, saturating_add, of_parts, fitted, in_chunk, laid_list_head, laid, laid_out}
 use Rattle.cbor_edn_model.specs.layout.LayoutLaws.{KeepsItems, StaysValid, SpellsTheSame, KeepsAllComments, ForgetsLayout, SameTwice}
 use Rattle.cbor_edn_model.proofs.lemmas.text.GrammarLaws.{spelled_by_trees}
 
@@ -57,9 +57,15 @@ keeps_items s policy w = items_kept (layout policy) w
 
 -- ---- texts in their sets
 
+space_stays : (k : SpaceKind) (p : Slot) (l : Layout) (x : List ℕ) → is_of k x ≡ true → is_of k (respaced k p l x) ≡ true
+space_stays k p l x e = column_stays (spacing l p) where
+  column_stays : (o : Option Spacing) → is_of k (spaced_or_kept k o x) ≡ true
+  column_stays None = e
+  column_stays (Some c) = spaced_stays k c x e
+
 head_stays : (l : Layout) (h : ListHead) → IsTestedListHead h → IsTestedListHead (laid_list_head l h)
 head_stays l NoIndicator v = tt
-head_stays l (WithIndicator i ms) v = spaced_stays MS (spacing l Elsewhere) ms v
+head_stays l (WithIndicator i ms) v = space_stays MS Elsewhere l ms v
 
 pub stays : {s : Rule} (l : Layout) (w : Tree s) → Tested w → Tested (laid l w)
 unfolding Tested laid
@@ -69,22 +75,22 @@ stays l (NamedTree b) v = v
 stays l (EnclosedTree label w) v = fitted_any Tested l (λ l. EnclosedTree label (laid l w)) (λ m. (v.0, stays m w v.1))
 stays l (ListTree k w) v = fitted_any Tested l (λ l. ListTree k (laid l w)) (λ m. stays m w v)
 stays l (StringTree w) v = fitted_any Tested l (λ l. StringTree (laid l w)) (λ m. stays m w v)
-stays l (StreamTree ms m) v = fitted_any Tested l (λ l. StreamTree (respaced MS First l ms) (laid l m)) (λ l. (spaced_stays MS (spacing l First) ms v.0, stays l m v.1))
+stays l (StreamTree ms m) v = fitted_any Tested l (λ l. StreamTree (respaced MS First l ms) (laid l m)) (λ l. (space_stays MS First l ms v.0, stays l m v.1))
 stays l (LiteralTree x i) v = v
 stays l (DotsTree x) v = v
 stays l (EmbeddedTree w i) v = v
 stays l (LastPieceTree p) v = v
-stays l (PlusTree p s t w) v = (v.0, spaced_stays S (spacing l BeforePlus) s v.1, spaced_stays S (spacing l AfterPlus) t v.2, stays l w v.3)
+stays l (PlusTree p s t w) v = (v.0, space_stays S BeforePlus l s v.1, space_stays S AfterPlus l t v.2, stays l w v.3)
 stays l (ElementTree w) v = stays l w v
-stays l (PairTree k s t w) v = (stays l k v.0, spaced_stays S (spacing l Elsewhere) s v.1, spaced_stays S (spacing l AfterColon) t v.2, stays l w v.3)
+stays l (PairTree k s t w) v = (stays l k v.0, space_stays S Elsewhere l s v.1, space_stays S AfterColon l t v.2, stays l w v.3)
 stays l (ChunkTree w) v = stays (in_chunk l) w v
-stays l (EmptyTree i s) v = spaced_stays S (spacing l Elsewhere) s v
-stays l (FullTree h s m) v = (head_stays l h v.0, spaced_stays S (spacing l First) s v.1, stays l m v.2)
-stays l (LastTree e s) v = (stays l e v.0, spaced_stays SOC (spacing l Last) s v.1)
-stays l (MoreTree e s m) v = (stays l e v.0, spaced_stays MSC (spacing l Between) s v.1, stays l m v.2)
-stays l (NothingTree s) v = spaced_stays S (spacing l Elsewhere) s v
-stays l (SequenceTree s m) v = (spaced_stays S (spacing l Elsewhere) s v.0, stays l m v.1)
-stays l (StandaloneTree s w t) v = (spaced_stays S (spacing l Elsewhere) s v.0, stays l w v.1, spaced_stays S (spacing l Elsewhere) t v.2)
+stays l (EmptyTree i s) v = space_stays S Elsewhere l s v
+stays l (FullTree h s m) v = (head_stays l h v.0, space_stays S First l s v.1, stays l m v.2)
+stays l (LastTree e s) v = (stays l e v.0, space_stays SOC Last l s v.1)
+stays l (MoreTree e s m) v = (stays l e v.0, space_stays MSC Between l s v.1, stays l m v.2)
+stays l (NothingTree s) v = space_stays S Elsewhere l s v
+stays l (SequenceTree s m) v = (space_stays S Elsewhere l s v.0, stays l m v.1)
+stays l (StandaloneTree s w t) v = (space_stays S Elsewhere l s v.0, stays l w v.1, space_stays S Elsewhere l t v.2)
 
 pub stays_valid : StaysValid
 stays_valid s policy w v = valid (laid_out policy w) (stays (layout policy) w (tested w v))
@@ -97,9 +103,14 @@ spells_the_same = (
 
 -- ---- an earlier layout
 
+-- the layouts that keep the comments, and those that set spaces
 abbrev Keeps : Layout → Type 0
 Keeps (Inline column) = KeepsComments column
-Keeps (Lines base end level width) = Unit {0}
+Keeps _ = Unit {0}
+
+abbrev Sets : Layout → Type 0
+Sets Kept = ⊥
+Sets _ = Unit {0}
 
 abbrev IsLeast : Layout → Type 0
 IsLeast (Inline Least) = Unit {0}
@@ -107,9 +118,18 @@ IsLeast _ = ⊥
 
 -- the layout l forgets m
 abbrev Forgets : Layout → Layout → Type 0
-Forgets l m = Keeps m ⊎ IsLeast l
+Forgets l m = (Sets l × Keeps m) ⊎ IsLeast l
 
-spacing_keeps : (l : Layout) (p : Slot) → Keeps l → KeepsComments (spacing l p)
+-- the same of one space text
+abbrev ColumnKeeps : Option Spacing → Type 0
+ColumnKeeps None = Unit {0}
+ColumnKeeps (Some c) = KeepsComments c
+
+abbrev IsColumn : Option Spacing → Type 0
+IsColumn None = ⊥
+IsColumn (Some c) = Unit {0}
+
+spacing_keeps : (l : Layout) (p : Slot) → Keeps l → ColumnKeeps (spacing l p)
 spacing_keeps (Inline Least) p k = absurd k
 spacing_keeps l First k = tt
 spacing_keeps l Between k = tt
@@ -119,19 +139,37 @@ spacing_keeps l AfterPlus k = tt
 spacing_keeps l AfterColon k = tt
 spacing_keeps l Elsewhere k = tt
 
-spacing_least : (l : Layout) (p : Slot) → IsLeast l → spacing l p ≡ Least
-spacing_least (Inline Least) p h = refl
-spacing_least _ p h = absurd h
+spacing_sets : (l : Layout) (p : Slot) → Sets l → IsColumn (spacing l p)
+spacing_sets Kept p h = absurd h
+spacing_sets (Inline OneLine) BeforePlus h = tt
+spacing_sets (Inline OneLine) AfterPlus h = tt
+spacing_sets (Inline OneLine) AfterColon h = tt
+spacing_sets l First h = tt
+spacing_sets l Between h = tt
+spacing_sets l Last h = tt
+spacing_sets l BeforePlus h = tt
+spacing_sets l AfterPlus h = tt
+spacing_sets l AfterColon h = tt
+spacing_sets l Elsewhere h = tt
+
+column_forgotten : (k : SpaceKind) (o q : Option Spacing) (x : List ℕ) → IsColumn o → ColumnKeeps q → is_of k x ≡ true → spaced_or_kept k o (spaced_or_kept k q x) ≡ spaced_or_kept k o x
+column_forgotten k None q x i h e = absurd i
+column_forgotten k (Some c) None x i h e = refl
+column_forgotten k (Some c) (Some d) x i h e = spaced_forgets k c d x h e
+
+all_forgotten : (k : SpaceKind) (p : Slot) (l m : Layout) (x : List ℕ) → IsLeast l → respaced k p l (respaced k p m x) ≡ respaced k p l x
+all_forgotten k p (Inline Least) m x h = least_forgets k (respaced k p m x) x
+all_forgotten k p _ m x h = absurd h
 
 space_forgotten : (k : SpaceKind) (p : Slot) (l m : Layout) (x : List ℕ) → Forgets l m → is_of k x ≡ true → respaced k p l (respaced k p m x) ≡ respaced k p l x
-space_forgotten k p l m x h e =
-    ⊎_elim
-    (λ keeps. spaced_forgets k (spacing l p) (spacing m p) x (spacing_keeps m p keeps) e)
-    (λ least. ap (λ c. spaced k c (respaced k p m x)) (spacing_least l p least) ∙ (least_forgets k (respaced k p m x) x ∙ ap (λ c. spaced k c x) (sym (spacing_least l p least))))
-    h
+space_forgotten k p l m x f e = ⊎_elim (λ h. column_forgotten k (spacing l p) (spacing m p) x (spacing_sets l p h.0) (spacing_keeps m p h.1) e) (all_forgotten k p l m x) f
 
 chunk_forgets : (l m : Layout) → Forgets l m → Forgets (in_chunk l) (in_chunk m)
-chunk_forgets l m h = ⊎_elim (λ keeps. inl (keeps_in m keeps)) (λ least. inr (least_in l least)) h where
+chunk_forgets l m f = ⊎_elim (λ h. inl (sets_in l h.0, keeps_in m h.1)) (λ least. inr (least_in l least)) f where
+  sets_in : (l : Layout) → Sets l → Sets (in_chunk l)
+  sets_in (Inline OneLine) h = tt
+  sets_in l h = h
+
   keeps_in : (m : Layout) → Keeps m → Keeps (in_chunk m)
   keeps_in (Inline OneLine) k = tt
   keeps_in m k = k
@@ -140,25 +178,31 @@ chunk_forgets l m h = ⊎_elim (λ keeps. inl (keeps_in m keeps)) (λ least. inr
   least_in (Inline Least) h = tt
   least_in _ h = absurd h
 
+-- The layout of the parts of an item that has lines: a single line, or lines again.
+parts_any : (P : Layout → Type 0) (base end level width n : ℕ) → P (Inline OneLine) → P (Lines (saturating_add base level) base level width) → P (of_parts (Lines base end level width) n)
+parts_any P base end level width n a b = cond_both (nat_lt (saturating_add n base) width) (Inline OneLine) (Lines (saturating_add base level) base level width) P (λ e. a) (λ e. b)
+
 forgets_parts : (l m : Layout) (n : ℕ) → Forgets l m → Forgets l (of_parts m n)
+forgets_parts l Kept n f = f
 forgets_parts l (Inline column) n f = f
-forgets_parts l (Lines base end level width) n f =
-    cond_both (nat_lt (saturating_add n base) width) (Inline OneLine) (Lines (saturating_add base level) base level width) (λ k. Forgets l k) (λ e. inl tt) (λ e. inl tt)
+forgets_parts l (Lines base end level width) n f = parts_any (Forgets l) base end level width n f f
 
 -- an item that was laid out earlier
 fitted_earlier : (P : Tree OneItem → Type 0) (l m : Layout) (part : Layout → Tree OneItem) → Forgets l m → ((n : Layout) → Forgets l n → P (part n)) → P (fitted m part)
 fitted_earlier P l m part f h = let n = length (text (part (Inline OneLine))) in h (of_parts m n) (forgets_parts l m n f)
 
 only_keeps : (base end level width : ℕ) (m : Layout) → Forgets (Lines base end level width) m → Keeps m
-only_keeps base end level width m f = ⊎_elim (λ k. k) (λ h. absurd h) f
+only_keeps base end level width m f = ⊎_elim (λ h. h.1) (λ h. absurd h) f
 
 -- and is laid out now
 fitted_now : (l m : Layout) (f g : Layout → Tree OneItem) → Forgets l m → ((n : Layout) → Forgets n m → f n ≡ g n) → fitted l f ≡ fitted l g
+fitted_now Kept m f g forgets h = h Kept forgets
 fitted_now (Inline column) m f g forgets h = h (Inline column) forgets
 fitted_now (Lines base end level width) m f g forgets h =
     let keeps : Keeps m = only_keeps base end level width m forgets in
     let l : Layout = Lines base end level width in
-    ap (λ v. f (of_parts l (length (text v)))) (h (Inline OneLine) (inl keeps)) ∙ h (of_parts l (length (text (g (Inline OneLine))))) (inl keeps)
+    let n : ℕ = length (text (g (Inline OneLine))) in
+    ap (λ v. f (of_parts l (length (text v)))) (h (Inline OneLine) (inl (tt, keeps))) ∙ h (of_parts l n) (parts_any (λ l. Forgets l m) base end level width n (inl (tt, keeps)) (inl (tt, keeps)))
 
 head_forgotten : (l m : Layout) (h : ListHead) → Forgets l m → IsTestedListHead h → laid_list_head l (laid_list_head m h) ≡ laid_list_head l h
 head_forgotten l m NoIndicator f v = refl
@@ -210,8 +254,12 @@ policy_keeps : (q : DelimiterPolicy) → KeepsAllComments q → Keeps (layout q)
 policy_keeps DiscardAll k = absurd k
 policy_keeps q k = tt
 
+policy_sets : (p : DelimiterPolicy) → Sets (layout p)
+policy_sets DiscardAll = tt
+policy_sets p = tt
+
 pub forgets_layout : ForgetsLayout
-forgets_layout s p q w h v = forgotten (layout p) (layout q) w (⊎_elim (λ k. inl (policy_keeps q k)) (λ e. inr (subst (λ p. IsLeast (layout p)) (sym e) tt)) h) (tested w v)
+forgets_layout s p q w h v = forgotten (layout p) (layout q) w (⊎_elim (λ k. inl (policy_sets p, policy_keeps q k)) (λ e. inr (subst (λ p. IsLeast (layout p)) (sym e) tt)) h) (tested w v)
 
 keeps_or_all : (p : DelimiterPolicy) → KeepsAllComments p ⊎ (p ≡ DiscardAll)
 keeps_or_all DiscardAll = inr refl

@@ -3,10 +3,11 @@ use Rattle.std.proofs.lemmas.Grind.{common_steps}
 use Rattle.std.specs.String.{string_bytes}
 use Rattle.cbor_edn_model.specs.tree.Trees.{text}
 use Rattle.cbor_edn_core.specs.tree.View.{standalone_tree}
+use Rattle.cbor_edn_model.proofs.lemmas.layout.LaidTrees.{laid_kept}
 use Rattle.cbor_edn_core.proofs.lemmas.text.Printable.{standalone_spelled}
 use Rattle.cbor_edn_core.proofs.text.serialize.StandaloneItem.serialize.Goals as goal
 
 pub returns-clause-spells : goal.returns-clause-spells
 returns-clause-spells c =
-    let printed : string_bytes c.into_string.result ≡ text (standalone_tree c.args.self.now) = grind (arith, common_steps) in
+    let printed : string_bytes c.into_string.result ≡ text (standalone_tree c.args.self.now) = grind (arith, common_steps, laid_kept) in
     standalone_spelled c.args.self.now _ printed
