@@ -6,3 +6,5 @@ mod policy;
 pub(crate) mod print;
 mod room;
 mod strings;
+
+pub use print::print_item;

@@ -5,7 +5,7 @@
 pub mod access;
 pub mod cbor;
 pub mod laws;
-mod layout;
+pub mod layout;
 mod text;
 pub mod tree;
 pub mod visit;

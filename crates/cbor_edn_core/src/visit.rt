@@ -22,6 +22,7 @@ use cbor_edn_parts::string::{Dots, Literal};
 pub use map::MapValueHandler;
 use seek::{ApplicationItems, Literals, Tags, TagsNoDeeper};
 use std::alloc::{AllocError, Global};
+pub use tagged::item_has_tag;
 use tagged::sequence_has_tag;
 use walk::Walk;
 

@@ -120,7 +120,6 @@ impl Layout {
     }
 
     /// The layout of the strings of a stream: on a single line no space stands round the plus signs in them.
-    #[inline(always)]
     pub fn in_chunk(self) -> Layout
         ensures { result ≡ spec.in_chunk self }
     {

@@ -12,7 +12,8 @@ use cbor_edn_model::cbor::decode::head::Stop;
 use cbor_edn_parts::error::Fault;
 use cbor_edn_parts::space::S;
 use finish::finish_items;
-use reader::{decode_item, decode_items_until};
+pub use reader::decode_item;
+use reader::decode_items_until;
 use std::alloc::Global;
 
 mod finish;

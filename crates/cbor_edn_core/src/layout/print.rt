@@ -86,11 +86,7 @@ fn print_literal(
 
 #[cycle(print)]
 #[tactic(auto, using(crate::proofs::lemmas::tree::Views::view_string_is, crate::proofs::lemmas::tree::Views::view_stream_is, cbor_edn_model::proofs::lemmas::layout::LaidTexts::text_laid_number, cbor_edn_model::proofs::lemmas::layout::LaidTexts::text_laid_float, cbor_edn_model::proofs::lemmas::layout::LaidTexts::text_laid_named, cbor_edn_model::proofs::lemmas::text::Texts::text_float, cbor_edn_model::proofs::lemmas::text::Texts::text_named, cbor_edn_model::proofs::lemmas::layout::LaidTexts::text_laid_enclosed, cbor_edn_model::proofs::lemmas::layout::LaidTexts::text_laid_list, cbor_edn_model::proofs::lemmas::layout::LaidTexts::text_laid_string, crate::proofs::lemmas::layout::LaidStrings::text_laid_piece, cbor_edn_model::proofs::lemmas::text::Texts::text_string, cbor_edn_model::proofs::lemmas::text::Texts::text_last_piece, cbor_edn_model::proofs::lemmas::layout::LaidTexts::text_laid_stream, std::proofs::Common::append_assoc))]
-pub(crate) fn print_item(
-    out: &mut TextBuffer,
-    item: &Item<'_>,
-    layout: Layout,
-) -> Result<(), AllocError>
+pub fn print_item(out: &mut TextBuffer, item: &Item<'_>, layout: Layout) -> Result<(), AllocError>
     ensures { OnOk result (buffer_bytes out.new ≡ buffer_bytes out.old ++ text (laid layout (item_tree item.now))) }
 {
     match &item.inner {

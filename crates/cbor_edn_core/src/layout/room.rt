@@ -19,7 +19,6 @@ use cbor_edn_parts::policy::Spacing;
 use cbor_edn_parts::space::{Msc, S};
 
 /// The layout of the parts of an item.
-#[inline(always)]
 pub(super) fn layout_of_parts(layout: Layout, item: &Item<'_>) -> Layout
     ensures { result ≡ of_parts layout (measured (item_tree item.now)) }
 {

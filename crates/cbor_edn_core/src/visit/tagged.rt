@@ -14,7 +14,7 @@ use cbor_edn_parts::space::{Msc, S};
 #[cycle(tagged)]
 #[tactic(auto, using(crate::proofs::lemmas::tree::Views::view_string_is, crate::proofs::lemmas::tree::Views::view_stream_is), unfolding(cbor_edn_model::specs::visit::Tagged::has_tag))]
 #[inline(always)]
-fn item_has_tag(item: &Item<'_>) -> bool
+pub fn item_has_tag(item: &Item<'_>) -> bool
     ensures { result ≡ has_tag (item_tree item.now) }
 {
     match &item.inner {

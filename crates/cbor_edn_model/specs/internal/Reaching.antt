@@ -5,17 +5,22 @@ use Rattle.cbor_edn_model.specs.tree.Items.{Row, Pairs}
 use Rattle.cbor_edn_model.specs.tree.Rows.{entries_onto, pieces_onto}
 use Rattle.cbor_edn_model.specs.visit.Seeking.{CallArguments, SoughtCall, VisitItem, VisitParts}
 use Rattle.cbor_edn_model.specs.tree.Trees.{Rule, Tree, OneItem, OnePiece, OneString, OneEntry, Rest, PairTree}
-use Rattle.cbor_edn_model.specs.visit.Visits.{fine, no_memory, answered, Ending, whole, cut}
+use Rattle.cbor_edn_model.specs.visit.Visits.{Answer, fine, no_memory, answered, Ending, whole, cut}
+
+-- What a call comes to that gave this answer, at an item that nested so deep before: the comment in the space, and whether what it
+-- left is entered.
+pub data Ends {E : Type 0} (before : ℕ) (answer : Answer) (after : Tree OneItem) (s : List ℕ) : List ℕ → Result Bool E → Type 0 where
+  enters : answer ≢ no_memory → depth after ≤ before → Ends before answer after s (answered answer s) (Ok true)
+  stays : answer ≢ no_memory → before < depth after → Ends before answer after s (answered answer s) (Ok false)
+  fails : {e : E} → answer ≢ fine → Ends before answer after s s (Err e)
 
 pub data Reaches {E : Type 0} (IsSought : Tree OneItem → CallArguments → Type 0) : Tree OneItem → List ℕ → List SoughtCall → Tree OneItem → List ℕ → Result Bool E → Type 0 where
   -- not sought, hence no call
   passes : {w : Tree OneItem} {s : List ℕ} → ((a : CallArguments) → IsSought w a → ⊥) → Reaches IsSought w s [] w s (Ok true)
-  enters : {c : SoughtCall} {s : List ℕ} → IsSought c.before c.arguments → c.answer ≢ no_memory → depth c.after ≤ depth c.before
-      → Reaches IsSought c.before s (c ∷ []) c.after (answered c.answer s) (Ok true)
-  stays : {c : SoughtCall} {s : List ℕ} → IsSought c.before c.arguments → c.answer ≢ no_memory → depth c.before < depth c.after
-      → Reaches IsSought c.before s (c ∷ []) c.after (answered c.answer s) (Ok false)
+  calls : {c : SoughtCall} {s t : List ℕ} {r : Result Bool E} → IsSought c.before c.arguments → Ends (depth c.before) c.answer c.after s t r
+      → Reaches IsSought c.before s (c ∷ []) c.after t r
+  -- refused before the call
   fails_before : {a : CallArguments} {w : Tree OneItem} {s : List ℕ} {e : E} → IsSought w a → Reaches IsSought w s [] w s (Err e)
-  fails_after : {c : SoughtCall} {s : List ℕ} {e : E} → IsSought c.before c.arguments → c.answer ≢ fine → Reaches IsSought c.before s (c ∷ []) c.after s (Err e)
 
 module _ (IsSought : Tree OneItem → CallArguments → Type 0) where
   -- what stands in an item that is entered; else it stays

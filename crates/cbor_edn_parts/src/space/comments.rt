@@ -30,13 +30,14 @@ pub(super) fn comments_round_comma(text: &str) -> (&str, &str)
     comments_in_parts(text)
 }
 
-/// Whether a text is a comma, a blank, or the one behind the other, as most are. Then it has no comment.
+/// Whether a text is empty, a comma, a blank, or the one behind the other, as most are. Then it has no comment.
 #[inline(always)]
 pub(super) fn is_bare_separator(text: &str) -> bool
     ensures before { IsTrue result → comments_before text.now ≡ [] }
     ensures after { IsTrue result → comments_after text.now ≡ [] }
 {
     match text.as_bytes() {
+        [] => true,
         [b','] => true,
         [b' '] => true,
         [b',', b' '] => true,

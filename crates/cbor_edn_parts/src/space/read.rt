@@ -18,6 +18,7 @@ use crate::scan::token_end;
 use crate::text::Text;
 
 /// The optional space at a place, and the place behind it.
+#[inline(always)]
 pub fn space<'a>(text: &Text<'a>, from: usize, looks: &mut Looks) -> Result<(S<'a>, usize), Refusal>
     requires { IsCharBoundary (text_bytes text.now) from }
     ensures value { Scans s_bytes (text_bytes text.now) result (token tokens.space (drop from (text_bytes text.now))) }
@@ -130,6 +131,7 @@ fn end_of_space(
 }
 
 /// The optional space behind an item, and the place behind it.
+#[inline(always)]
 pub fn space_behind<'a>(
     text: &Text<'a>,
     end: ItemEnd,

@@ -6,7 +6,7 @@ ghost use Rattle.cbor_edn_parts.specs.internal.Prefixes as prefixes;
 ghost use Rattle.cbor_edn_parts.specs.Refusals.{IfTold};
 ghost use Rattle.cbor_edn_parts.specs.Written.{application_literal, all_single_escaped};
 
-use super::write::print_escaped;
+use super::write::{is_plain, print_escaped};
 use super::{Literal, Quote};
 use crate::error::{Fault, InconsistentEdn};
 use crate::leaf_text::LeafText;
@@ -27,12 +27,12 @@ impl<'a> Literal<'a> {
         if !is_prefix(prefix) {
             return Err(Fault::Told(InconsistentEdn::InvalidIdentifier));
         }
-        let mut literal = String::from_str(alloc, prefix)?;
-        literal.push('\'')?;
-        for character in text.chars() {
-            print_single_escaped(&mut literal, character)?;
-        }
-        literal.push('\'')?;
+        let size = prefix.len().saturating_add(text.len()).saturating_add(2);
+        let mut literal = String::with_capacity(alloc, size)?;
+        literal.push_str(prefix)?;
+        literal.push_str("'")?;
+        print_single_quoted(&mut literal, text)?;
+        literal.push_str("'")?;
         let text = LeafText::own(alloc, literal)?;
         Ok(Literal { text })
     }
@@ -93,6 +93,19 @@ fn are_large(text: &[u8]) -> bool
 {
     text.iter()
         .all(|byte| matches!(*byte, b'A'..=b'Z' | b'0'..=b'9'))
+}
+
+/// Appends a text as it stands between single quotes: at once where each byte stands for itself, as in times and addresses.
+fn print_single_quoted(literal: &mut String, text: &str) -> Result<(), AllocError>
+    ensures { OnOk result (string_bytes literal.new ≡ string_bytes literal.old ++ all_single_escaped text.now) }
+{
+    if is_plain(text) {
+        return literal.push_str(text);
+    }
+    for character in text.chars() {
+        print_single_escaped(literal, character)?;
+    }
+    Ok(())
 }
 
 /// Appends a character as it stands between single quotes.

@@ -39,12 +39,24 @@ impl Literal<'_> {
         ensures content { IfSome result (λ p. HasContent (literal_bytes self.now) p.0 p.1.now) }
         ensures plain { IsNone result → (quote : Quote) (text : List ℕ) → literal_bytes self.now ≡ tokens.quote_byte quote ∷ (text ++ (tokens.quote_byte quote ∷ [])) → All (λ c. tokens.is_plain quote c ≡ true) text → ⊥ }
     {
-        if !self.prefix().is_empty() {
-            return None;
-        }
-        let kind = self.kind();
-        let plain = kind.quote().plain(self.quoted())?;
+        let (kind, quoted) = self.unprefixed()?;
+        let plain = kind.quote().plain(quoted)?;
         Some((kind, &self.as_str()[1..1 + plain.len()]))
+    }
+
+    /// The kind of a literal without prefix, and what stands behind its first quote.
+    #[inline(always)]
+    fn unprefixed(&self) -> Option<(StringKind, &[u8])>
+        ensures prefix { IfSome result (λ _. tokens.prefix_of (literal_bytes self.now) ≡ []) }
+        ensures kind { IfSome result (λ p. p.0 ≡ reading.literal_kind (literal_bytes self.now)) }
+        ensures quoted { IfSome result (λ p. p.1.now ≡ reading.behind_quote (literal_bytes self.now)) }
+        ensures none { IsNone result → (quote : Quote) (text : List ℕ) → literal_bytes self.now ≡ tokens.quote_byte quote ∷ text → ⊥ }
+    {
+        match self.as_str().as_bytes() {
+            [b'"', quoted @ ..] => Some((StringKind::Text, quoted)),
+            [b'\'', quoted @ ..] => Some((StringKind::Bytes, quoted)),
+            _ => None,
+        }
     }
 
     /// What stands before the first quote.

@@ -94,7 +94,7 @@ fn print_between(literal: &mut String, text: &str) -> Result<(), AllocError>
 }
 
 /// Whether each byte of a text stands for itself between double quotes.
-fn is_plain(text: &str) -> bool
+pub(super) fn is_plain(text: &str) -> bool
     ensures { IsTrue result ↔ All (λ c. escaped c ≡ c ∷ []) text.now }
 {
     for byte in text.as_bytes() {

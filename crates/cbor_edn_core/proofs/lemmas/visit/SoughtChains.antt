@@ -5,7 +5,6 @@ use Rattle.cbor_edn_parts.specs.declared.error.CallbackError.{CallbackError}
 use Rattle.cbor_edn_model.specs.access.Accessed.{tag_number, IsApplicationItem}
 use Rattle.cbor_edn_model.specs.visit.Depth.{depth}
 use Rattle.cbor_edn_model.specs.visit.Seeking.{CallArguments, IsTag, IsApplication, number, prefix_and_text}
-use Rattle.cbor_edn_model.specs.internal.Widths.{capped}
 use Rattle.cbor_edn_model.specs.visit.Seeking.{SoughtCall}
 use Rattle.cbor_edn_model.specs.tree.Trees.{Tree, OneItem}
 use Rattle.cbor_edn_model.specs.visit.Visits.{Chain}
@@ -41,10 +40,3 @@ no_arguments w h (prefix_and_text p v) k = k
 pub no_literal_arguments : (w : Tree OneItem) → ((p v : List ℕ) → IsApplicationItem w p v → ⊥) → (a : CallArguments) → IsApplication w a → ⊥
 no_literal_arguments w h (number n) k = k
 no_literal_arguments w h (prefix_and_text p v) k = h p v k
-
--- a count that is not capped says how deep an item nests, and one that is no more than it too
-pub counted_le : {d e x y : ℕ} → x ≡ capped d → (x ≡ 2 ^ 64 - 1 → ⊥) → y ≡ capped e → y ≤ x → e ≤ d
-counted_le h n k l = omega (arith, h, n, k, l)
-
-pub counted_lt : {d e x y : ℕ} → x ≡ capped d → y ≡ capped e → x < y → d < e
-counted_lt h k l = omega (arith, h, k, l)

@@ -373,7 +373,7 @@ fn decode_behind_head<'a, 'b>(
 
 /// The item at the front, nested no deeper than the limit.
 #[cycle(item)]
-pub(super) fn decode_item<'a, 'b>(
+pub fn decode_item<'a, 'b>(
     alloc: Global,
     bytes: &'b [u8],
     limit: usize,

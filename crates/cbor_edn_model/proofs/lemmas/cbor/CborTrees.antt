@@ -109,7 +109,7 @@ unfolding until
 until_shown f stop one other shows zero bytes = refl
 until_shown f stop one other shows (suc n) bytes = turn_shown f one other (until stop one n) (until stop other n) shows (until_shown f stop one other shows n) bytes (past_stop stop bytes)
 
-several_shown : {A B : Type 0} (f : A → B) (one : Decoder B) (other : Decoder A) → Shows f one other → (argument : Option (Width × ℕ)) → Shows (map f) (several one argument) (several other argument)
+pub several_shown : {A B : Type 0} (f : A → B) (one : Decoder B) (other : Decoder A) → Shows f one other → (argument : Option (Width × ℕ)) → Shows (map f) (several one argument) (several other argument)
 unfolding several
 several_shown f one other shows (Some (w, n)) bytes = many_shown f one other shows n bytes
 several_shown f one other shows None bytes = until_shown f Break one other shows (suc (length bytes)) bytes

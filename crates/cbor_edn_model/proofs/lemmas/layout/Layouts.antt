@@ -3,10 +3,11 @@ use Rattle.std.proofs.Common.{ℕ, ◌≡◌, ◌⊎◌, inl, inr, List, Option,
 use Rattle.std.specs.Prelude.{nat_lt, length}
 use mathlib.Core.Logic.{⊎_elim}
 use Rattle.std.proofs.lemmas.Bool.{cond_both}
-use Rattle.cbor_edn_parts.specs.Spacing.{SpaceKind, S, MS, MSC, SOC, Spacing}
+use Rattle.cbor_edn_parts.specs.Spacing.{SpaceKind, S, MS, MSC, SOC}
 use Rattle.cbor_edn_parts.specs.declared.policy.DelimiterPolicy.{DelimiterPolicy}
 use Rattle.cbor_edn_parts.specs.declared.policy.DelimiterPolicy.TheVariants.{DiscardAll}
-use Rattle.cbor_edn_parts.specs.declared.policy.Spacing.TheVariants.{Least, OneLine}
+use Rattle.cbor_edn_parts.specs.declared.policy.Spacing.{Spacing}
+use Rattle.cbor_edn_parts.specs.declared.policy.Spacing.TheVariants.{Least, Comments, OneLine, NewLine, OneSpace}
 use Rattle.cbor_edn_parts.specs.SpacingLaws.{is_of, KeepsComments}
 use Rattle.cbor_edn_parts.proofs.lemmas.layout.Spacings.{spaced_stays, spaced_forgets, least_forgets}
 use Rattle.cbor_edn_model.specs.tree.Items.{Listed, String, Stream, Plus, Element, Pair, Chunk, End, Then}
@@ -139,11 +140,22 @@ spacing_keeps l AfterPlus k = tt
 spacing_keeps l AfterColon k = tt
 spacing_keeps l Elsewhere k = tt
 
+column_sets : (c : Spacing) (p : Slot) → IsColumn (spacing (Inline c) p)
+column_sets OneLine First = tt
+column_sets OneLine Between = tt
+column_sets OneLine Last = tt
+column_sets OneLine BeforePlus = tt
+column_sets OneLine AfterPlus = tt
+column_sets OneLine AfterColon = tt
+column_sets OneLine Elsewhere = tt
+column_sets Least p = tt
+column_sets Comments p = tt
+column_sets (NewLine n) p = tt
+column_sets OneSpace p = tt
+
 spacing_sets : (l : Layout) (p : Slot) → Sets l → IsColumn (spacing l p)
 spacing_sets Kept p h = absurd h
-spacing_sets (Inline OneLine) BeforePlus h = tt
-spacing_sets (Inline OneLine) AfterPlus h = tt
-spacing_sets (Inline OneLine) AfterColon h = tt
+spacing_sets (Inline c) p h = column_sets c p
 spacing_sets l First h = tt
 spacing_sets l Between h = tt
 spacing_sets l Last h = tt

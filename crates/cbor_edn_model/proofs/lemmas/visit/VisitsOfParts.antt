@@ -1,11 +1,11 @@
 -- Visits of tags and of literals, put together from those of parts.
-use Rattle.std.proofs.Common.{ℕ, ◌+◌, ◌*◌, ◌<◌, ◌≤◌, ◌≡◌, ◌≢◌, Bool, true, false, Result, Ok, Err, List, [], ◌∷◌, ◌++◌, arith}
+use Rattle.std.proofs.Common.{ℕ, ◌+◌, ◌*◌, ◌<◌, ◌≤◌, ◌≡◌, ◌≢◌, Bool, true, false, Result, Ok, Err, List, [], ◌∷◌, ◌++◌, arith, refl}
 use Rattle.std.specs.Result.{IsErr}
 use Rattle.cbor_edn_model.specs.visit.Depth.{depth}
 use Rattle.cbor_edn_model.specs.visit.Seeking.{CallArguments, SoughtCall, VisitItem, passed, entered, stayed, refused, not_called}
 use Rattle.cbor_edn_model.specs.tree.Trees.{OneItem, Tree}
-use Rattle.cbor_edn_model.specs.visit.Visits.{Ending, cut, fine, no_memory, answered, Chain, no_calls, one_call}
-use Rattle.cbor_edn_model.specs.internal.Reaching.{Reaches, passes, enters, stays, fails_before, fails_after, VisitIf}
+use Rattle.cbor_edn_model.specs.visit.Visits.{Answer, Ending, cut, fine, no_memory, answered, Chain, no_calls, one_call}
+use Rattle.cbor_edn_model.specs.internal.Reaching.{Ends, enters, stays, fails, Reaches, passes, calls, fails_before, VisitIf}
 
 -- the measure of a visit of what a reached item left
 abbrev pub measure_if : Bool → Tree OneItem → ℕ
@@ -16,16 +16,16 @@ module _ {IsSought : Tree OneItem → CallArguments → Type 0} where
   pub then_if : {E : Type 0} {w v : Tree OneItem} {s t : List ℕ} {cs : List SoughtCall} (b : Bool) (x : Tree OneItem) (ds : List SoughtCall) (r : Ending)
       → Reaches {E = E} IsSought w s cs v t (Ok b) → VisitIf IsSought b v ds x r → VisitItem IsSought w s (cs ++ ds) x t r
   then_if true x ds r (passes n) v = passed n v
-  then_if true x ds r (enters is a d) v = entered is a d v
-  then_if false x ds r (stays is a d) v = rw (v.0, v.1, v.2) (stayed is a d)
+  then_if true x ds r (calls is (enters a d)) v = entered is a d v
+  then_if false x ds r (calls is (stays a d)) v = rw (v.0, v.1, v.2) (stayed is a d)
 
   pub failed : {E : Type 0} {w v : Tree OneItem} {s t : List ℕ} {cs : List SoughtCall} {e : E} → Reaches IsSought w s cs v t (Err e) → VisitItem IsSought w s cs v t cut
   failed (fails_before is) = not_called is
-  failed (fails_after is a) = refused is a
+  failed (calls is (fails a)) = refused is a
 
   pub measure_if-le : {E : Type 0} {w v : Tree OneItem} {s t : List ℕ} {cs : List SoughtCall} (b : Bool) → Reaches {E = E} IsSought w s cs v t (Ok b) → measure_if b v ≤ 16 * depth w + 6
   measure_if-le true (passes n) = omega arith
-  measure_if-le true (enters is a d) = omega (arith, d)
+  measure_if-le true (calls is (enters a d)) = omega (arith, d)
   measure_if-le false r = omega arith
 
   -- the one call at an item, and what it came to
@@ -33,19 +33,21 @@ module _ {IsSought : Tree OneItem → CallArguments → Type 0} where
       → (cs : List SoughtCall) × Chain Step f cs f × Reaches {E = E} IsSought w s cs w s (Ok true)
   reached_not n = ([], no_calls, passes n)
 
-  pub reached_never : {E F : Type 0} {Step : F → SoughtCall → F → Type 0} {f : F} {w : Tree OneItem} {s : List ℕ} {e : E} (a : CallArguments) → IsSought w a
-      → (cs : List SoughtCall) × Chain Step f cs f × Reaches IsSought w s cs w s (Err e)
-  reached_never a is = ([], no_calls, fails_before {a = a} is)
+  pub reached_never : {E F : Type 0} {Step : F → SoughtCall → F → Type 0} {f : F} {w : Tree OneItem} {s : List ℕ} (r : Result Bool E) → IsErr r → (a : CallArguments) → IsSought w a
+      → (cs : List SoughtCall) × Chain Step f cs f × Reaches IsSought w s cs w s r
+  reached_never (Ok b) h a is = cc
+  reached_never (Err e) h a is = ([], no_calls, fails_before {a = a} is)
 
-  pub reached_err : {E F : Type 0} {Step : F → SoughtCall → F → Type 0} {f g : F} {s t : List ℕ} (c : SoughtCall) (r : Result Bool E) → IsErr r → IsSought c.before c.arguments → Step f c g → c.answer ≢ fine → t ≡ s
+  pub reached : {E F : Type 0} {Step : F → SoughtCall → F → Type 0} {f g : F} {s t : List ℕ} {n : ℕ} {r : Result Bool E} (c : SoughtCall) → IsSought c.before c.arguments → Step f c g → n ≡ depth c.before → Ends n c.answer c.after s t r
       → (cs : List SoughtCall) × Chain Step f cs g × Reaches IsSought c.before s cs c.after t r
-  reached_err c (Ok b) h is k a e = cc
-  reached_err c (Err x) h is k a e = rw e (c ∷ [], one_call k no_calls, fails_after is a)
+  reached c is k n e = (c ∷ [], one_call k no_calls, calls is (rw (← n) e))
 
-  pub reached_in : {E F : Type 0} {Step : F → SoughtCall → F → Type 0} {f g : F} {s t : List ℕ} (c : SoughtCall) → IsSought c.before c.arguments → Step f c g → c.answer ≢ no_memory → t ≡ answered c.answer s → depth c.after ≤ depth c.before
-      → (cs : List SoughtCall) × Chain Step f cs g × Reaches {E = E} IsSought c.before s cs c.after t (Ok true)
-  reached_in c is k a h d = rw h (c ∷ [], one_call k no_calls, enters is a d)
+-- how a call ends whose comment was refused memory
+pub ends_err : {E : Type 0} {n : ℕ} {a : Answer} {v : Tree OneItem} {s t : List ℕ} (r : Result Bool E) → IsErr r → a ≢ fine → t ≡ s → Ends n a v s t r
+ends_err (Ok b) h f e = cc
+ends_err (Err x) h f e = rw e (fails f)
 
-  pub reached_out : {E F : Type 0} {Step : F → SoughtCall → F → Type 0} {f g : F} {s t : List ℕ} (c : SoughtCall) → IsSought c.before c.arguments → Step f c g → c.answer ≢ no_memory → t ≡ answered c.answer s → depth c.before < depth c.after
-      → (cs : List SoughtCall) × Chain Step f cs g × Reaches {E = E} IsSought c.before s cs c.after t (Ok false)
-  reached_out c is k a h d = rw h (c ∷ [], one_call k no_calls, stays is a d)
+-- and how one ends whose comment was put
+pub ends_ok : {E : Type 0} {n : ℕ} {a : Answer} {v : Tree OneItem} {s t : List ℕ} (b : Bool) → a ≢ no_memory → t ≡ answered a s → (b ≡ true → depth v ≤ n) → (b ≡ false → n < depth v) → Ends {E = E} n a v s t (Ok b)
+ends_ok true m e le lt = rw e (enters m (le refl))
+ends_ok false m e le lt = rw e (stays m (lt refl))

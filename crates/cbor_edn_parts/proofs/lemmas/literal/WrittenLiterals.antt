@@ -77,6 +77,18 @@ all_single_escaped-append (c ∷ xs) ys = rw (all_single_escaped-append xs ys, a
 plain : (c : ℕ) → c ≢ 39 → c ≢ 34 → single_escaped c ≡ escaped c
 plain c a b = cond-false (eqb c 39) _ _ (ne_eqb c 39 a) ∙ cond-false (eqb c 34) _ _ (ne_eqb c 34 b)
 
+-- a byte that stands for itself between double quotes does so between single quotes
+plain_single : (c : ℕ) → escaped c ≡ c ∷ [] → single_escaped c ≡ c ∷ []
+plain_single c h =
+    let single : c ≢ 39 = λ e. let long : escaped 39 ≡ 39 ∷ [] = subst (λ c. escaped c ≡ c ∷ []) e h in absurd (cc long) in
+    let double : c ≢ 34 = λ e. let long : escaped 34 ≡ 34 ∷ [] = subst (λ c. escaped c ≡ c ∷ []) e h in absurd (cc long) in
+    plain c single double ∙ h
+
+pub all_plain_single : (xs : List ℕ) → All (λ c. escaped c ≡ c ∷ []) xs → all_single_escaped xs ≡ xs
+all_plain_single [] all = refl
+all_plain_single (c ∷ xs) all =
+    rw (plain_single c (All-head (λ c. escaped c ≡ c ∷ []) c xs all)) (ap (λ ys. c ∷ ys) (all_plain_single xs (All-tail (λ c. escaped c ≡ c ∷ []) c xs all)))
+
 long_same : (xs : List ℕ) → ((k : ℕ) → k < length xs → 128 ≤ get_or xs k 0) → all_single_escaped xs ≡ all_escaped xs
 long_same [] h = refl
 long_same (c ∷ xs) h =

@@ -1,10 +1,10 @@
-use Rattle.std.proofs.Common.{ℕ, List, ◌∙◌, ap, rules, string_bytes}
+use Rattle.std.proofs.Common.{ℕ, List, rules, refl, string_bytes}
 use Rattle.cbor_edn_model.specs.access.Accessed.{IsApplicationItem}
 use Rattle.cbor_edn_model.specs.visit.Seeking.{prefix_and_text}
-use Rattle.cbor_edn_model.specs.visit.Visits.{answered, one_call, no_calls}
-use Rattle.cbor_edn_model.proofs.lemmas.visit.VisitsOfParts.{reached_not, reached_never, reached_err, reached_in, reached_out}
+use Rattle.cbor_edn_model.specs.visit.Visits.{one_call, no_calls}
+use Rattle.cbor_edn_model.proofs.lemmas.visit.VisitsOfParts.{reached_not, reached_never, reached}
 use Rattle.cbor_edn_core.specs.tree.View.{item_tree}
-use Rattle.cbor_edn_core.proofs.lemmas.visit.SoughtChains.{literals_after, no_literal_arguments, counted_le, counted_lt}
+use Rattle.cbor_edn_core.proofs.lemmas.visit.SoughtChains.{literals_after, no_literal_arguments}
 use Rattle.cbor_edn_core.proofs.visit.seek.reach_application.Goals as goal
 
 pub returns-in-Err-Told-clause-reached : goal.returns-in-Err-Told-clause-reached
@@ -15,30 +15,13 @@ returns-in-Err-Told-clause-reached g c =
 pub returns-in-Err-Memory-clause-reached : goal.returns-in-Err-Memory-clause-reached
 returns-in-Err-Memory-clause-reached g c =
     let some : (p v : List ℕ) × IsApplicationItem (item_tree c.args.item.now) p v = search rules in
-    reached_never (prefix_and_text some.0 some.1) some.2
+    reached_never _ refl (prefix_and_text some.0 some.1) some.2
 
-pub returns-then-before-clause-reached : goal.returns-then-before-clause-reached
-returns-then-before-clause-reached g c = reached_never (prefix_and_text (string_bytes c.in-Ok.literal.0) (string_bytes c.in-Ok.literal.1)) c.in-Ok.ensures.found
+pub returns-in_err-before-clause-reached : goal.returns-in_err-before-clause-reached
+returns-in_err-before-clause-reached g c = reached_never c.from_residual.result c.from_residual.ensures.0 (prefix_and_text (string_bytes c.in-Ok.literal.0) (string_bytes c.in-Ok.literal.1)) c.in-Ok.ensures.found
 
-pub returns-in_err-put_answer-clause-callable_after : goal.returns-in_err-put_answer-clause-callable_after
-returns-in_err-put_answer-clause-callable_after g c = literals_after item_tree _ c.requires.callable (one_call c.call_literal-answer.ensures.called no_calls)
+pub returns-clause-callable_after : goal.returns-clause-callable_after
+returns-clause-callable_after g c = literals_after item_tree _ c.requires.callable (one_call c.call_literal-answer.ensures.called no_calls)
 
-pub returns-in_err-put_answer-clause-reached : goal.returns-in_err-put_answer-clause-reached
-returns-in_err-put_answer-clause-reached g c =
-    reached_err (record { arguments = _; before = _; answer = _; after = _ }) c.from_residual.result c.from_residual.ensures.0 c.in-Ok.ensures.found c.call_literal-answer.ensures.called (λ z. c.in_err-put_answer.ensures.had_comment (c.element_answer.ensures ∙ z)) c.in_err-put_answer.ensures.out_of_memory
-
-pub returns-then-item_depth-before-clause-callable_after : goal.returns-then-item_depth-before-clause-callable_after
-returns-then-item_depth-before-clause-callable_after g c = literals_after item_tree _ c.requires.callable (one_call c.call_literal-answer.ensures.called no_calls)
-
-pub returns-then-item_depth-before-clause-reached : goal.returns-then-item_depth-before-clause-reached
-returns-then-item_depth-before-clause-reached g c =
-    reached_in (record { arguments = _; before = _; answer = _; after = _ }) c.in-Ok.ensures.found c.call_literal-answer.ensures.called (λ z. c.in_ok-put_answer.ensures.had_memory (c.element_answer.ensures ∙ z)) (c.in_ok-put_answer.ensures.put ∙ ap (λ a. answered a (g.X.TakesComment.bytes c.args.space.now)) c.element_answer.ensures)
-    (counted_le c.item_depth-before.ensures c.if-before.false c.item_depth.ensures c.if-item_depth-before.true)
-
-pub returns-else-item_depth-before-clause-callable_after : goal.returns-else-item_depth-before-clause-callable_after
-returns-else-item_depth-before-clause-callable_after g c = literals_after item_tree _ c.requires.callable (one_call c.call_literal-answer.ensures.called no_calls)
-
-pub returns-else-item_depth-before-clause-reached : goal.returns-else-item_depth-before-clause-reached
-returns-else-item_depth-before-clause-reached g c =
-    reached_out (record { arguments = _; before = _; answer = _; after = _ }) c.in-Ok.ensures.found c.call_literal-answer.ensures.called (λ z. c.in_ok-put_answer.ensures.had_memory (c.element_answer.ensures ∙ z)) (c.in_ok-put_answer.ensures.put ∙ ap (λ a. answered a (g.X.TakesComment.bytes c.args.space.now)) c.element_answer.ensures)
-    (counted_lt c.item_depth-before.ensures c.item_depth.ensures c.if-item_depth-before.false)
+pub returns-clause-reached : goal.returns-clause-reached
+returns-clause-reached g c = reached (record { arguments = _; before = _; answer = _; after = _ }) c.in-Ok.ensures.found c.call_literal-answer.ensures.called c.in_ok-before.ensures.0 c.end.ensures

@@ -1,12 +1,11 @@
-use Rattle.std.proofs.Common.{◌≡◌, ◌<◌, ◌++◌, ℕ, List, [], ◌∷◌, refl, sym, ◌∙◌, length, arith}
-use Rattle.std.proofs.lemmas.Bool.Decides.{nat_tests}
+use Rattle.std.proofs.Common.{◌≡◌, ◌<◌, ◌++◌, [], ◌∷◌, sym, ◌∙◌, arith}
 use Rattle.cbor_edn_parts.specs.Leaves.{literal_bytes}
 use Rattle.cbor_edn_parts.specs.internal.LiteralTokens.{quote_byte, prefix_of}
 use Rattle.cbor_edn_parts.specs.internal.ContentReading.{behind_quote}
 use Rattle.cbor_edn_parts.specs.declared.string.Quote.{Quote}
 use Rattle.cbor_edn_parts.specs.declared.string.Quote.TheVariants.{Single, Double}
 use Rattle.cbor_edn_parts.proofs.lemmas.literal.ContentTexts.{content_read}
-use Rattle.cbor_edn_parts.proofs.lemmas.literal.LiteralPrefixes.{plain_content, prefix_empty, lone_begins, lone_ends, lone_between}
+use Rattle.cbor_edn_parts.proofs.lemmas.literal.LiteralPrefixes.{plain_content, lone_begins, lone_ends, lone_between}
 use Rattle.cbor_edn_parts.proofs.string.Literal.plain_content.Goals as goal
 use Rattle.cbor_edn_parts.proofs.string.Literal.plain_content.Goals.{After-as_str}
 
@@ -16,10 +15,10 @@ small Single = omega arith
 small Double = omega arith
 
 none : (c : After-as_str) → prefix_of (literal_bytes c.args.self.now) ≡ []
-none c = sym c.prefix.ensures ∙ prefix_empty c.prefix.result.now c.if-not-is_empty.ensures
+none c = c.in_ok-kind.ensures.prefix
 
 ended : (c : After-as_str) → behind_quote (literal_bytes c.args.self.now) ≡ c.in_ok-plain.plain.now ++ (quote_byte c.quote.result ∷ [])
-ended c = sym c.quoted.ensures ∙ c.in_ok-plain.ensures.whole
+ended c = sym c.in_ok-kind.ensures.quoted ∙ c.in_ok-plain.ensures.whole
 
 pub range-requires-clause-start_boundary : goal.range-requires-clause-start_boundary
 range-requires-clause-start_boundary c = rw c.as_str.ensures (λ _. lone_begins (literal_bytes c.args.self.now) c.args.self.now.spelled (none c) _ _ (small c.quote.result) (ended c) (rw c.as_str.ensures at c.as_str.utf8))
@@ -31,20 +30,7 @@ pub returns-clause-content : goal.returns-clause-content
 returns-clause-content c =
     let text = literal_bytes c.args.self.now in
     let spelled = c.args.self.now.spelled in
-    let none : prefix_of text ≡ [] = sym c.prefix.ensures ∙ prefix_empty c.prefix.result.now c.if-not-is_empty.ensures in
-    let ended : behind_quote text ≡ c.in_ok-plain.plain.now ++ (quote_byte c.quote.result ∷ []) = sym c.quoted.ensures ∙ c.in_ok-plain.ensures.whole in
+    let none : prefix_of text ≡ [] = c.in_ok-kind.ensures.prefix in
+    let ended : behind_quote text ≡ c.in_ok-plain.plain.now ++ (quote_byte c.quote.result ∷ []) = sym c.in_ok-kind.ensures.quoted ∙ c.in_ok-plain.ensures.whole in
     let between : c.range.result.now ≡ c.in_ok-plain.plain.now = rw (c.range.ensures.value, c.as_str.ensures) (lone_between text spelled none _ _ (small c.quote.result) ended) in
-    content_read text spelled _ _ (rw (between, ← c.in_ok-plain.ensures.some, c.quote.ensures, c.quoted.ensures, c.kind-kind.ensures) (plain_content text spelled none))
-
--- a quote that stands first has no prefix
-prefix_none : (q : Quote) (t : List ℕ) → prefix_of (quote_byte q ∷ t) ≡ []
-unfolding prefix_of
-prefix_none Single t = refl
-prefix_none Double t = refl
-
-pub returns-then-not-is_empty-clause-plain : goal.returns-then-not-is_empty-clause-plain
-returns-then-not-is_empty-clause-plain c = λ _ quote text is all.
-    let empty : c.prefix.result.now ≡ [] = rw (c.prefix.ensures, is) (prefix_none quote _) in
-    let zero : length c.prefix.result.now ≡ 0 = rw empty refl in
-    let filled = c.if-not-is_empty.ensures in
-    absurd (grind (arith, nat_tests))
+    content_read text spelled _ _ (rw (between, ← c.in_ok-plain.ensures.some, c.quote.ensures, c.in_ok-kind.ensures.quoted, c.in_ok-kind.ensures.kind) (plain_content text spelled none))
