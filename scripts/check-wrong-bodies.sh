@@ -1,0 +1,24 @@
+#!/usr/bin/env bash
+# Tries the wrong bodies of crates, crates/CRATE/wrong/*.edit, all of a crate's in one check: each must be refused for the goals that it
+# names.
+#
+# usage: scripts/check-wrong-bodies.sh [--jobs N] [--proved DIR] [CRATE[/NAME]..]
+#
+# An edit has a line `refuses: FUNCTION GOAL..`: the function whose body it changes, as a check names it without the crate, and what the
+# prover must not prove of it then. The other lines are those of a must-fail edit: `file:`, `old:` and `new:`. A proof rests on what is called
+# by its contract alone, so a wrong body is refused in its own function, whatever the others are. All are written into one copy of the crate.
+# A second edit of one function changes a copy of it under another name, where it stands at the top of its file and has no proof by hand; else
+# it waits for another check. So does one of a function that calls another changed one, where the prover leaves goals untried. A check reads
+# the functions that are changed and those that they call, and no other.
+#
+# These are failures: an edit without that line, one that cannot be applied, one of a function that is not there, a function that is refused
+# for other goals than its edit names (for none: the body is right), a function that is refused and not changed, a copy that does not compile,
+# a library below that is not in its out/ or is older than its sources.
+#
+# With no CRATE all that have wrong/ are tried, as many side by side as processors and memory allow. With --proved, which is for a running
+# `rt ci`, they are tried one behind the other, each once DIR has a file of the name of each library below; once DIR has `ended`, as without.
+# Each check has N jobs, or one. The last line is 'N passed, M failed', over the edits.
+set -euo pipefail
+
+cd "$(dirname "$(readlink -f "$0")")/.."
+exec python3 -B scripts/wrong_bodies.py "$@"

@@ -1,0 +1,136 @@
+#!/usr/bin/env bash
+# Runs scripts/check-wrong-bodies.sh over a small tree of its own: edits that it must pass, and everything that it must tell as a failure.
+# Some 20 CPU seconds. The last line is 'N passed, M failed'.
+set -euo pipefail
+
+cd "$(dirname "$(readlink -f "$0")")"
+# shellcheck source=scripts/count.sh
+. ./count.sh
+tree=$(mktemp -d)
+trap 'rm -rf "$tree"' EXIT
+mkdir -p "$tree/scripts" "$tree"/crates/{low,high}/{src,wrong}
+cp check-wrong-bodies.sh wrong_bodies.py kit.py "$tree/scripts"
+printf 'low:\nhigh: low\n' > "$tree/crates.txt"
+echo '#![tactic(auto)]' > "$tree/crates/high/src/lib.rt"
+cat > "$tree/crates/low/src/lib.rt" << 'EOF'
+#![tactic(auto)]
+
+ghost use Rattle.std.specs.Prelude.{◌≡◌, ◌+◌};
+
+pub fn first(a: u8, b: u8) -> u8
+    ensures { result ≡ a }
+{
+    (a, b).0
+}
+
+pub fn sum(a: u8, b: u8) -> u16
+    ensures { result ≡ a + b }
+{
+    u16::from(a) + u16::from(b)
+}
+
+pub fn third(a: u8) -> u8
+    ensures { result ≡ a }
+{
+    a
+}
+
+pub fn fourth() -> u8
+    ensures { result ≡ 5 }
+{
+    pair(5)
+}
+
+fn pair(a: u8) -> u8
+    ensures { result ≡ a }
+{
+    (a, 0).0
+}
+EOF
+
+# Gives a crate the only edits that it has: for each a name, the line `refuses:`, an old text and a new one.
+edits() {
+  local crate=$1
+  shift
+  rm -f "$tree/crates/$crate/wrong/"*
+  while [ $# != 0 ]; do
+    printf '%s\nfile: src/lib.rt\nold: %s\nnew: %s\n' "$2" "$3" "$4" > "$tree/crates/$crate/wrong/$1.edit"
+    shift 4
+  done
+}
+
+try() {
+  status=0
+  "$tree/scripts/check-wrong-bodies.sh" "$@" > "$tree/said" 2>&1 || status=$?
+}
+
+# Whether the last try ended with this status and this last line.
+ended() {
+  [ "$status" = "$1" ] && [ "$(tail -n 1 "$tree/said")" = "$2" ]
+}
+
+says() {
+  grep -qF -- "$1" "$tree/said"
+}
+
+details() {
+  echo " (status $status):"
+  sed 's/^/  /' "$tree/said"
+}
+
+# Wrong bodies as they must be, the first two of one function.
+second=(second 'refuses: first returns' '(a, b).0' '(a, b).1')
+cut=(cut 'refuses: sum returns' 'u16::from(b)' 'u16::from(b / 2)')
+edits low "${second[@]}" zero 'refuses: first returns' '(a, b).0' 'a ^ b' "${cut[@]}"
+try low
+count 'wrong bodies are refused, two of one function' ended 0 '3 passed, 0 failed'
+count 'they are tried in one check' says 'checks: 1,'
+
+# Of these, one is as it must be.
+edits low "${cut[@]}" \
+  right 'refuses: first returns' '(a, b).0' '(b, a).1' \
+  other_goal 'refuses: third returns-clause-two' '    a' '    9' \
+  in_another 'refuses: fourth returns' 'pair(5)' 'pair(6)' \
+  gone 'refuses: fourth returns' 'pair(7)' 'pair(8)' \
+  unnamed '' 'pair(5)' 'pair(9)' \
+  of_none 'refuses: fifth returns' 'u16::from(a)' 'u16::from(a / 2)'
+printf '%s\n' 'old: (a, 0).0' 'new: (a, 0).1' >> "$tree/crates/low/wrong/in_another.edit"
+try low
+count 'each fault is one' ended 1 '2 passed, 6 failed'
+count 'a wrong body among others' says 'cut.edit: refused, as it must be: sum: returns'
+count 'a right body' says 'right.edit: NOT AS IT MUST BE: still proved: returns; refused too: none'
+count 'a body that is refused for another goal' says 'other_goal.edit: NOT AS IT MUST BE: still proved: returns-clause-two; refused too: returns'
+count 'a function that no edit names' says 'low/pair: it is not changed, and refused: returns'
+count 'an edit that cannot be applied' says "gone.edit: an 'old:' text is in src/lib.rt 0 times"
+count 'an edit that says nothing of a refusal' says "unnamed.edit: it has no line 'refuses: FUNCTION GOAL..'"
+count 'an edit of a function that is not there' says 'of_none.edit: the crate has no function fifth'
+
+edits low "${cut[@]}" broken 'refuses: first returns' '(a, b).0' '(a, c).0'
+try low
+count 'a body that does not compile' ended 1 '0 passed, 2 failed'
+count 'what it says then' says 'broken.edit: the check says nothing of the bodies'
+
+edits high empty 'refuses: none returns' 'auto' 'auto, auto'
+try high
+count 'a library that is not there' ended 1 '0 passed, 1 failed'
+count 'its name' says 'empty.edit: low is not in its out/'
+mkdir -p "$tree/crates/low/out/rlib/low.rlib"
+touch "$tree/crates/low/out/rlib/low.rlib/format"
+touch -d '1 hour ago' "$tree/crates/low/out/rlib/low.rlib"
+try high
+count 'a library that is older than its sources' says 'empty.edit: low in its out/ is older than its sources'
+mkdir "$tree/proved"
+(sleep 3 && touch "$tree/proved/low") &
+try --proved "$tree/proved" high
+count 'a library is waited for' [ -e "$tree/proved/low" ]
+
+try low/cut
+count 'one edit by its name' ended 0 '1 passed, 0 failed'
+try low/shortened
+count 'an edit that is not there' ended 1 '0 passed, 1 failed'
+edits low
+try low
+count 'a crate without edits' ended 1 '0 passed, 1 failed'
+try none
+count 'a crate that is not there' ended 1 '0 passed, 1 failed'
+end

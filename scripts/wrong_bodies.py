@@ -1,0 +1,235 @@
+"""Tries the wrong bodies of crates. check-wrong-bodies.sh, which runs this at the top of the repository, says what they are and what is told."""
+
+import argparse
+import collections
+import glob
+import os
+import re
+import shutil
+import signal
+import subprocess
+import sys
+import tempfile
+import threading
+import time
+from concurrent.futures import ThreadPoolExecutor
+
+import kit
+
+rt = kit.load()
+rtlib = rt.rtlib
+
+# An edit: its file, the function that it changes, the goals that must be refused, its text, and what is wrong with it, if anything.
+Edit = collections.namedtuple("Edit", "path function goals text why")
+
+
+def read(path, folder):
+    """Returns an edit of the crate in this folder."""
+    with open(path, encoding="utf-8") as it:
+        text = it.read()
+    named = re.findall(r"(?m)^refuses: (.*)$", text)
+    function, *goals = named[0].split() if len(named) == 1 else [""]
+    why = None if goals else "it has no line 'refuses: FUNCTION GOAL..', or several"
+    return Edit(path, function, frozenset(goals), text, why or rt.edited(text, folder)[1])
+
+
+def write(edit, room):
+    """Writes an edit into the copy of its crate, and returns whether it can still be applied there."""
+    texts, why = rt.edited(edit.text, room)
+    for file, text in (texts or {}).items():
+        with open(f"{room}/{file}", "w", encoding="utf-8") as it:
+            it.write(text)
+    return not why
+
+
+def write_copy(edit, room, folder, number):
+    """Writes an edit into a copy of its function, and returns the copy's name, or None where the function does not stand alone."""
+    name, files = edit.function.rpartition("::")[2], {*re.findall(r"(?m)^file: (.*?)\s*$", edit.text)}
+    if len(files) > 1 or os.path.isdir(f"{folder}/proofs/{edit.function.replace('::', '/')}"):
+        return None
+    (file,) = files
+    changed = rt.edited(edit.text, folder)[0][file]
+    found = re.findall(rf"(?ms)^(?:#\[[^\n]*\]\n)*(?:pub )?fn {name}\b.*?^\}}\n", changed)
+    if len(found) != 1 or found[0] in rtlib.text_of(f"{folder}/{file}"):
+        return None
+    with open(f"{room}/{file}", "a", encoding="utf-8") as it:
+        it.write("\n" + re.sub(rf"\bfn {name}\b", f"fn {name}_{number}", found[0], count=1))
+    return f"{edit.function}_{number}"
+
+
+def refusals(said, crate, folder):
+    """Returns, by function, what a check did not prove of it: the goals of the line that it has, and the answers that stand in its files."""
+    found = collections.defaultdict(set)
+    for function, how, rest in re.findall(rf"(?m)^fn {crate}::(\S+): (no proof|not proved|could not tell)\b(.*)", said):
+        open_goals = re.search(r"`search` did not prove ((?:`[^`]+`(?:, )?)+)", rest)
+        found[function] |= {*re.findall(r"`([^`]+)`", open_goals[1] if open_goals else "")}
+        if how == "no proof":
+            continue
+        errors = rf"(?m)^(?:\./)?(proofs/{re.escape(function.replace('::', '/'))}/\w+\.antt):\d+:\d+: error: (?:`([^`]+)`:|.* not checked: (.*))"
+        for file, one, more in re.findall(errors, said):
+            answers = {*re.findall(r"(?m)^pub (\S+)", rtlib.text_of(f"{folder}/{file}") or "")}
+            found[function] |= answers & {one, *more.split(", ")}
+        if not found[function] and "which is not proved" not in rest and "which are not proved" not in rest:
+            found[function].add("?")
+    return {it: goals for it, goals in found.items() if goals}
+
+
+def why_no_library(library):
+    """Says why no check can read a library below, if none can. `rt ci` leaves no stamp, and `rt check` one of the sources."""
+    stamp = rtlib.text_of(f"{os.path.dirname(library.rlib)}/stamp")
+    if not os.path.isfile(f"{library.rlib}/format"):
+        return f"{library.name} is not in its out/: run rt ci, or rt check in its folder"
+    is_old = stamp != library.stamp() if stamp else any(os.path.getmtime(it) > os.path.getmtime(library.rlib) for it in rtlib.files_of(library.folder))
+    return f"{library.name} in its out/ is older than its sources: run rt ci, or rt check in its folder" if is_old else None
+
+
+class Turns:
+    """Lets checks run side by side as processors and memory allow, and one behind the other beside a running `rt ci`."""
+
+    def __init__(self, proved):
+        self.proved, self.running, self.changed = proved, [], threading.Condition()
+
+    def is_beside(self):
+        return self.proved is not None and not os.path.exists(f"{self.proved}/ended")
+
+    def wait_for(self, crate):
+        """Returns once the libraries below are proved, or no more will be."""
+        while self.is_beside() and not all(os.path.exists(f"{self.proved}/{it.name}") for it in crate.below()):
+            time.sleep(1)
+
+    def may_start(self, need):
+        fits = sum(self.running) + need <= 0.85 * rt.free()
+        if self.is_beside():
+            return fits and not self.running
+        return not self.running or fits and len(self.running) < rt.processors()
+
+    def run(self, crate, call):
+        self.wait_for(crate)
+        need = rt.need(crate)
+        with self.changed:
+            while not self.may_start(need):
+                self.changed.wait(1)
+            self.running.append(need)
+        try:
+            return call()
+        finally:
+            with self.changed:
+                self.running.remove(need)
+                self.changed.notify_all()
+
+
+class Trial:
+    """The wrong bodies of a crate: what is told of them, and how many passed and failed."""
+
+    def __init__(self, crate, names, jobs):
+        self.crate, self.names, self.jobs, self.lines, self.passed, self.failed = crate, names, jobs, [], 0, 0
+        self.checks, self.seconds, self.memory = 0, 0.0, 0.0
+
+    def tell(self, what, why, passed=False):
+        self.lines.append(f"{self.crate.name}/{what}: {why}")
+        self.passed, self.failed = self.passed + passed, self.failed + (not passed)
+
+    def fail(self, edits, why):
+        for it in edits:
+            self.tell(os.path.basename(it.path), why)
+
+    def check(self, room, functions):
+        """Checks these functions of a copy of the crate, and returns the status and what was said."""
+        only = [word for it in functions for word in ("--only", f"{self.crate.name}::{it}")]
+        words = [*rtlib.guarded(), rtlib.RATTLE, "check", *self.crate.words(["--jobs", self.jobs, *only], keeps=False)]
+        for _ in range(2):
+            with tempfile.TemporaryFile("w+", errors="replace") as said:
+                ran = subprocess.Popen(words, cwd=room, stdin=subprocess.DEVNULL, stdout=said, stderr=subprocess.STDOUT)
+                _, status, usage = os.wait4(ran.pid, 0)
+                ran.returncode = os.waitstatus_to_exitcode(status)
+                said.seek(0)
+                text = said.read()
+            self.checks, self.seconds = self.checks + 1, self.seconds + usage.ru_utime + usage.ru_stime
+            self.memory = max(self.memory, usage.ru_maxrss / 1e6)
+            # most likely for memory: once more
+            if ran.returncode != -signal.SIGKILL:
+                break
+        return ran.returncode, text
+
+    def round(self, edits):
+        """Tries as many edits as one check can, and returns those that are left."""
+        folder, now, later = self.crate.folder, {}, []
+        with tempfile.TemporaryDirectory(prefix="wrong-bodies-") as room:
+            for part in rtlib.PARTS:
+                if os.path.isdir(f"{folder}/{part}"):
+                    shutil.copytree(f"{folder}/{part}", f"{room}/{part}")
+            for it in edits:
+                function = it.function if it.function not in now and write(it, room) else write_copy(it, room, folder, len(now) + 1)
+                if function:
+                    now[function] = it
+                else:
+                    later.append(it)
+            status, said = self.check(room, now)
+        lacking = re.search(rf"has no function `{self.crate.name}::([^`]+)`", said)
+        if lacking and lacking[1] in now:
+            self.fail([now.pop(lacking[1])], f"the crate has no function {lacking[1]}")
+            return [*now.values(), *later]
+        if status not in (0, 1) or not re.search(r"(?m)^only=\d+ proved=\d+\n\Z", said):
+            errors = [it for it in said.split("\n") if "error" in it] or said.split("\n")
+            self.fail(now.values(), f"the check says nothing of the bodies, status {status}: {errors[0][:300]}")
+            return later
+        # The goals of one that calls another changed one are tried apart from it.
+        notes = " ".join(re.findall(r"(?m)^note: `search` has not tried the goals of (.*)", said))
+        waiting = {*now} & {*re.findall(rf"`{self.crate.name}::([^`]+)`", notes)}
+        if waiting != {*now}:
+            later = [now.pop(it) for it in sorted(waiting)] + later
+        told = {it: goals for it, goals in refusals(said, self.crate.name, folder).items() if it in now or it not in waiting}
+        for function in sorted({*told} - {*now}):
+            self.tell(function, f"it is not changed, and refused: {' '.join(sorted(told[function]))}")
+        for function, it in now.items():
+            goals = told.get(function, set())
+            why = f"refused, as it must be: {it.function}: {' '.join(sorted(it.goals))}"
+            if goals != it.goals:
+                why = f"NOT AS IT MUST BE: still proved: {' '.join(sorted(it.goals - goals)) or 'none'}; refused too: {' '.join(sorted(goals - it.goals)) or 'none'}"
+            self.tell(os.path.basename(it.path), why, goals == it.goals)
+        return later
+
+    def run(self):
+        edits = [read(it, self.crate.folder) for it in sorted(glob.glob(f"{self.crate.folder}/wrong/*"))]
+        edits = [it for it in edits if not self.names or os.path.basename(it.path) in self.names]
+        lacking = next(filter(None, map(why_no_library, self.crate.below())), None)
+        if len(edits) < (len(self.names) or 1):
+            self.tell("wrong", "no such edit stands there")
+        for it in edits:
+            if it.why:
+                self.fail([it], it.why)
+        left = [it for it in edits if not it.why]
+        if lacking:
+            self.fail(left, lacking)
+            left = []
+        while left:
+            left = self.round(left)
+
+
+def main():
+    asked = argparse.ArgumentParser(usage="scripts/check-wrong-bodies.sh [--jobs N] [--proved DIR] [CRATE[/NAME]..]")
+    asked.add_argument("--jobs", default="1")
+    asked.add_argument("--proved")
+    asked.add_argument("edits", nargs="*")
+    asked, names = asked.parse_args(), collections.defaultdict(set)
+    for it in asked.edits:
+        crate, _, name = it.partition("/")
+        names[crate] |= {f"{name}.edit"} if name else set()
+    rtlib.guarded()
+    crates = [it for it in rtlib.crates_below(os.getcwd()) if it.name in names or not names and os.path.isdir(f"{it.folder}/wrong")]
+    unknown = {*names} - {it.name for it in crates}
+    trials, turns = [Trial(it, names.get(it.name, ()), asked.jobs) for it in crates], Turns(asked.proved)
+    with ThreadPoolExecutor(len(trials) or 1) as pool:
+        for it, ran in [(it, pool.submit(turns.run, it.crate, it.run)) for it in trials]:
+            ran.result()
+            print("\n".join(it.lines))
+            print(f"{it.crate.name}: {it.passed} refused, {it.failed} failed; checks: {it.checks}, CPU seconds: {it.seconds:.0f}, GB: {it.memory:.1f}", flush=True)
+    for it in sorted(unknown):
+        print(f"{it}: no such crate")
+    passed, failed = sum(it.passed for it in trials), sum(it.failed for it in trials) + len(unknown)
+    print(f"{passed} passed, {failed} failed")
+    return 1 if failed or not passed else 0
+
+
+if __name__ == "__main__":
+    sys.exit(main())
