@@ -1,13 +1,26 @@
-//! Calls of `cbor_edn_model` on heads, labels and spaces, under their own clauses. Bodies that these clauses refuse stand in
-//! `must-fail/`: a check here is that of a small crate, and what a clause refuses here it refuses where the call is written.
+//! Calls of `cbor_edn_model`, `cbor_edn_parts` and `cbor_edn_conversions` that know no tree, under their own clauses. Bodies that these
+//! clauses refuse stand in `wrong/` and `must-fail/`: a check here is that of a small crate, and what a clause refuses here it refuses
+//! where the call is written.
 #![tactic(auto)]
 
-ghost use Rattle.std.specs.Prelude.{◌≡◌, ◌++◌, IfOk, IfSome, IfNone, OnOk, Ok, Err};
+ghost use Rattle.std.specs.Prelude.{◌≡◌, ◌+◌, ◌<◌, ◌++◌, IfOk, IfSome, IfNone, OnOk, IsOk, Ok, Err, string_bytes};
+ghost use Rattle.std.specs.Str.{IsCharBoundary};
+ghost use Rattle.cbor_edn_conversions.specs.Addresses as addresses;
+ghost use Rattle.cbor_edn_conversions.specs.Addresses.{refusal_message};
 ghost use Rattle.cbor_edn_parts.specs.Buffer.{buffer_bytes};
+ghost use Rattle.cbor_edn_parts.specs.Errors.{error_kind, error_offset, error_line, error_column};
 ghost use Rattle.cbor_edn_parts.specs.Indicator.{indicator_text};
+ghost use Rattle.cbor_edn_parts.specs.LayoutColumns.{least, respaced};
 ghost use Rattle.cbor_edn_parts.specs.Leaves as leaves;
-ghost use Rattle.cbor_edn_parts.specs.Leaves.{s_bytes};
+ghost use Rattle.cbor_edn_parts.specs.Leaves.{s_bytes, msc_bytes};
+ghost use Rattle.cbor_edn_parts.specs.Location.{IsLocation};
+ghost use Rattle.cbor_edn_parts.specs.Notes.{noted};
+ghost use Rattle.cbor_edn_parts.specs.Refusals.{IfTold};
+ghost use Rattle.cbor_edn_parts.specs.Spacing as kind;
 ghost use Rattle.cbor_edn_parts.specs.declared.error.ParseErrorKind.TheVariants.{Invalid};
+ghost use Rattle.cbor_edn_parts.specs.declared.layout.Slot.TheVariants.{Between};
+ghost use Rattle.cbor_edn_parts.specs.internal.Scans.{IsAt};
+ghost use Rattle.cbor_edn_parts.specs.internal.Text.{text_bytes};
 ghost use Rattle.cbor_edn_model.specs.cbor.Meaning as meaning;
 ghost use Rattle.cbor_edn_model.specs.cbor.Meaning.{means_integer};
 ghost use Rattle.cbor_edn_model.specs.cbor.Value.{encoding};
@@ -23,15 +36,19 @@ ghost use Rattle.cbor_edn_model.specs.text.ListHeads.{view_list_head};
 ghost use Rattle.cbor_edn_model.specs.tree.TreeLeaves.{texts};
 ghost use Rattle.cbor_edn_model.specs.visit.Depth.{embedded_depth};
 
+use cbor_edn_conversions::steps::NoAddress;
+use cbor_edn_literals::address::IpVersion;
 use cbor_edn_model::cbor::decode::head::Argument;
 use cbor_edn_model::cbor::heads::Width;
 use cbor_edn_model::text::lookahead::Opening;
 use cbor_edn_parts::buffer::TextBuffer;
-use cbor_edn_parts::error::{Fault, InconsistentEdn};
+use cbor_edn_parts::error::{Fault, InconsistentEdn, ParseError, Refusal};
 use cbor_edn_parts::indicator::Indicator;
+use cbor_edn_parts::layout::{Layout, Slot};
 use cbor_edn_parts::looks::Looks;
 use cbor_edn_parts::number::Integer;
-use cbor_edn_parts::space::{Ms, S};
+use cbor_edn_parts::policy::Spacing;
+use cbor_edn_parts::space::{Ms, Msc, S};
 use cbor_edn_parts::string::StringKind;
 use cbor_edn_parts::text::Text;
 use std::alloc::{AllocError, Global};
@@ -132,4 +149,66 @@ pub fn encode_text(
     ensures { Encodes encoding (meaning.string_of (kind, content.now) indicator) out.old.items out.new.items result }
 {
     cbor_edn_model::cbor::heads::encode_text(out, kind, indicator, content)
+}
+
+/// `Text::byte`.
+pub fn byte(text: &Text<'_>, at: usize, looks: &mut Looks) -> Option<u8>
+    ensures value { IsAt (text_bytes text.now) at result }
+    ensures count { looks.new.count ≡ looks.old.count + 1 }
+{
+    text.byte(at, looks)
+}
+
+/// `location::with_location`.
+pub fn with_location(text: &Text<'_>, refusal: Refusal, looks: &mut Looks) -> ParseError
+    requires { IsCharBoundary (text_bytes text.now) refusal.at }
+    ensures kind { error_kind result ≡ refusal.kind }
+    ensures place { IsLocation (text_bytes text.now) (error_offset result) (error_line result) (error_column result) }
+    ensures cost { looks.new.count ≡ looks.old.count + refusal.at }
+{
+    cbor_edn_parts::location::with_location(text, refusal, looks)
+}
+
+/// The text of `S::note`.
+pub fn note(alloc: Global, comment: &str) -> Result<String, AllocError>
+    ensures { IfOk result (λ t. string_bytes t ≡ noted comment.now) }
+{
+    let space = S::note(alloc, comment)?;
+    String::from_str(alloc, space.as_str())
+}
+
+/// `layout::print_space`.
+pub fn print_space(
+    out: &mut TextBuffer,
+    space: &S<'_>,
+    layout: Layout,
+    slot: Slot,
+) -> Result<(), AllocError>
+    ensures { OnOk result (buffer_bytes out.new ≡ buffer_bytes out.old ++ respaced kind.S slot layout (s_bytes space.now)) }
+{
+    cbor_edn_parts::layout::print_space(out, space, layout, slot)
+}
+
+/// `layout::lay_separator`.
+pub fn lay_separator<'a>(
+    separator: &mut Msc<'a>,
+    alloc: Global,
+    layout: Layout,
+) -> Result<(), AllocError>
+    ensures laid { OnOk result (msc_bytes separator.new ≡ respaced kind.MSC Between layout (msc_bytes separator.old)) }
+    ensures least { layout ≡ least → IsOk result }
+{
+    cbor_edn_parts::layout::lay_separator(separator, alloc, layout)
+}
+
+/// `steps::whole_text` of `cbor_edn_conversions`.
+pub fn whole_text(
+    alloc: Global,
+    version: IpVersion,
+    bytes: &[u8],
+) -> Result<String, Fault<NoAddress>>
+    ensures text { IfOk result (λ s. addresses.whole_text version bytes.now ≡ Ok (string_bytes s)) }
+    ensures refused { IfTold result (λ e. addresses.whole_text version bytes.now ≡ Err (refusal_message e)) }
+{
+    cbor_edn_conversions::steps::whole_text(alloc, version, bytes)
 }
