@@ -1,10 +1,10 @@
 #!/usr/bin/env bash
-# All tests: where a text is read and which public calls are tested (two looks at the sources), each proof, edit that must fail, test and program (`rt ci`),
-# each allocation of the calls of the crates *_memory refused in turn and all of them where none is taken, then the encodings of
-# another implementation, where it is installed, the examples, the help, the lines of faults, devices that fail, inputs
-# past the limits, random inputs, the launcher, the deepest nesting under small stacks, and calls from other languages. The last line is
-# 'N passed, M failed'. Where nothing failed, the program that was proved is left to ./cbor-edn. `docs/CONTRIBUTING.md`
-# says how the proofs share the processors.
+# All tests: where a text is read and which public calls are tested (two looks at the sources), each proof, edit that must fail, test and
+# program (`rt ci`), the wrong bodies of each crate and the script that tries them, each allocation of the calls of the crates *_memory
+# refused in turn and all of them where none is taken, then the encodings of another implementation, where it is installed, the examples,
+# the help, the lines of faults, devices that fail, inputs past the limits, random inputs, the launcher, the deepest nesting under small
+# stacks, and calls from other languages. The last line is 'N passed, M failed'. Where nothing failed, the program that was proved is left
+# to ./cbor-edn. `docs/CONTRIBUTING.md` says how the proofs share the processors.
 set -euo pipefail
 
 cd "$(dirname "$(readlink -f "$0")")/.."
@@ -18,16 +18,22 @@ failed=0
 log=$(mktemp)
 times=$(mktemp)
 beside=$(mktemp -d)
+# has a file of the name of each crate that the whole `rt ci` has proved
+proved=$beside/proved
+mkdir "$proved"
 # as old as the beginning of this run
 began=$(mktemp)
 trap 'kill $(jobs -p) 2> /dev/null || true; rm -rf "$log" "$times" "$beside" "$began"' EXIT
 
-# Hands lines on. Those that say that a crate's proof has ended, that its edits begin, or what is wrong, come again at the end, with the
-# minutes since the start.
+# Hands lines on of an `rt ci` in a tree. Those that say that a crate's proof has ended, that its edits begin, or what is wrong, come again
+# at the end, with the minutes since the start.
 stamp() {
   local line
   while IFS= read -r line; do
     printf '%s\n' "$line"
+    if [ "$1" = . ] && [[ $line =~ ^rt:\ ([a-z_]+)\ (proved$|is\ kept:) ]]; then
+      : > "$proved/${BASH_REMATCH[1]}"
+    fi
     case $line in
       *"refused, as it must be"*) ;;
       "rt: "*" proved" | "rt: "*"NOT PROVED"* | "rt: "*": trying its must-fail edits"* | *": error"* | "rt: FAILED"* | *"BAD EDIT"* | *"NOT REFUSED"* | *"not proved"*)
@@ -56,7 +62,7 @@ add() {
 
 # Proves the crates of a tree, by a command that may stand in front.
 prove() {
-  (cd "$1" && "${@:2}" rt ci) 2>&1 | stamp
+  (cd "$1" && "${@:2}" rt ci) 2>&1 | stamp "$1"
 }
 
 # Whether `rt ci` takes what an earlier one proved. The kits that keep that let `rt ci` name crates too, and say both in their help or on
@@ -125,18 +131,29 @@ program=crates/cbor_edn_tool/out/cbor_edn_tool
 gives_way=()
 add scripts/check-reads.sh
 add scripts/check-surface.sh
+python3 -B scripts/core_jobs.py || echo "core: this toolchain does not tell its jobs"
+# `rt ci` would put back what other checks left there, and the wrong bodies are tried over what it leaves itself.
+rm -rf crates/*/out/rlib
+# They take what the proofs leave free.
+begin check-wrong-bodies nice -n 19 scripts/check-wrong-bodies.sh --proved "$proved"
+begin test-wrong-bodies nice -n 19 scripts/test-wrong-bodies.sh
+ahead=
 if keeps_proofs; then
   # Nearly all waits for the crate of trees, whose proof is by far the longest.
   prove_ahead "$beside/ahead" cbor_edn_parts cbor_edn_model cbor_edn_core &
+  ahead=$!
   # it begins with a proof that `rt ci` would begin with too
   sleep 10
   gives_way=(nice -n 10)
 fi
 # One check for each processor: by itself, rt holds checks back for memory that they do not need.
 RT_JOBS=$(nproc) add prove . "${gives_way[@]}"
-wait
+: > "$proved/ended"
+[ -z "$ahead" ] || wait "$ahead"
 # by far the longest of what follows, and on one processor
 begin check-launcher scripts/check-launcher.sh "$program"
+finish test-wrong-bodies
+finish check-wrong-bodies
 for crate in crates/*_memory; do
   crate=$(basename "$crate")
   add scripts/refuse-memory.sh "$crate" "crates/$crate/out/$crate"
