@@ -1,4 +1,7 @@
-"""What scripts here take of the toolchain's own command: its list of crates, the words of a check, and the memory that a check may take."""
+"""What scripts here take of the toolchain's own command: its list of crates, the words of a check, and the memory that a check may take.
+
+No page of the toolchain promises these, so a newer one may want a change here.
+"""
 
 import importlib.machinery
 import importlib.util
