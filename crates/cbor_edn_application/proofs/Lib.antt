@@ -10,6 +10,7 @@ pub mod Unmoved
 pub mod VisitChains
 pub mod DepthsLeft
 pub mod Replies
+pub mod SaidErrors
 pub mod TagParts
 pub mod InstantNumbers
 pub mod StepAnswers

@@ -1,13 +1,16 @@
 -- The laws of visits that convert.
-use Rattle.std.proofs.Common.{sym, ◌∙◌}
+use Rattle.std.proofs.Common.{◌≡◌, Some, sym, ap, ◌∙◌}
 use Rattle.cbor_edn_model.specs.visit.Seeking.{CallArguments, IsTag, IsApplication}
-use Rattle.cbor_edn_model.specs.tree.Trees.{Tree, OneItem, Seq, items}
+use Rattle.cbor_edn_model.specs.cbor.Meaning.{MeaningOf, means}
+use Rattle.cbor_edn_model.specs.tree.Items.{Sort, Node}
+use Rattle.cbor_edn_model.specs.tree.Trees.{Rule, Tree, OneItem, Seq, Standalone, items}
+use Rattle.cbor_edn_model.specs.visit.Visits.{Ending, whole}
 use Rattle.cbor_edn_conversions.specs.Addresses.{resolve_address, pretty_address}
 use Rattle.cbor_edn_conversions.specs.All.{resolve_all, pretty_all}
 use Rattle.cbor_edn_conversions.specs.Annotations.{comment_lang}
 use Rattle.cbor_edn_conversions.specs.Bignums.{pretty_bignum}
 use Rattle.cbor_edn_conversions.specs.Resolvers.{TurnsTo, time_resolver, literal_resolver}
-use Rattle.cbor_edn_conversions.specs.Resolving.{no_resolver}
+use Rattle.cbor_edn_conversions.specs.Resolving.{no_resolver, means_by}
 use Rattle.cbor_edn_conversions.specs.Times.{resolve_time, pretty_time}
 use Rattle.cbor_edn_conversions.proofs.conversions.AddressesKept.{address_turns}
 use Rattle.cbor_edn_conversions.proofs.conversions.BignumsKept.{bignum_turns}
@@ -16,11 +19,13 @@ use Rattle.cbor_edn_conversions.proofs.conversions.Literals.{time_applications, 
 use Rattle.cbor_edn_conversions.proofs.conversions.LiteralsResolved.{time_resolved_kept, time_resolved_alone, address_resolved, address_resolved_kept, all_resolved}
 use Rattle.cbor_edn_conversions.proofs.conversions.TimesKept.{time_turns}
 use Rattle.cbor_edn_conversions.proofs.nesting.DirectAnswers.{language_keeps_items}
-use Rattle.cbor_edn_conversions.proofs.resolving.Resolved.{none_means}
+use Rattle.cbor_edn_conversions.proofs.resolving.Resolved.{none_means, more_means}
 use Rattle.cbor_edn_conversions.proofs.resolving.Turning.{resolved_again, both_differ, none_applications, tags_visited_once, literals_visited_once}
-use Rattle.cbor_edn_conversions.proofs.resolving.VisitsKept.{visit_resolves}
-use Rattle.cbor_edn_application.specs.Acts.{Act}
-use Rattle.cbor_edn_application.specs.VisitLaws.{SequencesResolvedAgain, ItemsResolvedAgain, VisitedOnce, VisitsKeep, VisitsLeave, LiteralsResolvedInTurn}
+use Rattle.cbor_edn_conversions.proofs.resolving.VisitsKept as kept
+use Rattle.cbor_edn_conversions.proofs.resolving.VisitsKept.{Below, visit_resolves}
+use Rattle.cbor_edn_conversions.proofs.resolving.Keeping.{KeptOf}
+use Rattle.cbor_edn_application.specs.Acts.{Act, IsVisited}
+use Rattle.cbor_edn_application.specs.VisitLaws.{SequencesResolvedAgain, ItemsResolvedAgain, SequencesMeanAgain, ItemsMeanAgain, VisitedOnce, VisitsKeep, VisitsLeave, LiteralsResolvedInTurn}
 use Rattle.cbor_edn_application.proofs.Unmoved.{visit_unmoved}
 use Rattle.cbor_edn_application.proofs.VisitsTurn.{whole_calls, ended_calls, visit_keeps}
 
@@ -64,6 +69,29 @@ pub resolved_in_turn : LiteralsResolvedInTurn
 resolved_in_turn w u v addresses times xs e =
     let rest = visit_resolves literal_resolver time_resolver (both_differ literal_resolver time_resolver all_applications time_applications) addresses.0 (whole_calls IsApplication resolve_address literal_resolver time_resolver address_resolved addresses) Seq w u addresses.2 xs e in
     sym (none_means (items v)) ∙ visit_resolves time_resolver no_resolver (both_differ time_resolver no_resolver time_applications none_applications) times.0 (whole_calls IsApplication resolve_time time_resolver no_resolver time_resolved_alone times) Seq u v times.2 xs rest
+
+-- What was meant before is meant where literals stand for values; the visit of tags keeps that, and that of literals leaves none to stand for
+-- one.
+module _ (k : Rule) (a b c d : Tree k) (r : Ending) (pretty : IsVisited IsTag pretty_all a r b) (resolved : IsVisited IsApplication resolve_all c whole d) where
+  pretty_keeps : KeptOf Below literal_resolver literal_resolver k (items a) (items b)
+  pretty_keeps = kept.visit_keeps IsTag literal_resolver pretty.0 r (ended_calls IsTag pretty_all literal_resolver (λ a w s. all_turns a w) r pretty) k a b pretty.2
+
+  none_left : KeptOf Below literal_resolver no_resolver k (items c) (items d)
+  none_left = visit_resolves literal_resolver no_resolver (both_differ literal_resolver no_resolver all_applications none_applications) resolved.0 (whole_calls IsApplication resolve_all literal_resolver no_resolver all_resolved resolved) k c d resolved.2
+
+-- in two steps, over what items mean before, between and behind them
+meant_again : {s : Sort} (x y z w : Node s) (v : MeaningOf s) → means x ≡ Some v → Below (MeaningOf s) (means_by literal_resolver x) (means_by literal_resolver y)
+    → y ≡ z → Below (MeaningOf s) (means_by literal_resolver z) (means_by no_resolver w) → means w ≡ Some v
+meant_again x y z w v meant kept same resolved =
+    sym (none_means w) ∙ resolved v (ap (λ u. means_by literal_resolver u) (sym same) ∙ kept v (more_means literal_resolver all_no_content x v meant))
+
+pub sequences_mean_again : SequencesMeanAgain
+sequences_mean_again a b c d r xs meant first same second =
+    meant_again (items a) (items b) (items c) (items d) xs meant (pretty_keeps Seq a b c d r first second) same (none_left Seq a b c d r first second)
+
+pub items_mean_again : ItemsMeanAgain
+items_mean_again a b c d r x meant first same second =
+    meant_again (items a) (items b) (items c) (items d) x meant (pretty_keeps Standalone a b c d r first second) same (none_left Standalone a b c d r first second)
 
 -- ---- one result
 

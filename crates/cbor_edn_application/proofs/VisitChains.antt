@@ -1,13 +1,15 @@
 -- From the calls of a visit to what it leaves.
-use Rattle.std.proofs.Common.{ℕ, Result, MutBor, List, [], ◌∷◌, ◌++◌, ◌≡◌, ◌≢◌, All, refl, sym, subst}
+use Rattle.std.proofs.Common.{ℕ, Result, MutBor, List, [], ◌∷◌, ◌++◌, ◌≡◌, ◌≢◌, All, refl, sym, subst, string_bytes}
 use Rattle.std.proofs.lemmas.List.Elements.{All-nil, All-cons, All-append, All-head, All-tail}
 use Rattle.cbor_edn_model.specs.tree.Items.{Row}
-use Rattle.cbor_edn_model.specs.visit.Seeking.{CallArguments, IsTag, IsApplication, SoughtCall, number, VisitItem, passed, entered, stayed, refused, not_called, VisitParts, of_number, of_float, of_name, of_tag, of_simple, of_list, of_string, of_stream, of_literal, of_dots, of_embedded, of_last_piece, of_pieces, of_pieces_cut, of_none_inside, of_all_inside, of_last, of_more, of_more_cut, of_nothing, of_sequence, of_standalone, VisitEntry, of_element, of_pair, of_pair_cut, of_chunk}
+use Rattle.cbor_edn_model.specs.visit.Seeking.{CallArguments, IsTag, IsApplication, SoughtCall, number, prefix_and_text, VisitItem, passed, entered, stayed, refused, not_called, VisitParts, of_number, of_float, of_name, of_tag, of_simple, of_list, of_string, of_stream, of_literal, of_dots, of_embedded, of_last_piece, of_pieces, of_pieces_cut, of_none_inside, of_all_inside, of_last, of_more, of_more_cut, of_nothing, of_sequence, of_standalone, VisitEntry, of_element, of_pair, of_pair_cut, of_chunk}
 use Rattle.cbor_edn_model.specs.tree.Trees.{Rule, Tree, OneItem, OneEntry}
 use Rattle.cbor_edn_model.specs.visit.Visits.{Answer, fine, comment, no_memory, Ending, whole, cut, Chain, no_calls, one_call}
 use Rattle.std.specs.Fn.{Called}
+use Rattle.std.specs.declared.alloc.Global.{Global}
+use Rattle.std.specs.declared.string.String.{String}
 use Rattle.cbor_edn_parts.specs.declared.error.CallbackError.{CallbackError}
-use Rattle.cbor_edn_core.specs.visit.Sought.{IsTagCall, IsItemCall, TagCallback, ItemCallback, sought_answer}
+use Rattle.cbor_edn_core.specs.visit.Sought.{IsTagCall, IsLiteralCall, IsItemCall, TagCallback, LiteralCallback, ItemCallback, sought_answer}
 use Rattle.cbor_edn_core.specs.tree.View.{Item, item_tree}
 use Rattle.cbor_edn_application.specs.Acts.{Act, ActsBy, EndsBy, IsVisited}
 use Rattle.cbor_edn_conversions.specs.Resolving.{AnswersBy}
@@ -110,6 +112,14 @@ module _ (act : Act) {F : Type 0} (Keeps : F → Type 0) (k : Rule) (w v : Tree 
       → (cs : List SoughtCall) × Chain (IsTagCall item_tree callback) f cs g × VisitParts IsTag k w cs v r → IsVisited IsTag act w r v
   tags_visited callback each h = visited IsTag act (IsTagCall item_tree callback) Keeps
       (λ p q c kept s. let both = each p q s.tag s.shown s.left s.answer kept s.called in (acted_same act _ _ _ _ _ _ _ _ (sym s.arguments) s.begins s.answers s.leaves both.0, both.1))
+      k w v f g r keeps h.0 h.1 h.2
+
+  pub literals_visited : (callback : LiteralCallback Item F)
+      → ((p q : F) (s t : String Global) (x y : MutBor Item) (z : Result (Unit {0}) CallbackError) → Keeps p → Called callback p (s, (t, (x, tt))) (z, (y, tt)) q
+      → ActsBy act (prefix_and_text (string_bytes s) (string_bytes t)) (item_tree x.now) (sought_answer z) (item_tree y.now) × Keeps q)
+      → (cs : List SoughtCall) × Chain (IsLiteralCall item_tree callback) f cs g × VisitParts IsApplication k w cs v r → IsVisited IsApplication act w r v
+  literals_visited callback each h = visited IsApplication act (IsLiteralCall item_tree callback) Keeps
+      (λ p q c kept s. let both = each p q s.prefix s.text s.shown s.left s.answer kept s.called in (acted_same act _ _ _ _ _ _ _ _ (sym s.arguments) s.begins s.answers s.leaves both.0, both.1))
       k w v f g r keeps h.0 h.1 h.2
 
   pub items_visited : (callback : ItemCallback Item F)

@@ -1,5 +1,10 @@
 -- What keys of maps and their values are answered, and what each handler does with its value.
-use Rattle.std.specs.Prelude.{List, Option, Some, None, All, ℕ, ◌≡◌, ◌≢◌, codes}
+use Rattle.std.specs.Prelude.{List, Option, Some, None, Result, Ok, Err, All, ℕ, ◌≡◌, ◌≢◌, codes, string_bytes}
+use Rattle.std.specs.declared.alloc.Global.{Global}
+use Rattle.std.specs.declared.string.String.{String}
+use Rattle.cbor_edn_parts.specs.declared.error.CallbackError.{CallbackError}
+use Rattle.cbor_edn_parts.specs.declared.error.CallbackError.TheVariants as error
+use Rattle.cbor_edn_core.specs.visit.Callbacks.{error_answer}
 use Rattle.cbor_edn_core.specs.declared.access.TypeMismatch.{TypeMismatch}
 use Rattle.cbor_edn_core.specs.declared.access.TypeMismatch.TheVariants.{IntegerInRange}
 use Rattle.cbor_edn_model.specs.tree.Trees.{Tree, OneItem, items}
@@ -25,6 +30,29 @@ KeyAnswers p r f = (r ≡ p.0) × (f ≡ p.1)
 abbrev pub ValueAnswers : (Tree OneItem → Reply) → Tree OneItem → Answer → Tree OneItem → Type 0
 ValueAnswers f w no_memory v = items v ≡ items w
 ValueAnswers f w r v = (r ≡ (f w).0) × (v ≡ (f w).1)
+
+-- ---- errors
+
+-- It fails for want of memory alone: what it says is a comment, and no error.
+abbrev pub FailsForMemory : {X : Type 0} → Result X CallbackError → Type 0
+FailsForMemory (Ok x) = Unit {0}
+FailsForMemory (Err e) = error_answer e ≡ no_memory
+
+-- Words of the one kind are said as an error, and all others as a comment: of a name `Ok(Some("kid"))`, and of an error
+-- `Err(Comment("Expected map"))`.
+abbrev pub SaysAsErrors : (List ℕ → Type 0) → Result (Option (String Global)) CallbackError → Type 0
+SaysAsErrors IsError (Ok None) = Unit {0}
+SaysAsErrors IsError (Ok (Some s)) = IsError (string_bytes s) → ⊥
+SaysAsErrors IsError (Err (error.Comment s)) = IsError (string_bytes s)
+SaysAsErrors IsError (Err (error.Memory e)) = Unit {0}
+
+-- where a value is no time or no map, all that is said is an error
+abbrev pub AnyWords : List ℕ → Type 0
+AnyWords c = Unit {0}
+
+-- the word at the algorithm 0, which no algorithm is meant by
+abbrev pub IsReserved : List ℕ → Type 0
+IsReserved c = c ≡ codes "Reserved"
 
 -- ---- visits of maps
 

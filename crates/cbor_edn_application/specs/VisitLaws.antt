@@ -25,6 +25,16 @@ abbrev pub ItemsResolvedAgain : Type 0
 ItemsResolvedAgain = (v : Value) → Fits v → (a b c d : Tree Standalone) (r : Ending) → items a ≡ item_of v → IsVisited IsTag pretty_all a r b
     → items b ≡ items c → IsVisited IsApplication resolve_all c whole d → means (items d) ≡ Some v
 
+-- Decoded or not: what the items of a sequence mean they mean again behind two such visits,
+abbrev pub SequencesMeanAgain : Type 0
+SequencesMeanAgain = (a b c d : Tree Seq) (r : Ending) (xs : Values) → means (items a) ≡ Some xs → IsVisited IsTag pretty_all a r b
+    → items b ≡ items c → IsVisited IsApplication resolve_all c whole d → means (items d) ≡ Some xs
+
+-- and so does one item.
+abbrev pub ItemsMeanAgain : Type 0
+ItemsMeanAgain = (a b c d : Tree Standalone) (r : Ending) (x : Value) → means (items a) ≡ Some x → IsVisited IsTag pretty_all a r b
+    → items b ≡ items c → IsVisited IsApplication resolve_all c whole d → means (items d) ≡ Some x
+
 -- A visit with the function, however it ended, keeps what the items of a sequence mean where literals stand for values.
 abbrev pub VisitsKeep : (Tree OneItem → CallArguments → Type 0) → Act → Type 0
 VisitsKeep IsSought act = (w v : Tree Seq) (r : Ending) → IsVisited IsSought act w r v

@@ -4,7 +4,7 @@ ghost use Rattle.cbor_edn_core.specs.visit.Callbacks.{key_answer, handler_of, an
 ghost use Rattle.cbor_edn_core.specs.tree.View.{item_tree};
 ghost use Rattle.cbor_edn_conversions.specs.declared.tables.ClaimValue.TheVariants as claim_kind;
 ghost use Rattle.cbor_edn_conversions.specs.Claims.{claim_key, claim_value, confirmation_key, with_keys};
-ghost use Rattle.cbor_edn_application.specs.Handlers.{at_claim, KeyAnswers, ValueAnswers};
+ghost use Rattle.cbor_edn_application.specs.Handlers.{at_claim, KeyAnswers, ValueAnswers, FailsForMemory, SaysAsErrors, AnyWords};
 
 use crate::answers::refusal;
 use crate::confirmation::comment_confirmation;
@@ -20,9 +20,9 @@ use std::alloc::Global;
 /// What is done with the value of a claim, as [`comment_ccs`] answers it.
 #[derive(Clone, Copy, Debug, PartialEq, Eq)]
 pub enum CcsHandler {
-    /// A number that is a time becomes a time literal `dt'..'`. Else the value stays, and has a comment that says why.
+    /// A number that is a time becomes a time literal `dt'..'`. Else the value stays, and an error says why.
     Timestamp,
-    /// The keys of a map get the names of confirmation methods (RFC 8747) as comments. A value that is no map has a comment.
+    /// The keys of a map get the names of confirmation methods (RFC 8747) as comments. A value that is no map is an error.
     Cnf,
 }
 
@@ -34,6 +34,7 @@ pub fn comment_ccs<'a>(
 ) -> Result<(Option<String>, Option<CcsHandler>), CallbackError>
     ensures same { item_tree key.new ≡ item_tree key.old }
     ensures answer { KeyAnswers (claim_key (item_tree key.old)) (key_answer result) (option_map at_claim (handler_of result)) }
+    ensures errors { FailsForMemory result }
 {
     let Some(number) = integer_of(key) else {
         return Ok((None, None));
@@ -59,9 +60,9 @@ fn handler(value: Option<ClaimValue>) -> Option<CcsHandler>
 impl<'a> MapValueHandler<'a> for CcsHandler {
     ghost use Rattle.cbor_edn_core.specs.visit.Callbacks.{answer_of};
     ghost use Rattle.cbor_edn_core.specs.tree.View.{item_tree};
-    ghost use Rattle.cbor_edn_application.specs.Handlers.{at_claim, ValueAnswers};
+    ghost use Rattle.cbor_edn_application.specs.Handlers.{at_claim, ValueAnswers, SaysAsErrors, AnyWords};
 
-    ghost handles = { λ h x r y. ValueAnswers (at_claim h) (item_tree x) (answer_of r) (item_tree y) };
+    ghost handles = { λ h x r y. ValueAnswers (at_claim h) (item_tree x) (answer_of r) (item_tree y) × SaysAsErrors AnyWords r };
 
     fn handle(self, alloc: Global, value: &mut Item<'a>) -> Result<Option<String>, CallbackError> {
         match self {
@@ -73,7 +74,8 @@ impl<'a> MapValueHandler<'a> for CcsHandler {
 
 /// Puts the literal of a time in its place.
 fn put_time(alloc: Global, value: &mut Item<'_>) -> Result<Option<String>, CallbackError>
-    ensures { ValueAnswers (claim_value claim_kind.Timestamp) (item_tree value.old) (answer_of result) (item_tree value.new) }
+    ensures value { ValueAnswers (claim_value claim_kind.Timestamp) (item_tree value.old) (answer_of result) (item_tree value.new) }
+    ensures errors { SaysAsErrors AnyWords result }
 {
     let literal = dt_item_to_aol(alloc, value, false);
     match reply(alloc, value, literal) {
@@ -87,7 +89,8 @@ fn comment_confirmations(
     alloc: Global,
     value: &mut Item<'_>,
 ) -> Result<Option<String>, CallbackError>
-    ensures { ValueAnswers (with_keys confirmation_key) (item_tree value.old) (answer_of result) (item_tree value.new) }
+    ensures value { ValueAnswers (with_keys confirmation_key) (item_tree value.old) (answer_of result) (item_tree value.new) }
+    ensures errors { SaysAsErrors AnyWords result }
 {
     let answer = value.visit_map_elements(alloc, &mut |key| comment_confirmation(alloc, key));
     match answer {

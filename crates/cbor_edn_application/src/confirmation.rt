@@ -3,7 +3,7 @@ ghost use Rattle.std.specs.Prelude.{◌≡◌, option_map};
 ghost use Rattle.cbor_edn_core.specs.visit.Callbacks.{key_answer, handler_of, answer_of};
 ghost use Rattle.cbor_edn_core.specs.tree.View.{item_tree};
 ghost use Rattle.cbor_edn_conversions.specs.Claims.{confirmation_key, confirmation_value, parameter_key, with_keys};
-ghost use Rattle.cbor_edn_application.specs.Handlers.{at_confirmation, KeyAnswers, ValueAnswers};
+ghost use Rattle.cbor_edn_application.specs.Handlers.{at_confirmation, KeyAnswers, ValueAnswers, SaysAsErrors, AnyWords};
 
 use crate::answers::refusal;
 use crate::integers::integer_of;
@@ -17,7 +17,7 @@ use std::alloc::Global;
 /// What is done with the value of a confirmation method (RFC 8747).
 #[derive(Clone, Copy, Debug, PartialEq, Eq)]
 pub enum CnfHandler {
-    /// The keys of a map get the names of OSCORE parameters (RFC 9203) as comments. A value that is no map has a comment.
+    /// The keys of a map get the names of OSCORE parameters (RFC 9203) as comments. A value that is no map is an error.
     Osc,
 }
 
@@ -52,9 +52,9 @@ fn handler(value: Option<ConfirmationValue>) -> Option<CnfHandler>
 impl<'a> MapValueHandler<'a> for CnfHandler {
     ghost use Rattle.cbor_edn_core.specs.visit.Callbacks.{answer_of};
     ghost use Rattle.cbor_edn_core.specs.tree.View.{item_tree};
-    ghost use Rattle.cbor_edn_application.specs.Handlers.{at_confirmation, ValueAnswers};
+    ghost use Rattle.cbor_edn_application.specs.Handlers.{at_confirmation, ValueAnswers, SaysAsErrors, AnyWords};
 
-    ghost handles = { λ h x r y. ValueAnswers (at_confirmation h) (item_tree x) (answer_of r) (item_tree y) };
+    ghost handles = { λ h x r y. ValueAnswers (at_confirmation h) (item_tree x) (answer_of r) (item_tree y) × SaysAsErrors AnyWords r };
 
     fn handle(self, alloc: Global, value: &mut Item<'a>) -> Result<Option<String>, CallbackError> {
         match self {
@@ -65,7 +65,8 @@ impl<'a> MapValueHandler<'a> for CnfHandler {
 
 /// The comments in the value of a confirmation method `osc`.
 fn comment_parameters(alloc: Global, value: &mut Item<'_>) -> Result<Option<String>, CallbackError>
-    ensures { ValueAnswers (with_keys parameter_key) (item_tree value.old) (answer_of result) (item_tree value.new) }
+    ensures value { ValueAnswers (with_keys parameter_key) (item_tree value.old) (answer_of result) (item_tree value.new) }
+    ensures errors { SaysAsErrors AnyWords result }
 {
     let answer = value.visit_map_elements(alloc, &mut |key| comment_parameter(alloc, key));
     match answer {

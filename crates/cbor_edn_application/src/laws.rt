@@ -4,12 +4,14 @@ ghost use Rattle.cbor_edn_conversions.specs.Addresses.{resolve_address, pretty_a
 ghost use Rattle.cbor_edn_conversions.specs.Annotations.{comment_lang};
 ghost use Rattle.cbor_edn_conversions.specs.Bignums.{pretty_bignum};
 ghost use Rattle.cbor_edn_conversions.specs.Times.{resolve_time, pretty_time};
-ghost use Rattle.cbor_edn_application.specs.VisitLaws.{SequencesResolvedAgain, ItemsResolvedAgain, VisitsKeep, VisitsLeave, ClaimsSetsKeep, LiteralsResolvedInTurn, VisitedOnce};
+ghost use Rattle.cbor_edn_application.specs.VisitLaws.{SequencesResolvedAgain, ItemsResolvedAgain, SequencesMeanAgain, ItemsMeanAgain, VisitsKeep, VisitsLeave, ClaimsSetsKeep, LiteralsResolvedInTurn, VisitedOnce};
 
-/// Decoded items that were prettified, and resolved then, mean what they were decoded from.
+/// Decoded items that were prettified, and resolved then, mean what they were decoded from. Any others that meant a value mean it again.
 pub fn calls_resolve_again()
     ensures sequences { SequencesResolvedAgain }
     ensures items { ItemsResolvedAgain }
+    ensures any_sequences { SequencesMeanAgain }
+    ensures any_items { ItemsMeanAgain }
 {}
 
 /// Visits keep what items mean where literals stand for values: those that make such literals, those that put other items in their place,

@@ -1,5 +1,6 @@
 //! Comments at the parameters of OSCORE security contexts, and the names of algorithms.
 ghost use Rattle.std.specs.Prelude.{◌≡◌, Some, option_map, option_and_then};
+ghost use Rattle.cbor_edn_model.specs.visit.Visits.{comment as comment_answer};
 ghost use Rattle.cbor_edn_core.specs.visit.Callbacks.{key_answer, handler_of, answer_of};
 ghost use Rattle.cbor_edn_core.specs.tree.View.{item_tree};
 ghost use Rattle.cbor_edn_conversions.specs.declared.tables.ParameterValue.TheVariants.{Algorithm};
@@ -7,9 +8,8 @@ ghost use Rattle.cbor_edn_conversions.specs.Claims.{parameter_key, parameter_val
 ghost use Rattle.cbor_edn_conversions.specs.Integers.{item_integer};
 ghost use Rattle.cbor_edn_conversions.specs.Tables.{found, algorithms};
 ghost use Rattle.cbor_edn_application.specs.Acts.{AnswersSo};
-ghost use Rattle.cbor_edn_application.specs.Handlers.{at_parameter, integer_message, KeyAnswers};
+ghost use Rattle.cbor_edn_application.specs.Handlers.{at_parameter, integer_message, KeyAnswers, SaysAsErrors, IsReserved};
 
-use crate::answers::noted;
 use crate::integers::integer_of;
 use crate::reply::comment;
 use cbor_edn_conversions::tables::{ParameterValue, algorithm, parameter};
@@ -22,7 +22,8 @@ use std::alloc::Global;
 /// What is done with the value of an OSCORE parameter (RFC 9203).
 #[derive(Clone, Copy, Debug, PartialEq, Eq)]
 pub enum OscHandler {
-    /// It gets the name of a COSE algorithm as a comment, as `AES-CCM-16-64-128` of 10. A number without a name gets none.
+    /// It gets the name of a COSE algorithm as a comment, as `AES-CCM-16-64-128` of 10. A number without a name gets none, and 0, which is
+    /// reserved, is an error.
     Algorithm,
 }
 
@@ -77,9 +78,9 @@ fn message(mismatch: TypeMismatch) -> &'static str
 impl<'a> MapValueHandler<'a> for OscHandler {
     ghost use Rattle.cbor_edn_core.specs.visit.Callbacks.{answer_of};
     ghost use Rattle.cbor_edn_core.specs.tree.View.{item_tree};
-    ghost use Rattle.cbor_edn_application.specs.Handlers.{at_parameter, ValueAnswers};
+    ghost use Rattle.cbor_edn_application.specs.Handlers.{at_parameter, ValueAnswers, SaysAsErrors, IsReserved};
 
-    ghost handles = { λ h x r y. ValueAnswers (at_parameter h) (item_tree x) (answer_of r) (item_tree y) };
+    ghost handles = { λ h x r y. ValueAnswers (at_parameter h) (item_tree x) (answer_of r) (item_tree y) × SaysAsErrors IsReserved r };
 
     fn handle(self, alloc: Global, value: &mut Item<'a>) -> Result<Option<String>, CallbackError> {
         match self {
@@ -88,11 +89,27 @@ impl<'a> MapValueHandler<'a> for OscHandler {
     }
 }
 
-/// The comment of an algorithm's name.
+/// The comment of an algorithm's name, if it has one.
 fn comment_algorithm(alloc: Global, value: &Item<'_>) -> Result<Option<String>, CallbackError>
-    ensures { AnswersSo (parameter_value Algorithm (item_tree value.now)).0 (answer_of result) }
+    ensures answer { AnswersSo (parameter_value Algorithm (item_tree value.now)).0 (answer_of result) }
+    ensures errors { SaysAsErrors IsReserved result }
 {
-    noted(alloc, algorithm_name(value))
+    match algorithm_name(value) {
+        Some(name) => named(alloc, name),
+        None => Ok(None),
+    }
+}
+
+/// A name as a comment, or as an error where it names no algorithm.
+fn named(alloc: Global, name: &'static str) -> Result<Option<String>, CallbackError>
+    ensures answer { AnswersSo (comment_answer name.now) (answer_of result) }
+    ensures errors { SaysAsErrors IsReserved result }
+{
+    if name == "Reserved" {
+        return Err(comment(alloc, name));
+    }
+    let name = String::from_str(alloc, name)?;
+    Ok(Some(name))
 }
 
 /// The name of an algorithm, by its number.

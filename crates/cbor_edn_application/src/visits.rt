@@ -2,6 +2,7 @@
 ghost use Rattle.std.specs.Prelude.{◌≡◌, ℕ, List, false, None, OnOk};
 ghost use Rattle.std.specs.String.{string_bytes};
 ghost use Rattle.cbor_edn_parts.specs.Refusals.{IfTold};
+ghost use Rattle.cbor_edn_core.specs.declared.access.TypeMismatch.TheVariants.{Map};
 ghost use Rattle.cbor_edn_core.specs.visit.Callbacks.{ending, IfVisited};
 ghost use Rattle.cbor_edn_core.specs.visit.Sought.{sought_answer};
 ghost use Rattle.cbor_edn_core.specs.tree.View.{item_tree, sequence_tree};
@@ -236,7 +237,7 @@ pub fn comment_languages(alloc: Global, sequence: &mut Sequence<'_>) -> Result<(
 pub fn annotate_claims(alloc: Global, item: &mut Item<'_>) -> Result<(), Fault<TypeMismatch>>
     ensures claims { OnOk result (item_tree item.new ≡ (with_claims (item_tree item.old)).1) }
     ensures visited { IfVisited result (λ r. AreKeysVisited claim_key (item_tree item.old) r (item_tree item.new)) }
-    ensures no_map { IfTold result (λ _. (map_items (item_tree item.old) ≡ None) × (item_tree item.new ≡ item_tree item.old)) }
+    ensures no_map { IfTold result (λ e. (e ≡ Map) × (map_items (item_tree item.old) ≡ None) × (item_tree item.new ≡ item_tree item.old)) }
 {
     item.visit_map_elements(alloc, &mut |key| comment_ccs(alloc, key))
 }

@@ -2,24 +2,28 @@
 //! `must-fail/`: a check here is that of a small crate, and what a clause refuses here it refuses where the call is written.
 #![tactic(auto)]
 
-ghost use Rattle.std.specs.Prelude.{◌≡◌, Ok, Err, IfOk, OnOk, option_map};
+ghost use Rattle.std.specs.Prelude.{◌≡◌, None, Ok, Err, IfOk, IfErr, OnOk, option_map};
 ghost use Rattle.std.specs.String.{string_bytes};
 ghost use Rattle.cbor_edn_parts.specs.Refusals.{IfTold};
+ghost use Rattle.cbor_edn_model.specs.access.Accessed.{map_items};
 ghost use Rattle.cbor_edn_model.specs.visit.Seeking.{IsApplication, number, prefix_and_text};
-ghost use Rattle.cbor_edn_core.specs.visit.Callbacks.{answer_of, ending, handler_of, key_answer};
+ghost use Rattle.cbor_edn_core.specs.declared.access.TypeMismatch.TheVariants.{Map};
+ghost use Rattle.cbor_edn_core.specs.visit.Callbacks.{answer_of, ending, handler_of, key_answer, IfVisited};
 ghost use Rattle.cbor_edn_core.specs.visit.Sought.{sought_answer};
 ghost use Rattle.cbor_edn_core.specs.tree.View.{item_tree, sequence_tree};
-ghost use Rattle.cbor_edn_conversions.specs.Addresses.{address_literal, resolve_address};
+ghost use Rattle.cbor_edn_conversions.specs.Addresses.{address_literal, pretty_address, resolve_address};
 ghost use Rattle.cbor_edn_conversions.specs.All.{pretty_all, resolve_all};
 ghost use Rattle.cbor_edn_conversions.specs.Annotations.{comment_lang};
 ghost use Rattle.cbor_edn_conversions.specs.Bignums.{pretty_bignum};
-ghost use Rattle.cbor_edn_conversions.specs.Claims.{claim_key};
-ghost use Rattle.cbor_edn_conversions.specs.Times.{pretty_time};
+ghost use Rattle.cbor_edn_conversions.specs.Claims.{claim_key, with_claims};
+ghost use Rattle.cbor_edn_conversions.specs.Tag999.{to_tag999};
+ghost use Rattle.cbor_edn_conversions.specs.Times.{pretty_time, resolve_time, time_literal};
 ghost use Rattle.cbor_edn_application.specs.Acts.{ActsBy, IsVisited};
-ghost use Rattle.cbor_edn_application.specs.Handlers.{at_claim, KeyAnswers, ValueAnswers};
-ghost use Rattle.cbor_edn_application.specs.Sequences.{with_claims_sets};
+ghost use Rattle.cbor_edn_application.specs.Handlers.{at_claim, at_confirmation, at_parameter, AnyWords, AreKeysVisited, FailsForMemory, IsReserved, KeyAnswers, SaysAsErrors, ValueAnswers};
+ghost use Rattle.cbor_edn_application.specs.Sequences.{with_claims_sets, AreClaimsBegun};
 
-use cbor_edn_application::{CcsHandler, IpVersion};
+use cbor_edn_application::{CcsHandler, CnfHandler, IpVersion, OscHandler};
+use cbor_edn_core::access::TypeMismatch;
 use cbor_edn_core::tree::{Item, Sequence};
 use cbor_edn_core::visit::MapValueHandler;
 use cbor_edn_parts::error::{CallbackError, Fault};
@@ -50,6 +54,37 @@ pub fn ip_item_to_aol<'a>(
     cbor_edn_application::ip_item_to_aol(alloc, item, version, wrap)
 }
 
+/// `ip_tag_to_aol`.
+pub fn ip_tag_to_aol<'a>(alloc: Global, tag: u64, item: &mut Item<'a>) -> Result<(), CallbackError>
+    ensures { ActsBy pretty_address (number tag) (item_tree item.old) (sought_answer result) (item_tree item.new) }
+{
+    cbor_edn_application::ip_tag_to_aol(alloc, tag, item)
+}
+
+/// `dt_aol_to_item`.
+pub fn dt_aol_to_item(
+    alloc: Global,
+    prefix: String,
+    text: String,
+    item: &mut Item<'_>,
+) -> Result<(), CallbackError>
+    ensures { ActsBy resolve_time (prefix_and_text (string_bytes prefix) (string_bytes text)) (item_tree item.old) (sought_answer result) (item_tree item.new) }
+{
+    cbor_edn_application::dt_aol_to_item(alloc, prefix, text, item)
+}
+
+/// `dt_item_to_aol`.
+pub fn dt_item_to_aol<'a>(
+    alloc: Global,
+    item: &Item<'_>,
+    wrap: bool,
+) -> Result<Item<'a>, Fault<&'static str>>
+    ensures converted { IfOk result (λ t. time_literal (item_tree item.now) wrap ≡ Ok (item_tree t)) }
+    ensures refused { IfTold result (λ e. time_literal (item_tree item.now) wrap ≡ Err e.now) }
+{
+    cbor_edn_application::dt_item_to_aol(alloc, item, wrap)
+}
+
 /// `dt_tag_to_aol`.
 pub fn dt_tag_to_aol(alloc: Global, tag: u64, item: &mut Item<'_>) -> Result<(), CallbackError>
     ensures { ActsBy pretty_time (number tag) (item_tree item.old) (sought_answer result) (item_tree item.new) }
@@ -66,6 +101,30 @@ pub fn tag23_to_edn_integer<'a>(
     ensures { ActsBy pretty_bignum (number tag) (item_tree item.old) (sought_answer result) (item_tree item.new) }
 {
     cbor_edn_application::tag23_to_edn_integer(alloc, tag, item)
+}
+
+/// `all_aol_to_item`.
+pub fn all_aol_to_item<'a>(
+    alloc: Global,
+    prefix: String,
+    text: String,
+    item: &mut Item<'a>,
+) -> Result<(), CallbackError>
+    ensures { ActsBy resolve_all (prefix_and_text (string_bytes prefix) (string_bytes text)) (item_tree item.old) (sought_answer result) (item_tree item.new) }
+{
+    cbor_edn_application::all_aol_to_item(alloc, prefix, text, item)
+}
+
+/// `any_aol_to_tag999`.
+pub fn any_aol_to_tag999<'a>(
+    alloc: Global,
+    prefix: String,
+    text: String,
+    item: &mut Item<'a>,
+) -> Result<(), CallbackError>
+    ensures { ActsBy to_tag999 (prefix_and_text (string_bytes prefix) (string_bytes text)) (item_tree item.old) (sought_answer result) (item_tree item.new) }
+{
+    cbor_edn_application::any_aol_to_tag999(alloc, prefix, text, item)
 }
 
 /// `all_tag_prettify`.
@@ -93,6 +152,7 @@ pub fn comment_ccs<'a>(
 ) -> Result<(Option<String>, Option<CcsHandler>), CallbackError>
     ensures same { item_tree key.new ≡ item_tree key.old }
     ensures answer { KeyAnswers (claim_key (item_tree key.old)) (key_answer result) (option_map at_claim (handler_of result)) }
+    ensures errors { FailsForMemory result }
 {
     cbor_edn_application::comment_ccs(alloc, key)
 }
@@ -103,14 +163,49 @@ pub fn handle<'a>(
     handler: CcsHandler,
     value: &mut Item<'a>,
 ) -> Result<Option<String>, CallbackError>
-    ensures { ValueAnswers (at_claim handler) (item_tree value.old) (answer_of result) (item_tree value.new) }
+    ensures value { ValueAnswers (at_claim handler) (item_tree value.old) (answer_of result) (item_tree value.new) }
+    ensures errors { SaysAsErrors AnyWords result }
 {
     handler.handle(alloc, value)
 }
 
+/// `CnfHandler::handle`.
+pub fn handle_confirmation<'a>(
+    alloc: Global,
+    handler: CnfHandler,
+    map: &mut Item<'a>,
+) -> Result<Option<String>, CallbackError>
+    ensures value { ValueAnswers (at_confirmation handler) (item_tree map.old) (answer_of result) (item_tree map.new) }
+    ensures errors { SaysAsErrors AnyWords result }
+{
+    handler.handle(alloc, map)
+}
+
+/// `OscHandler::handle`.
+pub fn handle_parameter<'a>(
+    alloc: Global,
+    handler: OscHandler,
+    algorithm: &mut Item<'a>,
+) -> Result<Option<String>, CallbackError>
+    ensures value { ValueAnswers (at_parameter handler) (item_tree algorithm.old) (answer_of result) (item_tree algorithm.new) }
+    ensures errors { SaysAsErrors IsReserved result }
+{
+    handler.handle(alloc, algorithm)
+}
+
+/// `annotate_claims`.
+pub fn annotate_claims(alloc: Global, item: &mut Item<'_>) -> Result<(), Fault<TypeMismatch>>
+    ensures claims { OnOk result (item_tree item.new ≡ (with_claims (item_tree item.old)).1) }
+    ensures visited { IfVisited result (λ r. AreKeysVisited claim_key (item_tree item.old) r (item_tree item.new)) }
+    ensures no_map { IfTold result (λ e. (e ≡ Map) × (map_items (item_tree item.old) ≡ None) × (item_tree item.new ≡ item_tree item.old)) }
+{
+    cbor_edn_application::visits::annotate_claims(alloc, item)
+}
+
 /// `annotate_claims_sets`.
 pub fn annotate_claims_sets(alloc: Global, sequence: &mut Sequence<'_>) -> Result<(), AllocError>
-    ensures { OnOk result (sequence_tree sequence.new ≡ with_claims_sets (sequence_tree sequence.old)) }
+    ensures annotated { OnOk result (sequence_tree sequence.new ≡ with_claims_sets (sequence_tree sequence.old)) }
+    ensures out_of_memory { IfErr result (λ _. AreClaimsBegun (sequence_tree sequence.old) (sequence_tree sequence.new)) }
 {
     cbor_edn_application::visits::annotate_claims_sets(alloc, sequence)
 }

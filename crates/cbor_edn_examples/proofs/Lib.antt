@@ -1,1 +1,2 @@
 mod LoanExamples
+mod Outcomes

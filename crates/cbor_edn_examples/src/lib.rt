@@ -12,8 +12,10 @@ ghost use Rattle.cbor_edn_model.specs.access.Paths.{at_sequence, with_at_sequenc
 ghost use Rattle.cbor_edn_model.specs.visit.Seeking.{IsTag, IsApplication};
 ghost use Rattle.cbor_edn_model.specs.text.Spelling.{SpellsSequence};
 ghost use Rattle.cbor_edn_model.specs.tree.Trees.{Tree, Seq, items, text};
-ghost use Rattle.cbor_edn_model.specs.cbor.Value.{Values, ValuesFit, EncAll};
+ghost use Rattle.cbor_edn_model.specs.cbor.Value.{Value, Values, ValuesFit, Enc, EncAll};
 ghost use Rattle.cbor_edn_model.specs.visit.Visits.{whole};
+ghost use Rattle.cbor_edn_parts.specs.Refusals.{IfTold};
+ghost use Rattle.cbor_edn_core.specs.visit.Callbacks.{ending};
 ghost use Rattle.cbor_edn_core.specs.tree.View.{item_tree, sequence_tree, standalone_tree};
 ghost use Rattle.cbor_edn_conversions.specs.All.{resolve_all, pretty_all};
 ghost use Rattle.cbor_edn_application.specs.Acts.{IsVisited};
@@ -21,8 +23,11 @@ ghost use Rattle.cbor_edn_application.specs.Sequences.{with_claims_sets};
 
 use cbor_edn::application::laws::calls_resolve_again;
 use cbor_edn::application::visits::{annotate_claims_sets, prettify, resolve};
+use cbor_edn::application::{all_aol_to_item, all_tag_prettify};
 use cbor_edn::engine::RunError;
-use cbor_edn::{DelimiterPolicy, Item, Sequence, StandaloneItem, TypeMismatch};
+use cbor_edn::{
+    DelimiterPolicy, Fault, InconsistentEdn, Item, Sequence, StandaloneItem, TypeMismatch,
+};
 use std::alloc::{AllocError, Global};
 
 /// The CBOR that a text means, as for a commented configuration that ships as CBOR. Fails where the text is no EDN, nests too
@@ -78,6 +83,39 @@ pub fn prettified_and_resolved(alloc: Global, sequence: &mut Sequence<'_>) -> Re
     resolve(alloc, sequence)?;
     calls_resolve_again();
     Ok(())
+}
+
+/// Shows the times, addresses and bignums of one item as people read them, by a visit of its tags. Fails where memory runs out; the calls up
+/// to there are made then.
+pub fn prettified(alloc: Global, item: &mut StandaloneItem<'_>) -> Result<(), AllocError>
+    ensures { IsVisited IsTag pretty_all (standalone_tree item.old) (ending result) (standalone_tree item.new) }
+{
+    item.visit_tag(alloc, &mut |tag, item| all_tag_prettify(alloc, tag, item))
+}
+
+/// Puts back what the time and address literals of one item stand for, by a visit of its literals. Fails where memory runs out; the calls
+/// up to there are made then.
+pub fn resolved(alloc: Global, item: &mut StandaloneItem<'_>) -> Result<(), AllocError>
+    ensures { IsVisited IsApplication resolve_all (standalone_tree item.old) (ending result) (standalone_tree item.new) }
+{
+    item.visit_application_literals(alloc, &mut |prefix, text, item| {
+        all_aol_to_item(alloc, prefix, text, item)
+    })
+}
+
+/// The CBOR of an item that is shown as people read it and then put back: what `to_cbor` of the item answers without that. Fails where the
+/// item meant nothing and still means nothing, and where memory runs out.
+pub fn encoded_again(
+    alloc: Global,
+    item: &mut StandaloneItem<'_>,
+) -> Result<Vec<u8>, Fault<InconsistentEdn>>
+    ensures bytes { IfOk result (λ b. (v : Value) → means (items (standalone_tree item.old)) ≡ Some v → Enc b.items v) }
+    ensures refused { IfTold result (λ _. means (items (standalone_tree item.old)) ≡ None) }
+{
+    prettified(alloc, item)?;
+    resolved(alloc, item)?;
+    calls_resolve_again();
+    item.to_cbor(alloc)
 }
 
 /// The text of a token's claims with the names of their keys, and with its times as literals. Fails where the bytes encode nothing that can be

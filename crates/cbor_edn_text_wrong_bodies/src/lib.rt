@@ -9,7 +9,7 @@ ghost use Rattle.cbor_edn_core.specs.text.Parsing.{ParsedSequence};
 ghost use Rattle.cbor_edn_core.specs.tree.View.{item_tree, sequence_tree, standalone_tree};
 ghost use Rattle.cbor_edn_model.specs.layout.Bare.{without_indicators};
 ghost use Rattle.cbor_edn_model.specs.layout.Commented.{commented};
-ghost use Rattle.cbor_edn_model.specs.cbor.Decoded.{alone, IsDecodedSequence, NoSequence};
+ghost use Rattle.cbor_edn_model.specs.cbor.Decoded.{alone, IsDecodedSequence, IsTooDeepSequence, NoSequence};
 ghost use Rattle.cbor_edn_model.specs.layout.Fewer.{Fewer};
 ghost use Rattle.cbor_edn_model.specs.layout.Layout.{laid_out};
 ghost use Rattle.cbor_edn_model.specs.text.Spelling.{SpellsSequence};
@@ -58,6 +58,7 @@ pub fn from_cbor_within<'a>(
 ) -> Result<Sequence<'a>, Fault<CborError>>
     ensures accepted { IfOk result (λ t. IsDecodedSequence limit bytes.now (sequence_tree t)) }
     ensures refused { IfTold result (λ e. e ≢ CborError.TooDeep → NoSequence bytes.now) }
+    ensures too_deep { IfTold result (λ e. e ≡ CborError.TooDeep → IsTooDeepSequence limit bytes.now) }
 {
     Sequence::from_cbor_within(alloc, bytes, limit)
 }

@@ -9,8 +9,8 @@ pub returns-clause-claims : goal.returns-clause-claims
 unfolding with_claims
 returns-clause-claims c =
     on_visited _ c.visit_map_elements.result c.visit_map_elements.ensures.visited
-    (λ h. (map_whole claim_key at_claim _ _ (λ p q x y z s. search rules) (λ h x r y did. did) h.2 refl h.1).1)
+    (λ h. (map_whole claim_key at_claim _ _ (λ p q x y z s. search rules) (λ h x r y did. did.0) h.2 refl h.1).1)
 
 pub returns-clause-visited : goal.returns-clause-visited
 returns-clause-visited c =
-    if_visited c.visit_map_elements.result (λ r h. map_visited claim_key at_claim _ _ (λ p q x y z s. search rules) (λ h x r y did. did) h.2 h.1) c.visit_map_elements.ensures.visited
+    if_visited c.visit_map_elements.result (λ r h. map_visited claim_key at_claim _ _ (λ p q x y z s. search rules) (λ h x r y did. did.0) h.2 h.1) c.visit_map_elements.ensures.visited
