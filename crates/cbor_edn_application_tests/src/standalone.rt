@@ -21,12 +21,7 @@ enum Function {
     AnyAolToTag999,
 }
 
-fn at_tag(
-    alloc: Global,
-    by: Function,
-    tag: u64,
-    item: &mut Item<'_>,
-) -> Result<(), CallbackError> {
+fn at_tag(alloc: Global, by: Function, tag: u64, item: &mut Item<'_>) -> Result<(), CallbackError> {
     match by {
         Function::IpTagToAol => ip_tag_to_aol(alloc, tag, item),
         Function::DtTagToAol => dt_tag_to_aol(alloc, tag, item),
@@ -53,9 +48,10 @@ fn at_literal(
 
 fn visit(alloc: Global, by: Function, item: &mut StandaloneItem<'_>) -> Result<(), AllocError> {
     item.visit_tag(alloc, &mut |tag, item| at_tag(alloc, by, tag, item))?;
-    item.visit_application_literals(alloc, &mut |prefix, text, item| {
-        at_literal(alloc, by, prefix, text, item)
-    })
+    item.visit_application_literals(
+        alloc,
+        &mut |prefix, text, item| { at_literal(alloc, by, prefix, text, item) },
+    )
 }
 
 fn visited(alloc: Global, by: Function, text: &str) -> Result<String, Fail> {
@@ -149,11 +145,7 @@ const ROWS: &[(Function, &str, &str)] = &[
         "dt'2001-02-29T00:00:00Z'",
         "dt'2001-02-29T00:00:00Z'/ DateTime parsing failed /",
     ),
-    (
-        Function::DtAolToItem,
-        "[dt'1970-01-01T00:00:23Z']",
-        "[23]",
-    ),
+    (Function::DtAolToItem, "[dt'1970-01-01T00:00:23Z']", "[23]"),
     (
         Function::DtAolToItem,
         "dt'1969-07-21T02:56:16.5Z'",

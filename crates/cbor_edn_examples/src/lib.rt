@@ -98,9 +98,10 @@ pub fn prettified(alloc: Global, item: &mut StandaloneItem<'_>) -> Result<(), Al
 pub fn resolved(alloc: Global, item: &mut StandaloneItem<'_>) -> Result<(), AllocError>
     ensures { IsVisited IsApplication resolve_all (standalone_tree item.old) (ending result) (standalone_tree item.new) }
 {
-    item.visit_application_literals(alloc, &mut |prefix, text, item| {
-        all_aol_to_item(alloc, prefix, text, item)
-    })
+    item.visit_application_literals(
+        alloc,
+        &mut |prefix, text, item| { all_aol_to_item(alloc, prefix, text, item) },
+    )
 }
 
 /// The CBOR of an item that is shown as people read it and then put back: what `to_cbor` of the item answers without that. Fails where the

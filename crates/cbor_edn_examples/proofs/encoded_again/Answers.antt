@@ -14,7 +14,7 @@ returns-clause-bytes c =
     let pretty = standalone_tree c.prettified.new.item in
     let after = standalone_tree c.resolved.new.item in
     let again : (v : Value) → means (items before) ≡ Some v → means (items after) ≡ Some v =
-        λ v is. c.calls_resolve_again.ensures.any_items before pretty pretty after whole v is c.in_ok-prettified.ensures refl c.in_ok-resolved.ensures in
+    λ v is. c.calls_resolve_again.ensures.any_items before pretty pretty after whole v is c.in_ok-prettified.ensures refl c.in_ok-resolved.ensures in
     ok_again (means (items before)) (means (items after)) again c.to_cbor.result (λ b v. Enc b.items v) c.to_cbor.ensures.bytes
 
 pub returns-clause-refused : goal.returns-clause-refused
@@ -23,5 +23,5 @@ returns-clause-refused c =
     let pretty = standalone_tree c.prettified.new.item in
     let after = standalone_tree c.resolved.new.item in
     let again : (v : Value) → means (items before) ≡ Some v → means (items after) ≡ Some v =
-        λ v is. c.calls_resolve_again.ensures.any_items before pretty pretty after whole v is c.in_ok-prettified.ensures refl c.in_ok-resolved.ensures in
+    λ v is. c.calls_resolve_again.ensures.any_items before pretty pretty after whole v is c.in_ok-prettified.ensures refl c.in_ok-resolved.ensures in
     told_weaker c.to_cbor.result _ _ (λ e none. none_again (means (items before)) (means (items after)) again none) c.to_cbor.ensures.refused
