@@ -1,9 +1,9 @@
 #!/usr/bin/env bash
 # All tests: where a text is read and which public calls are tested (two looks at the sources), each proof, edit that must fail, test and
 # program (`rt ci`), the wrong bodies of each crate and the script that tries them, each allocation of the calls of the crates *_memory
-# refused in turn and all of them where none is taken, then the encodings of another implementation, where it is installed, the examples,
-# the help, the lines of faults, devices that fail, inputs past the limits, random inputs, the launcher, the deepest nesting under small
-# stacks, and calls from other languages. The last line is 'N passed, M failed'. Where nothing failed, the program that was proved is left
+# and of the program refused in turn and all of them where none is taken, then the encodings of another implementation, where it is
+# installed, the examples, the help, the lines of faults, devices that fail, inputs past the limits, random inputs, the launcher, the
+# deepest nesting under small stacks, and calls from other languages. The last line is 'N passed, M failed'. Where nothing failed, the program that was proved is left
 # to ./cbor-edn. `docs/CONTRIBUTING.md` says how the proofs share the processors.
 set -euo pipefail
 
@@ -158,6 +158,7 @@ for crate in crates/*_memory; do
   crate=$(basename "$crate")
   add scripts/refuse-memory.sh "$crate" "crates/$crate/out/$crate"
 done
+add scripts/refuse-program.sh "$program"
 add scripts/check-outside.sh "$program"
 add scripts/check-examples.sh "$program"
 add scripts/check-help.sh "$program"

@@ -64,8 +64,11 @@ fn serve_files(rt: &HostRuntime, options: &Options, input: &str, output: &str) -
     }
 }
 
-// Shows why the words are no run: a fault of theirs, help or the version.
+// Shows why the words are no run: a fault of theirs, help or the version, or that memory ran out before one of them was told.
 fn shown(rt: &HostRuntime, error: &clap::Error) -> u8 {
+    if error.kind() == clap::error::ErrorKind::OutOfMemory {
+        return fault(rt, "Out of memory");
+    }
     let status = u8::try_from(error.exit_code()).unwrap_or(MISUSE);
     match error.print(rt) {
         Ok(()) => status,
