@@ -1,5 +1,5 @@
 -- From what the calls of `clap` answer to what is read off a command line.
-use Rattle.std.proofs.Common.{◌≡◌, ℕ, Bool, true, false, List, [], ◌∷◌, ◌++◌, Option, Some, None, refl, sym, subst, ap, ap₂, ◌∙◌, append_assoc}
+use Rattle.std.proofs.Common.{◌≡◌, ◌≤◌, ℕ, Bool, true, false, List, [], ◌∷◌, ◌++◌, Option, Some, None, refl, sym, subst, ap, ap₂, ◌∙◌, append_assoc}
 use Rattle.std.specs.Prelude.{◌||◌, ◌==◌, cond, drop, not, slice_index, Box, codes, unwrap_or, option_map}
 use Rattle.std.specs.Box.{box_value}
 use Rattle.std.specs.Option.{option_map_or}
@@ -7,7 +7,7 @@ use Rattle.std.specs.Str.{bytes_eq}
 use Rattle.std.specs.Str.Parse.{IsNumeral, digits_value, without_leading_plus}
 use Rattle.clap.specs.Matches.{first_value, one_text}
 use Rattle.clap.specs.declared.parser.matches.Found.{Found}
-use Rattle.clap.specs.Words.{AddsArg, AddsSubcommand, App, Row, Rule, Text, app_of, first_of, is_simple, new_app, rows_of, subcommand_rows, with_rule, with_subcommand}
+use Rattle.clap.specs.Words.{AddsArg, AddsSubcommand, App, Row, Rule, Text, app_of, first_of, is_simple_and_free, new_app, rows_of, subcommand_rows, with_rule, with_subcommand}
 use Rattle.clap.specs.declared.builder.arg.Arg.{Arg}
 use Rattle.clap.specs.declared.builder.command.Command.{Command}
 use Rattle.clap.specs.declared.builder.command.Command.TheViews.{out-Command}
@@ -43,10 +43,10 @@ limit_left_out f is = rw (sym (is ∙ first_value-rows f (codes "max-nesting")))
 -- a number that was read is that of digits alone, where no plus sign stands in front
 pub limit_read : (f : Found) (word : Text) (limit : ℕ) (plus : Bool) → Some word ≡ first_value f (codes "max-nesting")
     → IsNumeral 10 (without_leading_plus word) → limit ≡ digits_value 10 (without_leading_plus word) → plus ≡ (slice_index word 0 == 43) → plus ≡ false
-    → line.IsLimit (first_of (codes "max-nesting") (rows_of f)) limit
-limit_read f word limit plus is numeral value looked none =
+    → limit ≤ NESTING_LIMIT → line.IsLimit (first_of (codes "max-nesting") (rows_of f)) limit
+limit_read f word limit plus is numeral value looked none within =
     let same : without_leading_plus word ≡ word = ap (λ b. drop (cond b 1 0) word) (sym looked ∙ none) in
-    rw (sym (is ∙ first_value-rows f (codes "max-nesting"))) (subst (IsNumeral 10) same numeral, value ∙ ap (digits_value 10) same)
+    rw (sym (is ∙ first_value-rows f (codes "max-nesting"))) (subst (IsNumeral 10) same numeral, value ∙ ap (digits_value 10) same, within)
 
 pub flag_read : (f : Found) (id : Text) (b : Bool) → (one_text f id ≡ None → b ≡ false) → (one_text f id ≡ Some (codes "true") → b ≡ true)
     → (one_text f id ≡ Some (codes "false") → b ≡ false) → line.IsFlag id (rows_of f) b
@@ -103,6 +103,6 @@ pub whole : (top one first two second three new : Command) (f a : ValueParser) �
 whole top one first two second three new f a are too is adds own then its adds_last last =
     (f, a, are, too, with_sub second three new _ _ (with_sub first two second _ _ (with_sub top one first _ _ is adds own) then its) adds_last last)
 
-pub program_simple : (formats annotations : ValueParser) → is_simple (line.program formats annotations) ≡ true
+pub program_simple : (formats annotations : ValueParser) → is_simple_and_free (line.program formats annotations) ≡ true
 unfolding clap_on_literals
 program_simple formats annotations = refl

@@ -1,9 +1,9 @@
 -- The program's command line, as `clap` sees it, and what is read off the entries that `clap` finds for the words.
-use Rattle.std.specs.Prelude.{◌≡◌, ℕ, Bool, true, false, not, List, [], ◌∷◌, ◌++◌, map, codes, Option, Some, None, unwrap_or, if◌then◌else◌}
+use Rattle.std.specs.Prelude.{◌≡◌, ◌≤◌, ℕ, Bool, true, false, not, List, [], ◌∷◌, ◌++◌, map, codes, Option, Some, None, unwrap_or, if◌then◌else◌}
 use Rattle.std.specs.Str.{bytes_eq}
 use Rattle.std.specs.Str.Parse.{IsNumeral, digits_value}
 use Rattle.std.specs.Option.{option_map_or}
-use Rattle.clap.specs.Words.{App, Row, Rule, Text, first_of, new_app, new_rule, one_of, subcommand_of, with_subcommand}
+use Rattle.clap.specs.Words.{App, Row, Rule, Text, fault_of, first_of, new_app, new_rule, one_of, subcommand_of, with_subcommand}
 use Rattle.clap.specs.declared.builder.action.ArgAction.TheVariants.{SetTrue}
 use Rattle.clap.specs.declared.builder.value_parser.ValueParser.{ValueParser}
 use Rattle.clap.specs.declared.builder.value_parser.ValueParser.TheVariants.{Names, Unsigned}
@@ -85,9 +85,9 @@ command_named name =
 abbrev pub is_value : Text → Text → List Row → Bool
 is_value id value rows = option_map_or (λ t. bytes_eq t value) (first_of id rows) false
 
--- How deep items may nest, by the word of `--max-nesting`: the number of a word that is digits alone. `+5` is none.
+-- How deep items may nest, by the word of `--max-nesting`: the number of a word that is digits alone, at most 512. `+5` is none.
 abbrev pub IsLimit : Option Text → ℕ → Type 0
-IsLimit (Some word) limit = IsNumeral 10 word × (limit ≡ digits_value 10 word)
+IsLimit (Some word) limit = IsNumeral 10 word × (limit ≡ digits_value 10 word) × (limit ≤ NESTING_LIMIT)
 IsLimit None limit = limit ≡ NESTING_LIMIT
 
 -- the name of a file, or `-`
@@ -182,8 +182,9 @@ AreFormats = AreNames (codes "hex" ∷ codes "binary" ∷ codes "auto" ∷ [])
 abbrev pub AreAnnotations : ValueParser → Type 0
 AreAnnotations = AreNames (codes "ccs" ∷ [])
 
--- The same of the entries that `clap` finds for some words, where each format is `hex`, `binary` or `auto`, and `ccs` is annotated.
+-- The same of the entries that `clap` finds for some words, and it finds no fault in them: each value is one that its flag takes, where a
+-- format is `hex`, `binary` or `auto`, and `ccs` is annotated.
 abbrev pub IsReadFrom : List Text → Options → Text → Text → Type 0
 IsReadFrom words o source target =
     (formats annotations : ValueParser) × (found : Text × List Row) × AreFormats formats × AreAnnotations annotations
-    × (subcommand_of (program formats annotations) words ≡ Some found) × IsReadOff found o source target
+    × (fault_of (program formats annotations) words ≡ []) × (subcommand_of (program formats annotations) words ≡ Some found) × IsReadOff found o source target

@@ -146,7 +146,8 @@ fn is_value(found: &ArgMatches<'_>, flag: &str, value: &str) -> bool
     }
 }
 
-// How deep items may nest, or the word that is not of digits alone: the kit's parsers of numbers take a plus sign.
+// How deep items may nest, or the word that is not of digits alone: the kit's parsers of numbers take a plus sign. A number that is too
+// high `clap` has refused.
 fn limit_of<'a>(found: &ArgMatches<'a>) -> Result<usize, &'a str>
     ensures { IfOk result (line.IsLimit (first_of (codes "max-nesting")
         (rows_of (found_of found.now)))) }
@@ -155,7 +156,7 @@ fn limit_of<'a>(found: &ArgMatches<'a>) -> Result<usize, &'a str>
         return Ok(NESTING_LIMIT);
     };
     match word.parse() {
-        Ok(limit) if !word.starts_with('+') => Ok(limit),
+        Ok(limit) if limit <= NESTING_LIMIT && !word.starts_with('+') => Ok(limit),
         _ => Err(word),
     }
 }

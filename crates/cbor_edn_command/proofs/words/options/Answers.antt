@@ -1,5 +1,6 @@
 use Rattle.std.proofs.Common.{◌∙◌, Some, sym, subst, ap, map}
-use Rattle.clap.specs.Words.{found_of, is_simple, subcommand_of, rows_of}
+use Rattle.clap.specs.Words.{fault_of, found_of, is_simple_and_free, subcommand_of, rows_of}
+use Rattle.clap.proofs.WalkLemmas.{both}
 use Rattle.cbor_edn_command.specs.CommandLine.{IsLimit}
 use Rattle.cbor_edn_command.proofs.ReadCommandLine.{entered, program_simple}
 use Rattle.cbor_edn_command.proofs.words.options.Goals as goal
@@ -9,12 +10,14 @@ returns c =
     let (formats, annotations, are, too, (is, local)) = c.in_ok-program.ensures in
     let words = map (λ w. w.now) c.args.words.now in
     let found = found_of c.in-Some.found.now in
-    let met = (c.in_ok-matches.ensures.ok.2 (ap is_simple is ∙ program_simple formats annotations)).1 in (
+    let free = ap is_simple_and_free is ∙ program_simple formats annotations in
+    let met = (c.in_ok-matches.ensures.ok.2 (both _ _ free).0).1 in (
       formats,
       annotations,
       (c.in-Some.name.now, rows_of found),
       are,
       too,
+      sym (ap (λ a. fault_of a words) is) ∙ c.in_ok-matches.ensures.kinds free,
       sym (ap (λ a. subcommand_of a words) is) ∙ sym met ∙ entered _ c.in-Some.name.now (rows_of found) c.in-Some.ensures.name c.in-Some.ensures.rows,
       record {
         command = sym c.in-Some-command_named.ensures ∙ ap Some (sym c.options_of-options.ensures.given.0);
