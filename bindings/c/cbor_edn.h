@@ -1,7 +1,9 @@
 /* cbor-edn: the Extended Diagnostic Notation (EDN) of CBOR, into CBOR and back.
  *
  * What the caller owes, which nothing checks:
- *  - Each pointer points to as many bytes as its length says, and is not NULL, also where the length is 0.
+ *  - Each pointer points to as many bytes as its length says, which is PTRDIFF_MAX at most. With length 0 it may be NULL: such an
+ *    input is empty, and such a room takes nothing.
+ *  - report points to a report, is not NULL, and is aligned as its type asks.
  *  - No two of input, output, message and report overlap.
  *  - During the call no other thread writes any of them, nor reads output, message and report.
  *  - The call has a stack of 1 MB, or 32 kB and 1.5 kB for each level that limit allows, by measurement. With less, a deep
@@ -51,16 +53,17 @@ extern "C" {
 #define CBOR_EDN_NO_ROOM 1u       /* the output is longer than its room: report->output_len says how long */
 #define CBOR_EDN_BAD_CALL 2u      /* no such command, no such flags, or too high a limit */
 #define CBOR_EDN_NOT_UTF8 3u      /* the text is no UTF-8 */
-#define CBOR_EDN_INVALID_TEXT 4u  /* the text is no EDN, or nests too deep: the report has the place */
-#define CBOR_EDN_INVALID_CBOR 5u  /* the bytes are no CBOR that is read here, or nest too deep */
+#define CBOR_EDN_INVALID_TEXT 4u  /* the text is no EDN: the report has the place */
+#define CBOR_EDN_INVALID_CBOR 5u  /* the bytes are no CBOR that is read here */
 #define CBOR_EDN_INVALID_HEX 6u   /* a character is no digit and no space, or there is an odd number of digits */
 #define CBOR_EDN_NO_ENCODING 7u   /* what the text says has no encoding */
 #define CBOR_EDN_OUT_OF_MEMORY 8u /* malloc or realloc gave nothing */
+#define CBOR_EDN_TOO_DEEP 9u      /* items nest deeper than limit: for a text the report has the place */
 
 typedef struct {
   size_t output_len;  /* in bytes, at CBOR_EDN_DONE and CBOR_EDN_NO_ROOM, else 0 */
   size_t message_len; /* of a fault's whole message, in bytes, else 0. It is 0 too where memory ran out for it */
-  size_t offset;      /* the place at CBOR_EDN_INVALID_TEXT, in bytes from 0, else 0 */
+  size_t offset;      /* the place in a text, at CBOR_EDN_INVALID_TEXT and CBOR_EDN_TOO_DEEP, in bytes from 0, else 0 */
   size_t line;        /* its line, from 1, else 0 */
   size_t column;      /* its column, in characters from 1, else 0 */
 } cbor_edn_report;
@@ -68,7 +71,7 @@ typedef struct {
 /* Turns input into output, and returns a status.
  *
  * A text is UTF-8, without a zero at its end. Items nest limit deep at most. Only at CBOR_EDN_DONE is output written, and of it
- * the first report->output_len bytes alone. At a fault (3 to 8), message gets as much of the message as fits, in UTF-8 and
+ * the first report->output_len bytes alone. At a fault (3 to 9), message gets as much of the message as fits, in UTF-8 and
  * without a zero at its end; 160 bytes suffice for each. At CBOR_EDN_NO_ROOM the whole work was done: call again with room. */
 uint32_t cbor_edn_convert(uint32_t command, uint32_t flags, size_t limit, const uint8_t *input, size_t input_len,
                           uint8_t *output, size_t output_room, uint8_t *message, size_t message_room,

@@ -45,14 +45,16 @@ _FLAGS = {
     "apply_999": 64,
     "preserve_space": 128,
 }
-_DONE, _NO_ROOM, _BAD_CALL, _NOT_UTF8, _INVALID_TEXT, _INVALID_CBOR, _INVALID_HEX, _NO_ENCODING, _OUT_OF_MEMORY = range(9)
+_DONE, _NO_ROOM, _BAD_CALL, _NOT_UTF8, _INVALID_TEXT, _INVALID_CBOR, _INVALID_HEX, _NO_ENCODING, _OUT_OF_MEMORY, _TOO_DEEP = range(10)
 
 # Takes each message.
 _MESSAGE_ROOM = 160
 
 
 class Error(ValueError):
-    """A fault of the input."""
+    """A fault of the input. `too_deep` says whether items nest deeper than the limit."""
+
+    too_deep = False
 
 
 class ParseError(Error):
@@ -63,7 +65,7 @@ class ParseError(Error):
         self.line, self.column, self.offset = line, column, offset
 
     def __reduce__(self):
-        return (type(self), (str(self), self.line, self.column, self.offset))
+        return (type(self), (str(self), self.line, self.column, self.offset), self.__dict__)
 
 
 class DecodeError(Error):
@@ -100,13 +102,20 @@ def _load():
 _convert = _load()
 
 
-def _error(status, message, report):
-    if status == _INVALID_TEXT:
+def _fault(status, message, report):
+    # Lines count from 1: what has none is no text.
+    if report.line > 0:
         return ParseError(message, report.line, report.column, report.offset)
-    if status in (_INVALID_CBOR, _INVALID_HEX):
-        return DecodeError(message)
     if status == _NO_ENCODING:
         return EncodeError(message)
+    return DecodeError(message)
+
+
+def _error(status, message, report):
+    if status in (_INVALID_TEXT, _INVALID_CBOR, _INVALID_HEX, _NO_ENCODING, _TOO_DEEP):
+        error = _fault(status, message, report)
+        error.too_deep = status == _TOO_DEEP
+        return error
     if status == _OUT_OF_MEMORY:
         return MemoryError(message)
     return AssertionError(f"status {status}")

@@ -84,10 +84,17 @@ class Calls(unittest.TestCase):
         self.assertEqual((error.line, error.column, error.offset), (2, 4, 7))
         self.assertEqual(str(error), "Error parsing input data: Invalid EDN in line 2 column 4 (byte 7)")
         self.assertEqual(pickle.loads(pickle.dumps(error)).column, 4)
-        with self.assertRaisesRegex(cbor_edn.ParseError, "nested too deeply in line 1 column 2 "):
+        self.assertFalse(error.too_deep)
+        with self.assertRaisesRegex(cbor_edn.ParseError, "nested too deeply in line 1 column 2 ") as caught:
             diag2diag("[[]]", limit=1)
-        with self.assertRaisesRegex(cbor_edn.DecodeError, "Expected item, out of data"):
+        error = pickle.loads(pickle.dumps(caught.exception))
+        self.assertEqual((error.too_deep, error.line, error.column, error.offset), (True, 1, 2, 1))
+        with self.assertRaisesRegex(cbor_edn.DecodeError, "Nested too deeply") as caught:
+            cbor2diag(b"\x81\x80", limit=1)
+        self.assertTrue(caught.exception.too_deep)
+        with self.assertRaisesRegex(cbor_edn.DecodeError, "Expected item, out of data") as caught:
             cbor2diag(b"\x83\x01")
+        self.assertFalse(caught.exception.too_deep)
         with self.assertRaisesRegex(cbor_edn.DecodeError, "hexadecimal"):
             cbor2diag(b"123", hex=True)
         with self.assertRaisesRegex(cbor_edn.EncodeError, "Number has no encoding"):

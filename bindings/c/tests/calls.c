@@ -71,12 +71,14 @@ static const Fault FAULTS[] = {
      "Error parsing input data: Invalid EDN in line 2 column 4 (byte 7)"},
     {"no EDN for diag2diag", 2, 0, 512, TEXT(",1"), CBOR_EDN_INVALID_TEXT, 0, 1, 1,
      "Error parsing input data: Invalid EDN in line 1 column 1 (byte 0)"},
-    {"too deep a text", 0, 0, 2, TEXT("[[[]]]"), CBOR_EDN_INVALID_TEXT, 2, 1, 3,
+    {"too deep a text", 0, 0, 2, TEXT("[[[]]]"), CBOR_EDN_TOO_DEEP, 2, 1, 3,
      "Error parsing input data: EDN nested too deeply in line 1 column 3 (byte 2)"},
     {"no UTF-8", 0, 0, 512, TEXT("\xff"), CBOR_EDN_NOT_UTF8, 0, 0, 0, "Error processing input file"},
     {"bytes that end early", 1, 0, 512, TEXT("\x83\x01"), CBOR_EDN_INVALID_CBOR, 0, 0, 0,
      "Error decoding input data: Expected item, out of data"},
-    {"too deep bytes", 1, 0, 1, TEXT("\x81\x81\x01"), CBOR_EDN_INVALID_CBOR, 0, 0, 0,
+    {"too deep a text for diag2diag", 2, 0, 0, TEXT("1\n[2]"), CBOR_EDN_TOO_DEEP, 2, 2, 1,
+     "Error parsing input data: EDN nested too deeply in line 2 column 1 (byte 2)"},
+    {"too deep bytes", 1, 0, 1, TEXT("\x81\x81\x01"), CBOR_EDN_TOO_DEEP, 0, 0, 0,
      "Error decoding input data: Nested too deeply"},
     {"half a digit pair", 1, CBOR_EDN_HEX, 512, TEXT("123"), CBOR_EDN_INVALID_HEX, 0, 0, 0, "Error decoding hexadecimal input"},
     {"no digit", 1, CBOR_EDN_HEX, 512, TEXT("1g"), CBOR_EDN_INVALID_HEX, 0, 0, 0, "Error decoding hexadecimal input"},
@@ -153,9 +155,27 @@ static void check_bad_call(const char *name, uint32_t command, uint32_t flags, s
                                 tells_no_fault());
 }
 
+/* NULL with length 0, as callers write an empty input and no room. */
+static void check_null(void) {
+  static const char text[] = "[1]";
+  for (uint32_t command = 0; command < 3; command++) {
+    call(command, 0, 512, NULL, 0, ROOM, MESSAGE);
+    count("no input", "the output", report.output_len == 0 && all_are(output, 0, ROOM, OLD_OUTPUT) && tells_no_fault());
+    uint32_t status = cbor_edn_convert(command, 0, 512, NULL, 0, NULL, 0, NULL, 0, &report);
+    count("no input and no rooms", "the status", status == CBOR_EDN_DONE && report.output_len == 0);
+  }
+  count("no input of digits", "the status", call(1, CBOR_EDN_HEX, 512, NULL, 0, ROOM, MESSAGE) == CBOR_EDN_DONE);
+  uint32_t status = cbor_edn_convert(0, 0, 512, (const uint8_t *)text, 3, NULL, 0, NULL, 0, &report);
+  count("no room for an output", "its length", status == CBOR_EDN_NO_ROOM && report.output_len == 2);
+  status = cbor_edn_convert(0, 0, 512, (const uint8_t *)text, 2, NULL, 0, NULL, 0, &report);
+  count("no room for a message", "its length", status == CBOR_EDN_INVALID_TEXT && report.offset == 2 &&
+                                                   report.message_len == strlen("Error parsing input data: Invalid EDN in line 1 column 3 (byte 2)"));
+}
+
 int main(void) {
   for (size_t i = 0; i < sizeof DONE / sizeof *DONE; i++) check_done(&DONE[i]);
   for (size_t i = 0; i < sizeof FAULTS / sizeof *FAULTS; i++) check_fault(&FAULTS[i]);
+  check_null();
   check_bad_call("command 3", 3, 0, 512);
   check_bad_call("the highest command", UINT32_MAX, 0, 512);
   check_bad_call("flag 256", 0, 256, 512);

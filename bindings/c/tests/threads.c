@@ -134,7 +134,7 @@ static void check_nested(const Nested *kind, char *text, uint8_t *bytes, uint8_t
                         memcmp(again, bytes, there.report.output_len) == 0);
   Call deeper = {CBOR_EDN_DIAG2CBOR, text, nest(kind, LIMIT + 1, text), again, 0, {0, 0, 0, 0, 0}};
   make_in_small_stack(&deeper);
-  count(kind->open, deeper.status == CBOR_EDN_INVALID_TEXT);
+  count(kind->open, deeper.status == CBOR_EDN_TOO_DEEP);
 }
 
 int main(void) {

@@ -65,13 +65,15 @@ fn kind_of(status: u32) -> ErrorKind {
         6 => ErrorKind::InvalidHex,
         7 => ErrorKind::NoEncoding,
         8 => ErrorKind::OutOfMemory,
+        9 => ErrorKind::TooDeep,
         _ => unreachable!("status {status}"),
     }
 }
 
 fn error_of(status: u32, report: &Report, message: &[u8]) -> Error {
     let kind = kind_of(status);
-    let place = (kind == ErrorKind::InvalidText).then_some(Place {
+    // Lines count from 1.
+    let place = (report.line > 0).then_some(Place {
         offset: report.offset,
         line: report.line,
         column: report.column,
@@ -90,9 +92,9 @@ pub fn convert(command: Command, options: &Options, input: &[u8]) -> Result<Vec<
     let mut message = [0; MESSAGE_ROOM];
     let mut report = Report::default();
     loop {
-        // SAFETY: each pointer and length are of one value, which is borrowed or owned here until the call ends. No two of them
-        // overlap, and none is null, also where a slice or a vector is empty. The library writes `output` and never reads it, so
-        // its capacity may stand for its length.
+        // SAFETY: each pointer and length are of one value, which is borrowed or owned here until the call ends, and is `isize::MAX`
+        // bytes at most. No two of them overlap, and `report` is aligned. The library writes `output` and never reads it, so its
+        // capacity may stand for its length.
         let status = unsafe {
             cbor_edn_convert(
                 number_of(command),

@@ -111,9 +111,9 @@ pub enum ErrorKind {
     InvalidLimit,
     /// The text is no UTF-8.
     NotUtf8,
-    /// The text is no EDN, or nests too deep.
+    /// The text is no EDN.
     InvalidText,
-    /// The bytes are no CBOR that is read here, or nest too deep.
+    /// The bytes are no CBOR that is read here.
     InvalidCbor,
     /// A character is no digit and no space, or there is an odd number of digits.
     InvalidHex,
@@ -121,6 +121,8 @@ pub enum ErrorKind {
     NoEncoding,
     /// The library got no memory.
     OutOfMemory,
+    /// Items nest deeper than the limit.
+    TooDeep,
 }
 
 impl fmt::Display for ErrorKind {
@@ -133,6 +135,7 @@ impl fmt::Display for ErrorKind {
             ErrorKind::InvalidHex => "The digits are no hexadecimal digits",
             ErrorKind::NoEncoding => "The text has no encoding",
             ErrorKind::OutOfMemory => "Out of memory",
+            ErrorKind::TooDeep => "Items nest too deep",
         })
     }
 }
@@ -162,7 +165,7 @@ impl Error {
         self.kind
     }
 
-    /// Where a text is refused, at [`ErrorKind::InvalidText`] alone.
+    /// Where a text is refused, at [`ErrorKind::InvalidText`] and [`ErrorKind::TooDeep`] alone.
     pub fn place(&self) -> Option<Place> {
         self.place
     }

@@ -138,7 +138,7 @@ fn faults() {
         (
             fault(diag2cbor_with("[]", &flat)),
             (
-                ErrorKind::InvalidText,
+                ErrorKind::TooDeep,
                 place(0, 1, 1),
                 "Error parsing input data: EDN nested too deeply in line 1 column 1 (byte 0)",
             ),
@@ -150,6 +150,10 @@ fn faults() {
                 None,
                 "Error decoding input data: Expected item, out of data",
             ),
+        ),
+        (
+            fault(cbor2diag_with(b"\x80", &flat).map(String::into_bytes)),
+            (ErrorKind::TooDeep, None, "Error decoding input data: Nested too deeply"),
         ),
         (
             fault(cbor2diag_with(b"123", &digits).map(String::into_bytes)),

@@ -1,5 +1,7 @@
 -- What a call of the library does, by how it ends.
 use Rattle.std.specs.Prelude.{◌≡◌, ℕ, List, length}
+use Rattle.cbor_edn_model.specs.declared.cbor.decode.CborError.{CborError}
+use Rattle.cbor_edn_model.specs.declared.cbor.decode.CborError.TheVariants as cbor
 use Rattle.cbor_edn_command.specs.declared.options.Options.{Options}
 use Rattle.cbor_edn.specs.declared.engine.RunError.{RunError}
 use Rattle.cbor_edn.specs.declared.engine.RunError.TheVariants as run
@@ -9,15 +11,21 @@ use Rattle.cbor_edn_c_calls.specs.Reports.{TellsOutput, TellsLocation}
 use Rattle.cbor_edn_c_calls.specs.Rooms.{HasNoRoom, IsPutFront, IsPutWhole}
 use Rattle.cbor_edn_c_calls.specs.declared.report.Report.{Report}
 use Rattle.cbor_edn_c_calls.specs.declared.status.CallFault.{CallFault}
-use Rattle.cbor_edn_c_calls.specs.declared.status.CallFault.TheVariants.{NotUtf8, InvalidText, InvalidCbor, InvalidHex, NoEncoding, OutOfMemory}
+use Rattle.cbor_edn_c_calls.specs.declared.status.CallFault.TheVariants.{NotUtf8, InvalidCbor, InvalidHex, NoEncoding, OutOfMemory, TooDeepCbor}
+use Rattle.cbor_edn_c_calls.specs.Statuses.{text_fault}
 use Rattle.cbor_edn_c_calls.specs.declared.status.Status.{Status}
 use Rattle.cbor_edn_c_calls.specs.declared.status.Status.TheVariants.{Done, NoRoom, BadCall, Fault}
+
+-- the fault of bytes that are refused so
+abbrev pub cbor_fault : CborError → CallFault
+cbor_fault cbor.TooDeep = TooDeepCbor
+cbor_fault _ = InvalidCbor
 
 -- The fault of a run, as a call tells it. In memory no device fails.
 abbrev pub call_fault : RunError → CallFault
 call_fault run.NotUtf8 = NotUtf8
-call_fault (run.Parse e) = InvalidText e
-call_fault (run.Cbor _) = InvalidCbor
+call_fault (run.Parse e) = text_fault e
+call_fault (run.Cbor e) = cbor_fault e
 call_fault run.Hex = InvalidHex
 call_fault (run.Inconsistent _) = NoEncoding
 call_fault (run.Memory _) = OutOfMemory

@@ -7,6 +7,7 @@ ghost use Rattle.cbor_edn_c_calls.specs.Reports.{TellsLocation};
 ghost use Rattle.cbor_edn_c_calls.specs.Statuses.{status_number};
 ghost use Rattle.cbor_edn_c_calls.specs.declared.status.Status.{Status};
 
+use cbor_edn::CborError;
 use cbor_edn::engine::{RunError, converted};
 use cbor_edn_c_calls::asked::options_of;
 use cbor_edn_c_calls::report::Report;
@@ -20,7 +21,8 @@ fn call_fault(fault: &RunError) -> CallFault
 {
     match fault {
         RunError::NotUtf8 => CallFault::NotUtf8,
-        RunError::Parse(error) => CallFault::InvalidText(*error),
+        RunError::Parse(error) => CallFault::of_text(error),
+        RunError::Cbor(CborError::TooDeep) => CallFault::TooDeepCbor,
         RunError::Cbor(_) => CallFault::InvalidCbor,
         RunError::Hex => CallFault::InvalidHex,
         RunError::Inconsistent(_) => CallFault::NoEncoding,
@@ -45,7 +47,8 @@ fn report_of(alloc: Global, fault: &RunError, message: &mut [u8]) -> Report
 ///
 /// `command` is 0 for `diag2cbor`, 1 for `cbor2diag`, 2 for `diag2diag`. `flags` is a sum of 1 (`hex`), 2 (`annotate_tags`),
 /// 4 (`remove_comments`), 8 (`aol_to_item`), 16 (`annotate_ccs`), 32 (`bignum_from_tags`), 64 (`apply_999`) and 128
-/// (`preserve_space`). `limit` is at most 512. Lengths and places are in bytes. Only at status 0 is `output` written.
+/// (`preserve_space`). `limit` is at most 512. Lengths and places are in bytes. Only at status 0 is `output` written. Where a length is
+/// 0, a caller in C may give a null pointer: the toolchain makes an empty slice of it.
 #[unsafe(no_mangle)]
 pub extern "C" fn cbor_edn_convert(
     alloc: Global,

@@ -1,6 +1,6 @@
 //! How a call ends.
 ghost use Rattle.std.specs.Prelude.{◌≡◌};
-ghost use Rattle.cbor_edn_c_calls.specs.Statuses.{fault_number, status_number};
+ghost use Rattle.cbor_edn_c_calls.specs.Statuses.{fault_number, status_number, text_fault};
 
 use cbor_edn_parts::error::ParseError;
 
@@ -9,9 +9,9 @@ use cbor_edn_parts::error::ParseError;
 pub enum CallFault {
     /// The text is no UTF-8.
     NotUtf8,
-    /// The text is no EDN, or nests too deep.
+    /// The text is no EDN.
     InvalidText(ParseError),
-    /// The bytes are no encodings, or nest too deep.
+    /// The bytes are no encodings.
     InvalidCbor,
     /// A character is no hexadecimal digit and no space, or there is an odd number of digits.
     InvalidHex,
@@ -19,6 +19,23 @@ pub enum CallFault {
     NoEncoding,
     /// Memory ran out.
     OutOfMemory,
+    /// The text nests too deep.
+    TooDeepText(ParseError),
+    /// What the bytes encode nests too deep.
+    TooDeepCbor,
+}
+
+impl CallFault {
+    /// The fault of a text that is refused so.
+    pub fn of_text(error: &ParseError) -> CallFault
+        ensures { result ≡ text_fault error.now }
+    {
+        if error.too_deep() {
+            CallFault::TooDeepText(*error)
+        } else {
+            CallFault::InvalidText(*error)
+        }
+    }
 }
 
 /// How a call ended.
@@ -44,11 +61,12 @@ fn fault_number(fault: CallFault) -> u32
         CallFault::InvalidHex => 6,
         CallFault::NoEncoding => 7,
         CallFault::OutOfMemory => 8,
+        CallFault::TooDeepText(_) | CallFault::TooDeepCbor => 9,
     }
 }
 
 impl Status {
-    /// The number that a caller in C is answered: 0 for `Done`, 1 for `NoRoom`, 2 for `BadCall`, and 3 to 8 for a fault.
+    /// The number that a caller in C is answered: 0 for `Done`, 1 for `NoRoom`, 2 for `BadCall`, and 3 to 9 for a fault.
     pub fn number(self) -> u32
         ensures { result ≡ status_number self }
     {

@@ -15,7 +15,7 @@ pub fn told(fault: &CallFault, text: &[u8], message: &mut [u8]) -> Report
     ensures message { IsPutFront text.now message.old message.new }
 {
     let mut report = Report::of_output(0);
-    if let CallFault::InvalidText(error) = fault {
+    if let CallFault::InvalidText(error) | CallFault::TooDeepText(error) = fault {
         report.offset = error.offset();
         report.line = error.line();
         report.column = error.column();
