@@ -12,10 +12,12 @@ use Rattle.cbor_edn_core.proofs.lemmas.text.Printable.{sequence_valid}
 use Rattle.cbor_edn_model.proofs.lemmas.layout.Layouts.{keeps_items, stays_valid}
 use Rattle.cbor_edn_parts.specs.Spacing.{indented}
 use Rattle.cbor_edn_model.proofs.lemmas.text.Tested.{valid}
-use Rattle.std.specs.Prelude.{Result, Ok, Err, IfOk}
+use Rattle.std.specs.Prelude.{Result, Ok, Err, IfOk, ◌||◌}
 use Rattle.std.specs.declared.alloc.AllocError.{AllocError}
 use Rattle.std.specs.declared.alloc.Global.{Global}
 use Rattle.std.specs.declared.vec.Vec.{Vec}
+use Rattle.cbor_edn_model.specs.visit.Tagged.{has_tag}
+use Rattle.cbor_edn_stream.proofs.lemmas.Tested.{decoded_valid}
 use Rattle.cbor_edn_parts.specs.Refusals.{IfTold}
 use Rattle.cbor_edn_parts.specs.declared.error.Fault.{Fault}
 use Rattle.cbor_edn_parts.specs.declared.error.Fault.TheVariants.{Memory, Told}
@@ -24,7 +26,8 @@ use Rattle.cbor_edn_model.specs.cbor.Meaning.{NoEncoding}
 use Rattle.cbor_edn_command.specs.Hexadecimal.{input_bytes}
 use Rattle.cbor_edn.specs.Runs.{IsReadAs, IsDecodedAs, IsPrintedAs, IsRefused, told_as}
 use Rattle.cbor_edn.specs.RunSteps.{Where, IsLaidOut, StepsGive}
-use Rattle.cbor_edn.specs.Steps.{IsEncoded, IsUnencoded, IsUndiagnosed}
+use Rattle.cbor_edn.specs.Steps.{IsEncoded, IsUnencoded, IsDiagnosed, IsUndiagnosed}
+use Rattle.cbor_edn.proofs.UntaggedSteps.{untagged_steps_give}
 use Rattle.cbor_edn_command.specs.declared.options.Command.TheVariants.{Cbor2Diag}
 use Rattle.cbor_edn.specs.declared.engine.RunError.{RunError}
 use Rattle.cbor_edn.specs.declared.engine.RunError.TheVariants.{Read, NotUtf8, Parse, Cbor, Hex, Inconsistent, Write}
@@ -75,6 +78,13 @@ pub printed_text : (o : Options) (w : Tree Seq) (between : Sequence) (r : Result
     → IfOk r (λ out. (v : Tree Seq) × Last o (sequence_tree between) v × (out.items ≡ text v)) → IfOk r (λ out. IsUtf8 out.items) → IfOk r (λ out. IsShownAs o w out.items)
 printed_text o w between (Ok out) give (v, laid, is) utf8 = (v, give v laid, (shown_valid (not o.preserve_space) (sequence_tree between) v laid (valid (sequence_tree between) (sequence_valid between)), utf8, is))
 printed_text o w between (Err e) give is utf8 = tt
+
+-- a text that was printed without the tree
+pub streamed_as : (o : Options) (bytes out : List ℕ) (w : Tree Seq) → IsDecodedSequence o.limit bytes w → has_tag w ≡ false → (o.remove_comments || (o.aol_to_item || (o.annotate_ccs || (o.apply_999 || o.preserve_space)))) ≡ false
+    → IsUtf8 out → out ≡ text (laid_out indented w) → IsDiagnosed o bytes out
+streamed_as o bytes out w d none off utf8 is =
+    let good = decoded_valid o.limit bytes w d in
+    (w, laid_out indented w, (d, good), untagged_steps_give o w (laid_out indented w) none off refl, (stays_valid Seq indented w good, utf8, is))
 
 -- a tree that is printed where it is lent
 pub printed_as : (o : Options) (out : List ℕ) (lent x : Sequence) → lent ≡ x → IsShownAs o (sequence_tree lent) out → IsShownAs o (sequence_tree x) out

@@ -6,6 +6,7 @@ use Rattle.std.proofs.lemmas.Bool.{or_parts, or_left, or_right}
 use Rattle.std.proofs.lemmas.List.Elements.{All-nil}
 use Rattle.cbor_edn_parts.specs.Spacing.{indented}
 use Rattle.cbor_edn_parts.specs.declared.policy.DelimiterPolicy.TheVariants.{DiscardAll}
+use Rattle.cbor_edn_model.specs.layout.Layout.{laid_out}
 use Rattle.cbor_edn_model.specs.tree.Trees.{Tree, Seq}
 use Rattle.cbor_edn_model.specs.visit.Tagged.{has_tag}
 use Rattle.cbor_edn_model.proofs.lemmas.visit.Untagged.{sequence_untagged}
@@ -76,4 +77,36 @@ guarded_steps_give o w annotated uncommented resolved claimed counted given tagg
           (λ asked off. visited_untagged pretty_bignum claimed (subst (λ t. has_tag t ≡ false) (sym (left off).0) (untagged (or_right o.annotate_tags o.bignum_from_tags asked) (left off).1))) bignums;
       others = others;
       spaces = spaces;
+    }
+
+-- a step that is asked for leaves the tree, where it does so when it is taken
+where_kept : (asked : Bool) (P : Step) (w : Tree Seq) → P w w → Where asked P w w
+where_kept true P w h = h
+where_kept false P w h = refl
+
+where_not_asked : (asked : Bool) (P : Step) (w : Tree Seq) → asked ≡ false → Where asked P w w
+where_not_asked asked P w off = rw off refl
+
+-- Where no tag stands, and no step is asked for that may change other items, the items are laid out alone.
+pub untagged_steps_give : (o : Options) (w v : Tree Seq) → has_tag w ≡ false → (o.remove_comments || (o.aol_to_item || (o.annotate_ccs || (o.apply_999 || o.preserve_space)))) ≡ false
+    → v ≡ laid_out indented w → StepsGive o w v
+untagged_steps_give o w v none off is =
+    let first = or_parts o.remove_comments (o.aol_to_item || (o.annotate_ccs || (o.apply_999 || o.preserve_space))) off in
+    let second = or_parts o.aol_to_item (o.annotate_ccs || (o.apply_999 || o.preserve_space)) first.1 in
+    let third = or_parts o.annotate_ccs (o.apply_999 || o.preserve_space) second.1 in
+    let last = or_parts o.apply_999 o.preserve_space third.1 in
+    record {
+      annotated = w;
+      uncommented = w;
+      resolved = w;
+      claimed = w;
+      counted = w;
+      tagged = w;
+      tags = where_kept o.annotate_tags AnnotatesTags w (annotated_untagged w none);
+      comments = where_not_asked o.remove_comments (IsLaidOut DiscardAll) w first.0;
+      literals = where_not_asked o.aol_to_item ResolvesLiterals w second.0;
+      claims = where_not_asked o.annotate_ccs HasClaims w third.0;
+      bignums = where_kept o.bignum_from_tags (TagsVisited pretty_bignum) w (visited_untagged pretty_bignum w none);
+      others = where_not_asked o.apply_999 (LiteralsVisited to_tag999) w last.0;
+      spaces = rw last.1 is;
     }

@@ -20,7 +20,9 @@ pub use cbor_edn_command::options::{Command, Options};
 use cbor_edn_command::transfer::{read_all, write_all};
 use cbor_edn_core::cbor::decode::CborError;
 use cbor_edn_core::tree::Sequence;
+use cbor_edn_parts::buffer::TextBuffer;
 use cbor_edn_parts::error::{Fault, InconsistentEdn, ParseError};
+use cbor_edn_stream::print_cbor;
 use simdutf8::basic::from_utf8;
 use std::alloc::{AllocError, Global};
 use thiserror::Error;
@@ -154,11 +156,31 @@ fn printed(
     steps::spaced_text(alloc, options, sequence)
 }
 
+// The text of the items that bytes encode, printed while they are read. None where a step is asked for that may change other items than tags, or
+// where a tag stands in them.
+fn streamed(alloc: Global, options: &Options, bytes: &[u8]) -> Result<Option<Vec<u8>>, RunError>
+    ensures ok { IfOk result (λ text. IfSome text (λ out. IsDiagnosed options.now bytes.now out.items)) }
+    ensures err { IfErr result (IsUndiagnosed options.now bytes.now) }
+{
+    if steps::change_untagged(options) {
+        return Ok(None);
+    }
+    let mut out = TextBuffer::new(alloc);
+    if print_cbor(alloc, &mut out, bytes, options.limit)? {
+        Ok(Some(out.into_bytes()))
+    } else {
+        Ok(None)
+    }
+}
+
 // The text of the items that bytes encode.
 fn diagnosed(alloc: Global, options: &Options, bytes: &[u8]) -> Result<Vec<u8>, RunError>
     ensures ok { IfOk result (λ out. IsDiagnosed options.now bytes.now out.items) }
     ensures err { IfErr result (IsUndiagnosed options.now bytes.now) }
 {
+    if let Some(out) = streamed(alloc, options, bytes)? {
+        return Ok(out);
+    }
     let mut sequence = boxed(
         alloc,
         Sequence::from_cbor_within(alloc, bytes, options.limit),

@@ -70,6 +70,17 @@ fn print_spaced(
     }
 }
 
+/// Whether a step is asked for that may change items in which no tag stands, or keep other spaces than those of the indented policy.
+pub(crate) fn change_untagged(options: &Options) -> bool
+    ensures { result ≡ (options.now.remove_comments || (options.now.aol_to_item || (options.now.annotate_ccs || (options.now.apply_999 || options.now.preserve_space)))) }
+{
+    options.remove_comments
+        || options.aol_to_item
+        || options.annotate_ccs
+        || options.apply_999
+        || options.preserve_space
+}
+
 /// Whether a step that visits tags is asked for, and there are any: where none stands, no visit of tags does anything.
 fn has_tag_for(options: &Options, sequence: &Sequence<'_>) -> bool
     ensures { result ≡ (options.now.annotate_tags || options.now.bignum_from_tags) && has_tag (sequence_tree sequence.now) }

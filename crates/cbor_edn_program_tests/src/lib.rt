@@ -16,4 +16,6 @@ mod runs;
 #[cfg(test)]
 mod steps;
 #[cfg(test)]
+mod streams;
+#[cfg(test)]
 mod words;

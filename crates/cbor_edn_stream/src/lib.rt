@@ -1,0 +1,6 @@
+//! The text of the items that bytes encode, printed while they are read: no tree of them all is made.
+#![tactic(auto)]
+
+mod print;
+
+pub use print::print_cbor;
