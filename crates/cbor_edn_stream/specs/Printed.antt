@@ -8,7 +8,7 @@ use Rattle.cbor_edn_model.specs.text.Spelling.{opening, ending}
 use Rattle.cbor_edn_model.specs.tree.Items as kind
 use Rattle.cbor_edn_model.specs.tree.Items.{Row, Bracketed, Array, Map, entries_of}
 use Rattle.cbor_edn_model.specs.tree.Trees.{Tree, OneItem, OneEntry, Rest, ListTree, ElementTree, text}
-use Rattle.cbor_edn_model.specs.layout.Layout.{Layout, Inline, Lines, Between, Last, respaced, laid}
+use Rattle.cbor_edn_model.specs.layout.Layout.{Layout, Kept, Inline, Lines, Between, Last, respaced, laid}
 use Rattle.cbor_edn_model.specs.visit.Tagged.{has_tag}
 use Rattle.cbor_edn_model.specs.internal.Regular.{list_inside}
 use Rattle.cbor_edn_model.specs.internal.CborReading.{DecoderResult, Decoder, DecoderFails, Argument, shown, item_at, pair_at, several, array_by, map_by, inner, trees, row_of, argument_indicator}
@@ -66,5 +66,6 @@ long_text l w = text (laid l w)
 
 -- how many bytes are read first: nine for each column of the line
 abbrev pub front_room : Layout → ℕ
+front_room Kept = 0
 front_room (Inline column) = 0
 front_room (Lines base end level width) = min ((width - base) * 9) (2 ^ 64 - 1)

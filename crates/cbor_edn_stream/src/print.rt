@@ -82,7 +82,7 @@ fn room(layout: Layout) -> usize
     ensures { result ≡ front_room layout }
 {
     match layout {
-        Layout::Inline(_) => 0,
+        Layout::Kept | Layout::Inline(_) => 0,
         Layout::Lines { base, width, .. } => width.saturating_sub(base).saturating_mul(9),
     }
 }

@@ -8,7 +8,7 @@ use Rattle.cbor_edn_parts.specs.LayoutColumns.{of_parts, saturating_add}
 use Rattle.cbor_edn_model.specs.declared.cbor.decode.CborError.{CborError}
 use Rattle.cbor_edn_model.specs.tree.Trees.{Tree, OneItem}
 use Rattle.cbor_edn_model.specs.cbor.Value.{Value, encoding}
-use Rattle.cbor_edn_model.specs.layout.Layout.{Layout, Inline, Lines}
+use Rattle.cbor_edn_model.specs.layout.Layout.{Layout, Kept, Inline, Lines}
 use Rattle.cbor_edn_model.specs.internal.Results.{◌>>=◌}
 use Rattle.cbor_edn_model.specs.internal.CborReading.{DecoderResult, shown, item_at, trees}
 use Rattle.cbor_edn_model.specs.internal.Widths.{measured}
@@ -67,6 +67,7 @@ module _ (limit : ℕ) where
 
 -- an item of which that front is not enough has lines of its own
 pub wide_parts : (l : Layout) (t : Tree OneItem) (n : ℕ) → n < 2 ^ 64 - 1 → front_room l ≤ n → n < 9 * line_width t → of_parts l (measured t) ≡ of_parts l 18446744073709551615
+wide_parts Kept t n small le lt = refl
 wide_parts (Inline column) t n small le lt = refl
 wide_parts (Lines base end level width) t n small le lt =
     elim (cases_lt 18446744073709551615 width) [

@@ -48,6 +48,9 @@ ends_err (Ok b) h f e = cc
 ends_err (Err x) h f e = rw e (fails f)
 
 -- and how one ends whose comment was put
+pub ends_in : {E : Type 0} {n : ℕ} {a : Answer} {v : Tree OneItem} {s t : List ℕ} → a ≢ no_memory → t ≡ answered a s → depth v ≤ n → Ends {E = E} n a v s t (Ok true)
+ends_in m e d = rw e (enters m d)
+
 pub ends_ok : {E : Type 0} {n : ℕ} {a : Answer} {v : Tree OneItem} {s t : List ℕ} (b : Bool) → a ≢ no_memory → t ≡ answered a s → (b ≡ true → depth v ≤ n) → (b ≡ false → n < depth v) → Ends {E = E} n a v s t (Ok b)
-ends_ok true m e le lt = rw e (enters m (le refl))
+ends_ok true m e le lt = ends_in m e (le refl)
 ends_ok false m e le lt = rw e (stays m (lt refl))

@@ -1,6 +1,6 @@
 use Rattle.std.proofs.Common.{◌∙◌, ap, refl}
 use Rattle.cbor_edn_model.specs.visit.Visits.{answered, one_call, no_calls}
-use Rattle.cbor_edn_model.proofs.lemmas.visit.VisitsOfParts.{reached_not, reached, ends_err, ends_ok}
+use Rattle.cbor_edn_model.proofs.lemmas.visit.VisitsOfParts.{reached_not, reached, ends_err, ends_in}
 use Rattle.cbor_edn_core.specs.tree.View.{item_tree}
 use Rattle.cbor_edn_core.proofs.lemmas.visit.SoughtChains.{no_arguments, tags_after}
 use Rattle.cbor_edn_core.proofs.visit.seek.TagsNoDeeperSeekText.reach.Goals as goal
@@ -25,5 +25,5 @@ returns-clause-callable_after g c = (tags_after item_tree _ c.requires.callable.
 pub returns-clause-reached : goal.returns-clause-reached
 returns-clause-reached g c =
     reached (record { arguments = _; before = _; answer = _; after = _ }) c.in-Ok.ensures.found c.call_tag-answer.ensures.called refl
-    (ends_ok true (λ z. c.in_ok-put_answer.ensures.had_memory (c.element_answer.ensures ∙ z)) (c.in_ok-put_answer.ensures.put ∙ ap (λ a. answered a (g.X.TakesComment.bytes c.args.space.now)) c.element_answer.ensures)
-    (λ e. c.requires.callable.1 _ _ _ c.call_tag-answer.ensures.called) (λ e. absurd cc))
+    (ends_in (λ z. c.in_ok-put_answer.ensures.had_memory (c.element_answer.ensures ∙ z)) (c.in_ok-put_answer.ensures.put ∙ ap (λ a. answered a (g.X.TakesComment.bytes c.args.space.now)) c.element_answer.ensures)
+    (c.requires.callable.1 _ _ _ c.call_tag-answer.ensures.called))
