@@ -88,6 +88,10 @@ abbrev pub IsUnclosed : List ℕ → Type 0
 IsUnclosed [] = Unit {0}
 IsUnclosed (c ∷ cs) = (c ≡ 62) → IsNotAt 62 cs
 
+-- what is read behind the colon, for a key and the space behind it
+abbrev pub behind_colon : ℕ → Tree OneItem → List ℕ → List ℕ → Read (Tree (OneEntry Pairs))
+behind_colon limit v s xs = token space xs >>= λ t. reads limit OneItem t.1 >>= λ w. Ok (PairTree v s t.0 w.0, w.1)
+
 -- an entry with the separator behind it
 abbrev pub with_separator : ℕ → (k : Row) → List ℕ → Read (Tree (OneEntry k) × List ℕ)
 with_separator limit k xs = reads limit (OneEntry k) xs >>= λ e. token separator e.1 >>= λ s. Ok ((e.0, s.0), s.1)

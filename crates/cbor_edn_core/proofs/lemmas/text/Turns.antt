@@ -20,7 +20,7 @@ use Rattle.cbor_edn_model.specs.text.Spelling.{opening, ending}
 use Rattle.cbor_edn_model.specs.tree.Trees.{Rule, OneItem, OneString, OneEntry, Inside, Rest, Seq, Standalone, ListHead, Tree, ListTree, StringTree, ElementTree, PairTree, EmptyTree, FullTree, LastTree, MoreTree, NothingTree, SequenceTree, StandaloneTree}
 use Rattle.cbor_edn_model.specs.internal.Results.{◌>>=◌}
 use Rattle.cbor_edn_model.specs.internal.Reading.{Read, token, byte, not_empty, number_item, list_item, string_item, stream_item, starts_string, keyword_at, plain_item, item, entry, list_head_of, inside, inside_full, more, rest, sequence, standalone, reads, reads_all, at_end}
-use Rattle.cbor_edn_core.specs.internal.ParserResults.{Fails, ReadsEnd, with_separator, filled, parted}
+use Rattle.cbor_edn_core.specs.internal.ParserResults.{Fails, ReadsEnd, behind_colon, with_separator, filled, parted}
 use Rattle.cbor_edn_model.specs.internal.BytesAt.{IsNotAt}
 use Rattle.cbor_edn_parts.specs.Refusals.{IfTold}
 use Rattle.cbor_edn_parts.specs.declared.space.read.ItemEnd.{ItemEnd}
@@ -210,23 +210,20 @@ before_colon limit xs r s q v h t = behind_key limit xs r v h ∙ bind_ok (token
 pub pair_no_colon : (limit : ℕ) (xs r s q : List ℕ) (v : Tree OneItem) → reads limit OneItem xs ≡ Ok (v, r) → token space r ≡ Ok (s, q) → IsNotAt 58 q → reads limit (OneEntry Pairs) xs ≡ Err Invalid
 pair_no_colon limit xs r s q v h t n = before_colon limit xs r s q v h t ∙ bind_fails (Told (record { kind = Invalid; at = 0 })) (byte 58 q) _ (byte_other 58 q n)
 
--- what stands behind the colon, for a key and the space behind it
-module _ (limit : ℕ) (xs r s q p : List ℕ) (v : Tree OneItem) (h : reads limit OneItem xs ≡ Ok (v, r)) (t : token space r ≡ Ok (s, q)) (c : q ≡ 58 ∷ p) where
-  behind_colon : reads limit (OneEntry Pairs) xs ≡ (token space p >>= λ t. reads limit OneItem t.1 >>= λ w. Ok (PairTree v s t.0 w.0, w.1))
-  behind_colon = before_colon limit xs r s q v h t ∙ bind_ok (byte 58 q) p _ (byte_there 58 q p c)
+pub pair_behind_colon : (limit : ℕ) (xs r s q p : List ℕ) (v : Tree OneItem) → reads limit OneItem xs ≡ Ok (v, r) → token space r ≡ Ok (s, q) → q ≡ 58 ∷ p → reads limit (OneEntry Pairs) xs ≡ behind_colon limit v s p
+pair_behind_colon limit xs r s q p v h t c = before_colon limit xs r s q v h t ∙ bind_ok (byte 58 q) p _ (byte_there 58 q p c)
 
-  pub value_fails_before : (e : Fault Refusal) → Fails e (token space p) → Fails e (reads limit (OneEntry Pairs) xs)
-  value_fails_before e f = fails_at e _ _ behind_colon (bind_fails e (token space p) _ f)
+pub value_fails_before : (e : Fault Refusal) (limit : ℕ) (v : Tree OneItem) (s xs : List ℕ) → Fails e (token space xs) → Fails e (behind_colon limit v s xs)
+value_fails_before e limit v s xs f = bind_fails e (token space xs) _ f
 
-  module _ (u o : List ℕ) (a : token space p ≡ Ok (u, o)) where
-    before_value : reads limit (OneEntry Pairs) xs ≡ (reads limit OneItem o >>= λ w. Ok (PairTree v s u w.0, w.1))
-    before_value = behind_colon ∙ bind_ok (token space p) (u, o) _ a
+before_value : (limit : ℕ) (v : Tree OneItem) (s xs u o : List ℕ) → token space xs ≡ Ok (u, o) → behind_colon limit v s xs ≡ (reads limit OneItem o >>= λ w. Ok (PairTree v s u w.0, w.1))
+before_value limit v s xs u o a = bind_ok (token space xs) (u, o) _ a
 
-    pub value_fails : (e : Fault Refusal) → Fails e (reads limit OneItem o) → Fails e (reads limit (OneEntry Pairs) xs)
-    value_fails e f = fails_at e _ _ before_value (bind_fails e (reads limit OneItem o) _ f)
+pub value_fails : (e : Fault Refusal) (limit : ℕ) (v : Tree OneItem) (s xs u o : List ℕ) → token space xs ≡ Ok (u, o) → Fails e (reads limit OneItem o) → Fails e (behind_colon limit v s xs)
+value_fails e limit v s xs u o a f = fails_at e _ _ (before_value limit v s xs u o a) (bind_fails e (reads limit OneItem o) _ f)
 
-    pub pair_read : (w : Tree OneItem) (z : List ℕ) → reads limit OneItem o ≡ Ok (w, z) → reads limit (OneEntry Pairs) xs ≡ Ok (PairTree v s u w, z)
-    pair_read w z f = before_value ∙ bind_ok (reads limit OneItem o) (w, z) _ f
+pub value_read : (limit : ℕ) (v w : Tree OneItem) (s xs u o z : List ℕ) → token space xs ≡ Ok (u, o) → reads limit OneItem o ≡ Ok (w, z) → behind_colon limit v s xs ≡ Ok (PairTree v s u w, z)
+value_read limit v w s xs u o z a f = before_value limit v s xs u o a ∙ bind_ok (reads limit OneItem o) (w, z) _ f
 
 -- entries, one or more
 

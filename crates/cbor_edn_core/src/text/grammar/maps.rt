@@ -6,8 +6,8 @@ ghost use Rattle.cbor_edn_parts.specs.Leaves.{s_bytes, BorrowsS};
 ghost use Rattle.cbor_edn_parts.specs.internal.Text.{text_bytes};
 ghost use Rattle.cbor_edn_core.specs.tree.Borrowed.{BorrowsItem, BorrowsPair, BorrowsPairList, BorrowsPairs};
 ghost use Rattle.cbor_edn_model.specs.tree.Items.{Pairs as Keyed, Map as Brace};
-ghost use Rattle.cbor_edn_model.specs.internal.LookCosts.{a_byte, extra, refused_extra, list_extra};
-ghost use Rattle.cbor_edn_core.specs.internal.ParserResults.{Reads, Lands, ReadsEnd, LandsEnd, CostsEnd};
+ghost use Rattle.cbor_edn_model.specs.internal.LookCosts.{a_byte, extra, refused_extra, list_extra, value_extra, refused_value_extra};
+ghost use Rattle.cbor_edn_core.specs.internal.ParserResults.{Reads, Lands, ReadsEnd, LandsEnd, CostsEnd, behind_colon};
 ghost use Rattle.cbor_edn_model.specs.internal.BytesAt.{IsByteAt};
 ghost use Rattle.cbor_edn_model.specs.internal.Reading.{reads};
 ghost use Rattle.cbor_edn_model.specs.tree.Trees.{OneItem, OneEntry, Inside, Rest};
@@ -16,12 +16,13 @@ ghost use Rattle.cbor_edn_model.specs.tree.TreeLeaves.{texts};
 
 use super::entries::{Behind, behind_entry};
 use super::items::{end_without_space, item};
+use crate::tree::row::let_go;
 use crate::tree::{Item, Kp, PairList, Pairs};
 use cbor_edn_model::text::lookahead::{closes, is_at, list_head_and_space};
 use cbor_edn_parts::error::{Fault, Refusal};
 use cbor_edn_parts::indicator::indicator_at;
 use cbor_edn_parts::looks::Looks;
-use cbor_edn_parts::space::{ItemEnd, space, space_behind};
+use cbor_edn_parts::space::{ItemEnd, S, space, space_behind};
 use cbor_edn_parts::text::Text;
 use std::alloc::Global;
 
@@ -98,33 +99,76 @@ fn pairs<'a>(
     let mut row = Vec::new(alloc);
     let mut at = from;
     'pairs: loop {
-        let (key, end) = item(alloc, text, at, limit, looks)?;
-        let (before_colon, to) = space_behind(text, end, looks)?;
-        if !is_at(text, to, b':', looks) {
-            return Err(Fault::Told(Refusal::invalid(to)));
-        }
-        let (after_colon, to) = space(text, to + 1, looks)?;
-        let (value, end) = item(alloc, text, to, limit, looks)?;
-        match behind_entry(text, end, &mut row, looks)? {
+        let (pair, end) = pair(alloc, text, at, limit, looks)?;
+        let behind = match behind_entry(text, end, &mut row, looks) {
+            Ok(behind) => behind,
+            Err(fault) => {
+                let_go(pair);
+                return Err(fault);
+            }
+        };
+        match behind {
             Behind::Last(soc, next) => {
-                let last = Kp {
-                    key,
-                    before_colon,
-                    after_colon,
-                    value,
-                };
+                let last = pair;
                 return Ok((Pairs { row, last, soc }, next));
             }
             Behind::More(separator, next) => {
-                let pair = Kp {
-                    key,
-                    before_colon,
-                    after_colon,
-                    value,
-                };
                 row.push_reserved((pair, separator));
                 at = next;
             }
         }
     }
+}
+
+/// A key, a colon and a value.
+#[cycle(item)]
+fn pair<'a>(
+    alloc: Global,
+    text: &Text<'a>,
+    from: usize,
+    limit: usize,
+    looks: &mut Looks,
+) -> Result<(Kp<'a>, ItemEnd), Fault<Refusal>>
+    requires { IsCharBoundary (text_bytes text.now) from }
+    ensures value { ReadsEnd (view_pair texts) (text_bytes text.now) result (reads limit (OneEntry Keyed) (drop from (text_bytes text.now))) }
+    ensures borrowed { IfOk result (λ p. BorrowsPair p.0) }
+    ensures place { LandsEnd (text_bytes text.now) from result }
+    ensures cost { CostsEnd a_byte (extra (OneEntry Keyed)) (refused_extra (OneEntry Keyed)) (text_bytes text.now) from looks.old.count looks.new.count result }
+{
+    let (key, end) = item(alloc, text, from, limit, looks)?;
+    let (before_colon, at) = space_behind(text, end, looks)?;
+    if !is_at(text, at, b':', looks) {
+        return Err(Fault::Told(Refusal::invalid(at)));
+    }
+    pair_of_key(alloc, text, at + 1, limit, key, before_colon, looks)
+}
+
+/// The pair of a key, with the value behind the colon.
+#[cycle(item)]
+fn pair_of_key<'a>(
+    alloc: Global,
+    text: &Text<'a>,
+    from: usize,
+    limit: usize,
+    key: Item<'a>,
+    before_colon: S<'a>,
+    looks: &mut Looks,
+) -> Result<(Kp<'a>, ItemEnd), Fault<Refusal>>
+    requires { IsCharBoundary (text_bytes text.now) from }
+    ensures value { ReadsEnd (view_pair texts) (text_bytes text.now) result (behind_colon limit (item_tree key.entry) (s_bytes before_colon.entry) (drop from (text_bytes text.now))) }
+    ensures borrowed { BorrowsItem key.entry → BorrowsS before_colon.entry → IfOk result (λ p. BorrowsPair p.0) }
+    ensures place { LandsEnd (text_bytes text.now) from result }
+    ensures cost { CostsEnd a_byte value_extra refused_value_extra (text_bytes text.now) from looks.old.count looks.new.count result }
+{
+    let (after_colon, at) = space(text, from, looks)?;
+    let (value, end) = item(alloc, text, at, limit, looks)?;
+    Ok((
+        Kp {
+            key,
+            before_colon,
+            after_colon,
+            value,
+        },
+        end,
+    ))
 }

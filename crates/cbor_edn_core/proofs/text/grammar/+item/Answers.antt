@@ -13,7 +13,7 @@ use Rattle.cbor_edn_model.specs.tree.Items.{Elements, Pairs, Strings, Array, Map
 use Rattle.cbor_edn_core.specs.internal.ParserResults.{chunk_tree}
 use Rattle.cbor_edn_core.specs.tree.View.{seen, seen_pair, seen_string, seen_piece}
 use Rattle.cbor_edn_model.specs.tree.TreeLeaves.{texts}
-use Rattle.cbor_edn_core.proofs.lemmas.text.Turns.{ends_same, fails_at, scan_fails, scan_read, number_at, number_fails, string_item_fails, string_item_read, stream_at, list_too_deep, list_fails, list_open, list_read, standalone_fails, standalone_fails_item, standalone_fails_after, standalone_read, inside_fails, inside_empty, inside_unparted, inside_rest_fails, inside_read, element_read, element_fails, with_separator_fails, with_separator_fails_behind, with_separator_read, with_separator_entry, pair_fails, pair_fails_before, pair_no_colon, value_fails_before, value_fails, pair_read, turn_fails, turn_stops, turn_last, turn_refused, turn_more, with_more, some_length, token_behind, sequence_fails, sequence_empty, sequence_rest_fails, sequence_full}
+use Rattle.cbor_edn_core.proofs.lemmas.text.Turns.{ends_same, fails_at, scan_fails, scan_read, number_at, number_fails, string_item_fails, string_item_read, stream_at, list_too_deep, list_fails, list_open, list_read, standalone_fails, standalone_fails_item, standalone_fails_after, standalone_read, inside_fails, inside_empty, inside_unparted, inside_rest_fails, inside_read, element_read, element_fails, with_separator_fails, with_separator_fails_behind, with_separator_read, with_separator_entry, pair_fails, pair_fails_before, pair_no_colon, pair_behind_colon, value_fails_before, value_fails, value_read, turn_fails, turn_stops, turn_last, turn_refused, turn_more, with_more, some_length, token_behind, sequence_fails, sequence_empty, sequence_rest_fails, sequence_full}
 use Rattle.cbor_edn_core.proofs.lemmas.text.EnclosedTurns.{enclosed_shut, enclosed_too_deep, enclosed_fails, enclosed_open, enclosed_read, number_read, plain_read, no_tag, tag_at, keyword_here, named_read, float_read, simple_at}
 use Rattle.cbor_edn_core.proofs.lemmas.text.Looks.{ahead_small, opened_costs, token_two, literal_open, dots_open, spared_push, pushed_some, spared_first, costs_ahead}
 use Rattle.cbor_edn_core.proofs.lemmas.text.StringTurns.{stream_no_underscore, stream_fails, stream_unspaced, stream_rest_fails, stream_open, stream_read, chunk_fails, chunk_read, dots_fail, dots_read, literal_fails, literal_read, embedded_single, embedded_too_deep, embedded_fails, embedded_unclosed, embedded_read, with_more_pieces, pieces_turn_fails, pieces_turn_fails_before, pieces_turn_last, pieces_turn_fails_after, pieces_turn_more}
@@ -179,88 +179,57 @@ lists::items-items-preserved t c =
           ∙ with_more (seen texts) _ (c.in_ok-item.item, c.in-More.separator) _ _ _ refl);
     }
 
-pub maps::pairs-returns-in_err-key-clause-value : goal.maps::pairs-returns-in_err-key-clause-value
-maps::pairs-returns-in_err-key-clause-value t c =
+pub maps::pairs-returns-in_err-pair-clause-value : goal.maps::pairs-returns-in_err-pair-clause-value
+maps::pairs-returns-in_err-pair-clause-value t c =
     let p = err_from_is_err_and c.from_residual.result c.from_residual.ensures.1 in
-    rw (p.1, p.2) (turn_fails c.args.limit Pairs _ _ _ c.pairs.invariant.reads c.in_err-key.field-0.0 (with_separator_fails c.in_err-key.field-0.0 c.args.limit Pairs _ (pair_fails c.in_err-key.field-0.0 c.args.limit _ c.in_err-key.ensures.value)))
+    rw (p.1, p.2) (turn_fails c.args.limit Pairs _ _ _ c.pairs.invariant.reads c.in_err-pair.field-0.0 (with_separator_fails c.in_err-pair.field-0.0 c.args.limit Pairs _ c.in_err-pair.ensures.value))
 
-pub maps::pairs-returns-in_err-before_colon-clause-value : goal.maps::pairs-returns-in_err-before_colon-clause-value
-maps::pairs-returns-in_err-before_colon-clause-value t c =
-    let p = err_from_is_err_and c.from_residual-in_err-before_colon.result c.from_residual-in_err-before_colon.ensures.1 in
-    rw (p.1, p.2) (turn_fails c.args.limit Pairs _ _ _ c.pairs.invariant.reads (Told c.in_err-before_colon.field-0.0) (with_separator_fails (Told c.in_err-before_colon.field-0.0) c.args.limit Pairs _
-    (pair_fails_before (Told c.in_err-before_colon.field-0.0) c.args.limit _ _ _ c.in_ok-key.ensures.value (scan_fails space _ c.in_err-before_colon.field-0.0 c.in_err-before_colon.ensures.value))))
-
-pub maps::pairs-returns-then-not-is_at-clause-value : goal.maps::pairs-returns-then-not-is_at-clause-value
-maps::pairs-returns-then-not-is_at-clause-value t c =
-    let e = Told c.invalid.result in
-    turn_fails c.args.limit Pairs _ _ _ c.pairs.invariant.reads e (with_separator_fails e c.args.limit Pairs _
-    (rw c.invalid.ensures (pair_no_colon c.args.limit _ _ _ _ _ c.in_ok-key.ensures.value (scan_read space _ _ _ c.in_ok-before_colon.ensures.value) (c.if-not-is_at.ensures.no refl))))
-
-pub maps::pairs-returns-in_err-after_colon-clause-value : goal.maps::pairs-returns-in_err-after_colon-clause-value
-maps::pairs-returns-in_err-after_colon-clause-value t c =
-    let p = err_from_is_err_and c.from_residual-in_err-after_colon.result c.from_residual-in_err-after_colon.ensures.1 in
-    let e = Told c.in_err-after_colon.field-0.0 in
-    rw (p.1, p.2) (turn_fails c.args.limit Pairs _ _ _ c.pairs.invariant.reads e (with_separator_fails e c.args.limit Pairs _
-    (value_fails_before c.args.limit _ _ _ _ _ _ c.in_ok-key.ensures.value (scan_read space _ _ _ c.in_ok-before_colon.ensures.value) (c.if-not-is_at.ensures.yes refl).0 e (scan_fails space _ c.in_err-after_colon.field-0.0 c.in_err-after_colon.ensures.value))))
-
-pub maps::pairs-returns-in_err-value-clause-value : goal.maps::pairs-returns-in_err-value-clause-value
-maps::pairs-returns-in_err-value-clause-value t c =
-    let p = err_from_is_err_and c.from_residual-in_err-value.result c.from_residual-in_err-value.ensures.1 in
-    let e = c.in_err-value.field-0.0 in
-    rw (p.1, p.2) (turn_fails c.args.limit Pairs _ _ _ c.pairs.invariant.reads e (with_separator_fails e c.args.limit Pairs _
-    (value_fails c.args.limit _ _ _ _ _ _ c.in_ok-key.ensures.value (scan_read space _ _ _ c.in_ok-before_colon.ensures.value) (c.if-not-is_at.ensures.yes refl).0 _ _ (scan_read space _ _ _ c.in_ok-after_colon.ensures.value) e c.in_err-value.ensures.value)))
-
-pub maps::pairs-returns-in_err-behind_entry-clause-value : goal.maps::pairs-returns-in_err-behind_entry-clause-value
-maps::pairs-returns-in_err-behind_entry-clause-value t c =
-    let p = err_from_is_err_and c.from_residual-in_err-behind_entry.result c.from_residual-in_err-behind_entry.ensures.1 in
-    let pair = pair_read c.args.limit _ _ _ _ _ _ c.in_ok-key.ensures.value (scan_read space _ _ _ c.in_ok-before_colon.ensures.value) (c.if-not-is_at.ensures.yes refl).0 _ _ (scan_read space _ _ _ c.in_ok-after_colon.ensures.value) _ _ c.in_ok-value.ensures.value in
-    rw (p.1, p.2) (turn_stops c.args.limit Pairs _ _ _ c.pairs.invariant.reads c.in_err-behind_entry.field-0.0 _ _ pair c.in_err-behind_entry.ensures.value)
+pub maps::pairs-returns-in-Err-clause-value : goal.maps::pairs-returns-in-Err-clause-value
+maps::pairs-returns-in-Err-clause-value t c = turn_stops c.args.limit Pairs _ _ _ c.pairs.invariant.reads c.in-Err.fault _ _ c.in_ok-pair.ensures.value c.in-Err.ensures.value
 
 pub maps::pairs-returns-in-Last-clause-value : goal.maps::pairs-returns-in-Last-clause-value
 maps::pairs-returns-in-Last-clause-value t c =
-    let behind = rw c.in-Last.is at c.in_ok-behind_entry.ensures.value in
-    let pair = pair_read c.args.limit _ _ _ _ _ _ c.in_ok-key.ensures.value (scan_read space _ _ _ c.in_ok-before_colon.ensures.value) (c.if-not-is_at.ensures.yes refl).0 _ _ (scan_read space _ _ _ c.in_ok-after_colon.ensures.value) _ _ c.in_ok-value.ensures.value in
-    rw (view_pairs_made texts, c.behind_entry.ensures.unchanged) (turn_last c.args.limit Pairs _ _ _ c.pairs.invariant.reads _ _ _ (with_separator_read c.args.limit Pairs _ _ _ _ _ pair behind.0) behind.1)
+    let behind = rw c.in-Last.is at c.in-Ok.ensures.value in
+    rw (view_pairs_made texts, c.behind_entry.ensures.unchanged) (turn_last c.args.limit Pairs _ _ _ c.pairs.invariant.reads _ _ _ (with_separator_read c.args.limit Pairs _ _ _ _ _ c.in_ok-pair.ensures.value behind.0) behind.1)
 
 pub maps::pairs-returns-in-Last-clause-borrowed : goal.maps::pairs-returns-in-Last-clause-borrowed
 maps::pairs-returns-in-Last-clause-borrowed t c =
-    let soc = rw c.in-Last.is at c.in_ok-behind_entry.ensures.borrowed in
-    borrows_pairs_made _ _ refl (subst BorrowsEachPair (sym c.behind_entry.ensures.unchanged) c.pairs.invariant.borrowed) (c.in_ok-key.ensures.borrowed, c.in_ok-before_colon.ensures.borrowed, c.in_ok-after_colon.ensures.borrowed, c.in_ok-value.ensures.borrowed) soc
+    let soc = rw c.in-Last.is at c.in-Ok.ensures.borrowed in
+    borrows_pairs_made _ _ refl (subst BorrowsEachPair (sym c.behind_entry.ensures.unchanged) c.pairs.invariant.borrowed) c.in_ok-pair.ensures.borrowed soc
 
 pub maps::pairs-returns-in-Last-clause-place : goal.maps::pairs-returns-in-Last-clause-place
 maps::pairs-returns-in-Last-clause-place t c =
-    let place = rw c.in-Last.is at c.in_ok-behind_entry.ensures.place in
-    (omega (arith, c.in_ok-key.ensures.place.0, c.in_ok-key.ensures.place.1, c.in_ok-before_colon.ensures.place.0, c.in_ok-after_colon.ensures.place.0, c.in_ok-value.ensures.place.0, place.0), place.1)
+    let place = rw c.in-Last.is at c.in-Ok.ensures.place in
+    (omega (arith, c.in_ok-pair.ensures.place.0, place.0), place.1)
 
 pub maps::pairs-returns-in-Last-clause-cost : goal.maps::pairs-returns-in-Last-clause-cost
 maps::pairs-returns-in-Last-clause-cost t c =
-    let place = rw c.in-Last.is at c.in_ok-behind_entry.ensures.place in
-    let cost = rw c.in-Last.is at c.in_ok-behind_entry.ensures.cost in
-    (omega (arith, c.in_ok-key.ensures.place.0, c.in_ok-key.ensures.place.1, c.in_ok-before_colon.ensures.place.0, c.in_ok-after_colon.ensures.place.0, c.in_ok-value.ensures.place.0, place.0, c.in_ok-key.ensures.cost, c.in_ok-before_colon.ensures.cost, c.is_at.ensures.count, c.in_ok-after_colon.ensures.cost, c.in_ok-value.ensures.cost, cost), omega (arith, c.in_ok-key.ensures.place.0, c.in_ok-key.ensures.place.1, c.in_ok-before_colon.ensures.place.0, c.in_ok-after_colon.ensures.place.0, c.in_ok-value.ensures.place.0, c.in_ok-key.ensures.cost, c.in_ok-before_colon.ensures.cost, c.is_at.ensures.count, c.in_ok-after_colon.ensures.cost, c.in_ok-value.ensures.cost, cost))
+    let place = rw c.in-Last.is at c.in-Ok.ensures.place in
+    let cost = rw c.in-Last.is at c.in-Ok.ensures.cost in
+    (omega (arith, place.0, c.in_ok-pair.ensures.cost, cost), omega (arith, c.in_ok-pair.ensures.cost, cost))
 
 pub maps::pairs-push_reserved-requires : goal.maps::pairs-push_reserved-requires
-maps::pairs-push_reserved-requires t c = rw c.in-More.is at c.in_ok-behind_entry.ensures.room
+maps::pairs-push_reserved-requires t c = rw c.in-More.is at c.in-Ok.ensures.room
 
 pub maps::pairs-pairs-smaller : goal.maps::pairs-pairs-smaller
 maps::pairs-pairs-smaller t c =
-    let place = rw c.in-More.is at c.in_ok-behind_entry.ensures.place in
-    omega (arith, c.in_ok-key.ensures.place.0, c.in_ok-key.ensures.place.1, c.in_ok-before_colon.ensures.place.0, c.in_ok-after_colon.ensures.place.0, c.in_ok-value.ensures.place.0, place.0, place.1.0)
+    let place = rw c.in-More.is at c.in-Ok.ensures.place in
+    omega (arith, c.in_ok-pair.ensures.place.0, place.0, place.1.0)
 
 pub maps::pairs-pairs-preserved : goal.maps::pairs-pairs-preserved
 maps::pairs-pairs-preserved t c =
-    let behind = rw c.in-More.is at c.in_ok-behind_entry.ensures.value in
-    let place = rw c.in-More.is at c.in_ok-behind_entry.ensures.place in
-    let cost = rw c.in-More.is at c.in_ok-behind_entry.ensures.cost in
-    let separator = rw c.in-More.is at c.in_ok-behind_entry.ensures.borrowed in
-    let read = pair_read c.args.limit _ _ _ _ _ _ c.in_ok-key.ensures.value (scan_read space _ _ _ c.in_ok-before_colon.ensures.value) (c.if-not-is_at.ensures.yes refl).0 _ _ (scan_read space _ _ _ c.in_ok-after_colon.ensures.value) _ _ c.in_ok-value.ensures.value in
+    let behind = rw c.in-More.is at c.in-Ok.ensures.value in
+    let place = rw c.in-More.is at c.in-Ok.ensures.place in
+    let cost = rw c.in-More.is at c.in-Ok.ensures.cost in
+    let separator = rw c.in-More.is at c.in-Ok.ensures.borrowed in
     record {
-      order = omega (arith, c.in_ok-key.ensures.place.0, c.in_ok-key.ensures.place.1, c.in_ok-before_colon.ensures.place.0, c.in_ok-after_colon.ensures.place.0, c.in_ok-value.ensures.place.0, place.0);
+      order = omega (arith, c.in_ok-pair.ensures.place.0, place.0);
       place = place.1;
-      cost = omega (arith, c.in_ok-key.ensures.place.0, c.in_ok-key.ensures.place.1, c.in_ok-before_colon.ensures.place.0, c.in_ok-after_colon.ensures.place.0, c.in_ok-value.ensures.place.0, place.0, c.in_ok-key.ensures.cost, c.in_ok-before_colon.ensures.cost, c.is_at.ensures.count, c.in_ok-after_colon.ensures.cost, c.in_ok-value.ensures.cost, cost);
-      least = omega (arith, c.in_ok-key.ensures.place.0, c.in_ok-key.ensures.place.1, c.in_ok-before_colon.ensures.place.0, c.in_ok-after_colon.ensures.place.0, c.in_ok-value.ensures.place.0, place.0, c.in_ok-key.ensures.cost, c.in_ok-before_colon.ensures.cost, c.is_at.ensures.count, c.in_ok-after_colon.ensures.cost, c.in_ok-value.ensures.cost, cost);
-      borrowed = rw (c.push_reserved.ensures.items, c.behind_entry.ensures.unchanged) (borrows_pair_push c.pairs.row.items _ c.pairs.invariant.borrowed (c.in_ok-key.ensures.borrowed, c.in_ok-before_colon.ensures.borrowed, c.in_ok-after_colon.ensures.borrowed, c.in_ok-value.ensures.borrowed) separator);
-      reads = rw (c.push_reserved.ensures.items, c.behind_entry.ensures.unchanged) (turn_more c.args.limit Pairs _ _ _ c.pairs.invariant.reads _ _ _ (with_separator_read c.args.limit Pairs _ _ _ _ _ read behind.0) behind.2 behind.1
-          ∙ with_more (seen_pair texts) _ (record { key = c.in_ok-key.key; before_colon = c.in_ok-before_colon.before_colon; after_colon = c.in_ok-after_colon.after_colon; value = c.in_ok-value.value }, c.in-More.separator) _ _ _ refl);
+      cost = omega (arith, place.0, c.in_ok-pair.ensures.cost, cost);
+      least = omega (arith, place.0, c.in_ok-pair.ensures.cost, cost);
+      borrowed = rw (c.push_reserved.ensures.items, c.behind_entry.ensures.unchanged) (borrows_pair_push c.pairs.row.items _ c.pairs.invariant.borrowed c.in_ok-pair.ensures.borrowed separator);
+      reads = rw (c.push_reserved.ensures.items, c.behind_entry.ensures.unchanged) (turn_more c.args.limit Pairs _ _ _ c.pairs.invariant.reads _ _ _ (with_separator_read c.args.limit Pairs _ _ _ _ _ c.in_ok-pair.ensures.value behind.0) behind.2 behind.1
+          ∙ with_more (seen_pair texts) _ (c.in_ok-pair.pair, c.in-More.separator) _ _ _ refl);
     }
 
 pub strings::strings-returns-in_err-read-clause-value : goal.strings::strings-returns-in_err-read-clause-value
@@ -302,6 +271,38 @@ strings::strings-strings-preserved t c =
       reads = rw pushed.items (turn_more c.args.limit Strings _ _ _ c.strings.invariant.reads _ _ _ (with_separator_entry chunk_tree c.args.limit _ _ _ _ _ _ c.in_ok-string.ensures.entry (chunk_read c.args.limit _ _ _ c.in_ok-read.ensures.value) c.in_ok-string.ensures.value) pushed.not_empty (sym c.if-closes.ensures.closed)
           ∙ with_more (seen_string texts) _ (c.in_ok-string.string, pushed.separator) _ _ _ (ap (λ (s : List ℕ). (chunk_tree c.in_ok-string.string, s)) pushed.same));
     }
+
+pub maps::pair-returns-in_err-key-clause-value : goal.maps::pair-returns-in_err-key-clause-value
+maps::pair-returns-in_err-key-clause-value t c =
+    let p = err_from_is_err_and c.from_residual.result c.from_residual.ensures.1 in
+    rw (p.1, p.2) (pair_fails c.in_err-key.field-0.0 c.args.limit _ c.in_err-key.ensures.value)
+
+pub maps::pair-returns-in_err-before_colon-clause-value : goal.maps::pair-returns-in_err-before_colon-clause-value
+maps::pair-returns-in_err-before_colon-clause-value t c =
+    let p = err_from_is_err_and c.from_residual-in_err-before_colon.result c.from_residual-in_err-before_colon.ensures.1 in
+    rw (p.1, p.2) (pair_fails_before (Told c.in_err-before_colon.field-0.0) c.args.limit _ _ _ c.in_ok-key.ensures.value (scan_fails space _ c.in_err-before_colon.field-0.0 c.in_err-before_colon.ensures.value))
+
+pub maps::pair-returns-then-not-is_at-clause-value : goal.maps::pair-returns-then-not-is_at-clause-value
+maps::pair-returns-then-not-is_at-clause-value t c = rw c.invalid.ensures (pair_no_colon c.args.limit _ _ _ _ _ c.in_ok-key.ensures.value (scan_read space _ _ _ c.in_ok-before_colon.ensures.value) (c.if-not-is_at.ensures.no refl))
+
+pub maps::pair-returns-clause-value : goal.maps::pair-returns-clause-value
+maps::pair-returns-clause-value t c = ends_same _ _ _ _ _ (pair_behind_colon c.args.limit _ _ _ _ _ _ c.in_ok-key.ensures.value (scan_read space _ _ _ c.in_ok-before_colon.ensures.value) (c.if-not-is_at.ensures.yes refl).0) c.pair_of_key.ensures.value
+
+pub maps::pair-returns-clause-borrowed : goal.maps::pair-returns-clause-borrowed
+maps::pair-returns-clause-borrowed t c = c.pair_of_key.ensures.borrowed c.in_ok-key.ensures.borrowed c.in_ok-before_colon.ensures.borrowed
+
+pub maps::pair_of_key-returns-in_err-after_colon-clause-value : goal.maps::pair_of_key-returns-in_err-after_colon-clause-value
+maps::pair_of_key-returns-in_err-after_colon-clause-value t c =
+    let p = err_from_is_err_and c.from_residual.result c.from_residual.ensures.1 in
+    rw (p.1, p.2) (value_fails_before (Told c.in_err-after_colon.field-0.0) c.args.limit _ _ _ (scan_fails space _ c.in_err-after_colon.field-0.0 c.in_err-after_colon.ensures.value))
+
+pub maps::pair_of_key-returns-in_err-value-clause-value : goal.maps::pair_of_key-returns-in_err-value-clause-value
+maps::pair_of_key-returns-in_err-value-clause-value t c =
+    let p = err_from_is_err_and c.from_residual-in_err-value.result c.from_residual-in_err-value.ensures.1 in
+    rw (p.1, p.2) (value_fails c.in_err-value.field-0.0 c.args.limit _ _ _ _ _ (scan_read space _ _ _ c.in_ok-after_colon.ensures.value) c.in_err-value.ensures.value)
+
+pub maps::pair_of_key-returns-clause-value : goal.maps::pair_of_key-returns-clause-value
+maps::pair_of_key-returns-clause-value t c = value_read c.args.limit _ _ _ _ _ _ _ (scan_read space _ _ _ c.in_ok-after_colon.ensures.value) c.in_ok-value.ensures.value
 
 pub strings::stream-returns-then-not-is_at-clause-value : goal.strings::stream-returns-then-not-is_at-clause-value
 strings::stream-returns-then-not-is_at-clause-value t c = rw c.invalid.ensures (stream_no_underscore c.args.limit _ (c.if-not-is_at.ensures.no refl))

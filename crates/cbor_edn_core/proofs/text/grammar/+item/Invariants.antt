@@ -55,6 +55,12 @@ decreases-strings::stream_item l = 13 * l.limit + 6
 abbrev pub decreases-items::item : goal.decreases-items::item
 decreases-items::item l = 13 * l.limit + 7
 
+abbrev pub decreases-maps::pair_of_key : goal.decreases-maps::pair_of_key
+decreases-maps::pair_of_key l = 13 * l.limit + 8
+
+abbrev pub decreases-maps::pair : goal.decreases-maps::pair
+decreases-maps::pair l = 13 * l.limit + 9
+
 abbrev pub decreases-lists::items : goal.decreases-lists::items
 decreases-lists::items l = 13 * l.limit + 9
 
