@@ -12,8 +12,8 @@
 # the functions that are changed and those that they call, and no other.
 #
 # These are failures: an edit without that line, one that cannot be applied, one of a function that is not there, a function that is refused
-# for other goals than its edit names (for none: the body is right), a function that is refused and not changed, a copy that does not compile,
-# a library below that is not in its out/ or is older than its sources.
+# for other goals than its edit names (for none: the body is right; for `no-goal`: the prover does not cover it), a function that is refused
+# and not changed, a copy that does not compile, a library below that is not in its out/ or is older than its sources.
 #
 # With no CRATE all that have wrong/ are tried, as many side by side as processors and memory allow. With --proved, which is for a running
 # `rt ci`, they are tried one behind the other, each once DIR has a file of the name of each library below; once DIR has `ended`, as without.

@@ -89,6 +89,7 @@ count 'they are tried in one check' says 'checks: 1,'
 # Of these, one is as it must be.
 edits low "${cut[@]}" \
   right 'refuses: first returns' '(a, b).0' '(b, a).1' \
+  uncovered 'refuses: first returns' '(a, b).0' '{ let _pair = (&a, &b); b }' \
   other_goal 'refuses: third returns-clause-two' '    a' '    9' \
   in_another 'refuses: fourth returns' 'pair(5)' 'pair(6)' \
   gone 'refuses: fourth returns' 'pair(7)' 'pair(8)' \
@@ -96,10 +97,11 @@ edits low "${cut[@]}" \
   of_none 'refuses: fifth returns' 'u16::from(a)' 'u16::from(a / 2)'
 printf '%s\n' 'old: (a, 0).0' 'new: (a, 0).1' >> "$tree/crates/low/wrong/in_another.edit"
 try low
-count 'each fault is one' ended 1 '2 passed, 6 failed'
+count 'each fault is one' ended 1 '2 passed, 7 failed'
 count 'a wrong body among others' says 'cut.edit: refused, as it must be: sum: returns'
 count 'a right body' says 'right.edit: NOT AS IT MUST BE: still proved: returns; refused too: none'
 count 'a body that is refused for another goal' says 'other_goal.edit: NOT AS IT MUST BE: still proved: returns-clause-two; refused too: returns'
+count 'a body that the prover does not cover' says 'uncovered.edit: NOT AS IT MUST BE: still proved: returns; refused too: no-goal'
 count 'a function that no edit names' says 'low/pair: it is not changed, and refused: returns'
 count 'an edit that cannot be applied' says "gone.edit: an 'old:' text is in src/lib.rt 0 times"
 count 'an edit that says nothing of a refusal' says "unnamed.edit: it has no line 'refuses: FUNCTION GOAL..'"

@@ -58,19 +58,18 @@ def write_copy(edit, room, folder, number):
 
 
 def refusals(said, crate, folder):
-    """Returns, by function, what a check did not prove of it: the goals of the line that it has, and the answers that stand in its files."""
+    """Returns, by function, what a check did not prove of it: the goals of the line that it has, and the answers that stand in its files. It is
+    `no-goal` where these name none, as for a body that the borrow checker does not cover."""
     found = collections.defaultdict(set)
-    for function, how, rest in re.findall(rf"(?m)^fn {crate}::(\S+): (no proof|not proved|could not tell)\b(.*)", said):
+    for function, rest in re.findall(rf"(?m)^fn {crate}::(\S+): (?:no proof|not proved|could not tell)\b(.*)", said):
         open_goals = re.search(r"`search` did not prove ((?:`[^`]+`(?:, )?)+)", rest)
         found[function] |= {*re.findall(r"`([^`]+)`", open_goals[1] if open_goals else "")}
-        if how == "no proof":
-            continue
         errors = rf"(?m)^(?:\./)?(proofs/{re.escape(function.replace('::', '/'))}/\w+\.antt):\d+:\d+: error: (?:`([^`]+)`:|.* not checked: (.*))"
         for file, one, more in re.findall(errors, said):
             answers = {*re.findall(r"(?m)^pub (\S+)", rtlib.text_of(f"{folder}/{file}") or "")}
             found[function] |= answers & {one, *more.split(", ")}
         if not found[function] and "which is not proved" not in rest and "which are not proved" not in rest:
-            found[function].add("?")
+            found[function].add("no-goal")
     return {it: goals for it, goals in found.items() if goals}
 
 
