@@ -105,3 +105,7 @@ told_stays r f w v told none = on_ok_weaker r (λ p. by (subst (λ g. IfTold {X 
 pub memory_cuts : (P : Ending → Type 0) (r : Result (Unit {0}) AllocError) (f : Fault TypeMismatch) → IfErr r (λ e. f ≡ Memory e) → IfVisited {X = Unit {0}} (Err f) P → IfErr r (λ _. P cut)
 memory_cuts P (Ok x) f is visited = tt
 memory_cuts P (Err e) f is visited = subst (λ g. IfVisited {X = Unit {0}} (Err g) P) is visited
+
+pub err_holds : {X E P : Type 0} (r : Result X E) → P → IfErr r (λ _. P)
+err_holds (Ok x) h = tt
+err_holds (Err e) h = h
