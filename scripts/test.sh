@@ -3,8 +3,8 @@
 # program (`rt ci`), the wrong bodies of each crate and the script that tries them, each allocation of the calls of the crates *_memory
 # and of the program refused in turn and all of them where none is taken, then the encodings of another implementation, where it is
 # installed, the examples, the help, the lines of faults, devices that fail, inputs past the limits, random inputs, the launcher, the
-# deepest nesting under small stacks, and calls from other languages. The last line is 'N passed, M failed'. Where nothing failed, the program that was proved is left
-# to ./cbor-edn. `docs/CONTRIBUTING.md` says how the proofs share the processors.
+# deepest nesting under small stacks, and calls from other languages. The last line is 'N passed, M failed'. Where nothing failed, the
+# program that was proved is left to ./cbor-edn. `docs/CONTRIBUTING.md` says how the proofs share the processors.
 set -euo pipefail
 
 cd "$(dirname "$(readlink -f "$0")")/.."
