@@ -135,7 +135,7 @@ python3 -B scripts/core_jobs.py || echo "core: this toolchain does not tell its 
 # `rt ci` would put back what other checks left there, and the wrong bodies are tried over what it leaves itself.
 rm -rf crates/*/out/rlib
 # They take what the proofs leave free.
-begin check-wrong-bodies nice -n 19 scripts/check-wrong-bodies.sh --proved "$proved"
+TMPDIR=$beside begin check-wrong-bodies nice -n 19 scripts/check-wrong-bodies.sh --proved "$proved"
 begin test-wrong-bodies nice -n 19 scripts/test-wrong-bodies.sh
 ahead=
 if keeps_proofs; then
