@@ -1,5 +1,5 @@
 //! Public calls of literals and annotations, under their own clauses. Bodies that these clauses refuse stand in
-//! `must-fail/`: a check here is that of a small crate, and what a clause refuses here it refuses where the call is written.
+//! `wrong/`: a check here is that of a small crate, and what a clause refuses here it refuses where the call is written.
 #![tactic(auto)]
 
 ghost use Rattle.std.specs.Prelude.{◌≡◌, None, Ok, Err, IfOk, IfErr, OnOk, option_map};
