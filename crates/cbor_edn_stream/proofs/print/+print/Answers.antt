@@ -68,9 +68,9 @@ print_inside-returns-in_ok-print_front-in-None-past_stop-clause-exact t c =
     (inside_printed (λ r. r.now) c.args.layout (bracketed c.args.list) (argument_indicator c.args.argument) (buffer_bytes c.args.out.now) (buffer_bytes c.print_front-in-None-past_stop.new.out) (buffer_bytes c.print_until.new.out) c.print_until.result _ (grind arith) c.print_until.ensures.exact)
 
 -- src/print.rt:67:1
-pub print_item-returns-in_ok-print_by-in-Ok-clause-exact :
-    goal.print_item-returns-in_ok-print_by-in-Ok-clause-exact
-print_item-returns-in_ok-print_by-in-Ok-clause-exact t c =
+pub print_item-returns-in_ok-print_item-in-Ok-clause-exact :
+    goal.print_item-returns-in_ok-print_item-in-Ok-clause-exact
+print_item-returns-in_ok-print_item-in-Ok-clause-exact t c =
     let bytes = c.args.bytes.now in
     let w = item_tree c.in-Ok.item in
     let front : c.split_at.result.0.now ≡ take c.min.result c.args.bytes.now = c.split_at.ensures.front in
