@@ -50,7 +50,7 @@ def write_copy(edit, room, folder, number):
     (file,) = files
     changed = rt.edited(edit.text, folder)[0][file]
     found = re.findall(rf"(?ms)^(?:#\[[^\n]*\]\n)*(?:pub )?fn {name}\b.*?^\}}\n", changed)
-    if len(found) != 1 or found[0] in rtlib.text_of(f"{folder}/{file}"):
+    if len(found) != 1 or "#[cycle(" in found[0] or found[0] in rtlib.text_of(f"{folder}/{file}"):
         return None
     with open(f"{room}/{file}", "a", encoding="utf-8") as it:
         it.write("\n" + re.sub(rf"\bfn {name}\b", f"fn {name}_{number}", found[0], count=1))
