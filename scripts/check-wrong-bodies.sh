@@ -21,4 +21,4 @@
 set -euo pipefail
 
 cd "$(dirname "$(readlink -f "$0")")/.."
-exec python3 -B scripts/wrong_bodies.py "$@"
+exec python3 -Bu scripts/wrong_bodies.py "$@"
