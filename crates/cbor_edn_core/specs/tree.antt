@@ -2,3 +2,5 @@
 pub mod Borrowed
 pub mod View
 pub mod Constructed
+pub mod Embedding
+pub mod Nestings

@@ -8,7 +8,9 @@ mod clone;
 mod construct;
 mod convert;
 mod debug;
+mod embed;
 mod equal;
+pub(crate) mod nesting;
 pub(crate) mod row;
 
 use cbor_edn_model::text::keyword::{NamedSimple, NonFinite};

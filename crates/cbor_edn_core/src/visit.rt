@@ -8,7 +8,6 @@ ghost use Rattle.cbor_edn_model.specs.visit.Seeking.{SoughtCall, VisitParts, IsT
 ghost use Rattle.cbor_edn_model.specs.visit.Visits.{no_memory, fine, answered, Chain};
 
 mod array;
-mod depth;
 mod map;
 mod seek;
 mod tagged;

@@ -4,29 +4,155 @@ ghost use Rattle.cbor_edn_parts.specs.internal.Scans.{ScanLands};
 ghost use Rattle.cbor_edn_parts.specs.internal.Text.{text_bytes};
 
 use cbor_edn_expect::failures::Failures;
-use cbor_edn_expect::{boxed, expect, expect_row};
+use cbor_edn_expect::{expect, expect_row};
 use cbor_edn_parts::error::Refusal;
 use cbor_edn_parts::indicator::{Indicator, indicator_at};
 use cbor_edn_parts::looks::Looks;
 use cbor_edn_parts::number::{Number, number_start};
 use cbor_edn_parts::policy::{DelimiterPolicy, Spacing};
 use cbor_edn_parts::space::{ItemEnd, Ms, Msc, S, Soc, separator_behind, space, space_behind};
-use cbor_edn_parts::string::{Dots, dots_at, literal_at};
+use cbor_edn_parts::string::{Dots, Literal, dots_at, literal_at};
 use cbor_edn_parts::text::Text;
-use std::alloc::Global;
+use std::alloc::{AllocError, Global};
 use std::test::Fail;
 
-// The space that a text begins with, and the separator.
-fn space_of(alloc: Global, text: &str) -> Result<Box<S<'_>>, Fail> {
-    let text = Text::new(text);
-    let (before, _) = space(&text, text.start(), &mut Looks::new())?;
-    Ok(Box::new(alloc, before)?)
+/// What a text is read as at a place.
+trait AnyLeaf: PartialEq + Drop {
+    fn copied(&self) -> Result<Self, AllocError>;
+
+    fn told(&self) -> &str;
 }
 
-fn mandatory_of(alloc: Global, text: &str) -> Result<Box<Ms<'_>>, Fail> {
+impl<'a> AnyLeaf for S<'a> {
+    fn copied(&self) -> Result<S<'a>, AllocError> {
+        self.clone()
+    }
+
+    fn told(&self) -> &str {
+        self.as_str()
+    }
+}
+
+impl<'a> AnyLeaf for Ms<'a> {
+    fn copied(&self) -> Result<Ms<'a>, AllocError> {
+        self.clone()
+    }
+
+    fn told(&self) -> &str {
+        self.as_str()
+    }
+}
+
+impl<'a> AnyLeaf for Soc<'a> {
+    fn copied(&self) -> Result<Soc<'a>, AllocError> {
+        self.clone()
+    }
+
+    fn told(&self) -> &str {
+        self.as_str()
+    }
+}
+
+impl<'a> AnyLeaf for Msc<'a> {
+    fn copied(&self) -> Result<Msc<'a>, AllocError> {
+        self.clone()
+    }
+
+    fn told(&self) -> &str {
+        self.as_str()
+    }
+}
+
+impl<'a> AnyLeaf for Number<'a> {
+    fn copied(&self) -> Result<Number<'a>, AllocError> {
+        self.clone()
+    }
+
+    fn told(&self) -> &str {
+        self.as_str()
+    }
+}
+
+impl<'a> AnyLeaf for Literal<'a> {
+    fn copied(&self) -> Result<Literal<'a>, AllocError> {
+        self.clone()
+    }
+
+    fn told(&self) -> &str {
+        self.as_str()
+    }
+}
+
+impl<'a> AnyLeaf for Dots<'a> {
+    fn copied(&self) -> Result<Dots<'a>, AllocError> {
+        self.clone()
+    }
+
+    fn told(&self) -> &str {
+        self.as_str()
+    }
+}
+
+/// Whether a leaf has this text, and equals its copy.
+fn is_leaf<T: AnyLeaf>(leaf: Result<T, Fail>, wanted: &str) -> Result<bool, Fail> {
+    let leaf = leaf?;
+    let copy = leaf.copied()?;
+    Ok(copy == leaf && leaf.told() == wanted)
+}
+
+/// Whether a leaf is another one.
+fn is_other<T: AnyLeaf>(leaf: Result<T, Fail>, other: T) -> Result<bool, Fail> {
+    Ok(leaf? != other)
+}
+
+/// A space or a separator, which a policy changes.
+trait AnySpace: AnyLeaf {
+    fn by(&self, alloc: Global, spacing: Spacing) -> Result<Self, AllocError>;
+}
+
+impl<'a> AnySpace for S<'a> {
+    fn by(&self, alloc: Global, spacing: Spacing) -> Result<S<'a>, AllocError> {
+        self.spaced(alloc, spacing)
+    }
+}
+
+impl<'a> AnySpace for Ms<'a> {
+    fn by(&self, alloc: Global, spacing: Spacing) -> Result<Ms<'a>, AllocError> {
+        self.spaced(alloc, spacing)
+    }
+}
+
+impl<'a> AnySpace for Soc<'a> {
+    fn by(&self, alloc: Global, spacing: Spacing) -> Result<Soc<'a>, AllocError> {
+        self.spaced(alloc, spacing)
+    }
+}
+
+impl<'a> AnySpace for Msc<'a> {
+    fn by(&self, alloc: Global, spacing: Spacing) -> Result<Msc<'a>, AllocError> {
+        self.spaced(alloc, spacing)
+    }
+}
+
+/// The text of a space or a separator by a column.
+fn text_by<T: AnySpace>(
+    alloc: Global,
+    leaf: Result<T, Fail>,
+    spacing: Spacing,
+) -> Result<String, Fail> {
+    let told = leaf?.by(alloc, spacing)?;
+    Ok(String::from_str(alloc, told.told())?)
+}
+
+/// The space that a text begins with.
+fn space_of(text: &str) -> Result<S<'_>, Fail> {
     let text = Text::new(text);
     let (before, _) = space(&text, text.start(), &mut Looks::new())?;
-    boxed(alloc, before.into_ms().ok_or("no space"))
+    Ok(before)
+}
+
+fn mandatory_of(text: &str) -> Result<Ms<'_>, Fail> {
+    Ok(space_of(text)?.into_ms().ok_or("no space")?)
 }
 
 // The separator at a place.
@@ -37,46 +163,15 @@ fn separator<'a>(text: &Text<'a>, at: usize, looks: &mut Looks) -> Result<(Soc<'
     separator_behind(text, ItemEnd { at, space: None }, looks)
 }
 
-fn separator_of(alloc: Global, text: &str) -> Result<Box<Soc<'_>>, Fail> {
+/// The separator that a text begins with.
+fn separator_of(text: &str) -> Result<Soc<'_>, Fail> {
     let text = Text::new(text);
     let (end, _) = separator(&text, text.start(), &mut Looks::new())?;
-    Ok(Box::new(alloc, end)?)
+    Ok(end)
 }
 
-fn between_of(alloc: Global, text: &str) -> Result<Box<Msc<'_>>, Fail> {
-    let text = Text::new(text);
-    let (end, _) = separator(&text, text.start(), &mut Looks::new())?;
-    boxed(alloc, end.into_msc().ok_or("no separator"))
-}
-
-fn expect_space(alloc: Global, text: &str, wanted: &str) -> Result<(), Fail> {
-    let before = space_of(alloc, text)?;
-    let copy = boxed(alloc, before.clone())?;
-    expect("copy", *copy == *before)?;
-    expect("no space", *before != S::empty())?;
-    expect_row(alloc, text, before.as_str(), wanted)
-}
-
-fn expect_mandatory(alloc: Global, text: &str, wanted: &str) -> Result<(), Fail> {
-    let before = mandatory_of(alloc, text)?;
-    let copy = boxed(alloc, before.clone())?;
-    expect("copy", *copy == *before)?;
-    expect("plain space", *before != Ms::space())?;
-    expect_row(alloc, text, before.as_str(), wanted)
-}
-
-fn expect_separator(alloc: Global, text: &str, wanted: &str) -> Result<(), Fail> {
-    let end = separator_of(alloc, text)?;
-    let copy = boxed(alloc, end.clone())?;
-    expect("copy", *copy == *end)?;
-    expect_row(alloc, text, end.as_str(), wanted)
-}
-
-fn expect_between(alloc: Global, text: &str, wanted: &str) -> Result<(), Fail> {
-    let between = between_of(alloc, text)?;
-    let copy = boxed(alloc, between.clone())?;
-    expect("copy", *copy == *between)?;
-    expect_row(alloc, text, between.as_str(), wanted)
+fn between_of(text: &str) -> Result<Msc<'_>, Fail> {
+    Ok(separator_of(text)?.into_msc().ok_or("no separator")?)
 }
 
 // The number at a place, and the place behind it.
@@ -91,28 +186,44 @@ fn number_at<'a>(
     number_start(text, from, looks).number(text, from, looks)
 }
 
-fn expect_number_behind(alloc: Global, text: &str, wanted: &str) -> Result<(), Fail> {
+/// The number behind the separator that a text begins with.
+fn number_behind(text: &str) -> Result<Number<'_>, Fail> {
     let text = Text::new(text);
     let (_, to) = separator(&text, text.start(), &mut Looks::new())?;
     let (number, _) = number_at(&text, to, &mut Looks::new())?;
-    expect_number(alloc, &number, wanted)
+    Ok(number)
 }
 
-fn expect_number(alloc: Global, number: &Number<'_>, wanted: &str) -> Result<(), Fail> {
-    let copy = boxed(alloc, number.clone())?;
-    expect("copy", *copy == *number)?;
-    expect_row(alloc, "number", number.as_str(), wanted)
-}
+const LEADING: &str = " /\u{e9}/ , # x\n1";
 
 #[test]
 fn spaces(rt: HostRuntime) -> Result<(), Fail> {
     let alloc = rt.alloc();
-    let text = " /\u{e9}/ , # x\n1";
-    expect_space(alloc, text, " /\u{e9}/ ")?;
-    expect_mandatory(alloc, text, " /\u{e9}/ ")?;
-    expect_separator(alloc, text, " /\u{e9}/ , # x\n")?;
-    expect_between(alloc, text, " /\u{e9}/ , # x\n")?;
-    expect_number_behind(alloc, text, "1")
+    let mut failures = Failures::new(alloc);
+    failures.held(alloc, "space", is_leaf(space_of(LEADING), " /\u{e9}/ "))?;
+    failures.held(alloc, "no space", is_other(space_of(LEADING), S::empty()))?;
+    failures.held(
+        alloc,
+        "mandatory",
+        is_leaf(mandatory_of(LEADING), " /\u{e9}/ "),
+    )?;
+    failures.held(
+        alloc,
+        "plain space",
+        is_other(mandatory_of(LEADING), Ms::space()),
+    )?;
+    failures.held(
+        alloc,
+        "separator",
+        is_leaf(separator_of(LEADING), " /\u{e9}/ , # x\n"),
+    )?;
+    failures.held(
+        alloc,
+        "between",
+        is_leaf(between_of(LEADING), " /\u{e9}/ , # x\n"),
+    )?;
+    failures.held(alloc, "number", is_leaf(number_behind(LEADING), "1"))?;
+    failures.end()
 }
 
 #[test]
@@ -162,27 +273,15 @@ const SPACES: &[(&str, Spacing, &str, &str)] = &[
     ),
 ];
 
-fn space_by(alloc: Global, text: &str, spacing: Spacing) -> Result<String, Fail> {
-    let before = space_of(alloc, text)?;
-    let told = boxed(alloc, before.spaced(alloc, spacing))?;
-    Ok(String::from_str(alloc, told.as_str())?)
-}
-
-fn mandatory_by(alloc: Global, text: &str, spacing: Spacing) -> Result<String, Fail> {
-    let before = mandatory_of(alloc, text)?;
-    let told = boxed(alloc, before.spaced(alloc, spacing))?;
-    Ok(String::from_str(alloc, told.as_str())?)
-}
-
 #[test]
 fn columns_of_space(rt: HostRuntime) -> Result<(), Fail> {
     let alloc = rt.alloc();
     let mut failures = Failures::new(alloc);
     for &(text, spacing, optional, mandatory) in SPACES {
         let row = format!(in alloc; "{text} by {spacing:?}")?;
-        let told = space_by(alloc, text, spacing);
+        let told = text_by(alloc, space_of(text), spacing);
         failures.told(alloc, row.as_str(), told, optional)?;
-        let told = mandatory_by(alloc, text, spacing);
+        let told = text_by(alloc, mandatory_of(text), spacing);
         failures.told(alloc, row.as_str(), told, mandatory)?;
     }
     failures.end()
@@ -213,27 +312,15 @@ const SEPARATORS: &[(&str, Spacing, &str, &str)] = &[
     (" ", Spacing::OneSpace, " ", " ,"),
 ];
 
-fn separator_by(alloc: Global, text: &str, spacing: Spacing) -> Result<String, Fail> {
-    let end = separator_of(alloc, text)?;
-    let told = boxed(alloc, end.spaced(alloc, spacing))?;
-    Ok(String::from_str(alloc, told.as_str())?)
-}
-
-fn between_by(alloc: Global, text: &str, spacing: Spacing) -> Result<String, Fail> {
-    let between = between_of(alloc, text)?;
-    let told = boxed(alloc, between.spaced(alloc, spacing))?;
-    Ok(String::from_str(alloc, told.as_str())?)
-}
-
 #[test]
 fn columns_of_separators(rt: HostRuntime) -> Result<(), Fail> {
     let alloc = rt.alloc();
     let mut failures = Failures::new(alloc);
     for &(text, spacing, end, between) in SEPARATORS {
         let row = format!(in alloc; "{text} by {spacing:?}")?;
-        let told = separator_by(alloc, text, spacing);
+        let told = text_by(alloc, separator_of(text), spacing);
         failures.told(alloc, row.as_str(), told, end)?;
-        let told = between_by(alloc, text, spacing);
+        let told = text_by(alloc, between_of(text), spacing);
         failures.told(alloc, row.as_str(), told, between)?;
     }
     failures.end()
@@ -333,33 +420,25 @@ fn spaces_behind_items(rt: HostRuntime) -> Result<(), Fail> {
     expect("end of the separator", to == 8)
 }
 
-fn expect_literal(alloc: Global, text: &str, wanted: &str) -> Result<(), Fail> {
+fn literal_of(text: &str) -> Result<Literal<'_>, Fail> {
     let text = Text::new(text);
     let (literal, _) = literal_at(&text, text.start(), &mut Looks::new())?;
-    let copy = boxed(alloc, literal.clone())?;
-    expect("copy", *copy == literal)?;
-    expect_row(alloc, "literal", literal.as_str(), wanted)
+    Ok(literal)
 }
 
-fn expect_dots(alloc: Global, text: &str, wanted: &str) -> Result<(), Fail> {
+/// The dots behind the literal that a text begins with.
+fn dots_behind(text: &str) -> Result<Dots<'_>, Fail> {
     let text = Text::new(text);
     let (_, to) = literal_at(&text, text.start(), &mut Looks::new())?;
     let (dots, _) = dots_at(&text, to, &mut Looks::new())?;
-    expect_equal_dots(alloc, &dots, wanted)
-}
-
-fn expect_equal_dots(alloc: Global, dots: &Dots<'_>, wanted: &str) -> Result<(), Fail> {
-    let copy = boxed(alloc, dots.clone())?;
-    expect("copy", *copy == *dots)?;
-    expect_row(alloc, "dots", dots.as_str(), wanted)
+    Ok(dots)
 }
 
 #[test]
-fn literals_and_dots(rt: HostRuntime) -> Result<(), Fail> {
-    let alloc = rt.alloc();
+fn literals_and_dots(_rt: HostRuntime) -> Result<(), Fail> {
     let text = "h'\u{e9}'...";
-    expect_literal(alloc, text, "h'\u{e9}'")?;
-    expect_dots(alloc, text, "...")
+    expect("literal", is_leaf(literal_of(text), "h'\u{e9}'")?)?;
+    expect("dots", is_leaf(dots_behind(text), "...")?)
 }
 
 // The indicator that a text begins with, and how many bytes it takes.

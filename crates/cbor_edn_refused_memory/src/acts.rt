@@ -1,10 +1,10 @@
 //! The functions that visits call at literals, tags and values of claims, each called on one item.
 use cbor_edn_application::{
     CcsHandler, CnfHandler, OscHandler, all_aol_to_item, all_tag_prettify, any_aol_to_tag999,
-    comment_lang_tag, dt_aol_to_item, dt_tag_to_aol, ip_aol_to_item, ip_tag_to_aol,
+    comment_lang_tag, dt_aol_to_item, dt_tag_to_aol, ip_aol_to_item, ip_tag_to_aol, show_embedded,
     tag23_to_edn_integer,
 };
-use cbor_edn_core::tree::{Item, StandaloneItem};
+use cbor_edn_core::tree::{Item, NESTING_LIMIT, StandaloneItem};
 use cbor_edn_core::visit::MapValueHandler;
 use cbor_edn_expect::memory::Failure;
 use cbor_edn_parts::error::{CallbackError, Fault};
@@ -17,6 +17,7 @@ pub(crate) enum Act {
     Claim(CcsHandler),
     Confirmation(CnfHandler),
     Parameter(OscHandler),
+    Embedded,
 }
 
 #[derive(Clone, Copy)]
@@ -62,6 +63,7 @@ fn act_on(alloc: Global, item: &mut Item<'_>, which: Act) -> Result<Option<Strin
         Act::Claim(handler) => handler.handle(alloc, item),
         Act::Confirmation(handler) => handler.handle(alloc, item),
         Act::Parameter(handler) => handler.handle(alloc, item),
+        Act::Embedded => without_comment(show_embedded(alloc, 8, NESTING_LIMIT, item)),
     }
 }
 

@@ -1,7 +1,7 @@
 //! Calls that answer a tree, a text or bytes, with what they must answer.
 use crate::trees::{sequence_of, standalone_of};
 use cbor_edn_application::{IpVersion, dt_item_to_aol, ip_item_to_aol};
-use cbor_edn_core::tree::{Item, Sequence, StandaloneItem};
+use cbor_edn_core::tree::{Indicator, Item, Sequence, StandaloneItem};
 use cbor_edn_expect::memory::{Failure, boxed};
 use cbor_edn_parts::buffer::TextBuffer;
 use cbor_edn_parts::error::Fault;
@@ -43,6 +43,8 @@ pub(crate) enum ItemBy {
     Beginning(&'static [u8]),
     BeginningWithin(&'static [u8], usize),
     Copy(&'static str),
+    /// A sequence in `<<..>>_0`.
+    Embedded(&'static str),
     TimeLiteral(&'static str),
     AddressLiteral(&'static str),
 }
@@ -169,6 +171,10 @@ fn item_by<'a>(alloc: Global, call: ItemBy) -> Result<Box<Item<'a>>, Failure> {
             beginning(alloc, Item::from_cbor_with_rest_within(alloc, bytes, limit))
         }
         ItemBy::Copy(text) => copy_of_item(alloc, standalone_of(alloc, text)?.item()),
+        ItemBy::Embedded(text) => boxed(
+            alloc,
+            Sequence::parse(alloc, text)?.embedded(alloc, Some(Indicator::One)),
+        ),
         ItemBy::TimeLiteral(text) => {
             boxed(
                 alloc,

@@ -5,7 +5,7 @@ use crate::callbacks::{
     comment_sequence_literals, comment_sequence_tags, comment_tags, comment_tags_that_stay,
 };
 use cbor_edn_application::visits;
-use cbor_edn_core::tree::{Item, Sequence, StandaloneItem};
+use cbor_edn_core::tree::{Item, NESTING_LIMIT, Sequence, StandaloneItem};
 use cbor_edn_expect::memory::Failure;
 use cbor_edn_parts::policy::DelimiterPolicy;
 use std::alloc::Global;
@@ -65,6 +65,7 @@ pub(crate) enum OfSequence {
     CommentTags(&'static str),
     CommentLanguages,
     AnnotateClaimsSets,
+    ShowEmbedded,
 }
 
 /// Every list and its parts on lines of their own.
@@ -121,6 +122,7 @@ fn call_sequence(
         OfSequence::CommentTags(comment) => visits::comment_tags(alloc, sequence, comment),
         OfSequence::CommentLanguages => visits::comment_languages(alloc, sequence),
         OfSequence::AnnotateClaimsSets => visits::annotate_claims_sets(alloc, sequence),
+        OfSequence::ShowEmbedded => visits::show_embedded(alloc, 8, NESTING_LIMIT, sequence),
     };
     Ok(answer?)
 }

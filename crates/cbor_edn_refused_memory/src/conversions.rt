@@ -119,6 +119,15 @@ pub(crate) const VISITS: &[Row] = &[
         ],
     ),
     (
+        "visits::show_embedded",
+        Change::Sequence(OfSequence::ShowEmbedded),
+        &[
+            "h'8141a0', [h'814102']",
+            "<<[<<{}>>]>>, [h'814102']",
+            "<<[<<{}>>]>>, [<<[h'02']>>]",
+        ],
+    ),
+    (
         "prettify",
         Change::Sequence(OfSequence::Prettify),
         &[
@@ -279,6 +288,11 @@ pub(crate) const ACTS: &[Row] = &[
             "38([\"he\", \"x\", true])",
             "38([\"he\", \"x\", true/ Right-to-left /])",
         ],
+    ),
+    (
+        "show_embedded",
+        Change::Standalone(OfStandalone::Act(Act::Embedded)),
+        &["h'8142a101'_0", "<<[h'a101']>>_0"],
     ),
     (
         "comment_lang_tag, no array",

@@ -34,12 +34,12 @@ pub(crate) type Row = (&'static str, Group);
 /// What must be answered stands in the functions of the groups: parts by the forms of `docs/SUPPORTED.md`, a place by the words of
 /// `ParseError`.
 pub(crate) const FREE: &[Row] = &[
-    ("accessors", Group::Parts),
+    ("accessors, get_literal_indicator, nesting", Group::Parts),
     ("at_mut, iterators that lend, has_tag", Group::Loans),
     ("==, is_same", Group::Comparisons),
     ("set_delimiters with DiscardAll", Group::Discarding),
     ("visits of items of another type", Group::Mismatches),
-    ("From<Item>", Group::FromItem),
+    ("From<Item>, Sequence::of_item", Group::FromItem),
     ("line, column, offset, too_deep", Group::Refusals),
     ("indented, Looks, as_str", Group::Made),
     ("into_bytes, into_string", Group::Buffers),
@@ -57,7 +57,10 @@ pub(crate) fn called(alloc: Global, ready: Ready<'_>) -> Result<bool, Failure> {
             Ok(is_discarded(alloc, &mut alone) && is_sequence_discarded(alloc, &mut sequence))
         }
         Ready::Mismatches(mut alone) => Ok(is_mismatch(alloc, alone.at_mut(&[]))),
-        Ready::FromItem(item) => Ok(is_five_alone(Box::into_inner(item))),
+        Ready::FromItem(item, other) => Ok(
+            is_five_alone(Box::into_inner(item))
+                && is_five_in_sequence(alloc, Box::into_inner(other)),
+        ),
         Ready::Refusals(refused) => Ok(is_told(&refused)),
         Ready::Made => Ok(is_made()),
         Ready::Buffers(bytes, text) => Ok(are_taken(bytes, text)),
@@ -77,6 +80,8 @@ fn are_parts_answered(array: &Item<'_>) -> bool {
         && is_map(items.next())
         && is_array(items.next())
         && items.next().is_none()
+        && array.nesting() == 2
+        && array.get_literal_indicator().is_none()
 }
 
 fn is_number(item: Option<&Item<'_>>) -> bool {
@@ -104,6 +109,7 @@ fn is_string(item: Option<&Item<'_>>) -> bool {
     match item {
         Some(item) => {
             item.is_plain_string()
+                && item.get_literal_indicator() == Some(None)
                 && item.get_number().is_none()
                 && item.application_prefix().is_none()
         }
@@ -284,6 +290,11 @@ fn is_mismatch(alloc: Global, item: Option<&mut Item<'_>>) -> bool {
 fn is_five_alone(item: Item<'_>) -> bool {
     let alone = StandaloneItem::from(item);
     alone.item().get_integer() == Ok(5)
+}
+
+fn is_five_in_sequence(alloc: Global, item: Item<'_>) -> bool {
+    let mut sequence = Sequence::of_item(alloc, item);
+    sequence.nesting() == 0 && is_lent_five(sequence.at_mut(&[0]))
 }
 
 fn is_told(refused: &ParseError) -> bool {

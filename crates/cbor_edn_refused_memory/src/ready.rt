@@ -51,7 +51,7 @@ pub(crate) enum Ready<'a> {
     Comparisons(Box<Compared<'a>>),
     Discarding(Box<StandaloneItem<'a>>, Box<Sequence<'a>>),
     Mismatches(Box<StandaloneItem<'a>>),
-    FromItem(Box<Item<'a>>),
+    FromItem(Box<Item<'a>>, Box<Item<'a>>),
     Refusals(ParseError),
     Made,
     Buffers(TextBuffer, TextBuffer),
@@ -72,7 +72,8 @@ pub(crate) fn prepared<'a>(alloc: Global, row: &Row) -> Result<Ready<'a>, Failur
         Group::Mismatches => Ok(Ready::Mismatches(standalone_of(alloc, "0")?)),
         Group::FromItem => {
             let item = boxed(alloc, Item::new_integer_decimal(alloc, 5))?;
-            Ok(Ready::FromItem(item))
+            let other = boxed(alloc, Item::new_integer_decimal(alloc, 5))?;
+            Ok(Ready::FromItem(item, other))
         }
         Group::Refusals => Ok(Ready::Refusals(refusal(alloc)?)),
         Group::Made => Ok(Ready::Made),

@@ -97,6 +97,11 @@ pub(crate) const ANSWERS: &[Row] = &[
         b"{4: 1(0), 8: {4: {3: -17}}}",
     ),
     (
+        "Sequence::embedded",
+        Call::Item(ItemBy::Embedded(" 1, [2] ")),
+        b"<< 1, [2] >>_0",
+    ),
+    (
         "dt_item_to_aol",
         Call::Item(ItemBy::TimeLiteral("0.25")),
         b"dt'1970-01-01T00:00:00.250+00:00'",

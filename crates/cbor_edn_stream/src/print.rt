@@ -130,7 +130,7 @@ fn print_item<'b>(
             if item_has_tag(&item) {
                 return Ok(None);
             }
-            print_tree(out, &item, layout)?;
+            print_tree(out, &item, &layout)?;
             let (_, rest) = bytes.split_at(front.len() - behind.len());
             Ok(Some(rest))
         }
@@ -162,7 +162,7 @@ fn print_leaf<'b>(
     if item_has_tag(&item) {
         return Ok(None);
     }
-    print_tree(out, &item, layout)?;
+    print_tree(out, &item, &layout)?;
     Ok(Some(rest))
 }
 

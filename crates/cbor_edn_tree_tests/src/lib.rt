@@ -14,6 +14,8 @@ mod contents;
 #[cfg(test)]
 mod deepest;
 #[cfg(test)]
+mod embedded;
+#[cfg(test)]
 mod indicators;
 #[cfg(test)]
 mod policies;

@@ -9,7 +9,7 @@ use Rattle.cbor_edn_parts.specs.declared.string.Literal.{Literal}
 use Rattle.cbor_edn_parts.specs.declared.string.Dots.{Dots}
 use Rattle.cbor_edn_model.specs.tree.TreeLeaves.{Ghosts, texts}
 use Rattle.cbor_edn_model.specs.text.ListHeads.{view_list_head}
-use Rattle.cbor_edn_model.specs.tree.Rows.{entries_onto, entries_text, pieces_onto, pieces_text}
+use Rattle.cbor_edn_model.specs.tree.Rows.{entries_onto, pieces_onto}
 use Rattle.cbor_edn_core.specs.declared.tree.InnerItemOf.{InnerItemOf}
 use Rattle.cbor_edn_core.specs.declared.tree.InnerItemOf.TheVariants as inner
 use Rattle.cbor_edn_core.specs.declared.tree.ItemOf.{ItemOf}
@@ -116,14 +116,6 @@ module _ {O M C E N L D : Type 0} (leaves : Ghosts O M C E N L D) where
   abbrev pub pair_row_onto : List (KpOf O M C E N L D × C) → Tree (Rest kind.Pairs) → Tree (Rest kind.Pairs)
   pair_row_onto ps m = entries_onto (map seen_pair ps) m
 
-  -- the text of items, each with the separator behind it
-  abbrev pub row_text : List (ItemOf O M C E N L D × C) → List ℕ
-  row_text ps = entries_text (map seen ps)
-
-  -- the same of pairs
-  abbrev pub pair_row_text : List (KpOf O M C E N L D × C) → List ℕ
-  pair_row_text ps = entries_text (map seen_pair ps)
-
   -- pieces, each with the spaces round the plus sign behind it, in front of others
   abbrev pub seen_piece : PieceOf O M C E N L D × O × O → Tree OnePiece × List ℕ × List ℕ
   seen_piece p = (view_piece p.0, leaves.space p.1, leaves.space p.2)
@@ -141,17 +133,10 @@ module _ {O M C E N L D : Type 0} (leaves : Ghosts O M C E N L D) where
   abbrev pub string_row_onto : List (CborStringOf O M C E N L D × C) → Tree (Rest kind.Strings) → Tree (Rest kind.Strings)
   string_row_onto ps m = entries_onto (map seen_string ps) m
 
-  abbrev pub string_row_text : List (CborStringOf O M C E N L D × C) → List ℕ
-  string_row_text ps = entries_text (map seen_string ps)
-
   -- what follows a sequence's first space
   abbrev pub view_some : List ℕ → Option (ItemsOf O M C E N L D) → Tree Seq
   view_some s None = NothingTree s
   view_some s (Some items) = SequenceTree s (view_items items)
-
-  -- the text of pieces, each with a plus sign behind it
-  abbrev pub piece_row_text : List (PieceOf O M C E N L D × O × O) → List ℕ
-  piece_row_text ps = pieces_text (map seen_piece ps)
 
   abbrev pub view_standalone : StandaloneItemOf O M C E N L D → Tree Standalone
   view_standalone x = StandaloneTree (leaves.space x.before) (view_item x.item) (leaves.space x.after)

@@ -46,7 +46,7 @@ impl<'a> Item<'a> {
         ensures { IfOk result (λ s. string_bytes s ≡ text (laid_out policy (item_tree self.now))) }
     {
         let mut out = TextBuffer::new(alloc);
-        print_item(&mut out, self, Layout::of(policy))?;
+        print_item(&mut out, self, &Layout::of(policy))?;
         Ok(out.into_string())
     }
 
@@ -91,7 +91,7 @@ impl<'a> StandaloneItem<'a> {
         ensures { IfOk result (λ s. string_bytes s ≡ text (laid_out policy (standalone_tree self.now))) }
     {
         let mut out = TextBuffer::new(alloc);
-        print_standalone(&mut out, self, Layout::of(policy))?;
+        print_standalone(&mut out, self, &Layout::of(policy))?;
         Ok(out.into_string())
     }
 
@@ -160,6 +160,6 @@ impl<'a> Sequence<'a> {
     ) -> Result<(), AllocError>
         ensures { OnOk result (buffer_bytes out.new ≡ buffer_bytes out.old ++ text (laid_out policy (sequence_tree self.now))) }
     {
-        print_sequence(out, self, Layout::of(policy))
+        print_sequence(out, self, &Layout::of(policy))
     }
 }

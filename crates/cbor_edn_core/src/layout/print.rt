@@ -31,11 +31,11 @@ use std::alloc::AllocError;
 pub(crate) fn print_sequence(
     out: &mut TextBuffer,
     sequence: &Sequence<'_>,
-    layout: Layout,
+    layout: &Layout,
 ) -> Result<(), AllocError>
-    ensures { OnOk result (buffer_bytes out.new ≡ buffer_bytes out.old ++ text (laid layout (sequence_tree sequence.now))) }
+    ensures { OnOk result (buffer_bytes out.new ≡ buffer_bytes out.old ++ text (laid layout.now (sequence_tree sequence.now))) }
 {
-    print_space(out, &sequence.before, layout, Slot::Elsewhere)?;
+    print_space(out, &sequence.before, *layout, Slot::Elsewhere)?;
     match &sequence.items {
         None => Ok(()),
         Some(items) => print_items(out, items, layout),
@@ -47,13 +47,13 @@ pub(crate) fn print_sequence(
 pub(crate) fn print_standalone(
     out: &mut TextBuffer,
     item: &StandaloneItem<'_>,
-    layout: Layout,
+    layout: &Layout,
 ) -> Result<(), AllocError>
-    ensures { OnOk result (buffer_bytes out.new ≡ buffer_bytes out.old ++ text (laid layout (standalone_tree item.now))) }
+    ensures { OnOk result (buffer_bytes out.new ≡ buffer_bytes out.old ++ text (laid layout.now (standalone_tree item.now))) }
 {
-    print_space(out, &item.before, layout, Slot::Elsewhere)?;
+    print_space(out, &item.before, *layout, Slot::Elsewhere)?;
     print_item(out, &item.item, layout)?;
-    print_space(out, &item.after, layout, Slot::Elsewhere)
+    print_space(out, &item.after, *layout, Slot::Elsewhere)
 }
 
 /// Writes a number with its indicator.
@@ -86,8 +86,8 @@ fn print_literal(
 
 #[cycle(print)]
 #[tactic(auto, using(crate::proofs::lemmas::tree::Views::view_string_is, crate::proofs::lemmas::tree::Views::view_stream_is, cbor_edn_model::proofs::lemmas::layout::LaidTexts::text_laid_number, cbor_edn_model::proofs::lemmas::layout::LaidTexts::text_laid_float, cbor_edn_model::proofs::lemmas::layout::LaidTexts::text_laid_named, cbor_edn_model::proofs::lemmas::text::Texts::text_float, cbor_edn_model::proofs::lemmas::text::Texts::text_named, cbor_edn_model::proofs::lemmas::layout::LaidTexts::text_laid_enclosed, cbor_edn_model::proofs::lemmas::layout::LaidTexts::text_laid_list, cbor_edn_model::proofs::lemmas::layout::LaidTexts::text_laid_string, crate::proofs::lemmas::layout::LaidStrings::text_laid_piece, cbor_edn_model::proofs::lemmas::text::Texts::text_string, cbor_edn_model::proofs::lemmas::text::Texts::text_last_piece, cbor_edn_model::proofs::lemmas::layout::LaidTexts::text_laid_stream, std::proofs::Common::append_assoc))]
-pub fn print_item(out: &mut TextBuffer, item: &Item<'_>, layout: Layout) -> Result<(), AllocError>
-    ensures { OnOk result (buffer_bytes out.new ≡ buffer_bytes out.old ++ text (laid layout (item_tree item.now))) }
+pub fn print_item(out: &mut TextBuffer, item: &Item<'_>, layout: &Layout) -> Result<(), AllocError>
+    ensures { OnOk result (buffer_bytes out.new ≡ buffer_bytes out.old ++ text (laid layout.now (item_tree item.now))) }
 {
     match &item.inner {
         InnerItem::Number(indicator, number) => print_number(out, number, *indicator),
@@ -97,32 +97,32 @@ pub fn print_item(out: &mut TextBuffer, item: &Item<'_>, layout: Layout) -> Resu
         }
         InnerItem::Named(name) => out.push_str(name.as_str()),
         InnerItem::Enclosed(label, content) => {
-            let parts = layout_of_parts(layout, item);
+            let parts = layout_of_parts(*layout, item);
             print_label(out, label.kind)?;
             out.push_str("(")?;
-            print_standalone(out, content, parts)?;
+            print_standalone(out, content, &parts)?;
             out.push_str(")")
         }
         InnerItem::Array(list) => {
-            let parts = layout_of_parts(layout, item);
+            let parts = layout_of_parts(*layout, item);
             out.push_str("[")?;
-            print_list(out, list, parts)?;
+            print_list(out, list, &parts)?;
             out.push_str("]")
         }
         InnerItem::Map(list) => {
-            let parts = layout_of_parts(layout, item);
+            let parts = layout_of_parts(*layout, item);
             out.push_str("{")?;
-            print_pair_list(out, list, parts)?;
+            print_pair_list(out, list, &parts)?;
             out.push_str("}")
         }
         InnerItem::Literal(indicator, literal) => print_literal(out, literal, *indicator),
         InnerItem::String(string) => {
-            let parts = layout_of_parts(layout, item);
-            print_string(out, string, parts)
+            let parts = layout_of_parts(*layout, item);
+            print_string(out, string, &parts)
         }
         InnerItem::Stream(stream) => {
-            let parts = layout_of_parts(layout, item);
-            print_stream(out, stream, parts)
+            let parts = layout_of_parts(*layout, item);
+            print_stream(out, stream, &parts)
         }
     }
 }
@@ -132,9 +132,9 @@ pub fn print_item(out: &mut TextBuffer, item: &Item<'_>, layout: Layout) -> Resu
 fn print_string(
     out: &mut TextBuffer,
     string: &CborString<'_>,
-    layout: Layout,
+    layout: &Layout,
 ) -> Result<(), AllocError>
-    ensures { OnOk result (buffer_bytes out.new ≡ buffer_bytes out.old ++ text (laid layout (view_string texts string.now))) }
+    ensures { OnOk result (buffer_bytes out.new ≡ buffer_bytes out.old ++ text (laid layout.now (view_string texts string.now))) }
 {
     print_piece_row(out, &string.row, layout)?;
     print_piece(out, &string.last)
@@ -144,15 +144,15 @@ fn print_string(
 fn print_piece_row(
     out: &mut TextBuffer,
     row: &[(Piece<'_>, S<'_>, S<'_>)],
-    layout: Layout,
+    layout: &Layout,
 ) -> Result<(), AllocError>
-    ensures { OnOk result (buffer_bytes out.new ≡ buffer_bytes out.old ++ pieces_text (map (laid_piece layout) (map (seen_piece texts) row.now))) }
+    ensures { OnOk result (buffer_bytes out.new ≡ buffer_bytes out.old ++ pieces_text (map (laid_piece layout.now) (map (seen_piece texts) row.now))) }
 {
     for (piece, before, after) in row {
         print_piece(out, piece)?;
-        print_space(out, before, layout, Slot::BeforePlus)?;
+        print_space(out, before, *layout, Slot::BeforePlus)?;
         out.push_str("+")?;
-        print_space(out, after, layout, Slot::AfterPlus)?;
+        print_space(out, after, *layout, Slot::AfterPlus)?;
     }
     Ok(())
 }
@@ -168,7 +168,7 @@ fn print_piece(out: &mut TextBuffer, piece: &Piece<'_>) -> Result<(), AllocError
         Piece::Dots(dots) => out.push_str(dots.as_str()),
         Piece::Embedded(indicator, sequence) => {
             out.push_str("<<")?;
-            print_sequence(out, sequence, Layout::Kept)?;
+            print_sequence(out, sequence, &Layout::Kept)?;
             out.push_str(">>")?;
             print_indicator(out, *indicator)
         }
@@ -177,11 +177,15 @@ fn print_piece(out: &mut TextBuffer, piece: &Piece<'_>) -> Result<(), AllocError
 
 #[cycle(print)]
 #[tactic(auto, using(crate::proofs::lemmas::tree::Views::view_stream_is, cbor_edn_model::proofs::lemmas::text::Texts::text_stream, std::proofs::Common::append_assoc))]
-fn print_stream(out: &mut TextBuffer, stream: &Stream<'_>, layout: Layout) -> Result<(), AllocError>
-    ensures { OnOk result (buffer_bytes out.new ≡ buffer_bytes out.old ++ text (laid_stream layout (view_stream texts stream.now))) }
+fn print_stream(
+    out: &mut TextBuffer,
+    stream: &Stream<'_>,
+    layout: &Layout,
+) -> Result<(), AllocError>
+    ensures { OnOk result (buffer_bytes out.new ≡ buffer_bytes out.old ++ text (laid_stream layout.now (view_stream texts stream.now))) }
 {
     out.push_str("(_")?;
-    print_mandatory(out, &stream.ms, layout, Slot::First)?;
+    print_mandatory(out, &stream.ms, *layout, Slot::First)?;
     print_strings(out, &stream.strings, layout)?;
     out.push_str(")")
 }
@@ -191,13 +195,13 @@ fn print_stream(out: &mut TextBuffer, stream: &Stream<'_>, layout: Layout) -> Re
 fn print_strings(
     out: &mut TextBuffer,
     strings: &Strings<'_>,
-    layout: Layout,
+    layout: &Layout,
 ) -> Result<(), AllocError>
-    ensures { OnOk result (buffer_bytes out.new ≡ buffer_bytes out.old ++ text (laid layout (view_strings texts strings.now))) }
+    ensures { OnOk result (buffer_bytes out.new ≡ buffer_bytes out.old ++ text (laid layout.now (view_strings texts strings.now))) }
 {
     print_string_row(out, &strings.row, layout)?;
-    print_string(out, &strings.last, layout.in_chunk())?;
-    print_end(out, &strings.soc, layout)
+    print_string(out, &strings.last, &layout.in_chunk())?;
+    print_end(out, &strings.soc, *layout)
 }
 
 #[cycle(print)]
@@ -205,13 +209,13 @@ fn print_strings(
 fn print_string_row(
     out: &mut TextBuffer,
     row: &[(CborString<'_>, Msc<'_>)],
-    layout: Layout,
+    layout: &Layout,
 ) -> Result<(), AllocError>
-    ensures { OnOk result (buffer_bytes out.new ≡ buffer_bytes out.old ++ entries_text (map (laid_entry layout) (map (seen_string texts) row.now))) }
+    ensures { OnOk result (buffer_bytes out.new ≡ buffer_bytes out.old ++ entries_text (map (laid_entry layout.now) (map (seen_string texts) row.now))) }
 {
     for (string, separator) in row {
-        print_string(out, string, layout.in_chunk())?;
-        print_separator(out, separator, layout)?;
+        print_string(out, string, &layout.in_chunk())?;
+        print_separator(out, separator, *layout)?;
     }
     Ok(())
 }
@@ -220,8 +224,8 @@ fn print_string_row(
 #[inline(always)]
 #[cycle(print)]
 #[tactic(auto, using(crate::proofs::lemmas::tree::Views::view_string_is, cbor_edn_model::proofs::lemmas::layout::LaidTexts::text_laid_number, cbor_edn_model::proofs::lemmas::layout::LaidTexts::text_laid_string, crate::proofs::lemmas::layout::LaidStrings::text_laid_piece, cbor_edn_model::proofs::lemmas::text::Texts::text_string, cbor_edn_model::proofs::lemmas::text::Texts::text_last_piece))]
-fn print_at_once(out: &mut TextBuffer, item: &Item<'_>, layout: Layout) -> Result<(), AllocError>
-    ensures { OnOk result (buffer_bytes out.new ≡ buffer_bytes out.old ++ text (laid layout (item_tree item.now))) }
+fn print_at_once(out: &mut TextBuffer, item: &Item<'_>, layout: &Layout) -> Result<(), AllocError>
+    ensures { OnOk result (buffer_bytes out.new ≡ buffer_bytes out.old ++ text (laid layout.now (item_tree item.now))) }
 {
     match &item.inner {
         InnerItem::Number(indicator, number) => print_number(out, number, *indicator),
@@ -232,30 +236,30 @@ fn print_at_once(out: &mut TextBuffer, item: &Item<'_>, layout: Layout) -> Resul
 
 #[cycle(print)]
 #[tactic(auto, using(cbor_edn_model::proofs::lemmas::layout::LaidTexts::text_laid_empty, cbor_edn_model::proofs::lemmas::layout::LaidTexts::text_laid_full, std::proofs::Common::append_assoc))]
-fn print_list(out: &mut TextBuffer, list: &ItemList<'_>, layout: Layout) -> Result<(), AllocError>
-    ensures { OnOk result (buffer_bytes out.new ≡ buffer_bytes out.old ++ text (laid layout (view_list texts list.now))) }
+fn print_list(out: &mut TextBuffer, list: &ItemList<'_>, layout: &Layout) -> Result<(), AllocError>
+    ensures { OnOk result (buffer_bytes out.new ≡ buffer_bytes out.old ++ text (laid layout.now (view_list texts list.now))) }
 {
     match list {
         ItemList::Present { head, s, items } => {
-            print_laid_head(out, head, layout)?;
-            print_space(out, s, layout, Slot::First)?;
+            print_laid_head(out, head, *layout)?;
+            print_space(out, s, *layout, Slot::First)?;
             print_items(out, items, layout)
         }
         ItemList::Absent { indicator, s } => {
             print_indicator(out, *indicator)?;
-            print_space(out, s, layout, Slot::Elsewhere)
+            print_space(out, s, *layout, Slot::Elsewhere)
         }
     }
 }
 
 #[cycle(print)]
 #[tactic(auto, using(crate::proofs::lemmas::tree::Views::view_items_is, cbor_edn_model::proofs::lemmas::layout::LaidTexts::text_laid_rest, cbor_edn_model::proofs::lemmas::layout::LaidTexts::text_laid_element, std::proofs::Common::append_assoc))]
-fn print_items(out: &mut TextBuffer, items: &Items<'_>, layout: Layout) -> Result<(), AllocError>
-    ensures { OnOk result (buffer_bytes out.new ≡ buffer_bytes out.old ++ text (laid layout (view_items texts items.now))) }
+fn print_items(out: &mut TextBuffer, items: &Items<'_>, layout: &Layout) -> Result<(), AllocError>
+    ensures { OnOk result (buffer_bytes out.new ≡ buffer_bytes out.old ++ text (laid layout.now (view_items texts items.now))) }
 {
     print_row(out, &items.row, layout)?;
     print_item(out, &items.last, layout)?;
-    print_end(out, &items.soc, layout)
+    print_end(out, &items.soc, *layout)
 }
 
 #[cycle(print)]
@@ -263,13 +267,13 @@ fn print_items(out: &mut TextBuffer, items: &Items<'_>, layout: Layout) -> Resul
 fn print_row(
     out: &mut TextBuffer,
     row: &[(Item<'_>, Msc<'_>)],
-    layout: Layout,
+    layout: &Layout,
 ) -> Result<(), AllocError>
-    ensures { OnOk result (buffer_bytes out.new ≡ buffer_bytes out.old ++ entries_text (map (laid_entry layout) (map (seen texts) row.now))) }
+    ensures { OnOk result (buffer_bytes out.new ≡ buffer_bytes out.old ++ entries_text (map (laid_entry layout.now) (map (seen texts) row.now))) }
 {
     for (item, separator) in row {
         print_at_once(out, item, layout)?;
-        print_separator(out, separator, layout)?;
+        print_separator(out, separator, *layout)?;
     }
     Ok(())
 }
@@ -279,56 +283,56 @@ fn print_row(
 fn print_pair_list(
     out: &mut TextBuffer,
     list: &PairList<'_>,
-    layout: Layout,
+    layout: &Layout,
 ) -> Result<(), AllocError>
-    ensures { OnOk result (buffer_bytes out.new ≡ buffer_bytes out.old ++ text (laid layout (view_pair_list texts list.now))) }
+    ensures { OnOk result (buffer_bytes out.new ≡ buffer_bytes out.old ++ text (laid layout.now (view_pair_list texts list.now))) }
 {
     match list {
         PairList::Present { head, s, pairs } => {
-            print_laid_head(out, head, layout)?;
-            print_space(out, s, layout, Slot::First)?;
+            print_laid_head(out, head, *layout)?;
+            print_space(out, s, *layout, Slot::First)?;
             print_pairs(out, pairs, layout)
         }
         PairList::Absent { indicator, s } => {
             print_indicator(out, *indicator)?;
-            print_space(out, s, layout, Slot::Elsewhere)
+            print_space(out, s, *layout, Slot::Elsewhere)
         }
     }
 }
 
 #[cycle(print)]
 #[tactic(auto, using(crate::proofs::lemmas::tree::Views::view_pairs_is, cbor_edn_model::proofs::lemmas::layout::LaidTexts::text_laid_rest, std::proofs::Common::append_assoc))]
-fn print_pairs(out: &mut TextBuffer, pairs: &Pairs<'_>, layout: Layout) -> Result<(), AllocError>
-    ensures { OnOk result (buffer_bytes out.new ≡ buffer_bytes out.old ++ text (laid layout (view_pairs texts pairs.now))) }
+fn print_pairs(out: &mut TextBuffer, pairs: &Pairs<'_>, layout: &Layout) -> Result<(), AllocError>
+    ensures { OnOk result (buffer_bytes out.new ≡ buffer_bytes out.old ++ text (laid layout.now (view_pairs texts pairs.now))) }
 {
     print_pair_row(out, &pairs.row, layout)?;
     print_pair(out, &pairs.last, layout)?;
-    print_end(out, &pairs.soc, layout)
+    print_end(out, &pairs.soc, *layout)
 }
 
 #[cycle(print)]
 fn print_pair_row(
     out: &mut TextBuffer,
     row: &[(Kp<'_>, Msc<'_>)],
-    layout: Layout,
+    layout: &Layout,
 ) -> Result<(), AllocError>
-    ensures { OnOk result (buffer_bytes out.new ≡ buffer_bytes out.old ++ entries_text (map (laid_entry layout) (map (seen_pair texts) row.now))) }
+    ensures { OnOk result (buffer_bytes out.new ≡ buffer_bytes out.old ++ entries_text (map (laid_entry layout.now) (map (seen_pair texts) row.now))) }
 {
     for (pair, separator) in row {
         print_pair(out, pair, layout)?;
-        print_separator(out, separator, layout)?;
+        print_separator(out, separator, *layout)?;
     }
     Ok(())
 }
 
 #[cycle(print)]
 #[tactic(auto, using(cbor_edn_model::proofs::lemmas::layout::LaidTexts::text_laid_pair, std::proofs::Common::append_assoc))]
-fn print_pair(out: &mut TextBuffer, pair: &Kp<'_>, layout: Layout) -> Result<(), AllocError>
-    ensures { OnOk result (buffer_bytes out.new ≡ buffer_bytes out.old ++ text (laid layout (view_pair texts pair.now))) }
+fn print_pair(out: &mut TextBuffer, pair: &Kp<'_>, layout: &Layout) -> Result<(), AllocError>
+    ensures { OnOk result (buffer_bytes out.new ≡ buffer_bytes out.old ++ text (laid layout.now (view_pair texts pair.now))) }
 {
     print_at_once(out, &pair.key, layout)?;
-    print_space(out, &pair.before_colon, layout, Slot::Elsewhere)?;
+    print_space(out, &pair.before_colon, *layout, Slot::Elsewhere)?;
     out.push_str(":")?;
-    print_space(out, &pair.after_colon, layout, Slot::AfterColon)?;
+    print_space(out, &pair.after_colon, *layout, Slot::AfterColon)?;
     print_at_once(out, &pair.value, layout)
 }

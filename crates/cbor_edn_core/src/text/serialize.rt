@@ -20,7 +20,7 @@ impl Item<'_> {
         ensures spells { IfOk result (λ s. Spells (items (item_tree self.now)) (string_bytes s)) }
     {
         let mut out = TextBuffer::new(alloc);
-        print_item(&mut out, self, Layout::Kept)?;
+        print_item(&mut out, self, &Layout::Kept)?;
         Ok(out.into_string())
     }
 }
@@ -33,7 +33,7 @@ impl StandaloneItem<'_> {
         ensures spells { IfOk result (λ s. SpellsOne (items (standalone_tree self.now)) (string_bytes s)) }
     {
         let mut out = TextBuffer::new(alloc);
-        print_standalone(&mut out, self, Layout::Kept)?;
+        print_standalone(&mut out, self, &Layout::Kept)?;
         Ok(out.into_string())
     }
 }
@@ -55,6 +55,6 @@ impl Sequence<'_> {
     pub fn print(&self, out: &mut TextBuffer) -> Result<(), AllocError>
         ensures { OnOk result (buffer_bytes out.new ≡ buffer_bytes out.old ++ text (sequence_tree self.now)) }
     {
-        print_sequence(out, self, Layout::Kept)
+        print_sequence(out, self, &Layout::Kept)
     }
 }

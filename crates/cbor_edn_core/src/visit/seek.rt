@@ -12,9 +12,9 @@ ghost use Rattle.cbor_edn_core.specs.tree.View.{item_tree, view_item};
 ghost use Rattle.cbor_edn_core.specs.visit.Callbacks.{answer_of};
 ghost use Rattle.cbor_edn_core.specs.visit.Sought.{IsTagCall, IsLiteralCall, IsItemCall, LeavesNoneDeeper, MayVisitTags, MayVisitLiterals, MayVisitItems, sought_answer};
 
-use super::depth::item_depth;
 use super::put_answer;
 use crate::access::application::may_have_prefix;
+use crate::tree::nesting::item_depth;
 use crate::tree::{Item, ItemOf};
 use cbor_edn_parts::error::{CallbackError, Fault};
 use cbor_edn_parts::number::Number;

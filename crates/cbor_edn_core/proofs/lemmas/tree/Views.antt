@@ -1,11 +1,9 @@
 -- What a view is, read through the fields of a declared value, and at a value that is made of fields.
-use Rattle.std.proofs.Common.{◌≡◌, ℕ, List, [], ◌∷◌, ◌++◌, map, refl, sym, ap, ◌∙◌}
+use Rattle.std.proofs.Common.{◌≡◌, ℕ, List, refl, sym, ap, ◌∙◌}
 use Rattle.std.specs.Global.{Box}
 use Rattle.cbor_edn_core.specs.declared.tree.InnerItemOf.{InnerItemOf}
 use Rattle.cbor_edn_core.specs.declared.tree.InnerItemOf.TheVariants as inner
 use Rattle.cbor_edn_core.specs.declared.tree.InnerItemOf.TheBlock.{hidden-the_row-CborStringOf-row-3-0}
-use Rattle.cbor_edn_core.specs.declared.tree.ItemOf.{ItemOf}
-use Rattle.cbor_edn_core.specs.declared.tree.KpOf.{KpOf}
 use Rattle.cbor_edn_model.specs.tree.TreeLeaves.{Ghosts}
 use Rattle.cbor_edn_core.specs.declared.tree.ItemsOf.{ItemsOf, ItemsOf', outs-ItemsOf', out-ItemsOf, roll-ItemsOf, out-roll-ItemsOf, Row_of-ItemsOf-row-2, end_of-ItemsOf-row-2, more_of-ItemsOf-row-2, items-the_row-ItemsOf-row-2, items_shown-the_row-ItemsOf-row-2-1}
 use Rattle.cbor_edn_core.specs.declared.tree.PairsOf.{PairsOf, PairsOf', outs-PairsOf', out-PairsOf, roll-PairsOf, out-roll-PairsOf, Row_of-PairsOf-row-2, end_of-PairsOf-row-2, more_of-PairsOf-row-2, items-the_row-PairsOf-row-2, items_shown-the_row-PairsOf-row-2-2}
@@ -16,19 +14,8 @@ use Rattle.cbor_edn_core.specs.declared.tree.StringsOf.{StringsOf, StringsOf', o
 use Rattle.cbor_edn_core.specs.declared.tree.SequenceOf.{SequenceOf, SequenceOf', outs-SequenceOf', out-SequenceOf, roll-SequenceOf, out-roll-SequenceOf, Held-SequenceOf-items, view-SequenceOf-items}
 use Rattle.cbor_edn_core.specs.declared.tree.SequenceOf as sequence
 use Rattle.cbor_edn_model.specs.tree.Items as kind
-use Rattle.cbor_edn_model.specs.tree.Items.{Row}
-use Rattle.cbor_edn_model.specs.tree.Trees.{Tree, OnePiece, OneString, OneEntry, Rest, StringTree, StreamTree, LastPieceTree, PlusTree, ElementTree, PairTree, ChunkTree, LastTree, MoreTree}
-use Rattle.cbor_edn_core.specs.tree.View.{seen, seen_pair, seen_piece, seen_string, view_item, view_inner, view_items, view_row, row_onto, view_pair, view_pairs, view_pair_row, pair_row_onto, view_piece, view_pieces, piece_row_onto, view_string, view_strings, view_string_row, string_row_onto, view_stream, view_sequence, view_held, view_some}
-use Rattle.cbor_edn_model.specs.tree.Rows.{entries_onto, pieces_onto}
-
--- a row that grows at its end
-entries_onto-append : {A : Type 0} {k : Row} (f : A → Tree (OneEntry k) × List ℕ) (ps qs : List A) (m : Tree (Rest k)) → entries_onto (map f (ps ++ qs)) m ≡ entries_onto (map f ps) (entries_onto (map f qs) m)
-entries_onto-append f [] qs m = refl
-entries_onto-append f (p ∷ ps) qs m = ap (λ r. MoreTree (f p).0 (f p).1 r) (entries_onto-append f ps qs m)
-
-pieces_onto-append : {A : Type 0} (f : A → Tree OnePiece × List ℕ × List ℕ) (ps qs : List A) (w : Tree OneString) → pieces_onto (map f (ps ++ qs)) w ≡ pieces_onto (map f ps) (pieces_onto (map f qs) w)
-pieces_onto-append f [] qs w = refl
-pieces_onto-append f (p ∷ ps) qs w = ap (λ r. PlusTree (f p).0 (f p).1 (f p).2 r) (pieces_onto-append f ps qs w)
+use Rattle.cbor_edn_model.specs.tree.Trees.{Tree, OneString, Rest, StringTree, StreamTree, LastPieceTree, PlusTree, ElementTree, PairTree, ChunkTree, LastTree, MoreTree}
+use Rattle.cbor_edn_core.specs.tree.View.{view_item, view_inner, view_items, view_row, row_onto, view_pair, view_pairs, view_pair_row, pair_row_onto, view_piece, view_pieces, piece_row_onto, view_string, view_strings, view_string_row, string_row_onto, view_stream, view_sequence, view_held, view_some}
 
 module _ {S P M O N T D : Type 0} (leaves : Ghosts S P M O N T D) where
   row_is : {n : _} (row : Row_of-ItemsOf-row-2 S P M O N T D n) (m : Tree (Rest kind.Elements)) → view_row leaves row m ≡ row_onto leaves (items-the_row-ItemsOf-row-2 S P M O N T D n row) m
@@ -44,9 +31,6 @@ module _ {S P M O N T D : Type 0} (leaves : Ghosts S P M O N T D) where
   pub view_items_made : (f : _) → view_items leaves (roll-ItemsOf S P M O N T D f) ≡ row_onto leaves f.row.items (LastTree (ElementTree (view_item leaves f.last)) (leaves.end f.soc))
   view_items_made f = view_items_is (roll-ItemsOf S P M O N T D f) ∙ ap (λ f. row_onto leaves f.row.items (LastTree (ElementTree (view_item leaves f.last)) (leaves.end f.soc))) (out-roll-ItemsOf S P M O N T D f)
 
-  pub row_onto-append : (ps qs : List (ItemOf S P M O N T D × M)) (m : Tree (Rest kind.Elements)) → row_onto leaves (ps ++ qs) m ≡ row_onto leaves ps (row_onto leaves qs m)
-  row_onto-append ps qs m = entries_onto-append (seen leaves) ps qs m
-
   pair_row_is : {n : _} (row : Row_of-PairsOf-row-2 S P M O N T D n) (m : Tree (Rest kind.Pairs)) → view_pair_row leaves row m ≡ pair_row_onto leaves (items-the_row-PairsOf-row-2 S P M O N T D n row) m
   pair_row_is end_of-PairsOf-row-2 m = refl
   pair_row_is (more_of-PairsOf-row-2 key before after value separator row) m = ap (λ r. MoreTree (PairTree (view_inner leaves key) (leaves.space before) (leaves.space after) (view_inner leaves value)) (leaves.separator separator) r) (pair_row_is row m)
@@ -59,9 +43,6 @@ module _ {S P M O N T D : Type 0} (leaves : Ghosts S P M O N T D) where
 
   pub view_pairs_made : (f : _) → view_pairs leaves (roll-PairsOf S P M O N T D f) ≡ pair_row_onto leaves f.row.items (LastTree (view_pair leaves f.last) (leaves.end f.soc))
   view_pairs_made f = view_pairs_is (roll-PairsOf S P M O N T D f) ∙ ap (λ f. pair_row_onto leaves f.row.items (LastTree (view_pair leaves f.last) (leaves.end f.soc))) (out-roll-PairsOf S P M O N T D f)
-
-  pub pair_row_onto-append : (ps qs : List (KpOf S P M O N T D × M)) (m : Tree (Rest kind.Pairs)) → pair_row_onto leaves (ps ++ qs) m ≡ pair_row_onto leaves ps (pair_row_onto leaves qs m)
-  pair_row_onto-append ps qs m = entries_onto-append (seen_pair leaves) ps qs m
 
   row_pieces : {n : _} (row : Row_of-CborStringOf-row-3 S P M O N T D n) (w : Tree OneString) → view_pieces leaves row w ≡ piece_row_onto leaves (items-the_row-CborStringOf-row-3 S P M O N T D n row) w
   row_pieces end_of-CborStringOf-row-3 w = refl
@@ -78,9 +59,6 @@ module _ {S P M O N T D : Type 0} (leaves : Ghosts S P M O N T D) where
   pub view_string_at : (x : InnerItemOf S P M O N T D) (b : Box (CborStringOf S P M O N T D)) (s : CborStringOf S P M O N T D) → x ≡ inner.String b → s ≡ b.value → view_inner leaves x ≡ StringTree (view_string leaves s)
   view_string_at x b s is read = ap (view_inner leaves) is ∙ view_string_is b ∙ ap (λ s. StringTree (view_string leaves s)) (sym read)
 
-  pub piece_row_onto-append : (ps qs : List (PieceOf S P M O N T D × S × S)) (w : Tree OneString) → piece_row_onto leaves (ps ++ qs) w ≡ piece_row_onto leaves ps (piece_row_onto leaves qs w)
-  piece_row_onto-append ps qs w = pieces_onto-append (seen_piece leaves) ps qs w
-
   string_row_is : {n : _} (row : Row_of-StringsOf-row-2 S P M O N T D n) (m : Tree (Rest kind.Strings)) → view_string_row leaves row m ≡ string_row_onto leaves (items-the_row-StringsOf-row-2 S P M O N T D n row) m
   string_row_is end_of-StringsOf-row-2 m = refl
   string_row_is (more_of-StringsOf-row-2 n pieces last separator row) m =
@@ -94,9 +72,6 @@ module _ {S P M O N T D : Type 0} (leaves : Ghosts S P M O N T D) where
 
   pub view_strings_made : (f : _) → view_strings leaves (roll-StringsOf S P M O N T D f) ≡ string_row_onto leaves f.row.items (LastTree (ChunkTree (view_string leaves f.last)) (leaves.end f.soc))
   view_strings_made f = view_strings_is (roll-StringsOf S P M O N T D f) ∙ ap (λ f. string_row_onto leaves f.row.items (LastTree (ChunkTree (view_string leaves f.last)) (leaves.end f.soc))) (out-roll-StringsOf S P M O N T D f)
-
-  pub string_row_onto-append : (ps qs : List (CborStringOf S P M O N T D × M)) (m : Tree (Rest kind.Strings)) → string_row_onto leaves (ps ++ qs) m ≡ string_row_onto leaves ps (string_row_onto leaves qs m)
-  string_row_onto-append ps qs m = entries_onto-append (seen_string leaves) ps qs m
 
   pub view_stream_is : (x : StreamOf S P M O N T D) → view_stream leaves x ≡ StreamTree (leaves.mandatory (out-StreamOf S P M O N T D x).ms) (view_strings leaves (out-StreamOf S P M O N T D x).strings)
   view_stream_is (StreamOf' ms strings) = ap (λ f. StreamTree (leaves.mandatory f.ms) (view_strings leaves f.strings)) (sym (outs-StreamOf' ms strings))
