@@ -16,6 +16,7 @@ pub mod InstantNumbers
 pub mod StepAnswers
 pub mod TimeCalls
 pub mod AddressCalls
+pub mod EmbeddedCalls
 pub mod Encodings
 pub mod FirstItems
 pub mod AfterLoans

@@ -25,6 +25,11 @@ chain_all Step Keeps P each no_calls keeps = All-nil P
 chain_all Step Keeps P each (one_call {f = f} {g = g} {c = c} {cs = cs} s rest) keeps =
     let h = each f g c keeps s in All-cons P c cs h.0 (chain_all Step Keeps P each rest h.1)
 
+-- what the closure holds behind a chain of calls that keep it
+pub chain_keeps : {F C : Type 0} (Step : F → C → F → Type 0) (Keeps : F → Type 0) → ((f g : F) (c : C) → Keeps f → Step f c g → Keeps g) → {f g : F} {cs : List C} → Chain Step f cs g → Keeps f → Keeps g
+chain_keeps Step Keeps each no_calls keeps = keeps
+chain_keeps Step Keeps each (one_call {f = f} {g = g} {c = c} s rest) keeps = chain_keeps Step Keeps each rest (each f g c keeps s)
+
 pub all_split : {X : Type 0} (P : X → Type 0) (xs ys : List X) → All P (xs ++ ys) → All P xs × All P ys
 all_split P [] ys all = (All-nil P, all)
 all_split P (x ∷ xs) ys all = let rest = all_split P xs ys (All-tail P x (xs ++ ys) all) in (All-cons P x xs (All-head P x (xs ++ ys) all) rest.0, rest.1)

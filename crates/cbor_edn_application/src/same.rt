@@ -40,7 +40,7 @@ pub(crate) fn encoding(alloc: Global, item: &Item<'_>) -> Result<Option<Vec<u8>>
 }
 
 /// Nothing: the clause is what the type says, as the law of encodings asks for it.
-fn are_bytes(bytes: &[u8])
+pub(crate) fn are_bytes(bytes: &[u8])
     ensures { AreBytes bytes.now }
 {
     let _ = bytes;

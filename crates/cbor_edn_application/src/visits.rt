@@ -1,5 +1,5 @@
 //! Whole visits with the functions of the crate.
-ghost use Rattle.std.specs.Prelude.{◌≡◌, ℕ, List, false, None, OnOk};
+ghost use Rattle.std.specs.Prelude.{◌≡◌, ◌-◌, ℕ, List, false, None, OnOk};
 ghost use Rattle.std.specs.String.{string_bytes};
 ghost use Rattle.cbor_edn_parts.specs.Refusals.{IfTold};
 ghost use Rattle.cbor_edn_core.specs.declared.access.TypeMismatch.TheVariants.{Map};
@@ -8,6 +8,7 @@ ghost use Rattle.cbor_edn_core.specs.visit.Sought.{sought_answer};
 ghost use Rattle.cbor_edn_core.specs.tree.View.{item_tree, sequence_tree};
 ghost use Rattle.cbor_edn_model.specs.access.Accessed.{map_items};
 ghost use Rattle.cbor_edn_model.specs.visit.Seeking.{CallArguments, IsTag, IsApplication, number as tag_arguments, prefix_and_text};
+ghost use Rattle.cbor_edn_model.specs.tree.Items.{nesting};
 ghost use Rattle.cbor_edn_model.specs.visit.Visits.{fine};
 ghost use Rattle.cbor_edn_model.specs.tree.Trees.{Tree, OneItem, items};
 ghost use Rattle.cbor_edn_conversions.specs.Addresses.{resolve_address, pretty_address};
@@ -15,6 +16,7 @@ ghost use Rattle.cbor_edn_conversions.specs.All.{resolve_all, pretty_all};
 ghost use Rattle.cbor_edn_conversions.specs.Annotations.{commenting, comment_lang};
 ghost use Rattle.cbor_edn_conversions.specs.Bignums.{pretty_bignum};
 ghost use Rattle.cbor_edn_conversions.specs.Claims.{claim_key, with_claims};
+ghost use Rattle.cbor_edn_conversions.specs.EmbeddedItems.{show_embedded};
 ghost use Rattle.cbor_edn_conversions.specs.Tag999.{to_tag999};
 ghost use Rattle.cbor_edn_conversions.specs.Times.{resolve_time, pretty_time};
 ghost use Rattle.cbor_edn_application.specs.Acts.{ActsBy, IsVisited};
@@ -26,6 +28,7 @@ use crate::all::{all_aol_to_item, all_tag_prettify};
 use crate::bignum::tag23_to_edn_integer;
 use crate::claims::comment_ccs;
 pub use crate::claims_sets::annotate_claims_sets;
+use crate::embedded::{room_beside, show_inside};
 use crate::language::comment_lang_tag;
 use crate::tag999::{any_aol_to_tag999, is_built_in};
 use crate::time::{dt_aol_to_item, dt_tag_to_aol, is_time};
@@ -195,6 +198,22 @@ pub fn to_999(alloc: Global, sequence: &mut Sequence<'_>) -> Result<(), AllocErr
     ensures { IsVisited IsApplication to_tag999 (sequence_tree sequence.old) (ending result) (sequence_tree sequence.new) }
 {
     visit_literals(alloc, sequence, LiteralAct::To999)
+}
+
+/// Shows byte strings that hold CBOR as embedded sequences, as [`crate::show_embedded`] does: each literal with a prefix whose bytes encode
+/// exactly one array, map or tag, and the literals in what is shown, to `levels` levels. What nested within `limit` does so then: a literal
+/// is shown where its `<<..>>` nests no deeper than what the deepest item leaves of the limit. Fails where memory runs out; the literals up
+/// to there are shown then.
+pub fn show_embedded(
+    alloc: Global,
+    levels: usize,
+    limit: usize,
+    sequence: &mut Sequence<'_>,
+) -> Result<(), AllocError>
+    ensures { IsVisited IsApplication (show_embedded levels (limit - nesting (items (sequence_tree sequence.old)))) (sequence_tree sequence.old) (ending result) (sequence_tree sequence.new) }
+{
+    let room = room_beside(limit, sequence.nesting());
+    show_inside(alloc, levels, room, sequence)
 }
 
 /// Puts a comment behind each tag: of `1(2)` and `c` it makes `1(2)/ c /`. Fails where memory runs out; the tags before that one have the

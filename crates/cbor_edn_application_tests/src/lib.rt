@@ -6,6 +6,8 @@ mod alone;
 #[cfg(test)]
 mod claims;
 #[cfg(test)]
+mod embedded;
+#[cfg(test)]
 mod standalone;
 #[cfg(test)]
 mod visited;

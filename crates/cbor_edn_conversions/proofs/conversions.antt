@@ -5,10 +5,13 @@ pub mod AnswersGiven
 pub mod Calls
 pub mod ClaimsKept
 pub mod ConversionsKept
+pub mod CoseKept
 pub mod FirstElements
 pub mod ItemBytes
+pub mod KeysLeft
 pub mod Literals
 pub mod LiteralsResolved
+pub mod MessagesKept
 pub mod OneActs
 pub mod OneLine
 pub mod SameValues

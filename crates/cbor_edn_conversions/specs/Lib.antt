@@ -2,6 +2,7 @@ pub mod Resolving
 pub mod VisitedItems
 pub mod ResolvingLaws
 pub mod Conversions
+pub mod EmbeddedItems
 pub mod Integers
 pub mod Times
 pub mod Addresses
@@ -9,9 +10,15 @@ pub mod Bignums
 pub mod All
 pub mod Resolvers
 pub mod ConversionLaws
+pub mod EmbeddedLaws
 pub mod Tag999
 pub mod Annotations
 pub mod Tables
 pub mod Claims
+pub mod CoseTables
+pub mod CoseKeys
+pub mod Cose
+pub mod MessageClaims
+pub mod CoseLaws
 pub mod Nesting
 pub mod NestingLaws

@@ -11,6 +11,8 @@ ghost use Rattle.cbor_edn_conversions.specs.Bignums.{pretty_bignum};
 ghost use Rattle.cbor_edn_conversions.specs.Annotations.{comment_lang};
 ghost use Rattle.cbor_edn_conversions.specs.Tag999.{to_tag999};
 ghost use Rattle.cbor_edn_conversions.specs.NestingLaws.{NestsAsMeant, DecodedIsDirect, VisitKeepsDirect, CallsKeepDirect, ClaimsKeepDirect, LanguageKeepsItems};
+ghost use Rattle.cbor_edn_conversions.specs.CoseLaws.{CoseKeepsItems, HeadersKeepItems, KeyNamesKeepItems, CoseGiven, ClaimsAndKeysKeep, MessageClaimsKeep, MessageClaimsGiven};
+ghost use Rattle.cbor_edn_conversions.specs.EmbeddedLaws.{BytesAreContent, DecodedItemIs, ShowKeeps, ShowGiven, ShownAtOnce, ShownMeans, ShownMeansAlone, ShownNests, ShownWithin};
 ghost use Rattle.cbor_edn_conversions.specs.ConversionLaws.{IsOfApplications, LiteralsStandFor, LiteralsOfItems, EncodingsComputed, OnOneLine, StampsTested, TimesReadBack, PrettyKeeps, BignumsKept, ClaimsKeep, Resolves, PrettyByNumber, ResolvedByPrefix, PrettyResolvedAgain, PrettyResolvedInTurn, ItemsResolvedBack};
 
 /// By no resolver items mean what they mean, and decoded items mean the same by any of application literals.
@@ -161,4 +163,40 @@ pub fn annotations_keep_direct()
     ensures claims { ClaimsKeepDirect }
     ensures comments { CallsKeepDirect comment_lang }
     ensures comments_alone { LanguageKeepsItems }
+{}
+
+/// What is decoded of a literal's bytes.
+pub fn embedded_bytes()
+    ensures content { BytesAreContent }
+    ensures item { DecodedItemIs }
+{}
+
+/// What visits that show byte strings leave: one whole visit shows them all, and within a limit.
+pub fn shown_once()
+    ensures given { ShowGiven }
+    ensures at_once { ShownAtOnce }
+    ensures nests { ShownNests }
+    ensures within { ShownWithin }
+{}
+
+/// Byte strings that are shown mean what they meant, whatever literals stand for.
+pub fn shown_keeps()
+    ensures calls { ShowKeeps }
+    ensures items { ShownMeans }
+    ensures alone { ShownMeansAlone }
+{}
+
+/// Comments in COSE messages and in COSE keys leave the items.
+pub fn cose_comments()
+    ensures given { CoseGiven }
+    ensures messages { CoseKeepsItems }
+    ensures headers { HeadersKeepItems }
+    ensures keys { KeyNamesKeepItems }
+{}
+
+/// Claims sets in COSE messages, and the keys in claims sets, keep what is meant.
+pub fn message_claims()
+    ensures given { MessageClaimsGiven }
+    ensures claims { ClaimsAndKeysKeep }
+    ensures messages { MessageClaimsKeep }
 {}

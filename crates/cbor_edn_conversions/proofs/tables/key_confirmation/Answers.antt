@@ -1,0 +1,19 @@
+use Rattle.std.proofs.Common.{rules, ◌≡◌, Some, None, subst}
+use Rattle.std.specs.Int.{w128}
+use Rattle.std.proofs.Math.Facts.{to_z-of_z}
+use mir.Val.{SFits}
+use Rattle.cbor_edn_conversions.specs.Tables.{found}
+use Rattle.cbor_edn_conversions.specs.CoseTables.{key_confirmations}
+use Rattle.cbor_edn_conversions.proofs.tables.key_confirmation.Goals as goal
+
+pub returns-in-Some : goal.returns-in-Some
+unfolding key_confirmations
+returns-in-Some c =
+    let fits : SFits w128 c.args.number = search rules in
+    subst (λ z. Some (c.in-Some.row.now.1.now, c.in-Some.row.now.2) ≡ found key_confirmations z) (to_z-of_z fits) c.in-Some.ensures
+
+pub returns-in-None : goal.returns-in-None
+unfolding key_confirmations
+returns-in-None c =
+    let fits : SFits w128 c.args.number = search rules in
+    subst (λ z. None ≡ found key_confirmations z) (to_z-of_z fits) c.in-None.ensures
