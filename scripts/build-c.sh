@@ -1,5 +1,6 @@
 #!/usr/bin/env bash
-# Makes the library for callers that are not Rattle, in a folder: libcbor_edn.a, libcbor_edn.so, cbor_edn.h and cbor_edn.pc.
+# Makes the library for callers that are not Rattle, in a folder: libcbor_edn.a, libcbor_edn.so, cbor_edn.h and cbor_edn.pc. The
+# shared library is the file of its soname, with a link for the linker.
 #
 # usage: scripts/build-c.sh [--after-ci] [FOLDER]
 #
@@ -13,6 +14,8 @@ set -euo pipefail
 cd "$(dirname "$(readlink -f "$0")")/.."
 cc=${CC:-cc}
 name=cbor_edn_c
+# Its number goes up where a program that was linked with an older library can't call the new one.
+soname=libcbor_edn.so.0
 after_ci=
 [ "${1-}" != --after-ci ] || { after_ci=yes; shift; }
 folder=${1:-out/c}
@@ -65,18 +68,21 @@ trap 'rm -rf "$work"' EXIT
 # One object of the library and of the toolchain's calls of malloc, realloc and free, in which other names are its own.
 ld -r -o "$work/cbor_edn.o" --whole-archive "crates/$name/out/lib$name.a" "$kit/c/liblibc_c.a"
 objcopy --keep-global-symbol=cbor_edn_convert "$work/cbor_edn.o"
-rm -f "$folder/libcbor_edn.a"
+rm -f "$folder"/libcbor_edn.{a,so*}
 ar rcsD "$folder/libcbor_edn.a" "$work/cbor_edn.o"
-"$cc" -shared -s -o "$folder/libcbor_edn.so" "$work/cbor_edn.o" -Wl,-soname,libcbor_edn.so \
+"$cc" -shared -s -o "$folder/$soname" "$work/cbor_edn.o" -Wl,-soname,"$soname" \
   -Wl,--version-script=bindings/c/cbor_edn.map -Wl,-z,defs -Wl,-z,relro -Wl,-z,now
+ln -s "$soname" "$folder/libcbor_edn.so"
 cp bindings/c/cbor_edn.h "$folder"
 cat > "$folder/cbor_edn.pc" << PC
-prefix=$(readlink -f "$folder")
+prefix=\${pcfiledir}
+includedir=\${prefix}
+libdir=\${prefix}
 
 Name: cbor_edn
 Description: The Extended Diagnostic Notation (EDN) of CBOR, into CBOR and back
 Version: $(sed -n 's/^version = "\(.*\)"$/\1/p' bindings/rust/Cargo.toml)
-Cflags: -I\${prefix}
-Libs: -L\${prefix} -lcbor_edn
+Cflags: -I\${includedir}
+Libs: -L\${libdir} -lcbor_edn
 PC
 echo "build-c: $folder has libcbor_edn.a, libcbor_edn.so, cbor_edn.h and cbor_edn.pc"

@@ -10,8 +10,8 @@
 Traceback (most recent call last):
 cbor_edn.ParseError: Error parsing input data: Invalid EDN in line 2 column 4 (byte 7)
 
-The library is `libcbor_edn.so` beside this file, or the file that CBOR_EDN_LIBRARY names. A call takes a stack of 1 MB at most:
-mind `threading.stack_size`. Other threads run meanwhile.
+The library is the file that CBOR_EDN_LIBRARY names, else `libcbor_edn.so` beside this file, else the system's. A call takes a stack of
+1 MB at most: mind `threading.stack_size`. Other threads run meanwhile.
 
 Options are those of the program's commands, with the same defaults:
 
@@ -50,6 +50,9 @@ _DONE, _NO_ROOM, _BAD_CALL, _NOT_UTF8, _INVALID_TEXT, _INVALID_CBOR, _INVALID_HE
 # Takes each message.
 _MESSAGE_ROOM = 160
 
+# The system's library, by the name that `scripts/build-c.sh` gives it.
+_SONAME = "libcbor_edn.so.0"
+
 
 class Error(ValueError):
     """A fault of the input. `too_deep` says whether items nest deeper than the limit."""
@@ -82,7 +85,14 @@ class _Report(ctypes.Structure):
 
 def _load():
     beside = os.path.join(os.path.dirname(os.path.abspath(__file__)), "libcbor_edn.so")
-    convert = ctypes.CDLL(os.environ.get("CBOR_EDN_LIBRARY") or beside).cbor_edn_convert
+    file = os.environ.get("CBOR_EDN_LIBRARY") or (beside if os.path.exists(beside) else _SONAME)
+    try:
+        convert = ctypes.CDLL(file).cbor_edn_convert
+    except (OSError, AttributeError) as error:
+        raise ImportError(
+            f"{error}. Install the package libcbor-edn0, or make the library by scripts/build-c.sh of cbor-edn"
+            " and let CBOR_EDN_LIBRARY name its out/c/libcbor_edn.so"
+        ) from None
     convert.restype = ctypes.c_uint32
     convert.argtypes = [
         ctypes.c_uint32,  # command
