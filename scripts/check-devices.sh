@@ -10,13 +10,9 @@
 set -euo pipefail
 
 cd "$(dirname "$(readlink -f "$0")")/.."
-# shellcheck source=scripts/program.sh
-. scripts/program.sh "${1-}"
-# shellcheck source=scripts/count.sh
-. scripts/count.sh
+# shellcheck source=scripts/trial.sh
+. scripts/trial.sh "${1-}"
 
-work=$(mktemp -d)
-trap 'rm -rf "$work"' EXIT
 cd "$work"
 words=()
 # times what is repeated is more than a pipe holds

@@ -8,13 +8,8 @@
 set -euo pipefail
 
 cd "$(dirname "$(readlink -f "$0")")/.."
-# shellcheck source=scripts/program.sh
-. scripts/program.sh "${1-}"
-# shellcheck source=scripts/count.sh
-. scripts/count.sh
-
-work=$(mktemp -d)
-trap 'rm -rf "$work"' EXIT
+# shellcheck source=scripts/trial.sh
+. scripts/trial.sh "${1-}"
 
 # Runs the words on an input, and counts whether status, output and what is said are these. `\` has its meaning in all but the words.
 expect() {

@@ -8,15 +8,10 @@
 set -euo pipefail
 
 cd "$(dirname "$(readlink -f "$0")")/.."
-# shellcheck source=scripts/program.sh
-. scripts/program.sh "${1-}"
-# shellcheck source=scripts/count.sh
-. scripts/count.sh
+# shellcheck source=scripts/trial.sh
+. scripts/trial.sh "${1-}"
 LINES_OF_SCREEN=24
 COLUMNS_OF_SCREEN=80
-
-work=$(mktemp -d)
-trap 'rm -rf "$work"' EXIT
 
 # The program by the name that users call it by, which its help shows.
 cbor-edn() {

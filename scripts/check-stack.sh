@@ -12,17 +12,12 @@
 set -euo pipefail
 
 cd "$(dirname "$(readlink -f "$0")")/.."
-# shellcheck source=scripts/program.sh
-. scripts/program.sh "${1-}"
+# shellcheck source=scripts/trial.sh
+. scripts/trial.sh "${1-}"
 shift || true
-# shellcheck source=scripts/count.sh
-. scripts/count.sh
 SMALL=1024
 LARGE=hard
 LIMIT=512
-
-work=$(mktemp -d)
-trap 'rm -rf "$work"' EXIT
 
 # Runs the program under a stack of so many KB, or `hard` for as many as there may be.
 under() {

@@ -12,13 +12,8 @@
 set -euo pipefail
 
 cd "$(dirname "$(readlink -f "$0")")/.."
-# shellcheck source=scripts/program.sh
-. scripts/program.sh "${1-}"
-# shellcheck source=scripts/count.sh
-. scripts/count.sh
-
-work=$(mktemp -d)
-trap 'rm -rf "$work"' EXIT
+# shellcheck source=scripts/trial.sh
+. scripts/trial.sh "${1-}"
 
 cc -O2 -fPIC -shared -o "$work/refusing.so" scripts/refuse/refusing.c || {
   echo "refuse-program: a C compiler (cc) must be on the PATH"

@@ -2,9 +2,9 @@
 # All tests: where a text is read and which public calls are tested (two looks at the sources), each proof, edit that must fail, test and
 # program (`rt ci`), the wrong bodies of each crate and the script that tries them, each allocation of the calls of the crates *_memory
 # and of the program refused in turn and all of them where none is taken, then the encodings of another implementation, where it is
-# installed, the examples, the help, the lines of faults, devices that fail, inputs past the limits, random inputs, the launcher, the
-# deepest nesting under small stacks, and calls from other languages. The last line is 'N passed, M failed'. Where nothing failed, the
-# program that was proved is left to ./cbor-edn. `docs/CONTRIBUTING.md` says how the proofs share the processors.
+# installed, the examples, the recipes, the help, the lines of faults, devices that fail, inputs past the limits, random inputs, the
+# launcher, the deepest nesting under small stacks, calls from other languages, and packages. The last line is 'N passed, M failed'.
+# Where nothing failed, the program that was proved is left to ./cbor-edn. `docs/CONTRIBUTING.md` says how the proofs share the processors.
 set -euo pipefail
 
 cd "$(dirname "$(readlink -f "$0")")/.."
@@ -161,6 +161,7 @@ done
 add scripts/refuse-program.sh "$program"
 add scripts/check-outside.sh "$program"
 add scripts/check-examples.sh "$program"
+add scripts/check-recipes.sh "$program"
 add scripts/check-help.sh "$program"
 add scripts/check-faults.sh "$program"
 add scripts/check-devices.sh "$program"
@@ -168,6 +169,7 @@ add scripts/check-limits.sh "$program"
 add scripts/fuzz.sh 8949 30000 "$program"
 add scripts/check-stack.sh "$program" crates/cbor_edn_{text,tree,loan}_tests/out/*_tests_tests
 add scripts/check-bindings.sh --after-ci
+add scripts/check-packages.sh --after-ci
 finish check-launcher
 cat "$times"
 say_minutes
