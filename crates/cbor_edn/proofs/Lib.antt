@@ -1,9 +1,16 @@
+mod ClaimNestings
 mod Faults
+mod Formatted
+mod LineFeeds
 mod Loading
 mod RecodedTexts
 mod Returns
 mod RunsOnce
+mod ShowNesting
+mod Shown
 mod ShownNesting
 mod StepsKept
+mod TagNestings
 mod UntaggedSteps
+mod VisitNestings
 mod WrittenOutput

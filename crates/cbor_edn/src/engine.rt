@@ -145,7 +145,7 @@ fn encoded(alloc: Global, options: &Options, input: &[u8]) -> Result<Vec<u8>, Ru
 }
 
 // The text of items after the steps.
-fn printed(
+pub(crate) fn printed(
     alloc: Global,
     options: &Options,
     sequence: &mut Sequence<'_>,
