@@ -9,11 +9,7 @@ use std::alloc::Global;
 
 /// All that `fmt` writes for a text. Fails with `NotUtf8`, with `Parse` and with `Memory`, where a run of `Diag2Diag` does; no other error
 /// comes.
-pub fn formatted(
-    alloc: Global,
-    options: &FormatOptions,
-    input: &[u8],
-) -> Result<Vec<u8>, RunError>
+pub fn formatted(alloc: Global, options: &FormatOptions, input: &[u8]) -> Result<Vec<u8>, RunError>
     ensures ok { IfOk result (λ out. IsFormatted options.now input.now out.items) }
     ensures err { IfErr result (IsUnformatted options.now input.now) }
 {

@@ -21,11 +21,7 @@ use std::alloc::{AllocError, Global};
 
 /// All that `show` writes for an input, which is CBOR, or digits of CBOR where `hex` is set. Fails with `Cbor`, with `Hex` and with
 /// `Memory`, where a run of `Cbor2Diag` does; no other error comes.
-pub fn shown(
-    alloc: Global,
-    options: &ShowOptions,
-    input: &[u8],
-) -> Result<Vec<u8>, RunError>
+pub fn shown(alloc: Global, options: &ShowOptions, input: &[u8]) -> Result<Vec<u8>, RunError>
     ensures ok { IfOk result (λ out. IsShown options.now input.now out.items) }
     ensures err { IfErr result (IsUnshown options.now input.now) }
 {
@@ -37,11 +33,7 @@ pub fn shown(
     }
 }
 
-fn shown_bytes(
-    alloc: Global,
-    options: &ShowOptions,
-    bytes: &[u8],
-) -> Result<Vec<u8>, RunError>
+fn shown_bytes(alloc: Global, options: &ShowOptions, bytes: &[u8]) -> Result<Vec<u8>, RunError>
     ensures ok { IfOk result (λ out. AreShown options.now bytes.now out.items) }
     ensures err { IfErr result (IsUndiagnosed (show_steps options.now) bytes.now) }
 {

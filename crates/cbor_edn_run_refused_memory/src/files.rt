@@ -79,7 +79,7 @@ fn show_digits(alloc: Global) -> Result<bool, Failure> {
 }
 
 fn name(alloc: Global) -> Result<bool, Failure> {
-    Ok(behind_name(alloc, "d/a", b"1")?.as_slice() == b"# d/a\n1\n")
+    Ok(behind_name(alloc, "d/a", b"1")?.as_slice() == b"# d/a\n1\n".as_slice())
 }
 
 fn format(alloc: Global) -> Result<bool, Failure> {
