@@ -214,6 +214,8 @@ NAMES = {
     "streams": "`(_ 'a', 'b')`",
     "one stream": "one",
     "tags": "tags",
+    "COSE": "COSE",
+    "CWT": "in CWT",
     "embedded": "embedded sequences",
     "comments": "comments",
     "one space": "one space",

@@ -1,6 +1,7 @@
 mod ClaimNestings
 mod Faults
 mod Formatted
+mod KeptTags
 mod LineFeeds
 mod Loading
 mod RecodedTexts
@@ -10,6 +11,7 @@ mod ShowNesting
 mod Shown
 mod ShownNesting
 mod StepsKept
+mod TagActs
 mod TagNestings
 mod UntaggedSteps
 mod VisitNestings
