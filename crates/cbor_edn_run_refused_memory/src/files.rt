@@ -106,11 +106,15 @@ fn read(alloc: Global) -> Result<bool, Failure> {
     }
 }
 
+/// Words with a flag of another command.
+const REFUSED: &[&str] = &["cbor-edn", "fmt", "--levels", "3"];
+
 fn refuse(alloc: Global) -> Result<bool, Failure> {
-    let words = ["cbor-edn", "fmt", "--levels", "3"];
-    match file_command(alloc, words.as_slice()) {
-        Ok(_) => Ok(false),
-        Err(error) if error.kind() == ErrorKind::OutOfMemory => Err(Failure::Refused),
-        Err(error) => Ok(error.kind() == ErrorKind::UnknownArgument),
+    match file_command(alloc, REFUSED) {
+        Ok((_command, _names)) => Ok(false),
+        Err(error) => match error.kind() {
+            ErrorKind::OutOfMemory => Err(Failure::Refused),
+            kind => Ok(kind == ErrorKind::UnknownArgument),
+        },
     }
 }
