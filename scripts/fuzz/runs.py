@@ -13,7 +13,8 @@ MOST_MEMORY_FOR_EACH_BYTE_WRITTEN = 4
 PATIENCE = 120
 
 # The line of a fault: no control character of an input reaches a terminal by it.
-FAULT = re.compile(rb"cbor-edn: [^\x00-\x1f\x7f]+\n")
+FAULT = re.compile(rb"(?:cbor-edn: |<stdin>)[^\x00-\x1f\x7f]+\n")
+PLACE_OF_FILE = re.compile(rb"<stdin>:([0-9]+):([0-9]+): ([^\x00-\x1f\x7f]+)\n")
 PLACE = re.compile(rb"cbor-edn: Error parsing input data: (Invalid EDN|EDN nested too deeply) in line ([0-9]+) column ([0-9]+) \(byte ([0-9]+)\)\n")
 
 program = ""
@@ -116,3 +117,18 @@ def expect_place(ended, text, too_deep):
         raise Problem(f"no such place: {ended}")
     if too_deep is not None and too_deep != (words != b"Invalid EDN"):
         raise Problem(f"the wrong reason: {ended}")
+
+
+def expect_place_of_file(ended, text, words):
+    """The same of a command for files: it tells one of these words, and a line and a column that are in the text."""
+    found = PLACE_OF_FILE.fullmatch(ended.said)
+    if ended.status != 1 or not found or found.group(3).decode() not in words:
+        raise Problem(f"the text is refused, and not so ({words}): {ended}")
+    lines = text.split("\n")
+    line, column = int(found.group(1)), int(found.group(2))
+    if not (1 <= line <= len(lines) and 1 <= column <= len(lines[line - 1]) + 1):
+        raise Problem(f"no such place: {ended}")
+
+
+def fault_of_file(words):
+    return Run(1, b"", f"<stdin>: {words}\n".encode())
