@@ -38,7 +38,7 @@ module _ (d : ℕ) where
   MayGive None = Unit {0}
   MayGive (Some c) = Gives c
 
-  reply_no_deeper : (w : Tree OneItem) (o : Option Conversion) → MayGive o → depth w ≤ d → depth (reply w o).1 ≤ d
+  pub reply_no_deeper : (w : Tree OneItem) (o : Option Conversion) → MayGive o → depth w ≤ d → depth (reply w o).1 ≤ d
   reply_no_deeper w None g h = h
   reply_no_deeper w (Some (Err e)) g h = h
   reply_no_deeper w (Some (Ok v)) g h = g
@@ -77,7 +77,7 @@ module _ (d : ℕ) where
       if_gives (not (is_time_stamp p.0)) (Err (codes "Value out of range for time stamps")) (cond (not plain) (Err changed_encoding) (Ok literal)) tt
       (if_gives (not plain) (Err changed_encoding) (Ok literal) tt (literal_flat (time_prefix wrap) (time_text p.0 p.1)))
 
-  time_gives : (w : Tree OneItem) (wrap : Bool) → Gives (time_literal w wrap)
+  pub time_gives : (w : Tree OneItem) (wrap : Bool) → Gives (time_literal w wrap)
   unfolding time_literal
   time_gives (NumberTree x i) wrap = instant_gives wrap (is_plain (integer_of x) i) (instant_by (integer_of x) i x)
   time_gives _ wrap = tt
