@@ -61,7 +61,7 @@ refuses() {
   [ "$status" = 2 ] && [ ! -s "$work/output" ] && [[ $(head -n 1 "$work/said") == 'error: '* ]]
 }
 
-for command in '' diag2cbor cbor2diag diag2diag; do
+for command in '' diag2cbor cbor2diag diag2diag show fmt check; do
   text=scripts/help/${command:-program}.txt
   for flag in --help -h; do
     # shellcheck disable=SC2086
@@ -114,6 +114,20 @@ diag2diag --max-nesting +5
 diag2diag --max-nesting=+0
 diag2diag --max-nesting 99999999999999999999
 diag2diag --max-nesting 1e2
+show -o hex
+show -i json
+show --check
+show --levels
+show --levels 256
+show --levels +3
+show --annotate cwt
+show --max-nesting 513
+fmt --annotate-tags
+fmt --preserve-space
+fmt --check=yes
+check --annotate ccs
+check --remove-comments
+check --max-nesting +5
 END
 
 end

@@ -118,9 +118,23 @@ count 'a fault' ended_unproved 1 '' "$fault"
 answer 2 '' "error: unexpected argument 'a' found\n\nUsage: program diag2cbor\n${tail_of_try//%s/2}"
 call diag2cbor - - a < /dev/null
 count 'a fault of the words' ended_unproved 2 '' $'error: unexpected argument \'a\' found\n\nUsage: cbor-edn diag2cbor'
-answer 0 'Usage: program <COMMAND>\n' "${tail_of_try//%s/0}"
-call --help < <(sleep 100)
-count 'help, which reads nothing' ended_unproved 0 'Usage: cbor-edn <COMMAND>\n' ''
+answer 0 'Usage: program diag2cbor\n' "${tail_of_try//%s/0}"
+call diag2cbor -o hex --help < <(sleep 100)
+count 'help, which reads nothing' ended_unproved 0 'Usage: cbor-edn diag2cbor\n' ''
+answer 3 '' ''
+call --version < <(sleep 100)
+count 'the version, at once' ended 0 'cbor-edn 0.1.0\n' ''
+for words in --help -h 'show --help' 'diag2diag -h'; do
+  text=${words% *}
+  # shellcheck disable=SC2086
+  call $words < <(sleep 100)
+  count "$words, at once" cmp -s "$work/output" "$tree/scripts/help/$([ "$text" = "$words" ] && echo program || echo "$text").txt"
+done
+call fmt 'in edn' < /dev/null
+count 'a file that an unproved program would change' is_unanswered 'fmt of a file by its name'
+answer 0 '' "${tail_of_try//%s/0}"
+call show --levels 3 -i hex - < <(printf 1)
+count 'a command for files on standard input' passed_on show --levels 3 -i hex -
 answer 6 '' "the end of the program's standard output:\n1\ninterpreter: no-answer\nchecked: no-answer: the program wrote more than 1048576 bytes to standard output or to standard error, the limit on each\nrun=no-answer proved=no\n"
 call diag2cbor < /dev/null
 count 'too much output' is_unanswered 'it writes more than 1 MiB'
@@ -183,7 +197,7 @@ count 'what the program is not made of' ended 0 'cbor-edn 0.1.0\n' ''
 why='the program that is built is older than crates/cbor_edn_parts/src/lib.rt'
 touch "$tree/crates/cbor_edn_parts/src/lib.rt"
 answer 0 'new' "\\n${tail_of_try//%s/0}"
-call --version < /dev/null
+call diag2cbor < /dev/null
 count 'an old program' ended_unproved 0 new ''
 
 end

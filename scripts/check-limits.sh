@@ -214,6 +214,8 @@ NAMES = {
     "streams": "`(_ 'a', 'b')`",
     "one stream": "one",
     "tags": "tags",
+    "COSE": "COSE",
+    "CWT": "in CWT",
     "embedded": "embedded sequences",
     "comments": "comments",
     "one space": "one space",
@@ -370,6 +372,27 @@ def check_slowest():
             count(f"{' '.join(words)} of {name}, {depth} deep", seconds if ended.status == 0 else f"status {ended.status}, said {ended.said[:200]!r}")
 
 
+# Byte strings in byte strings: each level is decoded once more, for 8 levels where no flag says more.
+DEEPEST_SHOWN = [
+    ("byte strings", 8, "<<[", "]>>"),
+    ("byte strings", 255, "<<[", "]>>"),
+    ("tags of addresses in byte strings", 8, "<<52([", "])>>"),
+    ("tags of addresses in byte strings", 255, "<<52([", "])>>"),
+]
+MOST_TIMES_SHOWN = 10
+
+
+def check_shown():
+    flat = min(run(["cbor2diag", "--aol-to-item"], b"\x01" * 1_000_000).seconds for _ in range(3))
+    for name, depth, opening, closing in DEEPEST_SHOWN:
+        text = opening * depth + ",".join(["1"] * 1_000_000) + closing * depth
+        encoded = run(["diag2cbor"], text.encode()).output
+        ended = run(["show"], encoded)
+        times = ended.seconds / flat
+        seconds = f"it takes {ended.seconds:.1f} seconds, {times:.1f} times a flat MB" if times > MOST_TIMES_SHOWN else None
+        count(f"show of {name}, {depth} deep", seconds if ended.status == 0 else f"status {ended.status}, said {ended.said[:200]!r}")
+
+
 check_memory()
 check_depths()
 check_floods()
@@ -377,6 +400,7 @@ check_counts()
 check_starved()
 check_endless()
 check_slowest()
+check_shown()
 print(f"{passed} passed, {failed} failed")
 raise SystemExit(failed != 0)
 EOF_PYTHON

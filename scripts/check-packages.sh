@@ -114,7 +114,7 @@ flags_of() {
 offers() {
   flags_of "$1" | sed 's/|/\n/; s/|.*//' | grep . | sort
 }
-commands=('' diag2cbor cbor2diag diag2diag)
+commands=('' diag2cbor cbor2diag diag2diag show fmt check)
 
 page=$root/usr/share/man/man1/cbor-edn.1.gz
 silent() {
@@ -125,7 +125,7 @@ if has man 'the manual page'; then
   LC_ALL=C MANWIDTH=1000 man -l "$page" 2> "$work/said" | col -b | tr -s ' \t' ' ' > "$work/page"
   text=$(tr -s '\n' ' ' < "$work/page" | tr -s ' ')
   for command in "${commands[@]}"; do
-    line=$(grep "^ cbor-edn $command.*\[INPUT" "$work/page" || true)
+    line=$(grep "^ cbor-edn $command.*\[\(INPUT\|FILE\)" "$work/page" || true)
     while IFS='|' read -r short long value words; do
       check "$command $long in the manual page" grep -qF -- "${short:+$short, }$long${value:+ $value} $words" <<< "$text"
       [ -z "$command" ] || [ "$long" = --help ] \
@@ -199,6 +199,7 @@ for shell in bash fish zsh; do
   check "values in $shell" offers_words "$shell" 'auto binary hex' cbor-edn cbor2diag -i ''
   check "kinds in $shell" offers_words "$shell" ccs cbor-edn diag2diag --annotate ''
   check "commands in $shell" offers_words "$shell" 'diag2cbor diag2diag' cbor-edn d
+  check "commands for files in $shell" offers_words "$shell" show cbor-edn sh
 done
 
 # ---- the program, its page of recipes, editors

@@ -49,6 +49,9 @@ SHAPES = {
     "Indicator::as_str": r"\bindicator\.as_str\(", "NamedSimple::as_str": r"\bnamed\.as_str\(",
     "ParseError::too_deep": r"\brefused\.too_deep\(", "CborError::too_deep": r"\bCborError::TooDeep\.too_deep\(",
     "ParseError::offset": r"\brefused\.offset\(", "ParseError::line": r"\brefused\.line\(", "ParseError::column": r"\brefused\.column\(",
+    "ShowOptions::steps": r"\bSHOW\.steps\(|= ShowOptions \{[^}]*\};\s*let steps = options\.steps\(",
+    "FormatOptions::steps": r"\bFORMAT\.steps\(|= FormatOptions \{[^}]*\};\s*let steps = options\.steps\(",
+    "CheckOptions::steps": r"\bcheck\.steps\(|= CheckOptions \{[^}]*\};\s*let steps = options\.steps\(",
     "Count::raise": r"\bself\.failed\.raise\(",
 }
 

@@ -4,7 +4,8 @@
 # usage: scripts/refuse-program.sh [PROGRAM]
 #
 # Without PROGRAM it is the working tree's. A small library stands in front of malloc (scripts/refuse/refusing.c): in each run it refuses
-# another allocation, from the first to the last. Such a run must have status 1, say `cbor-edn: Out of memory` in one line, and write
+# another allocation, from the first to the last. Such a run must have status 1, say `cbor-edn: Out of memory` in one line, with the name of
+# standard input where a command for files reads it, and write
 # nothing. Some refusals are no want of memory (docs/DECISIONS.md, "Items made from values"): such a run must end as it does where none
 # is refused. The table crates/cbor_edn_tool/hints has the calls, each behind the number of such runs.
 #
@@ -40,14 +41,14 @@ refuse() {
 # The input that the words of a call take.
 input_of() {
   case $1 in
-    *'cbor2diag '*hex*) input=$work/digits ;;
-    *cbor2diag*) input=$work/bytes ;;
+    *'cbor2diag '*hex* | *'show '*hex*) input=$work/digits ;;
+    *cbor2diag* | *show*) input=$work/bytes ;;
     *) input=$work/text ;;
   esac
 }
 
 is_out_of_memory() {
-  [ "$status" = 1 ] && [ ! -s "$work/output" ] && printf 'cbor-edn: Out of memory\n' | cmp -s - "$work/said"
+  [ "$status" = 1 ] && [ ! -s "$work/output" ] && grep -qxE 'cbor-edn: (<stdin>: )?Out of memory' "$work/said" && [ "$(wc -l < "$work/said")" = 1 ]
 }
 
 is_as_before() {

@@ -1,4 +1,4 @@
-"""Random and damaged inputs for the three commands. See scripts/fuzz.sh."""
+"""Random and damaged inputs for the commands. See scripts/fuzz.sh."""
 
 import multiprocessing
 import os
@@ -16,11 +16,13 @@ CHECKS_OF_A_SHRINK = 1500
 MOST_SHRINKS = 3
 # Of a round: inputs of each kind.
 VALUES, OTHERS, DAMAGED, ENCODINGS, DAMAGED_ENCODINGS, DIGITS = 12, 6, 10, 12, 8, 2
-ROUND = VALUES + OTHERS + DAMAGED + ENCODINGS + DAMAGED_ENCODINGS + DIGITS
+ROUND = VALUES + OTHERS + DAMAGED + ENCODINGS + 2 * DAMAGED_ENCODINGS + DIGITS
 LARGE = 1 << 16
 LARGE_EVERY = 50
 DEEP_EVERY = 25
 DIAG2DIAG = ["--annotate-tags", "--apply-999", "--aol-to-item", "--no-bignum-from-tags", "--annotate=ccs", "--remove-comments", "--preserve-space"]
+SHOW = ["--no-bignum-from-tags", "--annotate=ccs"]
+LEVELS = [["--no-embedded"], ["--levels=0"], ["--levels=1"], ["--levels=2"], ["--levels=255"], [], [], [], [], []]
 CBOR2DIAG = ["--no-annotate-tags", "--aol-to-item", "--no-bignum-from-tags", "--annotate=ccs"]
 FORMATS = [[], [], ["-o", "hex"], ["-ohex"], ["--output-format=hex"], ["-o", "binary"], ["--output-format", "auto"]]
 OPENINGS = [("[", "]"), ("{1:", "}"), ("{", ":1}"), ("1(", ")"), ("<<", ">>"), ("[_ ", "]"), ("(_ <<", ">>)"), ("simple(", ")"), ("'a'+<<", ">>")]
@@ -54,6 +56,8 @@ class Inputs:
         layouts = ["--no-bignum-from-tags", *self.some(["--remove-comments", "--preserve-space"])]
         self.add(laws.lay_out, data, self.some(DIAG2DIAG) if self.rng.randrange(2) else layouts)
 
+        self.add(laws.lay_out_file, data, self.some(["--remove-comments"]))
+
     def add_annotated(self, data):
         self.add(laws.annotate, data, self.rng.choice(FORMATS) + self.some(["--apply-999"]))
 
@@ -73,10 +77,11 @@ class Inputs:
         self.add_text(b" ".join(others), OTHERS)
         for other in others:
             self.add(laws.encode, other, self.some(["--apply-999"]))
+            self.add(laws.check, other, self.some(["--apply-999"]))
             self.add_annotated(other)
         for _ in range(DAMAGED):
             source = self.rng.choice(others) if self.rng.randrange(2) else self.text(False, self.rng.randrange(1, 4))
-            self.add(self.rng.choice([laws.keep, laws.encode, laws.lay_out, laws.annotate]), generate.damaged(self.rng, source), cases=1)
+            self.add(self.rng.choice([laws.keep, laws.encode, laws.lay_out, laws.annotate, laws.lay_out_file, laws.check]), generate.damaged(self.rng, source), cases=1)
 
     def add_bytes(self):
         encodings = generate.Bytes(self.rng)
@@ -84,14 +89,19 @@ class Inputs:
         if cbor.read(data, laws.LIMIT)[0] is None:
             raise runs.Problem(f"these scripts refuse {data.hex()}")
         self.add(laws.decode, data, self.some(CBOR2DIAG), ENCODINGS)
+        self.add_shown(data, 0)
         if self.rng.randrange(4) == 0:
             self.add(laws.decode_digits, generate.digits(self.rng, data), self.some(CBOR2DIAG))
         for _ in range(DAMAGED_ENCODINGS):
             source = encodings.items(self.rng.randrange(4), self.rng.randrange(1, 4))
             self.add(laws.decode, generate.damaged(self.rng, source), self.some(CBOR2DIAG), 1)
+            self.add_shown(generate.damaged(self.rng, source), 1)
         for _ in range(DIGITS):
             source = generate.digits(self.rng, encodings.items(2, 1))
             self.add(laws.decode_digits, generate.damaged(self.rng, source), self.some(CBOR2DIAG), 1)
+
+    def add_shown(self, data, cases):
+        self.add(laws.show, data, self.rng.choice(LEVELS) + self.some(SHOW), cases)
 
     def add_large(self):
         for means in (True, False):
@@ -111,6 +121,12 @@ class Inputs:
         data = b"".join(opening for opening, _ in pairs) + b"\x01" + b"".join(closing for _, closing in reversed(pairs))
         self.add(laws.decode, data, self.some(CBOR2DIAG), 1)
         self.add(laws.decode, generate.damaged(self.rng, data), self.some(CBOR2DIAG), 1, limit=laws.LIMIT)
+        data = b"\x01"
+        for _ in range(self.rng.choice([3, 100, 254, 255, 256, 300])):
+            opening, closing = self.rng.choice(OPEN_BYTES)
+            data = opening + data + closing
+            data = cbor.head(2, len(data)) + data
+        self.add_shown(data, 1)
 
     def all(self):
         self.add_texts()
@@ -154,7 +170,7 @@ def shrunk(law, data, limit, flags):
 
 def told(seed, number, law, data, limit, flags):
     """What is printed of a case that failed."""
-    command = {"decode": "cbor2diag", "decode_digits": "cbor2diag -i hex", "encode": "diag2cbor", "annotate": "diag2cbor --annotate-tags"}
+    command = {"show": "show", "lay_out_file": "fmt", "check": "check", "decode": "cbor2diag", "decode_digits": "cbor2diag -i hex", "encode": "diag2cbor", "annotate": "diag2cbor --annotate-tags"}
     words = [command.get(law.__name__, "diag2diag"), *(laws.EXACT if law is laws.keep else []), *flags, *laws.limited(limit)]
     return (
         f"fuzz: seed {seed}, round {number}: {' '.join(law.__doc__.split())}\n"

@@ -53,6 +53,8 @@ def with_parts(item, change):
         return form, item[1], [(change(key), change(value)) for key, value in item[2]]
     if form == "tag":
         return form, item[1], item[2], change(item[3])
+    if form == "string" and item[1][0][0] == "embedded":
+        return form, [(piece[0], [change(part) for part in piece[1]], piece[2]) for piece in item[1]]
     return item
 
 

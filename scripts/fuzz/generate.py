@@ -376,7 +376,9 @@ class Bytes:
 
     def item(self, depth):
         rng = self.rng
-        kind = rng.randrange(12 if depth else 7)
+        kind = rng.randrange(13 if depth else 7)
+        if kind == 12:
+            return self.embedded(depth)
         if kind < 2:
             return self.head(kind, self.argument())
         if kind < 4:
@@ -400,6 +402,13 @@ class Bytes:
         if rng.randrange(3) == 0:
             return bytes([major << 5 | 31]) + entries + b"\xff"
         return self.head(major, count) + entries
+
+    def embedded(self, depth):
+        """A byte string that holds an item, or a sequence, whole or damaged."""
+        content = self.items(depth - 1, self.rng.choice([1, 1, 1, 1, 0, 2]))
+        if self.rng.randrange(8) == 0:
+            content = damaged(self.rng, content)
+        return self.head(2, len(content)) + content
 
     def known_tag(self):
         rng = self.rng

@@ -6,8 +6,9 @@ import annotations
 import cbor
 import conversions
 import edn
+import embedded
 import layout
-from runs import Problem, expect, expect_place, fault, run, written
+from runs import Problem, expect, expect_offset_of_file, expect_place, expect_place_of_file, fault, run, written
 
 LIMIT = 512
 LINE = 64
@@ -162,6 +163,62 @@ def decode(data, limit, flags):
     expect(written(data), run(["diag2cbor", *limited(limit)], ended.output))
     items = annotations.annotated(items, *steps(flags, "--no-annotate-tags" not in flags))
     expect(written(layout.laid_out(",".join(map(layout.text_of, items))).encode()), ended)
+
+
+def show(data, limit, flags):
+    """`show` writes the text with what byte strings hold, or tells the first fault; `diag2cbor` gives the bytes back."""
+    items, words = cbor.read(data, limit)
+    ended = run(["show", *flags, *limited(limit)], data)
+    if items is None:
+        expect_offset_of_file(ended, data, words)
+        return
+    if ended.status != 0:
+        raise Problem(f"the bytes are of the scope: {ended}")
+    expect(written(data), run(["diag2cbor", *limited(limit)], ended.output))
+    items = annotations.annotated(embedded.shown(items, levels(flags), limit), *steps(flags, True))
+    expect(written(layout.laid_out(",".join(map(layout.text_of, items))).encode()), ended)
+
+
+def levels(flags):
+    if "--no-embedded" in flags:
+        return 0
+    return next((int(flag.split("=")[1]) for flag in flags if flag.startswith("--levels=")), embedded.LEVELS)
+
+
+def lay_out_file(data, limit, flags):
+    """`fmt` writes the text with other spaces and a line feed at its end, and leaves that; of a text that it does not take it tells the place."""
+    text, items, taken = read(data, limit)
+    ended = run(["fmt", *flags, *limited(limit)], data)
+    if not taken:
+        refuse_file(ended, data, text, items, limit)
+        return
+    if "--remove-comments" in flags:
+        text = layout.without_comments(text)
+    text = layout.laid_out(text)
+    expect(written((text if text[-1:] in ("", "\n") else text + "\n").encode()), ended)
+    expect(ended, run(["fmt", *flags, *limited(limit)], ended.output))
+
+
+def refuse_file(ended, data, text, items, limit):
+    """A command for files must have refused a text that is none, or that the grammar or the limit refuses."""
+    if text is None:
+        expect_place_of_file(ended, data.decode(errors="replace"), ["Not UTF-8"])
+    elif items is not None:
+        expect_place_of_file(ended, text, ["EDN nested too deeply"])
+    else:
+        expect_place_of_file(ended, text, ["Invalid EDN", *(["EDN nested too deeply"] if len(MARK.findall(text)) > limit else [])])
+
+
+def check(data, limit, flags):
+    """`check` is silent where `diag2cbor` writes, and tells a place where it does not."""
+    text, items, taken = read(data, limit)
+    ended = run(["check", *flags, *limited(limit)], data)
+    if not taken:
+        refuse_file(ended, data, text, items, limit)
+    elif encoded(items, flags).status == 0:
+        expect(written(b""), ended)
+    else:
+        expect_place_of_file(ended, text, edn.FAULTS)
 
 
 def decode_digits(data, limit, flags):

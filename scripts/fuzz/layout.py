@@ -232,6 +232,10 @@ def spelled(text):
 
 
 def piece_text(piece):
+    if piece[0] == "embedded":
+        # decoded on a single line, which a layout of lines leaves
+        _, nodes, _, end = Reader(",".join(map(text_of, piece[1]))).whole()
+        return "<<" + ", ".join(map(line, nodes)) + comments(end) + ">>" + spec(piece[2])
     _, prefix, text, indicator = piece
     # without a prefix it is the empty string of indefinite length
     quoted = spelled(text) if prefix == '"' else f"{prefix.rstrip(chr(39))}'{text}'"

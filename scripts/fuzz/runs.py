@@ -12,8 +12,11 @@ MOST_MEMORY = 64 * MB
 MOST_MEMORY_FOR_EACH_BYTE_WRITTEN = 4
 PATIENCE = 120
 
-# The line of a fault: no control character of an input reaches a terminal by it.
-FAULT = re.compile(rb"cbor-edn: [^\x00-\x1f\x7f]+\n")
+# The line of a fault: no control character of an input reaches a terminal by it. That of a command for files may be followed by the line of
+# the input and a caret.
+FAULT = re.compile(rb"(?:cbor-edn: [^\x00-\x1f\x7f]+\n|<stdin>[^\x00-\x1f\x7f]+\n(?:[^\x00-\x1f\x7f]*\n *\^\n)?)")
+PLACE_OF_FILE = re.compile(rb"<stdin>:([0-9]+):([0-9]+): ([^\x00-\x1f\x7f]+)\n[^\n]*\n *\^\n")
+OFFSET_OF_FILE = re.compile(rb"<stdin>: ([^\x00-\x1f\x7f]+) \(byte ([0-9]+)\)\n")
 PLACE = re.compile(rb"cbor-edn: Error parsing input data: (Invalid EDN|EDN nested too deeply) in line ([0-9]+) column ([0-9]+) \(byte ([0-9]+)\)\n")
 
 program = ""
@@ -116,3 +119,21 @@ def expect_place(ended, text, too_deep):
         raise Problem(f"no such place: {ended}")
     if too_deep is not None and too_deep != (words != b"Invalid EDN"):
         raise Problem(f"the wrong reason: {ended}")
+
+
+def expect_place_of_file(ended, text, words):
+    """The same of a command for files: it tells one of these words, and a line and a column that are in the text."""
+    found = PLACE_OF_FILE.fullmatch(ended.said)
+    if ended.status != 1 or not found or found.group(3).decode() not in words:
+        raise Problem(f"the text is refused, and not so ({words}): {ended}")
+    lines = text.split("\n")
+    line, column = int(found.group(1)), int(found.group(2))
+    if not (1 <= line <= len(lines) and 1 <= column <= len(lines[line - 1]) + 1):
+        raise Problem(f"no such place: {ended}")
+
+
+def expect_offset_of_file(ended, data, words):
+    """The same of bytes."""
+    found = OFFSET_OF_FILE.fullmatch(ended.said)
+    if ended.status != 1 or not found or found.group(1).decode() != words or int(found.group(2)) > len(data):
+        raise Problem(f"the bytes are refused, and not so ({words}): {ended}")

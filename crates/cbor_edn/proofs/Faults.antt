@@ -48,7 +48,7 @@ decoded_or_not : (limit : ℕ) (bytes : List ℕ) (e : CborError) (w : Tree Seq)
 decoded_or_not limit bytes cbor.TooDeep w u d = let deep = (u.1 refl).1 d.0.values d.0.encoded in let within = d.0.within in omega (arith, deep, within)
 decoded_or_not limit bytes e w u d = u.0 (λ is. cc) d.0.values d.0.encoded
 
-digits_or_none : {E : Type 0} (r : Result (List ℕ) E) (bytes : List ℕ) → IsErr r → r ≡ Ok bytes → ⊥
+pub digits_or_none : {E : Type 0} (r : Result (List ℕ) E) (bytes : List ℕ) → IsErr r → r ≡ Ok bytes → ⊥
 digits_or_none (Ok b) bytes none is = cc
 digits_or_none (Err e) bytes none is = cc
 
@@ -58,14 +58,14 @@ means_or_none vs o is none = let both : Some vs ≡ None = sym is ∙ none in cc
 -- ---- what each fault says of an input
 
 module _ (o : Options) (input : List ℕ) where
-  abbrev Faulty : Fault → Type 0
+  abbrev pub Faulty : Fault → Type 0
   Faulty NoText = ReadsText o.command × ¬ IsUtf8 input
   Faulty NoItems = ReadsText o.command × IsUtf8 input × ((w : Tree Seq) → IsReadAs o.limit input w → ⊥)
   Faulty NoEncodings = (o.command ≡ Cbor2Diag) × (bytes : List ℕ) × (input_bytes o.hex input ≡ Ok bytes) × ((w : Tree Seq) → IsDecodedAs o.limit bytes w → ⊥)
   Faulty NoDigits = (o.command ≡ Cbor2Diag) × IsErr (input_bytes o.hex input)
   Faulty NoMeaning = (o.command ≡ Diag2Cbor) × (w v : Tree Seq) × IsReadAs o.limit input w × StepsGive o w v × (means (items v) ≡ None)
 
-  faulty : (e : RunError) (f : Fault) → IsRefused o input e → fault_of e ≡ Some f → Faulty f
+  pub faulty : (e : RunError) (f : Fault) → IsRefused o input e → fault_of e ≡ Some f → Faulty f
   faulty Read f r is = absurd r
   faulty NotUtf8 f r is = subst Faulty (some_is NoText f is) r
   faulty (Parse e) f r is = subst Faulty (some_is NoItems f is) (r.0, r.1.0, λ w. read_or_unparsed o.limit input e w r.1.1)

@@ -49,7 +49,7 @@ stays b P w e = subst (λ b. Where b P w w) (sym e) refl
 
 -- ---- what is kept
 
-laid_items : (policy : DelimiterPolicy) (w v : Tree Seq) → IsLaidOut policy w v → items v ≡ items w
+pub laid_items : (policy : DelimiterPolicy) (w v : Tree Seq) → IsLaidOut policy w v → items v ≡ items w
 laid_items policy w v is = ap (λ (t : Tree Seq). items t) is ∙ keeps_items Seq policy w
 
 -- What holds of the items before a step holds of those that it leaves.
@@ -66,20 +66,20 @@ pub record Kept (Q : Items → Type 0) : Type 0 where
   pub bignums : Keeps Q (TagsVisited pretty_bignum)
 
 module _ (Q : Items → Type 0) where
-  same_kept : (w v : Tree Seq) → items v ≡ items w → Q (items w) → Q (items v)
+  pub same_kept : (w v : Tree Seq) → items v ≡ items w → Q (items w) → Q (items v)
   same_kept w v same h = subst Q (sym same) h
 
-  where_kept : (b : Bool) (P : Step) → Keeps Q P → Keeps Q (Where b P)
+  pub where_kept : (b : Bool) (P : Step) → Keeps Q P → Keeps Q (Where b P)
   where_kept true P keeps w v h = keeps w v h
   where_kept false P keeps w v h = same_kept w v (ap (λ (t : Tree Seq). items t) h)
 
-  turn_kept : (P R : Step) → Keeps Q P → Keeps Q R → Keeps Q (InTurn P R)
+  pub turn_kept : (P R : Step) → Keeps Q P → Keeps Q R → Keeps Q (InTurn P R)
   turn_kept P R p r w v h q = r h.0 v h.2 (p w h.0 h.1 q)
 
-  layout_kept : (policy : DelimiterPolicy) → Keeps Q (IsLaidOut policy)
+  pub layout_kept : (policy : DelimiterPolicy) → Keeps Q (IsLaidOut policy)
   layout_kept policy w v is = same_kept w v (laid_items policy w v is)
 
-  languages_kept : Keeps Q (TagsVisited comment_lang)
+  pub languages_kept : Keeps Q (TagsVisited comment_lang)
   languages_kept w v h = same_kept w v (languages_leave w v whole h)
 
   module _ (kept : Kept Q) where
@@ -119,7 +119,7 @@ steps_keep xs = steps_kept (Means xs) (means_kept xs)
 
 -- ---- what is encoded
 
-where_items : (b : Bool) (policy : DelimiterPolicy) (w v : Tree Seq) → Where b (IsLaidOut policy) w v → items v ≡ items w
+pub where_items : (b : Bool) (policy : DelimiterPolicy) (w v : Tree Seq) → Where b (IsLaidOut policy) w v → items v ≡ items w
 where_items true policy w v is = laid_items policy w v is
 where_items false policy w v is = ap (λ (t : Tree Seq). items t) is
 

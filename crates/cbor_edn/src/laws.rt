@@ -1,6 +1,8 @@
 //! Laws: each function's contract is one. The calls of `recode` promise what several calls do in turn.
+pub mod formatted;
 pub mod recode;
 pub mod runs;
+pub mod shown;
 
 pub use cbor_edn_conversions::laws::{answers_given, pretty_resolved_again, visits_exist};
 pub use cbor_edn_core::laws::{item_spells, sequence_spells, standalone_spells};

@@ -4,11 +4,14 @@
 pub mod application;
 mod boxed;
 pub mod engine;
+pub mod format;
 pub mod laws;
+mod line_feed;
 pub mod script;
+pub mod show;
 mod steps;
 
-pub use cbor_edn_command::words;
+pub use cbor_edn_command::{file_options, file_words, words};
 pub use cbor_edn_core::access::{
     ArrayItems, ArrayItemsMut, MapItems, MapItemsMut, SequenceItemsMut, TypeMismatch,
 };

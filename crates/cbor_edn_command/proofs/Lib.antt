@@ -1,2 +1,3 @@
 mod ReadCommandLine
 mod Lines
+mod ReadFileCommandLine

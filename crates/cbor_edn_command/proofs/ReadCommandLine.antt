@@ -16,7 +16,6 @@ use Rattle.clap.specs.declared.parser.matches.SubCommand.{SubCommand}
 use Rattle.clap.specs.declared.parser.matches.ArgMatches.TheViews.{out-SubCommand}
 use Rattle.clap.proofs.OnLiterals.{clap_on_literals}
 use Rattle.clap.proofs.WalkLemmas.{first_value-rows, one_text-rows}
-use Rattle.cbor_edn_parts.specs.declared.nesting.TheConstants.{NESTING_LIMIT}
 use Rattle.cbor_edn_command.specs.CommandLine as line
 use Rattle.cbor_edn_command.specs.CommandLineSteps.{GrowsBy, IsArgOf, IsCommandOf, IsProgram}
 
@@ -37,16 +36,16 @@ value_given f id value name b same is = same ∙ ap (names value) (is ∙ first_
 pub value_left_out : (f : Found) (id value : Text) → None ≡ first_value f id → false ≡ line.is_value id value (rows_of f)
 value_left_out f id value is = ap (names value) (is ∙ first_value-rows f id)
 
-pub limit_left_out : (f : Found) → None ≡ first_value f (codes "max-nesting") → line.IsLimit (first_of (codes "max-nesting") (rows_of f)) NESTING_LIMIT
-limit_left_out f is = rw (sym (is ∙ first_value-rows f (codes "max-nesting"))) refl
+pub number_left_out : (f : Found) (flag : Text) (default most : ℕ) → None ≡ first_value f flag → line.IsNumber default most (first_of flag (rows_of f)) default
+number_left_out f flag default most is = rw (sym (is ∙ first_value-rows f flag)) refl
 
 -- a number that was read is that of digits alone, where no plus sign stands in front
-pub limit_read : (f : Found) (word : Text) (limit : ℕ) (plus : Bool) → Some word ≡ first_value f (codes "max-nesting")
-    → IsNumeral 10 (without_leading_plus word) → limit ≡ digits_value 10 (without_leading_plus word) → plus ≡ (slice_index word 0 == 43) → plus ≡ false
-    → limit ≤ NESTING_LIMIT → line.IsLimit (first_of (codes "max-nesting") (rows_of f)) limit
-limit_read f word limit plus is numeral value looked none within =
+pub number_read : (f : Found) (flag word : Text) (default most number : ℕ) (plus : Bool) → Some word ≡ first_value f flag
+    → IsNumeral 10 (without_leading_plus word) → number ≡ digits_value 10 (without_leading_plus word) → plus ≡ (slice_index word 0 == 43) → plus ≡ false
+    → number ≤ most → line.IsNumber default most (first_of flag (rows_of f)) number
+number_read f flag word default most number plus is numeral value looked none within =
     let same : without_leading_plus word ≡ word = ap (λ b. drop (cond b 1 0) word) (sym looked ∙ none) in
-    rw (sym (is ∙ first_value-rows f (codes "max-nesting"))) (subst (IsNumeral 10) same numeral, value ∙ ap (digits_value 10) same, within)
+    rw (sym (is ∙ first_value-rows f flag)) (subst (IsNumeral 10) same numeral, value ∙ ap (digits_value 10) same, within)
 
 pub flag_read : (f : Found) (id : Text) (b : Bool) → (one_text f id ≡ None → b ≡ false) → (one_text f id ≡ Some (codes "true") → b ≡ true)
     → (one_text f id ≡ Some (codes "false") → b ≡ false) → line.IsFlag id (rows_of f) b

@@ -85,10 +85,14 @@ command_named name =
 abbrev pub is_value : Text → Text → List Row → Bool
 is_value id value rows = option_map_or (λ t. bytes_eq t value) (first_of id rows) false
 
--- How deep items may nest, by the word of `--max-nesting`: the number of a word that is digits alone, at most 512. `+5` is none.
+-- The number of a word that is digits alone, where that is none too high, or the default where there is no word. `+5` is none.
+abbrev pub IsNumber : ℕ → ℕ → Option Text → ℕ → Type 0
+IsNumber default most (Some word) n = IsNumeral 10 word × (n ≡ digits_value 10 word) × (n ≤ most)
+IsNumber default most None n = n ≡ default
+
+-- How deep items may nest, by the word of `--max-nesting`, at most 512.
 abbrev pub IsLimit : Option Text → ℕ → Type 0
-IsLimit (Some word) limit = IsNumeral 10 word × (limit ≡ digits_value 10 word) × (limit ≤ NESTING_LIMIT)
-IsLimit None limit = limit ≡ NESTING_LIMIT
+IsLimit = IsNumber NESTING_LIMIT NESTING_LIMIT
 
 -- the name of a file, or `-`
 abbrev pub file_of : Text → List Row → Text

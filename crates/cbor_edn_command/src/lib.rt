@@ -4,6 +4,8 @@
 
 pub mod count;
 pub mod devices;
+pub mod file_options;
+pub mod file_words;
 pub mod hexadecimal;
 pub mod options;
 pub mod transfer;

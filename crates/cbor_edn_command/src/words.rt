@@ -11,15 +11,16 @@ use clap::error::ErrorKind;
 use clap::{Arg, ArgAction, ArgMatches, Error};
 use std::alloc::{AllocError, Global};
 
-static FORMATS: [&str; 3] = ["hex", "binary", "auto"];
+pub(crate) static FORMATS: [&str; 3] = ["hex", "binary", "auto"];
 
-static ANNOTATIONS: [&str; 1] = ["ccs"];
+pub(crate) static ANNOTATIONS: [&str; 1] = ["ccs"];
 
 const ABOUT: &str = "Turns the Extended Diagnostic Notation (EDN) of CBOR into CBOR and back";
 
 const EXAMPLES: &str = "\
 A command takes [OPTIONS] [INPUT] [OUTPUT], and shows its options by --help.
-Standard input and output stand for names that are left out or -.
+Standard input and output stand for names that are left out or -. OUTPUT is
+emptied first. Of files, show, fmt and check take [OPTIONS] [FILE].. instead.
 Exit status: 0 done, 1 a fault of input, file or device, 2 a fault of the words.
 
 Examples:
@@ -61,12 +62,7 @@ pub fn options<'a>(
     };
     let limit = match limit_of(found) {
         Ok(limit) => limit,
-        Err(word) => {
-            let fault = format!(in alloc;
-                "invalid value '{word}' for '--max-nesting <N>': invalid digit found in string"
-            )?;
-            return Err(program.error(ErrorKind::ValueValidation, fault.as_str())?);
-        }
+        Err(word) => return Err(no_number(alloc, &mut program, "max-nesting", word)?),
     };
     let options = options_of(command, found, limit);
     Ok((options, file_of(found, "input"), file_of(found, "output")))
@@ -130,14 +126,14 @@ fn options_of(command: Command, found: &ArgMatches<'_>, limit: usize) -> Options
 }
 
 // Whether a flag is given.
-fn is_given(found: &ArgMatches<'_>, flag: &str) -> bool
+pub(crate) fn is_given(found: &ArgMatches<'_>, flag: &str) -> bool
     ensures { line.IsFlag flag.now (rows_of (found_of found.now)) result }
 {
     found.get_flag(flag)
 }
 
 // Whether a flag has this value.
-fn is_value(found: &ArgMatches<'_>, flag: &str, value: &str) -> bool
+pub(crate) fn is_value(found: &ArgMatches<'_>, flag: &str, value: &str) -> bool
     ensures { result ≡ line.is_value flag.now value.now (rows_of (found_of found.now)) }
 {
     match found.get_str(flag) {
@@ -146,19 +142,45 @@ fn is_value(found: &ArgMatches<'_>, flag: &str, value: &str) -> bool
     }
 }
 
-// How deep items may nest, or the word that is not of digits alone: the kit's parsers of numbers take a plus sign. A number that is too
-// high `clap` has refused.
-fn limit_of<'a>(found: &ArgMatches<'a>) -> Result<usize, &'a str>
+// The number that a flag asks for, or the word that is not of digits alone: the kit's parsers of numbers take a plus sign. A number that is
+// too high `clap` has refused.
+pub(crate) fn number_of<'a>(
+    found: &ArgMatches<'a>,
+    flag: &str,
+    default: usize,
+    most: usize,
+) -> Result<usize, &'a str>
+    ensures { IfOk result (line.IsNumber default most (first_of flag.now
+        (rows_of (found_of found.now)))) }
+{
+    let Some(word) = found.get_str(flag) else {
+        return Ok(default);
+    };
+    match word.parse() {
+        Ok(number) if number <= most && !word.starts_with('+') => Ok(number),
+        _ => Err(word),
+    }
+}
+
+// How deep items may nest, or the word that is no number.
+pub(crate) fn limit_of<'a>(found: &ArgMatches<'a>) -> Result<usize, &'a str>
     ensures { IfOk result (line.IsLimit (first_of (codes "max-nesting")
         (rows_of (found_of found.now)))) }
 {
-    let Some(word) = found.get_str("max-nesting") else {
-        return Ok(NESTING_LIMIT);
-    };
-    match word.parse() {
-        Ok(limit) if limit <= NESTING_LIMIT && !word.starts_with('+') => Ok(limit),
-        _ => Err(word),
-    }
+    number_of(found, "max-nesting", NESTING_LIMIT, NESTING_LIMIT)
+}
+
+// The fault of a word that is no number, as `clap` tells those that it finds.
+pub(crate) fn no_number(
+    alloc: Global,
+    program: &mut clap::Command<'_>,
+    flag: &str,
+    word: &str,
+) -> Result<Error, AllocError> {
+    let fault = format!(in alloc;
+        "invalid value '{word}' for '--{flag} <N>': invalid digit found in string"
+    )?;
+    program.error(ErrorKind::ValueValidation, fault.as_str())
 }
 
 // The name of a file, or `-`.
@@ -230,7 +252,7 @@ fn diag2diag<'a>(
 }
 
 // A flag without a value.
-fn flag<'a>(alloc: Global, name: &'a str, help: &'a str) -> Arg<'a>
+pub(crate) fn flag<'a>(alloc: Global, name: &'a str, help: &'a str) -> Arg<'a>
     ensures { IsArgOf (line.flag name.entry.now) result }
 {
     Arg::new(alloc, name)
@@ -239,7 +261,12 @@ fn flag<'a>(alloc: Global, name: &'a str, help: &'a str) -> Arg<'a>
         .help(help)
 }
 
-fn format<'a>(alloc: Global, short: char, long: &'a str, names: ValueParser<'a>) -> Arg<'a>
+pub(crate) fn format<'a>(
+    alloc: Global,
+    short: char,
+    long: &'a str,
+    names: ValueParser<'a>,
+) -> Arg<'a>
     ensures { IsArgOf (line.format short long.entry.now names.entry) result }
 {
     Arg::new(alloc, "format")
@@ -251,7 +278,7 @@ fn format<'a>(alloc: Global, short: char, long: &'a str, names: ValueParser<'a>)
         .help("hex, binary or auto (binary) [default: auto]")
 }
 
-fn annotate<'a>(alloc: Global, names: ValueParser<'a>) -> Arg<'a>
+pub(crate) fn annotate<'a>(alloc: Global, names: ValueParser<'a>) -> Arg<'a>
     ensures { IsArgOf (line.annotate names.entry) result }
 {
     Arg::new(alloc, "annotate")
@@ -262,7 +289,7 @@ fn annotate<'a>(alloc: Global, names: ValueParser<'a>) -> Arg<'a>
         .help("Comment maps of this kind: ccs (CWT claims)")
 }
 
-fn max_nesting<'a>(alloc: Global) -> Arg<'a>
+pub(crate) fn max_nesting<'a>(alloc: Global) -> Arg<'a>
     ensures { IsArgOf line.max_nesting result }
 {
     Arg::new(alloc, "max-nesting")
@@ -317,6 +344,11 @@ fn with_common<'a>(
 {
     command
         .arg(max_nesting(alloc))?
-        .arg(file(alloc, "input", "INPUT", "The file to read, or -"))?
-        .arg(file(alloc, "output", "OUTPUT", "The file to write, or -"))
+        .arg(file(alloc, "input", "INPUT", "The one file to read, or -"))?
+        .arg(file(
+            alloc,
+            "output",
+            "OUTPUT",
+            "The file to write, emptied first, or -",
+        ))
 }

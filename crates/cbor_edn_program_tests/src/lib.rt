@@ -10,9 +10,13 @@ mod devices;
 #[cfg(test)]
 mod ends;
 #[cfg(test)]
+mod file_words;
+#[cfg(test)]
 mod recoding;
 #[cfg(test)]
 mod runs;
+#[cfg(test)]
+mod shown;
 #[cfg(test)]
 mod steps;
 #[cfg(test)]

@@ -1,13 +1,16 @@
 //! Calls that take no memory: each is done while every request for memory is refused.
 use crate::runs::roomy_sink;
-use cbor_edn::engine::{DeviceFault, RunError};
-use cbor_edn::{CborError, Fault, InconsistentEdn, ParseError};
+use cbor_edn::engine::{Command, DeviceFault, RunError};
+use cbor_edn::file_options::{CheckOptions, FormatOptions, ShowOptions};
+use cbor_edn::file_words::is_file_command;
+use cbor_edn::{CborError, Fault, InconsistentEdn, NESTING_LIMIT, ParseError};
 use cbor_edn_expect::memory::Failure;
 use std::alloc::{AllocError, Global};
 
 #[derive(Clone, Copy)]
 pub(crate) enum Group {
     Ends,
+    Files,
     /// A call that takes memory, by which it is seen that requests are refused.
     Control,
 }
@@ -18,6 +21,7 @@ pub(crate) type Row = (&'static str, Group);
 /// Ends of runs by the words of `RunError`.
 pub(crate) const FREE: &[Row] = &[
     ("From<..> for RunError", Group::Ends),
+    ("commands for files", Group::Files),
     ("a call that takes memory", Group::Control),
 ];
 
@@ -25,6 +29,7 @@ pub(crate) const FREE: &[Row] = &[
 pub(crate) fn called(alloc: Global, row: &Row) -> Result<bool, Failure> {
     match row.1 {
         Group::Ends => Ok(is_memory() && is_text() && is_cbor() && is_inconsistent() && is_read()),
+        Group::Files => Ok(is_file_command("fmt") && is_shown() && is_formatted() && is_checked()),
         Group::Control => control(alloc),
     }
 }
@@ -56,6 +61,38 @@ fn is_read() -> bool {
     let fault: Fault<DeviceFault> = Fault::Told(DeviceFault);
     let end = RunError::from(fault);
     matches!(&end, RunError::Read)
+}
+
+fn is_shown() -> bool {
+    let options = ShowOptions {
+        hex: true,
+        levels: 8,
+        bignum_from_tags: false,
+        annotate_ccs: true,
+        limit: NESTING_LIMIT,
+    };
+    let steps = options.steps();
+    steps.command == Command::Cbor2Diag && steps.hex && steps.annotate_ccs
+}
+
+fn is_formatted() -> bool {
+    let options = FormatOptions {
+        only_lists: false,
+        remove_comments: true,
+        limit: 3,
+    };
+    let steps = options.steps();
+    steps.command == Command::Diag2Diag && steps.remove_comments && steps.limit == 3
+}
+
+fn is_checked() -> bool {
+    let options = CheckOptions {
+        apply_999: true,
+        cbor: false,
+        limit: 3,
+    };
+    let steps = options.steps(false);
+    steps.command == Command::Diag2Cbor && steps.apply_999 && steps.aol_to_item
 }
 
 fn control(alloc: Global) -> Result<bool, Failure> {

@@ -4,6 +4,7 @@
 //! nothing was written, and `wrong` at any other answer. Those that take no memory print `ready` before it.
 #![tactic(auto)]
 
+mod files;
 mod free;
 mod lines;
 mod runs;
@@ -40,6 +41,10 @@ fn print_free(rt: &HostRuntime) -> io::Result<()> {
 
 fn main(rt: HostRuntime) -> io::Result<()> {
     print_runs(&rt)?;
+    for (name, call) in files::CALLS {
+        let told = word(files::called(rt.alloc(), *call));
+        println!(rt; "{name}: {told}")?;
+    }
     print_free(&rt)?;
     for row in served::SERVED {
         let told = word(served::serve_once(rt.alloc(), row));

@@ -6,9 +6,13 @@ ghost use Rattle.std.specs.Prelude.{◌≡◌, ◌+◌, Result, IfOk, IfErr};
 ghost use Rattle.std.specs.Io.KnownBytes.{IsAtEnd, Keeps};
 ghost use Rattle.cbor_edn_command.specs.Devices.{FailsAtMostOnce};
 ghost use Rattle.cbor_edn.specs.Runs.{IsOutput, IsRefused, Wrote, HasReadAll, EndsReading, EndsWriting, IsReported, IsReportedWhole, read_faults, write_faults, status};
+ghost use Rattle.cbor_edn.specs.Format.{IsFormatted, IsUnformatted};
+ghost use Rattle.cbor_edn.specs.Show.{IsShown, IsUnshown};
 ghost use Rattle.cbor_edn.specs.declared.engine.RunError.{RunError};
 
 use cbor_edn::engine::{self, Options, RunError, Sink, Source};
+use cbor_edn::file_options::{FormatOptions, ShowOptions};
+use cbor_edn::{format, show};
 use std::alloc::Global;
 
 /// `engine::converted`.
@@ -56,4 +60,20 @@ pub fn serve<R: Source, W: Sink, E: Sink>(
     ensures whole { result ≡ 1 → E.failures errors.new ≡ E.failures errors.old → IsReportedWhole (E.contents errors.old) (E.contents errors.new) }
 {
     engine::serve(alloc, options, source, sink, errors)
+}
+
+/// `show::shown`.
+pub fn shown(alloc: Global, options: &ShowOptions, input: &[u8]) -> Result<Vec<u8>, RunError>
+    ensures ok { IfOk result (λ out. IsShown options.now input.now out.items) }
+    ensures err { IfErr result (IsUnshown options.now input.now) }
+{
+    show::shown(alloc, options, input)
+}
+
+/// `format::formatted`.
+pub fn formatted(alloc: Global, options: &FormatOptions, input: &[u8]) -> Result<Vec<u8>, RunError>
+    ensures ok { IfOk result (λ out. IsFormatted options.now input.now out.items) }
+    ensures err { IfErr result (IsUnformatted options.now input.now) }
+{
+    format::formatted(alloc, options, input)
 }

@@ -1,7 +1,10 @@
 //! The program `cbor-edn`: EDN into CBOR and back, from file to file.
 #![tactic(auto)]
 
+mod files;
+
 use cbor_edn::engine::{Options, Source, StdSink, StdSource, serve};
+use cbor_edn::file_words::is_file_command;
 use cbor_edn::words;
 use std::env;
 use std::fs::{File, OpenOptions};
@@ -77,11 +80,27 @@ fn shown(rt: &HostRuntime, error: &clap::Error) -> u8 {
     }
 }
 
+// A command for files. What is written goes to no file, where a caller closed a standard stream.
+fn serve_command_for_files(rt: &HostRuntime, words: &[&str]) -> u8 {
+    let _streams = [
+        in_place_of_stream(rt),
+        in_place_of_stream(rt),
+        in_place_of_stream(rt),
+    ];
+    match files::serve(rt, words) {
+        Ok(status) => status,
+        Err(error) => shown(rt, &error),
+    }
+}
+
 // The exit status. Fails where the words can't be read.
 fn called(rt: &HostRuntime) -> io::Result<u8> {
     let alloc = rt.alloc();
     let owned: Vec<String> = env::args(rt)?.collect(alloc)?;
     let words: Vec<&str> = owned.iter().map(|word| word.as_str()).collect(alloc)?;
+    if words.len() > 1 && is_file_command(words[1]) {
+        return Ok(serve_command_for_files(rt, words.as_slice()));
+    }
     Ok(match words::options(alloc, words.as_slice()) {
         Ok((options, input, output)) => serve_files(rt, &options, input, output),
         Err(error) => shown(rt, &error),

@@ -2,7 +2,7 @@
 //! check here is that of a small crate, and what a clause refuses here it refuses where the call is written.
 #![tactic(auto)]
 
-ghost use Rattle.std.specs.Prelude.{◌≡◌, ℕ, ℤ, FitsSigned, option_map, map, List, Some, None, IfOk, IfErr, IfSome, OnOk};
+ghost use Rattle.std.specs.Prelude.{◌≡◌, [], ℕ, ℤ, FitsSigned, option_map, map, List, Some, None, IfOk, IfErr, IfSome, OnOk};
 ghost use Rattle.std.specs.Int.{w128};
 ghost use Rattle.std.specs.String.{string_bytes};
 ghost use Rattle.cbor_edn_core.specs.visit.Callbacks.{IsCall, IsKeyCall, IfVisited, ending};
@@ -21,7 +21,9 @@ ghost use Rattle.cbor_edn_model.specs.tree.Items.{Array, Map};
 ghost use Rattle.cbor_edn_model.specs.access.Paths.{at_sequence, items_in};
 ghost use Rattle.cbor_edn_model.specs.visit.Tagged.{has_tag};
 ghost use Rattle.cbor_edn_model.specs.visit.Seeking.{SoughtCall, VisitParts, IsTag, IsApplication};
-ghost use Rattle.cbor_edn_model.specs.tree.Trees.{ListTree, NumberTree, text};
+ghost use Rattle.cbor_edn_model.specs.internal.Widths.{capped};
+ghost use Rattle.cbor_edn_core.specs.tree.Embedding.{embedded_tree, literal_indicator};
+ghost use Rattle.cbor_edn_model.specs.tree.Trees.{ElementTree, LastTree, ListTree, NumberTree, SequenceTree, text, tree_nesting};
 ghost use Rattle.cbor_edn_model.specs.visit.Visits.{Call, KeyCall, Chain, VisitArray, VisitMap};
 ghost use Rattle.cbor_edn_parts.specs.Number.{IsNumber};
 ghost use Rattle.cbor_edn_parts.specs.Refusals.{IfTold, OnMemory};
@@ -290,4 +292,43 @@ pub fn visit_application_literals<
     ensures visited { (cs : List SoughtCall) × Chain (IsLiteralCall item_tree F.FnMut) f.old cs f.new × VisitParts IsApplication _ (sequence_tree sequence.old) cs (sequence_tree sequence.new) (ending result) }
 {
     sequence.visit_application_literals(alloc, f)
+}
+
+/// `Sequence::of_item`.
+pub fn of_item<'a>(alloc: Global, item: Item<'a>) -> Sequence<'a>
+    ensures { sequence_tree result ≡ SequenceTree [] (LastTree (ElementTree (item_tree item.entry)) []) }
+{
+    Sequence::of_item(alloc, item)
+}
+
+/// `Sequence::embedded`.
+pub fn embedded<'a>(
+    sequence: Sequence<'a>,
+    alloc: Global,
+    indicator: Option<Indicator>,
+) -> Result<Item<'a>, AllocError>
+    ensures { IfOk result (λ t. item_tree t ≡ embedded_tree (sequence_tree sequence.entry) indicator) }
+{
+    sequence.embedded(alloc, indicator)
+}
+
+/// `Item::get_literal_indicator`.
+pub fn get_literal_indicator(item: &Item<'_>) -> Option<Option<Indicator>>
+    ensures { result ≡ literal_indicator (item_tree item.now) }
+{
+    item.get_literal_indicator()
+}
+
+/// `Item::nesting`.
+pub fn item_nesting(item: &Item<'_>) -> usize
+    ensures { result ≡ capped (tree_nesting (item_tree item.now)) }
+{
+    item.nesting()
+}
+
+/// `Sequence::nesting`.
+pub fn sequence_nesting(sequence: &Sequence<'_>) -> usize
+    ensures { result ≡ capped (tree_nesting (sequence_tree sequence.now)) }
+{
+    sequence.nesting()
 }

@@ -1,0 +1,93 @@
+-- The words of the commands for files, as `clap` sees them, and what is read off the entries that `clap` finds for them.
+use Rattle.std.specs.Prelude.{◌≡◌, ◌||◌, ℕ, Bool, true, Some, if◌then◌else◌, List, [], ◌∷◌, codes, unwrap_or}
+use Rattle.std.specs.Str.{bytes_eq}
+use Rattle.clap.specs.Words.{App, Row, Rule, Text, all_of, fault_of, first_of, new_app, new_rule, subcommand_of, with_subcommand}
+use Rattle.clap.specs.declared.builder.action.ArgAction.TheVariants.{Append}
+use Rattle.clap.specs.declared.builder.value_parser.ValueParser.{ValueParser}
+use Rattle.clap.specs.declared.builder.value_parser.ValueParser.TheVariants.{Unsigned}
+use Rattle.cbor_edn_command.specs.CommandLine.{AreAnnotations, AreFormats, IsFlag, IsLimit, IsNoFlag, IsNumber, IsValue, annotate, flag, format, max_nesting, wants_command, with_rules}
+use Rattle.cbor_edn_command.specs.declared.file_options.FileCommand.{FileCommand}
+use Rattle.cbor_edn_command.specs.declared.file_options.FileCommand.TheVariants.{Show, Format, Check}
+use Rattle.cbor_edn_command.specs.declared.file_options.ShowOptions.{ShowOptions}
+use Rattle.cbor_edn_command.specs.declared.file_options.FormatOptions.{FormatOptions}
+use Rattle.cbor_edn_command.specs.declared.file_options.CheckOptions.{CheckOptions}
+use Rattle.cbor_edn_command.specs.declared.file_options.TheConstants.{DEFAULT_LEVELS, MOST_LEVELS}
+
+-- ---- the words that there are
+
+-- `--levels N`
+abbrev pub levels : Rule
+levels = record (new_rule (codes "levels")) { long = Some (codes "levels"); value_names = 1; parser = Some (Unsigned 0 255) }
+
+-- `--check`, which lists files
+abbrev pub only_lists : Rule
+only_lists = record (flag (codes "list")) { long = Some (codes "check") }
+
+-- FILE, as often as there are files
+abbrev pub files : Rule
+files = record (new_rule (codes "files")) { action = Some Append; value_names = 1 }
+
+abbrev pub show : ValueParser → ValueParser → App
+show formats annotations =
+    with_rules (new_app (codes "show"))
+    (format 105 (codes "input-format") formats ∷ levels ∷ flag (codes "no-embedded") ∷ flag (codes "no-bignum-from-tags") ∷ annotate annotations ∷ max_nesting ∷ files ∷ [])
+
+abbrev pub fmt : App
+fmt = with_rules (new_app (codes "fmt")) (only_lists ∷ flag (codes "remove-comments") ∷ max_nesting ∷ files ∷ [])
+
+abbrev pub check : App
+check = with_rules (new_app (codes "check")) (flag (codes "apply-999") ∷ flag (codes "cbor") ∷ max_nesting ∷ files ∷ [])
+
+-- `cbor-edn` with these commands, with the parsers of the names of formats and of annotations
+abbrev pub program : ValueParser → ValueParser → App
+program formats annotations =
+    with_subcommand (with_subcommand (with_subcommand (wants_command (new_app (codes "cbor-edn"))) (show formats annotations).top) fmt.top) check.top
+
+-- ---- what they say
+
+-- the words that name these commands
+abbrev pub is_file_command : Text → Bool
+is_file_command word = bytes_eq word (codes "show") || (bytes_eq word (codes "fmt") || bytes_eq word (codes "check"))
+
+-- The levels of embedded CBOR: none behind `--no-embedded`, else the number of `--levels`, at most 255, or 8.
+abbrev pub AreLevels : List Row → ℕ → Type 0
+AreLevels rows n = (off : Bool) × IsFlag (codes "no-embedded") rows off
+    × (shown : ℕ) × IsNumber DEFAULT_LEVELS MOST_LEVELS (first_of (codes "levels") rows) shown × (n ≡ (if off then 0 else shown))
+
+-- The options of a command are those that its entries set.
+pub record IsShow (rows : List Row) (o : ShowOptions) : Type 0 where
+  pub hex : IsValue (codes "format") (codes "hex") rows o.hex
+  pub levels : AreLevels rows o.levels
+  pub bignum_from_tags : IsNoFlag (codes "no-bignum-from-tags") rows o.bignum_from_tags
+  pub annotate_ccs : IsValue (codes "annotate") (codes "ccs") rows o.annotate_ccs
+  pub limit : IsLimit (first_of (codes "max-nesting") rows) o.limit
+
+pub record IsFormat (rows : List Row) (o : FormatOptions) : Type 0 where
+  pub only_lists : IsFlag (codes "list") rows o.only_lists
+  pub remove_comments : IsFlag (codes "remove-comments") rows o.remove_comments
+  pub limit : IsLimit (first_of (codes "max-nesting") rows) o.limit
+
+pub record IsCheck (rows : List Row) (o : CheckOptions) : Type 0 where
+  pub apply_999 : IsFlag (codes "apply-999") rows o.apply_999
+  pub cbor : IsFlag (codes "cbor") rows o.cbor
+  pub limit : IsLimit (first_of (codes "max-nesting") rows) o.limit
+
+-- A command, read off its name and its entries.
+abbrev pub IsNamed : Text → Text → Type 0
+IsNamed name word = bytes_eq name word ≡ true
+
+abbrev pub IsCommand : Text × List Row → FileCommand → Type 0
+IsCommand (name, rows) (Show o) = IsNamed name (codes "show") × IsShow rows o
+IsCommand (name, rows) (Format o) = IsNamed name (codes "fmt") × IsFormat rows o
+IsCommand (name, rows) (Check o) = IsNamed name (codes "check") × IsCheck rows o
+
+-- the names of the files, or `-` where there are none
+abbrev pub files_of : List Row → List Text
+files_of rows = unwrap_or (all_of (codes "files") rows) (codes "-" ∷ [])
+
+-- The same of the entries that `clap` finds for some words, and it finds no fault in them.
+abbrev pub IsFileCommandOf : List Text → FileCommand → List Text → Type 0
+IsFileCommandOf words c names =
+    (formats annotations : ValueParser) × (found : Text × List Row) × AreFormats formats × AreAnnotations annotations
+    × (fault_of (program formats annotations) words ≡ []) × (subcommand_of (program formats annotations) words ≡ Some found)
+    × IsCommand found c × (names ≡ files_of found.1)

@@ -1,0 +1,13 @@
+use Rattle.std.proofs.Common.{◌∷◌, ◌++◌, [], ap, ◌∙◌}
+use Rattle.cbor_edn_files_tests.proofs.Moments.{renamed_after, renamed_ends}
+use Rattle.cbor_edn_files_tests.proofs.memory.MemoryDisk.rename.Goals as goal
+
+pub returns-clause-passes : goal.returns-clause-passes
+returns-clause-passes c =
+    renamed_after c.args.from.now c.args.to.now c.args.self.now.changes.items c.push.new.self.items
+    (c.in_ok-change.change, c.in_ok-change.ensures, c.in_ok-push.ensures.items ∙ ap (λ cs. cs ++ (c.in_ok-change.change ∷ [])) c.fails.ensures)
+
+pub returns-clause-ok : goal.returns-clause-ok
+returns-clause-ok c =
+    renamed_ends c.args.from.now c.args.to.now c.args.self.now.changes.items c.push.new.self.items
+    (c.in_ok-change.change, c.in_ok-change.ensures, c.in_ok-push.ensures.items ∙ ap (λ cs. cs ++ (c.in_ok-change.change ∷ [])) c.fails.ensures)

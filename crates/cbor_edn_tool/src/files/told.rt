@@ -1,0 +1,68 @@
+//! What is told of files, on standard error. No name and no input acts on a terminal by it.
+
+use cbor_edn::engine::{Options, RunError};
+use cbor_edn_findings::finding::{Finding, of_run};
+use cbor_edn_findings::shown::{lines, shown};
+use std::alloc::AllocError;
+use std::io;
+
+/// What standard input is called where it is spoken of.
+const STANDARD_INPUT: &str = "<stdin>";
+
+/// A file is at fault, or would change, and that was told.
+#[derive(Debug, Drop)]
+pub(super) struct Told;
+
+/// What a file is called where it is spoken of.
+pub(super) fn spoken(name: &str) -> &str {
+    if name == "-" { STANDARD_INPUT } else { name }
+}
+
+/// Tells of a file by some words.
+pub(super) fn tell(rt: &HostRuntime, name: &str, words: &str) -> Told {
+    match shown(rt.alloc(), spoken(name)) {
+        Ok(name) => {
+            let _ = eprintln!(rt; "cbor-edn: {name}: {words}");
+        }
+        Err(_) => {
+            let _ = eprintln!(rt; "cbor-edn: Out of memory");
+        }
+    }
+    Told
+}
+
+/// Tells of a call that failed.
+pub(super) fn tell_error(rt: &HostRuntime, name: &str, error: &io::Error) -> Told {
+    match error.to_string(rt.alloc()) {
+        Ok(words) => tell(rt, name, &words),
+        Err(_) => tell(rt, name, "Out of memory"),
+    }
+}
+
+/// Tells of an input that a run of these options refused, with the place.
+pub(super) fn tell_refused(
+    rt: &HostRuntime,
+    name: &str,
+    options: &Options,
+    input: &[u8],
+    fault: RunError,
+) -> Told {
+    let finding = of_run(rt.alloc(), options, input, fault);
+    tell_finding(rt, name, input, finding)
+}
+
+/// Tells of what was found in an input.
+pub(super) fn tell_finding(
+    rt: &HostRuntime,
+    name: &str,
+    input: &[u8],
+    finding: Result<Finding, AllocError>,
+) -> Told {
+    match finding.and_then(|finding| lines(rt.alloc(), spoken(name), input, &finding)) {
+        Ok(lines) => {
+            let _ = eprint!(rt; "{lines}");
+            Told
+        }
+        Err(_) => tell(rt, name, "Out of memory"),
+    }
+}
