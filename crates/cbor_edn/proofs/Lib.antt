@@ -1,9 +1,11 @@
 mod Faults
+mod KeptTags
 mod Loading
 mod RecodedTexts
 mod Returns
 mod RunsOnce
 mod ShownNesting
 mod StepsKept
+mod TagActs
 mod UntaggedSteps
 mod WrittenOutput

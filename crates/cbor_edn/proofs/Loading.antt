@@ -16,8 +16,9 @@ use Rattle.std.specs.Prelude.{Result, Ok, Err, IfOk, ◌||◌}
 use Rattle.std.specs.declared.alloc.AllocError.{AllocError}
 use Rattle.std.specs.declared.alloc.Global.{Global}
 use Rattle.std.specs.declared.vec.Vec.{Vec}
-use Rattle.cbor_edn_model.specs.visit.Tagged.{has_tag}
-use Rattle.cbor_edn_stream.proofs.lemmas.Tested.{decoded_valid}
+use Rattle.cbor_edn_stream.specs.Tags.{values_have_tag}
+use Rattle.cbor_edn.specs.ChangedTags.{tags_changed}
+use Rattle.cbor_edn_stream.proofs.lemmas.Tested.{decoded_tree, decoded_valid}
 use Rattle.cbor_edn_parts.specs.Refusals.{IfTold}
 use Rattle.cbor_edn_parts.specs.declared.error.Fault.{Fault}
 use Rattle.cbor_edn_parts.specs.declared.error.Fault.TheVariants.{Memory, Told}
@@ -27,7 +28,7 @@ use Rattle.cbor_edn_command.specs.Hexadecimal.{input_bytes}
 use Rattle.cbor_edn.specs.Runs.{IsReadAs, IsDecodedAs, IsPrintedAs, IsRefused, told_as}
 use Rattle.cbor_edn.specs.RunSteps.{Where, IsLaidOut, StepsGive}
 use Rattle.cbor_edn.specs.Steps.{IsEncoded, IsUnencoded, IsDiagnosed, IsUndiagnosed}
-use Rattle.cbor_edn.proofs.UntaggedSteps.{untagged_steps_give}
+use Rattle.cbor_edn.proofs.UntaggedSteps.{kept_steps_give}
 use Rattle.cbor_edn_command.specs.declared.options.Command.TheVariants.{Cbor2Diag}
 use Rattle.cbor_edn.specs.declared.engine.RunError.{RunError}
 use Rattle.cbor_edn.specs.declared.engine.RunError.TheVariants.{Read, NotUtf8, Parse, Cbor, Hex, Inconsistent, Write}
@@ -80,11 +81,14 @@ printed_text o w between (Ok out) give (v, laid, is) utf8 = (v, give v laid, (sh
 printed_text o w between (Err e) give is utf8 = tt
 
 -- a text that was printed without the tree
-pub streamed_as : (o : Options) (bytes out : List ℕ) (w : Tree Seq) → IsDecodedSequence o.limit bytes w → has_tag w ≡ false → (o.remove_comments || (o.aol_to_item || (o.annotate_ccs || (o.apply_999 || o.preserve_space)))) ≡ false
+pub streamed_as : (o : Options) (bytes out : List ℕ) (w : Tree Seq) (has : Bool) → IsDecodedSequence o.limit bytes w → ((vs : Values) → EncAll bytes vs → has ≡ values_have_tag (tags_changed o.annotate_tags o.bignum_from_tags) vs) → has ≡ false
+    → (o.remove_comments || (o.aol_to_item || (o.annotate_ccs || (o.apply_999 || o.preserve_space)))) ≡ false
     → IsUtf8 out → out ≡ text (laid_out indented w) → IsDiagnosed o bytes out
-streamed_as o bytes out w d none off utf8 is =
+streamed_as o bytes out w has d tells none off utf8 is =
     let good = decoded_valid o.limit bytes w d in
-    (w, laid_out indented w, (d, good), untagged_steps_give o w (laid_out indented w) none off refl, (stays_valid Seq indented w good, utf8, is))
+    let tree = decoded_tree o.limit bytes w d in
+    let given = kept_steps_give o d.values (laid_out indented w) (sym (tells d.values d.encoded) ∙ none) off (ap (λ (t : Tree Seq). laid_out indented t) tree) in
+    (w, laid_out indented w, (d, good), subst (λ (t : Tree Seq). StepsGive o t (laid_out indented w)) (sym tree) given, (stays_valid Seq indented w good, utf8, is))
 
 -- a tree that is printed where it is lent
 pub printed_as : (o : Options) (out : List ℕ) (lent x : Sequence) → lent ≡ x → IsShownAs o (sequence_tree lent) out → IsShownAs o (sequence_tree x) out

@@ -1,4 +1,4 @@
--- The steps of a run that visits no tags where none stands.
+-- The steps of a run that visits no tags where none stands, or none that they change.
 use Rattle.std.proofs.Common.{◌≡◌, Bool, true, false, [], refl, sym, ap, ◌∙◌, subst}
 use Rattle.std.specs.Prelude.{◌&&◌, ◌||◌, not}
 use Rattle.std.proofs.Math.Bool.{and-false}
@@ -9,6 +9,13 @@ use Rattle.cbor_edn_parts.specs.declared.policy.DelimiterPolicy.TheVariants.{Dis
 use Rattle.cbor_edn_model.specs.layout.Layout.{laid_out}
 use Rattle.cbor_edn_model.specs.tree.Trees.{Tree, Seq}
 use Rattle.cbor_edn_model.specs.visit.Tagged.{has_tag}
+use Rattle.cbor_edn_model.specs.cbor.Value.{Values}
+use Rattle.cbor_edn_model.specs.internal.Regular.{sequence_tree_of}
+use Rattle.cbor_edn_model.proofs.lemmas.cbor.CborTrees.{row_tree}
+use Rattle.cbor_edn_stream.specs.Tags.{values_have_tag}
+use Rattle.cbor_edn.specs.ChangedTags.{tags_changed}
+use Rattle.cbor_edn.proofs.KeptTags.{visit_leaves}
+use Rattle.cbor_edn.proofs.TagActs.{address_acts, time_acts, language_acts, bignum_acts}
 use Rattle.cbor_edn_model.proofs.lemmas.visit.Untagged.{sequence_untagged}
 use Rattle.cbor_edn_conversions.specs.Addresses.{pretty_address}
 use Rattle.cbor_edn_conversions.specs.Annotations.{comment_lang}
@@ -79,18 +86,28 @@ guarded_steps_give o w annotated uncommented resolved claimed counted given tagg
       spaces = spaces;
     }
 
+-- ---- values that are printed while they are read
+
 -- a step that is asked for leaves the tree, where it does so when it is taken
-where_kept : (asked : Bool) (P : Step) (w : Tree Seq) → P w w → Where asked P w w
-where_kept true P w h = h
+where_kept : (asked : Bool) (P : Step) (w : Tree Seq) → (asked ≡ true → P w w) → Where asked P w w
+where_kept true P w h = h refl
 where_kept false P w h = refl
 
 where_not_asked : (asked : Bool) (P : Step) (w : Tree Seq) → asked ≡ false → Where asked P w w
 where_not_asked asked P w off = rw off refl
 
--- Where no tag stands, and no step is asked for that may change other items, the items are laid out alone.
-pub untagged_steps_give : (o : Options) (w v : Tree Seq) → has_tag w ≡ false → (o.remove_comments || (o.aol_to_item || (o.annotate_ccs || (o.apply_999 || o.preserve_space)))) ≡ false
-    → v ≡ laid_out indented w → StepsGive o w v
-untagged_steps_give o w v none off is =
+annotated_kept : (bignum : Bool) (vs : Values) → values_have_tag (tags_changed true bignum) vs ≡ false → AnnotatesTags (sequence_tree_of (row_tree vs)) (sequence_tree_of (row_tree vs))
+annotated_kept bignum vs none =
+    let w = sequence_tree_of (row_tree vs) in
+    let numbers = tags_changed true bignum in
+    (w, visit_leaves numbers pretty_address (address_acts bignum) vs none, (w, visit_leaves numbers pretty_time (time_acts bignum) vs none, visit_leaves numbers comment_lang (language_acts bignum) vs none))
+
+-- Where no tag stands that a step changes, and no step is asked for that may change other items, the items are laid out alone.
+pub kept_steps_give : (o : Options) (vs : Values) (v : Tree Seq) → values_have_tag (tags_changed o.annotate_tags o.bignum_from_tags) vs ≡ false
+    → (o.remove_comments || (o.aol_to_item || (o.annotate_ccs || (o.apply_999 || o.preserve_space)))) ≡ false
+    → v ≡ laid_out indented (sequence_tree_of (row_tree vs)) → StepsGive o (sequence_tree_of (row_tree vs)) v
+kept_steps_give o vs v none off is =
+    let w = sequence_tree_of (row_tree vs) in
     let first = or_parts o.remove_comments (o.aol_to_item || (o.annotate_ccs || (o.apply_999 || o.preserve_space))) off in
     let second = or_parts o.aol_to_item (o.annotate_ccs || (o.apply_999 || o.preserve_space)) first.1 in
     let third = or_parts o.annotate_ccs (o.apply_999 || o.preserve_space) second.1 in
@@ -102,11 +119,12 @@ untagged_steps_give o w v none off is =
       claimed = w;
       counted = w;
       tagged = w;
-      tags = where_kept o.annotate_tags AnnotatesTags w (annotated_untagged w none);
+      tags = where_kept o.annotate_tags AnnotatesTags w (λ asked. annotated_kept o.bignum_from_tags vs (subst (λ (b : Bool). values_have_tag (tags_changed b o.bignum_from_tags) vs ≡ false) asked none));
       comments = where_not_asked o.remove_comments (IsLaidOut DiscardAll) w first.0;
       literals = where_not_asked o.aol_to_item ResolvesLiterals w second.0;
       claims = where_not_asked o.annotate_ccs HasClaims w third.0;
-      bignums = where_kept o.bignum_from_tags (TagsVisited pretty_bignum) w (visited_untagged pretty_bignum w none);
+      bignums = where_kept o.bignum_from_tags (TagsVisited pretty_bignum) w
+          (λ asked. visit_leaves (tags_changed o.annotate_tags true) pretty_bignum (bignum_acts o.annotate_tags) vs (subst (λ (b : Bool). values_have_tag (tags_changed o.annotate_tags b) vs ≡ false) asked none));
       others = where_not_asked o.apply_999 (LiteralsVisited to_tag999) w last.0;
       spaces = rw last.1 is;
     }

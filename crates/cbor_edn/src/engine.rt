@@ -22,7 +22,7 @@ use cbor_edn_core::cbor::decode::CborError;
 use cbor_edn_core::tree::Sequence;
 use cbor_edn_parts::buffer::TextBuffer;
 use cbor_edn_parts::error::{Fault, InconsistentEdn, ParseError};
-use cbor_edn_stream::print_cbor;
+use cbor_edn_stream::{has_tag_of, print_cbor};
 use simdutf8::basic::from_utf8;
 use std::alloc::{AllocError, Global};
 use thiserror::Error;
@@ -157,7 +157,7 @@ fn printed(
 }
 
 // The text of the items that bytes encode, printed while they are read. None where a step is asked for that may change other items than tags, or
-// where a tag stands in them.
+// where a tag stands in them that a step may change.
 fn streamed(alloc: Global, options: &Options, bytes: &[u8]) -> Result<Option<Vec<u8>>, RunError>
     ensures ok { IfOk result (λ text. IfSome text (λ out. IsDiagnosed options.now bytes.now out.items)) }
     ensures err { IfErr result (IsUndiagnosed options.now bytes.now) }
@@ -165,12 +165,13 @@ fn streamed(alloc: Global, options: &Options, bytes: &[u8]) -> Result<Option<Vec
     if steps::change_untagged(options) {
         return Ok(None);
     }
-    let mut out = TextBuffer::new(alloc);
-    if print_cbor(alloc, &mut out, bytes, options.limit)? {
-        Ok(Some(out.into_bytes()))
-    } else {
-        Ok(None)
+    let changed = has_tag_of(steps::changed_tags(options), bytes)?;
+    if changed {
+        return Ok(None);
     }
+    let mut out = TextBuffer::new(alloc);
+    print_cbor(alloc, &mut out, bytes, options.limit)?;
+    Ok(Some(out.into_bytes()))
 }
 
 // The text of the items that bytes encode.

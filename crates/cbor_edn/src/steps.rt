@@ -12,6 +12,7 @@ ghost use Rattle.cbor_edn_conversions.specs.Annotations.{comment_lang};
 ghost use Rattle.cbor_edn_conversions.specs.Bignums.{pretty_bignum};
 ghost use Rattle.cbor_edn_conversions.specs.Tag999.{to_tag999};
 ghost use Rattle.cbor_edn_conversions.specs.Times.{resolve_time, pretty_time};
+ghost use Rattle.cbor_edn.specs.ChangedTags.{tags_changed};
 ghost use Rattle.cbor_edn.specs.RunSteps.{Where, InTurn, IsLaidOut, TagsVisited, LiteralsVisited, HasClaims, StepsGive};
 
 use cbor_edn_application::visits::{
@@ -79,6 +80,18 @@ pub(crate) fn change_untagged(options: &Options) -> bool
         || options.annotate_ccs
         || options.apply_999
         || options.preserve_space
+}
+
+/// The numbers of the tags that the steps that are asked for may change.
+pub(crate) fn changed_tags(options: &Options) -> &'static [u64]
+    ensures { result.now ≡ tags_changed options.now.annotate_tags options.now.bignum_from_tags }
+{
+    match (options.annotate_tags, options.bignum_from_tags) {
+        (false, false) => &[],
+        (false, true) => &[2, 3],
+        (true, false) => &[1, 38, 52, 54],
+        (true, true) => &[1, 38, 52, 54, 2, 3],
+    }
 }
 
 /// Whether a step that visits tags is asked for, and there are any: where none stands, no visit of tags does anything.

@@ -88,7 +88,42 @@ const PRINTED: &[(Repeated, Repeated)] = &[
     // items without a list, and none
     (("", "00", 3, ""), ("0", ",\n0", 2, "\n")),
     (("", "", 0, ""), ("", "", 0, "")),
-    // a tag stands behind what can be printed at once
+    // tags that no step changes, on a line and on lines: what stands in one is indented one level more
+    (("d29818", "01", 24, ""), ("18([1", ", 1", 23, "])\n")),
+    (
+        ("d2981b", "01", 27, ""),
+        ("18([\n        1", ",\n        1", 26, "\n    ])\n"),
+    ),
+    (
+        ("d83dd2981b", "01", 27, ""),
+        (
+            "61(18([\n            1",
+            ",\n            1",
+            26,
+            "\n        ]))\n",
+        ),
+    ),
+    (
+        ("d818bf", "0120", 200, "ff"),
+        ("24({_ \n        1:-1", ",\n        1:-1", 199, "\n    })\n"),
+    ),
+    // 81 bytes, of which those in parentheses fit behind four spaces
+    (("d903e89819", "01", 25, ""), ("1000([1", ", 1", 24, "])\n")),
+    // behind what is long
+    (
+        ("82784c", "61", 76, "d2a0"),
+        ("[\n    \"", "a", 76, "\",\n    18({})\n]\n"),
+    ),
+    // a tag that a step changes stands behind what can be printed at once, and in another
+    (
+        ("d2981b", "01", 26, "c100"),
+        (
+            "18([\n        1",
+            ",\n        1",
+            25,
+            ",\n        DT'1970-01-01T00:00:00+00:00'\n    ])\n",
+        ),
+    ),
     (
         ("981b", "01", 26, "c100"),
         (
@@ -120,6 +155,11 @@ const REFUSED: &[(Repeated, &str)] = &[
         "Text string must be valid UTF-8",
     ),
     (("9864", "01", 99, "f97c01"), "Float value out of scope"),
+    (
+        ("9864", "01", 99, "df"),
+        "Integer/Tag with indefinite length encoding is not well-formed",
+    ),
+    (("d29864", "01", 99, ""), "Expected item, out of data"),
 ];
 
 fn prints(alloc: Global, digits: Repeated, text: Repeated) -> Result<bool, Fail> {

@@ -3,5 +3,7 @@ pub mod Prefixes
 pub mod RowTexts
 pub mod Tested
 pub mod Turns
+pub mod Lines
 pub mod Loops
 pub mod Sequences
+pub mod Heads

@@ -2,5 +2,7 @@
 #![tactic(auto)]
 
 mod print;
+mod tags;
 
 pub use print::print_cbor;
+pub use tags::has_tag_of;

@@ -1,8 +1,8 @@
 //! Printing from bytes.
 //!
 //! An item that takes more than `9 * n` bytes is wider than `n` columns, since a head has nine bytes at most and shows one column at least.
-//! So an item is decoded from no more bytes than can fit on its line. Where they hold it whole, it is a small tree, which the printer lays
-//! out. Where they don't, it has lines of its own, and its entries are printed one by one in the same way.
+//! So an item in which others nest is decoded from no more bytes than can fit on its line. Where they hold it whole, it is a small tree, which
+//! the printer lays out. Where they don't, it has lines of its own, and its parts are printed one by one in the same way.
 ghost use Rattle.std.specs.Prelude.{◌≡◌, ◌≢◌, ◌++◌, ◌<◌, ◌≤◌, ◌*◌, ◌-◌, ◌^◌, ◌∷◌, [], ℕ, suc, true, false, length, map, IfOk, IfSome, IfNone, OnOk, None};
 ghost use Rattle.cbor_edn_parts.specs.Buffer.{buffer_bytes};
 ghost use Rattle.cbor_edn_parts.specs.Indicator.{indicator_text};
@@ -14,36 +14,46 @@ ghost use Rattle.cbor_edn_parts.specs.LayoutColumns.{respaced};
 ghost use Rattle.cbor_edn_model.specs.text.Spelling as spelling;
 ghost use Rattle.cbor_edn_model.specs.cbor.Decoded.{IsDecodedSequence, NoSequence, IsTooDeepSequence};
 ghost use Rattle.cbor_edn_model.specs.layout.Layout.{laid, laid_out, laid_list_head};
-ghost use Rattle.cbor_edn_model.specs.tree.Trees.{Tree, Seq, text, list_head_text};
-ghost use Rattle.cbor_edn_model.specs.visit.Tagged.{has_tag};
+ghost use Rattle.cbor_edn_parts.specs.Contents.{kind_literal};
+ghost use Rattle.cbor_edn_parts.specs.Leaves.{literal_bytes, small_integer};
+ghost use Rattle.cbor_edn_model.specs.tree.Trees.{Tree, OneItem, Seq, text, list_head_text};
 ghost use Rattle.cbor_edn_model.specs.internal.CborReading as reading;
-ghost use Rattle.cbor_edn_model.specs.internal.CborReading.{trees, item_at, pair_at, many, until, several, argument_indicator, row_of};
+ghost use Rattle.cbor_edn_model.specs.internal.CborReading.{trees, inner, head_at, item_at, pair_at, tag_by, string_by, string_at, shown, number_tree, DecoderGives, many, until, several, argument_indicator, row_of};
 ghost use Rattle.cbor_edn_model.specs.internal.Regular.{list_inside, spaced_list_head};
-ghost use Rattle.cbor_edn_stream.specs.Printed.{Prints, IsPrintedItem, front_room, bracketed, entry_at, list_by, row_text, row_tagged, long_text};
+ghost use Rattle.cbor_edn_stream.specs.Printed.{Prints, Writes, WritesAnyhow, WritesParts, WritesRow, front_room, bracketed, entry_at, list_by, nested_major, nested_by};
 
 use cbor_edn_core::cbor::decode::{CborError, decode_item};
 use cbor_edn_core::layout::print_item as print_tree;
-use cbor_edn_core::visit::item_has_tag;
 use cbor_edn_model::cbor::decode::head::{Argument, Stop, head_of, indicator_of, past_stop};
+use cbor_edn_model::cbor::heads::Width;
+use cbor_edn_model::text::label::LabelKind;
 use cbor_edn_model::text::list_head::{head_space, print_laid_head};
-use cbor_edn_model::text::write::print_indicator;
+use cbor_edn_model::text::write::{print_indicator, print_label};
 use cbor_edn_parts::buffer::TextBuffer;
 use cbor_edn_parts::error::Fault;
 use cbor_edn_parts::layout::{Layout, Slot, print_end, print_separator, print_space};
 use cbor_edn_parts::number::{Number, SmallInteger};
 use cbor_edn_parts::policy::DelimiterPolicy;
 use cbor_edn_parts::space::{Msc, S, Soc};
+use cbor_edn_parts::string::{Literal, StringKind};
 use std::alloc::{AllocError, Global};
 
-/// The lists that are printed entry by entry.
+/// The lists.
 #[derive(Clone, Copy)]
 pub enum Brackets {
     Array,
     Map,
 }
 
-/// Writes the text of the items that bytes encode, as the indented policy lays them out, at the end of another. Answers `false` where a tag
-/// stands in them: the text is not all written then, and is to be dropped.
+/// The items in which others nest.
+#[derive(Clone, Copy)]
+pub enum Nested {
+    Array,
+    Map,
+    Tag,
+}
+
+/// Writes the text of the items that bytes encode, as the indented policy lays them out, at the end of another.
 ///
 /// Fails with the refusal of the first fault of the bytes, as [`Sequence::from_cbor_within`] does, or for want of memory. A part of the text
 /// may be written then. Beside the text it takes memory for an item that fits on a line, and for a string that doesn't.
@@ -54,27 +64,25 @@ pub fn print_cbor(
     out: &mut TextBuffer,
     bytes: &[u8],
     limit: usize,
-) -> Result<bool, Fault<CborError>>
-    ensures accepted { IfOk result (λ printed. printed ≡ true → (v : Tree Seq) × IsDecodedSequence limit bytes.now v × (has_tag v ≡ false) × (buffer_bytes out.new ≡ buffer_bytes out.old ++ text (laid_out indented v))) }
+) -> Result<(), Fault<CborError>>
+    ensures accepted { OnOk result ((v : Tree Seq) × IsDecodedSequence limit bytes.now v × (buffer_bytes out.new ≡ buffer_bytes out.old ++ text (laid_out indented v))) }
     ensures refused { IfTold result (λ e. e ≢ CborError.TooDeep → NoSequence bytes.now) }
     ensures too_deep { IfTold result (λ e. e ≡ CborError.TooDeep → IsTooDeepSequence limit bytes.now) }
 {
-    let layout = Layout::of(DelimiterPolicy::indented());
-    match past_stop(Stop::EndOfData, bytes) {
-        Some(_) => Ok(true),
-        None => {
-            let printed = print_until(
-                alloc,
-                out,
-                layout,
-                Brackets::Array,
-                Stop::EndOfData,
-                bytes,
-                limit,
-            )?;
-            Ok(printed.is_some())
-        }
+    if bytes.is_empty() {
+        return Ok(());
     }
+    let layout = Layout::of(DelimiterPolicy::indented());
+    print_until(
+        alloc,
+        out,
+        layout,
+        Brackets::Array,
+        Stop::EndOfData,
+        bytes,
+        limit,
+    )?;
+    Ok(())
 }
 
 /// How many bytes an item on a line has at the most.
@@ -87,29 +95,7 @@ fn room(layout: Layout) -> usize
     }
 }
 
-/// Writes the integer at the front, if one stands there, and answers the bytes behind it. It takes no tree.
-fn print_integer<'b>(out: &mut TextBuffer, bytes: &'b [u8]) -> Result<Option<&'b [u8]>, AllocError>
-    ensures printed { IfOk result (λ o. IfSome o (λ rest. IsPrintedItem bytes.now rest.now (buffer_bytes out.old) (buffer_bytes out.new))) }
-    ensures none { IfOk result (λ o. IfNone o (buffer_bytes out.new ≡ buffer_bytes out.old)) }
-    ensures shorter { IfOk result (λ o. IfSome o (λ r. length r.now < length bytes.now)) }
-{
-    let [0..=0x3f, ..] = bytes else {
-        return Ok(None);
-    };
-    let Ok(((major, Some((width, argument))), rest)) = head_of(bytes) else {
-        return Ok(None);
-    };
-    let integer = match major {
-        0 => SmallInteger::Positive(argument),
-        1 => SmallInteger::Negative(argument),
-        _ => return Ok(None),
-    };
-    Number::small(integer).print(out)?;
-    print_indicator(out, indicator_of(Some((width, argument))))?;
-    Ok(Some(rest))
-}
-
-/// Writes the item at the front, and answers the bytes behind it, or none where a tag stands in it.
+/// Writes the item at the front, and answers the bytes behind it.
 #[cycle(print)]
 fn print_item<'b>(
     alloc: Global,
@@ -117,79 +103,234 @@ fn print_item<'b>(
     layout: Layout,
     bytes: &'b [u8],
     limit: usize,
-) -> Result<Option<&'b [u8]>, Fault<CborError>>
-    ensures exact { Prints (λ t. text (laid layout t)) (λ t. has_tag t) (λ r. r.now) (buffer_bytes out.old) (buffer_bytes out.new) result (item_at trees limit bytes.now) }
-    ensures shorter { IfOk result (λ o. IfSome o (λ r. length r.now < length bytes.now)) }
+) -> Result<&'b [u8], Fault<CborError>>
+    ensures exact { Prints (λ t. Writes layout t) (λ r. r.now) (buffer_bytes out.old) (buffer_bytes out.new) result (item_at trees limit bytes.now) }
+    ensures shorter { IfOk result (λ r. length r.now < length bytes.now) }
 {
-    if let Some(rest) = print_integer(out, bytes)? {
-        return Ok(Some(rest));
-    }
-    let (front, _) = bytes.split_at(room(layout).min(bytes.len()));
-    match decode_item(alloc, front, limit) {
-        Ok((item, behind)) => {
-            if item_has_tag(&item) {
-                return Ok(None);
-            }
-            print_tree(out, &item, &layout)?;
-            let (_, rest) = bytes.split_at(front.len() - behind.len());
-            Ok(Some(rest))
+    let ((major, argument), behind) = head_of(bytes)?;
+    match (major, argument) {
+        (0, Some((width, number))) => {
+            print_integer(out, SmallInteger::Positive(number), width, number)?;
+            Ok(behind)
         }
-        Err(Fault::Memory(e)) => Err(Fault::Memory(e)),
-        Err(Fault::Told(_)) => {
-            let ((major, argument), behind) = head_of(bytes)?;
-            match major {
-                4 => print_list(alloc, out, layout, Brackets::Array, argument, behind, limit),
-                5 => print_list(alloc, out, layout, Brackets::Map, argument, behind, limit),
-                6 => Ok(None),
-                _ => print_leaf(alloc, out, layout, bytes, limit),
-            }
+        (1, Some((width, number))) => {
+            print_integer(out, SmallInteger::Negative(number), width, number)?;
+            Ok(behind)
         }
+        (2, Some((width, count))) => {
+            print_string(alloc, out, StringKind::Bytes, width, count, behind)
+        }
+        (3, Some((width, count))) => {
+            print_string(alloc, out, StringKind::Text, width, count, behind)
+        }
+        (4, _) => print_nested(
+            alloc,
+            out,
+            layout,
+            Nested::Array,
+            argument,
+            bytes,
+            behind,
+            limit,
+        ),
+        (5, _) => print_nested(
+            alloc,
+            out,
+            layout,
+            Nested::Map,
+            argument,
+            bytes,
+            behind,
+            limit,
+        ),
+        (6, _) => print_nested(
+            alloc,
+            out,
+            layout,
+            Nested::Tag,
+            argument,
+            bytes,
+            behind,
+            limit,
+        ),
+        _ => print_leaf(alloc, out, layout, bytes, limit),
     }
 }
 
-/// Writes an item that is no list and does not fit on a line: a long string.
+/// Writes an integer with the indicator of its head.
+#[tactic(auto, using(cbor_edn_model::proofs::lemmas::text::Texts::text_number, std::proofs::Common::append_assoc))]
+fn print_integer(
+    out: &mut TextBuffer,
+    integer: SmallInteger,
+    width: Width,
+    argument: u64,
+) -> Result<(), AllocError>
+    ensures { OnOk result (buffer_bytes out.new ≡ buffer_bytes out.old ++ text (number_tree (small_integer integer) width argument)) }
+{
+    Number::small(integer).print(out)?;
+    print_indicator(out, indicator_of(Some((width, argument))))
+}
+
+/// Writes a string of definite length with the indicator of its head, and answers the bytes behind it.
+fn print_string<'b>(
+    alloc: Global,
+    out: &mut TextBuffer,
+    kind: StringKind,
+    width: Width,
+    count: u64,
+    bytes: &'b [u8],
+) -> Result<&'b [u8], Fault<CborError>>
+    ensures exact { Prints WritesAnyhow (λ r. r.now) (buffer_bytes out.old) (buffer_bytes out.new) result (string_by trees kind (Some (width, count)) bytes.now) }
+    ensures shorter { IfOk result (λ r. length r.now ≤ length bytes.now) }
+{
+    let (literal, rest) = read_literal(alloc, kind, count, bytes)?;
+    literal.print(out)?;
+    print_indicator(out, indicator_of(Some((width, count))))?;
+    Ok(rest)
+}
+
+/// The literal of so many bytes, and the bytes behind them.
+fn read_literal<'a, 'b>(
+    alloc: Global,
+    kind: StringKind,
+    count: u64,
+    bytes: &'b [u8],
+) -> Result<(Literal<'a>, &'b [u8]), Fault<CborError>>
+    ensures exact { DecoderGives (λ x. (literal_bytes x.0, x.1.now)) result (shown (kind_literal kind) (string_at kind count bytes.now)) }
+    ensures shorter { IfOk result (λ x. length x.1.now ≤ length bytes.now) }
+{
+    if (bytes.len() as u64) < count {
+        return Err(Fault::Told(CborError::MissingBytes));
+    }
+    let (front, rest) = bytes.split_at(count as usize);
+    let literal = match kind {
+        StringKind::Bytes => Literal::hex(alloc, front)?,
+        StringKind::Text => match std::str::from_utf8(front) {
+            Ok(text) => Literal::text(alloc, text)?,
+            Err(_) => return Err(Fault::Told(CborError::InvalidUtf8)),
+        },
+    };
+    Ok((literal, rest))
+}
+
+/// Writes a string of indefinite length, a simple value or a floating-point number.
 fn print_leaf<'b>(
     alloc: Global,
     out: &mut TextBuffer,
     layout: Layout,
     bytes: &'b [u8],
     limit: usize,
-) -> Result<Option<&'b [u8]>, Fault<CborError>>
-    ensures exact { Prints (λ t. text (laid layout t)) (λ t. has_tag t) (λ r. r.now) (buffer_bytes out.old) (buffer_bytes out.new) result (item_at trees limit bytes.now) }
-    ensures shorter { IfOk result (λ o. IfSome o (λ r. length r.now < length bytes.now)) }
+) -> Result<&'b [u8], Fault<CborError>>
+    ensures exact { Prints (λ t. Writes layout t) (λ r. r.now) (buffer_bytes out.old) (buffer_bytes out.new) result (item_at trees limit bytes.now) }
+    ensures shorter { IfOk result (λ r. length r.now < length bytes.now) }
 {
     let (item, rest) = decode_item(alloc, bytes, limit)?;
-    if item_has_tag(&item) {
-        return Ok(None);
-    }
     print_tree(out, &item, &layout)?;
-    Ok(Some(rest))
+    Ok(rest)
 }
 
-/// Writes a list that does not fit on a line, behind its head.
+/// Writes an item in which others nest, and answers the bytes behind it. `behind` are the bytes behind its head.
+#[cycle(print)]
+fn print_nested<'b>(
+    alloc: Global,
+    out: &mut TextBuffer,
+    layout: Layout,
+    nested: Nested,
+    argument: Argument,
+    bytes: &'b [u8],
+    behind: &'b [u8],
+    limit: usize,
+) -> Result<&'b [u8], Fault<CborError>>
+    requires head { head_at bytes.now ≡ Ok ((nested_major nested, argument), behind.now) }
+    requires shorter { length behind.now < length bytes.now }
+    ensures exact { Prints (λ t. Writes layout t) (λ r. r.now) (buffer_bytes out.old) (buffer_bytes out.new) result (item_at trees limit bytes.now) }
+    ensures shorter { IfOk result (λ r. length r.now < length bytes.now) }
+{
+    let (front, _) = bytes.split_at(room(layout).min(bytes.len()));
+    match decode_item(alloc, front, limit) {
+        Ok((item, after)) => {
+            print_tree(out, &item, &layout)?;
+            let (_, rest) = bytes.split_at(front.len() - after.len());
+            Ok(rest)
+        }
+        Err(Fault::Memory(e)) => Err(Fault::Memory(e)),
+        Err(Fault::Told(_)) => {
+            let parts = layout.of_parts(usize::MAX);
+            print_parts(alloc, out, parts, nested, argument, behind, limit)
+        }
+    }
+}
+
+/// Writes an item in which others nest, behind its head, by the layout of what is in it.
+#[cycle(print)]
+fn print_parts<'b>(
+    alloc: Global,
+    out: &mut TextBuffer,
+    parts: Layout,
+    nested: Nested,
+    argument: Argument,
+    bytes: &'b [u8],
+    limit: usize,
+) -> Result<&'b [u8], Fault<CborError>>
+    ensures exact { Prints (λ t. WritesParts parts t) (λ r. r.now) (buffer_bytes out.old) (buffer_bytes out.new) result (nested_by nested limit argument bytes.now) }
+    ensures shorter { IfOk result (λ r. length r.now ≤ length bytes.now) }
+{
+    match nested {
+        Nested::Array => print_list(alloc, out, parts, Brackets::Array, argument, bytes, limit),
+        Nested::Map => print_list(alloc, out, parts, Brackets::Map, argument, bytes, limit),
+        Nested::Tag => print_tag(alloc, out, parts, argument, bytes, limit),
+    }
+}
+
+/// Writes a list behind its head.
 #[cycle(print)]
 fn print_list<'b>(
     alloc: Global,
     out: &mut TextBuffer,
-    layout: Layout,
+    parts: Layout,
     list: Brackets,
     argument: Argument,
     bytes: &'b [u8],
     limit: usize,
-) -> Result<Option<&'b [u8]>, Fault<CborError>>
-    ensures exact { Prints (λ t. long_text layout t) (λ t. has_tag t) (λ r. r.now) (buffer_bytes out.old) (buffer_bytes out.new) result (list_by (bracketed list) limit argument bytes.now) }
-    ensures shorter { IfOk result (λ o. IfSome o (λ r. length r.now ≤ length bytes.now)) }
+) -> Result<&'b [u8], Fault<CborError>>
+    ensures exact { Prints (λ t. WritesParts parts t) (λ r. r.now) (buffer_bytes out.old) (buffer_bytes out.new) result (list_by (bracketed list) limit argument bytes.now) }
+    ensures shorter { IfOk result (λ r. length r.now ≤ length bytes.now) }
 {
     if limit == 0 {
         return Err(Fault::Told(CborError::TooDeep));
     }
-    let parts = layout.of_parts(usize::MAX);
     out.push_str(opening(list))?;
-    let Some(rest) = print_inside(alloc, out, parts, list, argument, bytes, limit - 1)? else {
-        return Ok(None);
-    };
+    let rest = print_inside(alloc, out, parts, list, argument, bytes, limit - 1)?;
     out.push_str(ending(list))?;
-    Ok(Some(rest))
+    Ok(rest)
+}
+
+/// Writes a tag behind its head.
+#[cycle(print)]
+fn print_tag<'b>(
+    alloc: Global,
+    out: &mut TextBuffer,
+    parts: Layout,
+    argument: Argument,
+    bytes: &'b [u8],
+    limit: usize,
+) -> Result<&'b [u8], Fault<CborError>>
+    ensures exact { Prints (λ t. WritesParts parts t) (λ r. r.now) (buffer_bytes out.old) (buffer_bytes out.new) result (tag_by trees (inner trees limit) argument bytes.now) }
+    ensures shorter { IfOk result (λ r. length r.now ≤ length bytes.now) }
+{
+    let Some((_, number)) = argument else {
+        return Err(Fault::Told(CborError::OpenNumber));
+    };
+    if limit == 0 {
+        return Err(Fault::Told(CborError::TooDeep));
+    }
+    print_label(out, LabelKind::Tag(indicator_of(argument), number))?;
+    out.push_str("(")?;
+    print_space(out, &S::empty(), parts, Slot::Elsewhere)?;
+    let rest = print_item(alloc, out, parts, bytes, limit - 1)?;
+    print_space(out, &S::empty(), parts, Slot::Elsewhere)?;
+    out.push_str(")")?;
+    Ok(rest)
 }
 
 /// The bracket in front of a list.
@@ -222,14 +363,14 @@ fn print_inside<'b>(
     argument: Argument,
     bytes: &'b [u8],
     limit: usize,
-) -> Result<Option<&'b [u8]>, Fault<CborError>>
-    ensures exact { Prints (λ es. text (laid layout (list_inside {k = bracketed list} (argument_indicator argument) (row_of es)))) (λ es. has_tag (list_inside {k = bracketed list} (argument_indicator argument) (row_of es))) (λ r. r.now) (buffer_bytes out.old) (buffer_bytes out.new) result (several (entry_at (bracketed list) limit) argument bytes.now) }
-    ensures shorter { IfOk result (λ o. IfSome o (λ r. length r.now ≤ length bytes.now)) }
+) -> Result<&'b [u8], Fault<CborError>>
+    ensures exact { Prints (λ es. Writes layout (list_inside {k = bracketed list} (argument_indicator argument) (row_of es))) (λ r. r.now) (buffer_bytes out.old) (buffer_bytes out.new) result (several (entry_at (bracketed list) limit) argument bytes.now) }
+    ensures shorter { IfOk result (λ r. length r.now ≤ length bytes.now) }
 {
     match argument {
         Some((_, 0)) => {
             print_empty(out, layout, argument)?;
-            Ok(Some(bytes))
+            Ok(bytes)
         }
         Some((_, count)) => {
             print_front(out, layout, argument)?;
@@ -238,7 +379,7 @@ fn print_inside<'b>(
         None => match past_stop(Stop::Break, bytes) {
             Some(after) => {
                 print_empty(out, layout, argument)?;
-                Ok(Some(after))
+                Ok(after)
             }
             None => {
                 print_front(out, layout, argument)?;
@@ -274,24 +415,20 @@ fn print_many<'b>(
     count: u64,
     bytes: &'b [u8],
     limit: usize,
-) -> Result<Option<&'b [u8]>, Fault<CborError>>
+) -> Result<&'b [u8], Fault<CborError>>
     requires { 0 < count }
-    ensures exact { Prints (λ es. row_text layout (row_of es)) (λ es. row_tagged (row_of es)) (λ r. r.now) (buffer_bytes out.old) (buffer_bytes out.new) result (many (entry_at (bracketed list) limit) count bytes.now) }
-    ensures shorter { IfOk result (λ o. IfSome o (λ r. length r.now ≤ length bytes.now)) }
+    ensures exact { Prints (λ es. WritesRow layout (row_of es)) (λ r. r.now) (buffer_bytes out.old) (buffer_bytes out.new) result (many (entry_at (bracketed list) limit) count bytes.now) }
+    ensures shorter { IfOk result (λ r. length r.now ≤ length bytes.now) }
 {
     let mut rest = bytes;
     for _ in 0..count - 1 {
-        let Some(after) = print_entry(alloc, out, layout, list, rest, limit)? else {
-            return Ok(None);
-        };
+        let after = print_entry(alloc, out, layout, list, rest, limit)?;
         print_separator(out, &Msc::comma_space(), layout)?;
         rest = after;
     }
-    let Some(after) = print_entry(alloc, out, layout, list, rest, limit)? else {
-        return Ok(None);
-    };
+    let after = print_entry(alloc, out, layout, list, rest, limit)?;
     print_end(out, &Soc::empty(), layout)?;
-    Ok(Some(after))
+    Ok(after)
 }
 
 /// Writes all entries up to an end, which does not stand at the front, the separators between them, and the end of their list.
@@ -304,20 +441,18 @@ fn print_until<'b>(
     stop: Stop,
     bytes: &'b [u8],
     limit: usize,
-) -> Result<Option<&'b [u8]>, Fault<CborError>>
+) -> Result<&'b [u8], Fault<CborError>>
     requires { reading.past_stop stop bytes.now ≡ None }
-    ensures exact { Prints (λ es. row_text layout (row_of es)) (λ es. row_tagged (row_of es)) (λ r. r.now) (buffer_bytes out.old) (buffer_bytes out.new) result (until stop (entry_at (bracketed list) limit) (suc (length bytes.now)) bytes.now) }
-    ensures shorter { IfOk result (λ o. IfSome o (λ r. length r.now ≤ length bytes.now)) }
+    ensures exact { Prints (λ es. WritesRow layout (row_of es)) (λ r. r.now) (buffer_bytes out.old) (buffer_bytes out.new) result (until stop (entry_at (bracketed list) limit) (suc (length bytes.now)) bytes.now) }
+    ensures shorter { IfOk result (λ r. length r.now ≤ length bytes.now) }
 {
     let mut rest = bytes;
     'turns: loop {
-        let Some(after) = print_entry(alloc, out, layout, list, rest, limit)? else {
-            return Ok(None);
-        };
+        let after = print_entry(alloc, out, layout, list, rest, limit)?;
         match past_stop(stop, after) {
             Some(behind) => {
                 print_end(out, &Soc::empty(), layout)?;
-                return Ok(Some(behind));
+                return Ok(behind);
             }
             None => {
                 print_separator(out, &Msc::comma_space(), layout)?;
@@ -336,9 +471,9 @@ fn print_entry<'b>(
     list: Brackets,
     bytes: &'b [u8],
     limit: usize,
-) -> Result<Option<&'b [u8]>, Fault<CborError>>
-    ensures exact { Prints (λ e. text (laid layout e)) (λ e. has_tag e) (λ r. r.now) (buffer_bytes out.old) (buffer_bytes out.new) result (entry_at (bracketed list) limit bytes.now) }
-    ensures shorter { IfOk result (λ o. IfSome o (λ r. length r.now < length bytes.now)) }
+) -> Result<&'b [u8], Fault<CborError>>
+    ensures exact { Prints (λ e. Writes layout e) (λ r. r.now) (buffer_bytes out.old) (buffer_bytes out.new) result (entry_at (bracketed list) limit bytes.now) }
+    ensures shorter { IfOk result (λ r. length r.now < length bytes.now) }
 {
     match list {
         Brackets::Array => print_item(alloc, out, layout, bytes, limit),
@@ -354,13 +489,11 @@ fn print_pair<'b>(
     layout: Layout,
     bytes: &'b [u8],
     limit: usize,
-) -> Result<Option<&'b [u8]>, Fault<CborError>>
-    ensures exact { Prints (λ e. text (laid layout e)) (λ e. has_tag e) (λ r. r.now) (buffer_bytes out.old) (buffer_bytes out.new) result (pair_at trees (item_at trees limit) bytes.now) }
-    ensures shorter { IfOk result (λ o. IfSome o (λ r. length r.now < length bytes.now)) }
+) -> Result<&'b [u8], Fault<CborError>>
+    ensures exact { Prints (λ e. Writes layout e) (λ r. r.now) (buffer_bytes out.old) (buffer_bytes out.new) result (pair_at trees (item_at trees limit) bytes.now) }
+    ensures shorter { IfOk result (λ r. length r.now < length bytes.now) }
 {
-    let Some(rest) = print_item(alloc, out, layout, bytes, limit)? else {
-        return Ok(None);
-    };
+    let rest = print_item(alloc, out, layout, bytes, limit)?;
     print_space(out, &S::empty(), layout, Slot::Elsewhere)?;
     out.push_str(":")?;
     print_space(out, &S::space(), layout, Slot::AfterColon)?;

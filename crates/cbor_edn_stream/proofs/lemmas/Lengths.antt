@@ -1,31 +1,27 @@
 -- Bytes take at least a ninth of their number on a single line: each head has at most nine, and shows something.
-use Rattle.std.proofs.Common.{◌≡◌, ℕ, suc, ◌+◌, ◌*◌, ◌^◌, ◌≤◌, ◌<◌, Bool, true, false, cond, eqb, List, [], ◌∷◌, ◌++◌, length, map, Option, Some, None, refl, sym, ap, ◌∙◌, length-append, arith}
-use Rattle.std.specs.Prelude.{pos, negsuc}
-use Rattle.std.specs.Fmt.{decimal, signed_decimal}
-use Rattle.std.specs.Int.{to_be_bytes, w16, w32, w64}
+use Rattle.std.proofs.Common.{ℕ, ◌+◌, ◌*◌, ◌^◌, ◌≤◌, ◌<◌, Bool, true, false, cond, eqb, List, [], ◌∷◌, ◌++◌, length, map, Option, Some, None, length-append, arith}
+use Rattle.std.specs.Fmt.{decimal}
 use Rattle.std.proofs.lemmas.Fmt.{decimal_nonempty}
 use Rattle.hex.specs.Hex.{lower_digits}
 use Rattle.hex.proofs.HexLemmas.{length-encode_with}
 use Rattle.cbor_edn_parts.specs.declared.indicator.Indicator.{Indicator}
-use Rattle.cbor_edn_parts.specs.Indicator.{indicator_text}
-use Rattle.cbor_edn_parts.specs.Contents.{escaped, all_escaped, text_literal, hex_literal, kind_literal, empty_literal}
-use Rattle.cbor_edn_parts.specs.declared.policy.Spacing.TheVariants.{Comments, OneLine}
+use Rattle.cbor_edn_parts.specs.Contents.{escaped, all_escaped, hex_literal, kind_literal}
+use Rattle.cbor_edn_parts.specs.declared.policy.Spacing.TheVariants.{OneLine}
 use Rattle.cbor_edn_parts.specs.declared.string.StringKind.{StringKind}
 use Rattle.cbor_edn_parts.specs.declared.string.StringKind.TheVariants.{Bytes, Text}
 use Rattle.cbor_edn_model.specs.declared.cbor.heads.Width.{Width}
 use Rattle.cbor_edn_model.specs.declared.cbor.heads.Width.TheVariants.{Immediate, One, Two, Four, Eight}
-use Rattle.cbor_edn_model.specs.declared.layout.width.Spaces.{Spaces}
 use Rattle.cbor_edn_model.specs.declared.layout.width.Spaces.TheVariants.{By}
 use Rattle.cbor_edn_model.specs.declared.text.keyword.NonFinite.{NonFinite}
 use Rattle.cbor_edn_model.specs.declared.text.keyword.NonFinite.TheVariants.{Infinity, NegativeInfinity, NaN}
 use Rattle.cbor_edn_model.specs.text.Keywords.{non_finite_text}
 use Rattle.cbor_edn_model.specs.tree.Items as kind
 use Rattle.cbor_edn_model.specs.tree.Items.{Row, Elements, Strings, Bracketed, entries_of, Node, Item}
-use Rattle.cbor_edn_model.specs.tree.Trees.{Rule, Tree, OneItem, OneString, OneEntry, Rest, Inside, ChunkTree, ElementTree, ListTree}
-use Rattle.cbor_edn_model.specs.cbor.Value.{float_bits, Value, Chunk, unsigned, negative, string, chunks, array, cbor_map, tag, simple, float, Values, no_values, value, values_len, Pairs, no_pairs, pair, pairs_len, head, ArgumentFits, LengthFits, limit_of, list_encoding, chunk_encoding, chunk_encodings, string_major, encoding, encodings, pair_encodings, Fits, ValuesFit, PairsFit, simple_width}
-use Rattle.cbor_edn_model.specs.cbor.Decoded.{simple_item, list_indicator, float_indicator}
+use Rattle.cbor_edn_model.specs.tree.Trees.{Rule, Tree, OneEntry, Rest, ChunkTree, ElementTree, ListTree}
+use Rattle.cbor_edn_model.specs.cbor.Value.{float_bits, Value, Chunk, unsigned, negative, string, chunks, array, cbor_map, tag, simple, float, Values, no_values, value, values_len, Pairs, no_pairs, pair, pairs_len, head, ArgumentFits, list_encoding, chunk_encoding, chunk_encodings, string_major, encoding, encodings, pair_encodings, Fits, ValuesFit, PairsFit, simple_width}
+use Rattle.cbor_edn_model.specs.cbor.Decoded.{list_indicator}
 use Rattle.cbor_edn_model.specs.internal.Regular.{in_front, list_inside, key_value, regular}
-use Rattle.cbor_edn_model.specs.internal.CborReading.{definite_tree, chunked_tree, chunks_tree, string_row, row_of, simple_tree, number_tree}
+use Rattle.cbor_edn_model.specs.internal.CborReading.{definite_tree, chunks_tree, string_row, simple_tree}
 use Rattle.cbor_edn_model.specs.internal.Widths.{width}
 use Rattle.cbor_edn_model.proofs.lemmas.cbor.CborHeads.{wide16, wide32, wide64}
 use Rattle.cbor_edn_model.proofs.lemmas.cbor.CborTrees.{tree_of, row_tree, pair_row_tree}

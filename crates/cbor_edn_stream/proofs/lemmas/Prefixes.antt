@@ -1,17 +1,12 @@
 -- Reading from the front of the bytes alone.
-use Rattle.std.proofs.Common.{◌≡◌, ℕ, zero, suc, ◌+◌, ◌-◌, ◌*◌, ◌^◌, ◌≤◌, ◌<◌, take, drop, List, [], ◌∷◌, ◌++◌, length, Result, Ok, Err, refl, sym, ap, subst, ◌∙◌, append_assoc, length-append, arith, inl, inr}
-use Rattle.std.specs.Prelude.{min, nat_lt}
-use Rattle.std.proofs.lemmas.Bool.{cases_lt, ltb-false, lt-ltb, le-ltb}
-use Rattle.std.proofs.lemmas.List.{append-nil, take-append-drop, length-take}
+use Rattle.std.proofs.Common.{◌≡◌, ℕ, ◌+◌, ◌-◌, ◌*◌, ◌≤◌, ◌<◌, take, drop, List, ◌++◌, length, Result, Ok, Err, sym, ap, ◌∙◌, append_assoc, length-append, arith, inl, inr}
+use Rattle.std.proofs.lemmas.Bool.{cases_lt}
+use Rattle.std.proofs.lemmas.List.{take-append-drop}
 use Rattle.std.proofs.Math.Seq.{take-append-add, drop-append_seam}
-use Rattle.cbor_edn_parts.specs.LayoutColumns.{of_parts, saturating_add}
 use Rattle.cbor_edn_model.specs.declared.cbor.decode.CborError.{CborError}
 use Rattle.cbor_edn_model.specs.tree.Trees.{Tree, OneItem}
 use Rattle.cbor_edn_model.specs.cbor.Value.{Value, encoding}
-use Rattle.cbor_edn_model.specs.layout.Layout.{Layout, Kept, Inline, Lines}
-use Rattle.cbor_edn_model.specs.internal.Results.{◌>>=◌}
-use Rattle.cbor_edn_model.specs.internal.CborReading.{DecoderResult, shown, item_at, trees}
-use Rattle.cbor_edn_model.specs.internal.Widths.{measured}
+use Rattle.cbor_edn_model.specs.internal.CborReading.{shown, item_at, trees}
 use Rattle.cbor_edn_model.proofs.lemmas.cbor.Nestings.{value_nesting}
 use Rattle.cbor_edn_model.proofs.lemmas.cbor.CborHeads.{IsBytes, IsBytes-take}
 use Rattle.cbor_edn_model.proofs.lemmas.cbor.CborValues.{value_at}
@@ -20,7 +15,6 @@ use Rattle.cbor_edn_model.proofs.lemmas.cbor.CborAgain.{item_again}
 use Rattle.cbor_edn_model.proofs.lemmas.cbor.CborTakes.{Within, item_takes}
 use Rattle.cbor_edn_model.proofs.lemmas.cbor.CborTurns.{shown_ok}
 use Rattle.cbor_edn_model.proofs.lemmas.cbor.CborTrees.{tree_of, tree_read}
-use Rattle.cbor_edn_stream.specs.Printed.{front_room}
 use Rattle.cbor_edn_stream.proofs.lemmas.Lengths.{line_width, value_long}
 
 refused_is : {A : Type 0} (r : Result A CborError) (x : A) (e : CborError) → r ≡ Ok x → r ≡ Err e → ⊥
@@ -64,16 +58,3 @@ module _ (limit : ℕ) where
       ] where
         taken : (a b : List ℕ) (n : ℕ) → length a ≤ n → take n (a ++ b) ≡ a ++ take (n - length a) b
         taken a b n le = let same : n ≡ length a + (n - length a) = omega (arith, le) in ap (λ k. take k (a ++ b)) same ∙ take-append-add a b (n - length a)
-
--- an item of which that front is not enough has lines of its own
-pub wide_parts : (l : Layout) (t : Tree OneItem) (n : ℕ) → n < 2 ^ 64 - 1 → front_room l ≤ n → n < 9 * line_width t → of_parts l (measured t) ≡ of_parts l 18446744073709551615
-wide_parts Kept t n small le lt = refl
-wide_parts (Inline column) t n small le lt = refl
-wide_parts (Lines base end level width) t n small le lt =
-    elim (cases_lt 18446744073709551615 width) [
-      | inl big ↦ rw (lt-ltb (saturating_add (measured t) base) width (omega (arith, big)), lt-ltb (saturating_add 18446744073709551615 base) width (omega (arith, big))) refl
-      | inr narrow ↦ (
-          let first : width ≤ saturating_add (measured t) base = omega (arith, narrow, small, le, lt) in
-          let second : width ≤ saturating_add 18446744073709551615 base = omega (arith, narrow) in
-          rw (le-ltb (saturating_add (measured t) base) width first, le-ltb (saturating_add 18446744073709551615 base) width second) refl)
-    ]

@@ -1,12 +1,9 @@
 -- Rows that are printed entry by entry.
-use Rattle.std.proofs.Common.{◌≡◌, ℕ, Bool, true, false, List, [], ◌∷◌, ◌++◌, Option, Some, None, refl, sym, ap, ◌∙◌, append_assoc}
-use Rattle.std.specs.Prelude.{◌||◌}
+use Rattle.std.proofs.Common.{◌≡◌, ℕ, List, [], ◌∷◌, ◌++◌, Some, refl, ap, ◌∙◌, append_assoc}
 use Rattle.std.proofs.lemmas.List.{append-nil}
-use Rattle.cbor_edn_parts.specs.Spacing.{MSC, SOC}
 use Rattle.cbor_edn_model.specs.tree.Items.{Row}
 use Rattle.cbor_edn_model.specs.tree.Trees.{Tree, OneEntry, Rest, LastTree, MoreTree, text}
-use Rattle.cbor_edn_model.specs.layout.Layout.{Layout, Between, Last, respaced, laid}
-use Rattle.cbor_edn_model.specs.visit.Tagged.{has_tag}
+use Rattle.cbor_edn_model.specs.layout.Layout.{Layout, laid}
 use Rattle.cbor_edn_model.specs.internal.Regular.{in_front}
 use Rattle.cbor_edn_model.specs.internal.CborReading.{row_of}
 use Rattle.cbor_edn_stream.specs.Printed.{separator, finish}
@@ -17,10 +14,6 @@ abbrev pub fronts : {k : Row} → Layout → List (Tree (OneEntry k)) → List �
 fronts l [] = []
 fronts l (e ∷ es) = text (laid l e) ++ (separator l ++ fronts l es)
 
-abbrev pub Untagged : {k : Row} → List (Tree (OneEntry k)) → Type 0
-Untagged [] = Unit {0}
-Untagged (e ∷ es) = (has_tag e ≡ false) × Untagged es
-
 regroup : (a b c d : List ℕ) → a ++ (b ++ (c ++ d)) ≡ (a ++ (b ++ c)) ++ d
 regroup a b c d = simp append_assoc refl
 
@@ -28,19 +21,14 @@ pub fronts_push : {k : Row} (l : Layout) (es : List (Tree (OneEntry k))) (e : Tr
 fronts_push l [] e = ap (λ (t : List ℕ). text (laid l e) ++ t) (append-nil (separator l))
 fronts_push l (x ∷ es) e = ap (λ (t : List ℕ). text (laid l x) ++ (separator l ++ t)) (fronts_push l es e) ∙ regroup (text (laid l x)) (separator l) (fronts l es) (text (laid l e) ++ separator l)
 
-pub untagged_push : {k : Row} (es : List (Tree (OneEntry k))) (e : Tree (OneEntry k)) → Untagged es → has_tag e ≡ false → Untagged (es ++ e ∷ [])
-untagged_push [] e all one = (one, tt)
-untagged_push (x ∷ es) e all one = (all.0, untagged_push es e all.1 one)
-
 -- the row with its last entry
-pub row_last : {k : Row} (l : Layout) (es : List (Tree (OneEntry k))) (e : Tree (OneEntry k)) → Untagged es → has_tag e ≡ false
-    → (m : Tree (Rest k)) × (row_of (es ++ e ∷ []) ≡ Some m) × (text (laid l m) ≡ fronts l es ++ (text (laid l e) ++ finish l)) × (has_tag m ≡ false)
-unfolding laid has_tag
-row_last l [] e all one = (LastTree e [], refl, text_last (laid l e) (finish l), one)
-row_last l (x ∷ es) e all one =
-    let r = row_last l es e all.1 one in (
+pub row_last : {k : Row} (l : Layout) (es : List (Tree (OneEntry k))) (e : Tree (OneEntry k))
+    → (m : Tree (Rest k)) × (row_of (es ++ e ∷ []) ≡ Some m) × (text (laid l m) ≡ fronts l es ++ (text (laid l e) ++ finish l))
+unfolding laid
+row_last l [] e = (LastTree e [], refl, text_last (laid l e) (finish l))
+row_last l (x ∷ es) e =
+    let r = row_last l es e in (
       MoreTree x (44 ∷ 32 ∷ []) r.0,
       ap (λ o. Some (in_front x o)) r.1,
       text_more (laid l x) (separator l) (laid l r.0) ∙ ap (λ (t : List ℕ). text (laid l x) ++ (separator l ++ t)) r.2 ∙ regroup (text (laid l x)) (separator l) (fronts l es) (text (laid l e) ++ finish l),
-      rw (all.0, r.3) refl,
     )

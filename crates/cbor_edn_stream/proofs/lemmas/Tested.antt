@@ -1,5 +1,5 @@
 -- The tree of a value that has an encoding is valid: each text in it passes the test of its set.
-use Rattle.std.proofs.Common.{◌≡◌, ℕ, ◌^◌, ◌<◌, Bool, true, false, cond, eqb, List, [], ◌∷◌, length, map, Option, Some, None, refl, sym, ap, subst, ◌∙◌, arith}
+use Rattle.std.proofs.Common.{◌≡◌, ℕ, ◌<◌, Bool, true, false, cond, eqb, List, [], ◌∷◌, map, Option, Some, None, refl, sym, ap, subst, ◌∙◌, arith}
 use Rattle.std.specs.Prelude.{pos, negsuc}
 use Rattle.cbor_edn_parts.specs.declared.indicator.Indicator.{Indicator}
 use Rattle.cbor_edn_parts.specs.declared.string.StringKind.{StringKind}
@@ -11,10 +11,9 @@ use Rattle.cbor_edn_parts.specs.internal.SpaceTokens.{is_s, is_ms, is_msc, is_so
 use Rattle.cbor_edn_parts.specs.internal.LiteralTokens.{is_literal}
 use Rattle.cbor_edn_parts.proofs.lemmas.number.Decimals.{decimal_number}
 use Rattle.cbor_edn_parts.proofs.lemmas.literal.StringLiterals.{text_is_literal, hex_is_literal, empty_is_literal}
-use Rattle.cbor_edn_model.specs.declared.cbor.heads.Width.{Width}
 use Rattle.cbor_edn_model.specs.tree.Items as items
 use Rattle.cbor_edn_model.specs.tree.Items.{Row, Elements, Bracketed, entries_of, Node, Item}
-use Rattle.cbor_edn_model.specs.tree.Trees.{Tree, OneItem, OneEntry, Rest, Seq, ListTree, ElementTree, Valid}
+use Rattle.cbor_edn_model.specs.tree.Trees.{Tree, OneEntry, Rest, Seq, ListTree, ElementTree, Valid}
 use Rattle.cbor_edn_model.specs.cbor.Value.{Value, Chunk, unsigned, negative, string, chunks, array, cbor_map, tag, simple, float, Values, no_values, value, values_len, Pairs, no_pairs, pair, pairs_len, AreBytes, ChunksFit, Fits, ValuesFit, PairsFit}
 use Rattle.cbor_edn_model.specs.cbor.Decoded.{list_indicator, IsDecodedSequence}
 use Rattle.cbor_edn_model.specs.internal.Regular.{in_front, list_inside, key_value, sequence_tree_of, regular}
@@ -111,8 +110,10 @@ unfolding Tested
 sequence_tested None row = no_s
 sequence_tested (Some m) row = (no_s, row)
 
--- what bytes encode is a valid tree
+-- what bytes encode is the tree of its values, and valid
+pub decoded_tree : (limit : ℕ) (bytes : List ℕ) (w : Tree Seq) (d : IsDecodedSequence limit bytes w) → w ≡ sequence_tree_of (row_tree d.values)
+decoded_tree limit bytes w d = d.spaced ∙ sequence_regular d.values w d.same_items ∙ ap sequence_tree_of (sym (row_tree_of_items d.values))
+
 pub decoded_valid : (limit : ℕ) (bytes : List ℕ) (w : Tree Seq) → IsDecodedSequence limit bytes w → Valid w
 decoded_valid limit bytes w d =
-    let is : w ≡ sequence_tree_of (row_tree d.values) = d.spaced ∙ sequence_regular d.values w d.same_items ∙ ap sequence_tree_of (sym (row_tree_of_items d.values)) in
-    subst (λ (t : Tree Seq). Valid t) (sym is) (valid (sequence_tree_of (row_tree d.values)) (sequence_tested (row_tree d.values) (values_tested d.values d.encoded.0)))
+    subst (λ (t : Tree Seq). Valid t) (sym (decoded_tree limit bytes w d)) (valid (sequence_tree_of (row_tree d.values)) (sequence_tested (row_tree d.values) (values_tested d.values d.encoded.0)))

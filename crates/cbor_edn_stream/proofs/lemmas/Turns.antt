@@ -1,36 +1,35 @@
 -- How each function ends, from what its calls gave.
-use Rattle.std.proofs.Common.{◌≡◌, ℕ, zero, suc, ◌+◌, ◌-◌, ◌^◌, ◌≤◌, ◌<◌, take, min, Bool, true, false, List, [], ◌∷◌, ◌++◌, length, map, Option, Some, None, Result, Ok, Err, refl, sym, ap, subst, ◌∙◌, append_assoc, arith}
+use Rattle.std.proofs.Common.{◌≡◌, ℕ, suc, ◌-◌, ◌<◌, List, [], ◌∷◌, ◌++◌, length, map, Option, Some, None, Result, Ok, Err, refl, sym, ap, subst, ◌∙◌, append_assoc, arith}
 use Rattle.cbor_edn_parts.specs.declared.error.Fault.{Fault}
 use Rattle.cbor_edn_parts.specs.declared.error.Fault.TheVariants.{Memory, Told}
-use Rattle.cbor_edn_parts.specs.LayoutColumns.{of_parts}
 use Rattle.cbor_edn_parts.specs.declared.indicator.Indicator.{Indicator}
 use Rattle.cbor_edn_model.specs.declared.cbor.heads.Width.{Width}
+use Rattle.cbor_edn_model.specs.declared.text.label.LabelKind.TheVariants.{Tag}
 use Rattle.cbor_edn_model.specs.declared.cbor.decode.CborError.{CborError}
-use Rattle.cbor_edn_model.specs.declared.cbor.decode.head.Stop.{Stop}
-use Rattle.cbor_edn_model.specs.declared.cbor.decode.head.Stop.TheVariants.{Break, EndOfData}
+use Rattle.cbor_edn_model.specs.declared.cbor.decode.head.Stop.TheVariants.{Break}
 use Rattle.cbor_edn_model.specs.text.Spelling.{opening, ending}
 use Rattle.cbor_edn_model.specs.tree.Items as kind
 use Rattle.cbor_edn_model.specs.tree.Items.{Bracketed, Array, Map, entries_of}
-use Rattle.cbor_edn_model.specs.tree.Trees.{Tree, OneItem, OneEntry, Rest, ListTree, ElementTree, text, list_head_text}
+use Rattle.cbor_edn_model.specs.tree.Trees.{Tree, OneItem, OneEntry, Rest, StringTree, LastPieceTree, LiteralTree, ElementTree, text, label_text, list_head_text}
 use Rattle.cbor_edn_parts.specs.Spacing.{S}
 use Rattle.cbor_edn_parts.specs.Indicator.{indicator_text}
 use Rattle.cbor_edn_model.specs.layout.Layout.{Layout, First, AfterColon, Elsewhere, respaced, laid, laid_list_head}
-use Rattle.cbor_edn_model.specs.visit.Tagged.{has_tag}
 use Rattle.cbor_edn_model.specs.internal.Regular.{list_inside, key_value, spaced_list_head}
 use Rattle.cbor_edn_model.specs.internal.Results.{◌>>=◌}
-use Rattle.cbor_edn_model.specs.internal.Widths.{measured}
-use Rattle.cbor_edn_model.specs.internal.CborReading.{number_tree, head_at, item_by, DecoderResult, Decoder, DecoderFails, Argument, shown, item_at, pair_at, many, until, several, past_stop, array_by, map_by, inner, trees, row_of, list_tree, argument_indicator}
+use Rattle.cbor_edn_model.specs.internal.CborReading.{number_tree, head_at, item_by, DecoderResult, Decoder, DecoderFails, Argument, shown, item_at, pair_at, many, until, several, past_stop, array_by, map_by, tag_by, string_by, string_at, inner, trees, row_of, list_tree, argument_indicator}
 use Rattle.cbor_edn_model.proofs.lemmas.cbor.CborTrees.{several_shown}
-use Rattle.cbor_edn_model.proofs.lemmas.layout.LaidTexts.{text_laid_number, text_laid_list, text_laid_element, text_laid_pair, text_laid_full, text_laid_empty}
+use Rattle.cbor_edn_model.proofs.lemmas.layout.LaidTexts.{text_laid_number, text_laid_string, text_laid_element, text_laid_standalone, text_laid_pair, text_laid_full, text_laid_empty}
 use Rattle.cbor_edn_model.proofs.lemmas.cbor.CborAgain.{inner_more, item_at_ok}
-use Rattle.cbor_edn_model.proofs.lemmas.cbor.CborTurns.{with_front}
-use Rattle.cbor_edn_model.proofs.lemmas.cbor.CborHeads.{IsBytes}
-use Rattle.cbor_edn_stream.proofs.lemmas.Prefixes.{front_refused, wide_parts}
-use Rattle.cbor_edn_model.proofs.lemmas.text.Texts.{text_number}
+use Rattle.cbor_edn_model.proofs.lemmas.cbor.CborTurns.{with_front, shown_err}
+use Rattle.cbor_edn_model.proofs.lemmas.text.Texts.{text_last_piece, text_literal}
+use Rattle.cbor_edn_model.proofs.lemmas.cbor.CborStrings.{alone_read, definite_read}
+use Rattle.cbor_edn_parts.specs.Contents.{kind_literal}
+use Rattle.cbor_edn_parts.specs.declared.string.StringKind.{StringKind}
+use Rattle.cbor_edn_parts.specs.declared.string.StringKind.TheVariants.{Bytes, Text}
 use Rattle.cbor_edn_model.specs.cbor.Decoded.{indicator_of}
 use Rattle.std.specs.Fmt.{signed_decimal}
 use Rattle.std.specs.Prelude.{ℤ, pos, negsuc}
-use Rattle.cbor_edn_stream.specs.Printed.{Prints, IsPrintedItem, front_room, entry_at, list_by, long_text, greatest, row_text, row_tagged}
+use Rattle.cbor_edn_stream.specs.Printed.{Prints, Writes, WritesAnyhow, WritesParts, WritesRow, entry_at, list_by}
 
 -- ---- a list behind its head
 
@@ -72,62 +71,65 @@ list_fails Map d argument bytes (Told f) e = ap (λ i. map_by trees i argument b
 
 -- ---- what was printed
 
-pub printed_some : {A X : Type 0} (shown : A → List ℕ) (tagged : A → Bool) (view : X → List ℕ) (old new : List ℕ) (read : DecoderResult A) (o : Option X) (x : X) → o ≡ Some x → Prints shown tagged view old new (Ok o) read → (a : A) × (read ≡ Ok (a, view x)) × (tagged a ≡ false) × (new ≡ old ++ shown a)
-printed_some {A} {X} shown tagged view old new read o x e p = subst (λ (q : Option X). Prints shown tagged view old new (Ok q) read) e p
-
 pub front_none : {A : Type 0} (r : DecoderResult (List A)) → with_front [] r ≡ r
 front_none (Ok x) = refl
 front_none (Err e) = refl
 
--- ---- an item that has lines of its own
-
-pub long_is : (l : Layout) (t : Tree OneItem) → of_parts l (measured t) ≡ of_parts l greatest → long_text l t ≡ text (laid l t)
-long_is l (ListTree k w) e = ap (λ m. opening k ∷ (text (laid m w) ++ (ending k ∷ []))) (sym e) ∙ sym (text_laid_list l k w)
-long_is l _ e = refl
-
 -- ---- entries
 
-pub entry_item : {X : Type 0} (view : X → List ℕ) (l : Layout) (limit : ℕ) (bytes old new : List ℕ) (r : Result (Option X) (Fault CborError)) → Prints (λ t. text (laid l t)) (λ t. has_tag t) view old new r (item_at trees limit bytes)
-    → Prints (λ e. text (laid l e)) (λ e. has_tag e) view old new r (entry_at Array limit bytes)
-unfolding has_tag
-entry_item view l limit bytes old new (Ok (Some x)) p = (ElementTree p.0, ap (shown ElementTree) p.1, p.2, p.3 ∙ ap (λ (t : List ℕ). old ++ t) (sym (text_laid_element l p.0)))
-entry_item view l limit bytes old new (Ok None) p = tt
+pub entry_item : {X : Type 0} (view : X → List ℕ) (l : Layout) (limit : ℕ) (bytes old new : List ℕ) (r : Result X (Fault CborError)) → Prints (λ t. Writes l t) view old new r (item_at trees limit bytes)
+    → Prints (λ e. Writes l e) view old new r (entry_at Array limit bytes)
+entry_item view l limit bytes old new (Ok x) p = (ElementTree p.0, ap (shown ElementTree) p.1, p.2 ∙ ap (λ (t : List ℕ). old ++ t) (sym (text_laid_element l p.0)))
 entry_item view l limit bytes old new (Err (Memory m)) p = tt
 entry_item view l limit bytes old new (Err (Told e)) p = ap (shown ElementTree) p
 
--- ---- an item that the front does not hold
-
-pub item_long : {X : Type 0} (view : X → List ℕ) (l : Layout) (limit n : ℕ) (bytes old new : List ℕ) (e : CborError) (r : Result (Option X) (Fault CborError)) → IsBytes bytes → n ≡ min (front_room l) (length bytes) → length bytes < 2 ^ 64 → item_at trees limit (take n bytes) ≡ Err e
-    → Prints (λ t. long_text l t) (λ t. has_tag t) view old new r (item_at trees limit bytes) → Prints (λ t. text (laid l t)) (λ t. has_tag t) view old new r (item_at trees limit bytes)
-item_long view l limit n bytes old new e (Ok (Some x)) fits is small refused p =
-    let long = front_refused limit n bytes e (p.0, view x) fits refused p.1 in
-    let wide = wide_parts l p.0 n (omega (arith, long.1, small)) (omega (arith, is, long.1)) long.0 in
-    (p.0, p.1, p.2, p.3 ∙ ap (λ (t : List ℕ). old ++ t) (long_is l p.0 wide))
-item_long view l limit n bytes old new e (Ok None) fits is small refused p = tt
-item_long view l limit n bytes old new e (Err f) fits is small refused p = p
+-- ---- what is told
 
 pub fault_told : {A : Type 0} (f : Fault CborError) (e : CborError) (r : DecoderResult A) → f ≡ Told e → DecoderFails f r → r ≡ Err e
 fault_told f e r is p = subst (λ (g : Fault CborError). DecoderFails g r) is p
 
 -- ---- a list, from what stands in it
 
-list_untagged : (k : Bracketed) (i : Option Indicator) (o : Option (Tree (Rest (entries_of k)))) → has_tag (list_inside {k = k} i o) ≡ false → has_tag (ListTree k (list_inside i o)) ≡ false
-unfolding has_tag
-list_untagged k i o e = e
-
-pub list_printed : (l : Layout) (k : Bracketed) (limit : ℕ) (argument : Argument) (bytes rest old start mid new : List ℕ) (es : List (Tree (OneEntry (entries_of k)))) → 0 < limit → several (entry_at k (limit - 1)) argument bytes ≡ Ok (es, rest) → has_tag (list_inside {k = k} (argument_indicator argument) (row_of es)) ≡ false
-    → start ≡ old ++ (opening k ∷ []) → mid ≡ start ++ text (laid (of_parts l greatest) (list_inside {k = k} (argument_indicator argument) (row_of es))) → new ≡ mid ++ (ending k ∷ [])
-    → (t : Tree OneItem) × (list_by k limit argument bytes ≡ Ok (t, rest)) × (has_tag t ≡ false) × (new ≡ old ++ long_text l t)
-list_printed l k limit argument bytes rest old start mid new es some read untagged first inside last =
+pub list_printed : (l : Layout) (k : Bracketed) (limit : ℕ) (argument : Argument) (bytes rest old start mid new : List ℕ) (es : List (Tree (OneEntry (entries_of k)))) → 0 < limit → several (entry_at k (limit - 1)) argument bytes ≡ Ok (es, rest)
+    → start ≡ old ++ (opening k ∷ []) → mid ≡ start ++ text (laid l (list_inside {k = k} (argument_indicator argument) (row_of es))) → new ≡ mid ++ (ending k ∷ [])
+    → (t : Tree OneItem) × (list_by k limit argument bytes ≡ Ok (t, rest)) × WritesParts l t old new
+list_printed l k limit argument bytes rest old start mid new es some read first inside last =
     let deeper : limit ≡ suc (limit - 1) = omega (arith, some) in (
       list_tree k argument (row_of es),
       ap (λ n. list_by k n argument bytes) deeper ∙ list_read k (limit - 1) argument bytes rest es read,
-      list_untagged k (argument_indicator argument) (row_of es) untagged,
-      last ∙ ap (λ (t : List ℕ). t ++ (ending k ∷ [])) (inside ∙ ap (λ (t : List ℕ). t ++ text (laid (of_parts l greatest) (list_inside {k = k} (argument_indicator argument) (row_of es)))) first)
-          ∙ regroup old (opening k) (text (laid (of_parts l greatest) (list_inside {k = k} (argument_indicator argument) (row_of es)))) (ending k ∷ []),
+      last ∙ ap (λ (t : List ℕ). t ++ (ending k ∷ [])) (inside ∙ ap (λ (t : List ℕ). t ++ text (laid l (list_inside {k = k} (argument_indicator argument) (row_of es)))) first)
+          ∙ regroup old (opening k) (text (laid l (list_inside {k = k} (argument_indicator argument) (row_of es)))) (ending k ∷ []),
     ) where
       regroup : (a : List ℕ) (b : ℕ) (c d : List ℕ) → ((a ++ (b ∷ [])) ++ c) ++ d ≡ a ++ (b ∷ (c ++ d))
       regroup a b c d = simp append_assoc refl
+
+-- ---- a tag, from its content
+
+-- a tag behind its head, as deep as it nests
+tag_inner : (d : ℕ) (w : Width) (n : ℕ) (bytes : List ℕ) → tag_by trees (inner trees (suc d)) (Some (w, n)) bytes ≡ item_at trees d bytes >>= λ x. Ok (trees.tag w n x.0, x.1)
+tag_inner d w n bytes = ap (λ i. tag_by trees i (Some (w, n)) bytes) (inner_more trees d)
+
+pub tag_fails : (limit : ℕ) (argument : Argument) (w : Width) (n : ℕ) (bytes : List ℕ) (f : Fault CborError) → argument ≡ Some (w, n) → 0 < limit → DecoderFails f (item_at trees (limit - 1) bytes) → DecoderFails f (tag_by trees (inner trees limit) argument bytes)
+tag_fails limit argument w n bytes (Memory m) is some e = tt
+tag_fails limit argument w n bytes (Told f) is some e =
+    let deeper : limit ≡ suc (limit - 1) = omega (arith, some) in
+    ap (λ (a : Argument). tag_by trees (inner trees limit) a bytes) is ∙ ap (λ d. tag_by trees (inner trees d) (Some (w, n)) bytes) deeper ∙ tag_inner (limit - 1) w n bytes ∙ ap (λ (r : DecoderResult (Tree OneItem)). r >>= λ x. Ok (trees.tag w n x.0, x.1)) e
+
+pub tag_printed : (l : Layout) (limit : ℕ) (argument : Argument) (w : Width) (n : ℕ) (bytes rest old a b c d e new : List ℕ) (t : Tree OneItem) → argument ≡ Some (w, n) → 0 < limit → item_at trees (limit - 1) bytes ≡ Ok (t, rest)
+    → a ≡ old ++ label_text (Tag (argument_indicator argument) n) → b ≡ a ++ (40 ∷ []) → c ≡ b ++ respaced S Elsewhere l [] → d ≡ c ++ text (laid l t) → e ≡ d ++ respaced S Elsewhere l [] → new ≡ e ++ (41 ∷ [])
+    → (u : Tree OneItem) × (tag_by trees (inner trees limit) argument bytes ≡ Ok (u, rest)) × WritesParts l u old new
+tag_printed l limit argument w n bytes rest old a b c d e new t is some read ea eb ec ed ee en =
+    let deeper : limit ≡ suc (limit - 1) = omega (arith, some) in
+    let space = respaced S Elsewhere l [] in
+    let label = Tag (indicator_of w n) n in (
+      trees.tag w n t,
+      ap (λ (a : Argument). tag_by trees (inner trees limit) a bytes) is ∙ ap (λ d. tag_by trees (inner trees d) (Some (w, n)) bytes) deeper ∙ tag_inner (limit - 1) w n bytes ∙ ap (λ (r : DecoderResult (Tree OneItem)). r >>= λ x. Ok (trees.tag w n x.0, x.1)) read,
+      en ∙ ap (λ (t : List ℕ). t ++ (41 ∷ [])) (ee ∙ ap (λ (t : List ℕ). t ++ space) (ed ∙ ap (λ (u : List ℕ). u ++ text (laid l t)) (ec ∙ ap (λ (t : List ℕ). t ++ space) (eb ∙ ap (λ (t : List ℕ). t ++ (40 ∷ [])) (ea ∙ ap (λ (a : Argument). old ++ label_text (Tag (argument_indicator a) n)) is)))))
+          ∙ regroup old (label_text label) space (text (laid l t)) space
+          ∙ ap (λ (t : List ℕ). old ++ (label_text label ++ (40 ∷ (t ++ (41 ∷ []))))) (sym (text_laid_standalone l [] t [])),
+    ) where
+      regroup : (o h s t u : List ℕ) → (((((o ++ h) ++ (40 ∷ [])) ++ s) ++ t) ++ u) ++ (41 ∷ []) ≡ o ++ (h ++ (40 ∷ ((s ++ (t ++ u)) ++ (41 ∷ []))))
+      regroup o h s t u = simp append_assoc refl
 
 -- ---- an item, from its list
 
@@ -139,26 +141,66 @@ pub map_at : (limit : ℕ) (argument : Argument) (bytes rest : List ℕ) → hea
 unfolding item_by
 map_at limit argument bytes rest h = item_at_ok trees limit bytes rest (5, argument) h
 
+pub tag_at : (limit : ℕ) (argument : Argument) (bytes rest : List ℕ) → head_at bytes ≡ Ok ((6, argument), rest) → item_at trees limit bytes ≡ tag_by trees (inner trees limit) argument rest
+unfolding item_by
+tag_at limit argument bytes rest h = item_at_ok trees limit bytes rest (6, argument) h
+
+-- a head by its parts
+pub head_is : (bytes rest : List ℕ) (m n : ℕ) (a b : Argument) → head_at bytes ≡ Ok ((m, a), rest) → m ≡ n → a ≡ b → head_at bytes ≡ Ok ((n, b), rest)
+head_is bytes rest m n a b h major argument = h ∙ ap (λ (m : ℕ). Ok ((m, a), rest)) major ∙ ap (λ (x : Argument). Ok ((n, x), rest)) argument
+
 -- ---- an integer
 
-pub unsigned_read : (i : Option (Decoder (Tree OneItem))) (w : Width) (n : ℕ) (rest : List ℕ) → item_by trees i 0 (Some (w, n)) rest ≡ Ok (number_tree (pos n) w n, rest)
+unsigned_read : (i : Option (Decoder (Tree OneItem))) (w : Width) (n : ℕ) (rest : List ℕ) → item_by trees i 0 (Some (w, n)) rest ≡ Ok (number_tree (pos n) w n, rest)
 unfolding item_by
 unsigned_read i w n rest = refl
 
-pub negative_read : (i : Option (Decoder (Tree OneItem))) (w : Width) (n : ℕ) (rest : List ℕ) → item_by trees i 1 (Some (w, n)) rest ≡ Ok (number_tree (negsuc n) w n, rest)
+negative_read : (i : Option (Decoder (Tree OneItem))) (w : Width) (n : ℕ) (rest : List ℕ) → item_by trees i 1 (Some (w, n)) rest ≡ Ok (number_tree (negsuc n) w n, rest)
 unfolding item_by
 negative_read i w n rest = refl
 
-pub integer_printed : (major : ℕ) (argument : Argument) (z : ℤ) (w : Width) (n : ℕ) (bytes rest old mid new : List ℕ) → argument ≡ Some (w, n) → head_at bytes ≡ Ok ((major, argument), rest) → ((i : Option (Decoder (Tree OneItem))) → item_by trees i major (Some (w, n)) rest ≡ Ok (number_tree z w n, rest))
-    → mid ≡ old ++ signed_decimal z → new ≡ mid ++ indicator_text (indicator_of w n) → IsPrintedItem bytes rest old new
-unfolding has_tag
-integer_printed major argument z w n bytes rest old mid new is head read first last = (
-  number_tree z w n,
-  λ limit. item_at_ok trees limit bytes rest (major, argument) head ∙ ap (λ (a : Argument). item_by trees (inner trees limit) major a rest) is ∙ read (inner trees limit),
-  refl,
-  λ l. last ∙ ap (λ (t : List ℕ). t ++ indicator_text (indicator_of w n)) first ∙ append_assoc old (signed_decimal z) (indicator_text (indicator_of w n))
-      ∙ ap (λ (t : List ℕ). old ++ t) (sym (text_laid_number l (signed_decimal z) (indicator_of w n) ∙ text_number (signed_decimal z) (indicator_of w n))),
+abbrev IsItem : Layout → ℕ → List ℕ → List ℕ → List ℕ → List ℕ → Type 0
+IsItem l limit bytes rest old new = (t : Tree OneItem) × (item_at trees limit bytes ≡ Ok (t, rest)) × Writes l t old new
+
+integer_written : (l : Layout) (limit : ℕ) (z : ℤ) (w : Width) (n : ℕ) (bytes rest old new : List ℕ) → item_at trees limit bytes ≡ Ok (number_tree z w n, rest) → new ≡ old ++ text (number_tree z w n) → IsItem l limit bytes rest old new
+integer_written l limit z w n bytes rest old new read is = (number_tree z w n, read, is ∙ ap (λ (t : List ℕ). old ++ t) (sym (text_laid_number l (signed_decimal z) (indicator_of w n))))
+
+pub unsigned_written : (l : Layout) (limit : ℕ) (w : Width) (n : ℕ) (bytes rest old new : List ℕ) → head_at bytes ≡ Ok ((0, Some (w, n)), rest) → new ≡ old ++ text (number_tree (pos n) w n) → IsItem l limit bytes rest old new
+unsigned_written l limit w n bytes rest old new head is = integer_written l limit (pos n) w n bytes rest old new (item_at_ok trees limit bytes rest (0, Some (w, n)) head ∙ unsigned_read (inner trees limit) w n rest) is
+
+pub negative_written : (l : Layout) (limit : ℕ) (w : Width) (n : ℕ) (bytes rest old new : List ℕ) → head_at bytes ≡ Ok ((1, Some (w, n)), rest) → new ≡ old ++ text (number_tree (negsuc n) w n) → IsItem l limit bytes rest old new
+negative_written l limit w n bytes rest old new head is = integer_written l limit (negsuc n) w n bytes rest old new (item_at_ok trees limit bytes rest (1, Some (w, n)) head ∙ negative_read (inner trees limit) w n rest) is
+
+-- ---- a string
+
+-- what is written in one way is written in another
+pub prints_as : {A X : Type 0} (P Q : A → List ℕ → List ℕ → Type 0) (view : X → List ℕ) (old new : List ℕ) (r : Result X (Fault CborError)) (read : DecoderResult A) → ((a : A) → P a old new → Q a old new) → Prints P view old new r read → Prints Q view old new r read
+prints_as P Q view old new (Ok x) read weaker p = (p.0, p.1, weaker p.0 p.2)
+prints_as P Q view old new (Err f) read weaker p = p
+
+pub bytes_at : (limit : ℕ) (w : Width) (n : ℕ) (bytes rest : List ℕ) → head_at bytes ≡ Ok ((2, Some (w, n)), rest) → item_at trees limit bytes ≡ string_by trees Bytes (Some (w, n)) rest
+unfolding item_by
+bytes_at limit w n bytes rest h = item_at_ok trees limit bytes rest (2, Some (w, n)) h
+
+pub text_at : (limit : ℕ) (w : Width) (n : ℕ) (bytes rest : List ℕ) → head_at bytes ≡ Ok ((3, Some (w, n)), rest) → item_at trees limit bytes ≡ string_by trees Text (Some (w, n)) rest
+unfolding item_by
+text_at limit w n bytes rest h = item_at_ok trees limit bytes rest (3, Some (w, n)) h
+
+literal_laid : (l : Layout) (x : List ℕ) (i : Option Indicator) → text (laid l (StringTree (LastPieceTree (LiteralTree x i)))) ≡ x ++ indicator_text i
+unfolding laid
+literal_laid l x i = text_laid_string l (LastPieceTree (LiteralTree x i)) ∙ text_last_piece (LiteralTree x i) ∙ text_literal x i
+
+pub string_written : (k : StringKind) (w : Width) (n : ℕ) (bytes literal rest old mid new : List ℕ) → shown (kind_literal k) (string_at k n bytes) ≡ Ok (literal, rest) → mid ≡ old ++ literal → new ≡ mid ++ indicator_text (indicator_of w n)
+    → (t : Tree OneItem) × (string_by trees k (Some (w, n)) bytes ≡ Ok (t, rest)) × WritesAnyhow t old new
+string_written k w n bytes literal rest old mid new read first last = (
+  StringTree (LastPieceTree (LiteralTree literal (indicator_of w n))),
+  alone_read k w n bytes rest _ (definite_read k w n bytes literal rest read),
+  λ l. last ∙ ap (λ (t : List ℕ). t ++ indicator_text (indicator_of w n)) first ∙ append_assoc old literal (indicator_text (indicator_of w n)) ∙ ap (λ (t : List ℕ). old ++ t) (sym (literal_laid l literal (indicator_of w n))),
 )
+
+pub string_fails : (k : StringKind) (w : Width) (n : ℕ) (bytes : List ℕ) (f : Fault CborError) → DecoderFails f (shown (kind_literal k) (string_at k n bytes)) → DecoderFails f (string_by trees k (Some (w, n)) bytes)
+string_fails k w n bytes (Memory m) e = tt
+string_fails k w n bytes (Told f) e = ap (λ (r : DecoderResult (List ℕ)). r >>= λ s. Ok (trees.string k w s.0, s.1)) (shown_err (kind_literal k) (string_at k n bytes) f e)
 
 -- ---- a pair
 
@@ -167,36 +209,36 @@ unfolding pair_at
 pair_fails (Memory m) limit bytes e = tt
 pair_fails (Told f) limit bytes e = rw e refl
 
-pub pair_printed : {X : Type 0} (view : X → List ℕ) (l : Layout) (limit : ℕ) (bytes after old a b c d new : List ℕ) (v : Tree OneItem) (r : Result (Option X) (Fault CborError)) → item_at trees limit bytes ≡ Ok (v, after) → has_tag v ≡ false
+pub pair_printed : {X : Type 0} (view : X → List ℕ) (l : Layout) (limit : ℕ) (bytes after old a b c d new : List ℕ) (v : Tree OneItem) (r : Result X (Fault CborError)) → item_at trees limit bytes ≡ Ok (v, after)
     → a ≡ old ++ text (laid l v) → b ≡ a ++ respaced S Elsewhere l [] → c ≡ b ++ (58 ∷ []) → d ≡ c ++ respaced S AfterColon l (32 ∷ [])
-    → Prints (λ t. text (laid l t)) (λ t. has_tag t) view d new r (item_at trees limit after) → Prints (λ e. text (laid l e)) (λ e. has_tag e) view old new r (pair_at trees (item_at trees limit) bytes)
-unfolding pair_at has_tag
-pair_printed view l limit bytes after old a b c d new v (Ok (Some x)) first none ea eb ec ed p = (
+    → Prints (λ t. Writes l t) view d new r (item_at trees limit after) → Prints (λ e. Writes l e) view old new r (pair_at trees (item_at trees limit) bytes)
+unfolding pair_at
+pair_printed view l limit bytes after old a b c d new v (Ok x) first ea eb ec ed p = (
   key_value v p.0,
   rw (first, p.1) refl,
-  rw (none, p.2) refl,
-  p.3 ∙ ap (λ (t : List ℕ). t ++ text (laid l p.0)) (ed ∙ ap (λ (t : List ℕ). t ++ respaced S AfterColon l (32 ∷ [])) (ec ∙ ap (λ (t : List ℕ). t ++ (58 ∷ [])) (eb ∙ ap (λ (t : List ℕ). t ++ respaced S Elsewhere l []) ea)))
+  p.2 ∙ ap (λ (t : List ℕ). t ++ text (laid l p.0)) (ed ∙ ap (λ (t : List ℕ). t ++ respaced S AfterColon l (32 ∷ [])) (ec ∙ ap (λ (t : List ℕ). t ++ (58 ∷ [])) (eb ∙ ap (λ (t : List ℕ). t ++ respaced S Elsewhere l []) ea)))
       ∙ regroup old (text (laid l v)) (respaced S Elsewhere l []) (respaced S AfterColon l (32 ∷ [])) (text (laid l p.0)) ∙ ap (λ (t : List ℕ). old ++ t) (sym (text_laid_pair l v [] (32 ∷ []) p.0)),
 ) where
   regroup : (o k s t w : List ℕ) → ((((o ++ k) ++ s) ++ (58 ∷ [])) ++ t) ++ w ≡ o ++ (k ++ (s ++ (58 ∷ (t ++ w))))
   regroup o k s t w = simp append_assoc refl
-pair_printed view l limit bytes after old a b c d new v (Ok None) first none ea eb ec ed p = tt
-pair_printed view l limit bytes after old a b c d new v (Err (Memory m)) first none ea eb ec ed p = tt
-pair_printed view l limit bytes after old a b c d new v (Err (Told e)) first none ea eb ec ed p = rw (first, p) refl
+pair_printed view l limit bytes after old a b c d new v (Err (Memory m)) first ea eb ec ed p = tt
+pair_printed view l limit bytes after old a b c d new v (Err (Told e)) first ea eb ec ed p = rw (first, p) refl
 
 -- ---- what stands in a list
 
-pub inside_printed : {X : Type 0} (view : X → List ℕ) (l : Layout) (k : Bracketed) (i : Option Indicator) (old mid new : List ℕ) (r : Result (Option X) (Fault CborError)) (read : DecoderResult (List (Tree (OneEntry (entries_of k)))))
-    → mid ≡ old ++ (list_head_text (laid_list_head l (spaced_list_head i)) ++ respaced S First l []) → Prints (λ es. row_text l (row_of es)) (λ es. row_tagged (row_of es)) view mid new r read
-    → Prints (λ es. text (laid l (list_inside {k = k} i (row_of es)))) (λ es. has_tag (list_inside {k = k} i (row_of es))) view old new r read
-unfolding has_tag
-inside_printed view l k i old mid new (Ok (Some x)) read front p = (p.0, p.1, (of_row (row_of p.0) p.2 p.3).0, (of_row (row_of p.0) p.2 p.3).1) where
-  of_row : (o : Option (Tree (Rest (entries_of k)))) → row_tagged o ≡ false → new ≡ mid ++ row_text l o → (has_tag (list_inside {k = k} i o) ≡ false) × (new ≡ old ++ text (laid l (list_inside {k = k} i o)))
-  of_row None none is = absurd cc
-  of_row (Some m) none is = (none, is ∙ ap (λ (t : List ℕ). t ++ text (laid l m)) front ∙ regroup old (list_head_text (laid_list_head l (spaced_list_head i))) (respaced S First l []) (text (laid l m)) ∙ ap (λ (t : List ℕ). old ++ t) (sym (text_laid_full l k (spaced_list_head i) [] m))) where
+-- what stands between the brackets of a list
+abbrev pub WritesInside : Layout → (k : Bracketed) → Option Indicator → List (Tree (OneEntry (entries_of k))) → List ℕ → List ℕ → Type 0
+WritesInside l k i es old new = Writes l (list_inside {k = k} i (row_of es)) old new
+
+pub inside_printed : {X : Type 0} (view : X → List ℕ) (l : Layout) (k : Bracketed) (i : Option Indicator) (old mid new : List ℕ) (r : Result X (Fault CborError)) (read : DecoderResult (List (Tree (OneEntry (entries_of k)))))
+    → mid ≡ old ++ (list_head_text (laid_list_head l (spaced_list_head i)) ++ respaced S First l []) → Prints (λ es. WritesRow l (row_of es)) view mid new r read
+    → Prints (WritesInside l k i) view old new r read
+inside_printed view l k i old mid new (Ok x) read front p = (p.0, p.1, of_row (row_of p.0) p.2) where
+  of_row : (o : Option (Tree (Rest (entries_of k)))) → WritesRow l o mid new → Writes l (list_inside {k = k} i o) old new
+  of_row None is = absurd is
+  of_row (Some m) is = is ∙ ap (λ (t : List ℕ). t ++ text (laid l m)) front ∙ regroup old (list_head_text (laid_list_head l (spaced_list_head i))) (respaced S First l []) (text (laid l m)) ∙ ap (λ (t : List ℕ). old ++ t) (sym (text_laid_full l k (spaced_list_head i) [] m)) where
     regroup : (o h s t : List ℕ) → (o ++ (h ++ s)) ++ t ≡ o ++ (h ++ (s ++ t))
     regroup o h s t = simp append_assoc refl
-inside_printed view l k i old mid new (Ok None) read front p = tt
 inside_printed view l k i old mid new (Err f) read front p = p
 
 pub several_many : (k : Bracketed) (d : ℕ) (argument : Argument) (w : Width) (n : ℕ) (bytes : List ℕ) → argument ≡ Some (w, n) → several (entry_at k d) argument bytes ≡ many (entry_at k d) n bytes
@@ -212,6 +254,5 @@ unfolding until
 stopped_at_once k d n bytes after e = rw e refl
 
 pub empty_printed : (l : Layout) (k : Bracketed) (i : Option Indicator) (read : DecoderResult (List (Tree (OneEntry (entries_of k))))) (rest old new : List ℕ) → read ≡ Ok ([], rest) → new ≡ old ++ (indicator_text i ++ respaced S Elsewhere l [])
-    → (es : List (Tree (OneEntry (entries_of k)))) × (read ≡ Ok (es, rest)) × (has_tag (list_inside {k = k} i (row_of es)) ≡ false) × (new ≡ old ++ text (laid l (list_inside {k = k} i (row_of es))))
-unfolding has_tag
-empty_printed l k i read rest old new e is = ([], e, refl, is ∙ ap (λ (t : List ℕ). old ++ t) (sym (text_laid_empty l k i [])))
+    → (es : List (Tree (OneEntry (entries_of k)))) × (read ≡ Ok (es, rest)) × WritesInside l k i es old new
+empty_printed l k i read rest old new e is = ([], e, is ∙ ap (λ (t : List ℕ). old ++ t) (sym (text_laid_empty l k i [])))

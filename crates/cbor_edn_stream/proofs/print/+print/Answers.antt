@@ -1,32 +1,24 @@
-use Rattle.std.proofs.Common.{rules, ◌≡◌, ◌≢◌, ◌++◌, ◌<◌, ◌≤◌, ◌*◌, ◌-◌, ◌^◌, ◌∷◌, [], ℕ, suc, true, false, length, map, IfOk, IfSome, OnOk, None, ◌+◌, ◌/◌, ◌%◌, Bool, nat_eq, nat_lt, List, slice_index_or, slice_set, bit_and, bit_or, Fits, w8, w32, w64, Bor, MutBor}
+use Rattle.std.proofs.Common.{◌≡◌, ◌<◌, ◌-◌, [], ℕ, suc, true, false, length}
 use Rattle.cbor_edn_parts.specs.Buffer.{buffer_bytes}
-use Rattle.cbor_edn_parts.specs.Indicator.{indicator_text}
-use Rattle.cbor_edn_parts.specs.Refusals.{IfTold}
-use Rattle.cbor_edn_parts.specs.Spacing as spacing
-use Rattle.cbor_edn_parts.specs.Spacing.{indented}
-use Rattle.cbor_edn_model.specs.layout.Layout as slots
-use Rattle.cbor_edn_parts.specs.LayoutColumns.{respaced}
-use Rattle.cbor_edn_model.specs.text.Spelling as spelling
-use Rattle.cbor_edn_model.specs.cbor.Decoded.{IsDecodedSequence, NoSequence, IsTooDeepSequence}
-use Rattle.cbor_edn_model.specs.layout.Layout.{laid, laid_out, laid_list_head}
-use Rattle.cbor_edn_model.specs.tree.Trees.{Tree, Seq, text, list_head_text}
-use Rattle.cbor_edn_model.specs.visit.Tagged.{has_tag}
-use Rattle.cbor_edn_model.specs.internal.CborReading as reading
-use Rattle.cbor_edn_model.specs.internal.CborReading.{trees, item_at, pair_at, many, until, several, argument_indicator, row_of}
-use Rattle.cbor_edn_model.specs.internal.Regular.{list_inside, spaced_list_head}
-use Rattle.cbor_edn_stream.specs.Printed.{Prints, front_room, bracketed, entry_at, list_by, row_text, row_tagged, long_text}
+use Rattle.cbor_edn_model.specs.internal.CborReading.{trees, many, until, argument_indicator}
+use Rattle.cbor_edn_stream.specs.Printed.{Prints, Writes, WritesAnyhow, WritesParts, WritesRow, front_room, bracketed, entry_at, list_by, nested_major, nested_by}
 use Rattle.std.proofs.Common.{arith, sym, ap, ◌∙◌}
 use Rattle.std.proofs.lemmas.List.{append-nil}
 use Rattle.std.proofs.lemmas.Result.{err_from_is_err_and}
 use Rattle.cbor_edn_model.proofs.lemmas.cbor.CborTurns.{fails, until_fails}
-use Rattle.cbor_edn_stream.proofs.lemmas.Turns.{printed_some, front_none, entry_item, item_long, list_fails, fault_told, list_printed, pair_fails, pair_printed, array_at, map_at, inside_printed, several_many, several_open, stopped_at_once, empty_printed}
+use Rattle.cbor_edn_stream.proofs.lemmas.Turns.{front_none, entry_item, list_fails, fault_told, list_printed, pair_fails, pair_printed, tag_printed, head_is, unsigned_written, negative_written, bytes_at, text_at, prints_as, inside_printed, several_many, several_open, stopped_at_once, empty_printed}
 use Rattle.cbor_edn_model.proofs.lemmas.cbor.CborOutcomes.{many_none}
-use Rattle.cbor_edn_stream.proofs.lemmas.Prefixes.{front_read}
+use Rattle.cbor_edn_stream.proofs.lemmas.Lines.{nested_at, lines_written, front_written}
 use Rattle.cbor_edn_model.proofs.lemmas.cbor.CborTurns.{item_fails}
-use Rattle.cbor_edn_core.specs.tree.View.{item_tree}
-use Rattle.std.proofs.Common.{take, drop, subst, Ok, Err}
+use Rattle.std.proofs.Common.{subst}
 use Rattle.cbor_edn_model.specs.internal.CborReading.{DecoderFails}
 use Rattle.cbor_edn_stream.proofs.lemmas.Loops.{many_on, many_last, until_on, until_last}
+use Rattle.std.proofs.Common.{refl, Some}
+use Rattle.cbor_edn_parts.specs.LayoutColumns.{of_parts}
+use Rattle.cbor_edn_model.specs.layout.Layout.{Layout}
+use Rattle.cbor_edn_stream.specs.declared.print.Nested.TheVariants as nested
+use Rattle.cbor_edn_core.specs.tree.View.{item_tree}
+use Rattle.cbor_edn_model.specs.internal.CborReading.{item_at}
 use Rattle.cbor_edn_stream.proofs.print.+print.Goals as goal
 
 -- src/print.rt:285:1
@@ -67,18 +59,6 @@ print_inside-returns-in_ok-print_front-in-None-past_stop-clause-exact t c =
     rw (several_open (bracketed c.args.list) c.args.limit c.args.argument c.args.bytes.now c.in-None.is)
     (inside_printed (λ r. r.now) c.args.layout (bracketed c.args.list) (argument_indicator c.args.argument) (buffer_bytes c.args.out.now) (buffer_bytes c.print_front-in-None-past_stop.new.out) (buffer_bytes c.print_until.new.out) c.print_until.result _ (grind arith) c.print_until.ensures.exact)
 
--- src/print.rt:67:1
-pub print_item-returns-in_ok-print_item-in-Ok-clause-exact :
-    goal.print_item-returns-in_ok-print_item-in-Ok-clause-exact
-print_item-returns-in_ok-print_item-in-Ok-clause-exact t c =
-    let bytes = c.args.bytes.now in
-    let w = item_tree c.in-Ok.item in
-    let front : c.split_at.result.0.now ≡ take c.min.result c.args.bytes.now = c.split_at.ensures.front in
-    let read : item_at trees c.args.limit (take c.min.result c.args.bytes.now) ≡ Ok (item_tree c.in-Ok.item, c.in-Ok.behind.now) = sym (ap (item_at trees c.args.limit) front) ∙ c.in-Ok.ensures.exact in
-    let whole = front_read c.args.limit c.min.result c.args.bytes.now c.in-Ok.behind.now (item_tree c.in-Ok.item) (λ i. omega (arith, c.type_inv.bytes i)) read in
-    let rest : drop (length (take c.min.result c.args.bytes.now) - length c.in-Ok.behind.now) c.args.bytes.now ≡ c.split_at-in-Ok.result.1.now = ap (λ (l : List ℕ). drop (length l - length c.in-Ok.behind.now) c.args.bytes.now) (sym front) ∙ sym c.split_at-in-Ok.ensures.back in
-    (item_tree c.in-Ok.item, whole ∙ ap (λ (l : List ℕ). Ok (item_tree c.in-Ok.item, l)) rest, grind arith, grind arith)
-
 -- src/print.rt:150:22
 pub print_list-returns-in_err-rest-clause-exact : goal.print_list-returns-in_err-rest-clause-exact
 print_list-returns-in_err-rest-clause-exact t c =
@@ -89,13 +69,13 @@ print_list-returns-in_err-rest-clause-exact t c =
 -- src/print.rt:132:1
 pub print_list-returns-clause-exact : goal.print_list-returns-clause-exact
 print_list-returns-clause-exact t c =
-    let p = printed_some (λ es. text (laid c.of_parts-parts.result (list_inside {k = bracketed c.args.list} (argument_indicator c.args.argument) (row_of es)))) (λ es. has_tag (list_inside {k = bracketed c.args.list} (argument_indicator c.args.argument) (row_of es))) (λ r. r.now) (buffer_bytes c.push_str.new.self) (buffer_bytes c.print_inside.new.out) (several (entry_at (bracketed c.args.list) (c.args.limit - 1)) c.args.argument c.args.bytes.now) c.in_ok-rest.field-0 c.in-Some.rest c.in-Some.is c.in_ok-rest.ensures.exact in
-    list_printed c.args.layout (bracketed c.args.list) c.args.limit c.args.argument c.args.bytes.now c.in-Some.rest.now (buffer_bytes c.args.out.now) (buffer_bytes c.push_str.new.self) (buffer_bytes c.print_inside.new.out) (buffer_bytes c.push_str-2.new.self) p.0 (omega (arith, c.if-limit-eq0.false)) p.1 p.2 (grind arith) (rw (sym c.of_parts-parts.ensures) p.3) (grind arith)
+    let p = c.in_ok-rest.ensures.exact in
+    list_printed c.args.parts (bracketed c.args.list) c.args.limit c.args.argument c.args.bytes.now c.in_ok-rest.rest.now (buffer_bytes c.args.out.now) (buffer_bytes c.push_str.new.self) (buffer_bytes c.print_inside.new.out) (buffer_bytes c.push_str-2.new.self) p.0 (omega (arith, c.if-limit-eq0.false)) p.1 (grind arith) p.2 (grind arith)
 
 -- src/print.rt:239:5
 pub print_many-loop-init : goal.print_many-loop-init
 print_many-loop-init t c =
-    record { read = ([], front_none (many (entry_at (bracketed c.args.list) c.args.limit) (c.args.count - 0) c.args.bytes.now) ∙ ap (λ n. many (entry_at (bracketed c.args.list) c.args.limit) n c.args.bytes.now) (omega arith), tt, sym (append-nil (buffer_bytes c.args.out.now))); low = c.requires; shorter = omega arith }
+    record { read = ([], front_none (many (entry_at (bracketed c.args.list) c.args.limit) (c.args.count - 0) c.args.bytes.now) ∙ ap (λ n. many (entry_at (bracketed c.args.list) c.args.limit) n c.args.bytes.now) (omega arith), sym (append-nil (buffer_bytes c.args.out.now))); low = c.requires; shorter = omega arith }
 
 -- src/print.rt:240:27
 pub print_many-returns-in_err-after-clause-exact :
@@ -108,10 +88,10 @@ print_many-returns-in_err-after-clause-exact t c =
 -- src/print.rt:239:5
 pub print_many-loop-preserved : goal.print_many-loop-preserved
 print_many-loop-preserved t c =
-    let entry = printed_some (λ e. text (laid c.args.layout e)) (λ e. has_tag e) (λ r. r.now) (buffer_bytes c.loop.out) (buffer_bytes c.print_entry.new.out) ((entry_at (bracketed c.args.list) c.args.limit) c.loop.rest.now) c.in_ok-after.field-0 c.in-Some.after c.in-Some.is c.in_ok-after.ensures.exact in
+    let entry = c.in_ok-after.ensures.exact in
     let less = c.in_ok-after.ensures.shorter in
     record {
-      read = many_on (bracketed c.args.list) c.args.layout c.args.limit c.args.count c.loop.counter _ c.loop.rest.now c.in-Some.after.now (buffer_bytes c.args.out.now) (buffer_bytes c.loop.out) (buffer_bytes c.print_entry.new.out) (buffer_bytes c.print_separator.new.out) c.loop.invariant.low c.loop.invariant.read entry (grind arith);
+      read = many_on (bracketed c.args.list) c.args.layout c.args.limit c.args.count c.loop.counter _ c.loop.rest.now c.in_ok-after.after.now (buffer_bytes c.args.out.now) (buffer_bytes c.loop.out) (buffer_bytes c.print_entry.new.out) (buffer_bytes c.print_separator.new.out) c.loop.invariant.low c.loop.invariant.read entry (grind arith);
       low = grind arith;
       shorter = grind arith;
     }
@@ -127,8 +107,8 @@ print_many-returns-in_err-after-2-clause-exact t c =
 -- src/print.rt:224:1
 pub print_many-returns-clause-exact : goal.print_many-returns-clause-exact
 print_many-returns-clause-exact t c =
-    let entry = printed_some (λ e. text (laid c.args.layout e)) (λ e. has_tag e) (λ r. r.now) (buffer_bytes c.loop.out) (buffer_bytes c.print_entry-2.new.out) ((entry_at (bracketed c.args.list) c.args.limit) c.loop.rest.now) c.in_ok-after-2.field-0 c.in-Some-2.after c.in-Some-2.is c.in_ok-after-2.ensures.exact in
-    many_last (bracketed c.args.list) c.args.layout c.args.limit c.args.count c.loop.counter _ c.loop.rest.now c.in-Some-2.after.now (buffer_bytes c.args.out.now) (buffer_bytes c.loop.out) (buffer_bytes c.print_entry-2.new.out) (buffer_bytes c.print_end.new.out) c.loop.invariant.low (omega (arith, c.loop-test.false)) c.loop.invariant.read entry (grind arith)
+    let entry = c.in_ok-after-2.ensures.exact in
+    many_last (bracketed c.args.list) c.args.layout c.args.limit c.args.count c.loop.counter _ c.loop.rest.now c.in_ok-after-2.after.now (buffer_bytes c.args.out.now) (buffer_bytes c.loop.out) (buffer_bytes c.print_entry-2.new.out) (buffer_bytes c.print_end.new.out) c.loop.invariant.low (omega (arith, c.loop-test.false)) c.loop.invariant.read entry (grind arith)
 
 -- src/print.rt:314:22
 pub print_pair-returns-in_err-rest-clause-exact : goal.print_pair-returns-in_err-rest-clause-exact
@@ -139,13 +119,13 @@ print_pair-returns-in_err-rest-clause-exact t c =
 -- src/print.rt:303:1
 pub print_pair-returns-clause-exact : goal.print_pair-returns-clause-exact
 print_pair-returns-clause-exact t c =
-    let p = printed_some (λ t. text (laid c.args.layout t)) (λ t. has_tag t) (λ r. r.now) (buffer_bytes c.args.out.now) (buffer_bytes c.print_item.new.out) (item_at trees c.args.limit c.args.bytes.now) c.in_ok-rest.field-0 c.in-Some.rest c.in-Some.is c.in_ok-rest.ensures.exact in
-    pair_printed (λ r. r.now) c.args.layout c.args.limit c.args.bytes.now c.in-Some.rest.now (buffer_bytes c.args.out.now) (buffer_bytes c.print_item.new.out) (buffer_bytes c.print_space.new.out) (buffer_bytes c.push_str.new.self) (buffer_bytes c.print_space-2.new.out) (buffer_bytes c.print_item-2.new.out) p.0 c.print_item-2.result p.1 p.2 p.3 (grind arith) (grind arith) (grind arith) c.print_item-2.ensures.exact
+    let p = c.in_ok-rest.ensures.exact in
+    pair_printed (λ r. r.now) c.args.layout c.args.limit c.args.bytes.now c.in_ok-rest.rest.now (buffer_bytes c.args.out.now) (buffer_bytes c.print_item.new.out) (buffer_bytes c.print_space.new.out) (buffer_bytes c.push_str.new.self) (buffer_bytes c.print_space-2.new.out) (buffer_bytes c.print_item-2.new.out) p.0 c.print_item-2.result p.1 p.2 (grind arith) (grind arith) (grind arith) c.print_item-2.ensures.exact
 
 -- src/print.rt:268:5
 pub print_until-turns-init : goal.print_until-turns-init
 print_until-turns-init t c =
-    record { read = ([], suc (length c.args.bytes.now), omega arith, front_none (until c.args.stop (entry_at (bracketed c.args.list) c.args.limit) (suc (length c.args.bytes.now)) c.args.bytes.now), tt, sym (append-nil (buffer_bytes c.args.out.now))); going = c.requires; shorter = omega arith }
+    record { read = ([], suc (length c.args.bytes.now), omega arith, front_none (until c.args.stop (entry_at (bracketed c.args.list) c.args.limit) (suc (length c.args.bytes.now)) c.args.bytes.now), sym (append-nil (buffer_bytes c.args.out.now))); going = c.requires; shorter = omega arith }
 
 -- src/print.rt:269:27
 pub print_until-returns-in_err-after-clause-exact :
@@ -156,44 +136,66 @@ print_until-returns-in_err-after-clause-exact t c =
     rw (p.1, p.2) (until_fails c.args.stop c.in_err-after.field-0.0 (entry_at (bracketed c.args.list) c.args.limit) so_far.0 so_far.1 c.turns.rest.now _ (omega (arith, so_far.2)) c.turns.invariant.going c.in_err-after.ensures.exact so_far.3)
 
 -- src/print.rt:275:17
-pub print_until-returns-in-Some-past_stop-clause-exact :
-    goal.print_until-returns-in-Some-past_stop-clause-exact
-print_until-returns-in-Some-past_stop-clause-exact t c =
-    let entry = printed_some (λ e. text (laid c.args.layout e)) (λ e. has_tag e) (λ r. r.now) (buffer_bytes c.turns.out) (buffer_bytes c.print_entry.new.out) ((entry_at (bracketed c.args.list) c.args.limit) c.turns.rest.now) c.in_ok-after.field-0 c.in-Some.after c.in-Some.is c.in_ok-after.ensures.exact in
-    let less : length c.in-Some.after.now < length c.turns.rest.now = grind arith in
-    until_last (bracketed c.args.list) c.args.layout c.args.limit c.args.stop _ c.turns.rest.now c.in-Some.after.now c.in-Some-past_stop.behind.now (buffer_bytes c.args.out.now) (buffer_bytes c.turns.out) (buffer_bytes c.print_entry.new.out) (buffer_bytes c.print_end.new.out) c.turns.invariant.going less (grind arith) c.turns.invariant.read entry (grind arith)
+pub print_until-returns-in-Some-clause-exact : goal.print_until-returns-in-Some-clause-exact
+print_until-returns-in-Some-clause-exact t c =
+    let entry = c.in_ok-after.ensures.exact in
+    let less : length c.in_ok-after.after.now < length c.turns.rest.now = grind arith in
+    until_last (bracketed c.args.list) c.args.layout c.args.limit c.args.stop _ c.turns.rest.now c.in_ok-after.after.now c.in-Some.behind.now (buffer_bytes c.args.out.now) (buffer_bytes c.turns.out) (buffer_bytes c.print_entry.new.out) (buffer_bytes c.print_end.new.out) c.turns.invariant.going less (grind arith) c.turns.invariant.read entry (grind arith)
 
 -- src/print.rt:268:5
 pub print_until-turns-preserved : goal.print_until-turns-preserved
 print_until-turns-preserved t c =
-    let entry = printed_some (λ e. text (laid c.args.layout e)) (λ e. has_tag e) (λ r. r.now) (buffer_bytes c.turns.out) (buffer_bytes c.print_entry.new.out) ((entry_at (bracketed c.args.list) c.args.limit) c.turns.rest.now) c.in_ok-after.field-0 c.in-Some.after c.in-Some.is c.in_ok-after.ensures.exact in
-    let less : length c.in-Some.after.now < length c.turns.rest.now = grind arith in
+    let entry = c.in_ok-after.ensures.exact in
+    let less : length c.in_ok-after.after.now < length c.turns.rest.now = grind arith in
     record {
-      read = until_on (bracketed c.args.list) c.args.layout c.args.limit c.args.stop _ c.turns.rest.now c.in-Some.after.now (buffer_bytes c.args.out.now) (buffer_bytes c.turns.out) (buffer_bytes c.print_entry.new.out) (buffer_bytes c.print_separator.new.out) c.turns.invariant.going less c.turns.invariant.read entry (grind arith);
+      read = until_on (bracketed c.args.list) c.args.layout c.args.limit c.args.stop _ c.turns.rest.now c.in_ok-after.after.now (buffer_bytes c.args.out.now) (buffer_bytes c.turns.out) (buffer_bytes c.print_entry.new.out) (buffer_bytes c.print_separator.new.out) c.turns.invariant.going less c.turns.invariant.read entry (grind arith);
       going = grind arith;
       shorter = omega (arith, less, c.turns.invariant.shorter);
     }
 
-pub print_item-returns-in_err-major-in-Err-Told-clause-exact :
-    goal.print_item-returns-in_err-major-in-Err-Told-clause-exact
-print_item-returns-in_err-major-in-Err-Told-clause-exact t c =
-    let p = err_from_is_err_and c.from_residual-in_err-major-in-Err-Told.result c.from_residual-in_err-major-in-Err-Told.ensures.1 in
-    rw (p.1, p.2) (item_fails trees c.in_err-major-in-Err-Told.field-0.0 c.args.limit c.args.bytes.now c.in_err-major-in-Err-Told.ensures.exact)
+pub print_item-returns-in_ok-print_integer-in-0-Some-clause-exact : goal.print_item-returns-in_ok-print_integer-in-0-Some-clause-exact
+print_item-returns-in_ok-print_integer-in-0-Some-clause-exact t c =
+    unsigned_written c.args.layout c.args.limit c.in-0-Some.width c.in-0-Some.number c.args.bytes.now c.in_ok-major.behind.now (buffer_bytes c.args.out.now) (buffer_bytes c.print_integer.new.out)
+    (head_is c.args.bytes.now c.in_ok-major.behind.now c.in_ok-major.major 0 c.in_ok-major.argument (Some (c.in-0-Some.width, c.in-0-Some.number)) c.in_ok-major.ensures.exact c.in-0-Some.is-0 c.in-0-Some.is-1)
+    c.in_ok-print_integer-in-0-Some.ensures
 
-pub print_item-returns-in-4-clause-exact : goal.print_item-returns-in-4-clause-exact
-print_item-returns-in-4-clause-exact t c =
-    let h = c.in_ok-major-in-Err-Told in
-    let kept : buffer_bytes c.print_integer.new.out ≡ buffer_bytes c.args.out.now = grind arith in
-    let front : c.split_at.result.0.now ≡ take c.min.result c.args.bytes.now = c.split_at.ensures.front in
-    let refused = sym (ap (item_at trees c.args.limit) front) ∙ fault_told c.in-Err-Told.field-0 c.in-Err-Told.field-0-0 (item_at trees c.args.limit c.split_at.result.0.now) c.in-Err-Told.field-0-is c.in-Err-Told.ensures.exact in
-    rw (sym kept) (item_long (λ r. r.now) c.args.layout c.args.limit c.min.result c.args.bytes.now (buffer_bytes c.print_integer.new.out) (buffer_bytes c.print_list.new.out) c.in-Err-Told.field-0-0 c.print_list.result (λ i. omega (arith, c.type_inv.bytes i)) (grind arith) (omega arith) refused
-    (rw (array_at c.args.limit h.argument c.args.bytes.now h.behind.now (h.ensures.exact ∙ ap (λ (m : ℕ). Ok ((m, h.argument), h.behind.now)) c.in-4.is)) c.print_list.ensures.exact))
+pub print_item-returns-in_ok-print_integer-in-1-Some-clause-exact : goal.print_item-returns-in_ok-print_integer-in-1-Some-clause-exact
+print_item-returns-in_ok-print_integer-in-1-Some-clause-exact t c =
+    negative_written c.args.layout c.args.limit c.in-1-Some.width c.in-1-Some.number c.args.bytes.now c.in_ok-major.behind.now (buffer_bytes c.args.out.now) (buffer_bytes c.print_integer-in-1-Some.new.out)
+    (head_is c.args.bytes.now c.in_ok-major.behind.now c.in_ok-major.major 1 c.in_ok-major.argument (Some (c.in-1-Some.width, c.in-1-Some.number)) c.in_ok-major.ensures.exact c.in-1-Some.is-0 c.in-1-Some.is-1)
+    c.in_ok-print_integer-in-1-Some.ensures
 
-pub print_item-returns-in-5-clause-exact : goal.print_item-returns-in-5-clause-exact
-print_item-returns-in-5-clause-exact t c =
-    let h = c.in_ok-major-in-Err-Told in
-    let kept : buffer_bytes c.print_integer.new.out ≡ buffer_bytes c.args.out.now = grind arith in
-    let front : c.split_at.result.0.now ≡ take c.min.result c.args.bytes.now = c.split_at.ensures.front in
-    let refused = sym (ap (item_at trees c.args.limit) front) ∙ fault_told c.in-Err-Told.field-0 c.in-Err-Told.field-0-0 (item_at trees c.args.limit c.split_at.result.0.now) c.in-Err-Told.field-0-is c.in-Err-Told.ensures.exact in
-    rw (sym kept) (item_long (λ r. r.now) c.args.layout c.args.limit c.min.result c.args.bytes.now (buffer_bytes c.print_integer.new.out) (buffer_bytes c.print_list-in-5.new.out) c.in-Err-Told.field-0-0 c.print_list-in-5.result (λ i. omega (arith, c.type_inv.bytes i)) (grind arith) (omega arith) refused
-    (rw (map_at c.args.limit h.argument c.args.bytes.now h.behind.now (h.ensures.exact ∙ ap (λ (m : ℕ). Ok ((m, h.argument), h.behind.now)) c.in-5.is)) c.print_list-in-5.ensures.exact))
+pub print_item-returns-in-2-Some-clause-exact : goal.print_item-returns-in-2-Some-clause-exact
+print_item-returns-in-2-Some-clause-exact t c =
+    rw (bytes_at c.args.limit c.in-2-Some.width c.in-2-Some.count c.args.bytes.now c.in_ok-major.behind.now
+    (head_is c.args.bytes.now c.in_ok-major.behind.now c.in_ok-major.major 2 c.in_ok-major.argument (Some (c.in-2-Some.width, c.in-2-Some.count)) c.in_ok-major.ensures.exact c.in-2-Some.is-0 c.in-2-Some.is-1))
+    (prints_as WritesAnyhow (λ t. Writes c.args.layout t) (λ r. r.now) (buffer_bytes c.args.out.now) (buffer_bytes c.print_string.new.out) c.print_string.result _ (λ a written. written c.args.layout) c.print_string.ensures.exact)
+
+pub print_item-returns-in-3-Some-clause-exact : goal.print_item-returns-in-3-Some-clause-exact
+print_item-returns-in-3-Some-clause-exact t c =
+    rw (text_at c.args.limit c.in-3-Some.width c.in-3-Some.count c.args.bytes.now c.in_ok-major.behind.now
+    (head_is c.args.bytes.now c.in_ok-major.behind.now c.in_ok-major.major 3 c.in_ok-major.argument (Some (c.in-3-Some.width, c.in-3-Some.count)) c.in_ok-major.ensures.exact c.in-3-Some.is-0 c.in-3-Some.is-1))
+    (prints_as WritesAnyhow (λ t. Writes c.args.layout t) (λ r. r.now) (buffer_bytes c.args.out.now) (buffer_bytes c.print_string-in-3-Some.new.out) c.print_string-in-3-Some.result _ (λ a written. written c.args.layout) c.print_string-in-3-Some.ensures.exact)
+
+pub print_nested-returns-in_ok-print_item-in-Ok-clause-exact : goal.print_nested-returns-in_ok-print_item-in-Ok-clause-exact
+print_nested-returns-in_ok-print_item-in-Ok-clause-exact t c =
+    front_written c.args.layout c.args.limit c.min.result c.args.bytes.now c.split_at.result.0.now c.in-Ok.after.now c.split_at-in-Ok.result.1.now (buffer_bytes c.args.out.now) (buffer_bytes c.print_item.new.out) (item_tree c.in-Ok.item)
+    (λ i. omega (arith, c.type_inv.bytes i)) c.split_at.ensures.front c.in-Ok.ensures.exact c.split_at-in-Ok.ensures.back (grind arith)
+
+pub print_nested-returns-in-Err-Told-clause-exact : goal.print_nested-returns-in-Err-Told-clause-exact
+print_nested-returns-in-Err-Told-clause-exact t c =
+    lines_written (λ r. r.now) c.args.layout c.of_parts-parts.result c.args.limit c.min.result c.args.bytes.now c.split_at.result.0.now (buffer_bytes c.args.out.now) (buffer_bytes c.print_parts.new.out) c.in-Err-Told.field-0-0 c.print_parts.result
+    (λ i. omega (arith, c.type_inv.bytes i)) (grind arith) (omega arith) c.split_at.ensures.front
+    (fault_told c.in-Err-Told.field-0 c.in-Err-Told.field-0-0 (item_at trees c.args.limit c.split_at.result.0.now) c.in-Err-Told.field-0-is c.in-Err-Told.ensures.exact) c.of_parts-parts.ensures
+    (rw (nested_at c.args.limit c.args.nested c.args.argument c.args.bytes.now c.args.behind.now c.requires.head) c.print_parts.ensures.exact)
+
+pub print_tag-returns-clause-exact : goal.print_tag-returns-clause-exact
+print_tag-returns-clause-exact t c =
+    let p = c.in_ok-rest.ensures.exact in
+    tag_printed c.args.parts c.args.limit c.args.argument c.in-Some.field-0-0 c.in-Some.number c.args.bytes.now c.in_ok-rest.rest.now (buffer_bytes c.args.out.now) (buffer_bytes c.print_label.new.out) (buffer_bytes c.push_str.new.self) (buffer_bytes c.print_space.new.out)
+    (buffer_bytes c.print_item.new.out) (buffer_bytes c.print_space-2.new.out) (buffer_bytes c.push_str-2.new.self) p.0 c.in-Some.is (omega (arith, c.if-limit-eq0.false)) p.1 (grind arith) (grind arith) (grind arith) p.2 (grind arith) (grind arith)
+
+pub print_item-returns-in_err-major-clause-exact : goal.print_item-returns-in_err-major-clause-exact
+print_item-returns-in_err-major-clause-exact t c =
+    let p = err_from_is_err_and c.from_residual.result c.from_residual.ensures.1 in
+    rw (p.1, p.2) (item_fails trees c.in_err-major.field-0.0 c.args.limit c.args.bytes.now c.in_err-major.ensures.exact)

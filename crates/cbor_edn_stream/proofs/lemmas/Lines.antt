@@ -1,0 +1,68 @@
+-- An item that stands in the front of the bytes, and one that does not, which has lines of its own.
+use Rattle.std.proofs.Common.{◌≡◌, ℕ, ◌+◌, ◌-◌, ◌*◌, ◌^◌, ◌≤◌, ◌<◌, take, drop, true, false, List, [], ◌∷◌, ◌++◌, length, Option, Some, None, Result, Ok, Err, refl, sym, ap, subst, ◌∙◌, length-append, arith, inl, inr}
+use Rattle.std.specs.Prelude.{min, if◌then◌else◌, IfNone}
+use Rattle.std.proofs.lemmas.Bool.{cases_lt, lt-ltb, le-ltb}
+use Rattle.std.proofs.Math.Seq.{take-append-add, drop-append-add}
+use Rattle.cbor_edn_parts.specs.LayoutColumns.{of_parts, saturating_add}
+use Rattle.cbor_edn_parts.specs.declared.error.Fault.{Fault}
+use Rattle.cbor_edn_parts.specs.declared.policy.Spacing.TheVariants.{OneLine}
+use Rattle.cbor_edn_model.specs.declared.cbor.decode.CborError.{CborError}
+use Rattle.cbor_edn_model.specs.text.Spelling.{opening, ending}
+use Rattle.cbor_edn_model.specs.tree.Trees.{Tree, OneItem, ListTree, EnclosedTree, text, label_text}
+use Rattle.cbor_edn_model.specs.cbor.Value.{head, open_head}
+use Rattle.cbor_edn_model.specs.layout.Layout.{Layout, Kept, Inline, Lines, laid}
+use Rattle.cbor_edn_model.specs.internal.CborReading.{DecoderResult, Argument, head_at, item_at, trees}
+use Rattle.cbor_edn_model.specs.internal.Widths.{measured}
+use Rattle.cbor_edn_model.proofs.lemmas.cbor.CborHeads.{IsBytes, head_again, open_again, head_takes}
+use Rattle.cbor_edn_model.proofs.lemmas.layout.LaidTexts.{text_laid_enclosed, text_laid_list}
+use Rattle.cbor_edn_model.proofs.lemmas.layout.MeasuredWidths.{test_is}
+use Rattle.cbor_edn_stream.specs.declared.print.Nested.{Nested}
+use Rattle.cbor_edn_stream.specs.declared.print.Nested.TheVariants as nested
+use Rattle.cbor_edn_stream.specs.Printed.{Prints, Writes, WritesParts, greatest, front_room, nested_major, nested_by}
+use Rattle.cbor_edn_stream.proofs.lemmas.Lengths.{line_width}
+use Rattle.cbor_edn_stream.proofs.lemmas.Prefixes.{front_read, front_refused}
+use Rattle.cbor_edn_stream.proofs.lemmas.Turns.{array_at, map_at, tag_at}
+
+-- an item of which that front is not enough has lines of its own
+pub wide_parts : (l : Layout) (t : Tree OneItem) (n : ℕ) → n < 2 ^ 64 - 1 → front_room l ≤ n → n < 9 * line_width t → of_parts l (measured t) ≡ of_parts l 18446744073709551615
+wide_parts Kept t n small le lt = refl
+wide_parts (Inline column) t n small le lt = refl
+wide_parts (Lines base end level width) t n small le lt =
+    elim (cases_lt 18446744073709551615 width) [
+      | inl big ↦ rw (lt-ltb (saturating_add (measured t) base) width (omega (arith, big)), lt-ltb (saturating_add 18446744073709551615 base) width (omega (arith, big))) refl
+      | inr narrow ↦ (
+          let first : width ≤ saturating_add (measured t) base = omega (arith, narrow, small, le, lt) in
+          let second : width ≤ saturating_add 18446744073709551615 base = omega (arith, narrow) in
+          rw (le-ltb (saturating_add (measured t) base) width first, le-ltb (saturating_add 18446744073709551615 base) width second) refl)
+    ]
+
+-- what is written of an item in which others nest, by the layout of its parts
+pub parts_written : (l p : Layout) (t : Tree OneItem) (old new : List ℕ) → of_parts l (measured t) ≡ p → WritesParts p t old new → Writes l t old new
+parts_written l p (ListTree k w) old new e is = is ∙ ap (λ (x : List ℕ). old ++ x) (ap (λ (m : Layout). opening k ∷ (text (laid m w) ++ (ending k ∷ []))) (sym e) ∙ sym (text_laid_list l k w))
+parts_written l p (EnclosedTree label w) old new e is = is ∙ ap (λ (x : List ℕ). old ++ x) (ap (λ (m : Layout). label_text label ++ (40 ∷ (text (laid m w) ++ (41 ∷ [])))) (sym e) ∙ sym (text_laid_enclosed l label w))
+parts_written l p _ old new e is = absurd is
+
+-- ---- bytes behind a head
+
+pub nested_at : (limit : ℕ) (n : Nested) (argument : Argument) (bytes behind : List ℕ) → head_at bytes ≡ Ok ((nested_major n, argument), behind) → item_at trees limit bytes ≡ nested_by n limit argument behind
+nested_at limit nested.Array argument bytes behind read = array_at limit argument bytes behind read
+nested_at limit nested.Map argument bytes behind read = map_at limit argument bytes behind read
+nested_at limit nested.Tag argument bytes behind read = tag_at limit argument bytes behind read
+
+-- What the front does not hold has lines of its own.
+pub lines_written : {X : Type 0} (view : X → List ℕ) (l parts : Layout) (limit n : ℕ) (bytes front old new : List ℕ) (e : CborError) (r : Result X (Fault CborError)) → IsBytes bytes → n ≡ min (front_room l) (length bytes) → length bytes < 2 ^ 64
+    → front ≡ take n bytes → item_at trees limit front ≡ Err e → parts ≡ of_parts l greatest
+    → Prints (λ t. WritesParts parts t) view old new r (item_at trees limit bytes) → Prints (λ t. Writes l t) view old new r (item_at trees limit bytes)
+lines_written view l parts limit n bytes front old new e (Ok x) fits is small part refused given p =
+    let long = front_refused limit n bytes e (p.0, view x) fits (subst (λ (b : List ℕ). item_at trees limit b ≡ Err e) part refused) p.1 in
+    let wide = wide_parts l p.0 n (omega (arith, long.1, small)) (omega (arith, is, long.1)) long.0 in
+    (p.0, p.1, parts_written l parts p.0 old new (wide ∙ sym given) p.2)
+lines_written view l parts limit n bytes front old new e (Err f) fits is small part refused given p = p
+
+-- What it holds is read from all.
+pub front_written : (l : Layout) (limit n : ℕ) (bytes front behind rest old new : List ℕ) (t : Tree OneItem) → IsBytes bytes → front ≡ take n bytes → item_at trees limit front ≡ Ok (t, behind) → rest ≡ drop (length front - length behind) bytes → Writes l t old new
+    → (w : Tree OneItem) × (item_at trees limit bytes ≡ Ok (w, rest)) × Writes l w old new
+front_written l limit n bytes front behind rest old new t fits part read back is =
+    let whole = front_read limit n bytes behind t fits (subst (λ (b : List ℕ). item_at trees limit b ≡ Ok (t, behind)) part read) in
+    let same : drop (length (take n bytes) - length behind) bytes ≡ rest = ap (λ (b : List ℕ). drop (length b - length behind) bytes) (sym part) ∙ sym back in
+    (t, whole ∙ ap (λ (b : List ℕ). Ok (t, b)) same, is)
