@@ -61,7 +61,7 @@ fn is_written(answer: Result<Vec<u8>, RunError>, wanted: &[u8]) -> Result<bool, 
 /// A message of COSE by RFC 9052 with a time and a bignum in it, and a claims set.
 fn show(alloc: Global) -> Result<bool, Failure> {
     let bytes =
-        b"\xd2\x84\x43\xa1\x01\x26\xa0\x4d\x82\xc1\x00\xc2\x49\x01\0\0\0\0\0\0\0\0\x40\xa1\x04\0";
+        b"\xd2\x84\x43\xa1\x01\x26\xa0\x4e\x82\xc1\x00\xc2\x49\x01\0\0\0\0\0\0\0\0\x40\xa1\x04\0";
     let text = b"18([
         <<{1: -7}>>,
         {},
