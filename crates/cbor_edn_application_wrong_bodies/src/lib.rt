@@ -2,11 +2,13 @@
 //! `wrong/`: a check here is that of a small crate, and what a clause refuses here it refuses where the call is written.
 #![tactic(auto)]
 
-ghost use Rattle.std.specs.Prelude.{◌≡◌, None, Ok, Err, IfOk, IfErr, OnOk, option_map};
+ghost use Rattle.std.specs.Prelude.{◌≡◌, ◌-◌, None, Ok, Err, IfOk, IfErr, OnOk, option_map};
 ghost use Rattle.std.specs.String.{string_bytes};
 ghost use Rattle.cbor_edn_parts.specs.Refusals.{IfTold};
 ghost use Rattle.cbor_edn_model.specs.access.Accessed.{map_items};
-ghost use Rattle.cbor_edn_model.specs.visit.Seeking.{IsApplication, number, prefix_and_text};
+ghost use Rattle.cbor_edn_model.specs.tree.Items.{nesting};
+ghost use Rattle.cbor_edn_model.specs.tree.Trees.{items};
+ghost use Rattle.cbor_edn_model.specs.visit.Seeking.{CallArguments, IsApplication, number, prefix_and_text};
 ghost use Rattle.cbor_edn_core.specs.declared.access.TypeMismatch.TheVariants.{Map};
 ghost use Rattle.cbor_edn_core.specs.visit.Callbacks.{answer_of, ending, handler_of, key_answer, IfVisited};
 ghost use Rattle.cbor_edn_core.specs.visit.Sought.{sought_answer};
@@ -16,6 +18,7 @@ ghost use Rattle.cbor_edn_conversions.specs.All.{pretty_all, resolve_all};
 ghost use Rattle.cbor_edn_conversions.specs.Annotations.{comment_lang};
 ghost use Rattle.cbor_edn_conversions.specs.Bignums.{pretty_bignum};
 ghost use Rattle.cbor_edn_conversions.specs.Claims.{claim_key, with_claims};
+ghost use Rattle.cbor_edn_conversions.specs.EmbeddedItems.{show_embedded};
 ghost use Rattle.cbor_edn_conversions.specs.Tag999.{to_tag999};
 ghost use Rattle.cbor_edn_conversions.specs.Times.{pretty_time, resolve_time, time_literal};
 ghost use Rattle.cbor_edn_application.specs.Acts.{ActsBy, IsVisited};
@@ -215,4 +218,28 @@ pub fn resolve(alloc: Global, sequence: &mut Sequence<'_>) -> Result<(), AllocEr
     ensures { IsVisited IsApplication resolve_all (sequence_tree sequence.old) (ending result) (sequence_tree sequence.new) }
 {
     cbor_edn_application::visits::resolve(alloc, sequence)
+}
+
+/// `show_embedded`.
+pub fn show_embedded(
+    alloc: Global,
+    levels: usize,
+    limit: usize,
+    item: &mut Item<'_>,
+) -> Result<(), CallbackError>
+    ensures { (a : CallArguments) → IsApplication (item_tree item.old) a → ActsBy (show_embedded levels limit) a (item_tree item.old) (sought_answer result) (item_tree item.new) }
+{
+    cbor_edn_application::show_embedded(alloc, levels, limit, item)
+}
+
+/// `visits::show_embedded`.
+pub fn show_all_embedded(
+    alloc: Global,
+    levels: usize,
+    limit: usize,
+    sequence: &mut Sequence<'_>,
+) -> Result<(), AllocError>
+    ensures { IsVisited IsApplication (show_embedded levels (limit - nesting (items (sequence_tree sequence.old)))) (sequence_tree sequence.old) (ending result) (sequence_tree sequence.new) }
+{
+    cbor_edn_application::visits::show_embedded(alloc, levels, limit, sequence)
 }
