@@ -6,8 +6,8 @@
 # FOLDER has the packages. Without it they are made, of changes that are in no commit too; with --after-ci of the program that `rt ci`
 # has just proved here. They are made once more, and must have the same bytes. The flags of each `--help`, with their words, must stand
 # in the manual page, and each shell must offer them. The commands of the READMEs of bindings/ and of docs/RECIPES.md run over what was
-# unpacked. Nothing is installed on the machine. What can't be tried, since something is not there, is left out, and told; in CI, which
-# may install it, that is a fault. The last line is 'N passed, M failed'.
+# unpacked. In CI they are then installed and purged (scripts/check-install.sh), elsewhere nothing is. What can't be tried, since
+# something is not there, is left out, and told; in CI, which may install it, that is a fault. The last line is 'N passed, M failed'.
 set -euo pipefail
 
 cd "$(dirname "$(readlink -f "$0")")/.."
@@ -299,5 +299,13 @@ built_from() {
   done
 }
 check 'BUILT-FROM in each' built_from
+
+# ---- installed by apt
+
+if [ -n "${CI-}" ]; then
+  add scripts/check-install.sh "$folder"
+else
+  echo 'check-packages: packages are installed in CI alone, so this is left out: scripts/check-install.sh'
+fi
 
 end
