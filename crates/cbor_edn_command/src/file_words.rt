@@ -22,7 +22,7 @@ const ABOUT: &str = "Shows, lays out and checks files of the Extended Diagnostic
 
 const SHOWING: &str = "\
 Of more than one FILE, each stands behind a comment with its name.
-Exit status: 0 done, 1 a fault of a file or device, 2 a fault of the words.
+Exit status: 0 done, 1 a fault of a file or device, 2 of the command line.
 
 Example:
   echo 43a10126 | cbor-edn show -i hex   # <<{1: -7}>>";
@@ -31,7 +31,7 @@ const LAYING_OUT: &str = "\
 Each FILE gets the spaces that diag2diag gives it, at once and whole: a draft
 beside it takes its place. A FILE at fault, or laid out already, stays as it is.
 Standard input is laid out to standard output.
-Exit status: 0 done, 1 a FILE is at fault or listed, 2 a fault of the words.
+Exit status: 0 done, 1 a FILE is at fault or listed, 2 the command line is.
 
 Example:
   echo '[1 /one/,2]' | cbor-edn fmt   # [1/one/, 2]";
@@ -39,7 +39,7 @@ Example:
 const CHECKING: &str = "\
 A fault is told behind the FILE's name, and behind line and column where these
 are known. All is well where nothing is told.
-Exit status: 0 all is well, 1 a FILE is at fault, 2 a fault of the words.
+Exit status: 0 all is well, 1 a FILE is at fault, 2 the command line is.
 
 Example:
   echo '[1, 2' | cbor-edn check 2>&1 | head -n 1   # <stdin>:2:1: Invalid EDN";

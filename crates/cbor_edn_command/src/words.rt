@@ -18,15 +18,17 @@ pub(crate) static ANNOTATIONS: [&str; 1] = ["ccs"];
 const ABOUT: &str = "Turns the Extended Diagnostic Notation (EDN) of CBOR into CBOR and back";
 
 const EXAMPLES: &str = "\
-A command takes [OPTIONS] [INPUT] [OUTPUT], and shows its options by --help.
-Standard input and output stand for names that are left out or -. OUTPUT is
-emptied first. Of files, show, fmt and check take [OPTIONS] [FILE].. instead.
-Exit status: 0 done, 1 a fault of input, file or device, 2 a fault of the words.
+Of files, with [OPTIONS] [FILE]..:
+  show       Decodes CBOR, also in its byte strings, into items in EDN
+  fmt        Lays out files of EDN in place
+  check      Tells whether files are EDN that has an encoding, or CBOR
+The others take [OPTIONS] [INPUT] [OUTPUT], and empty OUTPUT first. Names that
+are left out or - are standard input and output. COMMAND --help shows OPTIONS.
+Exit status: 0 done, 1 a fault of input, file or device, 2 of the command line.
 
 Examples:
   echo '[1, 0x1f, []]' | cbor-edn diag2cbor -o hex    # 8301181f80
-  echo '83 01 18 1f 80' | cbor-edn cbor2diag -i hex   # [1, 31, []]
-  echo '[1 /one/,2]' | cbor-edn diag2diag             # [1/one/, 2]";
+  echo '83 01 18 1f 80' | cbor-edn cbor2diag -i hex   # [1, 31, []]";
 
 const ENCODING: &str = "\
 Literals of times and addresses are encoded as what they stand for.
@@ -349,6 +351,6 @@ fn with_common<'a>(
             alloc,
             "output",
             "OUTPUT",
-            "The file to write, emptied first, or -",
+            "A second name: the file to write, emptied first, or -",
         ))
 }
