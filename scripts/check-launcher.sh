@@ -124,11 +124,12 @@ count 'help, which reads nothing' ended_unproved 0 'Usage: cbor-edn diag2cbor\n'
 answer 3 '' ''
 call --version < <(sleep 100)
 count 'the version, at once' ended 0 'cbor-edn 0.1.0\n' ''
-for words in --help -h 'show --help' 'diag2diag -h'; do
-  text=${words% *}
-  # shellcheck disable=SC2086
-  call $words < <(sleep 100)
-  count "$words, at once" cmp -s "$work/output" "$tree/scripts/help/$([ "$text" = "$words" ] && echo program || echo "$text").txt"
+for command in '' diag2cbor cbor2diag diag2diag show fmt check; do
+  for flag in --help -h; do
+    # shellcheck disable=SC2086
+    call $command $flag < <(sleep 100)
+    count "$command $flag, at once" cmp -s "$work/output" "$tree/scripts/help/${command:-program}.txt"
+  done
 done
 call fmt 'in edn' < /dev/null
 count 'a file that an unproved program would change' is_unanswered 'fmt of a file by its name'
