@@ -3,10 +3,10 @@
 #
 # usage: scripts/check-install.sh FOLDER
 #
-# FOLDER has what scripts/package.sh makes. The commands are those of packaging/README.md, which install and try all of it, and the
-# lines of README.md that pipe a text into the program, with what it writes behind `#`. The examples see HOME and the folders /usr/bin
-# and /bin of the system, and of a Cargo that stands elsewhere that folder. It takes root and apt-get, and writes nothing over what is
-# installed: nothing is begun where a file of a package is there. The last line is 'N passed, M failed'.
+# FOLDER has what scripts/package.sh makes. The commands are those of packaging/README.md, which install and try all of it, and those of
+# README.md that pipe a text into the program, with what it writes behind `#` or, in a block of kind `console`, below. The examples see
+# HOME and the folders /usr/bin and /bin, and where Cargo stands elsewhere that folder too. It takes root and apt-get, and writes nothing
+# over what is installed: nothing is begun where a file of a package is there. The last line is 'N passed, M failed'.
 set -euo pipefail
 
 cd "$(dirname "$(readlink -f "$0")")/.."
@@ -107,10 +107,35 @@ while IFS= read -r line; do
 done < <(block 2)
 count 'the page has examples' test "$passed" -gt "$tried"
 tried=$passed
+kind=
+command=
+wanted=
+# Tries the command at hand of README.md, if there is one, by the program that is installed.
+try() {
+  [ -z "$command" ] || count "$command" answers "${command/ .\/cbor-edn / cbor-edn }" "${wanted%$'\n'}"
+  command=
+}
 while IFS= read -r line; do
-  line=${line/ .\/cbor-edn / cbor-edn }
-  count "$line" answers "${line%%  #*}" "${line##* # }"
-done < <(grep -E '^(echo|printf) .*\| (\./)?cbor-edn .* # ' README.md)
+  case $kind,$line in
+    ,'```'*) kind=${line#'```'} ;;
+    ,*) ;;
+    *,'```')
+      try
+      kind=
+      ;;
+    console,'$ '*)
+      try
+      command=${line#'$ '}
+      wanted=
+      ;;
+    console,*) wanted+=$line$'\n' ;;
+    *' | '*cbor-edn*'  # '*)
+      command=${line%%  #*}
+      wanted=${line##*# }
+      try
+      ;;
+  esac
+done < README.md
 count 'README.md has examples' test "$passed" -gt "$tried"
 
 # ---- as before
