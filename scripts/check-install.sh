@@ -89,7 +89,9 @@ installs() {
   (cd "$work/packages" && as_root bash -euc "$1") < /dev/null > "$work/said" 2>&1
 }
 answers() {
-  run "$1" > "$work/answer" && [ "$(cat "$work/answer")" = "$2" ]
+  run "$1" > "$work/answer" && [ "$(cat "$work/answer")" = "$2" ] && return
+  cat "$work/answer" >> "$work/said"
+  return 1
 }
 # The lines of one of the page's blocks of commands.
 block() {
