@@ -4,8 +4,8 @@
 # usage: scripts/check-limits.sh [PROGRAM [MEGABYTES]]
 #
 # Without PROGRAM it is the working tree's. MEGABYTES is the size of each flat input whose memory is measured, 64 without it: that takes
-# 2.5 CPU minutes, and up to 7 GB of memory, since three kinds are measured side by side. The bounds are the tables of
-# docs/PERFORMANCE.md: from 64 on that of 64 MB, below that of 1 MB. The last line is 'N passed, M failed'.
+# 2.5 CPU minutes, and up to 7 GB of memory, since three kinds are measured side by side. The bounds are those of docs/PERFORMANCE.md.
+# The last line is 'N passed, M failed'.
 set -euo pipefail
 
 cd "$(dirname "$(readlink -f "$0")")/.."
@@ -199,7 +199,7 @@ def check_counts():
             count(f"{command} {' '.join(form)} of {digits[:20]}", refusal(run([command, *form], data, space), BYTES.format(words)))
 
 
-# Each kind of flat input as the tables of docs/PERFORMANCE.md begin its name, in their order.
+# Each kind of flat input as the table of memory of docs/PERFORMANCE.md begins its name, in its order.
 NAMES = {
     "integers": "integers",
     "ones": "`1 1 1`",
@@ -220,34 +220,28 @@ NAMES = {
     "comments": "comments",
     "one space": "one space",
 }
-# The table of inputs of 1 MB and that of 64 MB: its columns for diag2cbor, diag2diag, and their encodings in cbor2diag, and how much more
-# an input may take. A vector that has doubled may be half empty, so a little more input than 1 MB may take a half more memory.
-TABLES = [([2, 4, 6], 1.6), ([1, 2, 3], 1.1)]
-COLUMNS, ROOM = TABLES[SIZE >= 64_000_000]
-# What the program itself takes.
-PROGRAM_SIZE = 4_000_000
+# How much more an input may take. A vector that has doubled may be half empty, so another size of input may take a half more memory.
+ROOM = 1.1 if SIZE == 64_000_000 else 1.6
+# What the program itself takes; of less input what this script takes, which is seen then.
+PROGRAM_SIZE = 4_000_000 if SIZE >= 64_000_000 else 20_000_000
 
 
 def stated():
     """What docs/PERFORMANCE.md says that a byte of input takes of memory: for each kind three numbers, or None for a dash."""
-    tables, rows = [], None
+    rows = []
     with open("docs/PERFORMANCE.md", encoding="utf-8") as file:
         for line in file:
             cells = [cell.strip() for cell in line.strip().strip("|").split("|")]
-            if not line.startswith("|"):
-                rows = None
-            elif cells[0] == "input":
+            if cells[0] == "input":
+                # the table of memory is the last one
                 rows = []
-                tables.append(rows)
-            elif rows is not None and not cells[0].startswith("---"):
-                rows.append(cells)
+            elif line.startswith("|") and not cells[0].startswith("---"):
+                rows.append([cell.split("; ") for cell in cells])
     found = []
-    for cells in tables[TABLES.index((COLUMNS, ROOM))]:
-        names, *numbers = (cells[column].split("; ") for column in [0, *COLUMNS])
+    for names, *numbers in rows:
         for at, name in enumerate(names):
             found.append((name, [None if number == ["–"] else float(number[at]) for number in numbers]))
-    # the inputs that nest stand behind the flat ones
-    if len(found) < len(NAMES) or not all(name.startswith(begin) for (name, _), begin in zip(found, NAMES.values())):
+    if len(found) != len(NAMES) or not all(name.startswith(begin) for (name, _), begin in zip(found, NAMES.values())):
         sys.exit(f"check-limits: docs/PERFORMANCE.md has other rows: {[name for name, _ in found]}")
     return dict(zip(NAMES, (numbers for _, numbers in found)))
 
