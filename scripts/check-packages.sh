@@ -238,7 +238,7 @@ cp -r bindings "$copy"
 cp -P "$lib"/libcbor_edn* "$root/usr/include/cbor_edn.h" "$copy/out/c"
 run_readme() {
   sed -n '/^```sh$/,/^```$/p' "$1" | sed '/^```/d; /build-c\.sh/d' > "$work/commands"
-  cd "$copy" && bash -euo pipefail "$work/commands"
+  (cd "$copy" && bash -euo pipefail "$work/commands")
 }
 for language in c rust python; do
   check "the README of $language" writes_bytes run_readme "$PWD/bindings/$language/README.md"
