@@ -36,4 +36,7 @@ pub mod CoseParts
 pub mod CoseNames
 pub mod CommentVisits
 pub mod CoseCalls
+pub mod MessageDepths
+pub mod CoseKeyCalls
+pub mod CoseClaims
 pub mod KeyNames

@@ -13,10 +13,12 @@ use cbor_edn_parts::error::CallbackError;
 use parts::comment_parts;
 use std::alloc::Global;
 
+mod claims;
 mod keys;
 mod labels;
 mod parts;
 
+pub use claims::annotate_message;
 pub(crate) use keys::comment_keys;
 
 /// Answers the name of a COSE message at its tag, 16, 17, 18, 96, 97 or 98, as `COSE_Sign1` of 18 (RFC 9052, section 2), and puts the
@@ -37,7 +39,7 @@ pub fn comment_cose(alloc: Global, tag: u64, item: &mut Item<'_>) -> Result<(), 
 }
 
 /// The name and the structure of the message whose tag is the tag of the call.
-fn called_message(tag: u64, item: &Item<'_>) -> Option<(&'static str, Structure)>
+pub(super) fn called_message(tag: u64, item: &Item<'_>) -> Option<(&'static str, Structure)>
     ensures { option_map (λ p. (p.0.now, p.1)) result ≡ called_message (tag_arguments tag) (item_tree item.now) }
 {
     let (number, _) = item.get_tag_head()?;

@@ -28,7 +28,7 @@ pub use bignum::tag23_to_edn_integer;
 pub use cbor_edn_literals::address::IpVersion;
 pub use claims::{CcsHandler, comment_ccs};
 pub use confirmation::CnfHandler;
-pub use cose::comment_cose;
+pub use cose::{annotate_message, comment_cose};
 pub use embedded::show_embedded;
 pub use language::comment_lang_tag;
 pub use oscore::OscHandler;

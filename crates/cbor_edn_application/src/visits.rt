@@ -18,6 +18,7 @@ ghost use Rattle.cbor_edn_conversions.specs.Bignums.{pretty_bignum};
 ghost use Rattle.cbor_edn_conversions.specs.Claims.{claim_key, with_claims};
 ghost use Rattle.cbor_edn_conversions.specs.Cose.{comment_cose};
 ghost use Rattle.cbor_edn_conversions.specs.EmbeddedItems.{show_embedded};
+ghost use Rattle.cbor_edn_conversions.specs.MessageClaims.{message_claims};
 ghost use Rattle.cbor_edn_conversions.specs.Tag999.{to_tag999};
 ghost use Rattle.cbor_edn_conversions.specs.Times.{resolve_time, pretty_time};
 ghost use Rattle.cbor_edn_application.specs.Acts.{ActsBy, IsVisited};
@@ -30,6 +31,7 @@ use crate::bignum::tag23_to_edn_integer;
 use crate::claims::comment_ccs;
 pub use crate::claims_sets::annotate_claims_sets;
 use crate::cose;
+use crate::cose::annotate_message;
 use crate::embedded::{room_beside, show_inside};
 pub use crate::key_names::comment_claims_keys;
 use crate::language::comment_lang_tag;
@@ -48,6 +50,7 @@ pub(crate) enum TagAct<'c> {
     Times,
     Bignums,
     Languages,
+    Messages,
     Comment(&'c str),
 }
 
@@ -90,6 +93,7 @@ fn at_tag(
         TagAct::Times => dt_tag_to_aol(alloc, tag, item),
         TagAct::Bignums => tag23_to_edn_integer(alloc, tag, item),
         TagAct::Languages => comment_lang_tag(alloc, tag, item),
+        TagAct::Messages => annotate_message(alloc, tag, item),
         TagAct::Comment(comment) => comment_tag(alloc, comment, tag, item),
     }
 }
@@ -261,6 +265,14 @@ pub fn comment_cose(alloc: Global, sequence: &mut Sequence<'_>) -> Result<(), Al
     ensures items { items (sequence_tree sequence.new) ≡ items (sequence_tree sequence.old) }
 {
     sequence.visit_tag_no_deeper(alloc, &mut |tag, item| cose::comment_cose(alloc, tag, item))
+}
+
+/// Calls [`annotate_message`] at each tag: claims sets that are payloads of COSE messages get the names of their claims, and their times
+/// become literals. Fails where memory runs out; the calls up to there are made then.
+pub fn annotate_messages(alloc: Global, sequence: &mut Sequence<'_>) -> Result<(), AllocError>
+    ensures { IsVisited IsTag message_claims (sequence_tree sequence.old) (ending result) (sequence_tree sequence.new) }
+{
+    visit_tags(alloc, sequence, TagAct::Messages)
 }
 
 /// Puts the comments of a claims set (RFC 8392) into a map: `{4: 1700000000}` becomes `{4/ exp /: dt'2023-11-14T22:13:20+00:00'}`. Fails

@@ -1,6 +1,6 @@
 //! Comments in COSE messages.
 use cbor_edn_application::visits::{
-    annotate_claims_sets, comment_claims_keys, comment_cose, show_embedded,
+    annotate_claims_sets, annotate_messages, comment_claims_keys, comment_cose, show_embedded,
 };
 use cbor_edn_core::tree::Sequence;
 use cbor_edn_expect::failures::Failures;
@@ -46,14 +46,8 @@ const ROWS: &[(&str, &str)] = &[
         "18([h'', {}, h'd28340a0f6', h'00'])",
         "18([h''/ protected /, {}/ unprotected /, <<18([h''/ protected /, {}/ unprotected /, null/ payload /])/ COSE_Sign1 />>/ payload /, h'00'/ signature /])/ COSE_Sign1 /",
     ),
-    (
-        "18([[{1: 1}], [{1: 1}]])",
-        "18([[{1: 1}]/ protected /, [{1: 1}]/ unprotected /])/ COSE_Sign1 /",
-    ),
-    (
-        "18([{1: 1}, h'a10101'])",
-        "18([{1: 1}/ protected /, <<{1: 1}>>/ unprotected /])/ COSE_Sign1 /",
-    ),
+    ("18([[{1: 1}], [{1: 1}]])", "18([[{1: 1}]/ protected /, [{1: 1}]/ unprotected /])/ COSE_Sign1 /"),
+    ("18([{1: 1}, h'a10101'])", "18([{1: 1}/ protected /, <<{1: 1}>>/ unprotected /])/ COSE_Sign1 /"),
 ];
 
 fn commented(alloc: Global, text: &str) -> Result<String, Fail> {
@@ -74,8 +68,8 @@ fn rows(rt: HostRuntime) -> Result<(), Fail> {
     failures.end()
 }
 
-/// Claims sets with the names of claims and of keys. RFC 8747, sections 3.1 to 3.3, RFC 9052, section 7.1, and RFC 9053, sections 7.1 to
-/// 7.3, for the names of keys; RFC 8392, section 3, for claims.
+/// Keys and claims, as `show` asks for them. RFC 8747, sections 3.1 to 3.3, RFC 9052, section 7.1, and RFC 9053, sections 7.1 to 7.3, for
+/// the names of keys; RFC 8392, sections 3 and 7, for claims and where they stand.
 const CLAIMS: &[(&str, &str)] = &[
     (
         "{8: {1: {1: 2, -1: 1, -2: h'00', -3: h'01', 2: '11'}}}",
@@ -97,16 +91,28 @@ const CLAIMS: &[(&str, &str)] = &[
         "{8: {2: 16([h'', {}, h'']), 3: h'05'}}, [{8: {1: {1: 2}}}]",
         "{8/ cnf /: {2/ Encrypted_COSE_Key /: 16([h'', {}, h'']), 3/ kid /: h'05'}}, [{8: {1: {1: 2}}}]",
     ),
+    ("{8: 5}, {8: {1: 7}}", "{8/ cnf /: 5/ Expected map /}, {8/ cnf /: {1/ COSE_Key /: 7}}"),
     (
-        "{8: 5}, {8: {1: 7}}",
-        "{8/ cnf /: 5/ Expected map /}, {8/ cnf /: {1/ COSE_Key /: 7}}",
+        "18([h'', {}, h'a1041a6553f100', h''])",
+        "18([h'', {}, <<{4/ exp /: dt'2023-11-14T22:13:20+00:00'}>>, h''])",
     ),
+    (
+        "61(98([h'', {}, h'a108a101a10104', []]))",
+        "61(98([h'', {}, <<{8/ cnf /: {1/ COSE_Key /: {1/ kty /: 4/ Symmetric /}}}>>, []]))",
+    ),
+    ("17([h'', {}, {4: 1}, h''])", "17([h'', {}, {4: 1}, h''])"),
+    ("16([h'', {}, h'a10401'])", "16([h'', {}, <<{4: 1}>>])"),
+    ("19([h'', {}, h'a10401'])", "19([h'', {}, <<{4: 1}>>])"),
+    ("18({1: 2, h'a10401': 3})", "18({1: 2, <<{4: 1}>>: 3})"),
+    ("97([h'', {}, h'820401', 'a'])", "97([h'', {}, <<[4, 1]>>, 'a'])"),
 ];
 
 fn annotated(alloc: Global, text: &str) -> Result<String, Fail> {
     let mut sequence = Box::new(alloc, Sequence::parse(alloc, text)?)?;
+    show_embedded(alloc, 8, 512, &mut sequence)?;
     annotate_claims_sets(alloc, &mut sequence)?;
     comment_claims_keys(alloc, &mut sequence)?;
+    annotate_messages(alloc, &mut sequence)?;
     Ok(sequence.serialize(alloc)?)
 }
 

@@ -22,6 +22,7 @@ ghost use Rattle.cbor_edn_conversions.specs.Claims.{claim_key, with_claims};
 ghost use Rattle.cbor_edn_conversions.specs.Cose.{comment_cose};
 ghost use Rattle.cbor_edn_conversions.specs.CoseKeys.{with_key_names};
 ghost use Rattle.cbor_edn_conversions.specs.EmbeddedItems.{show_embedded};
+ghost use Rattle.cbor_edn_conversions.specs.MessageClaims.{message_claims};
 ghost use Rattle.cbor_edn_conversions.specs.Tag999.{to_tag999};
 ghost use Rattle.cbor_edn_conversions.specs.Times.{pretty_time, resolve_time, time_literal};
 ghost use Rattle.cbor_edn_application.specs.Acts.{ActsBy, IsVisited};
@@ -269,4 +270,15 @@ pub fn comment_claims_keys(alloc: Global, sequence: &mut Sequence<'_>) -> Result
     ensures items { items (sequence_tree sequence.new) ≡ items (sequence_tree sequence.old) }
 {
     cbor_edn_application::visits::comment_claims_keys(alloc, sequence)
+}
+
+/// `annotate_message`.
+pub fn annotate_message(
+    alloc: Global,
+    tag: u64,
+    item: &mut Item<'_>,
+) -> Result<(), CallbackError>
+    ensures { ActsBy message_claims (number tag) (item_tree item.old) (sought_answer result) (item_tree item.new) }
+{
+    cbor_edn_application::annotate_message(alloc, tag, item)
 }

@@ -157,6 +157,15 @@ pub(crate) const VISITS: &[Row] = &[
         ],
     ),
     (
+        "annotate_messages",
+        Change::Sequence(OfSequence::AnnotateMessages),
+        &[
+            "18([1, 2, <<{4: 42}>>, 3]), 17([1, 2, <<{7: 3}>>, 3])",
+            "18([1, 2, <<{4/ exp /: dt'1970-01-01T00:00:42+00:00'}>>, 3]), 17([1, 2, <<{7: 3}>>, 3])",
+            "18([1, 2, <<{4/ exp /: dt'1970-01-01T00:00:42+00:00'}>>, 3]), 17([1, 2, <<{7/ jti /: 3}>>, 3])",
+        ],
+    ),
+    (
         "prettify",
         Change::Sequence(OfSequence::Prettify),
         &[
@@ -333,6 +342,14 @@ pub(crate) const ACTS: &[Row] = &[
             "18([1/ protected /, {1/ alg /: 5# HMAC 256/256\n}])",
             "18([1/ protected /, {1/ alg /: 5# HMAC 256/256\n}/ unprotected /])",
             "/ COSE_Sign1 /18([1/ protected /, {1/ alg /: 5# HMAC 256/256\n}/ unprotected /])",
+        ],
+    ),
+    (
+        "annotate_message",
+        Change::Standalone(OfStandalone::Act(Act::Tag(OfTag::Claims))),
+        &[
+            "18([1, 2, <<{8: {1: {1: 4}}}>>])",
+            "18([1, 2, <<{8/ cnf /: {1/ COSE_Key /: {1/ kty /: 4/ Symmetric /}}}>>])",
         ],
     ),
     (

@@ -150,7 +150,7 @@ fn comment_first_headers(alloc: Global, string: &mut StandaloneItem<'_>) -> Resu
 }
 
 /// Puts an item between the spaces of another, and the one that stood there in its place.
-fn exchange<'a>(alone: &mut StandaloneItem<'a>, item: &mut Item<'a>)
+pub(super) fn exchange<'a>(alone: &mut StandaloneItem<'a>, item: &mut Item<'a>)
     ensures alone { standalone_tree alone.new ≡ with_at_standalone [] (item_tree item.old) (standalone_tree alone.old) }
     ensures item { Some (item_tree item.new) ≡ at_standalone [] (standalone_tree alone.old) }
 {
