@@ -1,5 +1,5 @@
 -- Claims in COSE messages, with their comments and their times, nest no deeper.
-use Rattle.std.proofs.Common.{ℕ, ℤ, suc, max, ◌-◌, ◌≤◌, ◌≡◌, Bool, true, false, cond, eqb, ltb, false, List, length, slice_get, Option, Some, None, refl, ap, arith}
+use Rattle.std.proofs.Common.{ℕ, ℤ, suc, max, ◌-◌, ◌≤◌, ◌≡◌, Bool, true, false, cond, not, eqb, ltb, codes, List, length, slice_get, Option, Some, None, Ok, Err, refl, ap, arith}
 use Rattle.std.specs.Prelude.{option_map, option_and_then}
 use Rattle.cbor_edn_model.specs.access.Paths.{items_in, with_item}
 use Rattle.cbor_edn_model.specs.declared.text.label.LabelKind.TheVariants as label
@@ -8,9 +8,11 @@ use Rattle.cbor_edn_model.specs.tree.Trees.{Rule, Tree, OneItem, Rest, NumberTre
 use Rattle.cbor_edn_model.specs.visit.Depth.{depth}
 use Rattle.cbor_edn_model.specs.visit.Seeking.{CallArguments}
 use Rattle.cbor_edn_model.proofs.lemmas.access.ReplacedItems.{put_back}
+use Rattle.cbor_edn_literals.specs.internal.TimeComputing.{time_text}
+use Rattle.cbor_edn_parts.specs.internal.NumberReading.{integer_of}
 use Rattle.cbor_edn_conversions.specs.Annotations.{turned}
 use Rattle.cbor_edn_conversions.specs.Claims.{KeyReply, value_turn, key_turn, with_keys, named, confirmation_key, claim_value, claim_key, with_claims}
-use Rattle.cbor_edn_conversions.specs.Conversions.{Reply, reply}
+use Rattle.cbor_edn_conversions.specs.Conversions.{Conversion, Reply, reply, changed_encoding, literal_tree}
 use Rattle.cbor_edn_conversions.specs.Cose.{with_other, in_item, in_string, called_message}
 use Rattle.cbor_edn_conversions.specs.CoseKeys.{with_key_names}
 use Rattle.cbor_edn_conversions.specs.CoseTables.{parts}
@@ -18,12 +20,12 @@ use Rattle.cbor_edn_conversions.specs.EmbeddedItems.{is_structure}
 use Rattle.cbor_edn_conversions.specs.Integers.{item_integer}
 use Rattle.cbor_edn_conversions.specs.MessageClaims.{claims_and_keys, is_payload, in_payload, in_message, message_claims}
 use Rattle.cbor_edn_conversions.specs.Tables.{found, claims}
-use Rattle.cbor_edn_conversions.specs.Times.{time_literal}
+use Rattle.cbor_edn_conversions.specs.Times.{time_prefix, is_plain, instant_by, is_time_stamp, instant_literal, time_literal}
 use Rattle.cbor_edn_conversions.specs.declared.tables.ClaimValue.{ClaimValue}
 use Rattle.cbor_edn_conversions.specs.declared.tables.ClaimValue.TheVariants.{Timestamp, Confirmation}
 use Rattle.cbor_edn_conversions.specs.declared.tables.Structure.{Structure}
 use Rattle.cbor_edn_conversions.proofs.conversions.CoseKept.{key_names_keep}
-use Rattle.cbor_edn_conversions.proofs.nesting.TagDepths.{NoDeeper, reply_no_deeper, time_gives}
+use Rattle.cbor_edn_conversions.proofs.nesting.TagDepths.{NoDeeper}
 use Rattle.cbor_edn_application.proofs.CommentVisits.{items_depth}
 use Rattle.cbor_edn_application.proofs.KeptClaims.{confirmation_keys_kept}
 use Rattle.cbor_edn_application.proofs.MapVisits.{keys_kept}
@@ -125,10 +127,42 @@ module _ (at_key : Tree OneItem → KeyReply) (leaves : (k : Tree OneItem) → L
   map_left (StringTree w) = omega arith
   map_left (StreamTree s m) = omega arith
 
+-- ---- times
+
+module _ (d : ℕ) where
+  -- the item that a conversion gives, if it gives one, nests at most so deep
+  abbrev Gives : Conversion → Type 0
+  Gives (Ok v) = depth v ≤ d
+  Gives (Err e) = Unit {0}
+
+  reply_left : (w : Tree OneItem) (c : Conversion) → Gives c → depth w ≤ d → depth (reply w (Some c)).1 ≤ d
+  reply_left w (Err e) g h = h
+  reply_left w (Ok v) g h = g
+
+  if_gives : (b : Bool) (c e : Conversion) → Gives c → Gives e → Gives (cond b c e)
+  if_gives true c e g h = g
+  if_gives false c e g h = h
+
+  literal_flat : (p t : List ℕ) → depth (literal_tree p t) ≤ d
+  unfolding depth
+  literal_flat p t = omega arith
+
+  instant_gives : (wrap plain : Bool) (o : Option (ℤ × ℕ)) → Gives (instant_literal wrap plain o)
+  instant_gives wrap plain None = tt
+  instant_gives wrap plain (Some p) =
+      let literal = literal_tree (time_prefix wrap) (time_text p.0 p.1) in
+      if_gives (not (is_time_stamp p.0)) (Err (codes "Value out of range for time stamps")) (cond (not plain) (Err changed_encoding) (Ok literal)) tt
+      (if_gives (not plain) (Err changed_encoding) (Ok literal) tt (literal_flat (time_prefix wrap) (time_text p.0 p.1)))
+
+  time_gives : (w : Tree OneItem) (wrap : Bool) → Gives (time_literal w wrap)
+  unfolding time_literal
+  time_gives (NumberTree x i) wrap = instant_gives wrap (is_plain (integer_of x) i) (instant_by (integer_of x) i x)
+  time_gives _ wrap = tt
+
 -- ---- claims
 
 claim_left : (k : ClaimValue) → LeavesDepth (λ v. (claim_value k v).1)
-claim_left Timestamp v = reply_no_deeper (depth v) v (Some (time_literal v false)) (time_gives (depth v) v false) (same v)
+claim_left Timestamp v = reply_left (depth v) v (time_literal v false) (time_gives (depth v) v false) (same v)
 claim_left Confirmation v = items_depth v _ (keys_kept confirmation_key confirmation_keys_kept v)
 
 value_leaves : (o : Option ClaimValue) → Leaves (option_map claim_value o)
