@@ -23,9 +23,9 @@ pub(crate) use keys::comment_keys;
 
 /// Answers the name of a COSE message at its tag, 16, 17, 18, 96, 97 or 98, as `COSE_Sign1` of 18 (RFC 9052, section 2), and puts the
 /// names of its parts behind them, as `payload`. In both its headers, and in those of each signer and recipient, labels get the names of
-/// header parameters (RFC 9052, section 3.1; RFC 9360, section 2), and algorithms theirs (RFC 9053). A protected header has its comments
-/// where it is shown as an embedded sequence, as [`crate::show_embedded`] shows it. Other tags stay, without a comment. Where memory runs
-/// out some of the comments are there, and the items are as before.
+/// header parameters (RFC 9052, section 3.1; RFC 8152, section 3.1, for label 7; RFC 9360, section 2), and algorithms theirs (RFC 9053). A
+/// protected header has its comments where it is shown as an embedded sequence, as [`crate::show_embedded`] shows it. Other tags stay,
+/// without a comment. Where memory runs out some of the comments are there, and the items are as before.
 pub fn comment_cose(alloc: Global, tag: u64, item: &mut Item<'_>) -> Result<(), CallbackError>
     ensures { CommentsBy comment_cose (tag_arguments tag) (item_tree item.old) (sought_answer result) (item_tree item.new) }
 {

@@ -8,7 +8,7 @@ use std::alloc::Global;
 use std::test::Fail;
 
 /// Before and after. The names of messages, parts and header parameters, and the order of the parts, are those of RFC 9052 (sections 2, 3.1,
-/// 4.1, 4.2, 5.1, 5.2, 6.1 and 6.2) and RFC 9360 (section 2), those of algorithms of RFC 9053.
+/// 4.1, 4.2, 5.1, 5.2, 6.1 and 6.2), RFC 8152 (section 3.1, for label 7) and RFC 9360 (section 2), those of algorithms of RFC 9053.
 const ROWS: &[(&str, &str)] = &[
     (
         "18([h'a10126', {4: '11'}, h'', h'00'])",
@@ -34,6 +34,10 @@ const ROWS: &[(&str, &str)] = &[
         "97([h'', {2: [1], 3: 0}, 'a', h'00', [[h'', {33: h'01', 34: [-16, h'02']}, h'']], 6])",
         "97([h''/ protected /, {2/ crit /: [1], 3/ content type /: 0}/ unprotected /, 'a'/ payload /, h'00'/ tag /, [[h''/ protected /, {33/ x5chain /: h'01', 34/ x5t /: [-16, h'02']}/ unprotected /, h''/ ciphertext /]]/ recipients /, 6])/ COSE_Mac /",
     ),
+    (
+        "16([h'', {7: 1, 32: 2, 35: 3, 36: 4, 1: -99}, null])",
+        "16([h''/ protected /, {7/ counter signature /: 1, 32/ x5bag /: 2, 35/ x5u /: 3, 36: 4, 1/ alg /: -99}/ unprotected /, null/ ciphertext /])/ COSE_Encrypt0 /",
+    ),
     ("18(1)", "18(1)/ COSE_Sign1 /"),
     ("18([])", "18([])/ COSE_Sign1 /"),
     ("18({1: 2})", "18({1: 2})/ COSE_Sign1 /"),
@@ -46,8 +50,14 @@ const ROWS: &[(&str, &str)] = &[
         "18([h'', {}, h'd28340a0f6', h'00'])",
         "18([h''/ protected /, {}/ unprotected /, <<18([h''/ protected /, {}/ unprotected /, null/ payload /])/ COSE_Sign1 />>/ payload /, h'00'/ signature /])/ COSE_Sign1 /",
     ),
-    ("18([[{1: 1}], [{1: 1}]])", "18([[{1: 1}]/ protected /, [{1: 1}]/ unprotected /])/ COSE_Sign1 /"),
-    ("18([{1: 1}, h'a10101'])", "18([{1: 1}/ protected /, <<{1: 1}>>/ unprotected /])/ COSE_Sign1 /"),
+    (
+        "18([[{1: 1}], [{1: 1}]])",
+        "18([[{1: 1}]/ protected /, [{1: 1}]/ unprotected /])/ COSE_Sign1 /",
+    ),
+    (
+        "18([{1: 1}, h'a10101'])",
+        "18([{1: 1}/ protected /, <<{1: 1}>>/ unprotected /])/ COSE_Sign1 /",
+    ),
 ];
 
 fn commented(alloc: Global, text: &str) -> Result<String, Fail> {
@@ -91,7 +101,10 @@ const CLAIMS: &[(&str, &str)] = &[
         "{8: {2: 16([h'', {}, h'']), 3: h'05'}}, [{8: {1: {1: 2}}}]",
         "{8/ cnf /: {2/ Encrypted_COSE_Key /: 16([h'', {}, h'']), 3/ kid /: h'05'}}, [{8: {1: {1: 2}}}]",
     ),
-    ("{8: 5}, {8: {1: 7}}", "{8/ cnf /: 5/ Expected map /}, {8/ cnf /: {1/ COSE_Key /: 7}}"),
+    (
+        "{8: 5}, {8: {1: 7}}",
+        "{8/ cnf /: 5/ Expected map /}, {8/ cnf /: {1/ COSE_Key /: 7}}",
+    ),
     (
         "18([h'', {}, h'a1041a6553f100', h''])",
         "18([h'', {}, <<{4/ exp /: dt'2023-11-14T22:13:20+00:00'}>>, h''])",
@@ -104,7 +117,10 @@ const CLAIMS: &[(&str, &str)] = &[
     ("16([h'', {}, h'a10401'])", "16([h'', {}, <<{4: 1}>>])"),
     ("19([h'', {}, h'a10401'])", "19([h'', {}, <<{4: 1}>>])"),
     ("18({1: 2, h'a10401': 3})", "18({1: 2, <<{4: 1}>>: 3})"),
-    ("97([h'', {}, h'820401', 'a'])", "97([h'', {}, <<[4, 1]>>, 'a'])"),
+    (
+        "97([h'', {}, h'820401', 'a'])",
+        "97([h'', {}, <<[4, 1]>>, 'a'])",
+    ),
 ];
 
 fn annotated(alloc: Global, text: &str) -> Result<String, Fail> {

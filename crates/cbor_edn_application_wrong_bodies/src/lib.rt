@@ -273,11 +273,7 @@ pub fn comment_claims_keys(alloc: Global, sequence: &mut Sequence<'_>) -> Result
 }
 
 /// `annotate_message`.
-pub fn annotate_message(
-    alloc: Global,
-    tag: u64,
-    item: &mut Item<'_>,
-) -> Result<(), CallbackError>
+pub fn annotate_message(alloc: Global, tag: u64, item: &mut Item<'_>) -> Result<(), CallbackError>
     ensures { ActsBy message_claims (number tag) (item_tree item.old) (sought_answer result) (item_tree item.new) }
 {
     cbor_edn_application::annotate_message(alloc, tag, item)

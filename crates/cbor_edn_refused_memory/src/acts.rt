@@ -1,8 +1,8 @@
 //! The functions that visits call at literals, tags and values of claims, each called on one item.
 use cbor_edn_application::{
     CcsHandler, CnfHandler, OscHandler, all_aol_to_item, all_tag_prettify, annotate_message,
-    any_aol_to_tag999, comment_cose, comment_lang_tag, dt_aol_to_item, dt_tag_to_aol, ip_aol_to_item, ip_tag_to_aol, show_embedded,
-    tag23_to_edn_integer,
+    any_aol_to_tag999, comment_cose, comment_lang_tag, dt_aol_to_item, dt_tag_to_aol,
+    ip_aol_to_item, ip_tag_to_aol, show_embedded, tag23_to_edn_integer,
 };
 use cbor_edn_core::tree::{Item, NESTING_LIMIT, StandaloneItem};
 use cbor_edn_core::visit::MapValueHandler;

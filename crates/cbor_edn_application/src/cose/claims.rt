@@ -23,11 +23,7 @@ use std::alloc::{AllocError, Global};
 /// [`crate::visits::annotate_claims`] does, and the names of COSE keys into its claim `cnf`. The payload is one where it is shown as an
 /// embedded sequence that begins with a map, as [`crate::show_embedded`] shows it. Other tags stay, and so does the item where memory runs
 /// out. Nothing is answered.
-pub fn annotate_message(
-    alloc: Global,
-    tag: u64,
-    item: &mut Item<'_>,
-) -> Result<(), CallbackError>
+pub fn annotate_message(alloc: Global, tag: u64, item: &mut Item<'_>) -> Result<(), CallbackError>
     ensures { ActsBy message_claims (tag_arguments tag) (item_tree item.old) (sought_answer result) (item_tree item.new) }
 {
     let Some((_name, structure)) = called_message(tag, item) else {

@@ -23,6 +23,6 @@ loop-index-preserved c =
     let there : c.in_ok-comment_at.field-0 ≡ true = search rules in
     let next : suc c.loop-index.index ≡ c.loop-index.index + 1 = omega arith in (
       names_next c.loop-index.index first before after c.loop-index.invariant.0 (subst (λ b. IsChangedAt with_key_names c.loop-index.index b before after) there c.in_ok-comment_at.ensures.keys)
-      ∙ ap (λ n. with_first_names n first) next,
+          ∙ ap (λ n. with_first_names n first) next,
       c.comment_at.ensures.items ∙ c.loop-index.invariant.1,
     )

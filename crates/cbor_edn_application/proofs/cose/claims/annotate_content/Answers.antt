@@ -17,15 +17,15 @@ pub returns-in-Some-clause-claims : goal.returns-in-Some-clause-claims
 returns-in-Some-clause-claims c =
     on_ok_weaker c.annotate_embedded.result
     (λ done. payload_done claims_and_keys (standalone_tree c.args.content.now) _ (item_tree c.in-Some.payload.now) (item_tree c.annotate_embedded.new.payload)
-        (sym (ap (λ w. is_some (array_items w)) c.item.ensures) ∙ (sym c.is_array.ensures ∙ c.if-not-is_array.false)) (c.in-Some.ensures.value texts)
-        (on_some c.at_mut.result _ c.in-Some.is (c.at_mut.follows.holds c.annotate_embedded.new.payload) texts) done)
+    (sym (ap (λ w. is_some (array_items w)) c.item.ensures) ∙ (sym c.is_array.ensures ∙ c.if-not-is_array.false)) (c.in-Some.ensures.value texts)
+    (on_some c.at_mut.result _ c.in-Some.is (c.at_mut.follows.holds c.annotate_embedded.new.payload) texts) done)
     c.annotate_embedded.ensures.claims
 
 pub returns-in-Some-clause-out_of_memory : goal.returns-in-Some-clause-out_of_memory
 returns-in-Some-clause-out_of_memory c =
     on_err_weaker c.annotate_embedded.result
     (λ same. payload_same (standalone_tree c.args.content.now) _ (item_tree c.in-Some.payload.now) (item_tree c.annotate_embedded.new.payload) (c.in-Some.ensures.value texts)
-        (on_some c.at_mut.result _ c.in-Some.is (c.at_mut.follows.holds c.annotate_embedded.new.payload) texts) same)
+    (on_some c.at_mut.result _ c.in-Some.is (c.at_mut.follows.holds c.annotate_embedded.new.payload) texts) same)
     c.annotate_embedded.ensures.out_of_memory
 
 pub returns-in-None-clause-claims : goal.returns-in-None-clause-claims

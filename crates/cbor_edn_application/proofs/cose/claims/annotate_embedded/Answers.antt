@@ -14,7 +14,7 @@ returns-clause-claims c =
     let w = item_tree c.args.payload.now in
     on_ok_weaker c.annotate_first-answer.result
     (λ done. in_text claims_and_keys w (item_tree c.exchange-2.new.item) (sym c.is_structure.ensures ∙ c.if-is_structure.false)
-        (exchanged (in_item 0 claims_and_keys) w (item_tree c.exchange-2.new.item) (standalone_tree c.from-string.result) (standalone_tree c.exchange.new.alone) (standalone_tree c.annotate_first-answer.new.string) c.exchange.ensures.alone c.exchange-2.ensures.item done))
+    (exchanged (in_item 0 claims_and_keys) w (item_tree c.exchange-2.new.item) (standalone_tree c.from-string.result) (standalone_tree c.exchange.new.alone) (standalone_tree c.annotate_first-answer.new.string) c.exchange.ensures.alone c.exchange-2.ensures.item done))
     c.annotate_first-answer.ensures.claims
 
 pub returns-clause-out_of_memory : goal.returns-clause-out_of_memory

@@ -19,18 +19,18 @@ returns-clause-parameters c =
     (passed_by _ _ _ (λ e h. no_names (key_label c.type_of-key_type.result) w v h.1 (ap item_tree h.2)) c.visit_map_elements-answer.result c.any_item.result c.any_item.ensures
     c.visit_map_elements-answer.ensures.visited c.visit_map_elements-answer.ensures.refused
     (λ h. (kept_whole (key_label c.type_of-key_type.result) at_number _ _ (λ f. f.1.now ≡ c.type_of-key_type.result)
-        (λ p q x y z kept s.
-        let same : q.1.now ≡ p.1.now = search rules in
-        let said : (item_tree y.now ≡ item_tree x.now) × KeyAnswers (key_label p.1.now (item_tree x.now)) (key_answer z) (option_map at_number (handler_of z)) = search rules in
-        (subst (λ t. (item_tree y.now ≡ item_tree x.now) × KeyAnswers (key_label t (item_tree x.now)) (key_answer z) (option_map at_number (handler_of z))) kept said, same ∙ kept))
-        (λ h x r y did. did) h.2 refl h.1 refl).1))
+    (λ p q x y z kept s.
+    let same : q.1.now ≡ p.1.now = search rules in
+    let said : (item_tree y.now ≡ item_tree x.now) × KeyAnswers (key_label p.1.now (item_tree x.now)) (key_answer z) (option_map at_number (handler_of z)) = search rules in
+    (subst (λ t. (item_tree y.now ≡ item_tree x.now) × KeyAnswers (key_label t (item_tree x.now)) (key_answer z) (option_map at_number (handler_of z))) kept said, same ∙ kept))
+    (λ h x r y did. did) h.2 refl h.1 refl).1))
 
 pub returns-clause-items : goal.returns-clause-items
 returns-clause-items c =
     kept_by _ _ _ (λ e h. ap (λ x. items (item_tree x)) h.2) c.visit_map_elements-answer.result c.visit_map_elements-answer.ensures.visited c.visit_map_elements-answer.ensures.refused
     (λ r h. visit_kept (key_label c.type_of-key_type.result) (labels_kept c.type_of-key_type.result) (kept_visited (key_label c.type_of-key_type.result) at_number _ _ (λ f. f.1.now ≡ c.type_of-key_type.result)
-        (λ p q x y z kept s.
-        let same : q.1.now ≡ p.1.now = search rules in
-        let said : (item_tree y.now ≡ item_tree x.now) × KeyAnswers (key_label p.1.now (item_tree x.now)) (key_answer z) (option_map at_number (handler_of z)) = search rules in
-        (subst (λ t. (item_tree y.now ≡ item_tree x.now) × KeyAnswers (key_label t (item_tree x.now)) (key_answer z) (option_map at_number (handler_of z))) kept said, same ∙ kept))
-        (λ h x r y did. did) h.2 h.1 refl))
+    (λ p q x y z kept s.
+    let same : q.1.now ≡ p.1.now = search rules in
+    let said : (item_tree y.now ≡ item_tree x.now) × KeyAnswers (key_label p.1.now (item_tree x.now)) (key_answer z) (option_map at_number (handler_of z)) = search rules in
+    (subst (λ t. (item_tree y.now ≡ item_tree x.now) × KeyAnswers (key_label t (item_tree x.now)) (key_answer z) (option_map at_number (handler_of z))) kept said, same ∙ kept))
+    (λ h x r y did. did) h.2 h.1 refl))

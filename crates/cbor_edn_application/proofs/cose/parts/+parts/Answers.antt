@@ -35,14 +35,14 @@ comment_parts-returns-clause-parts t c =
     c.visit_array_elements-answer.ensures.visited c.visit_array_elements-answer.ensures.refused
     (λ h.
     elements_whole (λ i. part_reply (in_part (with_parts n)) (slice_get (parts s) i)) (λ i u. replies_left n (slice_get (parts s) i) u) (λ i g. (g.1.now ≡ n) × (g.2.now.now ≡ drop i (parts s))) _
-        (λ i p q x y z holds k.
-        let kept : q.1.now ≡ p.1.now = search rules in
-        let next : q.2.now.now ≡ drop 1 p.2.now.now = search rules in
-        let said : ValueAnswers (part_reply (in_part (with_parts p.1.now)) (slice_get p.2.now.now 0)) (item_tree x.now) (answer_of z) (item_tree y.now) = search rules in
-        let step = part_step s p.1.now i p.2.now.now q.2.now.now (item_tree x.now) (item_tree y.now) (answer_of z) holds.1 next said in
-        ((kept ∙ holds.0, step.0), subst (λ m. ValueAnswers (part_reply (in_part (with_parts m)) (slice_get (parts s) i)) (item_tree x.now) (answer_of z) (item_tree y.now)) holds.0 step.1))
-        h.2 refl h.1 (refl, c.parts-rest.ensures)
-        ∙ parts_inside c.args.levels s w c.if-levels-eq0.false)
+    (λ i p q x y z holds k.
+    let kept : q.1.now ≡ p.1.now = search rules in
+    let next : q.2.now.now ≡ drop 1 p.2.now.now = search rules in
+    let said : ValueAnswers (part_reply (in_part (with_parts p.1.now)) (slice_get p.2.now.now 0)) (item_tree x.now) (answer_of z) (item_tree y.now) = search rules in
+    let step = part_step s p.1.now i p.2.now.now q.2.now.now (item_tree x.now) (item_tree y.now) (answer_of z) holds.1 next said in
+    ((kept ∙ holds.0, step.0), subst (λ m. ValueAnswers (part_reply (in_part (with_parts m)) (slice_get (parts s) i)) (item_tree x.now) (answer_of z) (item_tree y.now)) holds.0 step.1))
+    h.2 refl h.1 (refl, c.parts-rest.ensures)
+    ∙ parts_inside c.args.levels s w c.if-levels-eq0.false)
 
 pub comment_parts-returns-clause-items : goal.comment_parts-returns-clause-items
 comment_parts-returns-clause-items t c =
@@ -51,13 +51,13 @@ comment_parts-returns-clause-items t c =
     kept_by _ _ _ (λ e h. ap (λ x. items (item_tree x)) h.2) c.visit_array_elements-answer.result c.visit_array_elements-answer.ensures.visited c.visit_array_elements-answer.ensures.refused
     (λ r h.
     elements_kept (λ i. part_reply (in_part (with_parts n)) (slice_get (parts s) i)) (λ i u. replies_left n (slice_get (parts s) i) u) (λ i g. (g.1.now ≡ n) × (g.2.now.now ≡ drop i (parts s))) _
-        (λ i p q x y z holds k.
-        let kept : q.1.now ≡ p.1.now = search rules in
-        let next : q.2.now.now ≡ drop 1 p.2.now.now = search rules in
-        let said : ValueAnswers (part_reply (in_part (with_parts p.1.now)) (slice_get p.2.now.now 0)) (item_tree x.now) (answer_of z) (item_tree y.now) = search rules in
-        let step = part_step s p.1.now i p.2.now.now q.2.now.now (item_tree x.now) (item_tree y.now) (answer_of z) holds.1 next said in
-        ((kept ∙ holds.0, step.0), subst (λ m. ValueAnswers (part_reply (in_part (with_parts m)) (slice_get (parts s) i)) (item_tree x.now) (answer_of z) (item_tree y.now)) holds.0 step.1))
-        h.2 h.1 (refl, c.parts-rest.ensures))
+    (λ i p q x y z holds k.
+    let kept : q.1.now ≡ p.1.now = search rules in
+    let next : q.2.now.now ≡ drop 1 p.2.now.now = search rules in
+    let said : ValueAnswers (part_reply (in_part (with_parts p.1.now)) (slice_get p.2.now.now 0)) (item_tree x.now) (answer_of z) (item_tree y.now) = search rules in
+    let step = part_step s p.1.now i p.2.now.now q.2.now.now (item_tree x.now) (item_tree y.now) (answer_of z) holds.1 next said in
+    ((kept ∙ holds.0, step.0), subst (λ m. ValueAnswers (part_reply (in_part (with_parts m)) (slice_get (parts s) i)) (item_tree x.now) (answer_of z) (item_tree y.now)) holds.0 step.1))
+    h.2 h.1 (refl, c.parts-rest.ensures))
 
 pub comment_each-visit_array_elements-answer-requires : goal.comment_each-visit_array_elements-answer-requires
 comment_each-visit_array_elements-answer-requires t c κs = (
@@ -76,19 +76,19 @@ comment_each-returns-clause-each t c =
     c.visit_array_elements-answer.ensures.visited c.visit_array_elements-answer.ensures.refused
     (λ h.
     elements_whole (λ i x. (fine, with_parts c.args.levels c.args.structure x)) (λ i u. structures_left c.args.levels c.args.structure u) (λ i g. (g.1.now ≡ c.args.levels) × (g.2.now ≡ c.args.structure)) _
-        (λ i p q x y z holds k.
-        let kept : (q.1.now ≡ p.1.now) × (q.2.now ≡ p.2.now) = search rules in
-        let said : ValueAnswers (λ u. (fine, with_parts p.1.now p.2.now u)) (item_tree x.now) (answer_of z) (item_tree y.now) = search rules in
-        ((kept.0 ∙ holds.0, kept.1 ∙ holds.1), subst (λ m. ValueAnswers (λ u. (fine, with_parts c.args.levels m u)) (item_tree x.now) (answer_of z) (item_tree y.now)) holds.1 (subst (λ m. ValueAnswers (λ u. (fine, with_parts m p.2.now u)) (item_tree x.now) (answer_of z) (item_tree y.now)) holds.0 said)))
-        h.2 refl h.1 (refl, refl))
+    (λ i p q x y z holds k.
+    let kept : (q.1.now ≡ p.1.now) × (q.2.now ≡ p.2.now) = search rules in
+    let said : ValueAnswers (λ u. (fine, with_parts p.1.now p.2.now u)) (item_tree x.now) (answer_of z) (item_tree y.now) = search rules in
+    ((kept.0 ∙ holds.0, kept.1 ∙ holds.1), subst (λ m. ValueAnswers (λ u. (fine, with_parts c.args.levels m u)) (item_tree x.now) (answer_of z) (item_tree y.now)) holds.1 (subst (λ m. ValueAnswers (λ u. (fine, with_parts m p.2.now u)) (item_tree x.now) (answer_of z) (item_tree y.now)) holds.0 said)))
+    h.2 refl h.1 (refl, refl))
 
 pub comment_each-returns-clause-items : goal.comment_each-returns-clause-items
 comment_each-returns-clause-items t c =
     kept_by _ _ _ (λ e h. ap (λ x. items (item_tree x)) h.2) c.visit_array_elements-answer.result c.visit_array_elements-answer.ensures.visited c.visit_array_elements-answer.ensures.refused
     (λ r h.
     elements_kept (λ i x. (fine, with_parts c.args.levels c.args.structure x)) (λ i u. structures_left c.args.levels c.args.structure u) (λ i g. (g.1.now ≡ c.args.levels) × (g.2.now ≡ c.args.structure)) _
-        (λ i p q x y z holds k.
-        let kept : (q.1.now ≡ p.1.now) × (q.2.now ≡ p.2.now) = search rules in
-        let said : ValueAnswers (λ u. (fine, with_parts p.1.now p.2.now u)) (item_tree x.now) (answer_of z) (item_tree y.now) = search rules in
-        ((kept.0 ∙ holds.0, kept.1 ∙ holds.1), subst (λ m. ValueAnswers (λ u. (fine, with_parts c.args.levels m u)) (item_tree x.now) (answer_of z) (item_tree y.now)) holds.1 (subst (λ m. ValueAnswers (λ u. (fine, with_parts m p.2.now u)) (item_tree x.now) (answer_of z) (item_tree y.now)) holds.0 said)))
-        h.2 h.1 (refl, refl))
+    (λ i p q x y z holds k.
+    let kept : (q.1.now ≡ p.1.now) × (q.2.now ≡ p.2.now) = search rules in
+    let said : ValueAnswers (λ u. (fine, with_parts p.1.now p.2.now u)) (item_tree x.now) (answer_of z) (item_tree y.now) = search rules in
+    ((kept.0 ∙ holds.0, kept.1 ∙ holds.1), subst (λ m. ValueAnswers (λ u. (fine, with_parts c.args.levels m u)) (item_tree x.now) (answer_of z) (item_tree y.now)) holds.1 (subst (λ m. ValueAnswers (λ u. (fine, with_parts m p.2.now u)) (item_tree x.now) (answer_of z) (item_tree y.now)) holds.0 said)))
+    h.2 h.1 (refl, refl))

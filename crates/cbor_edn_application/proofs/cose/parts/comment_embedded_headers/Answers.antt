@@ -13,7 +13,7 @@ returns-clause-headers c =
     let w = item_tree c.args.item.now in
     on_ok_weaker c.comment_first_headers-answer.result
     (λ done. in_text with_headers w (item_tree c.exchange-2.new.item) (sym c.is_structure.ensures ∙ c.if-is_structure.false)
-        (exchanged (in_item 0 with_headers) w (item_tree c.exchange-2.new.item) (standalone_tree c.from-string.result) (standalone_tree c.exchange.new.alone) (standalone_tree c.comment_first_headers-answer.new.string) c.exchange.ensures.alone c.exchange-2.ensures.item done))
+    (exchanged (in_item 0 with_headers) w (item_tree c.exchange-2.new.item) (standalone_tree c.from-string.result) (standalone_tree c.exchange.new.alone) (standalone_tree c.comment_first_headers-answer.new.string) c.exchange.ensures.alone c.exchange-2.ensures.item done))
     c.comment_first_headers-answer.ensures.headers
 
 pub returns-clause-items : goal.returns-clause-items

@@ -12,7 +12,7 @@ pub returns-in-Some-clause-headers : goal.returns-in-Some-clause-headers
 returns-in-Some-clause-headers c =
     on_ok_weaker c.comment_headers.result
     (λ done. first_done with_headers (standalone_tree c.args.string.now) _ (item_tree c.in-Some.header.now) (item_tree c.comment_headers.new.item) (c.in-Some.ensures.value texts)
-        (on_some c.at_mut.result _ c.in-Some.is (c.at_mut.follows.holds c.comment_headers.new.item) texts) done)
+    (on_some c.at_mut.result _ c.in-Some.is (c.at_mut.follows.holds c.comment_headers.new.item) texts) done)
     c.comment_headers.ensures.headers
 
 pub returns-in-Some-clause-items : goal.returns-in-Some-clause-items
