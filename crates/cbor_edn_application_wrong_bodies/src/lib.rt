@@ -278,3 +278,10 @@ pub fn annotate_message(alloc: Global, tag: u64, item: &mut Item<'_>) -> Result<
 {
     cbor_edn_application::annotate_message(alloc, tag, item)
 }
+
+/// `annotate_messages`.
+pub fn annotate_messages(alloc: Global, sequence: &mut Sequence<'_>) -> Result<(), AllocError>
+    ensures { IsVisited IsTag message_claims (sequence_tree sequence.old) (ending result) (sequence_tree sequence.new) }
+{
+    cbor_edn_application::visits::annotate_messages(alloc, sequence)
+}
