@@ -1,5 +1,5 @@
 -- What functions make of COSE messages at their tags.
-use Rattle.std.proofs.Common.{ℕ, ℤ, pos, List, [], ◌==◌, ◌≡◌, ◌≢◌, Bool, true, false, cond, None, Some, Option, refl, sym, ap, subst, ◌∙◌, arith}
+use Rattle.std.proofs.Common.{ℕ, pos, List, [], ◌==◌, ◌≡◌, ◌≢◌, true, false, cond, None, Some, Option, refl, sym, ap, subst, ◌∙◌, arith}
 use Rattle.std.proofs.lemmas.Bool.Decides.{nat_tests}
 use Rattle.cbor_edn_parts.specs.declared.indicator.Indicator.{Indicator}
 use Rattle.cbor_edn_model.specs.declared.text.label.LabelKind.TheVariants as label
@@ -12,7 +12,7 @@ use Rattle.cbor_edn_model.specs.visit.Visits.{Answer, fine, comment, no_memory}
 use Rattle.cbor_edn_core.specs.access.Lent.{with_tag_content}
 use Rattle.cbor_edn_conversions.specs.declared.tables.Structure.{Structure}
 use Rattle.cbor_edn_conversions.specs.Conversions.{Reply}
-use Rattle.cbor_edn_conversions.specs.Cose.{called_message, named_message, comment_cose, with_parts, all_levels, in_item}
+use Rattle.cbor_edn_conversions.specs.Cose.{called_message, named_message, comment_cose, with_parts, all_levels}
 use Rattle.cbor_edn_conversions.specs.CoseTables.{messages}
 use Rattle.cbor_edn_conversions.specs.Tables.{found}
 use Rattle.cbor_edn_conversions.proofs.conversions.CoseKept.{parts_left}

@@ -103,5 +103,5 @@ module _ (a : CallArguments) (w : Tree OneItem) where
       → Some s ≡ tag_content w → v ≡ with_tag_content t w → t ≡ inside (in_payload claims_and_keys) s → ActsBy message_claims a w fine v
   claims_done m v s t is payload holds lent done = by_message (Some m) v is (tag_done (in_payload claims_and_keys) w v s t holds lent done ∙ by_payload _ _ w payload)
 
-  pub claims_refused : (v : Tree OneItem) (s t : Tree Standalone) → Some s ≡ tag_content w → v ≡ with_tag_content t w → t ≡ s → ActsBy message_claims a w no_memory v
-  claims_refused v s t holds lent same = tag_same w v s t holds lent same
+  pub claims_refused : (v : Tree OneItem) (s t : Tree Standalone) (r : Answer) → r ≡ no_memory → Some s ≡ tag_content w → v ≡ with_tag_content t w → t ≡ s → ActsBy message_claims a w r v
+  claims_refused v s t r is holds lent same = subst (λ q. ActsBy message_claims a w q v) (sym is) (tag_same w v s t holds lent same)

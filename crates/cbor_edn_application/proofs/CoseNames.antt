@@ -1,11 +1,11 @@
 -- Maps whose keys get names.
-use Rattle.std.proofs.Common.{◌≡◌, Option, None, Some, refl, sym, ap, ◌∙◌}
+use Rattle.std.proofs.Common.{◌≡◌, Option, None, Some, sym, ap, ◌∙◌}
 use Rattle.cbor_edn_model.specs.access.Accessed.{map_items}
-use Rattle.cbor_edn_model.specs.tree.Trees.{Tree, OneItem, items}
+use Rattle.cbor_edn_model.specs.tree.Trees.{Tree, OneItem}
 use Rattle.cbor_edn_conversions.specs.Claims.{KeyReply}
 use Rattle.cbor_edn_conversions.specs.Conversions.{Reply}
 use Rattle.cbor_edn_conversions.specs.Cose.{header_key}
-use Rattle.cbor_edn_conversions.specs.CoseKeys.{with_names, key_label, method_key, cnf_key, type_of_key}
+use Rattle.cbor_edn_conversions.specs.CoseKeys.{with_names, key_label, method_key, cnf_key}
 use Rattle.cbor_edn_conversions.specs.CoseTables.{headers}
 use Rattle.cbor_edn_conversions.specs.Tables.{found}
 use Rattle.cbor_edn_conversions.specs.declared.tables.KeyType.{KeyType}

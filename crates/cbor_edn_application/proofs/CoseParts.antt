@@ -1,12 +1,11 @@
 -- What functions make of the parts of COSE structures.
-use Rattle.std.proofs.Common.{ℕ, zero, suc, ◌+◌, ◌-◌, ◌≡◌, ◌≢◌, List, [], ◌∷◌, drop, Bool, true, false, cond, Option, None, Some, refl, sym, ap, subst, ◌∙◌, arith}
+use Rattle.std.proofs.Common.{ℕ, zero, suc, ◌-◌, ◌≡◌, ◌≢◌, List, [], ◌∷◌, drop, Bool, true, false, cond, Option, None, Some, refl, sym, ap, subst, ◌∙◌, arith}
 use Rattle.std.specs.Prelude.{slice_get, option_map, option_and_then, unwrap_or}
-use Rattle.cbor_edn_model.specs.access.Accessed.{array_items, map_items}
+use Rattle.cbor_edn_model.specs.access.Accessed.{array_items}
 use Rattle.cbor_edn_model.specs.access.Paths.{items_in, at, at_standalone, with_item, with_at, with_at_standalone}
 use Rattle.cbor_edn_model.specs.tree.Trees.{Tree, OneItem, Standalone, StandaloneTree, items}
-use Rattle.cbor_edn_model.specs.visit.Visits.{Answer, fine, comment, no_memory}
-use Rattle.cbor_edn_conversions.specs.Cose.{with_other, in_item, in_string, with_elements, header_key, with_headers, in_part, part_reply, with_parts}
-use Rattle.cbor_edn_conversions.specs.CoseKeys.{with_names}
+use Rattle.cbor_edn_model.specs.visit.Visits.{Answer}
+use Rattle.cbor_edn_conversions.specs.Cose.{with_other, in_item, in_string, with_elements, in_part, part_reply, with_parts}
 use Rattle.cbor_edn_conversions.specs.CoseTables.{parts}
 use Rattle.cbor_edn_conversions.specs.EmbeddedItems.{is_structure}
 use Rattle.cbor_edn_conversions.specs.declared.tables.Part.{Part}

@@ -1,5 +1,5 @@
 -- Visits of arrays whose elements are answered and left by a function of their number.
-use Rattle.std.proofs.Common.{ℕ, suc, List, ◌≡◌, ◌≢◌, Option, None, Result, MutBor, refl, ap, ◌∙◌}
+use Rattle.std.proofs.Common.{ℕ, suc, List, ◌≡◌, Option, None, Result, MutBor, refl, ap, ◌∙◌}
 use Rattle.std.specs.Fn.{Called}
 use Rattle.std.specs.declared.string.String.{String}
 use Rattle.std.specs.declared.alloc.Global.{Global}

@@ -1,12 +1,9 @@
-use Rattle.std.proofs.Common.{rules, ◌≡◌, sym, ap, subst, ◌∙◌}
+use Rattle.std.proofs.Common.{rules, sym, ap, ◌∙◌}
 use Rattle.std.specs.Prelude.{option_map}
 use Rattle.cbor_edn_core.specs.tree.View.{item_tree, standalone_tree}
 use Rattle.cbor_edn_core.specs.visit.Sought.{sought_answer}
 use Rattle.cbor_edn_model.specs.tree.TreeLeaves.{texts}
 use Rattle.cbor_edn_model.specs.visit.Seeking.{number}
-use Rattle.cbor_edn_model.specs.visit.Visits.{no_memory}
-use Rattle.cbor_edn_conversions.specs.MessageClaims.{message_claims}
-use Rattle.cbor_edn_application.specs.Acts.{ActsBy}
 use Rattle.cbor_edn_application.proofs.CoseCalls.{message_content}
 use Rattle.cbor_edn_application.proofs.CoseClaims.{no_claims, no_payload, claims_done, claims_refused}
 use Rattle.cbor_edn_application.proofs.KnownResults.{ok_is}
@@ -30,7 +27,5 @@ returns-in_ok-annotate_content-in-Ok c =
 
 pub returns-in_err-annotate_content-in-Ok : goal.returns-in_err-annotate_content-in-Ok
 returns-in_err-annotate_content-in-Ok c =
-    let refused : sought_answer c.from_residual.result ≡ no_memory = search rules in
-    subst (λ r. ActsBy message_claims (number c.args.tag) (item_tree c.args.item.now) r _) (sym refused)
-    (claims_refused (number c.args.tag) (item_tree c.args.item.now) _ (standalone_tree c.in-Ok.content.now) (standalone_tree c.annotate_content.new.content) (c.in-Ok.ensures.found texts)
-        (c.get_tagged_mut.follows.holds c.annotate_content.new.content (ok_is c.get_tagged_mut.result _ c.in-Ok.is) texts) c.in_err-annotate_content-in-Ok.ensures.out_of_memory)
+    claims_refused (number c.args.tag) (item_tree c.args.item.now) _ (standalone_tree c.in-Ok.content.now) (standalone_tree c.annotate_content.new.content) (sought_answer c.from_residual.result) (search rules)
+    (c.in-Ok.ensures.found texts) (c.get_tagged_mut.follows.holds c.annotate_content.new.content (ok_is c.get_tagged_mut.result _ c.in-Ok.is) texts) c.in_err-annotate_content-in-Ok.ensures.out_of_memory

@@ -1,4 +1,4 @@
-use Rattle.std.proofs.Common.{rules, refl, sym, ap, ◌≡◌, ◌∙◌, subst, Option}
+use Rattle.std.proofs.Common.{rules, refl, ap, ◌≡◌, ◌∙◌, subst}
 use Rattle.std.specs.Prelude.{OnOk, option_map}
 use Rattle.cbor_edn_core.specs.visit.Callbacks.{key_answer, handler_of}
 use Rattle.cbor_edn_core.specs.tree.View.{item_tree}

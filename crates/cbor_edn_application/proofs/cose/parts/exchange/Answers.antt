@@ -1,4 +1,4 @@
-use Rattle.std.proofs.Common.{[], Some, sym, ap, ◌∙◌}
+use Rattle.std.proofs.Common.{[], Some, ap, ◌∙◌}
 use Rattle.cbor_edn_core.specs.tree.View.{item_tree, standalone_tree}
 use Rattle.cbor_edn_model.specs.tree.TreeLeaves.{texts}
 use Rattle.cbor_edn_model.specs.access.Paths.{with_at_standalone}
