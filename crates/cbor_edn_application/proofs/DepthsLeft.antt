@@ -10,6 +10,7 @@ use Rattle.cbor_edn_core.specs.visit.Sought.{LeavesNoneDeeper, TagCallback, soug
 use Rattle.cbor_edn_core.specs.tree.View.{Item, item_tree}
 use Rattle.cbor_edn_core.proofs.lemmas.visit.SoughtChains.{none_deeper}
 use Rattle.cbor_edn_conversions.proofs.nesting.TagDepths.{NoDeeper, times_no_deeper, addresses_no_deeper, bignums_no_deeper, all_no_deeper, languages_no_deeper, comments_no_deeper}
+use Rattle.cbor_edn_application.proofs.MessageDepths.{messages_no_deeper}
 use Rattle.cbor_edn_application.specs.Acts.{Act, ActsBy}
 use Rattle.cbor_edn_application.specs.VisitActs.{tag_act}
 use Rattle.cbor_edn_application.specs.declared.visits.TagAct.{TagAct}
@@ -21,6 +22,7 @@ acts_no_deeper tag.Addresses a = addresses_no_deeper a
 acts_no_deeper tag.Times a = times_no_deeper a
 acts_no_deeper tag.Bignums a = bignums_no_deeper a
 acts_no_deeper tag.Languages a = languages_no_deeper a
+acts_no_deeper tag.Messages a = messages_no_deeper a
 acts_no_deeper (tag.Comment c) a = comments_no_deeper c.now a
 
 left_no_deeper : (act : Act) (a : CallArguments) (w v : Tree OneItem) (r : Answer) → NoDeeper (act a) → ActsBy act a w r v → depth v ≤ depth w

@@ -30,3 +30,13 @@ pub mod Magnitudes
 pub mod OneOfAll
 pub mod VisitsTurn
 pub mod ResolvedAgain
+pub mod PassedItems
+pub mod ElementVisits
+pub mod CoseParts
+pub mod CoseNames
+pub mod CommentVisits
+pub mod CoseCalls
+pub mod MessageDepths
+pub mod CoseKeyCalls
+pub mod CoseClaims
+pub mod KeyNames

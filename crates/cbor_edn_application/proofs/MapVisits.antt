@@ -37,12 +37,12 @@ key_is p fine f n e = e
 key_is p (comment c) f n e = e
 key_is p no_memory f n e = absurd (n refl)
 
-value_is : (f : AtValue) (w v : Tree OneItem) (r : Answer) → r ≢ no_memory → ValueAnswers f w r v → (r ≡ (f w).0) × (v ≡ (f w).1)
+pub value_is : (f : AtValue) (w v : Tree OneItem) (r : Answer) → r ≢ no_memory → ValueAnswers f w r v → (r ≡ (f w).0) × (v ≡ (f w).1)
 value_is f w v fine n e = e
 value_is f w v (comment c) n e = e
 value_is f w v no_memory n e = absurd (n refl)
 
-value_same : (f : AtValue) (w x : Tree OneItem) (r q : Answer) (v y : Tree OneItem) → w ≡ x → r ≡ q → v ≡ y → ValueAnswers f w r v → ValueAnswers f x q y
+pub value_same : (f : AtValue) (w x : Tree OneItem) (r q : Answer) (v y : Tree OneItem) → w ≡ x → r ≡ q → v ≡ y → ValueAnswers f w r v → ValueAnswers f x q y
 value_same f w x r q v y a b c h = subst (λ t. ValueAnswers f t q y) a (subst (λ t. ValueAnswers f w t y) b (subst (λ t. ValueAnswers f w r t) c h))
 
 passed_value : (o : Option AtValue) (v : Tree OneItem) (r : List ℕ) → HandledBy o no_handler → value_turn o v r ≡ (v, r)
@@ -84,7 +84,7 @@ abbrev pub Keeps : Option AtValue → Type 0
 Keeps None = Unit {0}
 Keeps (Some f) = (v : Tree OneItem) → items (f v).1 ≡ items v
 
-value_answer : (f : AtValue) → ((v : Tree OneItem) → items (f v).1 ≡ items v) → (w v : Tree OneItem) (r : Answer) → ValueAnswers f w r v → items v ≡ items w
+pub value_answer : (f : AtValue) → ((v : Tree OneItem) → items (f v).1 ≡ items v) → (w v : Tree OneItem) (r : Answer) → ValueAnswers f w r v → items v ≡ items w
 value_answer f kept w v fine h = ap (λ x. items x) h.1 ∙ kept w
 value_answer f kept w v (comment c) h = ap (λ x. items x) h.1 ∙ kept w
 value_answer f kept w v no_memory h = h
@@ -146,9 +146,10 @@ module _ (at_key : Tree OneItem → KeyReply) (kept : (k : Tree OneItem) → Kee
   pub visit_kept : {w v : Tree OneItem} {r : Ending} → AreKeysVisited at_key w r v → items v ≡ items w
   visit_kept h = map_kept h.2 h.1
 
-module _ {H F : Type 0} (at_key : Tree OneItem → KeyReply) (at_value : H → Tree OneItem → Reply) (callback : Callback Item (Result (Option (String Global) × Option H) CallbackError) F) (handles : Handles Item H)
-    (each : (p q : F) (x y : MutBor Item) (z : Result (Option (String Global) × Option H) CallbackError) → Called callback p (x, tt) (z, (y, tt)) q
-    → (item_tree y.now ≡ item_tree x.now) × KeyAnswers (at_key (item_tree x.now)) (key_answer z) (option_map at_value (handler_of z)))
+-- Visits, by what one call of the closure does: the closure keeps what `Keeps` says.
+module _ {H F : Type 0} (at_key : Tree OneItem → KeyReply) (at_value : H → Tree OneItem → Reply) (callback : Callback Item (Result (Option (String Global) × Option H) CallbackError) F) (handles : Handles Item H) (Keeps : F → Type 0)
+    (each : (p q : F) (x y : MutBor Item) (z : Result (Option (String Global) × Option H) CallbackError) → Keeps p → Called callback p (x, tt) (z, (y, tt)) q
+    → ((item_tree y.now ≡ item_tree x.now) × KeyAnswers (at_key (item_tree x.now)) (key_answer z) (option_map at_value (handler_of z))) × Keeps q)
     (valued : (h : H) (x : Item) (r : Result (Option (String Global)) CallbackError) (y : Item) → handles h x r y → ValueAnswers (at_value h) (item_tree x) (answer_of r) (item_tree y)) where
   abbrev Step : F → KeyCall → F → Type 0
   Step = IsKeyCall item_tree callback handles
@@ -158,29 +159,43 @@ module _ {H F : Type 0} (at_key : Tree OneItem → KeyReply) (at_value : H → T
   spent_by drops = tt
   spent_by (spends {h = h} {x = x} {y = y} {r = r} {c = c} did before answer after) = value_same (at_value h) _ _ _ _ _ _ before answer after (valued h x r y did)
 
-  keyed : (f g : F) (c : KeyCall) → Step f c g → Keyed at_key c
-  keyed f g c s =
-      let h = each f g s.called.shown s.called.left s.answer s.called.called in
+  keyed : (f g : F) (c : KeyCall) → Keeps f → Step f c g → Keyed at_key c × Keeps g
+  keyed f g c kept s =
+      let both = each f g s.called.shown s.called.left s.answer kept s.called.called in
+      let h = both.0 in
       let before : item_tree s.called.shown.now ≡ c.at_key.before = ap item_tree s.called.shows ∙ s.begins in
-      let after : item_tree s.called.left.now ≡ c.at_key.after = ap item_tree s.called.leaves ∙ s.leaves in
-      record {
-        same = sym after ∙ (h.0 ∙ before);
-        answers = λ had.
-            let is = key_is (at_key (item_tree s.called.shown.now)) (key_answer s.answer) (option_map at_value (handler_of s.answer)) (λ e. had (sym s.answers ∙ e)) h.1 in
-            (sym s.answers ∙ (is.0 ∙ ap (λ w. (at_key w).0) before), subst (λ o. HandledBy o c.handler) (is.1 ∙ ap (λ w. (at_key w).1) before) (spent_by s.spending));
-      }
+      let after : item_tree s.called.left.now ≡ c.at_key.after = ap item_tree s.called.leaves ∙ s.leaves in (
+        record {
+          same = sym after ∙ (h.0 ∙ before);
+          answers = λ had.
+              let is = key_is (at_key (item_tree s.called.shown.now)) (key_answer s.answer) (option_map at_value (handler_of s.answer)) (λ e. had (sym s.answers ∙ e)) h.1 in
+              (sym s.answers ∙ (is.0 ∙ ap (λ w. (at_key w).0) before), subst (λ o. HandledBy o c.handler) (is.1 ∙ ap (λ w. (at_key w).1) before) (spent_by s.spending));
+        },
+        both.1,
+      )
 
-  row_whole : {m n : Tree (Rest Pairs)} {cs : List KeyCall} {r : Ending} {f g : F} (i : ℕ) → VisitEntries VisitPair m cs n r → r ≡ whole → Chain Step f cs g → n ≡ turned (key_turn at_key) i m
-  row_whole {f = f} i (last {c = c} one) is chain =
-      let h = chain_first chain in let x = pair_whole at_key i one is (keyed f h.0 c h.1) in last_same x.0 x.1
-  row_whole {f = f} i (more {c = c} one rest) is chain =
-      let h = chain_first chain in let x = pair_whole at_key i one refl (keyed f h.0 c h.1) in more_same x.0 x.1 (row_whole (suc i) rest is h.2)
-  row_whole i (stops one) is chain = absurd cc
+  row_whole : {m n : Tree (Rest Pairs)} {cs : List KeyCall} {r : Ending} {f g : F} (i : ℕ) → VisitEntries VisitPair m cs n r → r ≡ whole → Chain Step f cs g → Keeps f → n ≡ turned (key_turn at_key) i m
+  row_whole {f = f} i (last {c = c} one) is chain kept =
+      let h = chain_first chain in let k = keyed f h.0 c kept h.1 in let x = pair_whole at_key i one is k.0 in last_same x.0 x.1
+  row_whole {f = f} i (more {c = c} one rest) is chain kept =
+      let h = chain_first chain in let k = keyed f h.0 c kept h.1 in let x = pair_whole at_key i one refl k.0 in more_same x.0 x.1 (row_whole (suc i) rest is h.2 k.1)
+  row_whole i (stops one) is chain kept = absurd cc
 
-  pub map_whole : {w v : Tree OneItem} {cs : List KeyCall} {r : Ending} {f g : F} → VisitMap w cs v r → r ≡ whole → Chain Step f cs g → (fine ≡ (with_keys at_key w).0) × (v ≡ (with_keys at_key w).1)
-  map_whole (pairs (full {h = h} {s = s} a)) is chain = (refl, ap (λ m. ListTree Map (FullTree h s m)) (row_whole 0 a is chain))
-  map_whole (pairs empty) is chain = (refl, refl)
+  pub kept_whole : {w v : Tree OneItem} {cs : List KeyCall} {r : Ending} {f g : F} → VisitMap w cs v r → r ≡ whole → Chain Step f cs g → Keeps f → (fine ≡ (with_keys at_key w).0) × (v ≡ (with_keys at_key w).1)
+  kept_whole (pairs (full {h = h} {s = s} a)) is chain kept = (refl, ap (λ m. ListTree Map (FullTree h s m)) (row_whole 0 a is chain kept))
+  kept_whole (pairs empty) is chain kept = (refl, refl)
 
   -- the calls of a visit, however it ended
-  pub map_visited : {w v : Tree OneItem} {cs : List KeyCall} {r : Ending} {f g : F} → VisitMap w cs v r → Chain Step f cs g → AreKeysVisited at_key w r v
-  map_visited {cs = cs} visit chain = (cs, chain_all Step (λ _. Unit {0}) (Keyed at_key) (λ f g c _ s. (keyed f g c s, tt)) chain tt, visit)
+  pub kept_visited : {w v : Tree OneItem} {cs : List KeyCall} {r : Ending} {f g : F} → VisitMap w cs v r → Chain Step f cs g → Keeps f → AreKeysVisited at_key w r v
+  kept_visited {cs = cs} visit chain kept = (cs, chain_all Step Keeps (Keyed at_key) keyed chain kept, visit)
+
+-- the same where nothing has to be kept
+module _ {H F : Type 0} (at_key : Tree OneItem → KeyReply) (at_value : H → Tree OneItem → Reply) (callback : Callback Item (Result (Option (String Global) × Option H) CallbackError) F) (handles : Handles Item H)
+    (each : (p q : F) (x y : MutBor Item) (z : Result (Option (String Global) × Option H) CallbackError) → Called callback p (x, tt) (z, (y, tt)) q
+    → (item_tree y.now ≡ item_tree x.now) × KeyAnswers (at_key (item_tree x.now)) (key_answer z) (option_map at_value (handler_of z)))
+    (valued : (h : H) (x : Item) (r : Result (Option (String Global)) CallbackError) (y : Item) → handles h x r y → ValueAnswers (at_value h) (item_tree x) (answer_of r) (item_tree y)) where
+  pub map_whole : {w v : Tree OneItem} {cs : List KeyCall} {r : Ending} {f g : F} → VisitMap w cs v r → r ≡ whole → Chain (IsKeyCall item_tree callback handles) f cs g → (fine ≡ (with_keys at_key w).0) × (v ≡ (with_keys at_key w).1)
+  map_whole visit is chain = kept_whole at_key at_value callback handles (λ _. Unit {0}) (λ p q x y z _ s. (each p q x y z s, tt)) valued visit is chain tt
+
+  pub map_visited : {w v : Tree OneItem} {cs : List KeyCall} {r : Ending} {f g : F} → VisitMap w cs v r → Chain (IsKeyCall item_tree callback handles) f cs g → AreKeysVisited at_key w r v
+  map_visited visit chain = kept_visited at_key at_value callback handles (λ _. Unit {0}) (λ p q x y z _ s. (each p q x y z s, tt)) valued visit chain tt

@@ -35,7 +35,7 @@ all_split P [] ys all = (All-nil P, all)
 all_split P (x ∷ xs) ys all = let rest = all_split P xs ys (All-tail P x (xs ++ ys) all) in (All-cons P x xs (All-head P x (xs ++ ys) all) rest.0, rest.1)
 
 -- the call had memory
-abbrev HadMemory : SoughtCall → Type 0
+abbrev pub HadMemory : SoughtCall → Type 0
 HadMemory c = c.answer ≢ no_memory
 
 abbrev pub Acted : Act → SoughtCall → Type 0
@@ -49,23 +49,21 @@ acted_answer act a w v fine had h = h
 acted_answer act a w v (comment c) had h = h
 acted_answer act a w v no_memory had h = absurd (had refl)
 
-module _ (Sought : Tree OneItem → CallArguments → Type 0) (act : Act) where
-  answers : (c : SoughtCall) → HadMemory c → Acted act c → AnswersBy act c
-  answers c had acted = acted_answer act c.arguments c.before c.after c.answer had acted
-
-  both : (cs ds all : List SoughtCall) → all ≡ cs ++ ds → (All (Acted act) cs → All (AnswersBy act) cs) → (All (Acted act) ds → All (AnswersBy act) ds) → All (Acted act) all → All (AnswersBy act) all
-  both cs ds all e p q acted = let h = all_split (Acted act) cs ds (subst (All (Acted act)) e acted) in subst (All (AnswersBy act)) (sym e) (All-append (AnswersBy act) cs ds (p h.0) (q h.1))
+-- what is known of each call, and says its answer where it had memory
+module _ (Sought : Tree OneItem → CallArguments → Type 0) (act : Act) (Known : SoughtCall → Type 0) (said : (c : SoughtCall) → HadMemory c → Known c → AnswersBy act c) where
+  both : (cs ds all : List SoughtCall) → all ≡ cs ++ ds → (All Known cs → All (AnswersBy act) cs) → (All Known ds → All (AnswersBy act) ds) → All Known all → All (AnswersBy act) all
+  both cs ds all e p q acted = let h = all_split Known cs ds (subst (All Known) e acted) in subst (All (AnswersBy act)) (sym e) (All-append (AnswersBy act) cs ds (p h.0) (q h.1))
 
   -- In a whole visit no call was refused memory.
   mutual
-    item_whole : {w v : Tree OneItem} {s t : List _} {cs : List SoughtCall} {r : Ending} → VisitItem Sought w s cs v t r → r ≡ whole → All (Acted act) cs → All (AnswersBy act) cs
+    item_whole : {w v : Tree OneItem} {s t : List _} {cs : List SoughtCall} {r : Ending} → VisitItem Sought w s cs v t r → r ≡ whole → All Known cs → All (AnswersBy act) cs
     item_whole (passed n a) is all = parts_whole a is all
-    item_whole (entered {c = c} {cs = cs} s had d a) is all = All-cons (AnswersBy act) c cs (answers c had (All-head (Acted act) c cs all)) (parts_whole a is (All-tail (Acted act) c cs all))
-    item_whole (stayed {c = c} s had d) is all = All-cons (AnswersBy act) c [] (answers c had (All-head (Acted act) c [] all)) (All-nil (AnswersBy act))
+    item_whole (entered {c = c} {cs = cs} s had d a) is all = All-cons (AnswersBy act) c cs (said c had (All-head Known c cs all)) (parts_whole a is (All-tail Known c cs all))
+    item_whole (stayed {c = c} s had d) is all = All-cons (AnswersBy act) c [] (said c had (All-head Known c [] all)) (All-nil (AnswersBy act))
     item_whole (refused s f) is all = absurd cc
     item_whole (not_called s) is all = absurd cc
 
-    parts_whole : {k : Rule} {w v : Tree k} {cs : List SoughtCall} {r : Ending} → VisitParts Sought k w cs v r → r ≡ whole → All (Acted act) cs → All (AnswersBy act) cs
+    pub parts_whole : {k : Rule} {w v : Tree k} {cs : List SoughtCall} {r : Ending} → VisitParts Sought k w cs v r → r ≡ whole → All Known cs → All (AnswersBy act) cs
     parts_whole of_number is all = All-nil (AnswersBy act)
     parts_whole of_float is all = All-nil (AnswersBy act)
     parts_whole of_name is all = All-nil (AnswersBy act)
@@ -89,14 +87,18 @@ module _ (Sought : Tree OneItem → CallArguments → Type 0) (act : Act) where
     parts_whole (of_sequence a) is all = parts_whole a is all
     parts_whole (of_standalone a) is all = item_whole a is all
 
-    entry_whole : {k : Row} {e f : Tree (OneEntry k)} {s t : List _} {cs : List SoughtCall} {r : Ending} → VisitEntry Sought k e s cs f t r → r ≡ whole → All (Acted act) cs → All (AnswersBy act) cs
+    entry_whole : {k : Row} {e f : Tree (OneEntry k)} {s t : List _} {cs : List SoughtCall} {r : Ending} → VisitEntry Sought k e s cs f t r → r ≡ whole → All Known cs → All (AnswersBy act) cs
     entry_whole (of_element a) is all = item_whole a is all
     entry_whole (of_pair {cs = cs} {ds = ds} {all = xs} a b e) is all = both cs ds xs e (item_whole a refl) (item_whole b is) all
     entry_whole (of_pair_cut a) is all = absurd cc
     entry_whole (of_chunk a) is all = parts_whole a is all
 
+module _ (Sought : Tree OneItem → CallArguments → Type 0) (act : Act) where
+  answers : (c : SoughtCall) → HadMemory c → Acted act c → AnswersBy act c
+  answers c had acted = acted_answer act c.arguments c.before c.after c.answer had acted
+
   ends : {k : Rule} {w v : Tree k} {cs : List SoughtCall} (r : Ending) → VisitParts Sought k w cs v r → All (Acted act) cs → EndsBy act cs r
-  ends whole a all = parts_whole a refl all
+  ends whole a all = parts_whole Sought act (Acted act) answers a refl all
   ends cut a all = all
 
   -- What a visit leaves, of its chain of calls: `each` says it of one call.

@@ -8,16 +8,20 @@ use Rattle.cbor_edn_core.specs.visit.Callbacks.{error_answer}
 use Rattle.cbor_edn_core.specs.declared.access.TypeMismatch.{TypeMismatch}
 use Rattle.cbor_edn_core.specs.declared.access.TypeMismatch.TheVariants.{IntegerInRange}
 use Rattle.cbor_edn_model.specs.tree.Trees.{Tree, OneItem, items}
-use Rattle.cbor_edn_model.specs.visit.Visits.{Answer, no_memory, KeyCall, Handler, no_handler, dropped, spent, Ending, VisitMap}
+use Rattle.cbor_edn_model.specs.visit.Visits.{Answer, fine, no_memory, KeyCall, Handler, no_handler, dropped, spent, Ending, VisitMap}
 use Rattle.cbor_edn_conversions.specs.declared.tables.ClaimValue.TheVariants as claim
 use Rattle.cbor_edn_conversions.specs.declared.tables.ConfirmationValue.TheVariants as confirmation
 use Rattle.cbor_edn_conversions.specs.declared.tables.ParameterValue.TheVariants as parameter
 use Rattle.cbor_edn_conversions.specs.Claims.{KeyReply, claim_value, confirmation_value, parameter_value}
 use Rattle.cbor_edn_conversions.specs.Conversions.{Reply}
+use Rattle.cbor_edn_conversions.specs.CoseKeys.{with_name, with_names, method_key, with_parameters}
 use Rattle.cbor_edn_application.specs.declared.claims.CcsHandler.{CcsHandler}
 use Rattle.cbor_edn_application.specs.declared.claims.CcsHandler.TheVariants.{Timestamp, Cnf}
 use Rattle.cbor_edn_application.specs.declared.confirmation.CnfHandler.{CnfHandler}
 use Rattle.cbor_edn_application.specs.declared.confirmation.CnfHandler.TheVariants.{Osc}
+use Rattle.cbor_edn_application.specs.declared.cose.keys.KeyHandler.{KeyHandler}
+use Rattle.cbor_edn_application.specs.declared.cose.keys.MethodsHandler.{MethodsHandler}
+use Rattle.cbor_edn_application.specs.declared.cose.labels.NameHandler.{NameHandler}
 use Rattle.cbor_edn_application.specs.declared.oscore.OscHandler.{OscHandler}
 use Rattle.cbor_edn_application.specs.declared.oscore.OscHandler.TheVariants.{Algorithm}
 
@@ -88,3 +92,12 @@ at_confirmation Osc = confirmation_value confirmation.Oscore
 
 abbrev pub at_parameter : OscHandler → Tree OneItem → Reply
 at_parameter Algorithm = parameter_value parameter.Algorithm
+
+abbrev pub at_number : NameHandler → Tree OneItem → Reply
+at_number h = with_name h.number
+
+abbrev pub at_cnf : MethodsHandler → Tree OneItem → Reply
+at_cnf h v = (fine, with_names method_key v)
+
+abbrev pub at_method : KeyHandler → Tree OneItem → Reply
+at_method h v = (fine, with_parameters v)

@@ -1,4 +1,5 @@
 pub mod Acts
+pub mod Comments
 pub mod Handlers
 pub mod Ordinals
 pub mod Refused
@@ -6,4 +7,5 @@ pub mod Sequences
 pub mod TimeSteps
 pub mod VisitLaws
 pub mod VisitActs
+pub mod Passed
 pub mod Placing

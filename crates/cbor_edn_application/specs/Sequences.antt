@@ -48,7 +48,11 @@ pub data AreClaimsBegun (w v : Tree Seq) : Type 0 where
 
 -- ---- what a private function says of one item
 
--- The item at an index is such a claims set, or there is none.
+-- The item at an index is changed, or there is none.
+abbrev pub IsChangedAt : (Tree OneItem → Tree OneItem) → ℕ → Bool → Tree Seq → Tree Seq → Type 0
+IsChangedAt f i true w v = (c : Tree OneItem) × (at_sequence (i ∷ []) w ≡ Some c) × (v ≡ with_at_sequence (i ∷ []) (f c) w)
+IsChangedAt f i false w v = (at_sequence (i ∷ []) w ≡ None) × (v ≡ w)
+
+-- it is such a claims set
 abbrev pub IsAnnotatedAt : ℕ → Bool → Tree Seq → Tree Seq → Type 0
-IsAnnotatedAt i true w v = (c : Tree OneItem) × (at_sequence (i ∷ []) w ≡ Some c) × (v ≡ with_at_sequence (i ∷ []) (with_claims c).1 w)
-IsAnnotatedAt i false w v = (at_sequence (i ∷ []) w ≡ None) × (v ≡ w)
+IsAnnotatedAt = IsChangedAt (λ w. (with_claims w).1)

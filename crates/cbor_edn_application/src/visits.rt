@@ -9,14 +9,16 @@ ghost use Rattle.cbor_edn_core.specs.tree.View.{item_tree, sequence_tree};
 ghost use Rattle.cbor_edn_model.specs.access.Accessed.{map_items};
 ghost use Rattle.cbor_edn_model.specs.visit.Seeking.{CallArguments, IsTag, IsApplication, number as tag_arguments, prefix_and_text};
 ghost use Rattle.cbor_edn_model.specs.tree.Items.{nesting};
-ghost use Rattle.cbor_edn_model.specs.visit.Visits.{fine};
+ghost use Rattle.cbor_edn_model.specs.visit.Visits.{fine, whole};
 ghost use Rattle.cbor_edn_model.specs.tree.Trees.{Tree, OneItem, items};
 ghost use Rattle.cbor_edn_conversions.specs.Addresses.{resolve_address, pretty_address};
 ghost use Rattle.cbor_edn_conversions.specs.All.{resolve_all, pretty_all};
 ghost use Rattle.cbor_edn_conversions.specs.Annotations.{commenting, comment_lang};
 ghost use Rattle.cbor_edn_conversions.specs.Bignums.{pretty_bignum};
 ghost use Rattle.cbor_edn_conversions.specs.Claims.{claim_key, with_claims};
+ghost use Rattle.cbor_edn_conversions.specs.Cose.{comment_cose};
 ghost use Rattle.cbor_edn_conversions.specs.EmbeddedItems.{show_embedded};
+ghost use Rattle.cbor_edn_conversions.specs.MessageClaims.{message_claims};
 ghost use Rattle.cbor_edn_conversions.specs.Tag999.{to_tag999};
 ghost use Rattle.cbor_edn_conversions.specs.Times.{resolve_time, pretty_time};
 ghost use Rattle.cbor_edn_application.specs.Acts.{ActsBy, IsVisited};
@@ -28,7 +30,10 @@ use crate::all::{all_aol_to_item, all_tag_prettify};
 use crate::bignum::tag23_to_edn_integer;
 use crate::claims::comment_ccs;
 pub use crate::claims_sets::annotate_claims_sets;
+use crate::cose;
+use crate::cose::annotate_message;
 use crate::embedded::{room_beside, show_inside};
+pub use crate::key_names::comment_claims_keys;
 use crate::language::comment_lang_tag;
 use crate::tag999::{any_aol_to_tag999, is_built_in};
 use crate::time::{dt_aol_to_item, dt_tag_to_aol, is_time};
@@ -45,6 +50,7 @@ pub(crate) enum TagAct<'c> {
     Times,
     Bignums,
     Languages,
+    Messages,
     Comment(&'c str),
 }
 
@@ -87,6 +93,7 @@ fn at_tag(
         TagAct::Times => dt_tag_to_aol(alloc, tag, item),
         TagAct::Bignums => tag23_to_edn_integer(alloc, tag, item),
         TagAct::Languages => comment_lang_tag(alloc, tag, item),
+        TagAct::Messages => annotate_message(alloc, tag, item),
         TagAct::Comment(comment) => comment_tag(alloc, comment, tag, item),
     }
 }
@@ -249,6 +256,23 @@ pub fn comment_languages(alloc: Global, sequence: &mut Sequence<'_>) -> Result<(
     ensures items { items (sequence_tree sequence.new) ≡ items (sequence_tree sequence.old) }
 {
     visit_tags(alloc, sequence, TagAct::Languages)
+}
+
+/// Calls [`crate::comment_cose`] at each tag: COSE messages get their names, and those of their parts and header parameters. Fails where
+/// memory runs out; some of the comments are there then.
+pub fn comment_cose(alloc: Global, sequence: &mut Sequence<'_>) -> Result<(), AllocError>
+    ensures visited { OnOk result (IsVisited IsTag comment_cose (sequence_tree sequence.old) whole (sequence_tree sequence.new)) }
+    ensures items { items (sequence_tree sequence.new) ≡ items (sequence_tree sequence.old) }
+{
+    sequence.visit_tag_no_deeper(alloc, &mut |tag, item| cose::comment_cose(alloc, tag, item))
+}
+
+/// Calls [`annotate_message`] at each tag: claims sets that are payloads of COSE messages get the names of their claims, and their times
+/// become literals. Fails where memory runs out; the calls up to there are made then.
+pub fn annotate_messages(alloc: Global, sequence: &mut Sequence<'_>) -> Result<(), AllocError>
+    ensures { IsVisited IsTag message_claims (sequence_tree sequence.old) (ending result) (sequence_tree sequence.new) }
+{
+    visit_tags(alloc, sequence, TagAct::Messages)
 }
 
 /// Puts the comments of a claims set (RFC 8392) into a map: `{4: 1700000000}` becomes `{4/ exp /: dt'2023-11-14T22:13:20+00:00'}`. Fails

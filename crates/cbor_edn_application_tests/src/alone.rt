@@ -1,8 +1,9 @@
 //! Functions that are called alone, at one item.
 use cbor_edn_application::{
     CcsHandler, CnfHandler, IpVersion, OscHandler, all_aol_to_item, all_tag_prettify,
-    any_aol_to_tag999, comment_ccs, comment_lang_tag, dt_aol_to_item, dt_item_to_aol,
-    dt_tag_to_aol, ip_aol_to_item, ip_item_to_aol, ip_tag_to_aol, tag23_to_edn_integer,
+    annotate_message, any_aol_to_tag999, comment_ccs, comment_cose, comment_lang_tag,
+    dt_aol_to_item, dt_item_to_aol, dt_tag_to_aol, ip_aol_to_item, ip_item_to_aol, ip_tag_to_aol,
+    tag23_to_edn_integer,
 };
 use cbor_edn_core::tree::{Item, StandaloneItem};
 use cbor_edn_core::visit::MapValueHandler;
@@ -100,6 +101,8 @@ enum Call {
     Prettify(u64),
     Bignum(u64),
     Language(u64),
+    Message(u64),
+    Claims(u64),
     Resolve(&'static str, &'static str),
     Address(&'static str, &'static str),
     Tag999(&'static str, &'static str),
@@ -119,6 +122,8 @@ fn call_at(alloc: Global, call: Call, item: &mut Item<'_>) -> Result<(), Callbac
         Call::Prettify(tag) => all_tag_prettify(alloc, tag, item),
         Call::Bignum(tag) => tag23_to_edn_integer(alloc, tag, item),
         Call::Language(tag) => comment_lang_tag(alloc, tag, item),
+        Call::Message(tag) => comment_cose(alloc, tag, item),
+        Call::Claims(tag) => annotate_message(alloc, tag, item),
         Call::Resolve(prefix, told) => all_aol_to_item(
             alloc,
             String::from_str(alloc, prefix)?,
@@ -182,8 +187,8 @@ fn others(rt: HostRuntime) -> Result<(), Fail> {
     failures.end()
 }
 
-/// RFC 8949, sections 3.4.2 and 3.4.3; RFC 9290, appendix A; RFC 3339, section 5.6; RFC 9164, section 3; tag 999 by the repository's
-/// `README.md`.
+/// RFC 8949, sections 3.4.2 and 3.4.3; RFC 9290, appendix A; RFC 9052, section 2; RFC 8392, section 3; RFC 3339, section 5.6; RFC 9164,
+/// section 3; tag 999 by the repository's `README.md`.
 const CALLS: &[(&str, Call, &str)] = &[
     ("1(42)", Call::Prettify(1), "DT'1970-01-01T00:00:42+00:00'"),
     (
@@ -195,6 +200,18 @@ const CALLS: &[(&str, Call, &str)] = &[
         "38([\"he\", \"x\", true])",
         Call::Language(38),
         "38([\"he\", \"x\", true/ Right-to-left /])",
+    ),
+    ("18([1])", Call::Message(18), "COSE_Sign1"),
+    ("18([1])", Call::Message(17), "18([1])"),
+    (
+        "17([1, 2, <<{4: 42}>>])",
+        Call::Claims(17),
+        "17([1, 2, <<{4/ exp /: dt'1970-01-01T00:00:42+00:00'}>>])",
+    ),
+    (
+        "17([1, 2, <<{4: 42}>>])",
+        Call::Claims(18),
+        "17([1, 2, <<{4: 42}>>])",
     ),
     (
         "dt'1970-01-01T00:00:23Z'",

@@ -5,6 +5,7 @@
 mod alone;
 #[cfg(test)]
 mod claims;
+mod cose;
 #[cfg(test)]
 mod embedded;
 #[cfg(test)]

@@ -8,7 +8,8 @@ ghost use Rattle.cbor_edn_parts.specs.Refusals.{IfTold};
 ghost use Rattle.cbor_edn_model.specs.access.Accessed.{map_items};
 ghost use Rattle.cbor_edn_model.specs.tree.Items.{nesting};
 ghost use Rattle.cbor_edn_model.specs.tree.Trees.{items};
-ghost use Rattle.cbor_edn_model.specs.visit.Seeking.{CallArguments, IsApplication, number, prefix_and_text};
+ghost use Rattle.cbor_edn_model.specs.visit.Seeking.{CallArguments, IsApplication, IsTag, number, prefix_and_text};
+ghost use Rattle.cbor_edn_model.specs.visit.Visits.{whole};
 ghost use Rattle.cbor_edn_core.specs.declared.access.TypeMismatch.TheVariants.{Map};
 ghost use Rattle.cbor_edn_core.specs.visit.Callbacks.{answer_of, ending, handler_of, key_answer, IfVisited};
 ghost use Rattle.cbor_edn_core.specs.visit.Sought.{sought_answer};
@@ -18,12 +19,16 @@ ghost use Rattle.cbor_edn_conversions.specs.All.{pretty_all, resolve_all};
 ghost use Rattle.cbor_edn_conversions.specs.Annotations.{comment_lang};
 ghost use Rattle.cbor_edn_conversions.specs.Bignums.{pretty_bignum};
 ghost use Rattle.cbor_edn_conversions.specs.Claims.{claim_key, with_claims};
+ghost use Rattle.cbor_edn_conversions.specs.Cose.{comment_cose};
+ghost use Rattle.cbor_edn_conversions.specs.CoseKeys.{with_key_names};
 ghost use Rattle.cbor_edn_conversions.specs.EmbeddedItems.{show_embedded};
+ghost use Rattle.cbor_edn_conversions.specs.MessageClaims.{message_claims};
 ghost use Rattle.cbor_edn_conversions.specs.Tag999.{to_tag999};
 ghost use Rattle.cbor_edn_conversions.specs.Times.{pretty_time, resolve_time, time_literal};
 ghost use Rattle.cbor_edn_application.specs.Acts.{ActsBy, IsVisited};
+ghost use Rattle.cbor_edn_application.specs.Comments.{CommentsBy};
 ghost use Rattle.cbor_edn_application.specs.Handlers.{at_claim, at_confirmation, at_parameter, AnyWords, AreKeysVisited, FailsForMemory, IsReserved, KeyAnswers, SaysAsErrors, ValueAnswers};
-ghost use Rattle.cbor_edn_application.specs.Sequences.{with_claims_sets, AreClaimsBegun};
+ghost use Rattle.cbor_edn_application.specs.Sequences.{with_claims_sets, with_each, AreClaimsBegun};
 
 use cbor_edn_application::{CcsHandler, CnfHandler, IpVersion, OscHandler};
 use cbor_edn_core::access::TypeMismatch;
@@ -242,4 +247,41 @@ pub fn show_all_embedded(
     ensures { IsVisited IsApplication (show_embedded levels (limit - nesting (items (sequence_tree sequence.old)))) (sequence_tree sequence.old) (ending result) (sequence_tree sequence.new) }
 {
     cbor_edn_application::visits::show_embedded(alloc, levels, limit, sequence)
+}
+
+/// `comment_cose`.
+pub fn comment_cose(alloc: Global, tag: u64, item: &mut Item<'_>) -> Result<(), CallbackError>
+    ensures { CommentsBy comment_cose (number tag) (item_tree item.old) (sought_answer result) (item_tree item.new) }
+{
+    cbor_edn_application::comment_cose(alloc, tag, item)
+}
+
+/// `visits::comment_cose`.
+pub fn comment_messages(alloc: Global, sequence: &mut Sequence<'_>) -> Result<(), AllocError>
+    ensures visited { OnOk result (IsVisited IsTag comment_cose (sequence_tree sequence.old) whole (sequence_tree sequence.new)) }
+    ensures items { items (sequence_tree sequence.new) ≡ items (sequence_tree sequence.old) }
+{
+    cbor_edn_application::visits::comment_cose(alloc, sequence)
+}
+
+/// `comment_claims_keys`.
+pub fn comment_claims_keys(alloc: Global, sequence: &mut Sequence<'_>) -> Result<(), AllocError>
+    ensures keys { OnOk result (sequence_tree sequence.new ≡ with_each with_key_names (sequence_tree sequence.old)) }
+    ensures items { items (sequence_tree sequence.new) ≡ items (sequence_tree sequence.old) }
+{
+    cbor_edn_application::visits::comment_claims_keys(alloc, sequence)
+}
+
+/// `annotate_message`.
+pub fn annotate_message(alloc: Global, tag: u64, item: &mut Item<'_>) -> Result<(), CallbackError>
+    ensures { ActsBy message_claims (number tag) (item_tree item.old) (sought_answer result) (item_tree item.new) }
+{
+    cbor_edn_application::annotate_message(alloc, tag, item)
+}
+
+/// `annotate_messages`.
+pub fn annotate_messages(alloc: Global, sequence: &mut Sequence<'_>) -> Result<(), AllocError>
+    ensures { IsVisited IsTag message_claims (sequence_tree sequence.old) (ending result) (sequence_tree sequence.new) }
+{
+    cbor_edn_application::visits::annotate_messages(alloc, sequence)
 }

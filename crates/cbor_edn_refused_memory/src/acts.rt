@@ -1,8 +1,8 @@
 //! The functions that visits call at literals, tags and values of claims, each called on one item.
 use cbor_edn_application::{
-    CcsHandler, CnfHandler, OscHandler, all_aol_to_item, all_tag_prettify, any_aol_to_tag999,
-    comment_lang_tag, dt_aol_to_item, dt_tag_to_aol, ip_aol_to_item, ip_tag_to_aol, show_embedded,
-    tag23_to_edn_integer,
+    CcsHandler, CnfHandler, OscHandler, all_aol_to_item, all_tag_prettify, annotate_message,
+    any_aol_to_tag999, comment_cose, comment_lang_tag, dt_aol_to_item, dt_tag_to_aol,
+    ip_aol_to_item, ip_tag_to_aol, show_embedded, tag23_to_edn_integer,
 };
 use cbor_edn_core::tree::{Item, NESTING_LIMIT, StandaloneItem};
 use cbor_edn_core::visit::MapValueHandler;
@@ -35,6 +35,8 @@ pub(crate) enum OfTag {
     Bignum,
     All,
     Language,
+    Message,
+    Claims,
 }
 
 /// Calls the function with what the item is, and puts the comment that it answers in front of the item.
@@ -102,5 +104,7 @@ fn act_on_tag(alloc: Global, item: &mut Item<'_>, call: OfTag) -> Result<(), Cal
         OfTag::Bignum => tag23_to_edn_integer(alloc, tag, item),
         OfTag::All => all_tag_prettify(alloc, tag, item),
         OfTag::Language => comment_lang_tag(alloc, tag, item),
+        OfTag::Message => comment_cose(alloc, tag, item),
+        OfTag::Claims => annotate_message(alloc, tag, item),
     }
 }

@@ -65,6 +65,9 @@ pub(crate) enum OfSequence {
     CommentTags(&'static str),
     CommentLanguages,
     AnnotateClaimsSets,
+    AnnotateMessages,
+    CommentClaimsKeys,
+    CommentCose,
     ShowEmbedded,
 }
 
@@ -122,6 +125,9 @@ fn call_sequence(
         OfSequence::CommentTags(comment) => visits::comment_tags(alloc, sequence, comment),
         OfSequence::CommentLanguages => visits::comment_languages(alloc, sequence),
         OfSequence::AnnotateClaimsSets => visits::annotate_claims_sets(alloc, sequence),
+        OfSequence::AnnotateMessages => visits::annotate_messages(alloc, sequence),
+        OfSequence::CommentClaimsKeys => visits::comment_claims_keys(alloc, sequence),
+        OfSequence::CommentCose => visits::comment_cose(alloc, sequence),
         OfSequence::ShowEmbedded => visits::show_embedded(alloc, 8, NESTING_LIMIT, sequence),
     };
     Ok(answer?)

@@ -128,6 +128,44 @@ pub(crate) const VISITS: &[Row] = &[
         ],
     ),
     (
+        "visits::comment_cose",
+        Change::Sequence(OfSequence::CommentCose),
+        &[
+            "98([<<{1: -7}>>, {4: 5}, 6, [[7]]])",
+            "98([<<{1/ alg /: -7}>>, {4: 5}, 6, [[7]]])",
+            "98([<<{1/ alg /: -7/ ES256 /}>>, {4: 5}, 6, [[7]]])",
+            "98([<<{1/ alg /: -7/ ES256 /}>>/ protected /, {4: 5}, 6, [[7]]])",
+            "98([<<{1/ alg /: -7/ ES256 /}>>/ protected /, {4/ kid /: 5}, 6, [[7]]])",
+            "98([<<{1/ alg /: -7/ ES256 /}>>/ protected /, {4/ kid /: 5}/ unprotected /, 6, [[7]]])",
+            "98([<<{1/ alg /: -7/ ES256 /}>>/ protected /, {4/ kid /: 5}/ unprotected /, 6/ payload /, [[7]]])",
+            "98([<<{1/ alg /: -7/ ES256 /}>>/ protected /, {4/ kid /: 5}/ unprotected /, 6/ payload /, [[7/ protected /]]])",
+            "98([<<{1/ alg /: -7/ ES256 /}>>/ protected /, {4/ kid /: 5}/ unprotected /, 6/ payload /, [[7/ protected /]]/ signatures /])",
+            "98([<<{1/ alg /: -7/ ES256 /}>>/ protected /, {4/ kid /: 5}/ unprotected /, 6/ payload /, [[7/ protected /]]/ signatures /])/ COSE_Sign /",
+        ],
+    ),
+    (
+        "comment_claims_keys",
+        Change::Sequence(OfSequence::CommentClaimsKeys),
+        &[
+            "{8: {1: {1: 2, -1: 1}}}, {8: {2: 3}}",
+            "{8: {1/ COSE_Key /: {1: 2, -1: 1}}}, {8: {2: 3}}",
+            "{8: {1/ COSE_Key /: {1/ kty /: 2, -1: 1}}}, {8: {2: 3}}",
+            "{8: {1/ COSE_Key /: {1/ kty /: 2/ EC2 /, -1: 1}}}, {8: {2: 3}}",
+            "{8: {1/ COSE_Key /: {1/ kty /: 2/ EC2 /, -1/ crv /: 1}}}, {8: {2: 3}}",
+            "{8: {1/ COSE_Key /: {1/ kty /: 2/ EC2 /, -1/ crv /: 1/ P-256 /}}}, {8: {2: 3}}",
+            "{8: {1/ COSE_Key /: {1/ kty /: 2/ EC2 /, -1/ crv /: 1/ P-256 /}}}, {8: {2/ Encrypted_COSE_Key /: 3}}",
+        ],
+    ),
+    (
+        "annotate_messages",
+        Change::Sequence(OfSequence::AnnotateMessages),
+        &[
+            "18([1, 2, <<{4: 42}>>, 3]), 17([1, 2, <<{7: 3}>>, 3])",
+            "18([1, 2, <<{4/ exp /: dt'1970-01-01T00:00:42+00:00'}>>, 3]), 17([1, 2, <<{7: 3}>>, 3])",
+            "18([1, 2, <<{4/ exp /: dt'1970-01-01T00:00:42+00:00'}>>, 3]), 17([1, 2, <<{7/ jti /: 3}>>, 3])",
+        ],
+    ),
+    (
         "prettify",
         Change::Sequence(OfSequence::Prettify),
         &[
@@ -222,8 +260,8 @@ pub(crate) const VISITS: &[Row] = &[
     ),
 ];
 
-/// Functions on one item: a refused one leaves it, and so its text, as it was. A comment that it answers is put in front of it. The same
-/// sources.
+/// Functions on one item: a refused one leaves it, and so its text, as it was, but for `comment_cose` and handlers, which may have put
+/// comments. A comment that it answers is put in front of it. The same sources.
 pub(crate) const ACTS: &[Row] = &[
     (
         "dt_aol_to_item",
@@ -293,6 +331,26 @@ pub(crate) const ACTS: &[Row] = &[
         "show_embedded",
         Change::Standalone(OfStandalone::Act(Act::Embedded)),
         &["h'8142a101'_0", "<<[h'a101']>>_0"],
+    ),
+    (
+        "comment_cose",
+        Change::Standalone(OfStandalone::Act(Act::Tag(OfTag::Message))),
+        &[
+            "18([1, {1: 5}])",
+            "18([1/ protected /, {1: 5}])",
+            "18([1/ protected /, {1/ alg /: 5}])",
+            "18([1/ protected /, {1/ alg /: 5# HMAC 256/256\n}])",
+            "18([1/ protected /, {1/ alg /: 5# HMAC 256/256\n}/ unprotected /])",
+            "/ COSE_Sign1 /18([1/ protected /, {1/ alg /: 5# HMAC 256/256\n}/ unprotected /])",
+        ],
+    ),
+    (
+        "annotate_message",
+        Change::Standalone(OfStandalone::Act(Act::Tag(OfTag::Claims))),
+        &[
+            "18([1, 2, <<{8: {1: {1: 4}}}>>])",
+            "18([1, 2, <<{8/ cnf /: {1/ COSE_Key /: {1/ kty /: 4/ Symmetric /}}}>>])",
+        ],
     ),
     (
         "comment_lang_tag, no array",
