@@ -30,7 +30,7 @@ files = record (new_rule (codes "files")) { action = Some Append; value_names = 
 abbrev pub show : ValueParser → ValueParser → App
 show formats annotations =
     with_rules (new_app (codes "show"))
-    (format 105 (codes "input-format") formats ∷ levels ∷ flag (codes "no-embedded") ∷ flag (codes "no-bignum-from-tags") ∷ annotate annotations ∷ max_nesting ∷ files ∷ [])
+    (format 105 (codes "input-format") formats ∷ levels ∷ flag (codes "no-embedded") ∷ flag (codes "no-names") ∷ flag (codes "no-bignum-from-tags") ∷ annotate annotations ∷ max_nesting ∷ files ∷ [])
 
 abbrev pub fmt : App
 fmt = with_rules (new_app (codes "fmt")) (only_lists ∷ flag (codes "remove-comments") ∷ max_nesting ∷ files ∷ [])
@@ -58,6 +58,7 @@ AreLevels rows n = (off : Bool) × IsFlag (codes "no-embedded") rows off
 pub record IsShow (rows : List Row) (o : ShowOptions) : Type 0 where
   pub hex : IsValue (codes "format") (codes "hex") rows o.hex
   pub levels : AreLevels rows o.levels
+  pub names : IsNoFlag (codes "no-names") rows o.names
   pub bignum_from_tags : IsNoFlag (codes "no-bignum-from-tags") rows o.bignum_from_tags
   pub annotate_ccs : IsValue (codes "annotate") (codes "ccs") rows o.annotate_ccs
   pub limit : IsLimit (first_of (codes "max-nesting") rows) o.limit

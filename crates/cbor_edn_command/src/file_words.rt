@@ -107,6 +107,7 @@ fn show_of<'a>(found: &ArgMatches<'a>) -> Result<ShowOptions, Misread<'a>>
     Ok(ShowOptions {
         hex: is_value(found, "format", "hex"),
         levels,
+        names: !is_given(found, "no-names"),
         bignum_from_tags: !is_given(found, "no-bignum-from-tags"),
         annotate_ccs: is_value(found, "annotate", "ccs"),
         limit,
@@ -190,6 +191,7 @@ fn show<'a>(
         .arg(format(alloc, 'i', "input-format", formats))?
         .arg(levels(alloc))?
         .arg(flag(alloc, "no-embedded", embedded))?
+        .arg(flag(alloc, "no-names", "Leave names of COSE out"))?
         .arg(flag(alloc, "no-bignum-from-tags", bignums))?
         .arg(annotate(alloc, annotations))?;
     with_files(alloc, command)
