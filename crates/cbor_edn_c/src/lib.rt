@@ -10,7 +10,7 @@ ghost use Rattle.cbor_edn_c_calls.specs.declared.status.Status.{Status};
 use cbor_edn::CborError;
 use cbor_edn::engine::{RunError, converted};
 use cbor_edn::show::shown;
-use cbor_edn_c_calls::asked::{Asked, asked};
+use cbor_edn_c_calls::asked::{Asked, asked_for};
 use cbor_edn_c_calls::report::Report;
 use cbor_edn_c_calls::room::put_whole;
 use cbor_edn_c_calls::status::{CallFault, Status};
@@ -75,7 +75,7 @@ pub extern "C" fn cbor_edn_convert(
 ) -> u32
     ensures { (s : Status) × (result ≡ status_number s) × Did s command flags limit input.now output.old output.new message.old message.new report.new }
 {
-    let Some(asked) = asked(command, flags, limit) else {
+    let Some(asked) = asked_for(command, flags, limit) else {
         *report = Report::of_output(0);
         return Status::BadCall.number();
     };

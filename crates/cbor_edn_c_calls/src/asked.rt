@@ -119,7 +119,7 @@ pub fn show_options_of(flags: u32, limit: usize) -> Option<ShowOptions>
 }
 
 /// What the three numbers of a call ask for: `show` by 3, else what [`options_of`] says.
-pub fn asked(command: u32, flags: u32, limit: usize) -> Option<Asked>
+pub fn asked_for(command: u32, flags: u32, limit: usize) -> Option<Asked>
     ensures some { IfSome result (IsCallOf command flags limit) }
     ensures none { IsNone result → IsBadCall command flags limit }
 {
