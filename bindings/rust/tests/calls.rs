@@ -124,13 +124,26 @@ fn shows() {
         ("a10400", "{4/ exp /: dt'1970-01-01T00:00:00+00:00'}\n"),
     ];
     for (digits, wanted) in rows {
-        let options = if digits == "d180" { ShowOptions { limit: 2, ..plain } } else { plain };
+        let options = if digits == "d180" {
+            ShowOptions { limit: 2, ..plain }
+        } else {
+            plain
+        };
         assert_eq!(show_with(digits.as_bytes(), &options).unwrap(), wanted);
     }
     assert_eq!(show_with(b"d180", &plain).unwrap_err().kind(), ErrorKind::TooDeep);
-    let deep = ShowOptions { levels: 255, ..ShowOptions::default() };
-    assert_eq!(show_with(b"\x45\x81\x43\x81\x41\x07", &deep).unwrap(), "<<[<<[h'07']>>]>>\n");
-    let above = ShowOptions { limit: NESTING_LIMIT + 1, ..deep };
+    let deep = ShowOptions {
+        levels: 255,
+        ..ShowOptions::default()
+    };
+    assert_eq!(
+        show_with(b"\x45\x81\x43\x81\x41\x07", &deep).unwrap(),
+        "<<[<<[h'07']>>]>>\n"
+    );
+    let above = ShowOptions {
+        limit: NESTING_LIMIT + 1,
+        ..deep
+    };
     assert_eq!(show_with(b"1", &above).unwrap_err().kind(), ErrorKind::InvalidLimit);
 }
 
