@@ -166,6 +166,8 @@ is "show: two come back" "" "$("$program" show a.cbor d/b.cbor | "$program" diag
 run "$program" show c.cbor a.cbor - nofile <<< 4; is "show: faults, status" 1 "$status"; is "show: faults, output" $'/ a.cbor /\n<<{1: -7}>>\n/ <stdin> /\n-21,\n10\n' "$out"
 is "show: faults, told" $'c.cbor: Expected item, out of data\ncbor-edn: nofile: No such file or directory (os error 2)\n' "$err"
 run "$program" show -i hex --no-embedded <<< '43 a1 01 26'; is "show: digits" $'0h\'a10126\'\n' "$status$out$err"
+run "$program" show -i hex <<< 'd1 80'; is "show: names" $'017([])\n/ COSE_Mac0 /\n' "$status$out$err"
+run "$program" show -i hex --no-names <<< 'd1 80'; is "show: no names" $'017([])\n' "$status$out$err"
 run "$program" show -i hex <<< '4'; is "show: no digits" $'1<stdin>: Error decoding hexadecimal input\n' "$status$out$err"
 
 # ---- words

@@ -372,6 +372,8 @@ DEEPEST_SHOWN = [
     ("byte strings", 255, "<<[", "]>>"),
     ("tags of addresses in byte strings", 8, "<<52([", "])>>"),
     ("tags of addresses in byte strings", 255, "<<52([", "])>>"),
+    ("messages in messages", 8, "<<18([h'', {}, ", ", h''])>>"),
+    ("messages in messages", 170, "<<18([h'', {}, ", ", h''])>>"),
 ]
 MOST_TIMES_SHOWN = 10
 

@@ -155,7 +155,7 @@ check_embedded 'pieces of chunks of streams' "(_ 'a', 'b' + <<" 1 ">>, 'c')"
 
 # Byte strings in byte strings, as many levels as `show` shows. Each level is one of what nests, so the text nests twice as deep.
 check_shown() {
-  local name=$1 levels=255
+  local name=$1 levels=${5-255}
   nested "$levels" "$2" "$3" "$4" | under "$LARGE" diag2cbor > "$work/bytes"
   under "$LARGE" show --levels "$levels" < "$work/bytes" > "$work/wanted"
   count "$name: all levels" test "$(grep -o '<<' "$work/wanted" | wc -l)" = "$levels"
@@ -166,6 +166,7 @@ check_shown() {
 check_shown 'byte strings in arrays' '<<[' 1 ']>>'
 check_shown 'byte strings in maps' '<<{1: ' 2 '}>>'
 check_shown 'byte strings in tags of addresses' '<<52(' "h'c0000201'" ')>>'
+check_shown 'messages in messages' "<<18([h'', {}, " 1 ", h''])>>" 170
 
 # Runs a program of tests.
 test_under() {

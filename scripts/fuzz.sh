@@ -6,7 +6,8 @@
 #
 # Without PROGRAM it is the working tree's. COUNT is how many inputs, at least, are made; the same SEED makes the same. Each answer is
 # judged by readers and writers of scripts/fuzz/ that share nothing with the program: an EDN reader and encoder (edn.py), a CBOR reader
-# (cbor.py), the items and comments that flags make (conversions.py, annotations.py) and the spaces of a layout (layout.py). So it is
+# (cbor.py), the items and comments that flags make (conversions.py, annotations.py), embedded CBOR and names of COSE that are shown
+# (embedded.py, cose.py: some 60 byte strings a round hold CBOR, whole or damaged) and the spaces of a layout (layout.py). So it is
 # known which inputs are taken, what diag2cbor and cbor2diag write, which items diag2diag writes and, where it converts none, its whole
 # text; and of what is refused the whole line, but for the place in a text, which is only looked at to be one. Beside that, what is
 # taken comes back: by `diag2diag --preserve-space --no-bignum-from-tags` as the same text, by cbor2diag and diag2cbor as the same bytes; what

@@ -29,6 +29,7 @@ extern "C" {
 #define CBOR_EDN_DIAG2CBOR 0u /* EDN into CBOR */
 #define CBOR_EDN_CBOR2DIAG 1u /* CBOR into EDN */
 #define CBOR_EDN_DIAG2DIAG 2u /* EDN into EDN with other spaces */
+#define CBOR_EDN_SHOW 3u      /* CBOR into EDN, with the CBOR in its byte strings */
 
 /* Flags, which are added up. The steps are taken in this order. */
 #define CBOR_EDN_HEX 1u               /* CBOR stands in hexadecimal digits */
@@ -40,10 +41,15 @@ extern "C" {
 #define CBOR_EDN_APPLY_999 64u        /* literals that mean nothing by themselves become tags 999 */
 #define CBOR_EDN_PRESERVE_SPACE 128u  /* spaces stay as they are, where else items are indented */
 
+/* Flags of CBOR_EDN_SHOW, beside CBOR_EDN_HEX, CBOR_EDN_ANNOTATE_CCS and CBOR_EDN_BIGNUM_FROM_TAGS: it has no others. */
+#define CBOR_EDN_NAMES 256u                       /* COSE messages get their names as comments */
+#define CBOR_EDN_LEVELS(n) (512u * (uint32_t)(n)) /* levels of CBOR in byte strings that are shown, 0 to 255 */
+
 /* The flags that the program's commands set by themselves. */
 #define CBOR_EDN_DIAG2CBOR_FLAGS CBOR_EDN_AOL_TO_ITEM
 #define CBOR_EDN_CBOR2DIAG_FLAGS (CBOR_EDN_ANNOTATE_TAGS | CBOR_EDN_BIGNUM_FROM_TAGS)
 #define CBOR_EDN_DIAG2DIAG_FLAGS CBOR_EDN_BIGNUM_FROM_TAGS
+#define CBOR_EDN_SHOW_FLAGS (CBOR_EDN_BIGNUM_FROM_TAGS | CBOR_EDN_NAMES | CBOR_EDN_LEVELS(8))
 
 /* The highest limit, which is also the program's own. */
 #define CBOR_EDN_NESTING_LIMIT 512u

@@ -6,6 +6,8 @@
 '[1, 31, []]\\n'
 >>> diag2diag('{4: 1700000000}', annotate_ccs=True)
 "{4/ exp /: dt'2023-11-14T22:13:20+00:00'}\\n"
+>>> show(bytes.fromhex('43a10126'))
+'<<{1: -7}>>\\n'
 >>> diag2cbor('[1,\\n  2x]')
 Traceback (most recent call last):
 cbor_edn.ParseError: Error parsing input data: Invalid EDN in line 2 column 4 (byte 7)
@@ -23,18 +25,20 @@ Options are those of the program's commands, with the same defaults:
 - bignum_from_tags: tags 2 and 3 become integers
 - apply_999: literals that mean nothing by themselves become tags 999
 - preserve_space: spaces stay as they are, where else items are indented
+- levels: to how many levels show shows CBOR in byte strings, at most 255
+- names: COSE messages get their names as comments
 - limit: how deep items may nest, at most NESTING_LIMIT
 """
 
 import ctypes
 import os
 
-__all__ = ["diag2cbor", "cbor2diag", "diag2diag", "Error", "ParseError", "DecodeError", "EncodeError", "NESTING_LIMIT"]
+__all__ = ["diag2cbor", "cbor2diag", "diag2diag", "show", "Error", "ParseError", "DecodeError", "EncodeError", "NESTING_LIMIT"]
 
 NESTING_LIMIT = 512
 
 # Commands, flags and statuses of cbor_edn.h.
-_DIAG2CBOR, _CBOR2DIAG, _DIAG2DIAG = range(3)
+_DIAG2CBOR, _CBOR2DIAG, _DIAG2DIAG, _SHOW = range(4)
 _FLAGS = {
     "hex": 1,
     "annotate_tags": 2,
@@ -44,7 +48,10 @@ _FLAGS = {
     "bignum_from_tags": 32,
     "apply_999": 64,
     "preserve_space": 128,
+    "names": 256,
 }
+_LEVEL = 512
+_MOST_LEVELS = 255
 _DONE, _NO_ROOM, _BAD_CALL, _NOT_UTF8, _INVALID_TEXT, _INVALID_CBOR, _INVALID_HEX, _NO_ENCODING, _OUT_OF_MEMORY, _TOO_DEEP = range(10)
 
 # Takes each message.
@@ -131,11 +138,11 @@ def _error(status, message, report):
     return AssertionError(f"status {status}")
 
 
-def _run(command, data, limit, **options):
+def _run(command, data, limit, *, levels=0, **options):
     """Calls once, and again where the output is longer than was guessed. data is no subclass of bytes: that could lie of its length."""
     if not 0 <= limit <= NESTING_LIMIT:
         raise ValueError(f"limit is 0 to {NESTING_LIMIT}")
-    flags = sum(_FLAGS[name] for name, is_on in options.items() if is_on)
+    flags = _LEVEL * levels + sum(_FLAGS[name] for name, is_on in options.items() if is_on)
     message = ctypes.create_string_buffer(_MESSAGE_ROOM)
     report = _Report()
     room = 2 * len(data) + 16
@@ -204,5 +211,22 @@ def diag2diag(
         bignum_from_tags=bignum_from_tags,
         apply_999=apply_999,
         preserve_space=preserve_space,
+    )
+    return shown.decode()
+
+
+def show(cbor, *, hex=False, levels=8, names=True, annotate_ccs=False, bignum_from_tags=True, limit=NESTING_LIMIT):
+    """The text of what bytes encode, with the CBOR in its byte strings and the names of COSE."""
+    if not 0 <= levels <= _MOST_LEVELS:
+        raise ValueError(f"levels is 0 to {_MOST_LEVELS}")
+    shown = _run(
+        _SHOW,
+        memoryview(cbor).tobytes(),
+        limit,
+        levels=levels,
+        hex=hex,
+        names=names,
+        annotate_ccs=annotate_ccs,
+        bignum_from_tags=bignum_from_tags,
     )
     return shown.decode()

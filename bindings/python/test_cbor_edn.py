@@ -10,7 +10,7 @@ import threading
 import unittest
 
 import cbor_edn
-from cbor_edn import NESTING_LIMIT, cbor2diag, diag2cbor, diag2diag
+from cbor_edn import NESTING_LIMIT, cbor2diag, diag2cbor, diag2diag, show
 
 VALUES = os.environ.get("CBOR_EDN_VALUES")
 
@@ -31,6 +31,10 @@ OPTIONS = [
     ("bignum_from_tags", diag2diag, "2(h'010000000000000000')", "18446744073709551616\n", "2(h'010000000000000000')\n"),
     ("apply_999", diag2diag, "foo'bar'", "999([\"foo\", \"bar\"])\n", "foo'bar'\n"),
     ("preserve_space", diag2diag, "[1 /one/,2]", "[1 /one/,2]", "[1/one/, 2]\n"),
+    ("hex", show, b"30", "-17\n", "-20,\n-17\n"),
+    ("names", show, b"\xd1\x80", "17([])/ COSE_Mac0 /\n", "17([])\n"),
+    ("annotate_ccs", show, b"\x43\xa1\x04\x00\xa1\x04\x00", "<<{4: 0}>>,\n{4/ exp /: dt'1970-01-01T00:00:00+00:00'}\n", "<<{4: 0}>>,\n{4: 0}\n"),
+    ("bignum_from_tags", show, BIGNUM, "18446744073709551616\n", "2(h'010000000000000000')\n"),
 ]
 
 # What opens, stands inside and closes.
@@ -71,6 +75,13 @@ class Calls(unittest.TestCase):
         self.assertEqual((diag2cbor(""), cbor2diag(b"")), (b"", ""))
         self.assertEqual(diag2cbor('"\u00e9"'), b"\x62\xc3\xa9")
 
+    def test_levels(self):
+        for levels, shown in [(0, "h'8143814107'"), (1, "<<[h'814107']>>"), (2, "<<[<<[h'07']>>]>>"), (255, "<<[<<[h'07']>>]>>")]:
+            self.assertEqual(show(b"\x45\x81\x43\x81\x41\x07", levels=levels), shown + "\n")
+        for levels in (-1, 256):
+            with self.assertRaises(ValueError):
+                show(b"", levels=levels)
+
     def test_more_room_than_was_guessed(self):
         data = b"\x59\x10\x00" + bytes(4096)
         self.assertEqual(cbor2diag(data), f"h'{'00' * 4096}'\n")
@@ -99,9 +110,13 @@ class Calls(unittest.TestCase):
             cbor2diag(b"123", hex=True)
         with self.assertRaisesRegex(cbor_edn.EncodeError, "Number has no encoding"):
             diag2cbor("1.0")
+        with self.assertRaisesRegex(cbor_edn.DecodeError, "Nested too deeply"):
+            show(b"\x81\x80", limit=1)
         for limit in (-1, NESTING_LIMIT + 1):
             with self.assertRaises(ValueError):
                 diag2cbor("1", limit=limit)
+            with self.assertRaises(ValueError):
+                show(b"", limit=limit)
 
     def test_arguments(self):
         class Long(bytes):
@@ -150,6 +165,9 @@ class Calls(unittest.TestCase):
         for options in [{}, {"annotate_ccs": True}, {"aol_to_item": True}, {"annotate_tags": False, "bignum_from_tags": False}]:
             for data in values:
                 self.assertEqual(diag2cbor(cbor2diag(data, **options)), data, options)
+        for options in [{}, {"annotate_ccs": True}, {"names": False, "levels": 1}]:
+            for data in values:
+                self.assertEqual(diag2cbor(show(data, **options)), data, options)
 
 
 def load_tests(loader, tests, ignore):

@@ -7,7 +7,7 @@ import ctypes
 import os
 import unittest
 
-from cbor_edn import cbor2diag, diag2cbor, diag2diag
+from cbor_edn import cbor2diag, diag2cbor, diag2diag, show
 
 LIBRARY = ctypes.CDLL(os.environ["CBOR_EDN_LIBRARY"])
 LIBRARY.cbor_edn_refuse.argtypes = [ctypes.c_long]
@@ -16,12 +16,19 @@ LIBRARY.cbor_edn_blocks_left.restype = ctypes.c_long
 
 TEXT = "{4: 1(0), 8: {4: {3: -17}}} , [_ h'00', <<dt'1970-01-01T00:00:23Z'>>]"
 
+MESSAGE = bytes.fromhex("d28443a10126a043a1040040")
+
 BYTES = bytes.fromhex("a204c10008a104a103309f4100c249010000000000000000ff")
 
 
 class Refused(unittest.TestCase):
     def test_each_allocation(self):
-        rows = [(diag2cbor, TEXT, {}), (cbor2diag, BYTES, {"annotate_ccs": True}), (diag2diag, TEXT, {"annotate_tags": True})]
+        rows = [
+            (diag2cbor, TEXT, {}),
+            (cbor2diag, BYTES, {"annotate_ccs": True}),
+            (diag2diag, TEXT, {"annotate_tags": True}),
+            (show, MESSAGE, {"annotate_ccs": True}),
+        ]
         for call, given, options in rows:
             LIBRARY.cbor_edn_refuse(-1)
             wanted = call(given, **options)

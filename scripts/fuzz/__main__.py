@@ -16,12 +16,14 @@ CHECKS_OF_A_SHRINK = 1500
 MOST_SHRINKS = 3
 # Of a round: inputs of each kind.
 VALUES, OTHERS, DAMAGED, ENCODINGS, DAMAGED_ENCODINGS, DIGITS = 12, 6, 10, 12, 8, 2
+# byte strings of a round that hold CBOR, whole and damaged, in one input
+NESTINGS = 60
 ROUND = VALUES + OTHERS + DAMAGED + ENCODINGS + 2 * DAMAGED_ENCODINGS + DIGITS
 LARGE = 1 << 16
 LARGE_EVERY = 50
 DEEP_EVERY = 25
 DIAG2DIAG = ["--annotate-tags", "--apply-999", "--aol-to-item", "--no-bignum-from-tags", "--annotate=ccs", "--remove-comments", "--preserve-space"]
-SHOW = ["--no-bignum-from-tags", "--annotate=ccs"]
+SHOW = ["--no-bignum-from-tags", "--annotate=ccs", "--no-names"]
 LEVELS = [["--no-embedded"], ["--levels=0"], ["--levels=1"], ["--levels=2"], ["--levels=255"], [], [], [], [], []]
 CBOR2DIAG = ["--no-annotate-tags", "--aol-to-item", "--no-bignum-from-tags", "--annotate=ccs"]
 FORMATS = [[], [], ["-o", "hex"], ["-ohex"], ["--output-format=hex"], ["-o", "binary"], ["--output-format", "auto"]]
@@ -90,6 +92,7 @@ class Inputs:
             raise runs.Problem(f"these scripts refuse {data.hex()}")
         self.add(laws.decode, data, self.some(CBOR2DIAG), ENCODINGS)
         self.add_shown(data, 0)
+        self.add_shown(b"".join(encodings.embedded(self.rng.randrange(1, 4)) for _ in range(NESTINGS)), 0)
         if self.rng.randrange(4) == 0:
             self.add(laws.decode_digits, generate.digits(self.rng, data), self.some(CBOR2DIAG))
         for _ in range(DAMAGED_ENCODINGS):

@@ -376,7 +376,9 @@ class Bytes:
 
     def item(self, depth):
         rng = self.rng
-        kind = rng.randrange(13 if depth else 7)
+        kind = rng.randrange(14 if depth else 7)
+        if kind == 13:
+            return self.message(depth)
         if kind == 12:
             return self.embedded(depth)
         if kind < 2:
@@ -405,10 +407,44 @@ class Bytes:
 
     def embedded(self, depth):
         """A byte string that holds an item, or a sequence, whole or damaged."""
-        content = self.items(depth - 1, self.rng.choice([1, 1, 1, 1, 0, 2]))
+        return self.holding(self.items(depth - 1, self.rng.choice([1, 1, 1, 1, 0, 2])))
+
+    def holding(self, content):
+        """A byte string with this content, or with what damage leaves of it."""
         if self.rng.randrange(8) == 0:
             content = damaged(self.rng, content)
         return self.head(2, len(content)) + content
+
+    def message(self, depth):
+        """A message of COSE, or what is nearly one, in the tag of CWT now and then."""
+        rng = self.rng
+        return (b"" if rng.randrange(4) else self.head(6, 61)) + self.head(6, rng.choice([16, 17, 18, 18, 18, 96, 97, 98])) + self.structure(depth)
+
+    def structure(self, depth):
+        rng = self.rng
+        parts = [
+            self.holding(self.header()) if rng.randrange(8) else self.header(),
+            self.header() if rng.randrange(8) else self.item(0),
+            rng.choice([lambda: self.holding(self.claims(depth)), lambda: self.holding(self.claims(depth)), lambda: self.item(0), lambda: b"\xf6"])(),
+            self.string(2) if rng.randrange(2) else self.structures(depth),
+            self.structures(depth),
+            self.item(0),
+        ]
+        return self.array(parts) if rng.randrange(3) == 0 else self.head(4, 4) + b"".join(parts[:4])
+
+    def structures(self, depth):
+        count = self.rng.randrange(3) if depth > 1 else 0
+        return self.head(4, count) + b"".join(self.structure(depth - 1) for _ in range(count))
+
+    def header(self):
+        return self.keys([*range(9), 1, 1, 1, 32, 33, 34, 35, 36], lambda: self.algorithm() if self.rng.randrange(4) else self.item(0))
+
+    def key(self):
+        """A key of COSE, or what is nearly one."""
+        rng = self.rng
+        labels = [1, *(rng.randrange(-5, 7) for _ in range(rng.randrange(5)))]
+        rng.shuffle(labels)
+        return self.head(5, len(labels)) + b"".join(self.integer(label) + (self.integer(rng.randrange(-8, 9)) if rng.randrange(4) else self.item(0)) for label in labels)
 
     def known_tag(self):
         rng = self.rng
@@ -442,9 +478,11 @@ class Bytes:
         keys = [self.string(3) if rng.randrange(8) == 0 else self.head(0, rng.choice(numbers)) for _ in range(rng.randrange(5))]
         return self.head(5, len(keys)) + b"".join(key + value() for key in keys)
 
-    def algorithm(self):
-        number = self.rng.randrange(-20, 26)
+    def integer(self, number):
         return self.head(0, number) if number >= 0 else self.head(1, -1 - number)
+
+    def algorithm(self):
+        return self.integer(self.rng.randrange(-38, 36))
 
     def claims(self, depth):
         rng = self.rng
@@ -456,6 +494,8 @@ class Bytes:
             if key == 8 and rng.randrange(4):
                 oscore = lambda: self.keys(range(8), lambda: self.algorithm() if rng.randrange(4) else self.item(0))  # noqa: E731
                 value = self.keys([2, 3, 4, 4, 4, 4], lambda: oscore() if rng.randrange(4) else self.item(0))
+                if rng.randrange(2):
+                    value = self.head(5, 1) + self.head(0, rng.choice([1, 1, 1, 2])) + self.key()
             entries += self.head(0, key) + value
         return self.head(5, count) + entries
 

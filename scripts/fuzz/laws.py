@@ -5,6 +5,7 @@ import re
 import annotations
 import cbor
 import conversions
+import cose
 import edn
 import embedded
 import layout
@@ -171,7 +172,7 @@ def decode(data, limit, flags):
 
 
 def show(data, limit, flags):
-    """`show` writes the text with what byte strings hold, or tells the first fault; `diag2cbor` gives the bytes back."""
+    """`show` writes the text with what byte strings hold, and with names, or tells the first fault; `diag2cbor` gives the bytes back."""
     items, words = cbor.read(data, limit)
     ended = run(["show", *flags, *limited(limit)], data)
     if items is None:
@@ -180,8 +181,13 @@ def show(data, limit, flags):
     if ended.status != 0:
         raise Problem(f"the bytes are of the scope: {ended}")
     expect(written(data), run(["diag2cbor", *limited(limit)], ended.output))
-    items = annotations.annotated(embedded.shown(items, levels(flags), limit), *steps(flags, True))
-    expect(written(layout.laid_out(",".join(map(layout.text_of, items))).encode()), ended)
+    _, _, claims, bignums = steps(flags, True)
+    items = cose.shown(embedded.shown(items, levels(flags), limit), claims, "--no-names" not in flags, bignums)
+    expect(written(with_line_feed(layout.laid_out(",".join(map(layout.text_of, items)))).encode()), ended)
+
+
+def with_line_feed(text):
+    return text if text[-1:] in ("", "\n") else text + "\n"
 
 
 def levels(flags):
@@ -199,8 +205,7 @@ def lay_out_file(data, limit, flags):
         return
     if "--remove-comments" in flags:
         text = layout.without_comments(text)
-    text = layout.laid_out(text)
-    expect(written((text if text[-1:] in ("", "\n") else text + "\n").encode()), ended)
+    expect(written(with_line_feed(layout.laid_out(text)).encode()), ended)
     expect(ended, run(["fmt", *flags, *limited(limit)], ended.output))
 
 

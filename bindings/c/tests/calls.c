@@ -62,6 +62,16 @@ static const Done DONE[] = {
     {"what cbor2diag sets", 1, CBOR_EDN_CBOR2DIAG_FLAGS, 512, TEXT("\xc1\x00\xc2\x49\x01\0\0\0\0\0\0\0\0"),
      TEXT("DT'1970-01-01T00:00:00+00:00',\n18446744073709551616\n")},
     {"what diag2diag sets", 2, CBOR_EDN_DIAG2DIAG_FLAGS, 512, TEXT("2(h'010000000000000000')"), TEXT("18446744073709551616\n")},
+    {"show, nothing asked", 3, 0, 512, TEXT("\x43\xa1\x01\x26"), TEXT("h'a10126'\n")},
+    {"levels", 3, CBOR_EDN_LEVELS(1), 512, TEXT("\x45\x81\x43\x81\x41\x07"), TEXT("<<[h'814107']>>\n")},
+    {"255 levels from digits", 3, CBOR_EDN_LEVELS(255) | CBOR_EDN_HEX, 512, TEXT("458143814107"), TEXT("<<[<<[h'07']>>]>>\n")},
+    {"names", 3, CBOR_EDN_NAMES, 512, TEXT("\xd1\x80"), TEXT("17([])/ COSE_Mac0 /\n")},
+    {"show, a bignum", 3, CBOR_EDN_BIGNUM_FROM_TAGS, 512, TEXT("\xc2\x49\x01\0\0\0\0\0\0\0\0"),
+     TEXT("18446744073709551616\n")},
+    {"show, claims", 3, CBOR_EDN_ANNOTATE_CCS, 512, TEXT("\xa1\x04\x00"),
+     TEXT("{4/ exp /: dt'1970-01-01T00:00:00+00:00'}\n")},
+    {"what show sets", 3, CBOR_EDN_SHOW_FLAGS, 512, TEXT("\xc1\x00\x43\xa1\x01\x26"),
+     TEXT("DT'1970-01-01T00:00:00+00:00',\n<<{1: -7}>>\n")},
     {"as deep as the limit", 0, 0, 2, TEXT("[[]]"), TEXT("\x81\x80")},
     {"no depth", 0, 0, 0, TEXT("1"), TEXT("\x01")},
 };
@@ -80,6 +90,12 @@ static const Fault FAULTS[] = {
      "Error parsing input data: EDN nested too deeply in line 2 column 1 (byte 2)"},
     {"too deep bytes", 1, 0, 1, TEXT("\x81\x81\x01"), CBOR_EDN_TOO_DEEP, 0, 0, 0,
      "Error decoding input data: Nested too deeply"},
+    {"show, bytes that end early", 3, CBOR_EDN_SHOW_FLAGS, 512, TEXT("\x83\x01"), CBOR_EDN_INVALID_CBOR, 0, 0, 0,
+     "Error decoding input data: Expected item, out of data"},
+    {"show, too deep bytes", 3, CBOR_EDN_SHOW_FLAGS, 1, TEXT("\x81\x81\x01"), CBOR_EDN_TOO_DEEP, 0, 0, 0,
+     "Error decoding input data: Nested too deeply"},
+    {"show, no digit", 3, CBOR_EDN_SHOW_FLAGS | CBOR_EDN_HEX, 512, TEXT("1g"), CBOR_EDN_INVALID_HEX, 0, 0, 0,
+     "Error decoding hexadecimal input"},
     {"half a digit pair", 1, CBOR_EDN_HEX, 512, TEXT("123"), CBOR_EDN_INVALID_HEX, 0, 0, 0, "Error decoding hexadecimal input"},
     {"no digit", 1, CBOR_EDN_HEX, 512, TEXT("1g"), CBOR_EDN_INVALID_HEX, 0, 0, 0, "Error decoding hexadecimal input"},
     {"no encoding", 0, 0, 512, TEXT("1.0"), CBOR_EDN_NO_ENCODING, 0, 0, 0,
@@ -158,7 +174,7 @@ static void check_bad_call(const char *name, uint32_t command, uint32_t flags, s
 /* NULL with length 0, as callers write an empty input and no room. */
 static void check_null(void) {
   static const char text[] = "[1]";
-  for (uint32_t command = 0; command < 3; command++) {
+  for (uint32_t command = 0; command < 4; command++) {
     call(command, 0, 512, NULL, 0, ROOM, MESSAGE);
     count("no input", "the output", report.output_len == 0 && all_are(output, 0, ROOM, OLD_OUTPUT) && tells_no_fault());
     uint32_t status = cbor_edn_convert(command, 0, 512, NULL, 0, NULL, 0, NULL, 0, &report);
@@ -176,10 +192,14 @@ int main(void) {
   for (size_t i = 0; i < sizeof DONE / sizeof *DONE; i++) check_done(&DONE[i]);
   for (size_t i = 0; i < sizeof FAULTS / sizeof *FAULTS; i++) check_fault(&FAULTS[i]);
   check_null();
-  check_bad_call("command 3", 3, 0, 512);
+  check_bad_call("command 4", 4, 0, 512);
   check_bad_call("the highest command", UINT32_MAX, 0, 512);
   check_bad_call("flag 256", 0, 256, 512);
   check_bad_call("all bits", 0, UINT32_MAX, 512);
+  check_bad_call("show, annotate_tags", 3, CBOR_EDN_ANNOTATE_TAGS, 512);
+  check_bad_call("show, preserve_space", 3, CBOR_EDN_SHOW_FLAGS | CBOR_EDN_PRESERVE_SPACE, 512);
+  check_bad_call("256 levels", 3, CBOR_EDN_LEVELS(256), 512);
+  check_bad_call("show, limit 513", 3, CBOR_EDN_SHOW_FLAGS, CBOR_EDN_NESTING_LIMIT + 1);
   check_bad_call("limit 513", 0, 0, CBOR_EDN_NESTING_LIMIT + 1);
   check_bad_call("the highest limit", 0, 0, SIZE_MAX);
   printf("%d passed, %d failed\n", passed, failed);

@@ -26,6 +26,8 @@ static const Row ROWS[] = {
     {"cbor2diag", 1, CBOR_EDN_CBOR2DIAG_FLAGS | CBOR_EDN_ANNOTATE_CCS,
      TEXT("\xa2\x04\xc1\x00\x08\xa1\x04\xa1\x03\x30\x9f\x41\x00\xc2\x49\x01\0\0\0\0\0\0\0\0\xff"), CBOR_EDN_DONE},
     {"cbor2diag of digits", 1, CBOR_EDN_HEX, TEXT("83 01 18 1f 80"), CBOR_EDN_DONE},
+    {"show", 3, CBOR_EDN_SHOW_FLAGS | CBOR_EDN_ANNOTATE_CCS, TEXT("\xd2\x84\x43\xa1\x01\x26\xa0\x43\xa1\x04\x00\x40"),
+     CBOR_EDN_DONE},
     {"diag2diag", 2, 255 - CBOR_EDN_PRESERVE_SPACE, Y, sizeof Y - 1, CBOR_EDN_DONE},
     {"a fault of a text", 0, 0, TEXT("[1, {2: h'00'}, x]"), CBOR_EDN_INVALID_TEXT},
     {"a fault of bytes", 1, 0, TEXT("\x83\x01\x43"), CBOR_EDN_INVALID_CBOR},

@@ -1,6 +1,6 @@
 //! The one call of the library.
 
-use crate::{Command, Error, ErrorKind, Options, Place};
+use crate::{Command, Error, ErrorKind, Options, Place, ShowOptions};
 
 // As in `cbor_edn.h`.
 #[repr(C)]
@@ -42,8 +42,15 @@ fn number_of(command: Command) -> u32 {
     }
 }
 
+const SHOW: u32 = 3;
+
+// The first flag is the lowest bit.
+fn sum(flags: &[bool]) -> u32 {
+    (0..).zip(flags).map(|(bit, flag)| u32::from(*flag) << bit).sum()
+}
+
 fn flags_of(options: &Options) -> u32 {
-    let flags = [
+    sum(&[
         options.hex,
         options.annotate_tags,
         options.remove_comments,
@@ -52,8 +59,22 @@ fn flags_of(options: &Options) -> u32 {
         options.bignum_from_tags,
         options.apply_999,
         options.preserve_space,
-    ];
-    (0..).zip(flags).map(|(bit, flag)| u32::from(flag) << bit).sum()
+    ])
+}
+
+fn show_flags_of(options: &ShowOptions) -> u32 {
+    let flags = sum(&[
+        options.hex,
+        false,
+        false,
+        false,
+        options.annotate_ccs,
+        options.bignum_from_tags,
+        false,
+        false,
+        options.names,
+    ]);
+    flags + 512 * u32::from(options.levels)
 }
 
 fn kind_of(status: u32) -> ErrorKind {
@@ -86,8 +107,16 @@ fn error_of(status: u32, report: &Report, message: &[u8]) -> Error {
     Error { kind, place, message }
 }
 
-/// Calls once, and again where the output is longer than was guessed.
 pub fn convert(command: Command, options: &Options, input: &[u8]) -> Result<Vec<u8>, Error> {
+    call(number_of(command), flags_of(options), options.limit, input)
+}
+
+pub fn show(options: &ShowOptions, input: &[u8]) -> Result<Vec<u8>, Error> {
+    call(SHOW, show_flags_of(options), options.limit, input)
+}
+
+/// Calls once, and again where the output is longer than was guessed.
+fn call(command: u32, flags: u32, limit: usize, input: &[u8]) -> Result<Vec<u8>, Error> {
     let mut output: Vec<u8> = Vec::with_capacity(input.len().saturating_mul(2).saturating_add(16));
     let mut message = [0; MESSAGE_ROOM];
     let mut report = Report::default();
@@ -97,9 +126,9 @@ pub fn convert(command: Command, options: &Options, input: &[u8]) -> Result<Vec<
         // capacity may stand for its length.
         let status = unsafe {
             cbor_edn_convert(
-                number_of(command),
-                flags_of(options),
-                options.limit,
+                command,
+                flags,
+                limit,
                 input.as_ptr(),
                 input.len(),
                 output.as_mut_ptr(),

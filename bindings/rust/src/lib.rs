@@ -103,6 +103,47 @@ impl Options {
     }
 }
 
+/// How CBOR is shown.
+///
+/// Begin with what the program `cbor-edn show` does without flags:
+///
+/// ```
+/// use cbor_edn_verified::{show_with, ShowOptions};
+///
+/// let options = ShowOptions { levels: 1, ..ShowOptions::default() };
+/// let text = show_with(&[0x45, 0x81, 0x43, 0x81, 0x41, 0x07], &options).unwrap();
+/// assert_eq!(text, "<<[h'814107']>>\n");
+/// ```
+#[derive(Clone, Copy, Debug, PartialEq, Eq)]
+pub struct ShowOptions {
+    /// The input is hexadecimal digits of CBOR.
+    pub hex: bool,
+    /// To how many levels byte strings that hold CBOR are shown, as `<<{1: -7}>>` in the place of `h'a10126'`.
+    pub levels: u8,
+    /// COSE messages get their names as comments, and those of their parts, header parameters and algorithms.
+    pub names: bool,
+    /// Bignums become integers, as `18446744073709551616` in the place of `2(h'010000000000000000')`.
+    pub bignum_from_tags: bool,
+    /// Each item of the sequence that is a map is taken for the claims set of a CWT, and so is a map that is shown as the payload of a
+    /// COSE message: both get comments.
+    pub annotate_ccs: bool,
+    /// How deep items may nest, at most [`NESTING_LIMIT`].
+    pub limit: usize,
+}
+
+impl Default for ShowOptions {
+    fn default() -> ShowOptions {
+        ShowOptions {
+            hex: false,
+            levels: 8,
+            names: true,
+            bignum_from_tags: true,
+            annotate_ccs: false,
+            limit: NESTING_LIMIT,
+        }
+    }
+}
+
 /// What is at fault.
 #[derive(Clone, Copy, Debug, PartialEq, Eq)]
 #[non_exhaustive]
@@ -216,4 +257,14 @@ pub fn diag2diag(edn: &str) -> Result<String, Error> {
 /// The same by other options.
 pub fn diag2diag_with(edn: &str, options: &Options) -> Result<String, Error> {
     convert(Command::Diag2Diag, edn.as_bytes(), options).map(text)
+}
+
+/// The text of what bytes encode, with the CBOR in its byte strings and the names of COSE.
+pub fn show(cbor: &[u8]) -> Result<String, Error> {
+    show_with(cbor, &ShowOptions::default())
+}
+
+/// The same by other options. With `hex` the input is digits.
+pub fn show_with(cbor: &[u8], options: &ShowOptions) -> Result<String, Error> {
+    call::show(options, cbor).map(text)
 }

@@ -1,8 +1,8 @@
 //! What each option does, what is told of faults, and eight threads at once.
 
 use cbor_edn_verified::{
-    cbor2diag, cbor2diag_with, convert, diag2cbor, diag2cbor_with, diag2diag, diag2diag_with, Command, Error,
-    ErrorKind, Options, Place, NESTING_LIMIT,
+    cbor2diag, cbor2diag_with, convert, diag2cbor, diag2cbor_with, diag2diag, diag2diag_with, show, show_with, Command,
+    Error, ErrorKind, Options, Place, ShowOptions, NESTING_LIMIT,
 };
 
 const BIGNUM: &[u8] = b"\xc2\x49\x01\0\0\0\0\0\0\0\0";
@@ -101,6 +101,50 @@ fn what_commands_do_by_themselves() {
     assert_eq!(diag2diag("[1 /one/,2]").unwrap(), "[1/one/, 2]\n");
     assert_eq!(diag2cbor("").unwrap(), b"");
     assert_eq!(cbor2diag(b"").unwrap(), "");
+}
+
+#[test]
+fn shows() {
+    assert_eq!(show(b"\x43\xa1\x01\x26").unwrap(), "<<{1: -7}>>\n");
+    assert_eq!(show(b"\xd1\x80").unwrap(), "17([])/ COSE_Mac0 /\n");
+    assert_eq!(show(BIGNUM).unwrap(), "18446744073709551616\n");
+    assert_eq!(show(b"").unwrap(), "");
+    let plain = ShowOptions {
+        hex: true,
+        levels: 0,
+        names: false,
+        bignum_from_tags: false,
+        annotate_ccs: true,
+        limit: 1,
+    };
+    let rows = [
+        ("43a10126", "h'a10126'\n"),
+        ("d180", "17([])\n"),
+        ("c240", "2(h'')\n"),
+        ("a10400", "{4/ exp /: dt'1970-01-01T00:00:00+00:00'}\n"),
+    ];
+    for (digits, wanted) in rows {
+        let options = if digits == "d180" {
+            ShowOptions { limit: 2, ..plain }
+        } else {
+            plain
+        };
+        assert_eq!(show_with(digits.as_bytes(), &options).unwrap(), wanted);
+    }
+    assert_eq!(show_with(b"d180", &plain).unwrap_err().kind(), ErrorKind::TooDeep);
+    let deep = ShowOptions {
+        levels: 255,
+        ..ShowOptions::default()
+    };
+    assert_eq!(
+        show_with(b"\x45\x81\x43\x81\x41\x07", &deep).unwrap(),
+        "<<[<<[h'07']>>]>>\n"
+    );
+    let above = ShowOptions {
+        limit: NESTING_LIMIT + 1,
+        ..deep
+    };
+    assert_eq!(show_with(b"1", &above).unwrap_err().kind(), ErrorKind::InvalidLimit);
 }
 
 #[test]

@@ -4,10 +4,12 @@ mod Formatted
 mod KeptTags
 mod LineFeeds
 mod Loading
+mod MessageNestings
 mod RecodedTexts
 mod Returns
 mod RunsOnce
 mod ShowNesting
+mod ShowSteps
 mod Shown
 mod ShownNesting
 mod StepsKept

@@ -28,10 +28,10 @@ use Rattle.cbor_edn.proofs.StepsKept.{AnnotatesTags, ResolvesLiterals}
 
 -- ---- steps
 
-abbrev Once : Step → Type 0
+abbrev pub Once : Step → Type 0
 Once P = (w v u : Tree Seq) → P w v → P w u → v ≡ u
 
-where_once : (b : Bool) (P : Step) → Once P → Once (Where b P)
+pub where_once : (b : Bool) (P : Step) → Once P → Once (Where b P)
 where_once true P once w v u a b = once w v u a b
 where_once false P once w v u a b = a ∙ sym b
 
@@ -39,16 +39,16 @@ where_once false P once w v u a b = a ∙ sym b
 next : (P : Step) → Once P → (w x v u : Tree Seq) → w ≡ x → P w v → P x u → v ≡ u
 next P once w x v u same a b = once x v u (subst (λ t. P t v) same a) b
 
-turn_once : (P Q : Step) → Once P → Once Q → Once (InTurn P Q)
+pub turn_once : (P Q : Step) → Once P → Once Q → Once (InTurn P Q)
 turn_once P Q p q w v u a b = next Q q a.0 b.0 v u (p w a.0 b.0 a.1 b.1) a.2 b.2
 
-tags_visited_once : (act : Act) → Once (TagsVisited act)
+pub tags_visited_once : (act : Act) → Once (TagsVisited act)
 tags_visited_once act w v u a b = (tags_once act).1 w v u a b
 
 literals_visited_once : (act : Act) → Once (LiteralsVisited act)
 literals_visited_once act w v u a b = (literals_once act).1 w v u a b
 
-annotated_once : Once AnnotatesTags
+pub annotated_once : Once AnnotatesTags
 annotated_once =
     turn_once (TagsVisited pretty_address) (InTurn (TagsVisited pretty_time) (TagsVisited comment_lang)) (tags_visited_once pretty_address)
     (turn_once (TagsVisited pretty_time) (TagsVisited comment_lang) (tags_visited_once pretty_time) (tags_visited_once comment_lang))
@@ -56,7 +56,7 @@ annotated_once =
 resolved_once : Once ResolvesLiterals
 resolved_once = turn_once (LiteralsVisited resolve_address) (LiteralsVisited resolve_time) (literals_visited_once resolve_address) (literals_visited_once resolve_time)
 
-claims_once : Once HasClaims
+pub claims_once : Once HasClaims
 claims_once w v u a b = a ∙ sym b
 
 pub steps_give_once : StepsGiveOnce

@@ -1,35 +1,49 @@
 -- What is shown, as the calls answer it, and its laws.
-use Rattle.std.proofs.Common.{◌≡◌, ℕ, List, refl, sym, subst, ◌∙◌}
-use Rattle.std.specs.Prelude.{◌-◌, Result, Ok, Err, IfOk, OnOk}
+use Rattle.std.proofs.Common.{◌≡◌, ℕ, List, sym, ap, subst, ◌∙◌}
+use Rattle.std.specs.Prelude.{◌-◌, not, Result, Ok, Err, IfOk, OnOk}
+use Rattle.std.specs.Str.{IsUtf8}
 use Rattle.std.specs.declared.alloc.AllocError.{AllocError}
 use Rattle.std.specs.declared.alloc.Global.{Global}
 use Rattle.std.specs.declared.vec.Vec.{Vec}
 use Rattle.cbor_edn_core.specs.tree.View.{Sequence, sequence_tree}
 use Rattle.cbor_edn_core.specs.visit.Callbacks.{ending}
+use Rattle.cbor_edn_core.proofs.lemmas.text.Printable.{sequence_valid}
+use Rattle.cbor_edn_parts.specs.Spacing.{indented}
+use Rattle.cbor_edn_model.specs.cbor.Value.{Values}
 use Rattle.cbor_edn_model.specs.tree.Items.{nesting}
-use Rattle.cbor_edn_model.specs.tree.Trees.{Tree, Seq, items}
-use Rattle.cbor_edn_model.specs.visit.Seeking.{IsApplication}
+use Rattle.cbor_edn_model.specs.text.Spelling.{SpellsSequence}
+use Rattle.cbor_edn_model.specs.tree.Trees.{Tree, Seq, Valid, items, text}
+use Rattle.cbor_edn_model.specs.visit.Seeking.{IsTag, IsApplication}
+use Rattle.cbor_edn_model.specs.visit.Visits.{whole}
+use Rattle.cbor_edn_model.proofs.lemmas.layout.Layouts.{stays_valid}
+use Rattle.cbor_edn_model.proofs.lemmas.text.Tested.{valid}
 use Rattle.cbor_edn_conversions.specs.EmbeddedItems.{show_embedded}
+use Rattle.cbor_edn_conversions.specs.MessageClaims.{message_claims}
 use Rattle.cbor_edn_conversions.specs.Resolvers.{literal_resolver}
 use Rattle.cbor_edn_conversions.proofs.conversions.Literals.{all_applications, all_no_content}
+use Rattle.cbor_edn_conversions.proofs.conversions.MessagesKept.{message_claims_keep}
 use Rattle.cbor_edn_conversions.proofs.embedded.ShownMeanings.{shown_means}
 use Rattle.cbor_edn_conversions.proofs.embedded.ShownVisits.{shown_at_once}
 use Rattle.cbor_edn_conversions.proofs.resolving.Resolved.{more_means}
 use Rattle.cbor_edn_application.specs.Acts.{IsVisited}
+use Rattle.cbor_edn_application.proofs.VisitsTurn.{visit_keeps}
 use Rattle.cbor_edn_command.specs.FileOptions.{show_steps}
 use Rattle.cbor_edn_command.specs.Hexadecimal.{input_bytes}
 use Rattle.cbor_edn_command.specs.declared.options.Options.{Options}
 use Rattle.cbor_edn_command.specs.declared.file_options.ShowOptions.{ShowOptions}
+use Rattle.cbor_edn.specs.Format.{ended, is_ended}
 use Rattle.cbor_edn.specs.RunLaws.{Encodes, Fault, NoText, NoItems, NoEncodings, NoDigits, NoMeaning}
-use Rattle.cbor_edn.specs.RunSteps.{StepsGive}
+use Rattle.cbor_edn.specs.RunSteps.{Where, IsLaidOut, TagsVisited}
 use Rattle.cbor_edn.specs.Runs.{IsDecodedAs, IsOutput, IsPrintedAs}
-use Rattle.cbor_edn.specs.Show.{AreShown, EmbeddedShown, IsShown, ShowGives}
+use Rattle.cbor_edn.specs.Show.{AreShown, EmbeddedShown, IsShown, IsWritten, ShowGives}
 use Rattle.cbor_edn.specs.ShowLaws.{ShownOnce, ShownOrFault, ShownReadsBack}
 use Rattle.cbor_edn.proofs.Faults.{Faulty, faulty, digits_or_none}
-use Rattle.cbor_edn.proofs.Returns.{printed_again}
-use Rattle.cbor_edn.proofs.RunsOnce.{decoded_once, ok_same, one_output, steps_give_once}
+use Rattle.cbor_edn.proofs.LineFeeds.{spelled_ended, utf8_ended}
+use Rattle.cbor_edn.proofs.Returns.{printed_spells, spelled_again}
+use Rattle.cbor_edn.proofs.RunsOnce.{decoded_once, ok_same, one_output}
 use Rattle.cbor_edn.proofs.ShowNesting.{shown_within}
-use Rattle.cbor_edn.proofs.StepsKept.{Means, steps_keep}
+use Rattle.cbor_edn.proofs.ShowSteps.{KeptByShow, gives_kept, gives_once}
+use Rattle.cbor_edn.proofs.StepsKept.{Keeps, Means, means_kept, tags_kept}
 
 -- ---- what the calls answer
 
@@ -39,13 +53,22 @@ visited_shown levels limit w v (Ok u) h = (shown_at_once levels (limit - nesting
 visited_shown levels limit w v (Err e) h = tt
 
 -- what is printed behind it
-abbrev pub IsShownOf : ShowOptions → Tree Seq → List ℕ → Type 0
-IsShownOf s w out = (v : Tree Seq) × ShowGives s w v × IsPrintedAs v out
+abbrev pub IsPrintedOf : ShowOptions → Tree Seq → List ℕ → Type 0
+IsPrintedOf s w out = (v : Tree Seq) × ShowGives s w v × IsPrintedAs v out
 
-pub shown_text : (s : ShowOptions) (o : Options) (w u : Tree Seq) (r : Result (Vec ℕ Global) AllocError) → o ≡ show_steps s → EmbeddedShown s.levels s.limit w u
-    → IfOk r (λ out. (v : Tree Seq) × StepsGive o u v × IsPrintedAs v out.items) → IfOk r (λ out. IsShownOf s w out.items)
-shown_text s o w u (Ok out) is shown (v, steps, printed) = (v, (u, shown, subst (λ (o : Options). StepsGive o u v) is steps), printed)
-shown_text s o w u (Err e) is shown printed = tt
+abbrev pub IsShownOf : ShowOptions → Tree Seq → List ℕ → Type 0
+IsShownOf s w out = (v : Tree Seq) × ShowGives s w v × IsWritten v out
+
+pub ended_text : (s : ShowOptions) (w : Tree Seq) (text out : List ℕ) → IsPrintedOf s w text → out ≡ ended text → IsShownOf s w out
+ended_text s w text out (v, gives, printed) is = (v, gives, (text, printed, is))
+
+pub printed_text : (s : ShowOptions) (o : Options) (w : Tree Seq) (between : Sequence) (r : Result (Vec ℕ Global) AllocError) → o ≡ show_steps s
+    → ((v : Tree Seq) → IsLaidOut indented (sequence_tree between) v → ShowGives s w v)
+    → IfOk r (λ out. (v : Tree Seq) × Where (not o.preserve_space) (IsLaidOut indented) (sequence_tree between) v × (out.items ≡ text v)) → IfOk r (λ out. IsUtf8 out.items) → IfOk r (λ out. IsPrintedOf s w out.items)
+printed_text s o w between (Ok out) is give (v, spaced, prints) utf8 =
+    let laid : IsLaidOut indented (sequence_tree between) v = subst (λ (o : Options). Where (not o.preserve_space) (IsLaidOut indented) (sequence_tree between) v) is spaced in
+    (v, give v laid, (subst Valid (sym laid) (stays_valid Seq indented (sequence_tree between) (valid (sequence_tree between) (sequence_valid between))), utf8, prints))
+printed_text s o w between (Err e) is give printed utf8 = tt
 
 -- a tree that is shown where it is lent
 pub shown_as : (s : ShowOptions) (out : List ℕ) (lent x : Sequence) → lent ≡ x → IsShownOf s (sequence_tree lent) out → IsShownOf s (sequence_tree x) out
@@ -53,18 +76,14 @@ shown_as s out lent x same is = subst (λ (t : Sequence). IsShownOf s (sequence_
 
 -- ---- one result
 
-gives_once : (s : ShowOptions) (w v u : Tree Seq) → ShowGives s w v → ShowGives s w u → v ≡ u
-gives_once s w v u (a, shown, steps) (b, also, give) =
-    let same : a ≡ b = shown ∙ sym also in
-    steps_give_once (show_steps s) b v u (subst (λ t. StepsGive (show_steps s) t v) same steps) give
-
 pub shown_once : ShownOnce
 shown_once s input a b (x, is, (w, v, decoded, gives, printed)) (y, also, (t, u, read, give, print)) =
     let bytes : x ≡ y = ok_same x y (sym is ∙ also) in
     let loaded : w ≡ t = decoded_once s.limit y w t (subst (λ z. IsDecodedAs s.limit z w) bytes decoded) read in
     let made : v ≡ u = gives_once s t v u (subst (λ z. ShowGives s z v) loaded gives) give in
-    let same = subst (λ z. IsPrintedAs z a) made printed in
-    same.2 ∙ sym print.2
+    let (text, texts, is_out) = subst (λ z. IsWritten z a) made printed in
+    let (other, others, is_other) = print in
+    is_out ∙ (ap ended (texts.2 ∙ sym others.2) ∙ sym is_other)
 
 no_shown : (s : ShowOptions) (input out : List ℕ) (f : Fault) → IsShown s input out → Faulty (show_steps s) input f → ⊥
 no_shown s input out NoText shown h = h.0
@@ -78,16 +97,29 @@ shown_or_fault s input out e f shown refused is = no_shown s input out f shown (
 
 -- ---- back again
 
+-- claims in messages mean what they meant
+messages_keep : (xs : Values) → Keeps (Means xs) (TagsVisited message_claims)
+messages_keep xs w v h = visit_keeps IsTag message_claims literal_resolver (λ a w s. message_claims_keep a w) w v whole h xs
+
+shown_kept : (xs : Values) (s : ShowOptions) → KeptByShow (Means xs) s
+shown_kept xs s = record {
+  embedded = λ w v shown e. subst (λ (t : Tree Seq). Means xs (items t)) (sym shown) ((shown_means literal_resolver (all_applications, all_no_content) s.levels (s.limit - nesting (items w))).1 w ∙ e);
+  tags = tags_kept (Means xs) (means_kept xs);
+  claims = (means_kept xs).claims;
+  messages = messages_keep xs;
+  bignums = (means_kept xs).bignums;
+}
+
 gives_mean : (s : ShowOptions) (bytes : List ℕ) (w v : Tree Seq) (d : IsDecodedAs s.limit bytes w) → ShowGives s w v → Means d.0.values (items v)
-gives_mean s bytes w v d (u, shown, steps) =
+gives_mean s bytes w v d gives =
     let values = d.0.values in
-    let decoded : Means values (items w) = more_means literal_resolver all_no_content (items w) values d.0.meant in
-    let embedded : Means values (items u) = subst (λ (t : Tree Seq). Means values (items t)) (sym shown) ((shown_means literal_resolver (all_applications, all_no_content) s.levels (s.limit - nesting (items w))).1 w ∙ decoded) in
-    steps_keep values (show_steps s) refl u v steps embedded
+    gives_kept (Means values) s (shown_kept values s) w v gives (more_means literal_resolver all_no_content (items w) values d.0.meant)
 
 again : (s : ShowOptions) (back : Options) (bytes out : List ℕ) → Encodes back → back.limit ≡ s.limit → AreShown s bytes out → IsOutput back out bytes
-again s back bytes out encodes same_limit (w, v, decoded, gives, printed) =
-    printed_again back bytes out v decoded.0.values s.limit encodes same_limit (gives_mean s bytes w v decoded gives) (shown_within s bytes w v decoded gives) decoded.0.encoded printed
+again s back bytes out encodes same_limit (w, v, decoded, gives, (text, printed, is)) =
+    let spelled : SpellsSequence (items v) out = subst (SpellsSequence (items v)) (sym is) (spelled_ended (is_ended text) (items v) text (printed_spells v text printed)) in
+    let utf8 : IsUtf8 out = subst IsUtf8 (sym is) (utf8_ended (is_ended text) text printed.1) in
+    spelled_again back bytes out (items v) decoded.0.values s.limit encodes same_limit (gives_mean s bytes w v decoded gives) (shown_within s bytes w v decoded gives) decoded.0.encoded spelled utf8
 
 pub shown_reads_back : ShownReadsBack
 shown_reads_back s back input bytes out is encodes same_limit (x, read, shown) =

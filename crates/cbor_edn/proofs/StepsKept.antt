@@ -83,7 +83,7 @@ module _ (Q : Items → Type 0) where
   languages_kept w v h = same_kept w v (languages_leave w v whole h)
 
   module _ (kept : Kept Q) where
-    tags_kept : Keeps Q AnnotatesTags
+    pub tags_kept : Keeps Q AnnotatesTags
     tags_kept = turn_kept (TagsVisited pretty_address) (InTurn (TagsVisited pretty_time) (TagsVisited comment_lang)) kept.pretty_addresses (turn_kept (TagsVisited pretty_time) (TagsVisited comment_lang) kept.pretty_times languages_kept)
 
     literals_kept : Keeps Q ResolvesLiterals
@@ -104,7 +104,7 @@ module _ (Q : Items → Type 0) where
 abbrev pub Means : Values → Items → Type 0
 Means xs x = means_by literal_resolver x ≡ Some xs
 
-means_kept : (xs : Values) → Kept (Means xs)
+pub means_kept : (xs : Values) → Kept (Means xs)
 means_kept xs = record {
   pretty_addresses = λ w v h. pretty_addresses_keep w v whole h xs;
   pretty_times = λ w v h. pretty_times_keep w v whole h xs;

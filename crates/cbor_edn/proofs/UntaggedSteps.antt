@@ -28,14 +28,14 @@ use Rattle.cbor_edn_command.specs.declared.options.Options.{Options}
 use Rattle.cbor_edn.specs.RunSteps.{Step, Where, IsLaidOut, TagsVisited, LiteralsVisited, HasClaims, StepsGive}
 use Rattle.cbor_edn.proofs.StepsKept.{AnnotatesTags, ResolvesLiterals, not_taken}
 
-visited_untagged : (act : Act) (w : Tree Seq) → has_tag w ≡ false → TagsVisited act w w
+pub visited_untagged : (act : Act) (w : Tree Seq) → has_tag w ≡ false → TagsVisited act w w
 visited_untagged act w none = ([], All-nil (AnswersBy act), sequence_untagged w none)
 
-annotated_untagged : (w : Tree Seq) → has_tag w ≡ false → AnnotatesTags w w
+pub annotated_untagged : (w : Tree Seq) → has_tag w ≡ false → AnnotatesTags w w
 annotated_untagged w none = (w, visited_untagged pretty_address w none, (w, visited_untagged pretty_time w none, visited_untagged comment_lang w none))
 
 -- a step that is asked for, and taken where it does anything
-where_asked : (asked does : Bool) (P : Step) (w v : Tree Seq) → (asked ≡ true → does ≡ false → P w w) → Where (asked && does) P w v → Where asked P w v
+pub where_asked : (asked does : Bool) (P : Step) (w v : Tree Seq) → (asked ≡ true → does ≡ false → P w w) → Where (asked && does) P w v → Where asked P w v
 where_asked true true P w v stays h = h
 where_asked true false P w v stays h = subst (P w) (sym h) (stays refl refl)
 where_asked false does P w v stays h = h

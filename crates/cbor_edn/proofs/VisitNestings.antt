@@ -19,7 +19,7 @@ calls_stay_within f h c is =
     let left : items c.after ≡ items (f c.arguments c.before).1 = ap (λ (v : Tree OneItem). items v) is.1 in
     let deep = ap nesting left in let within = h c.arguments c.before in omega (arith, deep, within)
 
-abbrev nesting_of : (k : Rule) → Of k → ℕ
+abbrev pub nesting_of : (k : Rule) → Of k → ℕ
 nesting_of OneItem x = nesting x
 nesting_of OnePiece x = nesting x
 nesting_of OneString x = nesting x

@@ -1,29 +1,67 @@
 -- What `show` writes of some CBOR.
 use Rattle.std.specs.Prelude.{◌≡◌, ℕ, ◌-◌, List, Ok}
+use Rattle.cbor_edn_parts.specs.Spacing.{indented}
 use Rattle.cbor_edn_model.specs.tree.Items.{nesting}
 use Rattle.cbor_edn_model.specs.tree.Trees.{Tree, Seq, items}
+use Rattle.cbor_edn_conversions.specs.Addresses.{pretty_address}
+use Rattle.cbor_edn_conversions.specs.Annotations.{comment_lang}
+use Rattle.cbor_edn_conversions.specs.Bignums.{pretty_bignum}
+use Rattle.cbor_edn_conversions.specs.Cose.{comment_cose}
+use Rattle.cbor_edn_conversions.specs.CoseKeys.{with_key_names}
 use Rattle.cbor_edn_conversions.specs.EmbeddedItems.{shown, with_literals}
+use Rattle.cbor_edn_conversions.specs.MessageClaims.{message_claims}
+use Rattle.cbor_edn_conversions.specs.Times.{pretty_time}
+use Rattle.cbor_edn_application.specs.Sequences.{with_each}
 use Rattle.cbor_edn_command.specs.FileOptions.{show_steps}
 use Rattle.cbor_edn_command.specs.Hexadecimal.{input_bytes}
 use Rattle.cbor_edn_command.specs.declared.file_options.ShowOptions.{ShowOptions}
-use Rattle.cbor_edn.specs.RunSteps.{Step, StepsGive}
+use Rattle.cbor_edn.specs.Format.{ended}
+use Rattle.cbor_edn.specs.RunSteps.{Step, Where, InTurn, IsLaidOut, TagsVisited, HasClaims}
 use Rattle.cbor_edn.specs.Runs.{IsDecodedAs, IsPrintedAs, IsRefused}
 use Rattle.cbor_edn.specs.declared.engine.RunError.{RunError}
+
+-- ---- the steps
 
 -- Byte strings that hold CBOR become embedded sequences, to so many levels, as deep as the deepest item leaves room within the limit.
 abbrev pub EmbeddedShown : ℕ → ℕ → Step
 EmbeddedShown levels limit w v = v ≡ with_literals (shown levels (limit - nesting (items w))) w
 
--- What is made of the tree that is decoded: embedded CBOR is shown first, so that the other steps find the times, the addresses, the
--- bignums and the claims in it.
+-- What `cbor2diag` does by default to addresses, times and languages: `DT'1970-01-01T00:00:42+00:00'` for `1(42)`.
+abbrev pub TagsAnnotated : Step
+TagsAnnotated = InTurn (TagsVisited pretty_address) (InTurn (TagsVisited pretty_time) (TagsVisited comment_lang))
+
+-- names of the COSE keys in each item that is a claims set
+abbrev pub HasKeyNames : Step
+HasKeyNames w v = v ≡ with_each with_key_names w
+
+-- Each item that is a map has the comments of a claims set, with the names of the keys in it, and so has each payload of a COSE message that
+-- is shown as a map.
+abbrev pub ClaimsAnnotated : Step
+ClaimsAnnotated = InTurn HasClaims (InTurn HasKeyNames (TagsVisited message_claims))
+
+-- What is made of the tree that is decoded, in this order: embedded CBOR is shown, so that the other steps find what is in it, tags and claims
+-- are annotated, messages are named, bignums become integers, and the spaces are set.
 abbrev pub ShowGives : ShowOptions → Step
-ShowGives s w v = (u : Tree Seq) × EmbeddedShown s.levels s.limit w u × StepsGive (show_steps s) u v
+ShowGives s =
+    InTurn (EmbeddedShown s.levels s.limit)
+    (InTurn TagsAnnotated
+    (InTurn (Where s.annotate_ccs ClaimsAnnotated)
+    (InTurn (Where s.names (TagsVisited comment_cose))
+    (InTurn (Where s.bignum_from_tags (TagsVisited pretty_bignum))
+    (IsLaidOut indented)))))
+
+-- ---- what is written
+
+-- the text of a tree, with a line feed at its end
+abbrev pub IsWritten : Tree Seq → List ℕ → Type 0
+IsWritten v out = (text : List ℕ) × IsPrintedAs v text × (out ≡ ended text)
 
 -- the text that is written of some bytes
 abbrev pub AreShown : ShowOptions → List ℕ → List ℕ → Type 0
-AreShown s bytes out = (w v : Tree Seq) × IsDecodedAs s.limit bytes w × ShowGives s w v × IsPrintedAs v out
+AreShown s bytes out = (w v : Tree Seq) × IsDecodedAs s.limit bytes w × ShowGives s w v × IsWritten v out
 
--- What is written of an input: `18([<<{1: -7}>>, {}, h'', null])` with spaces of the indented layout of `84 43 a1 01 26 a0 40 f6` behind `d2`.
+-- What is written of an input: `18([<<{1/ alg /: -7/ ES256 /}>>/ protected /, {}/ unprotected /, h''/ payload /, null/ signature /])/ COSE_Sign1 /`
+-- with the spaces of the indented layout, of `84 43 a1 01 26 a0 40 f6` behind `d2`.
 abbrev pub IsShown : ShowOptions → List ℕ → List ℕ → Type 0
 IsShown s input out = (bytes : List ℕ) × (input_bytes s.hex input ≡ Ok bytes) × AreShown s bytes out
 

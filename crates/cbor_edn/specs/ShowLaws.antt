@@ -28,7 +28,7 @@ abbrev pub ShownNestsWithin : Type 0
 ShownNestsWithin = (s : ShowOptions) (bytes : List ℕ) (w v : Tree Seq) → IsDecodedAs s.limit bytes w → ShowGives s w v → nesting (items v) ≤ s.limit
 
 -- What is shown of some bytes, or of their digits, is encoded as these bytes again, and as no others, at one limit: embedded CBOR, times,
--- addresses, bignums, claims and indentation included.
+-- addresses, bignums, claims, names and indentation included.
 abbrev pub ShownReadsBack : Type 0
 ShownReadsBack =
     (s : ShowOptions) (back : Options) (input bytes out : List ℕ) → input_bytes s.hex input ≡ Ok bytes → Encodes back → back.limit ≡ s.limit

@@ -1,25 +1,31 @@
-//! CBOR as it is shown, with the CBOR in its byte strings.
-ghost use Rattle.std.specs.Prelude.{◌≡◌, ◌++◌, IfOk, IfErr, OnOk};
+//! CBOR as it is shown, with the CBOR in its byte strings and with the names of COSE.
+ghost use Rattle.std.specs.Prelude.{◌≡◌, ◌++◌, ◌&&◌, ◌||◌, IfOk, IfErr, OnOk};
 ghost use Rattle.cbor_edn_parts.specs.Notes.{noted};
+ghost use Rattle.cbor_edn_parts.specs.Spacing.{indented};
 ghost use Rattle.cbor_edn_core.specs.tree.View.{sequence_tree};
 ghost use Rattle.cbor_edn_model.specs.tree.Trees.{Tree, Seq};
+ghost use Rattle.cbor_edn_conversions.specs.Cose.{comment_cose};
 ghost use Rattle.cbor_edn_command.specs.FileOptions.{show_steps};
 ghost use Rattle.cbor_edn.specs.Format.{ended};
+ghost use Rattle.cbor_edn.specs.RunSteps.{Where, IsLaidOut, TagsVisited};
 ghost use Rattle.cbor_edn.specs.Runs.{IsPrintedAs};
-ghost use Rattle.cbor_edn.specs.Show.{AreShown, EmbeddedShown, IsShown, IsUnshown, ShowGives};
+ghost use Rattle.cbor_edn.specs.Show.{AreShown, ClaimsAnnotated, EmbeddedShown, IsShown, IsUnshown, IsWritten, ShowGives};
 ghost use Rattle.cbor_edn.specs.Steps.{IsUndiagnosed};
 
 use crate::boxed::boxed;
-use crate::engine::{RunError, printed};
+use crate::engine::RunError;
 use crate::line_feed::end_line;
-use cbor_edn_application::visits::show_embedded;
+use crate::steps::{annotate_tags, show_bignums, spaced_text};
+use cbor_edn_application::visits::{
+    annotate_claims_sets, annotate_messages, comment_claims_keys, comment_cose, show_embedded,
+};
 pub use cbor_edn_command::file_options::ShowOptions;
 use cbor_edn_command::hexadecimal;
 use cbor_edn_core::tree::Sequence;
 use cbor_edn_parts::space::S;
 use std::alloc::{AllocError, Global};
 
-/// All that `show` writes for an input, which is CBOR, or digits of CBOR where `hex` is set. Fails with `Cbor`, with `Hex` and with
+/// All that `show` writes for an input, which is CBOR, or digits of CBOR where `hex` is set. It ends in a line feed. Fails with `Cbor`, with `Hex` and with
 /// `Memory`, where a run of `Cbor2Diag` does; no other error comes.
 pub fn shown(alloc: Global, options: &ShowOptions, input: &[u8]) -> Result<Vec<u8>, RunError>
     ensures ok { IfOk result (λ out. IsShown options.now input.now out.items) }
@@ -50,10 +56,40 @@ fn shown_text(
     options: &ShowOptions,
     sequence: &mut Sequence<'_>,
 ) -> Result<Vec<u8>, AllocError>
+    ensures { IfOk result (λ out. (v : Tree Seq) × ShowGives options.now (sequence_tree sequence.old) v × IsWritten v out.items) }
+{
+    let mut text = printed(alloc, options, sequence)?;
+    end_line(&mut text)?;
+    Ok(text)
+}
+
+// The same without a line feed at its end, where it ends in a comment.
+fn printed(
+    alloc: Global,
+    options: &ShowOptions,
+    sequence: &mut Sequence<'_>,
+) -> Result<Vec<u8>, AllocError>
     ensures { IfOk result (λ out. (v : Tree Seq) × ShowGives options.now (sequence_tree sequence.old) v × IsPrintedAs v out.items) }
 {
+    take(alloc, options, sequence)?;
+    spaced_text(alloc, &options.steps(), sequence)
+}
+
+// Takes all steps but the last, which sets the spaces of what is printed.
+fn take(
+    alloc: Global,
+    options: &ShowOptions,
+    sequence: &mut Sequence<'_>,
+) -> Result<(), AllocError>
+    ensures { OnOk result ((v : Tree Seq) → IsLaidOut indented (sequence_tree sequence.new) v → ShowGives options.now (sequence_tree sequence.old) v) }
+{
     embedded_shown(alloc, options, sequence)?;
-    printed(alloc, &options.steps(), sequence)
+    let tagged = sequence.has_tag();
+    annotate_tags(alloc, true, tagged, sequence)?;
+    annotate_claims(alloc, options.annotate_ccs, sequence)?;
+    let tagged = may_have_tag(options, tagged);
+    name_messages(alloc, options.names, tagged, sequence)?;
+    show_bignums(alloc, options.bignum_from_tags, tagged, sequence)
 }
 
 fn embedded_shown(
@@ -64,6 +100,44 @@ fn embedded_shown(
     ensures { OnOk result (EmbeddedShown options.now.levels options.now.limit (sequence_tree sequence.old) (sequence_tree sequence.new)) }
 {
     show_embedded(alloc, options.levels, options.limit, sequence)
+}
+
+// Whether there may be a tag behind the claims: annotating them counts as what may put one where none stood.
+fn may_have_tag(options: &ShowOptions, tagged: bool) -> bool
+    ensures { result ≡ tagged || options.now.annotate_ccs }
+{
+    tagged || options.annotate_ccs
+}
+
+// Claims sets among the items and in messages, and the keys in both.
+fn annotate_claims(
+    alloc: Global,
+    asked: bool,
+    sequence: &mut Sequence<'_>,
+) -> Result<(), AllocError>
+    ensures { OnOk result (Where asked ClaimsAnnotated (sequence_tree sequence.old) (sequence_tree sequence.new)) }
+{
+    if !asked {
+        return Ok(());
+    }
+    annotate_claims_sets(alloc, sequence)?;
+    comment_claims_keys(alloc, sequence)?;
+    annotate_messages(alloc, sequence)
+}
+
+fn name_messages(
+    alloc: Global,
+    asked: bool,
+    tagged: bool,
+    sequence: &mut Sequence<'_>,
+) -> Result<(), AllocError>
+    ensures { OnOk result (Where (asked && tagged) (TagsVisited comment_cose) (sequence_tree sequence.old) (sequence_tree sequence.new)) }
+{
+    if asked && tagged {
+        comment_cose(alloc, sequence)
+    } else {
+        Ok(())
+    }
 }
 
 /// What is written of one file among several: a comment line with its name, and what is shown of it. So what is written of all of them is

@@ -108,7 +108,7 @@ fn may_have_tag(options: &Options, tagged: bool) -> bool
     tagged || options.remove_comments || options.aol_to_item || options.annotate_ccs
 }
 
-fn annotate_tags(
+pub(crate) fn annotate_tags(
     alloc: Global,
     asked: bool,
     tagged: bool,
@@ -166,7 +166,7 @@ fn annotate_claims(
     }
 }
 
-fn show_bignums(
+pub(crate) fn show_bignums(
     alloc: Global,
     asked: bool,
     tagged: bool,

@@ -2,13 +2,15 @@
 use Rattle.std.specs.Prelude.{◌≡◌, ℕ, List, length}
 use Rattle.cbor_edn_model.specs.declared.cbor.decode.CborError.{CborError}
 use Rattle.cbor_edn_model.specs.declared.cbor.decode.CborError.TheVariants as cbor
-use Rattle.cbor_edn_command.specs.declared.options.Options.{Options}
 use Rattle.cbor_edn.specs.declared.engine.RunError.{RunError}
 use Rattle.cbor_edn.specs.declared.engine.RunError.TheVariants as run
 use Rattle.cbor_edn.specs.Runs.{IsOutput, IsRefused}
-use Rattle.cbor_edn_c_calls.specs.Asked.{IsAsked, IsOutOfRange}
+use Rattle.cbor_edn.specs.Show.{IsShown, IsUnshown}
+use Rattle.cbor_edn_c_calls.specs.Asked.{IsBadCall, IsCallOf}
 use Rattle.cbor_edn_c_calls.specs.Reports.{TellsOutput, TellsLocation}
 use Rattle.cbor_edn_c_calls.specs.Rooms.{HasNoRoom, IsPutFront, IsPutWhole}
+use Rattle.cbor_edn_c_calls.specs.declared.asked.Asked.{Asked}
+use Rattle.cbor_edn_c_calls.specs.declared.asked.Asked.TheVariants.{Run, Show}
 use Rattle.cbor_edn_c_calls.specs.declared.report.Report.{Report}
 use Rattle.cbor_edn_c_calls.specs.declared.status.CallFault.{CallFault}
 use Rattle.cbor_edn_c_calls.specs.declared.status.CallFault.TheVariants.{NotUtf8, InvalidCbor, InvalidHex, NoEncoding, OutOfMemory, TooDeepCbor}
@@ -32,20 +34,29 @@ call_fault (run.Memory _) = OutOfMemory
 call_fault run.Read = OutOfMemory
 call_fault run.Write = OutOfMemory
 
+-- what is written for an input, and why nothing is
+abbrev pub IsMade : Asked → List ℕ → List ℕ → Type 0
+IsMade (Run o) = IsOutput o
+IsMade (Show s) = IsShown s
+
+abbrev pub IsUnmade : Asked → List ℕ → RunError → Type 0
+IsUnmade (Run o) = IsRefused o
+IsUnmade (Show s) = IsUnshown s
+
 -- a message of n bytes, as far as it fits
 abbrev pub IsMessage : ℕ → List ℕ → List ℕ → Type 0
 IsMessage n old new = (text : List ℕ) × IsPutFront text old new × (n ≡ length text)
 
--- What a call did that ends so: by the three numbers that ask for options, the input, the room for the output and the room for a message
--- (each as it was and as it is), and what is told.
+-- What a call did that ends so: by the three numbers that say what is asked for, the input, the room for the output and the room for a
+-- message (each as it was and as it is), and what is told.
 abbrev pub Did : Status → ℕ → ℕ → ℕ → List ℕ → List ℕ → List ℕ → List ℕ → List ℕ → Report → Type 0
 Did Done command flags limit input old new message said r =
-    (o : Options) × IsAsked command flags limit o × ((out : List ℕ) × IsOutput o input out × IsPutWhole out old new × TellsOutput (length out) r)
+    (a : Asked) × IsCallOf command flags limit a × ((out : List ℕ) × IsMade a input out × IsPutWhole out old new × TellsOutput (length out) r)
     × (said ≡ message)
 Did NoRoom command flags limit input old new message said r =
-    (o : Options) × IsAsked command flags limit o × ((out : List ℕ) × IsOutput o input out × HasNoRoom out old new × TellsOutput (length out) r)
+    (a : Asked) × IsCallOf command flags limit a × ((out : List ℕ) × IsMade a input out × HasNoRoom out old new × TellsOutput (length out) r)
     × (said ≡ message)
-Did BadCall command flags limit input old new message said r = IsOutOfRange command flags limit × (new ≡ old) × TellsOutput 0 r × (said ≡ message)
+Did BadCall command flags limit input old new message said r = IsBadCall command flags limit × (new ≡ old) × TellsOutput 0 r × (said ≡ message)
 Did (Fault f) command flags limit input old new message said r =
-    (o : Options) × IsAsked command flags limit o × ((e : RunError) × IsRefused o input e × (f ≡ call_fault e) × TellsLocation (call_fault e) r)
+    (a : Asked) × IsCallOf command flags limit a × ((e : RunError) × IsUnmade a input e × (f ≡ call_fault e) × TellsLocation (call_fault e) r)
     × (new ≡ old) × (r.output_len ≡ 0) × IsMessage r.message_len message said

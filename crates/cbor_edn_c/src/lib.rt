@@ -1,15 +1,16 @@
 //! The library's one function for callers that are not Rattle, as a static library. The declarations of `bindings/` repeat it.
 #![tactic(auto)]
 
-ghost use Rattle.std.specs.Prelude.{◌≡◌};
-ghost use Rattle.cbor_edn_c.specs.Calls.{Did, IsMessage, call_fault};
+ghost use Rattle.std.specs.Prelude.{◌≡◌, IfOk, IfErr};
+ghost use Rattle.cbor_edn_c.specs.Calls.{Did, IsMade, IsMessage, IsUnmade, call_fault};
 ghost use Rattle.cbor_edn_c_calls.specs.Reports.{TellsLocation};
 ghost use Rattle.cbor_edn_c_calls.specs.Statuses.{status_number};
 ghost use Rattle.cbor_edn_c_calls.specs.declared.status.Status.{Status};
 
 use cbor_edn::CborError;
 use cbor_edn::engine::{RunError, converted};
-use cbor_edn_c_calls::asked::options_of;
+use cbor_edn::show::shown;
+use cbor_edn_c_calls::asked::{Asked, asked_for};
 use cbor_edn_c_calls::report::Report;
 use cbor_edn_c_calls::room::put_whole;
 use cbor_edn_c_calls::status::{CallFault, Status};
@@ -43,12 +44,24 @@ fn report_of(alloc: Global, fault: &RunError, message: &mut [u8]) -> Report
     }
 }
 
+// What is written for an input.
+fn made(alloc: Global, asked: &Asked, input: &[u8]) -> Result<Vec<u8>, RunError>
+    ensures ok { IfOk result (λ out. IsMade asked.now input.now out.items) }
+    ensures err { IfErr result (IsUnmade asked.now input.now) }
+{
+    match asked {
+        Asked::Run(options) => converted(alloc, options, input),
+        Asked::Show(options) => shown(alloc, options, input),
+    }
+}
+
 /// Turns an input into an output, as a run of the program does, and answers the number of a status.
 ///
-/// `command` is 0 for `diag2cbor`, 1 for `cbor2diag`, 2 for `diag2diag`. `flags` is a sum of 1 (`hex`), 2 (`annotate_tags`),
+/// `command` is 0 for `diag2cbor`, 1 for `cbor2diag`, 2 for `diag2diag`, 3 for `show`. `flags` is a sum of 1 (`hex`), 2 (`annotate_tags`),
 /// 4 (`remove_comments`), 8 (`aol_to_item`), 16 (`annotate_ccs`), 32 (`bignum_from_tags`), 64 (`apply_999`) and 128
-/// (`preserve_space`). `limit` is at most 512. Lengths and places are in bytes. Only at status 0 is `output` written. Where a length is
-/// 0, a caller in C may give a null pointer: the toolchain makes an empty slice of it.
+/// (`preserve_space`); for `show` of 1, 16, 32, 256 (`names`) and 512 for each of `levels`, at most 255. `limit` is at most 512. Lengths
+/// and places are in bytes. Only at status 0 is `output` written. Where a length is 0, a caller in C may give a null pointer: the
+/// toolchain makes an empty slice of it.
 #[unsafe(no_mangle)]
 pub extern "C" fn cbor_edn_convert(
     alloc: Global,
@@ -62,11 +75,11 @@ pub extern "C" fn cbor_edn_convert(
 ) -> u32
     ensures { (s : Status) × (result ≡ status_number s) × Did s command flags limit input.now output.old output.new message.old message.new report.new }
 {
-    let Some(options) = options_of(command, flags, limit) else {
+    let Some(asked) = asked_for(command, flags, limit) else {
         *report = Report::of_output(0);
         return Status::BadCall.number();
     };
-    match converted(alloc, &options, input) {
+    match made(alloc, &asked, input) {
         Ok(bytes) => {
             *report = Report::of_output(bytes.len());
             if put_whole(&bytes, output) {

@@ -1,5 +1,5 @@
 -- The words of the commands for files, as `clap` sees them, and what is read off the entries that `clap` finds for them.
-use Rattle.std.specs.Prelude.{◌≡◌, ◌||◌, ℕ, Bool, true, Some, if◌then◌else◌, List, [], ◌∷◌, codes, unwrap_or}
+use Rattle.std.specs.Prelude.{◌≡◌, ◌||◌, ℕ, Bool, true, Some, if◌then◌else◌, List, [], ◌∷◌, ◌++◌, codes, unwrap_or}
 use Rattle.std.specs.Str.{bytes_eq}
 use Rattle.clap.specs.Words.{App, Row, Rule, Text, all_of, fault_of, first_of, new_app, new_rule, subcommand_of, with_subcommand}
 use Rattle.clap.specs.declared.builder.action.ArgAction.TheVariants.{Append}
@@ -27,10 +27,14 @@ only_lists = record (flag (codes "list")) { long = Some (codes "check") }
 abbrev pub files : Rule
 files = record (new_rule (codes "files")) { action = Some Append; value_names = 1 }
 
+-- flags of `show` that leave out a step which it takes by default
+abbrev pub steps_left_out : List Rule
+steps_left_out = flag (codes "no-embedded") ∷ flag (codes "no-names") ∷ flag (codes "no-bignum-from-tags") ∷ []
+
 abbrev pub show : ValueParser → ValueParser → App
 show formats annotations =
     with_rules (new_app (codes "show"))
-    (format 105 (codes "input-format") formats ∷ levels ∷ flag (codes "no-embedded") ∷ flag (codes "no-bignum-from-tags") ∷ annotate annotations ∷ max_nesting ∷ files ∷ [])
+    (format 105 (codes "input-format") formats ∷ levels ∷ (steps_left_out ++ (annotate annotations ∷ max_nesting ∷ files ∷ [])))
 
 abbrev pub fmt : App
 fmt = with_rules (new_app (codes "fmt")) (only_lists ∷ flag (codes "remove-comments") ∷ max_nesting ∷ files ∷ [])
@@ -58,6 +62,7 @@ AreLevels rows n = (off : Bool) × IsFlag (codes "no-embedded") rows off
 pub record IsShow (rows : List Row) (o : ShowOptions) : Type 0 where
   pub hex : IsValue (codes "format") (codes "hex") rows o.hex
   pub levels : AreLevels rows o.levels
+  pub names : IsNoFlag (codes "no-names") rows o.names
   pub bignum_from_tags : IsNoFlag (codes "no-bignum-from-tags") rows o.bignum_from_tags
   pub annotate_ccs : IsValue (codes "annotate") (codes "ccs") rows o.annotate_ccs
   pub limit : IsLimit (first_of (codes "max-nesting") rows) o.limit

@@ -29,10 +29,14 @@ pub struct ShowOptions {
     /// To how many levels byte strings that hold CBOR become embedded sequences, as `<<{1: -7}>>` in the place of `h'a10126'`. None is
     /// shown where it is 0.
     pub levels: usize,
+    /// COSE messages (RFC 9052) get their names as comments, and those of their parts, header parameters and algorithms:
+    /// `18([<<{1/ alg /: -7/ ES256 /}>>/ protected /, ..])/ COSE_Sign1 /`.
+    pub names: bool,
     /// Bignums become integers, as `18446744073709551616` in the place of `2(h'010000000000000000')`.
     pub bignum_from_tags: bool,
-    /// Each item of the sequence that is a map is taken for the claims set of a CWT: its keys get the names of their claims as
-    /// comments, and numbers that are times become literals.
+    /// Each item of the sequence that is a map is taken for the claims set of a CWT, and so is a map that is shown as the payload of a
+    /// COSE message: its keys get the names of their claims as comments, numbers that are times become literals, and keys of COSE in it
+    /// are named.
     pub annotate_ccs: bool,
     /// How deep items may nest, in levels: each takes stack.
     pub limit: usize,

@@ -107,6 +107,7 @@ fn show_of<'a>(found: &ArgMatches<'a>) -> Result<ShowOptions, Misread<'a>>
     Ok(ShowOptions {
         hex: is_value(found, "format", "hex"),
         levels,
+        names: !is_given(found, "no-names"),
         bignum_from_tags: !is_given(found, "no-bignum-from-tags"),
         annotate_ccs: is_value(found, "annotate", "ccs"),
         limit,
@@ -182,17 +183,28 @@ fn show<'a>(
 ) -> Result<clap::Command<'a>, AllocError>
     ensures { IfOk result (IsCommandOf (line.show formats.entry annotations.entry)) }
 {
-    let embedded = "Leave byte strings that hold CBOR as they are";
-    let bignums = "Leave bignums in tags 2 and 3";
     let command = clap::Command::new(alloc, "show")
         .about("Decodes CBOR, also in its byte strings, into items in EDN")
         .after_help(SHOWING)
         .arg(format(alloc, 'i', "input-format", formats))?
-        .arg(levels(alloc))?
-        .arg(flag(alloc, "no-embedded", embedded))?
-        .arg(flag(alloc, "no-bignum-from-tags", bignums))?
-        .arg(annotate(alloc, annotations))?;
+        .arg(levels(alloc))?;
+    let command = with_steps_left_out(alloc, command)?.arg(annotate(alloc, annotations))?;
     with_files(alloc, command)
+}
+
+// A command with the flags that leave out a step which `show` takes by default.
+fn with_steps_left_out<'a>(
+    alloc: Global,
+    command: clap::Command<'a>,
+) -> Result<clap::Command<'a>, AllocError>
+    ensures { IfOk result (GrowsBy line.steps_left_out command.entry) }
+{
+    let embedded = "Leave byte strings that hold CBOR as they are";
+    let bignums = "Leave bignums in tags 2 and 3";
+    command
+        .arg(flag(alloc, "no-embedded", embedded))?
+        .arg(flag(alloc, "no-names", "Leave names of COSE out"))?
+        .arg(flag(alloc, "no-bignum-from-tags", bignums))
 }
 
 fn fmt<'a>(alloc: Global) -> Result<clap::Command<'a>, AllocError>

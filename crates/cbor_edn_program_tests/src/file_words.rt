@@ -11,6 +11,7 @@ use std::test::Fail;
 const SHOW: ShowOptions = ShowOptions {
     hex: false,
     levels: DEFAULT_LEVELS,
+    names: true,
     bignum_from_tags: true,
     annotate_ccs: false,
     limit: NESTING_LIMIT,
@@ -44,6 +45,7 @@ const ASKED: &[(&[&str], FileCommand, &[&str])] = &[
             "hex",
             "--levels",
             "3",
+            "--no-names",
             "--no-bignum-from-tags",
             "--annotate",
             "ccs",
@@ -52,6 +54,7 @@ const ASKED: &[(&[&str], FileCommand, &[&str])] = &[
         FileCommand::Show(ShowOptions {
             hex: true,
             levels: 3,
+            names: false,
             bignum_from_tags: false,
             annotate_ccs: true,
             limit: NESTING_LIMIT,

@@ -11,6 +11,7 @@ use std::test::Fail;
 const SHOW: ShowOptions = ShowOptions {
     hex: true,
     levels: 8,
+    names: false,
     bignum_from_tags: true,
     annotate_ccs: false,
     limit: NESTING_LIMIT,
@@ -21,7 +22,12 @@ const CLAIMS: ShowOptions = ShowOptions {
     ..SHOW
 };
 
-// Digits of CBOR, how they are shown, and the text: by RFC 8949, RFC 9052 and `docs/SUPPORTED.md`.
+const NAMED: ShowOptions = ShowOptions {
+    names: true,
+    ..SHOW
+};
+
+// Digits of CBOR, how they are shown, and the text: by RFC 8949, RFC 9052, RFC 9053, RFC 8392 and `docs/SUPPORTED.md`.
 const ROWS: &[(&str, ShowOptions, &str)] = &[
     ("", SHOW, ""),
     ("83 01 18 1f 80", SHOW, "[1, 31, []]\n"),
@@ -66,6 +72,45 @@ const ROWS: &[(&str, ShowOptions, &str)] = &[
         CLAIMS,
         "{4/ exp /: dt'2023-11-14T22:13:20+00:00'}\n",
     ),
+    // claims in a message, also in the tag of CWT, and a key in them; none in a payload that is not shown, and none in what is encrypted
+    (
+        "d28443a10126a047a1041a6553f1004100",
+        CLAIMS,
+        "18([<<{1: -7}>>, {}, <<{4/ exp /: dt'2023-11-14T22:13:20+00:00'}>>, h'00'])\n",
+    ),
+    (
+        "d83dd28440a047a1041a6553f10040",
+        CLAIMS,
+        "61(18([h'', {}, <<{4/ exp /: dt'2023-11-14T22:13:20+00:00'}>>, h'']))\n",
+    ),
+    (
+        "a108a101a201022001",
+        CLAIMS,
+        "{8/ cnf /: {1/ COSE_Key /: {1/ kty /: 2/ EC2 /, -1/ crv /: 1/ P-256 /}}}\n",
+    ),
+    (
+        "d28440a043a1040040",
+        ShowOptions {
+            levels: 0,
+            ..CLAIMS
+        },
+        "18([h'', {}, h'a10400', h''])\n",
+    ),
+    ("d08340a043a10400", CLAIMS, "16([h'', {}, <<{4: 0}>>])\n"),
+    // names of a message, of its parts, parameters and algorithm
+    (
+        "d28443a10126a0404100",
+        NAMED,
+        "18([
+        <<{1/ alg /: -7/ ES256 /}>>/ protected /,
+        {}/ unprotected /,
+        h''/ payload /,
+        h'00'
+    / signature /])
+/ COSE_Sign1 /
+",
+    ),
+    ("d18143a10105", NAMED, "17([<<{1/ alg /: 5\n# HMAC 256/256\n}>>/ protected /])\n/ COSE_Mac0 /\n"),
 ];
 
 fn text_of(alloc: Global, options: &ShowOptions, input: &[u8]) -> Result<String, Fail> {
@@ -201,4 +246,5 @@ fn checks_by_runs(rt: HostRuntime) {
     assert!(rt; check.steps(true).command == Command::Cbor2Diag);
     assert!(rt; FORMAT.steps().command == Command::Diag2Diag);
     assert!(rt; SHOW.steps().annotate_tags);
+    assert!(rt; CLAIMS.steps().annotate_ccs);
 }

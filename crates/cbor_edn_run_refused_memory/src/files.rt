@@ -45,6 +45,7 @@ pub(crate) fn called(alloc: Global, call: Call) -> Result<bool, Failure> {
 const SHOW: ShowOptions = ShowOptions {
     hex: false,
     levels: 8,
+    names: true,
     bignum_from_tags: true,
     annotate_ccs: true,
     limit: NESTING_LIMIT,
@@ -58,16 +59,17 @@ fn is_written(answer: Result<Vec<u8>, RunError>, wanted: &[u8]) -> Result<bool, 
     }
 }
 
-/// A message of COSE by RFC 9052 with a time and a bignum in it, and a claims set.
+/// A message of COSE by RFC 9052 with claims and a key in it, a time and a bignum, and a claims set.
 fn show(alloc: Global) -> Result<bool, Failure> {
     let bytes =
-        b"\xd2\x84\x43\xa1\x01\x26\xa0\x4e\x82\xc1\x00\xc2\x49\x01\0\0\0\0\0\0\0\0\x40\xa1\x04\0";
+        b"\xd2\x84\x43\xa1\x01\x26\xa0\x49\xa2\x04\0\x08\xa1\x01\xa1\x01\x02\x40\x82\xc1\0\xc2\x49\x01\0\0\0\0\0\0\0\0\xa1\x04\0";
     let text = b"18([
-        <<{1: -7}>>,
-        {},
-        <<[DT'1970-01-01T00:00:00+00:00', 18446744073709551616]>>,
+        <<{1/ alg /: -7/ ES256 /}>>/ protected /,
+        {}/ unprotected /,
+        <<{4/ exp /: dt'1970-01-01T00:00:00+00:00', 8/ cnf /: {1/ COSE_Key /: {1/ kty /: 2/ EC2 /}}}>>/ payload /,
         h''
-    ]),
+    / signature /])/ COSE_Sign1 /,
+[DT'1970-01-01T00:00:00+00:00', 18446744073709551616],
 {4/ exp /: dt'1970-01-01T00:00:00+00:00'}
 ";
     is_written(shown(alloc, &SHOW, bytes), text)

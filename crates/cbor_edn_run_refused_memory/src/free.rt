@@ -67,6 +67,7 @@ fn is_shown() -> bool {
     let options = ShowOptions {
         hex: true,
         levels: 8,
+        names: true,
         bignum_from_tags: false,
         annotate_ccs: true,
         limit: NESTING_LIMIT,

@@ -1,9 +1,13 @@
 //! Laws of CBOR that is shown.
 ghost use Rattle.cbor_edn_model.specs.visit.Seeking.{CallArguments};
+ghost use Rattle.cbor_edn_model.specs.visit.Visits.{fine};
 ghost use Rattle.cbor_edn_conversions.specs.Addresses.{pretty_address};
 ghost use Rattle.cbor_edn_conversions.specs.Annotations.{comment_lang};
 ghost use Rattle.cbor_edn_conversions.specs.Bignums.{pretty_bignum};
 ghost use Rattle.cbor_edn_conversions.specs.Claims.{with_claims};
+ghost use Rattle.cbor_edn_conversions.specs.Cose.{comment_cose};
+ghost use Rattle.cbor_edn_conversions.specs.CoseKeys.{with_key_names};
+ghost use Rattle.cbor_edn_conversions.specs.MessageClaims.{message_claims};
 ghost use Rattle.cbor_edn_conversions.specs.Times.{pretty_time};
 ghost use Rattle.cbor_edn.specs.ShowLaws.{ShownOnce, ShownOrFault, NeverDeepens, ShownNestsWithin, ShownReadsBack};
 
@@ -20,6 +24,9 @@ pub fn shown_within()
     ensures bignums { (a : CallArguments) → NeverDeepens (pretty_bignum a) }
     ensures languages { (a : CallArguments) → NeverDeepens (comment_lang a) }
     ensures claims { NeverDeepens with_claims }
+    ensures keys { NeverDeepens (λ w. (fine, with_key_names w)) }
+    ensures messages { (a : CallArguments) → NeverDeepens (message_claims a) }
+    ensures names { (a : CallArguments) → NeverDeepens (comment_cose a) }
     ensures within { ShownNestsWithin }
 {}
 

@@ -8,7 +8,7 @@ returns c = (
   Fault c.call_fault.result,
   c.number-in-Err.ensures,
   (
-    c.in-Some.options,
+    c.in-Some.asked,
     c.in-Some.ensures.some,
     (c.in-Err.fault, c.in-Err.ensures.err, c.call_fault.ensures, c.report_of.ensures.place),
     refl,

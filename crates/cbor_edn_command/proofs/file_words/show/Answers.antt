@@ -9,5 +9,5 @@ pub returns : goal.returns
 returns c =
     let bare : IsCommandOf (new_app (codes "show")) c.after_help.result = search rules in
     IfOk-weaker c.with_files.result _ _
-    (λ r h. grown bare (more (one c.in_ok-arg.ensures c.format.ensures) (more (one c.in_ok-arg-2.ensures c.levels.ensures) (more (one c.in_ok-arg-3.ensures c.flag.ensures) (more (one c.in_ok-arg-4.ensures c.flag-2.ensures) (more (one c.in_ok-command.ensures c.annotate.ensures) h))))))
+    (λ r h. grown bare (more (one c.in_ok-arg.ensures c.format.ensures) (more (one c.in_ok-command.ensures c.levels.ensures) (more c.in_ok-with_steps_left_out.ensures (more (one c.in_ok-command-2.ensures c.annotate.ensures) h)))))
     c.with_files.ensures

@@ -1,4 +1,5 @@
 use Rattle.cbor_edn.proofs.ClaimNestings.{claims_no_deeper}
+use Rattle.cbor_edn.proofs.MessageNestings.{keys_no_deeper, messages_no_deeper, names_no_deeper}
 use Rattle.cbor_edn.proofs.ShowNesting.{shown_within}
 use Rattle.cbor_edn.proofs.TagNestings.{times_no_deeper, addresses_no_deeper, bignums_no_deeper, languages_no_deeper}
 use Rattle.cbor_edn.proofs.laws.shown.shown_within.Goals as goal
@@ -17,6 +18,15 @@ returns-clause-languages c = languages_no_deeper
 
 pub returns-clause-claims : goal.returns-clause-claims
 returns-clause-claims c = claims_no_deeper
+
+pub returns-clause-keys : goal.returns-clause-keys
+returns-clause-keys c = keys_no_deeper
+
+pub returns-clause-messages : goal.returns-clause-messages
+returns-clause-messages c = messages_no_deeper
+
+pub returns-clause-names : goal.returns-clause-names
+returns-clause-names c = names_no_deeper
 
 pub returns-clause-within : goal.returns-clause-within
 returns-clause-within c = shown_within
