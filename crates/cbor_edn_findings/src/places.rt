@@ -72,7 +72,9 @@ fn first_offset(
     let Some((mut path, reason)) = first_in_resolved(alloc, options, sequence)? else {
         return Ok(None);
     };
-    cut_to_item(sequence, &mut path);
+    if !cut_to_item(sequence, &mut path) {
+        return Ok(None);
+    }
     let offset = offset_of(alloc, sequence, &path)?;
     Ok(Some((offset, reason)))
 }

@@ -68,8 +68,9 @@ fn paths_are_cut(rt: HostRuntime) -> Result<(), Fail> {
     let alloc = rt.alloc();
     let mut sequence = Box::new(alloc, Sequence::parse(alloc, "[dt'1970-01-01T00:00:00Z']")?)?;
     let mut path = Vec::from_slice(alloc, &[0, 0, 0])?;
-    cut_to_item(&mut sequence, &mut path);
+    let leads = cut_to_item(&mut sequence, &mut path);
     let mut failures = Failures::new(alloc);
+    failures.holds(alloc, "it leads to an item", leads)?;
     failures.holds(alloc, "[0, 0]", path.as_slice() == [0, 0].as_slice())?;
     failures.end()
 }

@@ -217,13 +217,17 @@ pub fn first_valueless(
     Err(AllocError)
 }
 
-/// Cuts numbers from the end of a path until it leads to an item, or to its start: an item that was resolved may have parts where its
-/// literal has none.
-pub fn cut_to_item(sequence: &mut Sequence<'_>, path: &mut Vec<usize>) {
-    for _ in 0..path.len() {
+/// Cuts numbers from the end of a path until it leads to an item, and says whether one is left that does: an item that was resolved may
+/// have parts where its literal has none. The sequence stays as it is.
+pub fn cut_to_item(sequence: &mut Sequence<'_>, path: &mut Vec<usize>) -> bool
+    ensures same { sequence_tree sequence.new ≡ sequence_tree sequence.old }
+    ensures leads { result ≡ is_some (at_sequence path.new.items (sequence_tree sequence.old)) }
+{
+    'numbers: for _ in 0..path.len() {
         if leads(sequence, path) {
-            return;
+            return true;
         }
         let _ = path.pop();
     }
+    leads(sequence, path)
 }
