@@ -89,13 +89,34 @@ const BYTES: &[(&str, &str)] = &[
     ("19ff", "f: Missing argument bytes (byte 0)\n"),
     ("0182f818", "f: Invalid simple value (byte 2)\n"),
     ("a101f93c00", "f: Float value out of scope (byte 2)\n"),
-    ("df", "f: Integer/Tag with indefinite length encoding is not well-formed (byte 0)\n"),
-    ("80a0f6c100ff", "f: Break code only expected at end of indefinite length items (byte 5)\n"),
-    ("bf00ff", "f: Break code only expected at end of indefinite length items (byte 2)\n"),
-    ("9fbf0001ff81a00100ffff", "f: Break code only expected at end of indefinite length items (byte 10)\n"),
-    ("5f414061ffff", "f: Indefinite length strings can only contain matching items (byte 3)\n"),
-    ("5f41005f", "f: Indefinite length strings can only contain definite lengths (byte 3)\n"),
-    ("7f62c3bc61ffff", "f: Text string must be valid UTF-8 (byte 4)\n"),
+    (
+        "df",
+        "f: Integer/Tag with indefinite length encoding is not well-formed (byte 0)\n",
+    ),
+    (
+        "80a0f6c100ff",
+        "f: Break code only expected at end of indefinite length items (byte 5)\n",
+    ),
+    (
+        "bf00ff",
+        "f: Break code only expected at end of indefinite length items (byte 2)\n",
+    ),
+    (
+        "9fbf0001ff81a00100ffff",
+        "f: Break code only expected at end of indefinite length items (byte 10)\n",
+    ),
+    (
+        "5f414061ffff",
+        "f: Indefinite length strings can only contain matching items (byte 3)\n",
+    ),
+    (
+        "5f41005f",
+        "f: Indefinite length strings can only contain definite lengths (byte 3)\n",
+    ),
+    (
+        "7f62c3bc61ffff",
+        "f: Text string must be valid UTF-8 (byte 4)\n",
+    ),
     ("9f01", "f: Expected item, out of data (byte 2)\n"),
 ];
 

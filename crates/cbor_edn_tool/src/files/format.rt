@@ -38,8 +38,13 @@ fn text_of(
     name: &str,
     bytes: &[u8],
 ) -> Result<Vec<u8>, Told> {
-    formatted(rt.alloc(), options, bytes)
-        .map_err(|fault| tell_refused(rt, name, &options.steps(), bytes, fault))
+    formatted(rt.alloc(), options, bytes).map_err(|fault| tell_refused(
+        rt,
+        name,
+        &options.steps(),
+        bytes,
+        fault,
+    ))
 }
 
 fn format_input(rt: &HostRuntime, options: &FormatOptions) -> Result<(), Told> {

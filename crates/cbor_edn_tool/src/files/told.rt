@@ -61,12 +61,7 @@ pub(super) fn tell_refused(
 }
 
 /// Tells of what was found in an input.
-pub(super) fn tell_finding(
-    rt: &HostRuntime,
-    name: &str,
-    input: &[u8],
-    finding: &Finding,
-) -> Told {
+pub(super) fn tell_finding(rt: &HostRuntime, name: &str, input: &[u8], finding: &Finding) -> Told {
     match lines(rt.alloc(), spoken(name), input, finding) {
         Ok(lines) => {
             let _ = eprint!(rt; "{lines}");
