@@ -67,7 +67,7 @@ none_left() {
 fresh; printf '[1,2]' > a.edn; printf '[1,\n 2' > b.edn; printf '[3, 4]\n' > c.edn
 run "$program" fmt a.edn b.edn c.edn
 is "one at fault: status" 1 "$status"
-is "one at fault: told" $'cbor-edn: a.edn: Laid out\nb.edn:2:3: Invalid EDN\n' "$err"
+is "one at fault: told" $'cbor-edn: a.edn: Laid out\nb.edn:2:3: Invalid EDN\n 2\n  ^\n' "$err"
 is "one at fault: output" "" "$out"
 is "the other is laid out" $'[1, 2]' "$(cat a.edn)"
 is "that at fault is as it was" $'[1,\n 2' "$(cat b.edn)"
@@ -80,7 +80,7 @@ fresh; printf '[1,2]' > a.edn; printf '[3, 4]\n' > c.edn; sum=$(cksum a.edn c.ed
 run "$program" fmt --check a.edn c.edn
 is "--check: status" 1 "$status"; is "--check: lists" $'a.edn\n' "$out"; is "--check: tells nothing" "" "$err"; is "--check: changes nothing" "$sum" "$(cksum a.edn c.edn)"
 run "$program" fmt --check c.edn; is "--check, all well" "0" "$status$out$err"
-printf '[' > b.edn; run "$program" fmt --check b.edn a.edn; is "--check with a fault" 1 "$status"; is "--check with a fault: lists" $'a.edn\n' "$out"; is "--check with a fault: tells" $'b.edn:1:2: Invalid EDN\n' "$err"
+printf '[' > b.edn; run "$program" fmt --check b.edn a.edn; is "--check with a fault" 1 "$status"; is "--check with a fault: lists" $'a.edn\n' "$out"; is "--check with a fault: tells" $'b.edn:1:2: Invalid EDN\n[\n ^\n' "$err"
 
 # ---- permissions and owner
 fresh; printf '[1,2]' > a.edn; chmod 640 a.edn; run "$program" fmt a.edn; is "mode kept" "640 0" "$(stat -c %a a.edn) $status"
@@ -142,7 +142,7 @@ is "killed at 60 moments: torn" 0 "$torn"
 
 # ---- standard input and streams
 run "$program" fmt <<< '[1,2]'; is "standard input" $'0[1, 2]\n' "$status$out"
-run "$program" fmt - <<< '[1'; is "standard input at fault" $'1<stdin>:2:1: Invalid EDN\n' "$status$err"
+run "$program" fmt - <<< '[1'; is "standard input at fault" $'1<stdin>:2:1: Invalid EDN\n\n^\n' "$status$err"
 run "$program" fmt --check <<< '[1,2]'; is "standard input --check" $'1<stdin>\n' "$status$out"
 run "$program" fmt <<< '[1,2]' > /dev/full; : ; "$program" fmt <<< '[1,2]' > /dev/full 2> .e; is "output full" "1cbor-edn: <stdout>: No space left on device (os error 28)" "$?$(cat .e)"
 fresh; printf '[1,2]' > a.edn; "$program" fmt a.edn <&- >&- 2>&-; is "closed streams: laid out" "0[1, 2]" "$?$(cat a.edn)"
@@ -152,11 +152,11 @@ fresh; printf '[1, 2]\n' > a.edn; printf '{1: dt'"'"'1970-01-01T00:00:23Z'"'"',\
 printf '\x82\x01\xfb\x3f\xf8\0\0\0\0\0\0' > d.cbor; printf '\x82\x01' > e.cbor; printf '\x63ab' > f.cbor; printf '\x01\x82\x01\x62\xff\xfe' > g.cbor; printf '\x81\x1c' > h.bin
 run "$program" check a.edn b.edn c.edn d.cbor e.cbor f.cbor g.cbor nofile
 is "check: status" 1 "$status"; is "check: output" "" "$out"
-is "check: told" $'b.edn: Number has no encoding\nc.edn:1:2: Invalid EDN\nd.cbor: Float value out of scope\ne.cbor: Expected item, out of data\nf.cbor: Announced bytes unavailable\ng.cbor: Text string must be valid UTF-8\ncbor-edn: nofile: No such file or directory (os error 2)\n' "$err"
-run "$program" check --cbor h.bin; is "check --cbor" $'1h.bin: Reserved header byte\n' "$status$err"
+is "check: told" $'b.edn:2:14: Number has no encoding\n 2: [3, <<4, 1.5>>]}\n             ^\nc.edn:1:2: Invalid EDN\n" " "<U+001B>"\n ^\nd.cbor: Float value out of scope (byte 2)\ne.cbor: Expected item, out of data (byte 2)\nf.cbor: Announced bytes unavailable (byte 0)\ng.cbor: Text string must be valid UTF-8 (byte 3)\ncbor-edn: nofile: No such file or directory (os error 2)\n' "$err"
+run "$program" check --cbor h.bin; is "check --cbor" $'1h.bin: Reserved header byte (byte 1)\n' "$status$err"
 run "$program" check a.edn; is "check: all well" "0" "$status$out$err"
-printf "foo'bar'" > l.edn; run "$program" check l.edn; is "check: literal" $'1l.edn: Unsupported application oriented literal or ellipsis\n' "$status$err"; run "$program" check --apply-999 l.edn; is "check --apply-999" 0 "$status"
-printf 'a\xff' > u.edn; run "$program" check u.edn; is "check: not UTF-8" $'1u.edn: Not UTF-8\n' "$status$err"
+printf "foo'bar'" > l.edn; run "$program" check l.edn; is "check: literal" $'1l.edn:1:1: Unsupported application oriented literal or ellipsis\nfoo\'bar\'\n^\n' "$status$err"; run "$program" check --apply-999 l.edn; is "check --apply-999" 0 "$status"
+printf 'a\xff' > u.edn; run "$program" check u.edn; is "check: not UTF-8" $'1u.edn:1:2: Not UTF-8\na\n ^\n' "$status$err"
 
 # ---- show
 fresh; mkdir d; printf '\x43\xa1\x01\x26' > a.cbor; printf '\x01' > d/b.cbor; printf '\x82' > c.cbor; cat a.cbor d/b.cbor > both; sum=$(cksum a.cbor d/b.cbor)
@@ -164,7 +164,7 @@ run "$program" show a.cbor; is "show: one" $'0<<{1: -7}>>\n' "$status$out$err"
 run "$program" show a.cbor d/b.cbor; is "show: two" $'0/ a.cbor /\n<<{1: -7}>>\n# d/b.cbor\n1\n' "$status$out$err"; is "show: none is an output" "$sum" "$(cksum a.cbor d/b.cbor)"
 is "show: two come back" "" "$("$program" show a.cbor d/b.cbor | "$program" diag2cbor | cmp - both 2>&1)"
 run "$program" show c.cbor a.cbor - nofile <<< 4; is "show: faults, status" 1 "$status"; is "show: faults, output" $'/ a.cbor /\n<<{1: -7}>>\n/ <stdin> /\n-21,\n10\n' "$out"
-is "show: faults, told" $'c.cbor: Expected item, out of data\ncbor-edn: nofile: No such file or directory (os error 2)\n' "$err"
+is "show: faults, told" $'c.cbor: Expected item, out of data (byte 1)\ncbor-edn: nofile: No such file or directory (os error 2)\n' "$err"
 run "$program" show -i hex --no-embedded <<< '43 a1 01 26'; is "show: digits" $'0h\'a10126\'\n' "$status$out$err"
 run "$program" show -i hex <<< 'd1 80'; is "show: names" $'017([])\n/ COSE_Mac0 /\n' "$status$out$err"
 run "$program" show -i hex --no-names <<< 'd1 80'; is "show: no names" $'017([])\n' "$status$out$err"

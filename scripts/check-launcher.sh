@@ -181,7 +181,7 @@ call --build < /dev/null
 count 'a build' test "$status" = 0
 count 'its progress' grep -q "crate 1 of $(wc -l < "$reply/built"), cbor_edn_parts.* 0 min" "$work/said"
 built=$(cut -d' ' -f1,4- "$reply/built" | tr '\n' ',')
-count 'its crates' test "${built%%,*} .. ${built##*,lib }" = 'lib cbor_edn_parts .. cbor_edn_files,run -- diag2cbor cbor_edn_tool,'
+count 'its crates' test "${built%%,*} .. ${built##*,lib }" = 'lib cbor_edn_parts .. cbor_edn_findings,run -- diag2cbor cbor_edn_tool,'
 count 'each of them once' test -z "$(sort "$reply/built" | uniq -d)"
 
 # The program that is built.

@@ -9,10 +9,11 @@
 # (cbor.py), the items and comments that flags make (conversions.py, annotations.py), embedded CBOR and names of COSE that are shown
 # (embedded.py, cose.py: some 60 byte strings a round hold CBOR, whole or damaged) and the spaces of a layout (layout.py). So it is
 # known which inputs are taken, what diag2cbor and cbor2diag write, which items diag2diag writes and, where it converts none, its whole
-# text; and of what is refused the whole line, but for the place in a text, which is only looked at to be one. Beside that, what is
-# taken comes back: by `diag2diag --preserve-space --no-bignum-from-tags` as the same text, by cbor2diag and diag2cbor as the same bytes; what
-# is laid out stays when that is done again, where the flags allow it. No run may take more than 2 seconds of processor time, or more
-# memory than 64 MB and 4 bytes for each byte that it writes.
+# text; and of what is refused the whole line, but for the place in a text, which is only looked at to be one; of bytes also the place.
+# Beside that, what is taken comes back: by `diag2diag --preserve-space --no-bignum-from-tags` as the same text, by cbor2diag and
+# diag2cbor as the same bytes; what is laid out stays when that is done again, where the flags allow it. For each 58 inputs another 200
+# items are formatted twice. No run may take more than 2 seconds of processor time, or more memory than 64 MB and 4 bytes for each byte
+# that it writes.
 #
 # It takes Python 3.9 and nothing beside, and all processors that it may have. What fails is printed as small as it could be made, with the
 # command that repeats it. The last line is 'N passed, M failed'.

@@ -19,6 +19,8 @@ VALUES, OTHERS, DAMAGED, ENCODINGS, DAMAGED_ENCODINGS, DIGITS = 12, 6, 10, 12, 8
 # byte strings of a round that hold CBOR, whole and damaged, in one input
 NESTINGS = 60
 ROUND = VALUES + OTHERS + DAMAGED + ENCODINGS + 2 * DAMAGED_ENCODINGS + DIGITS
+# Beside them: items of the text that is formatted twice.
+FORMATTED = 200
 LARGE = 1 << 16
 LARGE_EVERY = 50
 DEEP_EVERY = 25
@@ -85,6 +87,9 @@ class Inputs:
             source = self.rng.choice(others) if self.rng.randrange(2) else self.text(False, self.rng.randrange(1, 4))
             self.add(self.rng.choice([laws.keep, laws.encode, laws.lay_out, laws.annotate, laws.lay_out_file, laws.check]), generate.damaged(self.rng, source), cases=1)
 
+    def add_formatted(self):
+        self.add(laws.rest, self.text(False, FORMATTED), self.some(["--remove-comments"]), limit=laws.LIMIT)
+
     def add_bytes(self):
         encodings = generate.Bytes(self.rng)
         data = encodings.items(3, ENCODINGS)
@@ -133,6 +138,7 @@ class Inputs:
 
     def all(self):
         self.add_texts()
+        self.add_formatted()
         self.add_bytes()
         if self.number % LARGE_EVERY == 0:
             self.add_large()
@@ -173,7 +179,7 @@ def shrunk(law, data, limit, flags):
 
 def told(seed, number, law, data, limit, flags):
     """What is printed of a case that failed."""
-    command = {"show": "show", "lay_out_file": "fmt", "check": "check", "decode": "cbor2diag", "decode_digits": "cbor2diag -i hex", "encode": "diag2cbor", "annotate": "diag2cbor --annotate-tags"}
+    command = {"show": "show", "lay_out_file": "fmt", "rest": "fmt", "check": "check", "decode": "cbor2diag", "decode_digits": "cbor2diag -i hex", "encode": "diag2cbor", "annotate": "diag2cbor --annotate-tags"}
     words = [command.get(law.__name__, "diag2diag"), *(laws.EXACT if law is laws.keep else []), *flags, *laws.limited(limit)]
     return (
         f"fuzz: seed {seed}, round {number}: {' '.join(law.__doc__.split())}\n"

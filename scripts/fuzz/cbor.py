@@ -61,9 +61,12 @@ class Reader:
         self.data = data
         self.limit = limit
         self.at = 0
+        # where the last head begins
+        self.begun = 0
 
     def head(self, within=None):
         """Takes a head, within a string of indefinite length one of its chunks: the major type and the argument, which is None at 31."""
+        self.begun = self.at
         if self.at == len(self.data):
             raise Fault(OUT_OF_DATA)
         first = self.data[self.at]
@@ -172,3 +175,14 @@ def read(data, limit):
     except Fault as fault:
         return None, str(fault)
     return items, None
+
+
+def offset_of_fault(data, limit):
+    """Where the head begins at which the bytes are refused: at their end where an item is missing."""
+    reader = Reader(data, limit)
+    try:
+        while reader.at < len(data):
+            reader.item(0)
+    except Fault:
+        return reader.begun
+    raise ValueError("the bytes are taken")

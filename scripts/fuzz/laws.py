@@ -9,7 +9,7 @@ import cose
 import edn
 import embedded
 import layout
-from runs import Problem, expect, expect_place, expect_place_of_file, fault, fault_of_file, run, written
+from runs import Problem, expect, expect_place, expect_place_of_file, fault, fault_of_bytes, run, written
 
 LIMIT = 512
 LINE = 64
@@ -81,11 +81,6 @@ def encoded(items, flags):
     except edn.Unencoded as why:
         return fault(f"Error encoding output data: {why}")
     return written(hex_lines(data) if any("hex" in flag for flag in flags) else data)
-
-
-def encoded_fault(items, flags):
-    """The words of why items have no encoding."""
-    return encoded(items, flags).said.decode().removeprefix("cbor-edn: Error encoding output data: ").rstrip("\n")
 
 
 def is_idempotent(flags, text):
@@ -176,7 +171,7 @@ def show(data, limit, flags):
     items, words = cbor.read(data, limit)
     ended = run(["show", *flags, *limited(limit)], data)
     if items is None:
-        expect(fault_of_file(words), ended)
+        expect(fault_of_bytes(words, cbor.offset_of_fault(data, limit)), ended)
         return
     if ended.status != 0:
         raise Problem(f"the bytes are of the scope: {ended}")
@@ -209,10 +204,18 @@ def lay_out_file(data, limit, flags):
     expect(ended, run(["fmt", *flags, *limited(limit)], ended.output))
 
 
+def rest(data, limit, flags):
+    """`fmt` leaves what it wrote."""
+    ended = run(["fmt", *flags, *limited(limit)], data)
+    if ended.status != 0:
+        raise Problem(f"the text is one: {ended}")
+    expect(ended, run(["fmt", *flags, *limited(limit)], ended.output))
+
+
 def refuse_file(ended, data, text, items, limit):
     """A command for files must have refused a text that is none, or that the grammar or the limit refuses."""
     if text is None:
-        expect(fault_of_file("Not UTF-8"), ended)
+        expect_place_of_file(ended, data.decode(errors="replace"), ["Not UTF-8"])
     elif items is not None:
         expect_place_of_file(ended, text, ["EDN nested too deeply"])
     else:
@@ -228,7 +231,7 @@ def check(data, limit, flags):
     elif encoded(items, flags).status == 0:
         expect(written(b""), ended)
     else:
-        expect(fault_of_file(encoded_fault(items, flags)), ended)
+        expect_place_of_file(ended, text, edn.FAULTS)
 
 
 def decode_digits(data, limit, flags):

@@ -12,9 +12,10 @@ MOST_MEMORY = 64 * MB
 MOST_MEMORY_FOR_EACH_BYTE_WRITTEN = 4
 PATIENCE = 120
 
-# The line of a fault: no control character of an input reaches a terminal by it.
-FAULT = re.compile(rb"(?:cbor-edn: |<stdin>)[^\x00-\x1f\x7f]+\n")
-PLACE_OF_FILE = re.compile(rb"<stdin>:([0-9]+):([0-9]+): ([^\x00-\x1f\x7f]+)\n")
+# The line of a fault: no control character of an input reaches a terminal by it. That of a command for files may be followed by the line of
+# the input and a caret.
+FAULT = re.compile(rb"(?:cbor-edn: [^\x00-\x1f\x7f]+\n|<stdin>[^\x00-\x1f\x7f]+\n(?:[^\x00-\x1f\x7f]*\n *\^\n)?)")
+PLACE_OF_FILE = re.compile(rb"<stdin>:([0-9]+):([0-9]+): ([^\x00-\x1f\x7f]+)\n[^\n]*\n *\^\n")
 PLACE = re.compile(rb"cbor-edn: Error parsing input data: (Invalid EDN|EDN nested too deeply) in line ([0-9]+) column ([0-9]+) \(byte ([0-9]+)\)\n")
 
 program = ""
@@ -130,5 +131,5 @@ def expect_place_of_file(ended, text, words):
         raise Problem(f"no such place: {ended}")
 
 
-def fault_of_file(words):
-    return Run(1, b"", f"<stdin>: {words}\n".encode())
+def fault_of_bytes(words, offset):
+    return Run(1, b"", f"<stdin>: {words} (byte {offset})\n".encode())

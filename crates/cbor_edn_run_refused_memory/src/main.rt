@@ -5,6 +5,7 @@
 #![tactic(auto)]
 
 mod files;
+mod findings;
 mod free;
 mod lines;
 mod runs;
@@ -44,6 +45,10 @@ fn main(rt: HostRuntime) -> io::Result<()> {
     for (name, call) in files::CALLS {
         let told = word(files::called(rt.alloc(), *call));
         println!(rt; "{name}: {told}")?;
+    }
+    for input in findings::INPUTS {
+        let told = word(findings::found(rt.alloc(), input));
+        println!(rt; "{}: {told}", input.name)?;
     }
     print_free(&rt)?;
     for row in served::SERVED {

@@ -2,7 +2,7 @@
 
 use super::bytes_of;
 use super::show::write;
-use super::told::{Told, spoken, tell, tell_error, tell_refused};
+use super::told::{Told, spoken, tell, tell_error, tell_no_memory, tell_refused};
 use cbor_edn::format::{FormatOptions, formatted};
 use cbor_edn_files::disk::StdDisk;
 use cbor_edn_files::replace::{ReplaceError, replace};
@@ -38,7 +38,13 @@ fn text_of(
     name: &str,
     bytes: &[u8],
 ) -> Result<Vec<u8>, Told> {
-    formatted(rt.alloc(), options, bytes).map_err(|fault| tell_refused(rt, name, &fault))
+    formatted(rt.alloc(), options, bytes).map_err(|fault| tell_refused(
+        rt,
+        name,
+        &options.steps(),
+        bytes,
+        fault,
+    ))
 }
 
 fn format_input(rt: &HostRuntime, options: &FormatOptions) -> Result<(), Told> {
@@ -96,6 +102,6 @@ fn tell_not_replaced(rt: &HostRuntime, name: &str, error: &ReplaceError) -> Told
             tell_error(rt, name, error)
         }
         ReplaceError::NoName => tell(rt, name, "No name for a draft is free"),
-        ReplaceError::Memory(_) => tell(rt, name, "Out of memory"),
+        ReplaceError::Memory(_) => tell_no_memory(rt, name),
     }
 }

@@ -1,7 +1,7 @@
 //! `show`: CBOR to standard output.
 
 use super::bytes_of;
-use super::told::{Told, spoken, tell, tell_error, tell_refused};
+use super::told::{Told, spoken, tell_error, tell_no_memory, tell_refused};
 use cbor_edn::show::{ShowOptions, behind_name, shown};
 use std::io::Write;
 
@@ -16,14 +16,14 @@ pub(super) fn show_file(
     let bytes = bytes_of(rt, name)?;
     let text = match shown(rt.alloc(), options, &bytes) {
         Ok(text) => text,
-        Err(fault) => return Err(tell_refused(rt, name, &fault)),
+        Err(fault) => return Err(tell_refused(rt, name, &options.steps(), &bytes, fault)),
     };
     if !several {
         return write(rt, &text);
     }
     match behind_name(rt.alloc(), spoken(name), &text) {
         Ok(text) => write(rt, &text),
-        Err(_) => Err(tell(rt, name, "Out of memory")),
+        Err(_) => Err(tell_no_memory(rt, name)),
     }
 }
 

@@ -1,0 +1,94 @@
+//! Where in a text an item has no encoding.
+ghost use Rattle.std.specs.Prelude.{IfSome};
+ghost use Rattle.cbor_edn_parts.specs.Errors.{error_offset, error_line, error_column};
+ghost use Rattle.cbor_edn_parts.specs.Location.{IsLocation};
+
+use cbor_edn::engine::Options;
+use cbor_edn_application::visits::{resolve_addresses, resolve_times, to_999};
+use cbor_edn_core::tree::Sequence;
+use cbor_edn_parts::error::{Fault, InconsistentEdn, ParseError, Refusal};
+use cbor_edn_parts::location::with_location;
+use cbor_edn_parts::looks::Looks;
+use cbor_edn_parts::text::Text;
+use cbor_edn_places::offset::offset_of;
+use cbor_edn_places::path::{cut_to_item, first_valueless};
+use std::alloc::{AllocError, Global};
+
+/// The line and the column of an offset in a text, as a refusal has them; none where no character begins there.
+pub fn located(text: &str, offset: usize) -> Option<ParseError>
+    ensures { IfSome result (λ place. IsLocation text.now (error_offset place) (error_line place) (error_column place)) }
+{
+    if !text.is_char_boundary(offset) {
+        return None;
+    }
+    let mut looks = Looks::new();
+    let refusal = Refusal::invalid(offset);
+    Some(with_location(&Text::new(text), refusal, &mut looks))
+}
+
+// Does what `diag2cbor` does to literals before it encodes items.
+fn resolve(
+    alloc: Global,
+    options: &Options,
+    sequence: &mut Sequence<'_>,
+) -> Result<(), AllocError> {
+    if options.aol_to_item {
+        resolve_addresses(alloc, sequence)?;
+        resolve_times(alloc, sequence)?;
+    }
+    if options.apply_999 {
+        to_999(alloc, sequence)?;
+    }
+    Ok(())
+}
+
+// A copy of items in which literals stand for what a run takes them for.
+fn resolved<'a>(
+    alloc: Global,
+    options: &Options,
+    sequence: &Sequence<'a>,
+) -> Result<Box<Sequence<'a>>, AllocError> {
+    let mut copy = Box::new(alloc, sequence.clone()?)?;
+    resolve(alloc, options, &mut copy)?;
+    Ok(copy)
+}
+
+// The path of what has no encoding, and why it has none.
+fn first_in_resolved(
+    alloc: Global,
+    options: &Options,
+    sequence: &Sequence<'_>,
+) -> Result<Option<(Vec<usize>, InconsistentEdn)>, AllocError> {
+    let mut copy = resolved(alloc, options, sequence)?;
+    first_valueless(alloc, &mut copy)
+}
+
+// Where that begins in the text of the items as they stand.
+fn first_offset(
+    alloc: Global,
+    options: &Options,
+    sequence: &mut Sequence<'_>,
+) -> Result<Option<(usize, InconsistentEdn)>, AllocError> {
+    let Some((mut path, reason)) = first_in_resolved(alloc, options, sequence)? else {
+        return Ok(None);
+    };
+    if !cut_to_item(sequence, &mut path) {
+        return Ok(None);
+    }
+    let offset = offset_of(alloc, sequence, &path)?;
+    Ok(Some((offset, reason)))
+}
+
+/// Where the first item begins in a text that has no encoding, in bytes, and why it has none: literals stand for what a run of these options
+/// takes them for. None where each has one, or the text is no EDN.
+pub fn first_in_text(
+    alloc: Global,
+    options: &Options,
+    text: &str,
+) -> Result<Option<(usize, InconsistentEdn)>, AllocError> {
+    match Sequence::parse_within(alloc, text, options.limit) {
+        Ok(mut sequence) => first_offset(alloc, options, &mut sequence),
+        Err(Fault::Told(_)) => Ok(None),
+        Err(Fault::Memory(refused)) => Err(refused),
+    }
+}

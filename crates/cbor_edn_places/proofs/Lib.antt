@@ -1,0 +1,4 @@
+mod Around
+mod FirstPlaces
+mod Offsets
+mod Refusals

@@ -1,0 +1,4 @@
+pub mod Between
+pub mod Places
+pub mod Refusals
+pub mod internal
