@@ -373,7 +373,7 @@ DEEPEST_SHOWN = [
     ("tags of addresses in byte strings", 8, "<<52([", "])>>"),
     ("tags of addresses in byte strings", 255, "<<52([", "])>>"),
     ("messages in messages", 8, "<<18([h'', {}, ", ", h''])>>"),
-    ("messages in messages", 170, "<<18([h'', {}, ", ", h''])>>"),
+    ("messages in messages", 128, "<<18([h'', {}, ", ", h''])>>"),
 ]
 MOST_TIMES_SHOWN = 10
 

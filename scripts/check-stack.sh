@@ -166,7 +166,7 @@ check_shown() {
 check_shown 'byte strings in arrays' '<<[' 1 ']>>'
 check_shown 'byte strings in maps' '<<{1: ' 2 '}>>'
 check_shown 'byte strings in tags of addresses' '<<52(' "h'c0000201'" ')>>'
-check_shown 'messages in messages' "<<18([h'', {}, " 1 ", h''])>>" 170
+check_shown 'messages in messages' "<<18([h'', {}, " 1 ", h''])>>" 128
 
 # Runs a program of tests.
 test_under() {
