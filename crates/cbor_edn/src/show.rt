@@ -76,11 +76,7 @@ fn printed(
 }
 
 // Takes all steps but the last, which sets the spaces of what is printed.
-fn take(
-    alloc: Global,
-    options: &ShowOptions,
-    sequence: &mut Sequence<'_>,
-) -> Result<(), AllocError>
+fn take(alloc: Global, options: &ShowOptions, sequence: &mut Sequence<'_>) -> Result<(), AllocError>
     ensures { OnOk result ((v : Tree Seq) → IsLaidOut indented (sequence_tree sequence.new) v → ShowGives options.now (sequence_tree sequence.old) v) }
 {
     embedded_shown(alloc, options, sequence)?;

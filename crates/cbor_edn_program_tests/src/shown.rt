@@ -110,7 +110,11 @@ const ROWS: &[(&str, ShowOptions, &str)] = &[
 / COSE_Sign1 /
 ",
     ),
-    ("d18143a10105", NAMED, "17([<<{1/ alg /: 5\n# HMAC 256/256\n}>>/ protected /])\n/ COSE_Mac0 /\n"),
+    (
+        "d18143a10105",
+        NAMED,
+        "17([<<{1/ alg /: 5\n# HMAC 256/256\n}>>/ protected /])\n/ COSE_Mac0 /\n",
+    ),
 ];
 
 fn text_of(alloc: Global, options: &ShowOptions, input: &[u8]) -> Result<String, Fail> {

@@ -19,7 +19,7 @@ returns-then-other-clause-none c = λ none.
       summed _ _ _ _ _ _ _ _ _ _ _ _ _ _ _ _ _ _ _ c.split-hex.ensures c.split-annotate_tags.ensures c.split-remove_comments.ensures c.split-aol_to_item.ensures c.split-annotate_ccs.ensures
           c.split-bignum_from_tags.ensures c.split-apply_999.ensures c.split-preserve_space.ensures c.split-names.ensures,
       elim c.then-other.branch [
-        then-other-via-then-other w ↦ inl (sym c.any-other.ensures ∙ w.if-other.true)
+        | then-other-via-then-other w ↦ inl (sym c.any-other.ensures ∙ w.if-other.true)
         | then-other-via-else-other+then-levels-gt-MOST_LEVELS w ↦ inr w.if-levels-gt-MOST_LEVELS.true
       ],
     )
