@@ -22,7 +22,7 @@ const CLAIMS: ShowOptions = ShowOptions {
     ..SHOW
 };
 
-const NAMED: ShowOptions = ShowOptions {
+const WITH_NAMES: ShowOptions = ShowOptions {
     names: true,
     ..SHOW
 };
@@ -100,7 +100,7 @@ const ROWS: &[(&str, ShowOptions, &str)] = &[
     // names of a message, of its parts, parameters and algorithm
     (
         "d28443a10126a0404100",
-        NAMED,
+        WITH_NAMES,
         "18([
         <<{1/ alg /: -7/ ES256 /}>>/ protected /,
         {}/ unprotected /,
@@ -112,7 +112,7 @@ const ROWS: &[(&str, ShowOptions, &str)] = &[
     ),
     (
         "d18143a10105",
-        NAMED,
+        WITH_NAMES,
         "17([<<{1/ alg /: 5\n# HMAC 256/256\n}>>/ protected /])\n/ COSE_Mac0 /\n",
     ),
 ];
