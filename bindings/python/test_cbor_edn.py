@@ -32,7 +32,7 @@ OPTIONS = [
     ("apply_999", diag2diag, "foo'bar'", "999([\"foo\", \"bar\"])\n", "foo'bar'\n"),
     ("preserve_space", diag2diag, "[1 /one/,2]", "[1 /one/,2]", "[1/one/, 2]\n"),
     ("hex", show, b"30", "-17\n", "-20,\n-17\n"),
-    ("names", show, b"\xd1\x80", "17([])/ COSE_Mac0 /\n", "17([])\n"),
+    ("names", show, b"\xd1\x80", "17([])\n/ COSE_Mac0 /\n", "17([])\n"),
     ("annotate_ccs", show, b"\x43\xa1\x04\x00\xa1\x04\x00", "<<{4: 0}>>,\n{4/ exp /: dt'1970-01-01T00:00:00+00:00'}\n", "<<{4: 0}>>,\n{4: 0}\n"),
     ("bignum_from_tags", show, BIGNUM, "18446744073709551616\n", "2(h'010000000000000000')\n"),
 ]

@@ -65,7 +65,7 @@ static const Done DONE[] = {
     {"show, nothing asked", 3, 0, 512, TEXT("\x43\xa1\x01\x26"), TEXT("h'a10126'\n")},
     {"levels", 3, CBOR_EDN_LEVELS(1), 512, TEXT("\x45\x81\x43\x81\x41\x07"), TEXT("<<[h'814107']>>\n")},
     {"255 levels from digits", 3, CBOR_EDN_LEVELS(255) | CBOR_EDN_HEX, 512, TEXT("458143814107"), TEXT("<<[<<[h'07']>>]>>\n")},
-    {"names", 3, CBOR_EDN_NAMES, 512, TEXT("\xd1\x80"), TEXT("17([])/ COSE_Mac0 /\n")},
+    {"names", 3, CBOR_EDN_NAMES, 512, TEXT("\xd1\x80"), TEXT("17([])\n/ COSE_Mac0 /\n")},
     {"show, a bignum", 3, CBOR_EDN_BIGNUM_FROM_TAGS, 512, TEXT("\xc2\x49\x01\0\0\0\0\0\0\0\0"),
      TEXT("18446744073709551616\n")},
     {"show, claims", 3, CBOR_EDN_ANNOTATE_CCS, 512, TEXT("\xa1\x04\x00"),

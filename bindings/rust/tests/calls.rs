@@ -106,7 +106,7 @@ fn what_commands_do_by_themselves() {
 #[test]
 fn shows() {
     assert_eq!(show(b"\x43\xa1\x01\x26").unwrap(), "<<{1: -7}>>\n");
-    assert_eq!(show(b"\xd1\x80").unwrap(), "17([])/ COSE_Mac0 /\n");
+    assert_eq!(show(b"\xd1\x80").unwrap(), "17([])\n/ COSE_Mac0 /\n");
     assert_eq!(show(BIGNUM).unwrap(), "18446744073709551616\n");
     assert_eq!(show(b"").unwrap(), "");
     let plain = ShowOptions {

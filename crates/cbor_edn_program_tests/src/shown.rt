@@ -113,7 +113,7 @@ const ROWS: &[(&str, ShowOptions, &str)] = &[
     (
         "d18143a10105",
         WITH_NAMES,
-        "17([<<{1/ alg /: 5\n# HMAC 256/256\n}>>/ protected /])\n/ COSE_Mac0 /\n",
+        "17([<<{1/ alg /: 5# HMAC 256/256\n}>>/ protected /])\n/ COSE_Mac0 /\n",
     ),
 ];
 
