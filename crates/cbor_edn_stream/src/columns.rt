@@ -12,6 +12,7 @@ use cbor_edn_model::cbor::decode::head::{Argument, head_of};
 /// says nothing.
 ///
 /// It goes from head to head, each of which shows one column at least, and reads no more of them than there are columns.
+#[inline(never)]
 pub fn is_wider(columns: usize, bytes: &[u8]) -> bool
     ensures { result ≡ true → IsWider columns bytes.now }
 {

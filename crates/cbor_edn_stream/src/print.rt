@@ -5,7 +5,7 @@
 //! the printer lays out. Where they don't, it has lines of its own, and its parts are printed one by one in the same way.
 //!
 //! Bytes are decoded in vain once at the most: of an item that begins in such bytes, the heads are counted first.
-ghost use Rattle.std.specs.Prelude.{◌≡◌, ◌≢◌, ◌++◌, ◌<◌, ◌≤◌, ◌*◌, ◌-◌, ◌^◌, ◌∷◌, [], List, ℕ, suc, true, false, length, map, IfOk, IfSome, IfNone, OnOk, None};
+ghost use Rattle.std.specs.Prelude.{◌≡◌, ◌≢◌, ◌⊎◌, ◌++◌, ◌<◌, ◌≤◌, ◌*◌, ◌-◌, ◌^◌, ◌∷◌, [], List, ℕ, suc, true, false, length, map, min, IfOk, IfSome, IfNone, OnOk, None};
 ghost use Rattle.cbor_edn_parts.specs.Buffer.{buffer_bytes};
 ghost use Rattle.cbor_edn_parts.specs.Indicator.{indicator_text};
 ghost use Rattle.cbor_edn_parts.specs.Refusals.{IfTold};
@@ -123,6 +123,25 @@ fn is_known_wide(
         is_wider(columns, bytes)
     } else {
         announces(columns, nested, argument)
+    }
+}
+
+/// How many bytes of an item are decoded, if it may fit on a line: none where its heads tell that it does not.
+#[inline(always)]
+fn front_len(
+    layout: Layout,
+    nested: Nested,
+    argument: Argument,
+    bytes: &[u8],
+    untried: usize,
+) -> usize
+    ensures enough { (result ≡ min (front_room layout) (length bytes.now)) ⊎ ((rest : List ℕ) → head_at bytes.now ≡ Ok ((nested_major nested, argument), rest) → IsWider (front_columns layout) bytes.now) }
+    ensures within { result ≤ length bytes.now }
+{
+    if is_known_wide(columns(layout), nested, argument, bytes, untried) {
+        0
+    } else {
+        room(layout).min(bytes.len())
     }
 }
 
@@ -286,11 +305,7 @@ fn print_nested<'b>(
     ensures exact { Prints (λ t. Writes layout t) (λ r. r.now) (buffer_bytes out.old) (buffer_bytes out.new) result (item_at trees limit bytes.now) }
     ensures shorter { IfOk result (λ r. length r.now < length bytes.now) }
 {
-    if is_known_wide(columns(layout), nested, argument, bytes, untried) {
-        let parts = layout.of_parts(usize::MAX);
-        return print_parts(alloc, out, parts, nested, argument, behind, limit, untried);
-    }
-    let (front, _) = bytes.split_at(room(layout).min(bytes.len()));
+    let (front, _) = bytes.split_at(front_len(layout, nested, argument, bytes, untried));
     match decode_item(alloc, front, limit) {
         Ok((item, after)) => {
             print_tree(out, &item, &layout)?;
@@ -300,7 +315,7 @@ fn print_nested<'b>(
         Err(Fault::Memory(e)) => Err(Fault::Memory(e)),
         Err(Fault::Told(_)) => {
             let parts = layout.of_parts(usize::MAX);
-            let untried = bytes.len() - front.len();
+            let untried = untried.min(bytes.len() - front.len());
             print_parts(alloc, out, parts, nested, argument, behind, limit, untried)
         }
     }

@@ -1,6 +1,6 @@
 -- An item that stands in the front of the bytes, and one that does not, which has lines of its own.
 use Rattle.std.proofs.Common.{◌≡◌, ℕ, ◌-◌, ◌*◌, ◌^◌, ◌≤◌, ◌<◌, take, drop, List, [], ◌∷◌, ◌++◌, length, Result, Ok, Err, refl, sym, ap, subst, ◌∙◌, arith, inl, inr}
-use Rattle.std.specs.Prelude.{min}
+use Rattle.std.specs.Prelude.{min, ◌⊎◌}
 use Rattle.std.proofs.lemmas.Bool.{cases_lt, lt-ltb, le-ltb}
 use Rattle.cbor_edn_parts.specs.LayoutColumns.{of_parts, saturating_add}
 use Rattle.cbor_edn_parts.specs.declared.error.Fault.{Fault}
@@ -46,23 +46,24 @@ nested_at limit nested.Array argument bytes behind read = array_at limit argumen
 nested_at limit nested.Map argument bytes behind read = map_at limit argument bytes behind read
 nested_at limit nested.Tag argument bytes behind read = tag_at limit argument bytes behind read
 
--- What the front does not hold has lines of its own.
-pub lines_written : {X : Type 0} (view : X → List ℕ) (l parts : Layout) (limit n : ℕ) (bytes front old new : List ℕ) (e : CborError) (r : Result X (Fault CborError)) → IsBytes bytes → n ≡ min (front_room l) (length bytes) → length bytes < 2 ^ 64
+-- What the front does not hold is wider, and so is what its heads tell to be.
+lines_wider : (l : Layout) (limit n : ℕ) (bytes behind front : List ℕ) (k : Nested) (argument : Argument) (e : CborError) → IsBytes bytes → head_at bytes ≡ Ok ((nested_major k, argument), behind)
+    → (n ≡ min (front_room l) (length bytes)) ⊎ ((rest : List ℕ) → head_at bytes ≡ Ok ((nested_major k, argument), rest) → IsWider (front_columns l) bytes) → length bytes < 2 ^ 64
+    → front ≡ take n bytes → item_at trees limit front ≡ Err e → (t : Tree OneItem) (rest : List ℕ) → item_at trees limit bytes ≡ Ok (t, rest) → front_columns l < line_width t
+lines_wider l limit n bytes behind front k argument e fits head (inl is) small part refused t rest read =
+    let long = front_refused limit n bytes e (t, rest) fits (subst (λ (b : List ℕ). item_at trees limit b ≡ Err e) part refused) read in
+    omega (arith, is, long.0, long.1, small)
+lines_wider l limit n bytes behind front k argument e fits head (inr wider) small part refused t rest read = wider behind head limit t rest read
+
+-- Both have lines of their own.
+pub lines_written : {X : Type 0} (view : X → List ℕ) (l parts : Layout) (limit n : ℕ) (bytes behind front : List ℕ) (k : Nested) (argument : Argument) (old new : List ℕ) (e : CborError) (r : Result X (Fault CborError)) → IsBytes bytes → head_at bytes ≡ Ok ((nested_major k, argument), behind)
+    → (n ≡ min (front_room l) (length bytes)) ⊎ ((rest : List ℕ) → head_at bytes ≡ Ok ((nested_major k, argument), rest) → IsWider (front_columns l) bytes) → length bytes < 2 ^ 64
     → front ≡ take n bytes → item_at trees limit front ≡ Err e → parts ≡ of_parts l greatest
     → Prints (λ t. WritesParts parts t) view old new r (item_at trees limit bytes) → Prints (λ t. Writes l t) view old new r (item_at trees limit bytes)
-lines_written view l parts limit n bytes front old new e (Ok x) fits is small part refused given p =
-    let long = front_refused limit n bytes e (p.0, view x) fits (subst (λ (b : List ℕ). item_at trees limit b ≡ Err e) part refused) p.1 in
-    let wide = wide_parts l p.0 (omega (arith, is, long.0, long.1, small)) in
+lines_written view l parts limit n bytes behind front k argument old new e (Ok x) fits head enough small part refused given p =
+    let wide = wide_parts l p.0 (lines_wider l limit n bytes behind front k argument e fits head enough small part refused p.0 (view x) p.1) in
     (p.0, p.1, parts_written l parts p.0 old new (wide ∙ sym given) p.2)
-lines_written view l parts limit n bytes front old new e (Err f) fits is small part refused given p = p
-
--- What its heads tell to be wide has too.
-pub wide_written : {X : Type 0} (view : X → List ℕ) (l parts : Layout) (limit : ℕ) (bytes old new : List ℕ) (r : Result X (Fault CborError)) → IsWider (front_columns l) bytes → parts ≡ of_parts l greatest
-    → Prints (λ t. WritesParts parts t) view old new r (item_at trees limit bytes) → Prints (λ t. Writes l t) view old new r (item_at trees limit bytes)
-wide_written view l parts limit bytes old new (Ok x) wider given p =
-    let wide = wide_parts l p.0 (wider limit p.0 (view x) p.1) in
-    (p.0, p.1, parts_written l parts p.0 old new (wide ∙ sym given) p.2)
-wide_written view l parts limit bytes old new (Err f) wider given p = p
+lines_written view l parts limit n bytes behind front k argument old new e (Err f) fits head enough small part refused given p = p
 
 -- What it holds is read from all.
 pub front_written : (l : Layout) (limit n : ℕ) (bytes front behind rest old new : List ℕ) (t : Tree OneItem) → IsBytes bytes → front ≡ take n bytes → item_at trees limit front ≡ Ok (t, behind) → rest ≡ drop (length front - length behind) bytes → Writes l t old new

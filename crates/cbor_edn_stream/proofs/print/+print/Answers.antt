@@ -8,8 +8,7 @@ use Rattle.std.proofs.lemmas.Result.{err_from_is_err_and}
 use Rattle.cbor_edn_model.proofs.lemmas.cbor.CborTurns.{fails, until_fails}
 use Rattle.cbor_edn_stream.proofs.lemmas.Turns.{front_none, entry_item, list_fails, fault_told, list_printed, pair_fails, pair_printed, tag_printed, head_is, unsigned_written, negative_written, bytes_at, text_at, prints_as, inside_printed, several_many, several_open, stopped_at_once, empty_printed}
 use Rattle.cbor_edn_model.proofs.lemmas.cbor.CborOutcomes.{many_none}
-use Rattle.cbor_edn_stream.proofs.lemmas.Lines.{nested_at, lines_written, wide_written, front_written}
-use Rattle.cbor_edn_stream.specs.Wide.{IsWider}
+use Rattle.cbor_edn_stream.proofs.lemmas.Lines.{nested_at, lines_written, front_written}
 use Rattle.cbor_edn_model.proofs.lemmas.cbor.CborTurns.{item_fails}
 use Rattle.std.proofs.Common.{subst}
 use Rattle.cbor_edn_model.specs.internal.CborReading.{DecoderFails}
@@ -177,21 +176,15 @@ print_item-returns-in-3-Some-clause-exact t c =
 
 pub print_nested-returns-in_ok-print_item-in-Ok-clause-exact : goal.print_nested-returns-in_ok-print_item-in-Ok-clause-exact
 print_nested-returns-in_ok-print_item-in-Ok-clause-exact t c =
-    front_written c.args.layout c.args.limit c.min.result c.args.bytes.now c.split_at.result.0.now c.in-Ok.after.now c.split_at-in-Ok.result.1.now (buffer_bytes c.args.out.now) (buffer_bytes c.print_item.new.out) (item_tree c.in-Ok.item)
+    front_written c.args.layout c.args.limit c.front_len.result c.args.bytes.now c.split_at.result.0.now c.in-Ok.after.now c.split_at-in-Ok.result.1.now (buffer_bytes c.args.out.now) (buffer_bytes c.print_item.new.out) (item_tree c.in-Ok.item)
     (λ i. omega (arith, c.type_inv.bytes i)) c.split_at.ensures.front c.in-Ok.ensures.exact c.split_at-in-Ok.ensures.back (grind arith)
-
-pub print_nested-returns-then-is_known_wide-clause-exact : goal.print_nested-returns-then-is_known_wide-clause-exact
-print_nested-returns-then-is_known_wide-clause-exact t c =
-    wide_written (λ r. r.now) c.args.layout c.of_parts-parts.result c.args.limit c.args.bytes.now (buffer_bytes c.args.out.now) (buffer_bytes c.print_parts.new.out) c.print_parts.result
-    (subst (λ (n : ℕ). IsWider n c.args.bytes.now) c.columns.ensures (c.is_known_wide.ensures c.if-is_known_wide.true c.args.behind.now c.requires.head)) c.of_parts-parts.ensures
-    (rw (nested_at c.args.limit c.args.nested c.args.argument c.args.bytes.now c.args.behind.now c.requires.head) c.print_parts.ensures.exact)
 
 pub print_nested-returns-in-Err-Told-clause-exact : goal.print_nested-returns-in-Err-Told-clause-exact
 print_nested-returns-in-Err-Told-clause-exact t c =
-    lines_written (λ r. r.now) c.args.layout c.of_parts-parts-in-Err-Told.result c.args.limit c.min.result c.args.bytes.now c.split_at.result.0.now (buffer_bytes c.args.out.now) (buffer_bytes c.print_parts-in-Err-Told.new.out) c.in-Err-Told.field-0-0 c.print_parts-in-Err-Told.result
-    (λ i. omega (arith, c.type_inv.bytes i)) (grind arith) (omega arith) c.split_at.ensures.front
-    (fault_told c.in-Err-Told.field-0 c.in-Err-Told.field-0-0 (item_at trees c.args.limit c.split_at.result.0.now) c.in-Err-Told.field-0-is c.in-Err-Told.ensures.exact) c.of_parts-parts-in-Err-Told.ensures
-    (rw (nested_at c.args.limit c.args.nested c.args.argument c.args.bytes.now c.args.behind.now c.requires.head) c.print_parts-in-Err-Told.ensures.exact)
+    lines_written (λ r. r.now) c.args.layout c.of_parts-parts.result c.args.limit c.front_len.result c.args.bytes.now c.args.behind.now c.split_at.result.0.now c.args.nested c.args.argument (buffer_bytes c.args.out.now) (buffer_bytes c.print_parts.new.out) c.in-Err-Told.field-0-0 c.print_parts.result
+    (λ i. omega (arith, c.type_inv.bytes i)) c.requires.head c.front_len.ensures.enough (omega arith) c.split_at.ensures.front
+    (fault_told c.in-Err-Told.field-0 c.in-Err-Told.field-0-0 (item_at trees c.args.limit c.split_at.result.0.now) c.in-Err-Told.field-0-is c.in-Err-Told.ensures.exact) c.of_parts-parts.ensures
+    (rw (nested_at c.args.limit c.args.nested c.args.argument c.args.bytes.now c.args.behind.now c.requires.head) c.print_parts.ensures.exact)
 
 pub print_tag-returns-clause-exact : goal.print_tag-returns-clause-exact
 print_tag-returns-clause-exact t c =
