@@ -1,5 +1,5 @@
 -- Bytes, head by head.
-use Rattle.std.specs.Prelude.{ℕ, zero, suc, ◌+◌, ◌-◌, ◌*◌, Bool, true, false, ◌||◌, ◌&&◌, ◌==◌, if◌then◌else◌, List, drop, Some, None}
+use Rattle.std.specs.Prelude.{ℕ, zero, suc, ◌+◌, ◌-◌, ◌*◌, Bool, false, ◌||◌, ◌&&◌, ◌==◌, if◌then◌else◌, List, drop, Some, None}
 use Rattle.cbor_edn_model.specs.internal.CborReading.{Argument}
 use Rattle.cbor_edn_stream.specs.Tags.{among}
 

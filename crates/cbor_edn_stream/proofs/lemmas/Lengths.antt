@@ -16,7 +16,7 @@ use Rattle.cbor_edn_model.specs.declared.text.keyword.NonFinite.{NonFinite}
 use Rattle.cbor_edn_model.specs.declared.text.keyword.NonFinite.TheVariants.{Infinity, NegativeInfinity, NaN}
 use Rattle.cbor_edn_model.specs.text.Keywords.{non_finite_text}
 use Rattle.cbor_edn_model.specs.tree.Items as kind
-use Rattle.cbor_edn_model.specs.tree.Items.{Row, Elements, Strings, Bracketed, entries_of, Node, Item}
+use Rattle.cbor_edn_model.specs.tree.Items.{Row, Bracketed, entries_of, Node, Item}
 use Rattle.cbor_edn_model.specs.tree.Trees.{Rule, Tree, OneEntry, Rest, ChunkTree, ElementTree, ListTree}
 use Rattle.cbor_edn_model.specs.cbor.Value.{float_bits, Value, Chunk, unsigned, negative, string, chunks, array, cbor_map, tag, simple, float, Values, no_values, value, values_len, Pairs, no_pairs, pair, pairs_len, head, ArgumentFits, list_encoding, chunk_encoding, chunk_encodings, string_major, encoding, encodings, pair_encodings, Fits, ValuesFit, PairsFit, simple_width}
 use Rattle.cbor_edn_model.specs.cbor.Decoded.{list_indicator}

@@ -1,5 +1,5 @@
 -- From head to head through an item: its heads show how wide it is at the least.
-use Rattle.std.proofs.Common.{◌≡◌, ℕ, zero, suc, ◌+◌, ◌-◌, ◌*◌, ◌^◌, ◌≤◌, ◌<◌, Bool, true, false, List, [], ◌∷◌, ◌++◌, map, length, Option, Some, None, Ok, refl, sym, ap, subst, ◌∙◌, append_assoc, arith}
+use Rattle.std.proofs.Common.{◌≡◌, ℕ, zero, suc, ◌+◌, ◌-◌, ◌*◌, ◌^◌, ◌≤◌, ◌<◌, true, false, List, [], ◌∷◌, ◌++◌, map, length, Option, Some, None, Ok, refl, sym, ap, subst, ◌∙◌, append_assoc, arith}
 use Rattle.std.specs.Prelude.{min}
 use Rattle.std.proofs.Math.Seq.{drop-append_seam}
 use Rattle.cbor_edn_parts.specs.declared.indicator.Indicator.{Indicator}
@@ -12,7 +12,7 @@ use Rattle.cbor_edn_model.specs.tree.Trees.{Tree, OneItem, Rest, ChunkTree, Elem
 use Rattle.cbor_edn_model.specs.cbor.Value.{Value, Chunk, unsigned, negative, string, chunks, array, cbor_map, tag, simple, float, Values, no_values, value, values_len, Pairs, no_pairs, pair, pairs_len, head, break, simple_width, float_bits, LengthFits, ChunkFits, ChunksFit, list_encoding, chunk_encoding, chunk_encodings, encoding, encodings, pair_encodings, Fits, ValuesFit, PairsFit}
 use Rattle.cbor_edn_model.specs.cbor.Decoded.{list_indicator}
 use Rattle.cbor_edn_model.specs.internal.Regular.{in_front, list_inside, key_value}
-use Rattle.cbor_edn_model.specs.internal.CborReading.{Argument, Head, head_at, item_at, trees, definite_tree, chunks_tree, string_row}
+use Rattle.cbor_edn_model.specs.internal.CborReading.{Argument, Head, head_at, definite_tree, chunks_tree, string_row}
 use Rattle.cbor_edn_model.specs.internal.Widths.{width}
 use Rattle.cbor_edn_model.proofs.lemmas.cbor.CborHeads.{IsBytes, head_again, open_again}
 use Rattle.cbor_edn_model.proofs.lemmas.cbor.CborSpecials.{simple_fits, float_fits}
