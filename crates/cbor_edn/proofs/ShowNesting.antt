@@ -1,7 +1,7 @@
 -- What is shown nests within the limit: embedded CBOR is shown within it, and no step behind that deepens.
 use Rattle.std.proofs.Common.{◌≤◌, ℕ, sym, ap, subst, le_trans, arith}
 use Rattle.std.proofs.lemmas.List.Elements.{All-weaker}
-use Rattle.cbor_edn_parts.specs.Spacing.{indented}
+use Rattle.cbor_edn_parts.specs.space.Spacing.{indented}
 use Rattle.cbor_edn_model.specs.tree.Items.{Elements, Items, nesting}
 use Rattle.cbor_edn_model.specs.tree.Trees.{Tree, Rest, Seq, ElementTree, LastTree, MoreTree, NothingTree, SequenceTree, items}
 use Rattle.cbor_edn_model.specs.visit.Seeking.{CallArguments}

@@ -7,12 +7,12 @@ ghost use Rattle.cbor_edn_command.specs.Devices.{FailsAtMostOnce};
 ghost use Rattle.cbor_edn.specs.Runs.{IsOutput, IsRefused, Wrote, HasReadAll, EndsReading, EndsWriting, IsFaultLine, IsReported, IsReportedWhole, read_faults, write_faults, status, told_as};
 ghost use Rattle.cbor_edn.specs.Runs.{IsReadAs, IsUnread, IsPrintedAs};
 ghost use Rattle.cbor_edn.specs.RunSteps.{StepsGive};
-ghost use Rattle.cbor_edn.specs.Steps.{IsEncoded, IsUnencoded, IsDiagnosed, IsUndiagnosed, IsReprinted};
+ghost use Rattle.cbor_edn.specs.OptionSteps.{IsEncoded, IsUnencoded, IsDiagnosed, IsUndiagnosed, IsReprinted};
 ghost use Rattle.cbor_edn.specs.declared.engine.RunError.{RunError};
 ghost use Rattle.cbor_edn.specs.declared.engine.RunError.TheVariants.{Memory, Parse, Cbor, Inconsistent, Hex, Read};
 
 use crate::boxed::boxed;
-use crate::steps;
+use crate::option_steps;
 pub use cbor_edn_command::count::Count;
 pub use cbor_edn_command::devices::{DeviceFault, Sink, Source, StdSink, StdSource};
 use cbor_edn_command::hexadecimal::{self, NotHex};
@@ -20,8 +20,8 @@ pub use cbor_edn_command::options::{Command, Options};
 use cbor_edn_command::transfer::{read_all, write_all};
 use cbor_edn_core::cbor::decode::CborError;
 use cbor_edn_core::tree::Sequence;
-use cbor_edn_parts::buffer::TextBuffer;
-use cbor_edn_parts::error::{Fault, InconsistentEdn, ParseError};
+use cbor_edn_parts::base::buffer::TextBuffer;
+use cbor_edn_parts::base::error::{Fault, InconsistentEdn, ParseError};
 use cbor_edn_stream::{has_tag_of, print_cbor};
 use simdutf8::basic::from_utf8;
 use std::alloc::{AllocError, Global};
@@ -120,7 +120,7 @@ impl From<Fault<DeviceFault>> for RunError {
     }
 }
 
-// The items of a text.
+/// The items of a text.
 fn parsed<'a>(alloc: Global, limit: usize, input: &'a [u8]) -> Result<Box<Sequence<'a>>, RunError>
     ensures ok { IfOk result (λ s. IsReadAs limit input.now (sequence_tree s.value)) }
     ensures err { IfErr result (IsUnread limit input.now) }
@@ -131,20 +131,20 @@ fn parsed<'a>(alloc: Global, limit: usize, input: &'a [u8]) -> Result<Box<Sequen
     Ok(boxed(alloc, Sequence::parse_within(alloc, text, limit))?)
 }
 
-// The encodings of what the items of a text mean after the steps. The last step sets spaces, which have no part in it.
-fn encoded(alloc: Global, options: &Options, input: &[u8]) -> Result<Vec<u8>, RunError>
+/// The encodings of what the items of a text mean after the steps. The last step sets spaces, which have no part in it.
+fn to_cbor(alloc: Global, options: &Options, input: &[u8]) -> Result<Vec<u8>, RunError>
     ensures ok { IfOk result (λ bytes. IsEncoded options.now input.now bytes.items) }
     ensures err { IfErr result (IsUnencoded options.now input.now) }
 {
     let mut sequence = parsed(alloc, options.limit, input)?;
-    steps::take(alloc, options, &mut sequence)?;
+    option_steps::take(alloc, options, &mut sequence)?;
     match sequence.to_cbor(alloc) {
         Ok(bytes) => Ok(bytes),
         Err(fault) => Err(RunError::from(fault)),
     }
 }
 
-// The text of items after the steps.
+/// The text of items after the steps.
 pub(crate) fn printed(
     alloc: Global,
     options: &Options,
@@ -152,20 +152,20 @@ pub(crate) fn printed(
 ) -> Result<Vec<u8>, AllocError>
     ensures { IfOk result (λ out. (v : Tree Seq) × StepsGive options.now (sequence_tree sequence.old) v × IsPrintedAs v out.items) }
 {
-    steps::take(alloc, options, sequence)?;
-    steps::spaced_text(alloc, options, sequence)
+    option_steps::take(alloc, options, sequence)?;
+    option_steps::spaced_text(alloc, options, sequence)
 }
 
-// The text of the items that bytes encode, printed while they are read. None where a step is asked for that may change other items than tags, or
-// where a tag stands in them that a step may change.
+/// The text of the items that bytes encode, printed while they are read. None where a step is asked for that may change other items than
+/// tags, or where a tag stands in them that a step may change.
 fn streamed(alloc: Global, options: &Options, bytes: &[u8]) -> Result<Option<Vec<u8>>, RunError>
     ensures ok { IfOk result (λ text. IfSome text (λ out. IsDiagnosed options.now bytes.now out.items)) }
     ensures err { IfErr result (IsUndiagnosed options.now bytes.now) }
 {
-    if steps::change_untagged(options) {
+    if option_steps::change_untagged(options) {
         return Ok(None);
     }
-    let changed = has_tag_of(steps::changed_tags(options), bytes)?;
+    let changed = has_tag_of(option_steps::changed_tags(options), bytes)?;
     if changed {
         return Ok(None);
     }
@@ -174,7 +174,7 @@ fn streamed(alloc: Global, options: &Options, bytes: &[u8]) -> Result<Option<Vec
     Ok(Some(out.into_bytes()))
 }
 
-// The text of the items that bytes encode.
+/// The text of the items that bytes encode.
 fn diagnosed(alloc: Global, options: &Options, bytes: &[u8]) -> Result<Vec<u8>, RunError>
     ensures ok { IfOk result (λ out. IsDiagnosed options.now bytes.now out.items) }
     ensures err { IfErr result (IsUndiagnosed options.now bytes.now) }
@@ -189,7 +189,7 @@ fn diagnosed(alloc: Global, options: &Options, bytes: &[u8]) -> Result<Vec<u8>, 
     Ok(printed(alloc, options, &mut sequence)?)
 }
 
-// The text of the items of a text.
+/// The text of the items of a text.
 fn reprinted(alloc: Global, options: &Options, input: &[u8]) -> Result<Vec<u8>, RunError>
     ensures ok { IfOk result (λ out. IsReprinted options.now input.now out.items) }
     ensures err { IfErr result (IsUnread options.now.limit input.now) }
@@ -207,9 +207,9 @@ pub fn converted(alloc: Global, options: &Options, input: &[u8]) -> Result<Vec<u
 {
     match options.command {
         Command::Diag2Cbor => {
-            let bytes = encoded(alloc, options, input)?;
+            let bytes = to_cbor(alloc, options, input)?;
             if options.hex {
-                Ok(hexadecimal::encoded(alloc, &bytes)?)
+                Ok(hexadecimal::to_lines(alloc, &bytes)?)
             } else {
                 Ok(bytes)
             }
@@ -251,8 +251,8 @@ pub fn run<R: Source, W: Sink>(
     }
 }
 
-// The line that tells of a fault, as far as there is memory. What `thiserror` writes is not known to proofs, so the words are
-// looked at: they are one line.
+/// The line that tells of a fault, as far as there is memory. What `thiserror` writes is not known to proofs, so the words are
+/// looked at: they are one line.
 fn fault_line(alloc: Global, fault: &RunError) -> Option<String>
     ensures { IfSome result (λ line. IsFaultLine (string_bytes line)) }
 {
@@ -263,7 +263,7 @@ fn fault_line(alloc: Global, fault: &RunError) -> Option<String>
     format!(in alloc; "cbor-edn: {words}\n").ok()
 }
 
-// Tells of a fault, as far as there is memory and the sink takes it.
+/// Tells of a fault, as far as there is memory and the sink takes it.
 fn tell<E: Sink>(alloc: Global, fault: &RunError, errors: &mut E)
     ensures reported { IsReported (E.contents errors.old) (E.contents errors.new) }
     ensures whole { E.failures errors.new ≡ E.failures errors.old → IsReportedWhole (E.contents errors.old) (E.contents errors.new) }

@@ -1,13 +1,13 @@
 //! CBOR as it is shown, with the CBOR in its byte strings.
 ghost use Rattle.std.specs.Prelude.{◌≡◌, ◌++◌, IfOk, IfErr, OnOk};
-ghost use Rattle.cbor_edn_parts.specs.Notes.{noted};
+ghost use Rattle.cbor_edn_parts.specs.space.Notes.{noted};
 ghost use Rattle.cbor_edn_core.specs.tree.View.{sequence_tree};
 ghost use Rattle.cbor_edn_model.specs.tree.Trees.{Tree, Seq};
 ghost use Rattle.cbor_edn_command.specs.FileOptions.{show_steps};
 ghost use Rattle.cbor_edn.specs.Format.{ended};
 ghost use Rattle.cbor_edn.specs.Runs.{IsPrintedAs};
 ghost use Rattle.cbor_edn.specs.Show.{AreShown, EmbeddedShown, IsShown, IsUnshown, ShowGives};
-ghost use Rattle.cbor_edn.specs.Steps.{IsUndiagnosed};
+ghost use Rattle.cbor_edn.specs.OptionSteps.{IsUndiagnosed};
 
 use crate::boxed::boxed;
 use crate::engine::{RunError, printed};
@@ -16,7 +16,7 @@ use cbor_edn_application::visits::show_embedded;
 pub use cbor_edn_command::file_options::ShowOptions;
 use cbor_edn_command::hexadecimal;
 use cbor_edn_core::tree::Sequence;
-use cbor_edn_parts::space::S;
+use cbor_edn_parts::space::Space;
 use std::alloc::{AllocError, Global};
 
 /// All that `show` writes for an input, which is CBOR, or digits of CBOR where `hex` is set. Fails with `Cbor`, with `Hex` and with
@@ -44,7 +44,7 @@ fn shown_bytes(alloc: Global, options: &ShowOptions, bytes: &[u8]) -> Result<Vec
     Ok(shown_text(alloc, options, &mut sequence)?)
 }
 
-// The text of items that were decoded.
+/// The text of items that were decoded.
 fn shown_text(
     alloc: Global,
     options: &ShowOptions,
@@ -71,7 +71,7 @@ fn embedded_shown(
 pub fn behind_name(alloc: Global, name: &str, text: &[u8]) -> Result<Vec<u8>, AllocError>
     ensures { IfOk result (λ out. out.items ≡ ended (ended (noted name.now) ++ text.now)) }
 {
-    let note = S::note(alloc, name)?;
+    let note = Space::note(alloc, name)?;
     let mut out = Vec::new(alloc);
     out.extend_from_slice(note.as_str().as_bytes())?;
     end_line(&mut out)?;

@@ -2,22 +2,22 @@
 use Rattle.std.proofs.Common.{ℕ, ℤ, pos, negsuc, ◌≡◌, ◌≢◌, inl, inr, Bool, true, false, not, List, Option, Some, None, Ok, Err, is_some, codes, if◌then◌else◌, FitsSigned, refl, sym, ap, ◌∙◌, arith}
 use Rattle.std.specs.Int.{w128}
 use Rattle.std.proofs.lemmas.Int.{ints}
-use Rattle.cbor_edn_parts.specs.declared.indicator.Indicator.{Indicator}
-use Rattle.cbor_edn_parts.specs.Number.{signed, number_of, radix}
+use Rattle.cbor_edn_parts.specs.declared.base.indicator.Indicator.{Indicator}
+use Rattle.cbor_edn_parts.specs.number.Number.{signed, number_of, radix}
 use Rattle.cbor_edn_parts.specs.internal.NumberReading.{integer_of}
 use Rattle.cbor_edn_parts.proofs.lemmas.number.NumberParts.{integer_reads, integer_read}
-use Rattle.cbor_edn_model.specs.access.Accessed.{number_and_indicator, number_text, IsIntegerItem, IsLiteralItem}
+use Rattle.cbor_edn_model.specs.access.Accessed.{number_and_indicator, number_text, IsIntegerItem, IsIntegerLiteral}
 use Rattle.cbor_edn_model.specs.tree.Trees.{Tree, OneItem, NumberTree, FloatTree, NamedTree, EnclosedTree, ListTree, StringTree, StreamTree}
 use Rattle.cbor_edn_model.proofs.lemmas.cbor.MeaningSteps.{some_is}
 use Rattle.cbor_edn_core.specs.access.Mismatch.{IsIntegerMismatch}
 use Rattle.cbor_edn_core.specs.declared.access.TypeMismatch.{TypeMismatch}
 use Rattle.cbor_edn_core.specs.declared.access.TypeMismatch.TheVariants.{Integer, IntegerInRange}
-use Rattle.cbor_edn_literals.specs.Time.{IsTimeStamp}
-use Rattle.cbor_edn_literals.specs.TimeDecimal.{HasDecimal, IsOutOfRange}
-use Rattle.cbor_edn_literals.specs.internal.TimeComputing.{time_text}
-use Rattle.cbor_edn_literals.specs.declared.time.number.NotTime.{NotTime}
-use Rattle.cbor_edn_literals.specs.declared.time.number.NotTime.TheVariants.{Unreadable, OutOfRange}
-use Rattle.cbor_edn_literals.proofs.TimeComputedNumbers.{decimal_computed, decimal_answered}
+use Rattle.cbor_edn_times_and_addresses.specs.Time.{IsTimeStamp}
+use Rattle.cbor_edn_times_and_addresses.specs.TimeDecimal.{HasDecimal, IsOutOfRange}
+use Rattle.cbor_edn_times_and_addresses.specs.internal.TimeComputing.{time_text}
+use Rattle.cbor_edn_times_and_addresses.specs.declared.time.number.NotTime.{NotTime}
+use Rattle.cbor_edn_times_and_addresses.specs.declared.time.number.NotTime.TheVariants.{Unreadable, OutOfRange}
+use Rattle.cbor_edn_times_and_addresses.proofs.TimeComputedNumbers.{decimal_computed, decimal_answered}
 use Rattle.cbor_edn_conversions.specs.Conversions.{Conversion, Message, changed_encoding, literal_tree}
 use Rattle.cbor_edn_conversions.specs.Times.{time_prefix, is_plain, is_time_stamp, instant_by, instant_literal, time_literal}
 use Rattle.cbor_edn_conversions.proofs.conversions.TimesKept.{stamps_tested}
@@ -101,7 +101,7 @@ module _ (w : Tree OneItem) (x : List ℕ) (i : Option Indicator) (number : numb
   pub integer_steps : (z : ℤ) → IsIntegerItem w z → (wrap : Bool) → time_literal w wrap ≡ integer_literal z i wrap
   integer_steps z is = λ wrap. number_literal (Some z) wrap (item_integer z is)
 
-  pub decimal_steps : (IsLiteralItem w → ⊥) → (wrap : Bool) → time_literal w wrap ≡ decimal_literal x i wrap
+  pub decimal_steps : (IsIntegerLiteral w → ⊥) → (wrap : Bool) → time_literal w wrap ≡ decimal_literal x i wrap
   decimal_steps none = λ wrap. number_literal None wrap (by (integer_of x) refl)
     where
       by : (o : Option ℤ) → integer_of x ≡ o → integer_of x ≡ None
@@ -109,7 +109,7 @@ module _ (w : Tree OneItem) (x : List ℕ) (i : Option Indicator) (number : numb
       by (Some z) e = absurd (none (x, text_is, (integer_read x z e).literal))
 
   -- an integer too large to be read
-  pub large_stays : IsLiteralItem w → ((z : ℤ) → FitsSigned w128 z → IsIntegerItem w z → ⊥) → StaysFor (time_literal w) (codes "Value out of range for time stamps")
+  pub large_stays : IsIntegerLiteral w → ((z : ℤ) → FitsSigned w128 z → IsIntegerItem w z → ⊥) → StaysFor (time_literal w) (codes "Value out of range for time stamps")
   large_stays (y, text, is) none = λ wrap. integer_steps z item wrap ∙ outside wrap _ z 0 (λ stamp. none z (fits z stamp) item)
     where
       z : ℤ

@@ -1,15 +1,15 @@
 -- What calls at time literals and at tags 1 convert.
 use Rattle.std.proofs.Common.{ℕ, ℤ, ◌≡◌, ◌≢◌, ◌==◌, Bool, true, false, cond, codes, List, Option, Some, None, Ok, Err, refl, sym, ap, ◌∙◌, ne_eqb}
 use Rattle.std.proofs.lemmas.Bool.{eqb-true}
-use Rattle.cbor_edn_parts.specs.declared.indicator.Indicator.{Indicator}
+use Rattle.cbor_edn_parts.specs.declared.base.indicator.Indicator.{Indicator}
 use Rattle.cbor_edn_parts.specs.internal.ContentReading.{same}
-use Rattle.cbor_edn_parts.proofs.lemmas.literal.LiteralPrefixes.{differ}
-use Rattle.cbor_edn_model.specs.declared.text.label.LabelKind.TheVariants as label
+use Rattle.cbor_edn_parts.proofs.lemmas.string.LiteralPrefixes.{differ}
+use Rattle.cbor_edn_model.specs.declared.text.opener.OpenerKind.TheVariants as opener
 use Rattle.cbor_edn_model.specs.visit.Seeking.{number}
 use Rattle.cbor_edn_model.specs.tree.Trees.{Tree, OneItem, NumberTree, FloatTree, NamedTree, EnclosedTree, ListTree, StringTree, StreamTree}
-use Rattle.cbor_edn_literals.specs.Time.{HasInstant}
-use Rattle.cbor_edn_literals.specs.internal.TimeComputing.{instant_of, instant_number}
-use Rattle.cbor_edn_literals.proofs.TimeComputed.{instant_computed, instant_answered}
+use Rattle.cbor_edn_times_and_addresses.specs.Time.{HasInstant}
+use Rattle.cbor_edn_times_and_addresses.specs.internal.TimeComputing.{instant_of, instant_number}
+use Rattle.cbor_edn_times_and_addresses.proofs.TimeComputed.{instant_computed, instant_answered}
 use Rattle.cbor_edn_conversions.specs.Conversions.{Conversion, in_tag, called_tag, without_tag}
 use Rattle.cbor_edn_conversions.specs.Times.{instant_item, time_item, time_of_literal, time_literal, time_of_tag}
 
@@ -38,8 +38,8 @@ other_by n m i c false e other = refl
 other_by n m i c true e other = let same = eqb-true n m e in rw (ne_eqb m 1 (λ one. other (same ∙ one)))
 
 pub other_tag : (n : ℕ) (w : Tree OneItem) → n ≢ 1 → time_of_tag (called_tag (number n) w) ≡ None
-other_tag n (EnclosedTree (label.Tag i m) w) other = other_by n m i _ (n == m) refl other
-other_tag n (EnclosedTree label.Simple w) other = refl
+other_tag n (EnclosedTree (opener.Tag i m) w) other = other_by n m i _ (n == m) refl other
+other_tag n (EnclosedTree opener.Simple w) other = refl
 other_tag n (NumberTree x i) other = refl
 other_tag n (FloatTree f i) other = refl
 other_tag n (NamedTree b) other = refl

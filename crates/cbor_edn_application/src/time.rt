@@ -1,6 +1,6 @@
 //! Times: literals as `dt'1970-01-01T00:00:42+00:00'`, and the numbers that they stand for.
 ghost use Rattle.std.specs.Prelude.{◌≡◌, true, false, ℕ, List, Some, None, Ok, Err, IfOk, IfSome, IfNone, string_bytes};
-ghost use Rattle.cbor_edn_parts.specs.Refusals.{IfTold};
+ghost use Rattle.cbor_edn_parts.specs.base.Refusals.{IfTold};
 ghost use Rattle.cbor_edn_model.specs.visit.Seeking.{number, prefix_and_text};
 ghost use Rattle.cbor_edn_core.specs.visit.Sought.{sought_answer};
 ghost use Rattle.cbor_edn_core.specs.tree.View.{item_tree};
@@ -9,10 +9,10 @@ ghost use Rattle.cbor_edn_conversions.specs.Times.{time_item, time_of_literal, t
 ghost use Rattle.cbor_edn_application.specs.Acts.{ActsBy};
 
 use crate::reply::reply;
-use crate::tags::tag_parts;
-use cbor_edn_conversions::steps::is_narrowest;
+use crate::tags::tag_indicator_and_content;
+use cbor_edn_conversions::indicators::is_shortest;
 use cbor_edn_core::tree::{Indicator, Item};
-use cbor_edn_parts::error::{CallbackError, Fault};
+use cbor_edn_parts::base::error::{CallbackError, Fault};
 use std::alloc::Global;
 
 mod literal;
@@ -79,7 +79,7 @@ pub fn dt_tag_to_aol(alloc: Global, tag: u64, item: &mut Item<'_>) -> Result<(),
     if tag != 1 {
         return Ok(());
     }
-    let Some((indicator, content)) = tag_parts(tag, item) else {
+    let Some((indicator, content)) = tag_indicator_and_content(tag, item) else {
         return Ok(());
     };
     let conversion = tag_literal(alloc, indicator, content);
@@ -96,7 +96,7 @@ fn tag_literal<'a>(
     ensures refused { IfTold result (λ e. without_tag indicator 1 (time_literal (item_tree content.now) true) ≡ Err e.now) }
 {
     let literal = dt_item_to_aol(alloc, content, true)?;
-    if !is_narrowest(indicator, 1) {
+    if !is_shortest(indicator, 1) {
         return Err(Fault::Told("Conversion would change the encoding"));
     }
     Ok(literal)

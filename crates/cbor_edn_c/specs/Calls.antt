@@ -6,9 +6,9 @@ use Rattle.cbor_edn_command.specs.declared.options.Options.{Options}
 use Rattle.cbor_edn.specs.declared.engine.RunError.{RunError}
 use Rattle.cbor_edn.specs.declared.engine.RunError.TheVariants as run
 use Rattle.cbor_edn.specs.Runs.{IsOutput, IsRefused}
-use Rattle.cbor_edn_c_calls.specs.Asked.{IsAsked, IsOutOfRange}
+use Rattle.cbor_edn_c_calls.specs.Flags.{IsAsked, IsOutOfRange}
 use Rattle.cbor_edn_c_calls.specs.Reports.{TellsOutput, TellsLocation}
-use Rattle.cbor_edn_c_calls.specs.Rooms.{HasNoRoom, IsPutFront, IsPutWhole}
+use Rattle.cbor_edn_c_calls.specs.Buffers.{HasNoRoom, IsPutFront, IsPutWhole}
 use Rattle.cbor_edn_c_calls.specs.declared.report.Report.{Report}
 use Rattle.cbor_edn_c_calls.specs.declared.status.CallFault.{CallFault}
 use Rattle.cbor_edn_c_calls.specs.declared.status.CallFault.TheVariants.{NotUtf8, InvalidCbor, InvalidHex, NoEncoding, OutOfMemory, TooDeepCbor}

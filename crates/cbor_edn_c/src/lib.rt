@@ -9,11 +9,11 @@ ghost use Rattle.cbor_edn_c_calls.specs.declared.status.Status.{Status};
 
 use cbor_edn::CborError;
 use cbor_edn::engine::{RunError, converted};
-use cbor_edn_c_calls::asked::options_of;
+use cbor_edn_c_calls::buffer::put_whole;
+use cbor_edn_c_calls::flags::options_of;
+use cbor_edn_c_calls::message::put_message;
 use cbor_edn_c_calls::report::Report;
-use cbor_edn_c_calls::room::put_whole;
 use cbor_edn_c_calls::status::{CallFault, Status};
-use cbor_edn_c_calls::told::told;
 use std::alloc::Global;
 
 fn call_fault(fault: &RunError) -> CallFault
@@ -31,15 +31,15 @@ fn call_fault(fault: &RunError) -> CallFault
     }
 }
 
-// The location of a fault, and its message as far as there is memory and room.
+/// The location of a fault, and its message as far as there is memory and room.
 fn report_of(alloc: Global, fault: &RunError, message: &mut [u8]) -> Report
     ensures place { TellsLocation (call_fault fault.now) result }
     ensures output { result.output_len ≡ 0 }
     ensures message { IsMessage result.message_len message.old message.new }
 {
     match fault.to_string(alloc) {
-        Ok(text) => told(&call_fault(fault), text.as_bytes(), message),
-        Err(_) => told(&call_fault(fault), b"", message),
+        Ok(text) => put_message(&call_fault(fault), text.as_bytes(), message),
+        Err(_) => put_message(&call_fault(fault), b"", message),
     }
 }
 

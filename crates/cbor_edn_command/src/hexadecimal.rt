@@ -1,9 +1,9 @@
 //! Streams of hexadecimal digits.
 ghost use Rattle.std.specs.Prelude.{◌≡◌, IfOk, IsErr, Ok, not, filter};
-ghost use Rattle.cbor_edn_parts.specs.Refusals.{IfTold};
+ghost use Rattle.cbor_edn_parts.specs.base.Refusals.{IfTold};
 ghost use Rattle.cbor_edn_command.specs.Hexadecimal.{hex_bytes, hex_lines, is_blank as is_blank_of};
 
-use cbor_edn_parts::error::Fault;
+use cbor_edn_parts::base::error::Fault;
 use hex::FromHexError;
 use std::alloc::{AllocError, Global};
 
@@ -11,17 +11,17 @@ use std::alloc::{AllocError, Global};
 #[derive(Debug, Clone, Copy, PartialEq, Eq)]
 pub struct NotHex;
 
-// How many digits a line has.
+/// How many digits a line has.
 const LINE: usize = 64;
 
-// Whether the byte may stand between digits without meaning.
+/// Whether the byte may stand between digits without meaning.
 fn is_blank(byte: u8) -> bool
     ensures { result ≡ is_blank_of byte }
 {
     matches!(byte, b'\t' | b'\n' | b'\r' | b' ')
 }
 
-// The text without what stands between digits.
+/// The text without what stands between digits.
 fn without_blanks(alloc: Global, input: &[u8]) -> Result<Vec<u8>, AllocError>
     ensures { IfOk result (λ v. v.items ≡ filter (λ b. not (is_blank_of b)) input.now) }
 {
@@ -50,7 +50,7 @@ pub fn decoded(alloc: Global, input: &[u8]) -> Result<Vec<u8>, Fault<NotHex>>
 
 /// The hexadecimal digits of some bytes, in lower case, in lines of at most 64 digits, each with LF at its end. Fails where memory runs
 /// out.
-pub fn encoded(alloc: Global, bytes: &[u8]) -> Result<Vec<u8>, AllocError>
+pub fn to_lines(alloc: Global, bytes: &[u8]) -> Result<Vec<u8>, AllocError>
     ensures { IfOk result (λ v. v.items ≡ hex_lines bytes.now) }
 {
     let digits = hex::encode(alloc, bytes)?;

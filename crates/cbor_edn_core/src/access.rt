@@ -2,8 +2,8 @@
 ghost use Rattle.std.specs.Prelude.{◌≡◌, ℤ, FitsSigned, IfOk, IfErr, Some, None, map, option_map};
 ghost use Rattle.std.specs.Int.{w128};
 ghost use Rattle.cbor_edn_parts.specs.Leaves.{number_bytes};
-ghost use Rattle.cbor_edn_parts.specs.Number.{IsInteger};
-ghost use Rattle.cbor_edn_model.specs.access.Accessed.{tag_number, tag_head, tag_content, named_keyword, number_and_indicator, inner_item, number_text, IsIntegerItem, IsLiteralItem, array_items, map_items, element, key_and_value, entries_inside};
+ghost use Rattle.cbor_edn_parts.specs.number.Number.{IsInteger};
+ghost use Rattle.cbor_edn_model.specs.access.Accessed.{tag_number, tag_head, tag_content, named_keyword, number_and_indicator, inner_item, number_text, IsIntegerItem, IsIntegerLiteral, array_items, map_items, element, key_and_value, entries_inside};
 ghost use Rattle.cbor_edn_model.specs.tree.TreeLeaves.{texts};
 ghost use Rattle.cbor_edn_core.specs.access.Mismatch.{IsIntegerMismatch};
 ghost use Rattle.cbor_edn_model.specs.access.Paths.{items_in};
@@ -12,7 +12,7 @@ ghost use Rattle.cbor_edn_core.specs.access.IteratedMut.{items_to_lend, pairs_to
 ghost use Rattle.cbor_edn_core.specs.tree.View.{item_tree, sequence_tree, standalone_tree, view_list, view_pair_list};
 
 use crate::tree::{
-    Indicator, InnerItem, Item, ItemList, LabelKind, PairList, Sequence, StandaloneItem,
+    Indicator, InnerItem, Item, ItemList, OpenerKind, PairList, Sequence, StandaloneItem,
 };
 use cbor_edn_model::text::keyword::NamedSimple;
 use cbor_edn_parts::number::Number;
@@ -69,14 +69,14 @@ impl<'a> Item<'a> {
     }
 
     /// The number of a tag and its encoding indicator, as 1 and `_0` of `1_0(2)`, or none where the item is no tag.
-    #[tactic(auto, using(crate::proofs::lemmas::tree::Views::view_string_is, crate::proofs::lemmas::tree::Views::view_stream_is))]
+    #[tactic(auto, using(crate::proofs::lemmas::tree::Views::strings_are))]
     pub fn get_tag_head(&self) -> Option<(u64, Option<Indicator>)>
         ensures { result ≡ tag_head (item_tree self.now) }
     {
         match &self.inner {
-            InnerItem::Enclosed(label, _) => match label.kind {
-                LabelKind::Tag(indicator, number) => Some((number, indicator)),
-                LabelKind::Simple => None,
+            InnerItem::Enclosed(opener, _) => match opener.kind {
+                OpenerKind::Tag(indicator, number) => Some((number, indicator)),
+                OpenerKind::Simple => None,
             },
             InnerItem::Number(..)
             | InnerItem::NonFinite(..)
@@ -101,7 +101,7 @@ impl<'a> Item<'a> {
     }
 
     /// The keyword of a simple value that has a name, as `true`, or none where the item is anything else, `simple(21)` too.
-    #[tactic(auto, using(crate::proofs::lemmas::tree::Views::view_string_is, crate::proofs::lemmas::tree::Views::view_stream_is))]
+    #[tactic(auto, using(crate::proofs::lemmas::tree::Views::strings_are))]
     pub fn get_named(&self) -> Option<NamedSimple>
         ensures { result ≡ named_keyword (item_tree self.now) }
     {
@@ -120,7 +120,7 @@ impl<'a> Item<'a> {
 
     /// The text of a number and its encoding indicator, as `0x1f` and `_1` of `0x1f_1`, or none where the item is no number. The
     /// keywords `Infinity`, `-Infinity` and `NaN` are none.
-    #[tactic(auto, using(crate::proofs::lemmas::tree::Views::view_string_is, crate::proofs::lemmas::tree::Views::view_stream_is))]
+    #[tactic(auto, using(crate::proofs::lemmas::tree::Views::strings_are))]
     pub fn get_number(&self) -> Option<(&str, Option<Indicator>)>
         ensures { option_map (λ p. (p.0.now, p.1)) result ≡ number_and_indicator (item_tree self.now) }
     {
@@ -142,7 +142,7 @@ impl<'a> Item<'a> {
     pub fn get_integer(&self) -> Result<i128, TypeMismatch>
         ensures found { IfOk result (λ z. IsIntegerItem (item_tree self.now) z) }
         ensures refused { IfErr result (λ _. (z : ℤ) → FitsSigned w128 z → IsIntegerItem (item_tree self.now) z → ⊥) }
-        ensures words { IfErr result (IsIntegerMismatch (IsLiteralItem (item_tree self.now))) }
+        ensures words { IfErr result (IsIntegerMismatch (IsIntegerLiteral (item_tree self.now))) }
     {
         match number_of(self) {
             Some(number) => match number.to_i128() {
@@ -224,15 +224,15 @@ impl<'a> Sequence<'a> {
 }
 
 /// The number of a tag, and what stands between its parentheses.
-#[tactic(auto, using(crate::proofs::lemmas::tree::Views::view_string_is, crate::proofs::lemmas::tree::Views::view_stream_is))]
+#[tactic(auto, using(crate::proofs::lemmas::tree::Views::strings_are))]
 fn tag_of<'t, 'a>(item: &'t Item<'a>) -> Option<(u64, &'t StandaloneItem<'a>)>
     ensures number { option_map (λ p. p.0) result ≡ tag_number (item_tree item.now) }
     ensures content { option_map (λ p. standalone_tree p.1.now) result ≡ tag_content (item_tree item.now) }
 {
     match &item.inner {
-        InnerItem::Enclosed(label, content) => match label.kind {
-            LabelKind::Tag(_, number) => Some((number, content)),
-            LabelKind::Simple => None,
+        InnerItem::Enclosed(opener, content) => match opener.kind {
+            OpenerKind::Tag(_, number) => Some((number, content)),
+            OpenerKind::Simple => None,
         },
         InnerItem::Number(..)
         | InnerItem::NonFinite(..)
@@ -245,7 +245,7 @@ fn tag_of<'t, 'a>(item: &'t Item<'a>) -> Option<(u64, &'t StandaloneItem<'a>)>
     }
 }
 
-#[tactic(auto, using(crate::proofs::lemmas::tree::Views::view_string_is, crate::proofs::lemmas::tree::Views::view_stream_is))]
+#[tactic(auto, using(crate::proofs::lemmas::tree::Views::strings_are))]
 fn number_of<'t, 'a>(item: &'t Item<'a>) -> Option<&'t Number<'a>>
     ensures { option_map (λ n. number_bytes n.now) result ≡ number_text (item_tree item.now) }
 {
@@ -262,7 +262,7 @@ fn number_of<'t, 'a>(item: &'t Item<'a>) -> Option<&'t Number<'a>>
     }
 }
 
-#[tactic(auto, using(crate::proofs::lemmas::tree::Views::view_string_is, crate::proofs::lemmas::tree::Views::view_stream_is))]
+#[tactic(auto, using(crate::proofs::lemmas::tree::Views::strings_are))]
 fn list_of<'t, 'a>(item: &'t Item<'a>) -> Option<&'t ItemList<'a>>
     ensures { option_map (λ l. map element (entries_inside (view_list texts l.now))) result ≡ array_items (item_tree item.now) }
 {
@@ -279,7 +279,7 @@ fn list_of<'t, 'a>(item: &'t Item<'a>) -> Option<&'t ItemList<'a>>
     }
 }
 
-#[tactic(auto, using(crate::proofs::lemmas::tree::Views::view_string_is, crate::proofs::lemmas::tree::Views::view_stream_is))]
+#[tactic(auto, using(crate::proofs::lemmas::tree::Views::strings_are))]
 fn pair_list_of<'t, 'a>(item: &'t Item<'a>) -> Option<&'t PairList<'a>>
     ensures { option_map (λ l. map key_and_value (entries_inside (view_pair_list texts l.now))) result ≡ map_items (item_tree item.now) }
 {
@@ -296,7 +296,7 @@ fn pair_list_of<'t, 'a>(item: &'t Item<'a>) -> Option<&'t PairList<'a>>
     }
 }
 
-#[tactic(auto, using(crate::proofs::lemmas::tree::Views::view_string_is, crate::proofs::lemmas::tree::Views::view_stream_is))]
+#[tactic(auto, using(crate::proofs::lemmas::tree::Views::strings_are))]
 fn list_to_lend<'t, 'a>(item: &'t mut Item<'a>) -> Option<&'t mut ItemList<'a>>
     ensures { option_map (λ l. map element (entries_inside (view_list texts l.now))) result ≡ array_items (item_tree item.old) }
 {
@@ -313,7 +313,7 @@ fn list_to_lend<'t, 'a>(item: &'t mut Item<'a>) -> Option<&'t mut ItemList<'a>>
     }
 }
 
-#[tactic(auto, using(crate::proofs::lemmas::tree::Views::view_string_is, crate::proofs::lemmas::tree::Views::view_stream_is))]
+#[tactic(auto, using(crate::proofs::lemmas::tree::Views::strings_are))]
 fn pair_list_to_lend<'t, 'a>(item: &'t mut Item<'a>) -> Option<&'t mut PairList<'a>>
     ensures { option_map (λ l. map key_and_value (entries_inside (view_pair_list texts l.now))) result ≡ map_items (item_tree item.old) }
 {

@@ -6,7 +6,7 @@ use cbor_edn_application::comment_ccs;
 use cbor_edn_core::access::TypeMismatch;
 use cbor_edn_core::tree::{Item, Sequence, StandaloneItem};
 use cbor_edn_core::visit::MapValueHandler;
-use cbor_edn_parts::error::{CallbackError, Fault};
+use cbor_edn_parts::base::error::{CallbackError, Fault};
 use std::alloc::{AllocError, Global};
 
 /// Puts 5 with a comment.
@@ -22,7 +22,7 @@ impl<'a> MapValueHandler<'a> for PutFive {
     }
 }
 
-// A comment that stands behind a pointer, as a short one does not.
+/// A comment that stands behind a pointer, as a short one does not.
 const LONG: &str = "a comment of some length";
 
 pub(crate) fn comment_elements(

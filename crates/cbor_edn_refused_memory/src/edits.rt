@@ -3,7 +3,7 @@ use crate::spaces::PAIR;
 use crate::trees::{Tree, sequence_of};
 use cbor_edn_core::tree::{Item, Sequence};
 use cbor_edn_expect::memory::Failure;
-use cbor_edn_parts::policy::DelimiterPolicy;
+use cbor_edn_parts::space::policy::DelimiterPolicy;
 use cbor_edn_script::{Edit, ScriptError, run};
 use std::alloc::{AllocError, Global};
 
@@ -148,7 +148,7 @@ pub(crate) fn edited(alloc: Global, script: &Script) -> Result<bool, Failure> {
     }
 }
 
-// Memory was refused once, so it is not for what is looked at here.
+/// Memory was refused once, so it is not for what is looked at here.
 fn is_left(alloc: Global, sequence: &mut Sequence<'_>, script: &Script, done: usize) -> bool {
     let Ok(text) = sequence.serialize(alloc) else {
         return false;

@@ -2,7 +2,7 @@
 use cbor_edn_core::tree::{Item, Sequence, StandaloneItem};
 use cbor_edn_expect::failures::Failures;
 use cbor_edn_expect::{digits_of, name_of};
-use cbor_edn_parts::policy::DelimiterPolicy;
+use cbor_edn_parts::space::policy::DelimiterPolicy;
 use cbor_edn_script::Edit;
 use std::alloc::Global;
 use std::test::Fail;
@@ -52,7 +52,7 @@ fn item_of<'a>(alloc: Global, text: &'a str) -> Result<Item<'a>, Fail> {
     Ok(item.item().clone()?)
 }
 
-// Trees stand in boxes: a proof writes out what a function holds, and of a box only that it is one.
+/// Trees stand in boxes: a proof writes out what a function holds, and of a box only that it is one.
 pub(crate) fn sequence_of<'a>(alloc: Global, text: &'a str) -> Result<Box<Sequence<'a>>, Fail> {
     Ok(Box::new(alloc, Sequence::parse(alloc, text)?)?)
 }

@@ -1,20 +1,20 @@
 //! Printing from bytes.
 //!
 //! An item that takes more than `9 * n` bytes is wider than `n` columns, since a head has nine bytes at most and shows one column at least.
-//! So an item in which others nest is decoded from no more bytes than can fit on its line. Where they hold it whole, it is a small tree, which
-//! the printer lays out. Where they don't, it has lines of its own, and its parts are printed one by one in the same way.
+//! So an item in which others nest is decoded from no more bytes than can fit on its line. Where they hold it whole, it is a small tree,
+//! which the printer lays out. Where they don't, it has lines of its own, and its parts are printed one by one in the same way.
 ghost use Rattle.std.specs.Prelude.{◌≡◌, ◌≢◌, ◌++◌, ◌<◌, ◌≤◌, ◌*◌, ◌-◌, ◌^◌, ◌∷◌, [], ℕ, suc, true, false, length, map, IfOk, IfSome, IfNone, OnOk, None};
-ghost use Rattle.cbor_edn_parts.specs.Buffer.{buffer_bytes};
-ghost use Rattle.cbor_edn_parts.specs.Indicator.{indicator_text};
-ghost use Rattle.cbor_edn_parts.specs.Refusals.{IfTold};
-ghost use Rattle.cbor_edn_parts.specs.Spacing as spacing;
-ghost use Rattle.cbor_edn_parts.specs.Spacing.{indented};
+ghost use Rattle.cbor_edn_parts.specs.base.Buffer.{buffer_bytes};
+ghost use Rattle.cbor_edn_parts.specs.base.Indicator.{indicator_text};
+ghost use Rattle.cbor_edn_parts.specs.base.Refusals.{IfTold};
+ghost use Rattle.cbor_edn_parts.specs.space.Spacing as spacing;
+ghost use Rattle.cbor_edn_parts.specs.space.Spacing.{indented};
 ghost use Rattle.cbor_edn_model.specs.layout.Layout as slots;
-ghost use Rattle.cbor_edn_parts.specs.LayoutColumns.{respaced};
+ghost use Rattle.cbor_edn_parts.specs.space.LayoutColumns.{respaced};
 ghost use Rattle.cbor_edn_model.specs.text.Spelling as spelling;
 ghost use Rattle.cbor_edn_model.specs.cbor.Decoded.{IsDecodedSequence, NoSequence, IsTooDeepSequence};
 ghost use Rattle.cbor_edn_model.specs.layout.Layout.{laid, laid_out, laid_list_head};
-ghost use Rattle.cbor_edn_parts.specs.Contents.{kind_literal};
+ghost use Rattle.cbor_edn_parts.specs.string.Contents.{kind_literal};
 ghost use Rattle.cbor_edn_parts.specs.Leaves.{literal_bytes, small_integer};
 ghost use Rattle.cbor_edn_model.specs.tree.Trees.{Tree, OneItem, Seq, text, list_head_text};
 ghost use Rattle.cbor_edn_model.specs.internal.CborReading as reading;
@@ -26,15 +26,15 @@ use cbor_edn_core::cbor::decode::{CborError, decode_item};
 use cbor_edn_core::layout::print_item as print_tree;
 use cbor_edn_model::cbor::decode::head::{Argument, Stop, head_of, indicator_of, past_stop};
 use cbor_edn_model::cbor::heads::Width;
-use cbor_edn_model::text::label::LabelKind;
-use cbor_edn_model::text::list_head::{head_space, print_laid_head};
-use cbor_edn_model::text::write::{print_indicator, print_label};
-use cbor_edn_parts::buffer::TextBuffer;
-use cbor_edn_parts::error::Fault;
-use cbor_edn_parts::layout::{Layout, Slot, print_end, print_separator, print_space};
+use cbor_edn_model::text::list_head::ListHead;
+use cbor_edn_model::text::opener::OpenerKind;
+use cbor_edn_model::text::write::{print_indicator, print_opener};
+use cbor_edn_parts::base::buffer::TextBuffer;
+use cbor_edn_parts::base::error::Fault;
 use cbor_edn_parts::number::{Number, SmallInteger};
-use cbor_edn_parts::policy::DelimiterPolicy;
-use cbor_edn_parts::space::{Msc, S, Soc};
+use cbor_edn_parts::space::layout::{Layout, Slot, print_end, print_separator, print_space};
+use cbor_edn_parts::space::policy::DelimiterPolicy;
+use cbor_edn_parts::space::{ListEnd, Separator, Space};
 use cbor_edn_parts::string::{Literal, StringKind};
 use std::alloc::{AllocError, Global};
 
@@ -55,8 +55,8 @@ pub enum Nested {
 
 /// Writes the text of the items that bytes encode, as the indented policy lays them out, at the end of another.
 ///
-/// Fails with the refusal of the first fault of the bytes, as [`Sequence::from_cbor_within`] does, or for want of memory. A part of the text
-/// may be written then. Beside the text it takes memory for an item that fits on a line, and for a string that doesn't.
+/// Fails with the refusal of the first fault of the bytes, as [`Sequence::from_cbor_within`] does, or for want of memory. A part of the
+/// text may be written then. Beside the text it takes memory for an item that fits on a line, and for a string that doesn't.
 ///
 /// [`Sequence::from_cbor_within`]: cbor_edn_core::tree::Sequence::from_cbor_within
 pub fn print_cbor(
@@ -104,7 +104,7 @@ fn print_item<'b>(
     bytes: &'b [u8],
     limit: usize,
 ) -> Result<&'b [u8], Fault<CborError>>
-    ensures exact { Prints (λ t. Writes layout t) (λ r. r.now) (buffer_bytes out.old) (buffer_bytes out.new) result (item_at trees limit bytes.now) }
+    ensures value { Prints (λ t. Writes layout t) (λ r. r.now) (buffer_bytes out.old) (buffer_bytes out.new) result (item_at trees limit bytes.now) }
     ensures shorter { IfOk result (λ r. length r.now < length bytes.now) }
 {
     let ((major, argument), behind) = head_of(bytes)?;
@@ -182,7 +182,7 @@ fn print_string<'b>(
     count: u64,
     bytes: &'b [u8],
 ) -> Result<&'b [u8], Fault<CborError>>
-    ensures exact { Prints WritesAnyhow (λ r. r.now) (buffer_bytes out.old) (buffer_bytes out.new) result (string_by trees kind (Some (width, count)) bytes.now) }
+    ensures value { Prints WritesAnyhow (λ r. r.now) (buffer_bytes out.old) (buffer_bytes out.new) result (string_by trees kind (Some (width, count)) bytes.now) }
     ensures shorter { IfOk result (λ r. length r.now ≤ length bytes.now) }
 {
     let (literal, rest) = read_literal(alloc, kind, count, bytes)?;
@@ -198,7 +198,7 @@ fn read_literal<'a, 'b>(
     count: u64,
     bytes: &'b [u8],
 ) -> Result<(Literal<'a>, &'b [u8]), Fault<CborError>>
-    ensures exact { DecoderGives (λ x. (literal_bytes x.0, x.1.now)) result (shown (kind_literal kind) (string_at kind count bytes.now)) }
+    ensures value { DecoderGives (λ x. (literal_bytes x.0, x.1.now)) result (shown (kind_literal kind) (string_at kind count bytes.now)) }
     ensures shorter { IfOk result (λ x. length x.1.now ≤ length bytes.now) }
 {
     if (bytes.len() as u64) < count {
@@ -224,7 +224,7 @@ fn print_leaf<'b>(
     bytes: &'b [u8],
     limit: usize,
 ) -> Result<&'b [u8], Fault<CborError>>
-    ensures exact { Prints (λ t. Writes layout t) (λ r. r.now) (buffer_bytes out.old) (buffer_bytes out.new) result (item_at trees limit bytes.now) }
+    ensures value { Prints (λ t. Writes layout t) (λ r. r.now) (buffer_bytes out.old) (buffer_bytes out.new) result (item_at trees limit bytes.now) }
     ensures shorter { IfOk result (λ r. length r.now < length bytes.now) }
 {
     let (item, rest) = decode_item(alloc, bytes, limit)?;
@@ -246,7 +246,7 @@ fn print_nested<'b>(
 ) -> Result<&'b [u8], Fault<CborError>>
     requires head { head_at bytes.now ≡ Ok ((nested_major nested, argument), behind.now) }
     requires shorter { length behind.now < length bytes.now }
-    ensures exact { Prints (λ t. Writes layout t) (λ r. r.now) (buffer_bytes out.old) (buffer_bytes out.new) result (item_at trees limit bytes.now) }
+    ensures value { Prints (λ t. Writes layout t) (λ r. r.now) (buffer_bytes out.old) (buffer_bytes out.new) result (item_at trees limit bytes.now) }
     ensures shorter { IfOk result (λ r. length r.now < length bytes.now) }
 {
     let (front, _) = bytes.split_at(room(layout).min(bytes.len()));
@@ -275,7 +275,7 @@ fn print_parts<'b>(
     bytes: &'b [u8],
     limit: usize,
 ) -> Result<&'b [u8], Fault<CborError>>
-    ensures exact { Prints (λ t. WritesParts parts t) (λ r. r.now) (buffer_bytes out.old) (buffer_bytes out.new) result (nested_by nested limit argument bytes.now) }
+    ensures value { Prints (λ t. WritesParts parts t) (λ r. r.now) (buffer_bytes out.old) (buffer_bytes out.new) result (nested_by nested limit argument bytes.now) }
     ensures shorter { IfOk result (λ r. length r.now ≤ length bytes.now) }
 {
     match nested {
@@ -296,15 +296,15 @@ fn print_list<'b>(
     bytes: &'b [u8],
     limit: usize,
 ) -> Result<&'b [u8], Fault<CborError>>
-    ensures exact { Prints (λ t. WritesParts parts t) (λ r. r.now) (buffer_bytes out.old) (buffer_bytes out.new) result (list_by (bracketed list) limit argument bytes.now) }
+    ensures value { Prints (λ t. WritesParts parts t) (λ r. r.now) (buffer_bytes out.old) (buffer_bytes out.new) result (list_by (bracketed list) limit argument bytes.now) }
     ensures shorter { IfOk result (λ r. length r.now ≤ length bytes.now) }
 {
     if limit == 0 {
         return Err(Fault::Told(CborError::TooDeep));
     }
-    out.push_str(opening(list))?;
+    out.push_str(open_bracket(list))?;
     let rest = print_inside(alloc, out, parts, list, argument, bytes, limit - 1)?;
-    out.push_str(ending(list))?;
+    out.push_str(close_bracket(list))?;
     Ok(rest)
 }
 
@@ -318,7 +318,7 @@ fn print_tag<'b>(
     bytes: &'b [u8],
     limit: usize,
 ) -> Result<&'b [u8], Fault<CborError>>
-    ensures exact { Prints (λ t. WritesParts parts t) (λ r. r.now) (buffer_bytes out.old) (buffer_bytes out.new) result (tag_by trees (inner trees limit) argument bytes.now) }
+    ensures value { Prints (λ t. WritesParts parts t) (λ r. r.now) (buffer_bytes out.old) (buffer_bytes out.new) result (tag_by trees (inner trees limit) argument bytes.now) }
     ensures shorter { IfOk result (λ r. length r.now ≤ length bytes.now) }
 {
     let Some((_, number)) = argument else {
@@ -327,18 +327,18 @@ fn print_tag<'b>(
     if limit == 0 {
         return Err(Fault::Told(CborError::TooDeep));
     }
-    print_label(out, LabelKind::Tag(indicator_of(argument), number))?;
+    print_opener(out, OpenerKind::Tag(indicator_of(argument), number))?;
     out.push_str("(")?;
-    print_space(out, &S::empty(), parts, Slot::Elsewhere)?;
+    print_space(out, &Space::empty(), parts, Slot::Elsewhere)?;
     let rest = print_item(alloc, out, parts, bytes, limit - 1)?;
-    print_space(out, &S::empty(), parts, Slot::Elsewhere)?;
+    print_space(out, &Space::empty(), parts, Slot::Elsewhere)?;
     out.push_str(")")?;
     Ok(rest)
 }
 
 /// The bracket in front of a list.
-fn opening(list: Brackets) -> &'static str
-    ensures { result.now ≡ spelling.opening (bracketed list) ∷ [] }
+fn open_bracket(list: Brackets) -> &'static str
+    ensures { result.now ≡ spelling.open_byte (bracketed list) ∷ [] }
 {
     match list {
         Brackets::Array => "[",
@@ -347,8 +347,8 @@ fn opening(list: Brackets) -> &'static str
 }
 
 /// The bracket behind a list.
-fn ending(list: Brackets) -> &'static str
-    ensures { result.now ≡ spelling.ending (bracketed list) ∷ [] }
+fn close_bracket(list: Brackets) -> &'static str
+    ensures { result.now ≡ spelling.close_byte (bracketed list) ∷ [] }
 {
     match list {
         Brackets::Array => "]",
@@ -367,7 +367,7 @@ fn print_inside<'b>(
     bytes: &'b [u8],
     limit: usize,
 ) -> Result<&'b [u8], Fault<CborError>>
-    ensures exact { Prints (λ es. Writes layout (list_inside {k = bracketed list} (argument_indicator argument) (row_of es))) (λ r. r.now) (buffer_bytes out.old) (buffer_bytes out.new) result (several (entry_at (bracketed list) limit) argument bytes.now) }
+    ensures value { Prints (λ es. Writes layout (list_inside {k = bracketed list} (argument_indicator argument) (row_of es))) (λ r. r.now) (buffer_bytes out.old) (buffer_bytes out.new) result (several (entry_at (bracketed list) limit) argument bytes.now) }
     ensures shorter { IfOk result (λ r. length r.now ≤ length bytes.now) }
 {
     match argument {
@@ -394,18 +394,18 @@ fn print_inside<'b>(
 
 /// Writes what stands between the brackets of a list without entries.
 fn print_empty(out: &mut TextBuffer, layout: Layout, argument: Argument) -> Result<(), AllocError>
-    ensures { OnOk result (buffer_bytes out.new ≡ buffer_bytes out.old ++ (indicator_text (argument_indicator argument) ++ respaced spacing.S slots.Elsewhere layout [])) }
+    ensures { OnOk result (buffer_bytes out.new ≡ buffer_bytes out.old ++ (indicator_text (argument_indicator argument) ++ respaced spacing.Optional slots.Elsewhere layout [])) }
 {
     print_indicator(out, indicator_of(argument))?;
-    print_space(out, &S::empty(), layout, Slot::Elsewhere)
+    print_space(out, &Space::empty(), layout, Slot::Elsewhere)
 }
 
 /// Writes what stands in front of the first entry of a list.
 fn print_front(out: &mut TextBuffer, layout: Layout, argument: Argument) -> Result<(), AllocError>
-    ensures { OnOk result (buffer_bytes out.new ≡ buffer_bytes out.old ++ (list_head_text (laid_list_head layout (spaced_list_head (argument_indicator argument))) ++ respaced spacing.S slots.First layout [])) }
+    ensures { OnOk result (buffer_bytes out.new ≡ buffer_bytes out.old ++ (list_head_text (laid_list_head layout (spaced_list_head (argument_indicator argument))) ++ respaced spacing.Optional slots.First layout [])) }
 {
-    print_laid_head(out, &head_space(indicator_of(argument)), layout)?;
-    print_space(out, &S::empty(), layout, Slot::First)
+    ListHead::spaced(indicator_of(argument)).print(out, layout)?;
+    print_space(out, &Space::empty(), layout, Slot::First)
 }
 
 /// Writes so many entries, the separators between them, and the end of their list.
@@ -420,17 +420,17 @@ fn print_many<'b>(
     limit: usize,
 ) -> Result<&'b [u8], Fault<CborError>>
     requires { 0 < count }
-    ensures exact { Prints (λ es. WritesRow layout (row_of es)) (λ r. r.now) (buffer_bytes out.old) (buffer_bytes out.new) result (many (entry_at (bracketed list) limit) count bytes.now) }
+    ensures value { Prints (λ es. WritesRow layout (row_of es)) (λ r. r.now) (buffer_bytes out.old) (buffer_bytes out.new) result (many (entry_at (bracketed list) limit) count bytes.now) }
     ensures shorter { IfOk result (λ r. length r.now ≤ length bytes.now) }
 {
     let mut rest = bytes;
     for _ in 0..count - 1 {
         let after = print_entry(alloc, out, layout, list, rest, limit)?;
-        print_separator(out, &Msc::comma_space(), layout)?;
+        print_separator(out, &Separator::comma_space(), layout)?;
         rest = after;
     }
     let after = print_entry(alloc, out, layout, list, rest, limit)?;
-    print_end(out, &Soc::empty(), layout)?;
+    print_end(out, &ListEnd::empty(), layout)?;
     Ok(after)
 }
 
@@ -446,7 +446,7 @@ fn print_until<'b>(
     limit: usize,
 ) -> Result<&'b [u8], Fault<CborError>>
     requires { reading.past_stop stop bytes.now ≡ None }
-    ensures exact { Prints (λ es. WritesRow layout (row_of es)) (λ r. r.now) (buffer_bytes out.old) (buffer_bytes out.new) result (until stop (entry_at (bracketed list) limit) (suc (length bytes.now)) bytes.now) }
+    ensures value { Prints (λ es. WritesRow layout (row_of es)) (λ r. r.now) (buffer_bytes out.old) (buffer_bytes out.new) result (until stop (entry_at (bracketed list) limit) (suc (length bytes.now)) bytes.now) }
     ensures shorter { IfOk result (λ r. length r.now ≤ length bytes.now) }
 {
     let mut rest = bytes;
@@ -454,11 +454,11 @@ fn print_until<'b>(
         let after = print_entry(alloc, out, layout, list, rest, limit)?;
         match past_stop(stop, after) {
             Some(behind) => {
-                print_end(out, &Soc::empty(), layout)?;
+                print_end(out, &ListEnd::empty(), layout)?;
                 return Ok(behind);
             }
             None => {
-                print_separator(out, &Msc::comma_space(), layout)?;
+                print_separator(out, &Separator::comma_space(), layout)?;
                 rest = after;
             }
         }
@@ -475,7 +475,7 @@ fn print_entry<'b>(
     bytes: &'b [u8],
     limit: usize,
 ) -> Result<&'b [u8], Fault<CborError>>
-    ensures exact { Prints (λ e. Writes layout e) (λ r. r.now) (buffer_bytes out.old) (buffer_bytes out.new) result (entry_at (bracketed list) limit bytes.now) }
+    ensures value { Prints (λ e. Writes layout e) (λ r. r.now) (buffer_bytes out.old) (buffer_bytes out.new) result (entry_at (bracketed list) limit bytes.now) }
     ensures shorter { IfOk result (λ r. length r.now < length bytes.now) }
 {
     match list {
@@ -493,12 +493,12 @@ fn print_pair<'b>(
     bytes: &'b [u8],
     limit: usize,
 ) -> Result<&'b [u8], Fault<CborError>>
-    ensures exact { Prints (λ e. Writes layout e) (λ r. r.now) (buffer_bytes out.old) (buffer_bytes out.new) result (pair_at trees (item_at trees limit) bytes.now) }
+    ensures value { Prints (λ e. Writes layout e) (λ r. r.now) (buffer_bytes out.old) (buffer_bytes out.new) result (pair_at trees (item_at trees limit) bytes.now) }
     ensures shorter { IfOk result (λ r. length r.now < length bytes.now) }
 {
     let rest = print_item(alloc, out, layout, bytes, limit)?;
-    print_space(out, &S::empty(), layout, Slot::Elsewhere)?;
+    print_space(out, &Space::empty(), layout, Slot::Elsewhere)?;
     out.push_str(":")?;
-    print_space(out, &S::space(), layout, Slot::AfterColon)?;
+    print_space(out, &Space::single(), layout, Slot::AfterColon)?;
     print_item(alloc, out, layout, rest, limit)
 }

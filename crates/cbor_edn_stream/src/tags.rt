@@ -5,7 +5,7 @@ ghost use Rattle.cbor_edn_stream.specs.Tags.{values_have_tag};
 ghost use Rattle.cbor_edn_stream.specs.Heads as heads;
 
 use cbor_edn_model::cbor::decode::head::{Argument, head_of};
-use cbor_edn_parts::error::Fault;
+use cbor_edn_parts::base::error::Fault;
 use std::alloc::AllocError;
 
 /// Whether a tag of one of the numbers stands in the items that bytes encode, at any depth. Of bytes that encode no items it says nothing.

@@ -1,7 +1,7 @@
 //! Bytes that are decoded and encoded again, which gives the same bytes.
 ghost use Rattle.std.specs.Prelude.{◌≡◌, ◌≢◌, ℕ, List, Some, IfOk};
 ghost use Rattle.std.specs.String.{string_bytes};
-ghost use Rattle.cbor_edn_parts.specs.Refusals.{IfTold};
+ghost use Rattle.cbor_edn_parts.specs.base.Refusals.{IfTold};
 ghost use Rattle.cbor_edn_model.specs.tree.Trees.{items};
 ghost use Rattle.cbor_edn_core.specs.tree.View.{sequence_tree};
 ghost use Rattle.cbor_edn_model.specs.text.Spelling.{SpellsSequence};
@@ -13,8 +13,8 @@ ghost use Rattle.cbor_edn.specs.Recoding.{IsTextOfItems};
 use crate::boxed::boxed;
 use cbor_edn_core::cbor::decode::CborError;
 use cbor_edn_core::tree::{NESTING_LIMIT, Sequence};
-use cbor_edn_parts::error::Fault;
-use cbor_edn_parts::policy::DelimiterPolicy;
+use cbor_edn_parts::base::error::Fault;
+use cbor_edn_parts::space::policy::DelimiterPolicy;
 use std::alloc::{AllocError, Global};
 
 pub mod item;
@@ -27,7 +27,7 @@ pub fn recoded(alloc: Global, bytes: &[u8]) -> Result<Vec<u8>, Fault<CborError>>
     ensures too_deep { IfTold result (λ e. e ≡ CborError.TooDeep → IsTooDeepSequence NESTING_LIMIT bytes.now) }
 {
     let sequence: Box<Sequence<'_>> = boxed(alloc, Sequence::from_cbor(alloc, bytes))?;
-    Ok(encoded(alloc, &sequence)?)
+    Ok(to_cbor(alloc, &sequence)?)
 }
 
 /// The bytes that the items of an encoding are encoded as by way of their text, which has the spaces of each policy in turn and is parsed
@@ -46,7 +46,7 @@ pub fn recoded_by_text(
 }
 
 /// The encodings of items that mean something.
-fn encoded(alloc: Global, sequence: &Sequence<'_>) -> Result<Vec<u8>, AllocError>
+fn to_cbor(alloc: Global, sequence: &Sequence<'_>) -> Result<Vec<u8>, AllocError>
     requires { (vs : Values) × (means (items (sequence_tree sequence.now)) ≡ Some vs) }
     ensures { IfOk result (λ b. (vs : Values) × (means (items (sequence_tree sequence.now)) ≡ Some vs) × EncAll b.items vs) }
 {
@@ -91,7 +91,7 @@ fn read_and_encoded(alloc: Global, text: &str) -> Result<Vec<u8>, AllocError>
     ensures { IfOk result (λ b. IsTextOfItems NESTING_LIMIT b.items text.now) }
 {
     match boxed(alloc, Sequence::parse(alloc, text)) {
-        Ok(sequence) => encoded(alloc, &sequence),
+        Ok(sequence) => to_cbor(alloc, &sequence),
         Err(Fault::Memory(refused)) => Err(refused),
         Err(Fault::Told(_)) => unreachable!(),
     }

@@ -1,8 +1,8 @@
 //! The items that address literals stand for.
 ghost use Rattle.std.specs.Prelude.{◌≡◌, ◌∷◌, [], ℕ, false, pos, map, List, Ok, Err, Some, None, IfOk, IfSome, IfNone, string_bytes};
-ghost use Rattle.cbor_edn_parts.specs.Refusals.{IfTold};
+ghost use Rattle.cbor_edn_parts.specs.base.Refusals.{IfTold};
 ghost use Rattle.cbor_edn_model.specs.visit.Seeking.{prefix_and_text};
-ghost use Rattle.cbor_edn_literals.specs.Address.{version_of};
+ghost use Rattle.cbor_edn_times_and_addresses.specs.Address.{version_of};
 ghost use Rattle.cbor_edn_model.specs.tree.Constructed.{comma_inside};
 ghost use Rattle.cbor_edn_core.specs.tree.Constructed.{element_tree};
 ghost use Rattle.cbor_edn_core.specs.visit.Sought.{sought_answer};
@@ -14,11 +14,11 @@ ghost use Rattle.cbor_edn_conversions.specs.Addresses.{address_item, address_of_
 ghost use Rattle.cbor_edn_application.specs.Acts.{ActsBy};
 
 use crate::reply::reply;
-use cbor_edn_conversions::steps::address_tag;
+use cbor_edn_conversions::addresses::address_tag;
 use cbor_edn_core::tree::Item;
-use cbor_edn_literals::address::{IpVersion, read_address, shown_bytes};
-use cbor_edn_parts::error::{CallbackError, Fault};
-use cbor_edn_parts::policy::DelimiterPolicy;
+use cbor_edn_parts::base::error::{CallbackError, Fault};
+use cbor_edn_parts::space::policy::DelimiterPolicy;
+use cbor_edn_times_and_addresses::address::{IpVersion, read_address, shown_bytes};
 use std::alloc::{AllocError, Global};
 use std::net::IpAddr;
 
@@ -135,13 +135,18 @@ fn length_and_bytes<'a>(
 ) -> Result<Item<'a>, AllocError>
     ensures { IfOk result (λ t. item_tree t ≡ pair_tree (integer_tree (pos prefix_length)) (bytes_tree bytes.now)) }
 {
-    let items = parts(alloc, prefix_length, bytes)?;
+    let items = length_and_bytes_items(alloc, prefix_length, bytes)?;
     let mut array = array_of(alloc, items)?;
     array.set_delimiters(alloc, DelimiterPolicy::SingleLineRegularSpacing)?;
     Ok(array)
 }
 
-fn parts<'a>(alloc: Global, prefix_length: u8, bytes: &[u8]) -> Result<Vec<Item<'a>>, AllocError>
+/// The two items of an array of a prefix length and bytes.
+fn length_and_bytes_items<'a>(
+    alloc: Global,
+    prefix_length: u8,
+    bytes: &[u8],
+) -> Result<Vec<Item<'a>>, AllocError>
     ensures { IfOk result (λ v. map element_tree v.items ≡ ElementTree (integer_tree (pos prefix_length)) ∷ ElementTree (bytes_tree bytes.now) ∷ []) }
 {
     let mut items: Vec<Item<'a>> = Vec::new(alloc);

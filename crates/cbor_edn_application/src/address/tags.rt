@@ -1,7 +1,7 @@
 //! Address literals in the place of tags.
 ghost use Rattle.std.specs.Prelude.{◌≡◌, true, Option, Some, None, Ok, Err, IfOk, IfSome, IfNone};
-ghost use Rattle.cbor_edn_parts.specs.declared.indicator.Indicator.{Indicator};
-ghost use Rattle.cbor_edn_parts.specs.Refusals.{IfTold};
+ghost use Rattle.cbor_edn_parts.specs.declared.base.indicator.Indicator.{Indicator};
+ghost use Rattle.cbor_edn_parts.specs.base.Refusals.{IfTold};
 ghost use Rattle.cbor_edn_model.specs.visit.Seeking.{number};
 ghost use Rattle.cbor_edn_model.specs.tree.Trees.{Tree, OneItem};
 ghost use Rattle.cbor_edn_core.specs.visit.Sought.{sought_answer};
@@ -14,11 +14,12 @@ ghost use Rattle.cbor_edn_application.specs.Placing.{with_placed};
 use super::literals::placed_literal;
 use super::placing::{CHANGED_ENCODING, Placed, put};
 use crate::reply::refusal;
-use crate::tags::tag_parts;
-use cbor_edn_conversions::steps::{address_tag, is_narrowest};
+use crate::tags::tag_indicator_and_content;
+use cbor_edn_conversions::addresses::address_tag;
+use cbor_edn_conversions::indicators::is_shortest;
 use cbor_edn_core::tree::{Indicator, Item};
-use cbor_edn_literals::address::IpVersion;
-use cbor_edn_parts::error::{CallbackError, Fault};
+use cbor_edn_parts::base::error::{CallbackError, Fault};
+use cbor_edn_times_and_addresses::address::IpVersion;
 use std::alloc::Global;
 
 /// Puts `IP'192.0.2.1'` in the place of `52(h'c0000201')`, and so on for tags 52 and 54 (RFC 9164), as `ip_item_to_aol` gives it for the
@@ -41,7 +42,7 @@ fn version_tag_to_aol<'a>(
 ) -> Result<(), CallbackError>
     ensures { ActsBy pretty_address (number (address_tag version)) (item_tree item.old) (sought_answer result) (item_tree item.new) }
 {
-    let Some((indicator, content)) = tag_parts(address_tag(version), item) else {
+    let Some((indicator, content)) = tag_indicator_and_content(address_tag(version), item) else {
         return Ok(());
     };
     match content_literal(alloc, content, version, indicator) {
@@ -73,7 +74,7 @@ fn content_literal<'a>(
     ensures refused { IfTold result (λ e. without_tag indicator (address_tag version) (address_literal (item_tree content.now) version true) ≡ Err e.now) }
 {
     let literal = placed_literal(alloc, content, version, true)?;
-    if !is_narrowest(indicator, address_tag(version)) {
+    if !is_shortest(indicator, address_tag(version)) {
         return Err(Fault::Told(CHANGED_ENCODING));
     }
     Ok(literal)

@@ -1,8 +1,8 @@
 //! Literals of a prefix and a text.
 ghost use Rattle.std.specs.Prelude.{◌≡◌, ◌↔◌, ℕ, List, None, true, false, IfOk, IfSome, IfNone, OnErr, string_bytes};
 ghost use Rattle.cbor_edn_parts.specs.Leaves.{literal_bytes};
-ghost use Rattle.cbor_edn_parts.specs.Literal.{IsLiteral, Prefixed};
-ghost use Rattle.cbor_edn_parts.specs.Refusals.{IfTold, OnMemory};
+ghost use Rattle.cbor_edn_parts.specs.string.Literal.{IsLiteral, Prefixed};
+ghost use Rattle.cbor_edn_parts.specs.base.Refusals.{IfTold, OnMemory};
 ghost use Rattle.cbor_edn_model.specs.access.Accessed.{IsApplicationItem, IsApplicationPiece, are_several, string_tree};
 ghost use Rattle.cbor_edn_model.specs.tree.TreeLeaves.{texts};
 ghost use Rattle.cbor_edn_core.specs.access.Mismatch.{literal_mismatch};
@@ -10,7 +10,7 @@ ghost use Rattle.cbor_edn_core.specs.tree.View.{item_tree, view_piece, view_stri
 
 use super::TypeMismatch;
 use crate::tree::{CborString, InnerItem, Item, Piece};
-use cbor_edn_parts::error::Fault;
+use cbor_edn_parts::base::error::Fault;
 use cbor_edn_parts::string::Literal;
 use std::alloc::{AllocError, Global};
 
@@ -58,7 +58,7 @@ impl<'a> Item<'a> {
     }
 }
 
-/// Whether the item may be a literal with a prefix, by its form and its first byte: a look that takes less than
+/// Whether the item may be a literal with a prefix, by its form and its first byte: a test that takes less than
 /// [`Item::application_prefix`].
 #[inline]
 #[tactic(auto, using(crate::proofs::lemmas::tree::Views::view_stream_is))]
@@ -115,7 +115,7 @@ fn piece_literal<'p, 'a>(piece: &'p Piece<'a>) -> Option<&'p Literal<'a>>
 {
     match piece {
         Piece::Literal(_, literal) => Some(literal),
-        Piece::Dots(_) | Piece::Embedded(..) => None,
+        Piece::Ellipsis(_) | Piece::Embedded(..) => None,
     }
 }
 
@@ -136,6 +136,6 @@ fn prefix_and_text_of(
 {
     match piece {
         Piece::Literal(_, literal) => literal.application_parts(alloc),
-        Piece::Dots(_) | Piece::Embedded(..) => Ok(None),
+        Piece::Ellipsis(_) | Piece::Embedded(..) => Ok(None),
     }
 }

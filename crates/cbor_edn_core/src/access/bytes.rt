@@ -1,7 +1,7 @@
 //! The bytes of strings.
 ghost use Rattle.std.specs.Prelude.{◌≡◌, IfOk, Some, None};
 ghost use Rattle.std.specs.List.{list_all};
-ghost use Rattle.cbor_edn_parts.specs.Refusals.{IfTold};
+ghost use Rattle.cbor_edn_parts.specs.base.Refusals.{IfTold};
 ghost use Rattle.cbor_edn_parts.specs.Leaves.{literal_bytes};
 ghost use Rattle.cbor_edn_parts.specs.internal.ContentReading.{literal_content};
 ghost use Rattle.cbor_edn_model.specs.access.Accessed.{only_bytes, item_bytes, piece_bytes, pieces_bytes, strings_bytes, pieces, is_plain_piece, is_plain_string};
@@ -13,7 +13,7 @@ use super::TypeMismatch;
 use crate::cbor::encode::encode_piece;
 use crate::tree::{CborString, InnerItem, Item, Piece, Strings};
 use cbor_edn_model::cbor::encode::encode_literal;
-use cbor_edn_parts::error::Fault;
+use cbor_edn_parts::base::error::Fault;
 use cbor_edn_parts::string::{Literal, StringKind};
 use std::alloc::Global;
 
@@ -33,7 +33,7 @@ impl Item<'_> {
 impl Item<'_> {
     /// Whether the item is a string whose pieces are all quoted and have no encoding indicator, as `h'01' + 'a'` and neither
     /// `h'01'_0` nor `<<1>>`.
-    #[tactic(auto, using(crate::proofs::lemmas::tree::Views::view_string_is, crate::proofs::lemmas::tree::Views::view_stream_is))]
+    #[tactic(auto, using(crate::proofs::lemmas::tree::Views::strings_are))]
     pub fn is_plain_string(&self) -> bool
         ensures { result ≡ is_plain_string (item_tree self.now) }
     {

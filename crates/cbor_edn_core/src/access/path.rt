@@ -1,4 +1,7 @@
 //! Items by paths, over any leaves: the items below an item are counted as they stand in the text.
+//!
+//! Each function lends one part and hands that on. The checker proves no body that lends by a call of itself, so those that put the steps
+//! together, `descend` and `at_mut`, are proved by hand, and every other step stands in a function of its own.
 ghost use Rattle.std.specs.Prelude.{◌≡◌, ◌↔◌, ◌<◌, true, Some, suc, drop, map, option_map, length, slice_get};
 ghost use Rattle.std.specs.List.{slice_index};
 ghost use Rattle.std.specs.Option.{IsSome, is_some};
@@ -10,7 +13,7 @@ ghost use Rattle.std.specs.Borrow.{sem};
 ghost use Rattle.cbor_edn_core.specs.access.Lent.{LendsInner, LendsOfItems, LendsOfPairs, LendsOfList, LendsOfPairList, LendsOfSequence, LendsOfPiece, LendsOfString, LendsOfStrings, LendsOfStream, LendsOfStandalone, LendsOfInner, LendsBelow, LendsAt, LendsAtStandalone, LendsAtSequence};
 
 use crate::tree::{
-    CborStringOf, InnerItemOf, ItemListOf, ItemOf, ItemsOf, LabelKind, PairListOf, PairsOf,
+    CborStringOf, InnerItemOf, ItemListOf, ItemOf, ItemsOf, OpenerKind, PairListOf, PairsOf,
     PieceOf, SequenceOf, StandaloneItemOf, StreamOf, StringsOf,
 };
 
@@ -96,7 +99,7 @@ impl<O: Drop, M: Drop, C: Drop, E: Drop, N: Drop, L: Drop, D: Drop> SequenceOf<
         }
     }
 
-    // The number behind these items, unless it is one of theirs.
+    /// The number behind these items, unless it is one of theirs.
     fn past(&self, i: usize) -> Option<usize>
         ensures { (leaves : Ghosts O M C E N L D) → result ≡ past_of (length (items_in (view_sequence leaves self.now))) i }
     {
@@ -116,20 +119,20 @@ impl<O: Drop, M: Drop, C: Drop, E: Drop, N: Drop, L: Drop, D: Drop> InnerItemOf<
     L,
     D,
 > {
-    // The item where the path leads from the number at `at` on.
+    /// The item where the path leads from the number at `at` on.
     fn below_mut(&mut self, path: &[usize], at: usize) -> Option<&mut ItemOf<O, M, C, E, N, L, D>>
         requires { at < length path.now }
         ensures* lent { sem 𝓛 (LendsBelow O.row M.row C.row E.row N.row L.row D.row self.entry (drop at path.now) result) }
         ensures value { (leaves : Ghosts O M C E N L D) → option_map (λ w. view_item leaves w.now) result ≡ at_path (drop at path.now) (view_inner leaves self.old) }
     {
         if self.leads(path, at) {
-            self.reach(path, at)
+            self.descend(path, at)
         } else {
             None
         }
     }
 
-    // Whether it leads to an item. The items on the way are lent and change nothing.
+    /// Whether it leads to an item. The items on the way are lent and change nothing.
     fn leads(&mut self, path: &[usize], at: usize) -> bool
         requires { at < length path.now }
         ensures there { (leaves : Ghosts O M C E N L D) → result ≡ is_some (at_path (drop at path.now) (view_inner leaves self.old)) }
@@ -144,8 +147,8 @@ impl<O: Drop, M: Drop, C: Drop, E: Drop, N: Drop, L: Drop, D: Drop> InnerItemOf<
         item.inner.leads(path, at + 1)
     }
 
-    // The item where it leads, once it is known that it leads to one.
-    fn reach(&mut self, path: &[usize], at: usize) -> Option<&mut ItemOf<O, M, C, E, N, L, D>>
+    /// The item where it leads, once it is known that it leads to one.
+    fn descend(&mut self, path: &[usize], at: usize) -> Option<&mut ItemOf<O, M, C, E, N, L, D>>
         requires { ((leaves : Ghosts O M C E N L D) → IsSome (at_path (drop at path.now) (view_inner leaves self.old))) × (at < length path.now) }
         ensures* lent { sem 𝓛 (LendsBelow O.row M.row C.row E.row N.row L.row D.row self.entry (drop at path.now) result) }
         ensures value { (leaves : Ghosts O M C E N L D) → option_map (λ w. view_item leaves w.now) result ≡ at_path (drop at path.now) (view_inner leaves self.old) }
@@ -156,7 +159,7 @@ impl<O: Drop, M: Drop, C: Drop, E: Drop, N: Drop, L: Drop, D: Drop> InnerItemOf<
             return Some(part);
         }
         let inner = part.inner_mut();
-        inner.reach(path, at + 1)
+        inner.descend(path, at + 1)
     }
 
     fn child_at(&mut self, path: &[usize], at: usize) -> Option<&mut ItemOf<O, M, C, E, N, L, D>>
@@ -167,7 +170,7 @@ impl<O: Drop, M: Drop, C: Drop, E: Drop, N: Drop, L: Drop, D: Drop> InnerItemOf<
         self.item_mut(path[at])
     }
 
-    // The item below at a number.
+    /// The item below at a number.
     fn item_mut(&mut self, i: usize) -> Option<&mut ItemOf<O, M, C, E, N, L, D>>
         ensures* lent { sem 𝓛 (LendsOfInner O.row M.row C.row E.row N.row L.row D.row self.entry i result) }
         ensures value { (leaves : Ghosts O M C E N L D) → option_map (λ w. view_item leaves w.now) result ≡ slice_get (items_in (view_inner leaves self.old)) i }
@@ -192,9 +195,9 @@ impl<O: Drop, M: Drop, C: Drop, E: Drop, N: Drop, L: Drop, D: Drop> InnerItemOf<
         ensures { (leaves : Ghosts O M C E N L D) → result ≡ is_simple_item (view_inner leaves self.now) }
     {
         match self {
-            InnerItemOf::Enclosed(label, _) => match label.kind {
-                LabelKind::Tag(..) => false,
-                LabelKind::Simple => true,
+            InnerItemOf::Enclosed(opener, _) => match opener.kind {
+                OpenerKind::Tag(..) => false,
+                OpenerKind::Simple => true,
             },
             _ => false,
         }
@@ -315,7 +318,7 @@ impl<O: Drop, M: Drop, C: Drop, E: Drop, N: Drop, L: Drop, D: Drop> PieceOf<O, M
         ensures value { (leaves : Ghosts O M C E N L D) → option_map (λ w. view_item leaves w.now) result ≡ slice_get (items_in (view_piece leaves self.old)) i }
     {
         match self {
-            PieceOf::Literal(..) | PieceOf::Dots(_) => None,
+            PieceOf::Literal(..) | PieceOf::Ellipsis(_) => None,
             PieceOf::Embedded(_, sequence) => sequence.item_mut(i),
         }
     }
@@ -324,7 +327,7 @@ impl<O: Drop, M: Drop, C: Drop, E: Drop, N: Drop, L: Drop, D: Drop> PieceOf<O, M
         ensures { (leaves : Ghosts O M C E N L D) → result ≡ past_of (length (items_in (view_piece leaves self.now))) i }
     {
         match self {
-            PieceOf::Literal(..) | PieceOf::Dots(_) => Some(i),
+            PieceOf::Literal(..) | PieceOf::Ellipsis(_) => Some(i),
             PieceOf::Embedded(_, sequence) => sequence.past(i),
         }
     }
@@ -385,7 +388,7 @@ impl<O: Drop, M: Drop, C: Drop, E: Drop, N: Drop, L: Drop, D: Drop> StreamOf<O, 
     }
 }
 
-// Where an item's number leads in pieces: the number of the piece, or how many there are, and the item's number from there on.
+/// Where an item's number leads in pieces: the number of the piece, or how many there are, and the item's number from there on.
 fn piece_at<O: Drop, M: Drop, C: Drop, E: Drop, N: Drop, L: Drop, D: Drop>(
     row: &[(PieceOf<O, M, C, E, N, L, D>, O, O)],
     i: usize,
@@ -404,7 +407,7 @@ fn piece_at<O: Drop, M: Drop, C: Drop, E: Drop, N: Drop, L: Drop, D: Drop>(
     (place, left)
 }
 
-// The same in strings.
+/// Where an item's number leads in strings: the number of the string, or how many there are, and the item's number from there on.
 fn string_at<O: Drop, M: Drop, C: Drop, E: Drop, N: Drop, L: Drop, D: Drop>(
     row: &[(CborStringOf<O, M, C, E, N, L, D>, C)],
     i: usize,
@@ -429,7 +432,7 @@ fn is_empty(path: &[usize]) -> bool
     path.len() == 0
 }
 
-// Whether a number of a path is its last.
+/// Whether a number of a path is its last.
 fn is_last(path: &[usize], at: usize) -> bool
     requires { at < length path.now }
     ensures { (result ≡ true) ↔ (suc at ≡ length path.now) }
@@ -437,7 +440,7 @@ fn is_last(path: &[usize], at: usize) -> bool
     at + 1 == path.len()
 }
 
-// The item that is lent, where one is.
+/// The item that is lent, where one is.
 fn there<O: Drop, M: Drop, C: Drop, E: Drop, N: Drop, L: Drop, D: Drop>(
     part: Option<&mut ItemOf<O, M, C, E, N, L, D>>,
 ) -> &mut ItemOf<O, M, C, E, N, L, D>

@@ -1,6 +1,6 @@
 //! Trees laid out in place. Each item is asked whether it fits on its line before any space of it changes.
 ghost use Rattle.std.specs.Prelude.{◌≡◌, map, IsOk, OnOk};
-ghost use Rattle.cbor_edn_parts.specs.LayoutColumns.{least};
+ghost use Rattle.cbor_edn_parts.specs.space.LayoutColumns.{least};
 ghost use Rattle.cbor_edn_model.specs.layout.Layout.{laid};
 ghost use Rattle.cbor_edn_model.specs.tree.Trees as definition;
 ghost use Rattle.cbor_edn_model.specs.tree.Trees.{items};
@@ -12,15 +12,14 @@ ghost use Rattle.cbor_edn_model.specs.internal.LayoutRows.{laid_entry, entry_ite
 use super::room::layout_of_parts;
 use super::strings::{lay_boxed_string, lay_stream};
 use crate::tree::{
-    InnerItem, Item, ItemList, Items, Kp, PairList, Pairs, Sequence, StandaloneItem,
+    InnerItem, Item, ItemList, Items, Pair, PairList, Pairs, Sequence, StandaloneItem,
 };
-use cbor_edn_model::text::list_head::lay_head;
-use cbor_edn_parts::layout::{Layout, Slot, lay_end, lay_separator, lay_space};
-use cbor_edn_parts::space::Msc;
+use cbor_edn_parts::space::Separator;
+use cbor_edn_parts::space::layout::{Layout, Slot, lay_end, lay_separator, lay_space};
 use std::alloc::{AllocError, Global};
 
 #[cycle(lay)]
-#[tactic(auto, using(crate::proofs::lemmas::tree::Views::view_string_is, cbor_edn_model::proofs::lemmas::layout::LaidTrees::laid_enclosed, cbor_edn_model::proofs::lemmas::layout::LaidTrees::laid_list, cbor_edn_model::proofs::lemmas::layout::LaidTrees::laid_string, cbor_edn_model::proofs::lemmas::layout::LaidTrees::stream_laid), unfolding(cbor_edn_model::specs::layout::Layout::laid, cbor_edn_model::specs::tree::Trees::items))]
+#[tactic(auto, using(crate::proofs::lemmas::Rules::lay_item), unfolding(cbor_edn_model::specs::layout::Layout::laid, cbor_edn_model::specs::tree::Trees::items))]
 pub(super) fn lay_item(item: &mut Item<'_>, alloc: Global, layout: Layout) -> Result<(), AllocError>
     ensures laid { OnOk result (item_tree item.new ≡ laid layout (item_tree item.old)) }
     ensures items { items (item_tree item.new) ≡ items (item_tree item.old) }
@@ -56,7 +55,7 @@ pub(super) fn lay_standalone(
     lay_space(&mut content.after, alloc, layout, Slot::Elsewhere)
 }
 
-#[tactic(auto, using(crate::proofs::lemmas::tree::Views::view_sequence_is, crate::proofs::lemmas::tree::Views::view_sequence_made), unfolding(cbor_edn_model::specs::layout::Layout::laid, cbor_edn_model::specs::tree::Trees::items))]
+#[tactic(auto, using(crate::proofs::lemmas::Rules::lay_sequence), unfolding(cbor_edn_model::specs::layout::Layout::laid, cbor_edn_model::specs::tree::Trees::items))]
 pub(super) fn lay_sequence(
     sequence: &mut Sequence<'_>,
     alloc: Global,
@@ -81,15 +80,15 @@ fn lay_opening<'a>(list: &mut ItemList<'a>, alloc: Global, layout: Layout) -> Re
     ensures least { layout ≡ least → IsOk result }
 {
     if let ItemList::Present { head, .. } = list {
-        lay_head(head, alloc, layout)?;
+        head.lay(alloc, layout)?;
     }
     match list {
-        ItemList::Present { s, .. } => lay_space(s, alloc, layout, Slot::First),
-        ItemList::Absent { s, .. } => lay_space(s, alloc, layout, Slot::Elsewhere),
+        ItemList::Present { space, .. } => lay_space(space, alloc, layout, Slot::First),
+        ItemList::Absent { space, .. } => lay_space(space, alloc, layout, Slot::Elsewhere),
     }
 }
 
-/// The same of a map.
+/// Lays out the spaces in front of the entries of a map.
 #[tactic(auto, unfolding(cbor_edn_model::specs::tree::Trees::items))]
 fn lay_pair_opening<'a>(
     list: &mut PairList<'a>,
@@ -101,11 +100,11 @@ fn lay_pair_opening<'a>(
     ensures least { layout ≡ least → IsOk result }
 {
     if let PairList::Present { head, .. } = list {
-        lay_head(head, alloc, layout)?;
+        head.lay(alloc, layout)?;
     }
     match list {
-        PairList::Present { s, .. } => lay_space(s, alloc, layout, Slot::First),
-        PairList::Absent { s, .. } => lay_space(s, alloc, layout, Slot::Elsewhere),
+        PairList::Present { space, .. } => lay_space(space, alloc, layout, Slot::First),
+        PairList::Absent { space, .. } => lay_space(space, alloc, layout, Slot::Elsewhere),
     }
 }
 
@@ -131,12 +130,12 @@ fn lay_items(items: &mut Items<'_>, alloc: Global, layout: Layout) -> Result<(),
 {
     lay_row(&mut items.row, alloc, layout)?;
     lay_item(&mut items.last, alloc, layout)?;
-    lay_end(&mut items.soc, alloc, layout)
+    lay_end(&mut items.end, alloc, layout)
 }
 
 #[cycle(lay)]
 fn lay_row<'a>(
-    row: &mut Vec<(Item<'a>, Msc<'a>)>,
+    row: &mut Vec<(Item<'a>, Separator<'a>)>,
     alloc: Global,
     layout: Layout,
 ) -> Result<(), AllocError>
@@ -173,12 +172,12 @@ fn lay_pairs(pairs: &mut Pairs<'_>, alloc: Global, layout: Layout) -> Result<(),
 {
     lay_pair_row(&mut pairs.row, alloc, layout)?;
     lay_pair(&mut pairs.last, alloc, layout)?;
-    lay_end(&mut pairs.soc, alloc, layout)
+    lay_end(&mut pairs.end, alloc, layout)
 }
 
 #[cycle(lay)]
 fn lay_pair_row<'a>(
-    row: &mut Vec<(Kp<'a>, Msc<'a>)>,
+    row: &mut Vec<(Pair<'a>, Separator<'a>)>,
     alloc: Global,
     layout: Layout,
 ) -> Result<(), AllocError>
@@ -195,7 +194,7 @@ fn lay_pair_row<'a>(
 
 #[cycle(lay)]
 #[tactic(auto, unfolding(cbor_edn_model::specs::layout::Layout::laid, cbor_edn_model::specs::tree::Trees::items))]
-fn lay_pair(pair: &mut Kp<'_>, alloc: Global, layout: Layout) -> Result<(), AllocError>
+fn lay_pair(pair: &mut Pair<'_>, alloc: Global, layout: Layout) -> Result<(), AllocError>
     ensures laid { OnOk result (view_pair texts pair.new ≡ laid layout (view_pair texts pair.old)) }
     ensures items { items (view_pair texts pair.new) ≡ items (view_pair texts pair.old) }
     ensures least { layout ≡ least → IsOk result }

@@ -1,6 +1,6 @@
 //! Strings laid out in place. No string in them has a test of its own, so none is asked whether it fits.
 ghost use Rattle.std.specs.Prelude.{◌≡◌, map, IsOk, OnOk};
-ghost use Rattle.cbor_edn_parts.specs.LayoutColumns.{least};
+ghost use Rattle.cbor_edn_parts.specs.space.LayoutColumns.{least};
 ghost use Rattle.cbor_edn_model.specs.layout.Layout.{in_chunk, laid, First};
 ghost use Rattle.cbor_edn_model.specs.tree.Trees.{items};
 ghost use Rattle.cbor_edn_core.specs.tree.View.{view_string, seen_piece, view_stream, view_strings, seen_string};
@@ -9,8 +9,10 @@ ghost use Rattle.cbor_edn_model.specs.internal.Laying.{laid_stream};
 ghost use Rattle.cbor_edn_model.specs.internal.LayoutRows.{laid_entry, entry_items, laid_piece, piece_items};
 
 use crate::tree::{CborString, Piece, Stream, Strings};
-use cbor_edn_parts::layout::{Layout, Slot, lay_end, lay_mandatory, lay_separator, lay_space};
-use cbor_edn_parts::space::{Msc, S};
+use cbor_edn_parts::space::layout::{
+    Layout, Slot, lay_end, lay_mandatory, lay_separator, lay_space,
+};
+use cbor_edn_parts::space::{Separator, Space};
 use std::alloc::{AllocError, Global};
 
 pub(super) fn lay_boxed_string(
@@ -34,7 +36,7 @@ fn lay_string(string: &mut CborString<'_>, alloc: Global, layout: Layout) -> Res
 }
 
 fn lay_piece_row<'a>(
-    row: &mut Vec<(Piece<'a>, S<'a>, S<'a>)>,
+    row: &mut Vec<(Piece<'a>, Space<'a>, Space<'a>)>,
     alloc: Global,
     layout: Layout,
 ) -> Result<(), AllocError>
@@ -49,7 +51,7 @@ fn lay_piece_row<'a>(
     Ok(())
 }
 
-#[tactic(auto, using(crate::proofs::lemmas::tree::Views::view_stream_is, crate::proofs::lemmas::tree::Views::view_stream_made), unfolding(cbor_edn_model::specs::tree::Trees::items))]
+#[tactic(auto, using(crate::proofs::lemmas::Rules::remove_stream_indicators), unfolding(cbor_edn_model::specs::tree::Trees::items))]
 pub(super) fn lay_stream(
     stream: &mut Stream<'_>,
     alloc: Global,
@@ -60,7 +62,7 @@ pub(super) fn lay_stream(
     ensures least { layout ≡ least → IsOk result }
 {
     lay_strings(&mut stream.strings, alloc, layout)?;
-    lay_mandatory(&mut stream.ms, alloc, layout, Slot::First)
+    lay_mandatory(&mut stream.space, alloc, layout, Slot::First)
 }
 
 fn lay_strings(strings: &mut Strings<'_>, alloc: Global, layout: Layout) -> Result<(), AllocError>
@@ -70,11 +72,11 @@ fn lay_strings(strings: &mut Strings<'_>, alloc: Global, layout: Layout) -> Resu
 {
     lay_string_row(&mut strings.row, alloc, layout)?;
     lay_string(&mut strings.last, alloc, layout.in_chunk())?;
-    lay_end(&mut strings.soc, alloc, layout)
+    lay_end(&mut strings.end, alloc, layout)
 }
 
 fn lay_string_row<'a>(
-    row: &mut Vec<(CborString<'a>, Msc<'a>)>,
+    row: &mut Vec<(CborString<'a>, Separator<'a>)>,
     alloc: Global,
     layout: Layout,
 ) -> Result<(), AllocError>

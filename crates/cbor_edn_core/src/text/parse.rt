@@ -1,13 +1,13 @@
 //! The public calls that read a text.
 ghost use Rattle.std.specs.Prelude.{◌≤◌, ◌+◌, ◌*◌, length, IfOk, IfErr, OnOk};
 ghost use Rattle.cbor_edn_core.specs.tree.Borrowed.{BorrowsSequence, BorrowsStandalone};
-ghost use Rattle.cbor_edn_parts.specs.internal.Text.{text_bytes};
+ghost use Rattle.cbor_edn_parts.specs.internal.Input.{text_bytes};
 ghost use Rattle.cbor_edn_model.specs.internal.LookCosts.{a_byte, text_extra};
 ghost use Rattle.cbor_edn_core.specs.internal.ParserResults.{Gives, IsPlaced};
 ghost use Rattle.cbor_edn_model.specs.internal.Reading.{reads_all};
 ghost use Rattle.cbor_edn_model.specs.text.Parsing.{Unparsed};
 ghost use Rattle.cbor_edn_core.specs.text.Parsing.{ParsedSequence, ParsedStandalone};
-ghost use Rattle.cbor_edn_parts.specs.Refusals.{IfTold};
+ghost use Rattle.cbor_edn_parts.specs.base.Refusals.{IfTold};
 ghost use Rattle.cbor_edn_model.specs.text.Spelling.{SpellsOne, SpellsSequence};
 ghost use Rattle.cbor_edn_model.specs.tree.Trees.{Seq, Standalone};
 ghost use Rattle.cbor_edn_core.specs.tree.View.{sequence_tree, standalone_tree};
@@ -15,10 +15,10 @@ ghost use Rattle.cbor_edn_core.specs.tree.View.{sequence_tree, standalone_tree};
 use crate::text::grammar::{sequence, standalone};
 use crate::tree::{NESTING_LIMIT, Sequence, StandaloneItem};
 use cbor_edn_model::text::lookahead::ends;
-use cbor_edn_parts::error::{Fault, ParseError, Refusal};
-use cbor_edn_parts::location::with_location;
-use cbor_edn_parts::looks::Looks;
-use cbor_edn_parts::text::Text;
+use cbor_edn_parts::base::error::{Fault, ParseError, Refusal};
+use cbor_edn_parts::base::input::Input;
+use cbor_edn_parts::base::location::with_location;
+use cbor_edn_parts::base::looks::Looks;
 use std::alloc::Global;
 
 impl<'a> Sequence<'a> {
@@ -44,7 +44,7 @@ impl<'a> Sequence<'a> {
         Sequence::parse_looking(alloc, input, limit, &mut Looks::new())
     }
 
-    /// The items of a text, as [`Sequence::parse`] reads them, with a look for each read of a byte: at most 16 for each byte of the text
+    /// The items of a text, as [`Sequence::parse`] reads them, and the reads of its bytes counted: at most 16 for each byte of the text
     /// and 16 more. Only proofs see the count.
     pub fn parse_counted(
         alloc: Global,
@@ -72,7 +72,7 @@ impl<'a> Sequence<'a> {
         ensures least { OnOk result (looks.old.count + length input.now ≤ looks.new.count) }
         ensures no_fewer { looks.old.count ≤ looks.new.count }
     {
-        let text = Text::new(input);
+        let text = Input::new(input);
         match whole_sequence(alloc, &text, limit, looks) {
             Ok(sequence) => Ok(sequence),
             Err(Fault::Memory(refused)) => Err(Fault::Memory(refused)),
@@ -104,7 +104,7 @@ impl<'a> StandaloneItem<'a> {
         StandaloneItem::parse_looking(alloc, input, limit, &mut Looks::new())
     }
 
-    /// The one item of a text, as [`StandaloneItem::parse`] reads it, with a look for each read of a byte: at most 16 for each byte of
+    /// The one item of a text, as [`StandaloneItem::parse`] reads it, and the reads of its bytes counted: at most 16 for each byte of
     /// the text and 16 more. Only proofs see the count.
     pub fn parse_counted(
         alloc: Global,
@@ -132,7 +132,7 @@ impl<'a> StandaloneItem<'a> {
         ensures least { OnOk result (looks.old.count + length input.now ≤ looks.new.count) }
         ensures no_fewer { looks.old.count ≤ looks.new.count }
     {
-        let text = Text::new(input);
+        let text = Input::new(input);
         match whole_standalone(alloc, &text, limit, looks) {
             Ok(item) => Ok(item),
             Err(Fault::Memory(refused)) => Err(Fault::Memory(refused)),
@@ -144,7 +144,7 @@ impl<'a> StandaloneItem<'a> {
 /// All of the text as a sequence.
 fn whole_sequence<'a>(
     alloc: Global,
-    text: &Text<'a>,
+    text: &Input<'a>,
     limit: usize,
     looks: &mut Looks,
 ) -> Result<Sequence<'a>, Fault<Refusal>>
@@ -163,7 +163,7 @@ fn whole_sequence<'a>(
 /// All of the text as an item between spaces.
 fn whole_standalone<'a>(
     alloc: Global,
-    text: &Text<'a>,
+    text: &Input<'a>,
     limit: usize,
     looks: &mut Looks,
 ) -> Result<StandaloneItem<'a>, Fault<Refusal>>

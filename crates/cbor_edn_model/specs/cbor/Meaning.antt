@@ -1,11 +1,11 @@
 -- What items mean: a CBOR value, its heads as the encoding indicators say, or nothing.
 use Rattle.std.specs.Prelude.{◌≡◌, ℕ, ℤ, pos, negsuc, zero, suc, ◌+◌, ◌^◌, Bool, true, false, List, [], ◌∷◌, ◌++◌, ◌&&◌, is_none, length, Option, Some, None, ◌||◌, nat_le, nat_lt, if◌then◌else◌}
 use Rattle.std.specs.Int.{w128, to_be_bytes}
-use Rattle.cbor_edn_parts.specs.declared.error.InconsistentEdn.{InconsistentEdn}
-use Rattle.cbor_edn_parts.specs.declared.indicator.Indicator.{Indicator}
-use Rattle.cbor_edn_parts.specs.declared.indicator.Indicator.TheVariants as indicator
+use Rattle.cbor_edn_parts.specs.declared.base.error.InconsistentEdn.{InconsistentEdn}
+use Rattle.cbor_edn_parts.specs.declared.base.indicator.Indicator.{Indicator}
+use Rattle.cbor_edn_parts.specs.declared.base.indicator.Indicator.TheVariants as indicator
 use Rattle.cbor_edn_parts.specs.internal.NumberReading.{integer_of}
-use Rattle.cbor_edn_parts.specs.Contents.{Content}
+use Rattle.cbor_edn_parts.specs.string.Contents.{Content}
 use Rattle.cbor_edn_parts.specs.internal.ContentReading.{literal_content}
 use Rattle.cbor_edn_parts.specs.declared.string.StringKind.{StringKind}
 use Rattle.cbor_edn_parts.specs.declared.string.StringKind.TheVariants.{Bytes, Text}
@@ -14,14 +14,10 @@ use Rattle.cbor_edn_model.specs.declared.text.keyword.NamedSimple.TheVariants.{F
 use Rattle.cbor_edn_model.specs.declared.text.keyword.NonFinite.{NonFinite}
 use Rattle.cbor_edn_model.specs.declared.cbor.heads.Width.{Width}
 use Rattle.cbor_edn_model.specs.declared.cbor.heads.Width.TheVariants.{Immediate, One, Two, Four, Eight}
-use Rattle.cbor_edn_model.specs.tree.Items.{Row, Elements, Pairs, Strings, Bracketed, Array, Map, entries_of, Sort, Item, Piece, Pieces, Entry, Entries, Node, Number, Float, Listed, Tagged, Named, Simple, String, Stream, Literal, Dots, Embedded, LastPiece, Plus, Element, Pair, Chunk, End, Then}
+use Rattle.cbor_edn_model.specs.tree.Items.{Row, Elements, Pairs, Strings, Bracketed, Array, Map, entries_of, Sort, Item, Piece, Pieces, Entry, Entries, Node, Number, Float, Listed, Tagged, Named, Simple, String, Stream, Literal, Ellipsis, Embedded, LastPiece, Plus, Element, Pair, Chunk, End, Then}
 use Rattle.cbor_edn_model.specs.cbor.Value as values
 use Rattle.cbor_edn_model.specs.cbor.Value.{Value, unsigned, negative, string, chunks, is_content, array, cbor_map, tag, simple, float, Values, no_values, value, values_len, no_pairs, pair, pairs_len, limit_of, encodings}
-
-infixl 10 ◌>>=◌
-abbrev pub ◌>>=◌ : {A B : Type 0} → Option A → (A → Option B) → Option B
-None >>= f = None
-(Some x) >>= f = f x
+pub use Rattle.cbor_edn_parts.specs.base.Options.{◌>>=◌}
 
 -- the narrowest width that the argument fits, of those below 2^64
 abbrev pub shortest : ℕ → Width
@@ -130,7 +126,7 @@ joined c d = (c.0, c.1 ++ d.1)
 -- The indicators of the pieces of a string, as one: none of several pieces may have one.
 abbrev pub piece_indicator : Node Piece → Option Indicator
 piece_indicator (Literal x i) = i
-piece_indicator (Dots x) = None
+piece_indicator (Ellipsis x) = None
 piece_indicator (Embedded m i) = i
 
 abbrev pub have_no_indicators : Node Pieces → Bool
@@ -222,7 +218,7 @@ means (Listed k i m) = means m >>= listed k i
 means (String w) = means w >>= λ c. pieces_indicator w >>= string_of c
 means (Stream m) = means m >>= stream_of
 means (Literal x i) = literal_content x
-means (Dots x) = None
+means (Ellipsis x) = None
 means (Embedded m i) = means m >>= λ vs. Some (Bytes, encodings vs)
 means (LastPiece p) = means p
 means (Plus p w) = means p >>= λ c. means w >>= λ d. Some (joined c d)

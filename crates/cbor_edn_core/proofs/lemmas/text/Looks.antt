@@ -1,12 +1,12 @@
--- What is paid with the looks for a keyword that does not stand there.
+-- Who pays the reads for a keyword that does not stand there.
 use Rattle.std.proofs.Common.{ℕ, List, [], ◌∷◌, ◌++◌, ◌≡◌, ◌≤◌, ◌<◌, ◌+◌, ◌*◌, length, drop, refl, ap, arith, false, Option, Some, Result, Ok, Err}
 use Rattle.std.specs.Prelude.{eqb}
 use Rattle.std.proofs.lemmas.Bool.{cond_both, both_ways}
 use Rattle.cbor_edn_parts.specs.internal.Lex as lex
 use Rattle.cbor_edn_parts.specs.internal.Lex.{Automaton, Accepts}
-use Rattle.cbor_edn_parts.specs.internal.LiteralTokens.{literal, dots, literal_final, dots_final, is_lower, is_upper}
+use Rattle.cbor_edn_parts.specs.internal.LiteralTokens.{literal, ellipsis, literal_final, ellipsis_final, is_lower, is_upper}
 use Rattle.cbor_edn_parts.specs.declared.space.read.ItemEnd.{ItemEnd}
-use Rattle.cbor_edn_parts.proofs.lemmas.scan.Tokens.{munch-took, Holds, nothing, just}
+use Rattle.cbor_edn_parts.proofs.lemmas.base.Tokens.{munch-took, Holds, nothing, just}
 use Rattle.cbor_edn_model.specs.internal.LookCosts.{a_byte, longest_keyword, extra, refused_extra, keyword_extra, enclosed_extra, refused_enclosed_extra}
 use Rattle.cbor_edn_model.specs.tree.Trees.{OneItem}
 use Rattle.cbor_edn_core.specs.internal.ParserResults.{CostsEnd, CostsEndAhead}
@@ -41,8 +41,8 @@ literal_open c =
     cond_both (is_lower c) _ _ (Holds (λ n. literal_final n ≡ false)) (λ e. just refl) (λ e.
     cond_both (is_upper c) _ _ (Holds (λ n. literal_final n ≡ false)) (λ e. just refl) (λ e. nothing))))
 
-pub dots_open : Open dots
-dots_open c = cond_both (eqb c 46) _ _ (Holds (λ n. dots_final n ≡ false)) (λ e. just refl) (λ e. nothing)
+pub ellipsis_open : Open ellipsis
+ellipsis_open c = cond_both (eqb c 46) _ _ (Holds (λ n. ellipsis_final n ≡ false)) (λ e. just refl) (λ e. nothing)
 
 -- the first of several pieces
 
@@ -63,7 +63,7 @@ pub spared_first : {X : Type 0} (row : List X) (text : List ℕ) (at from count 
 spared_first [] text at from count old first h = omega (arith, h, ap (ahead text) (first refl))
 spared_first (x ∷ row) text at from count old first h = omega (arith, h)
 
--- A number pays for the looks that asked what begins there.
+-- A number pays for the reads that asked what begins there.
 pub opened_costs : {X E : Type 0} (text : List ℕ) (from old before new : ℕ) (r : Result (X × ItemEnd) E) → old < before → before ≤ old + ahead text from + 2 → CostsEndAhead a_byte keyword_extra keyword_extra text from before new r → CostsEnd a_byte (extra OneItem) (refused_extra OneItem) text from old new r
 opened_costs text from old before new (Ok p) some most c = (omega (arith, some, most, c.0), omega (arith, some, c.1))
 opened_costs text from old before new (Err e) some most c = (omega (arith, some, most, c.0), omega (arith, some, c.1))

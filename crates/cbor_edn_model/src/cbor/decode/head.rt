@@ -1,6 +1,6 @@
 //! Heads, what ends a row of entries, and the indicators that heads are shown with.
 ghost use Rattle.std.specs.Prelude.{◌≡◌, ◌<◌, ◌≤◌, length, take, drop, option_map, IfSome, IfOk, IfErr};
-ghost use Rattle.cbor_edn_parts.specs.declared.error.Fault.TheVariants.{Told};
+ghost use Rattle.cbor_edn_parts.specs.declared.base.error.Fault.TheVariants.{Told};
 ghost use Rattle.cbor_edn_model.specs.declared.cbor.decode.CborError.TheVariants.{MissingArgument};
 ghost use Rattle.cbor_edn_model.specs.cbor.Decoded as decoded;
 ghost use Rattle.cbor_edn_model.specs.internal.CborReading as reading;
@@ -8,8 +8,8 @@ ghost use Rattle.cbor_edn_model.specs.internal.CborReading.{DecoderGives, head_a
 
 use super::CborError;
 use crate::cbor::heads::Width;
-use cbor_edn_parts::error::Fault;
-use cbor_edn_parts::indicator::Indicator;
+use cbor_edn_parts::base::error::Fault;
+use cbor_edn_parts::base::indicator::Indicator;
 
 /// The argument of a head and the bytes that it takes, or none for indefinite length and for a break.
 pub type Argument = Option<(Width, u64)>;
@@ -21,7 +21,7 @@ pub type Head = (u8, Argument);
 /// inside the argument, and with `Reserved`.
 #[tactic(auto, unfolding(crate::specs::internal::CborReading::head_at))]
 pub fn head_of(bytes: &[u8]) -> Result<(Head, &[u8]), Fault<CborError>>
-    ensures exact { DecoderGives (λ x. (x.0, x.1.now)) result (head_at bytes.now) }
+    ensures value { DecoderGives (λ x. (x.0, x.1.now)) result (head_at bytes.now) }
     ensures shorter { IfOk result (λ x. length x.1.now < length bytes.now) }
 {
     let [first, rest @ ..] = bytes else {

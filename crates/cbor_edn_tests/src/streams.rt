@@ -1,0 +1,199 @@
+//! Bytes that are printed while they are read: what fits on a line of 79 bytes, and what has lines of its own.
+use crate::commands::served;
+use cbor_edn_expect::failures::Failures;
+use std::alloc::Global;
+use std::test::Fail;
+
+/// A text with a part that stands in it so many times: what stands in front, the part, how often, and what stands behind.
+type Repeated = (&'static str, &'static str, usize, &'static str);
+
+fn written(alloc: Global, row: Repeated) -> Result<String, Fail> {
+    let (front, part, count, behind) = row;
+    let mut text = String::from_str(alloc, front)?;
+    for _ in 0..count {
+        text.push_str(part)?;
+    }
+    text.push_str(behind)?;
+    Ok(text)
+}
+
+const FROM_HEX: &[&str] = &["cbor-edn", "cbor2diag", "-i", "hex"];
+
+/// Digits of CBOR, and the text with its line feed. By the table of `docs/SUPPORTED.md`: an item of less than 80 bytes behind its
+/// indentation stands on a line, another one has a line for each part.
+const PRINTED: &[(Repeated, Repeated)] = &[
+    // 79 bytes, and 80
+    (("81784b", "61", 75, ""), ("[\"", "a", 75, "\"]\n")),
+    (("81784c", "61", 76, ""), ("[\n    \"", "a", 76, "\"\n]\n")),
+    (("a1017848", "61", 72, ""), ("{1: \"", "a", 72, "\"}\n")),
+    (
+        ("a1017849", "61", 73, ""),
+        ("{\n    1:\"", "a", 73, "\"\n}\n"),
+    ),
+    (("9f7849", "61", 73, "ff"), ("[_ \"", "a", 73, "\"]\n")),
+    (
+        ("9f784a", "61", 74, "ff"),
+        ("[_ \n    \"", "a", 74, "\"\n]\n"),
+    ),
+    // many short items: 78 bytes, and 81
+    (("981a", "01", 26, ""), ("[1", ", 1", 25, "]\n")),
+    (
+        ("981b", "01", 27, ""),
+        ("[\n    1", ",\n    1", 26, "\n]\n"),
+    ),
+    (
+        ("bf", "0120", 200, "ff"),
+        ("{_ \n    1:-1", ",\n    1:-1", 199, "\n}\n"),
+    ),
+    // behind four spaces 75 bytes fit, and 76 do not
+    (
+        ("82817847", "61", 71, "00"),
+        ("[\n    [\"", "a", 71, "\"],\n    0\n]\n"),
+    ),
+    (
+        ("82817848", "61", 72, "00"),
+        ("[\n    [\n        \"", "a", 72, "\"\n    ],\n    0\n]\n"),
+    ),
+    // heads of nine bytes
+    (
+        ("8f", "1b0000000000000001", 15, ""),
+        ("[1_3", ", 1_3", 14, "]\n"),
+    ),
+    (
+        ("90", "1b0000000000000001", 16, ""),
+        ("[\n    1_3", ",\n    1_3", 15, "\n]\n"),
+    ),
+    // strings that are longer than all that is read for a line
+    (
+        ("815903e8", "61", 1000, ""),
+        ("[\n    h'", "61", 1000, "'\n]\n"),
+    ),
+    (
+        ("5f", "4161", 300, "ff"),
+        ("(_\n    h'61'", ",\n    h'61'", 299, "\n)\n"),
+    ),
+    // what is short behind what is long
+    (
+        ("82784c", "61", 76, "80"),
+        ("[\n    \"", "a", 76, "\",\n    []\n]\n"),
+    ),
+    (
+        ("82784c", "61", 76, "9fff"),
+        ("[\n    \"", "a", 76, "\",\n    [_]\n]\n"),
+    ),
+    (
+        ("82784c", "61", 76, "b80102f6"),
+        ("[\n    \"", "a", 76, "\",\n    {_0 2: null}\n]\n"),
+    ),
+    // items without a list, and none
+    (("", "00", 3, ""), ("0", ",\n0", 2, "\n")),
+    (("", "", 0, ""), ("", "", 0, "")),
+    // tags that no step changes, on a line and on lines: what stands in one is indented one level more
+    (("d29818", "01", 24, ""), ("18([1", ", 1", 23, "])\n")),
+    (
+        ("d2981b", "01", 27, ""),
+        ("18([\n        1", ",\n        1", 26, "\n    ])\n"),
+    ),
+    (
+        ("d83dd2981b", "01", 27, ""),
+        (
+            "61(18([\n            1",
+            ",\n            1",
+            26,
+            "\n        ]))\n",
+        ),
+    ),
+    (
+        ("d818bf", "0120", 200, "ff"),
+        ("24({_ \n        1:-1", ",\n        1:-1", 199, "\n    })\n"),
+    ),
+    // 81 bytes, of which those in parentheses fit behind four spaces
+    (("d903e89819", "01", 25, ""), ("1000([1", ", 1", 24, "])\n")),
+    // behind what is long
+    (
+        ("82784c", "61", 76, "d2a0"),
+        ("[\n    \"", "a", 76, "\",\n    18({})\n]\n"),
+    ),
+    // a tag that a step changes stands behind what can be printed at once, and in another
+    (
+        ("d2981b", "01", 26, "c100"),
+        (
+            "18([\n        1",
+            ",\n        1",
+            25,
+            ",\n        DT'1970-01-01T00:00:00+00:00'\n    ])\n",
+        ),
+    ),
+    (
+        ("981b", "01", 26, "c100"),
+        (
+            "[\n    1",
+            ",\n    1",
+            25,
+            ",\n    DT'1970-01-01T00:00:00+00:00'\n]\n",
+        ),
+    ),
+];
+
+/// Digits of CBOR, and the fault that stands behind what could be printed.
+const REFUSED: &[(Repeated, &str)] = &[
+    (("9864", "01", 99, ""), "Expected item, out of data"),
+    (("9f", "01", 99, ""), "Expected item, out of data"),
+    (("9f", "01", 99, "1c"), "Reserved header byte"),
+    (("9864", "01", 99, "1901"), "Missing argument bytes"),
+    (
+        ("9864", "01", 99, "ff"),
+        "Break code only expected at end of indefinite length items",
+    ),
+    (
+        ("bf", "01", 99, "ff"),
+        "Break code only expected at end of indefinite length items",
+    ),
+    (("9864", "01", 99, "427a"), "Announced bytes unavailable"),
+    (
+        ("9864", "01", 99, "61ff"),
+        "Text string must be valid UTF-8",
+    ),
+    (("9864", "01", 99, "f97c01"), "Float value out of scope"),
+    (
+        ("9864", "01", 99, "df"),
+        "Integer/Tag with indefinite length encoding is not well-formed",
+    ),
+    (("d29864", "01", 99, ""), "Expected item, out of data"),
+];
+
+fn prints(alloc: Global, digits: Repeated, text: Repeated) -> Result<bool, Fail> {
+    let input = written(alloc, digits)?;
+    let wanted = written(alloc, text)?;
+    let (status, output, told) = served(alloc, FROM_HEX, input.as_bytes())?;
+    Ok(status == 0 && output.as_slice() == wanted.as_bytes() && told.is_empty())
+}
+
+fn refuses(alloc: Global, digits: Repeated, fault: &str) -> Result<bool, Fail> {
+    let input = written(alloc, digits)?;
+    let line = format!(in alloc; "cbor-edn: Error decoding input data: {fault}\n")?;
+    let (status, output, told) = served(alloc, FROM_HEX, input.as_bytes())?;
+    Ok(status == 1 && output.is_empty() && told.as_slice() == line.as_bytes())
+}
+
+#[test]
+fn long_lists_have_lines(rt: HostRuntime) -> Result<(), Fail> {
+    let alloc = rt.alloc();
+    let mut failures = Failures::new(alloc);
+    for &(digits, text) in PRINTED {
+        let name = written(alloc, digits)?;
+        failures.held(alloc, name.as_str(), prints(alloc, digits, text))?;
+    }
+    failures.end()
+}
+
+#[test]
+fn faults_behind_long_lists(rt: HostRuntime) -> Result<(), Fail> {
+    let alloc = rt.alloc();
+    let mut failures = Failures::new(alloc);
+    for &(digits, fault) in REFUSED {
+        let name = written(alloc, digits)?;
+        failures.held(alloc, name.as_str(), refuses(alloc, digits, fault))?;
+    }
+    failures.end()
+}
