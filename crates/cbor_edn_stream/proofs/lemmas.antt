@@ -7,3 +7,4 @@ pub mod Lines
 pub mod Loops
 pub mod Sequences
 pub mod Heads
+pub mod TagBytes

@@ -1,7 +1,15 @@
 -- Bytes, head by head.
-use Rattle.std.specs.Prelude.{ℕ, Bool, false, ◌||◌, ◌&&◌, ◌==◌, if◌then◌else◌, List, drop, Some, None}
-use Rattle.cbor_edn_model.specs.internal.CborReading.{Argument}
+use Rattle.std.specs.Prelude.{◌≡◌, ◌≢◌, ℕ, ◌/◌, ◌%◌, nat_lt, Bool, false, ◌||◌, ◌&&◌, ◌==◌, if◌then◌else◌, List, drop, Some, None, Ok}
+use Rattle.cbor_edn_model.specs.internal.CborReading.{Argument, head_at}
 use Rattle.cbor_edn_stream.specs.Tags.{among}
+
+-- The number is one that the first byte of a tag's head tells from most others: up to 3 it is in it, from 24 on it is behind it.
+abbrev pub is_sought : ℕ → Bool
+is_sought n = nat_lt n 4 || nat_lt 23 n
+
+-- the byte begins the head of a tag of such a number
+abbrev pub begins_tag : ℕ → Bool
+begins_tag byte = ((byte / 32) == 6) && (nat_lt (byte % 32) 4 || (nat_lt 23 (byte % 32) && nat_lt (byte % 32) 28))
 
 -- the head is that of a tag, of one of the numbers
 abbrev pub is_head_of : List ℕ → ℕ → Argument → Bool
@@ -12,3 +20,8 @@ is_head_of numbers major (Some (w, n)) = (major == 6) && among numbers n
 abbrev pub behind_content : ℕ → Argument → List ℕ → List ℕ
 behind_content major None rest = rest
 behind_content major (Some (w, n)) rest = if (major == 2) || (major == 3) then drop n rest else rest
+
+-- what stands behind a head in front that is no tag's, and behind its content
+abbrev pub IsBehindOther : List ℕ → List ℕ → Type 0
+IsBehindOther bytes behind =
+    (major : ℕ) × (argument : Argument) × (rest : List ℕ) × (head_at bytes ≡ Ok ((major, argument), rest)) × (major ≢ 6) × (behind ≡ behind_content major argument rest)

@@ -71,10 +71,10 @@ WritesParts l w old new = ⊥
 
 -- wider than any item
 abbrev pub greatest : ℕ
-greatest = 18446744073709551615
+greatest = 2 ^ 64 - 1
 
 -- how many bytes are read first: nine for each column of the line
 abbrev pub front_room : Layout → ℕ
 front_room Kept = 0
 front_room (Inline column) = 0
-front_room (Lines base end level width) = min ((width - base) * 9) (2 ^ 64 - 1)
+front_room (Lines base end level width) = min ((width - base) * 9) greatest

@@ -107,6 +107,27 @@ fn print_item<'b>(
     ensures exact { Prints (λ t. Writes layout t) (λ r. r.now) (buffer_bytes out.old) (buffer_bytes out.new) result (item_at trees limit bytes.now) }
     ensures shorter { IfOk result (λ r. length r.now < length bytes.now) }
 {
+    match bytes {
+        // arrays, maps and tags
+        [0x80..=0xdf, ..] => print_nested(alloc, out, layout, bytes, limit),
+        // simple values and floating-point numbers
+        [0xe0..=0xff, ..] => print_decoded(alloc, out, layout, bytes, limit),
+        _ => print_leaf(alloc, out, layout, bytes, limit),
+    }
+}
+
+/// Writes an integer or a string.
+#[inline(never)]
+fn print_leaf<'b>(
+    alloc: Global,
+    out: &mut TextBuffer,
+    layout: Layout,
+    bytes: &'b [u8],
+    limit: usize,
+) -> Result<&'b [u8], Fault<CborError>>
+    ensures exact { Prints (λ t. Writes layout t) (λ r. r.now) (buffer_bytes out.old) (buffer_bytes out.new) result (item_at trees limit bytes.now) }
+    ensures shorter { IfOk result (λ r. length r.now < length bytes.now) }
+{
     let ((major, argument), behind) = head_of(bytes)?;
     match (major, argument) {
         (0, Some((width, number))) => {
@@ -123,37 +144,7 @@ fn print_item<'b>(
         (3, Some((width, count))) => {
             print_string(alloc, out, StringKind::Text, width, count, behind)
         }
-        (4, _) => print_nested(
-            alloc,
-            out,
-            layout,
-            Nested::Array,
-            argument,
-            bytes,
-            behind,
-            limit,
-        ),
-        (5, _) => print_nested(
-            alloc,
-            out,
-            layout,
-            Nested::Map,
-            argument,
-            bytes,
-            behind,
-            limit,
-        ),
-        (6, _) => print_nested(
-            alloc,
-            out,
-            layout,
-            Nested::Tag,
-            argument,
-            bytes,
-            behind,
-            limit,
-        ),
-        _ => print_leaf(alloc, out, layout, bytes, limit),
+        _ => print_decoded(alloc, out, layout, bytes, limit),
     }
 }
 
@@ -215,9 +206,9 @@ fn read_literal<'a, 'b>(
     Ok((literal, rest))
 }
 
-/// Writes a string of indefinite length, a simple value or a floating-point number.
+/// Writes an item of which a tree is made.
 #[inline(never)]
-fn print_leaf<'b>(
+fn print_decoded<'b>(
     alloc: Global,
     out: &mut TextBuffer,
     layout: Layout,
@@ -232,20 +223,16 @@ fn print_leaf<'b>(
     Ok(rest)
 }
 
-/// Writes an item in which others nest, and answers the bytes behind it. `behind` are the bytes behind its head.
+/// Writes an item in which others nest, and answers the bytes behind it.
 #[cycle(print)]
+#[inline(never)]
 fn print_nested<'b>(
     alloc: Global,
     out: &mut TextBuffer,
     layout: Layout,
-    nested: Nested,
-    argument: Argument,
     bytes: &'b [u8],
-    behind: &'b [u8],
     limit: usize,
 ) -> Result<&'b [u8], Fault<CborError>>
-    requires head { head_at bytes.now ≡ Ok ((nested_major nested, argument), behind.now) }
-    requires shorter { length behind.now < length bytes.now }
     ensures exact { Prints (λ t. Writes layout t) (λ r. r.now) (buffer_bytes out.old) (buffer_bytes out.new) result (item_at trees limit bytes.now) }
     ensures shorter { IfOk result (λ r. length r.now < length bytes.now) }
 {
@@ -258,9 +245,25 @@ fn print_nested<'b>(
         }
         Err(Fault::Memory(e)) => Err(Fault::Memory(e)),
         Err(Fault::Told(_)) => {
+            let ((major, argument), behind) = head_of(bytes)?;
+            let Some(nested) = nested_of(major) else {
+                return print_decoded(alloc, out, layout, bytes, limit);
+            };
             let parts = layout.of_parts(usize::MAX);
             print_parts(alloc, out, parts, nested, argument, behind, limit)
         }
+    }
+}
+
+/// The items of a major type, where others nest in them.
+fn nested_of(major: u8) -> Option<Nested>
+    ensures { IfSome result (λ nested. nested_major nested ≡ major) }
+{
+    match major {
+        4 => Some(Nested::Array),
+        5 => Some(Nested::Map),
+        6 => Some(Nested::Tag),
+        _ => None,
     }
 }
 

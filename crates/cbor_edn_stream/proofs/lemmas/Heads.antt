@@ -1,10 +1,12 @@
 -- From head to head: the heads that are met tell what tags stand in values.
-use Rattle.std.proofs.Common.{◌≡◌, ℕ, Bool, true, false, List, [], ◌∷◌, ◌++◌, length, Option, Some, None, Ok, Err, refl, sym, ap, subst, ◌∙◌, append_assoc, ◌||◌}
+use Rattle.std.proofs.Common.{◌≡◌, ℕ, Bool, true, false, List, [], ◌∷◌, ◌++◌, length, Option, Some, None, Ok, Err, refl, sym, ap, subst, ◌∙◌, append_assoc, ◌≢◌, ◌||◌, ◌&&◌, ◌/◌, ◌%◌, ◌<◌}
 use Rattle.std.proofs.lemmas.List.{append-nil}
+use Rattle.std.proofs.lemmas.Bool.{lt-ltb, ne_eqb}
 use Rattle.std.proofs.Math.Seq.{drop-append_seam}
 use Rattle.cbor_edn_parts.specs.declared.string.StringKind.{StringKind}
 use Rattle.cbor_edn_parts.specs.declared.string.StringKind.TheVariants.{Bytes, Text}
 use Rattle.cbor_edn_model.specs.declared.cbor.heads.Width.{Width}
+use Rattle.cbor_edn_model.specs.declared.cbor.heads.Width.TheVariants.{Immediate}
 use Rattle.cbor_edn_model.specs.declared.cbor.decode.CborError.{CborError}
 use Rattle.cbor_edn_model.specs.tree.Items as kind
 use Rattle.cbor_edn_model.specs.tree.Items.{Bracketed}
@@ -13,7 +15,7 @@ use Rattle.cbor_edn_model.specs.internal.CborReading.{Argument, Head, head_at}
 use Rattle.cbor_edn_model.proofs.lemmas.cbor.CborHeads.{head_again, open_again}
 use Rattle.cbor_edn_model.proofs.lemmas.cbor.CborSpecials.{simple_fits, float_fits}
 use Rattle.cbor_edn_stream.specs.Tags.{among, value_has_tag, values_have_tag, pairs_have_tag}
-use Rattle.cbor_edn_stream.specs.Heads.{is_head_of, behind_content}
+use Rattle.cbor_edn_stream.specs.Heads.{is_head_of, behind_content, IsBehindOther}
 
 -- From these bytes a head of one of the tags is met, or none up to their end.
 pub data Meets (numbers : List ℕ) : List ℕ → Bool → Type 0 where
@@ -131,3 +133,15 @@ module _ (numbers : List ℕ) where
   met_further bytes rest b major argument is other m =
       let more = met_behind bytes b ((major, argument), rest) m is in
       subst (λ (c : Bool). Meets numbers (behind_content major argument rest) c) (sym (more.1 ∙ ap (λ (h : Bool). h || more.0) other)) more.2
+
+  -- what is met behind another head
+  pub met_past : (bytes behind : List ℕ) (b : Bool) → IsBehindOther bytes behind → Meets numbers bytes b → Meets numbers behind b
+  met_past bytes behind b o m = subst (λ (l : List ℕ). Meets numbers l b) (sym o.5) (met_further bytes o.2 b o.0 o.1 o.3 (other o.0 o.1 o.4) m) where
+    other : (major : ℕ) (argument : Argument) → major ≢ 6 → is_head_of numbers major argument ≡ false
+    other major None is = refl
+    other major (Some (w, n)) is = ap (λ (x : Bool). x && among numbers n) (ne_eqb major 6 is)
+
+-- a head of one byte is read
+pub short_read : (byte : ℕ) (rest : List ℕ) → byte % 32 < 24 → head_at (byte ∷ rest) ≡ Ok ((byte / 32, Some (Immediate, byte % 32)), rest)
+unfolding head_at
+short_read byte rest short = rw (lt-ltb (byte % 32) 24 short) refl

@@ -62,10 +62,6 @@ literal_long Text bs = let h = escaped_long bs in simp length-append (omega (ari
 
 -- ---- strings
 
-definite_long : (k : StringKind) (c : Chunk) → length c.1 + 1 ≤ line_width (definite_tree k c)
-unfolding width
-definite_long k c = let h = literal_long k c.1 in omega (arith, h)
-
 chunk_long : (k : StringKind) (c : Chunk) → length (chunk_encoding k c) ≤ 9 * line_width (ChunkTree (definite_tree k c))
 unfolding width
 chunk_long k c = let h = literal_long k c.1 in let g = head_short (string_major k) c.0 (length c.1) in simp length-append (omega (arith, h, g))

@@ -1,12 +1,12 @@
 use Rattle.std.proofs.Common.{◌≡◌, ◌<◌, ◌-◌, [], ℕ, suc, length}
 use Rattle.cbor_edn_parts.specs.Buffer.{buffer_bytes}
 use Rattle.cbor_edn_model.specs.internal.CborReading.{trees, many, until, argument_indicator}
-use Rattle.cbor_edn_stream.specs.Printed.{Writes, WritesAnyhow, bracketed, entry_at, list_by}
-use Rattle.std.proofs.Common.{arith, sym, ap, ◌∙◌}
+use Rattle.cbor_edn_stream.specs.Printed.{bracketed, entry_at, list_by, nested_major}
+use Rattle.std.proofs.Common.{arith, refl, sym, ap, ◌∙◌}
 use Rattle.std.proofs.lemmas.List.{append-nil}
 use Rattle.std.proofs.lemmas.Result.{err_from_is_err_and}
 use Rattle.cbor_edn_model.proofs.lemmas.cbor.CborTurns.{fails, until_fails}
-use Rattle.cbor_edn_stream.proofs.lemmas.Turns.{front_none, entry_item, list_fails, fault_told, list_printed, pair_fails, pair_printed, tag_printed, head_is, unsigned_written, negative_written, bytes_at, text_at, prints_as, inside_printed, several_many, several_open, stopped_at_once, empty_printed}
+use Rattle.cbor_edn_stream.proofs.lemmas.Turns.{front_none, entry_item, list_fails, fault_told, list_printed, pair_fails, pair_printed, tag_printed, head_is, inside_printed, several_many, several_open, stopped_at_once, empty_printed}
 use Rattle.cbor_edn_model.proofs.lemmas.cbor.CborOutcomes.{many_none}
 use Rattle.cbor_edn_stream.proofs.lemmas.Lines.{nested_at, lines_written, front_written}
 use Rattle.cbor_edn_model.proofs.lemmas.cbor.CborTurns.{item_fails}
@@ -150,41 +150,18 @@ print_until-turns-preserved t c =
       shorter = omega (arith, less, c.turns.invariant.shorter);
     }
 
-pub print_item-returns-in_ok-print_integer-in-0-Some-clause-exact : goal.print_item-returns-in_ok-print_integer-in-0-Some-clause-exact
-print_item-returns-in_ok-print_integer-in-0-Some-clause-exact t c =
-    unsigned_written c.args.layout c.args.limit c.in-0-Some.width c.in-0-Some.number c.args.bytes.now c.in_ok-major.behind.now (buffer_bytes c.args.out.now) (buffer_bytes c.print_integer.new.out)
-    (head_is c.args.bytes.now c.in_ok-major.behind.now c.in_ok-major.major 0 c.in_ok-major.argument (Some (c.in-0-Some.width, c.in-0-Some.number)) c.in_ok-major.ensures.exact c.in-0-Some.is-0 c.in-0-Some.is-1)
-    c.in_ok-print_integer-in-0-Some.ensures
-
-pub print_item-returns-in_ok-print_integer-in-1-Some-clause-exact : goal.print_item-returns-in_ok-print_integer-in-1-Some-clause-exact
-print_item-returns-in_ok-print_integer-in-1-Some-clause-exact t c =
-    negative_written c.args.layout c.args.limit c.in-1-Some.width c.in-1-Some.number c.args.bytes.now c.in_ok-major.behind.now (buffer_bytes c.args.out.now) (buffer_bytes c.print_integer-in-1-Some.new.out)
-    (head_is c.args.bytes.now c.in_ok-major.behind.now c.in_ok-major.major 1 c.in_ok-major.argument (Some (c.in-1-Some.width, c.in-1-Some.number)) c.in_ok-major.ensures.exact c.in-1-Some.is-0 c.in-1-Some.is-1)
-    c.in_ok-print_integer-in-1-Some.ensures
-
-pub print_item-returns-in-2-Some-clause-exact : goal.print_item-returns-in-2-Some-clause-exact
-print_item-returns-in-2-Some-clause-exact t c =
-    rw (bytes_at c.args.limit c.in-2-Some.width c.in-2-Some.count c.args.bytes.now c.in_ok-major.behind.now
-    (head_is c.args.bytes.now c.in_ok-major.behind.now c.in_ok-major.major 2 c.in_ok-major.argument (Some (c.in-2-Some.width, c.in-2-Some.count)) c.in_ok-major.ensures.exact c.in-2-Some.is-0 c.in-2-Some.is-1))
-    (prints_as WritesAnyhow (λ t. Writes c.args.layout t) (λ r. r.now) (buffer_bytes c.args.out.now) (buffer_bytes c.print_string.new.out) c.print_string.result _ (λ a written. written c.args.layout) c.print_string.ensures.exact)
-
-pub print_item-returns-in-3-Some-clause-exact : goal.print_item-returns-in-3-Some-clause-exact
-print_item-returns-in-3-Some-clause-exact t c =
-    rw (text_at c.args.limit c.in-3-Some.width c.in-3-Some.count c.args.bytes.now c.in_ok-major.behind.now
-    (head_is c.args.bytes.now c.in_ok-major.behind.now c.in_ok-major.major 3 c.in_ok-major.argument (Some (c.in-3-Some.width, c.in-3-Some.count)) c.in_ok-major.ensures.exact c.in-3-Some.is-0 c.in-3-Some.is-1))
-    (prints_as WritesAnyhow (λ t. Writes c.args.layout t) (λ r. r.now) (buffer_bytes c.args.out.now) (buffer_bytes c.print_string-in-3-Some.new.out) c.print_string-in-3-Some.result _ (λ a written. written c.args.layout) c.print_string-in-3-Some.ensures.exact)
-
 pub print_nested-returns-in_ok-print_item-in-Ok-clause-exact : goal.print_nested-returns-in_ok-print_item-in-Ok-clause-exact
 print_nested-returns-in_ok-print_item-in-Ok-clause-exact t c =
     front_written c.args.layout c.args.limit c.min.result c.args.bytes.now c.split_at.result.0.now c.in-Ok.after.now c.split_at-in-Ok.result.1.now (buffer_bytes c.args.out.now) (buffer_bytes c.print_item.new.out) (item_tree c.in-Ok.item)
     (λ i. omega (arith, c.type_inv.bytes i)) c.split_at.ensures.front c.in-Ok.ensures.exact c.split_at-in-Ok.ensures.back (grind arith)
 
-pub print_nested-returns-in-Err-Told-clause-exact : goal.print_nested-returns-in-Err-Told-clause-exact
-print_nested-returns-in-Err-Told-clause-exact t c =
+pub print_nested-returns-in-Some-clause-exact : goal.print_nested-returns-in-Some-clause-exact
+print_nested-returns-in-Some-clause-exact t c =
     lines_written (λ r. r.now) c.args.layout c.of_parts-parts.result c.args.limit c.min.result c.args.bytes.now c.split_at.result.0.now (buffer_bytes c.args.out.now) (buffer_bytes c.print_parts.new.out) c.in-Err-Told.field-0-0 c.print_parts.result
     (λ i. omega (arith, c.type_inv.bytes i)) (grind arith) (omega arith) c.split_at.ensures.front
     (fault_told c.in-Err-Told.field-0 c.in-Err-Told.field-0-0 (item_at trees c.args.limit c.split_at.result.0.now) c.in-Err-Told.field-0-is c.in-Err-Told.ensures.exact) c.of_parts-parts.ensures
-    (rw (nested_at c.args.limit c.args.nested c.args.argument c.args.bytes.now c.args.behind.now c.requires.head) c.print_parts.ensures.exact)
+    (rw (nested_at c.args.limit c.in-Some.nested c.in_ok-major-in-Err-Told.argument c.args.bytes.now c.in_ok-major-in-Err-Told.behind.now
+    (head_is c.args.bytes.now c.in_ok-major-in-Err-Told.behind.now c.in_ok-major-in-Err-Told.major (nested_major c.in-Some.nested) c.in_ok-major-in-Err-Told.argument c.in_ok-major-in-Err-Told.argument c.in_ok-major-in-Err-Told.ensures.exact (sym c.in-Some.ensures) refl)) c.print_parts.ensures.exact)
 
 pub print_tag-returns-clause-exact : goal.print_tag-returns-clause-exact
 print_tag-returns-clause-exact t c =
@@ -192,7 +169,7 @@ print_tag-returns-clause-exact t c =
     tag_printed c.args.parts c.args.limit c.args.argument c.in-Some.field-0-0 c.in-Some.number c.args.bytes.now c.in_ok-rest.rest.now (buffer_bytes c.args.out.now) (buffer_bytes c.print_label.new.out) (buffer_bytes c.push_str.new.self) (buffer_bytes c.print_space.new.out)
     (buffer_bytes c.print_item.new.out) (buffer_bytes c.print_space-2.new.out) (buffer_bytes c.push_str-2.new.self) p.0 c.in-Some.is (omega (arith, c.if-limit-eq0.false)) p.1 (grind arith) (grind arith) (grind arith) p.2 (grind arith) (grind arith)
 
-pub print_item-returns-in_err-major-clause-exact : goal.print_item-returns-in_err-major-clause-exact
-print_item-returns-in_err-major-clause-exact t c =
-    let p = err_from_is_err_and c.from_residual.result c.from_residual.ensures.1 in
-    rw (p.1, p.2) (item_fails trees c.in_err-major.field-0.0 c.args.limit c.args.bytes.now c.in_err-major.ensures.exact)
+pub print_nested-returns-in_err-major-in-Err-Told-clause-exact : goal.print_nested-returns-in_err-major-in-Err-Told-clause-exact
+print_nested-returns-in_err-major-in-Err-Told-clause-exact t c =
+    let p = err_from_is_err_and c.from_residual-in_err-major-in-Err-Told.result c.from_residual-in_err-major-in-Err-Told.ensures.1 in
+    rw (p.1, p.2) (item_fails trees c.in_err-major-in-Err-Told.field-0.0 c.args.limit c.args.bytes.now c.in_err-major-in-Err-Told.ensures.exact)

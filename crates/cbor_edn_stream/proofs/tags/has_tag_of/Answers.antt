@@ -2,8 +2,14 @@ use Rattle.std.proofs.Common.{sym, ◌∙◌}
 use Rattle.cbor_edn_model.specs.internal.CborReading.{head_at}
 use Rattle.cbor_edn_stream.specs.Tags.{values_have_tag}
 use Rattle.cbor_edn_stream.proofs.lemmas.Heads.{sequence_met, met_at_end, met_here}
+use Rattle.cbor_edn_stream.proofs.lemmas.TagBytes.{sought_among, none_shown}
 use Rattle.cbor_edn_stream.proofs.lemmas.Turns.{fault_told}
 use Rattle.cbor_edn_stream.proofs.tags.has_tag_of.Goals as goal
+
+pub returns-then-not-may_have_tag_of : goal.returns-then-not-may_have_tag_of
+returns-then-not-may_have_tag_of c = λ vs enc.
+    let none = c.may_have_tag_of.ensures c.if-not-may_have_tag_of.true in
+    sym (none_shown c.args.numbers.now (sought_among c.args.numbers.now none.0) c.args.bytes.now vs enc none.1)
 
 pub returns-in-Err-Told : goal.returns-in-Err-Told
 returns-in-Err-Told c = λ vs enc.
