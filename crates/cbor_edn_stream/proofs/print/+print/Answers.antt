@@ -13,7 +13,6 @@ use Rattle.cbor_edn_model.proofs.lemmas.cbor.CborTurns.{item_fails}
 use Rattle.std.proofs.Common.{subst}
 use Rattle.cbor_edn_model.specs.internal.CborReading.{DecoderFails}
 use Rattle.cbor_edn_stream.proofs.lemmas.Loops.{many_on, many_last, until_on, until_last}
-use Rattle.std.proofs.Common.{Some}
 use Rattle.cbor_edn_core.specs.tree.View.{item_tree}
 use Rattle.cbor_edn_model.specs.internal.CborReading.{item_at}
 use Rattle.cbor_edn_stream.proofs.print.+print.Goals as goal
