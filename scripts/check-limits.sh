@@ -389,6 +389,35 @@ def check_shown():
         count(f"show of {name}, {depth} deep", seconds if ended.status == 0 else f"status {ended.status}, said {ended.said[:200]!r}")
 
 
+# Lists in brackets, again and again, each too long for its line: bytes of those that stand round it are read again for each, as far as
+# these may fit. Twenty brackets indent by a whole line. By the heads of RFC 8949, section 3: what opens, what closes, and the list inside.
+READ_AGAIN = [
+    ("arrays", "81", ""),
+    ("arrays with an item before", "8201", ""),
+    ("open arrays", "9f", "ff"),
+    ("open arrays with an item before", "9f01", "ff"),
+    ("values of maps", "a101", ""),
+    ("values of open maps", "bf01", "ff"),
+    ("keys of maps", "a1", "01"),
+    ("maps with a pair before", "a2010101", ""),
+    ("tags", "c6", ""),
+    ("arrays in tags", "c681", ""),
+]
+LONG_LISTS = [("721 ones", "9902d1" + "01" * 721), ("721 ones, open", "9f" + "01" * 721 + "ff"), ("81 ones", "9851" + "01" * 81), ("360 pairs", "b90168" + "0101" * 360)]
+DEPTH_READ_AGAIN, MOST_TIMES_READ_AGAIN = 20, 10
+
+
+def check_read_again():
+    flat = min(run(["cbor2diag"], b"\x01" * 1_000_000).seconds for _ in range(3))
+    for name, opening, closing in READ_AGAIN:
+        for inside, encoded in LONG_LISTS:
+            unit = bytes.fromhex(opening * DEPTH_READ_AGAIN + encoded + closing * DEPTH_READ_AGAIN)
+            ended = min((run(["cbor2diag"], unit * (1_000_000 // len(unit))) for _ in range(2)), key=lambda ended: ended.seconds)
+            times = ended.seconds / flat
+            seconds = f"it takes {ended.seconds:.1f} seconds, {times:.1f} times a flat MB" if times > MOST_TIMES_READ_AGAIN else None
+            count(f"cbor2diag of {inside} in {name}", seconds if ended.status == 0 else f"status {ended.status}, said {ended.said[:200]!r}")
+
+
 check_memory()
 check_depths()
 check_floods()
@@ -397,6 +426,7 @@ check_starved()
 check_endless()
 check_slowest()
 check_shown()
+check_read_again()
 print(f"{passed} passed, {failed} failed")
 raise SystemExit(failed != 0)
 EOF_PYTHON

@@ -8,3 +8,4 @@ pub mod Loops
 pub mod Sequences
 pub mod Heads
 pub mod TagBytes
+pub mod Walks

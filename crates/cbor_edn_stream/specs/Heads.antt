@@ -1,5 +1,5 @@
 -- Bytes, head by head.
-use Rattle.std.specs.Prelude.{◌≡◌, ◌≢◌, ℕ, ◌/◌, ◌%◌, nat_lt, Bool, false, ◌||◌, ◌&&◌, ◌==◌, if◌then◌else◌, List, drop, Some, None, Ok}
+use Rattle.std.specs.Prelude.{◌≡◌, ◌≢◌, ℕ, zero, suc, ◌+◌, ◌-◌, ◌*◌, ◌/◌, ◌%◌, nat_lt, Bool, false, ◌||◌, ◌&&◌, ◌==◌, if◌then◌else◌, List, drop, Some, None, Ok}
 use Rattle.cbor_edn_model.specs.internal.CborReading.{Argument, head_at}
 use Rattle.cbor_edn_stream.specs.Tags.{among}
 
@@ -25,3 +25,23 @@ behind_content major (Some (w, n)) rest = if (major == 2) || (major == 3) then d
 abbrev pub IsBehindOther : List ℕ → List ℕ → Type 0
 IsBehindOther bytes behind =
     (major : ℕ) × (argument : Argument) × (rest : List ℕ) × (head_at bytes ≡ Ok ((major, argument), rest)) × (major ≢ 6) × (behind ≡ behind_content major argument rest)
+
+-- the head is a break, which ends what has indefinite length
+abbrev pub is_break : ℕ → Argument → Bool
+is_break major None = major == 7
+is_break major (Some (w, n)) = false
+
+-- how many items a head announces
+abbrev pub parts_of : ℕ → Argument → ℕ
+parts_of major None = 0
+parts_of major (Some (w, n)) = if major == 4 then n else if major == 5 then 2 * n else if major == 6 then 1 else 0
+
+-- how many lists and strings of indefinite length are open behind a head
+abbrev pub opened : Argument → ℕ → ℕ
+opened None depth = depth + 1
+opened (Some (w, n)) depth = depth
+
+-- How many items are due behind a head that announces so many. Where something is open, they stand in it, and are not counted.
+abbrev pub owed : ℕ → ℕ → ℕ → ℕ
+owed zero due parts = due - 1 + parts
+owed (suc depth) due parts = due

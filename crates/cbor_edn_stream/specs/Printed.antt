@@ -73,8 +73,12 @@ WritesParts l w old new = ⊥
 abbrev pub greatest : ℕ
 greatest = 2 ^ 64 - 1
 
--- how many bytes are read first: nine for each column of the line
+-- how many columns of the line are left
+abbrev pub front_columns : Layout → ℕ
+front_columns Kept = 0
+front_columns (Inline column) = 0
+front_columns (Lines base end level width) = width - base
+
+-- how many bytes are read first: nine for each column
 abbrev pub front_room : Layout → ℕ
-front_room Kept = 0
-front_room (Inline column) = 0
-front_room (Lines base end level width) = min ((width - base) * 9) greatest
+front_room l = min (front_columns l * 9) greatest

@@ -1,6 +1,7 @@
 //! The text of the items that bytes encode, printed while they are read: no tree of them all is made.
 #![tactic(auto)]
 
+mod columns;
 mod print;
 mod tags;
 

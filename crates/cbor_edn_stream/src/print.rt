@@ -3,7 +3,9 @@
 //! An item that takes more than `9 * n` bytes is wider than `n` columns, since a head has nine bytes at most and shows one column at least.
 //! So an item in which others nest is decoded from no more bytes than can fit on its line. Where they hold it whole, it is a small tree, which
 //! the printer lays out. Where they don't, it has lines of its own, and its parts are printed one by one in the same way.
-ghost use Rattle.std.specs.Prelude.{◌≡◌, ◌≢◌, ◌++◌, ◌<◌, ◌≤◌, ◌*◌, ◌-◌, ◌^◌, ◌∷◌, [], ℕ, suc, true, false, length, map, IfOk, IfSome, IfNone, OnOk, None};
+//!
+//! Bytes are decoded in vain once at the most: of an item that begins in such bytes, the heads are counted first.
+ghost use Rattle.std.specs.Prelude.{◌≡◌, ◌≢◌, ◌⊎◌, ◌++◌, ◌<◌, ◌≤◌, ◌*◌, ◌-◌, ◌^◌, ◌∷◌, [], ℕ, suc, true, false, length, map, min, IfOk, IfSome, IfNone, OnOk, None};
 ghost use Rattle.cbor_edn_parts.specs.Buffer.{buffer_bytes};
 ghost use Rattle.cbor_edn_parts.specs.Indicator.{indicator_text};
 ghost use Rattle.cbor_edn_parts.specs.Refusals.{IfTold};
@@ -20,8 +22,10 @@ ghost use Rattle.cbor_edn_model.specs.tree.Trees.{Tree, OneItem, Seq, text, list
 ghost use Rattle.cbor_edn_model.specs.internal.CborReading as reading;
 ghost use Rattle.cbor_edn_model.specs.internal.CborReading.{trees, inner, head_at, item_at, pair_at, tag_by, string_by, string_at, shown, number_tree, DecoderGives, many, until, several, argument_indicator, row_of};
 ghost use Rattle.cbor_edn_model.specs.internal.Regular.{list_inside, spaced_list_head};
-ghost use Rattle.cbor_edn_stream.specs.Printed.{Prints, Writes, WritesAnyhow, WritesParts, WritesRow, front_room, bracketed, entry_at, list_by, nested_major, nested_by};
+ghost use Rattle.cbor_edn_stream.specs.Wide.{IsWider};
+ghost use Rattle.cbor_edn_stream.specs.Printed.{Prints, Writes, WritesAnyhow, WritesParts, WritesRow, front_columns, front_room, bracketed, entry_at, list_by, nested_major, nested_by};
 
+use crate::columns::is_wider;
 use cbor_edn_core::cbor::decode::{CborError, decode_item};
 use cbor_edn_core::layout::print_item as print_tree;
 use cbor_edn_model::cbor::decode::head::{Argument, Stop, head_of, indicator_of, past_stop};
@@ -81,17 +85,61 @@ pub fn print_cbor(
         Stop::EndOfData,
         bytes,
         limit,
+        bytes.len(),
     )?;
     Ok(())
+}
+
+/// How many columns an item on a line has at the most.
+fn columns(layout: Layout) -> usize
+    ensures { result ≡ front_columns layout }
+{
+    match layout {
+        Layout::Kept | Layout::Inline(_) => 0,
+        Layout::Lines { base, width, .. } => width.saturating_sub(base),
+    }
 }
 
 /// How many bytes an item on a line has at the most.
 fn room(layout: Layout) -> usize
     ensures { result ≡ front_room layout }
 {
-    match layout {
-        Layout::Kept | Layout::Inline(_) => 0,
-        Layout::Lines { base, width, .. } => width.saturating_sub(base).saturating_mul(9),
+    columns(layout).saturating_mul(9)
+}
+
+/// How many bytes of an item are decoded, if it may fit on a line: none where it is known that it does not.
+#[inline(always)]
+fn front_len(layout: Layout, bytes: &[u8], untried: usize) -> usize
+    ensures enough { (result ≡ min (front_room layout) (length bytes.now)) ⊎ IsWider (front_columns layout) bytes.now }
+    ensures within { result ≤ length bytes.now }
+{
+    if is_known_wide(columns(layout), bytes, untried) {
+        0
+    } else {
+        room(layout).min(bytes.len())
+    }
+}
+
+/// Whether the heads of an item tell that it is wider than so many columns. They are asked where it begins in bytes that were decoded in vain,
+/// and where it has many parts.
+#[inline(always)]
+fn is_known_wide(columns: usize, bytes: &[u8], untried: usize) -> bool
+    ensures { result ≡ true → IsWider columns bytes.now }
+{
+    if bytes.len() > untried || has_many_parts(columns, bytes) {
+        is_wider(columns, bytes)
+    } else {
+        false
+    }
+}
+
+/// Whether a list has as many parts as there are columns, as far as two bytes tell. It says what is asked, and not what is written.
+#[inline(always)]
+fn has_many_parts(columns: usize, bytes: &[u8]) -> bool {
+    match bytes {
+        [0x98 | 0xb8, count, ..] => usize::from(*count) >= columns,
+        [0x99..=0x9b | 0xb9..=0xbb, ..] => true,
+        _ => false,
     }
 }
 
@@ -103,13 +151,14 @@ fn print_item<'b>(
     layout: Layout,
     bytes: &'b [u8],
     limit: usize,
+    untried: usize,
 ) -> Result<&'b [u8], Fault<CborError>>
     ensures exact { Prints (λ t. Writes layout t) (λ r. r.now) (buffer_bytes out.old) (buffer_bytes out.new) result (item_at trees limit bytes.now) }
     ensures shorter { IfOk result (λ r. length r.now < length bytes.now) }
 {
     match bytes {
         // arrays, maps and tags
-        [0x80..=0xdf, ..] => print_nested(alloc, out, layout, bytes, limit),
+        [0x80..=0xdf, ..] => print_nested(alloc, out, layout, bytes, limit, untried),
         // simple values and floating-point numbers
         [0xe0..=0xff, ..] => print_decoded(alloc, out, layout, bytes, limit),
         _ => print_leaf(alloc, out, layout, bytes, limit),
@@ -223,7 +272,8 @@ fn print_decoded<'b>(
     Ok(rest)
 }
 
-/// Writes an item in which others nest, and answers the bytes behind it.
+/// Writes an item in which others nest, and answers the bytes behind it. `untried` is how many bytes stand behind the last that were decoded
+/// in vain.
 #[cycle(print)]
 #[inline(never)]
 fn print_nested<'b>(
@@ -232,11 +282,12 @@ fn print_nested<'b>(
     layout: Layout,
     bytes: &'b [u8],
     limit: usize,
+    untried: usize,
 ) -> Result<&'b [u8], Fault<CborError>>
     ensures exact { Prints (λ t. Writes layout t) (λ r. r.now) (buffer_bytes out.old) (buffer_bytes out.new) result (item_at trees limit bytes.now) }
     ensures shorter { IfOk result (λ r. length r.now < length bytes.now) }
 {
-    let (front, _) = bytes.split_at(room(layout).min(bytes.len()));
+    let (front, _) = bytes.split_at(front_len(layout, bytes, untried));
     match decode_item(alloc, front, limit) {
         Ok((item, after)) => {
             print_tree(out, &item, &layout)?;
@@ -250,7 +301,8 @@ fn print_nested<'b>(
                 return print_decoded(alloc, out, layout, bytes, limit);
             };
             let parts = layout.of_parts(usize::MAX);
-            print_parts(alloc, out, parts, nested, argument, behind, limit)
+            let untried = untried.min(bytes.len() - front.len());
+            print_parts(alloc, out, parts, nested, argument, behind, limit, untried)
         }
     }
 }
@@ -277,14 +329,33 @@ fn print_parts<'b>(
     argument: Argument,
     bytes: &'b [u8],
     limit: usize,
+    untried: usize,
 ) -> Result<&'b [u8], Fault<CborError>>
     ensures exact { Prints (λ t. WritesParts parts t) (λ r. r.now) (buffer_bytes out.old) (buffer_bytes out.new) result (nested_by nested limit argument bytes.now) }
     ensures shorter { IfOk result (λ r. length r.now ≤ length bytes.now) }
 {
     match nested {
-        Nested::Array => print_list(alloc, out, parts, Brackets::Array, argument, bytes, limit),
-        Nested::Map => print_list(alloc, out, parts, Brackets::Map, argument, bytes, limit),
-        Nested::Tag => print_tag(alloc, out, parts, argument, bytes, limit),
+        Nested::Array => print_list(
+            alloc,
+            out,
+            parts,
+            Brackets::Array,
+            argument,
+            bytes,
+            limit,
+            untried,
+        ),
+        Nested::Map => print_list(
+            alloc,
+            out,
+            parts,
+            Brackets::Map,
+            argument,
+            bytes,
+            limit,
+            untried,
+        ),
+        Nested::Tag => print_tag(alloc, out, parts, argument, bytes, limit, untried),
     }
 }
 
@@ -298,6 +369,7 @@ fn print_list<'b>(
     argument: Argument,
     bytes: &'b [u8],
     limit: usize,
+    untried: usize,
 ) -> Result<&'b [u8], Fault<CborError>>
     ensures exact { Prints (λ t. WritesParts parts t) (λ r. r.now) (buffer_bytes out.old) (buffer_bytes out.new) result (list_by (bracketed list) limit argument bytes.now) }
     ensures shorter { IfOk result (λ r. length r.now ≤ length bytes.now) }
@@ -306,7 +378,7 @@ fn print_list<'b>(
         return Err(Fault::Told(CborError::TooDeep));
     }
     out.push_str(opening(list))?;
-    let rest = print_inside(alloc, out, parts, list, argument, bytes, limit - 1)?;
+    let rest = print_inside(alloc, out, parts, list, argument, bytes, limit - 1, untried)?;
     out.push_str(ending(list))?;
     Ok(rest)
 }
@@ -320,6 +392,7 @@ fn print_tag<'b>(
     argument: Argument,
     bytes: &'b [u8],
     limit: usize,
+    untried: usize,
 ) -> Result<&'b [u8], Fault<CborError>>
     ensures exact { Prints (λ t. WritesParts parts t) (λ r. r.now) (buffer_bytes out.old) (buffer_bytes out.new) result (tag_by trees (inner trees limit) argument bytes.now) }
     ensures shorter { IfOk result (λ r. length r.now ≤ length bytes.now) }
@@ -333,7 +406,7 @@ fn print_tag<'b>(
     print_label(out, LabelKind::Tag(indicator_of(argument), number))?;
     out.push_str("(")?;
     print_space(out, &S::empty(), parts, Slot::Elsewhere)?;
-    let rest = print_item(alloc, out, parts, bytes, limit - 1)?;
+    let rest = print_item(alloc, out, parts, bytes, limit - 1, untried)?;
     print_space(out, &S::empty(), parts, Slot::Elsewhere)?;
     out.push_str(")")?;
     Ok(rest)
@@ -369,6 +442,7 @@ fn print_inside<'b>(
     argument: Argument,
     bytes: &'b [u8],
     limit: usize,
+    untried: usize,
 ) -> Result<&'b [u8], Fault<CborError>>
     ensures exact { Prints (λ es. Writes layout (list_inside {k = bracketed list} (argument_indicator argument) (row_of es))) (λ r. r.now) (buffer_bytes out.old) (buffer_bytes out.new) result (several (entry_at (bracketed list) limit) argument bytes.now) }
     ensures shorter { IfOk result (λ r. length r.now ≤ length bytes.now) }
@@ -380,7 +454,7 @@ fn print_inside<'b>(
         }
         Some((_, count)) => {
             print_front(out, layout, argument)?;
-            print_many(alloc, out, layout, list, count, bytes, limit)
+            print_many(alloc, out, layout, list, count, bytes, limit, untried)
         }
         None => match past_stop(Stop::Break, bytes) {
             Some(after) => {
@@ -389,7 +463,7 @@ fn print_inside<'b>(
             }
             None => {
                 print_front(out, layout, argument)?;
-                print_until(alloc, out, layout, list, Stop::Break, bytes, limit)
+                print_until(alloc, out, layout, list, Stop::Break, bytes, limit, untried)
             }
         },
     }
@@ -421,6 +495,7 @@ fn print_many<'b>(
     count: u64,
     bytes: &'b [u8],
     limit: usize,
+    untried: usize,
 ) -> Result<&'b [u8], Fault<CborError>>
     requires { 0 < count }
     ensures exact { Prints (λ es. WritesRow layout (row_of es)) (λ r. r.now) (buffer_bytes out.old) (buffer_bytes out.new) result (many (entry_at (bracketed list) limit) count bytes.now) }
@@ -428,11 +503,11 @@ fn print_many<'b>(
 {
     let mut rest = bytes;
     for _ in 0..count - 1 {
-        let after = print_entry(alloc, out, layout, list, rest, limit)?;
+        let after = print_entry(alloc, out, layout, list, rest, limit, untried)?;
         print_separator(out, &Msc::comma_space(), layout)?;
         rest = after;
     }
-    let after = print_entry(alloc, out, layout, list, rest, limit)?;
+    let after = print_entry(alloc, out, layout, list, rest, limit, untried)?;
     print_end(out, &Soc::empty(), layout)?;
     Ok(after)
 }
@@ -447,6 +522,7 @@ fn print_until<'b>(
     stop: Stop,
     bytes: &'b [u8],
     limit: usize,
+    untried: usize,
 ) -> Result<&'b [u8], Fault<CborError>>
     requires { reading.past_stop stop bytes.now ≡ None }
     ensures exact { Prints (λ es. WritesRow layout (row_of es)) (λ r. r.now) (buffer_bytes out.old) (buffer_bytes out.new) result (until stop (entry_at (bracketed list) limit) (suc (length bytes.now)) bytes.now) }
@@ -454,7 +530,7 @@ fn print_until<'b>(
 {
     let mut rest = bytes;
     'turns: loop {
-        let after = print_entry(alloc, out, layout, list, rest, limit)?;
+        let after = print_entry(alloc, out, layout, list, rest, limit, untried)?;
         match past_stop(stop, after) {
             Some(behind) => {
                 print_end(out, &Soc::empty(), layout)?;
@@ -477,13 +553,14 @@ fn print_entry<'b>(
     list: Brackets,
     bytes: &'b [u8],
     limit: usize,
+    untried: usize,
 ) -> Result<&'b [u8], Fault<CborError>>
     ensures exact { Prints (λ e. Writes layout e) (λ r. r.now) (buffer_bytes out.old) (buffer_bytes out.new) result (entry_at (bracketed list) limit bytes.now) }
     ensures shorter { IfOk result (λ r. length r.now < length bytes.now) }
 {
     match list {
-        Brackets::Array => print_item(alloc, out, layout, bytes, limit),
-        Brackets::Map => print_pair(alloc, out, layout, bytes, limit),
+        Brackets::Array => print_item(alloc, out, layout, bytes, limit, untried),
+        Brackets::Map => print_pair(alloc, out, layout, bytes, limit, untried),
     }
 }
 
@@ -495,13 +572,14 @@ fn print_pair<'b>(
     layout: Layout,
     bytes: &'b [u8],
     limit: usize,
+    untried: usize,
 ) -> Result<&'b [u8], Fault<CborError>>
     ensures exact { Prints (λ e. Writes layout e) (λ r. r.now) (buffer_bytes out.old) (buffer_bytes out.new) result (pair_at trees (item_at trees limit) bytes.now) }
     ensures shorter { IfOk result (λ r. length r.now < length bytes.now) }
 {
-    let rest = print_item(alloc, out, layout, bytes, limit)?;
+    let rest = print_item(alloc, out, layout, bytes, limit, untried)?;
     print_space(out, &S::empty(), layout, Slot::Elsewhere)?;
     out.push_str(":")?;
     print_space(out, &S::space(), layout, Slot::AfterColon)?;
-    print_item(alloc, out, layout, rest, limit)
+    print_item(alloc, out, layout, rest, limit, untried)
 }

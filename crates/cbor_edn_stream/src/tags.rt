@@ -117,7 +117,7 @@ fn is_head_of(numbers: &[u64], major: u8, argument: Argument) -> bool
 
 /// What stands behind a head, and behind the bytes of a string of definite length.
 #[inline(always)]
-fn behind_content(major: u8, argument: Argument, bytes: &[u8]) -> &[u8]
+pub(crate) fn behind_content(major: u8, argument: Argument, bytes: &[u8]) -> &[u8]
     ensures value { result.now ≡ heads.behind_content major argument bytes.now }
     ensures shorter { length result.now ≤ length bytes.now }
 {

@@ -16,7 +16,7 @@ use Rattle.cbor_edn_model.specs.declared.text.keyword.NonFinite.{NonFinite}
 use Rattle.cbor_edn_model.specs.declared.text.keyword.NonFinite.TheVariants.{Infinity, NegativeInfinity, NaN}
 use Rattle.cbor_edn_model.specs.text.Keywords.{non_finite_text}
 use Rattle.cbor_edn_model.specs.tree.Items as kind
-use Rattle.cbor_edn_model.specs.tree.Items.{Row, Elements, Strings, Bracketed, entries_of, Node, Item}
+use Rattle.cbor_edn_model.specs.tree.Items.{Row, Bracketed, entries_of, Node, Item}
 use Rattle.cbor_edn_model.specs.tree.Trees.{Rule, Tree, OneEntry, Rest, ChunkTree, ElementTree, ListTree}
 use Rattle.cbor_edn_model.specs.cbor.Value.{float_bits, Value, Chunk, unsigned, negative, string, chunks, array, cbor_map, tag, simple, float, Values, no_values, value, values_len, Pairs, no_pairs, pair, pairs_len, head, ArgumentFits, list_encoding, chunk_encoding, chunk_encodings, string_major, encoding, encodings, pair_encodings, Fits, ValuesFit, PairsFit, simple_width}
 use Rattle.cbor_edn_model.specs.cbor.Decoded.{list_indicator}
@@ -56,7 +56,7 @@ escaped_long (b ∷ bs) = let h = escaped_long bs in let g = escaped_some b in s
 hex_long : (bs : List ℕ) → length bs + 1 ≤ length (hex_literal bs)
 hex_long bs = let h = length-encode_with lower_digits bs in simp length-append (omega (arith, h))
 
-literal_long : (k : StringKind) (bs : List ℕ) → length bs + 1 ≤ length (kind_literal k bs)
+pub literal_long : (k : StringKind) (bs : List ℕ) → length bs + 1 ≤ length (kind_literal k bs)
 literal_long Bytes bs = hex_long bs
 literal_long Text bs = let h = escaped_long bs in simp length-append (omega (arith, h))
 
@@ -71,7 +71,7 @@ abbrev pub row_width : {k : Row} → Option (Tree (Rest k)) → ℕ
 row_width None = 0
 row_width (Some m) = line_width m
 
-in_front_wide : {k : Row} (e : Tree (OneEntry k)) (o : Option (Tree (Rest k))) → line_width e + row_width o ≤ line_width (in_front e o)
+pub in_front_wide : {k : Row} (e : Tree (OneEntry k)) (o : Option (Tree (Rest k))) → line_width e + row_width o ≤ line_width (in_front e o)
 unfolding width
 in_front_wide e None = omega arith
 in_front_wide e (Some m) = omega arith
@@ -96,7 +96,7 @@ stream_long k (c ∷ cs) =
 
 -- ---- lists
 
-inside_wide : (k : Bracketed) (i : Option Indicator) (o : Option (Tree (Rest (entries_of k)))) → row_width o ≤ line_width (list_inside {k = k} i o)
+pub inside_wide : (k : Bracketed) (i : Option Indicator) (o : Option (Tree (Rest (entries_of k)))) → row_width o ≤ line_width (list_inside {k = k} i o)
 unfolding width
 inside_wide k i None = omega arith
 inside_wide k i (Some m) = omega arith
@@ -111,19 +111,19 @@ bracketed_long k i o major w n parts le = let h = list_long major w n parts in l
 
 -- ---- simple values and numbers
 
-number_some : (n : ℕ) → n < 2 ^ 64 → 1 ≤ length (decimal n)
+pub number_some : (n : ℕ) → n < 2 ^ 64 → 1 ≤ length (decimal n)
 number_some n fits = let h = decimal_nonempty n fits in omega (arith, h)
 
 either_some : (b : Bool) (x y : Node Item) → 1 ≤ line_width (regular x) → 1 ≤ line_width (regular y) → 1 ≤ line_width (regular (cond b x y))
 either_some true x y first second = first
 either_some false x y first second = second
 
-simple_some : (n : ℕ) → 1 ≤ line_width (simple_tree n)
+pub simple_some : (n : ℕ) → 1 ≤ line_width (simple_tree n)
 unfolding width regular
 simple_some n =
     either_some (eqb n 20) _ _ (omega arith) (either_some (eqb n 21) _ _ (omega arith) (either_some (eqb n 22) _ _ (omega arith) (either_some (eqb n 23) _ _ (omega arith) (omega arith))))
 
-float_some : (f : NonFinite) → 1 ≤ length (non_finite_text f)
+pub float_some : (f : NonFinite) → 1 ≤ length (non_finite_text f)
 float_some Infinity = omega arith
 float_some NegativeInfinity = omega arith
 float_some NaN = omega arith

@@ -1,6 +1,6 @@
 -- An item that stands in the front of the bytes, and one that does not, which has lines of its own.
 use Rattle.std.proofs.Common.{◌≡◌, ℕ, ◌-◌, ◌*◌, ◌^◌, ◌≤◌, ◌<◌, take, drop, List, [], ◌∷◌, ◌++◌, length, Result, Ok, Err, refl, sym, ap, subst, ◌∙◌, arith, inl, inr}
-use Rattle.std.specs.Prelude.{min}
+use Rattle.std.specs.Prelude.{min, ◌⊎◌}
 use Rattle.std.proofs.lemmas.Bool.{cases_lt, lt-ltb, le-ltb}
 use Rattle.cbor_edn_parts.specs.LayoutColumns.{of_parts, saturating_add}
 use Rattle.cbor_edn_parts.specs.declared.error.Fault.{Fault}
@@ -14,20 +14,21 @@ use Rattle.cbor_edn_model.proofs.lemmas.cbor.CborHeads.{IsBytes}
 use Rattle.cbor_edn_model.proofs.lemmas.layout.LaidTexts.{text_laid_enclosed, text_laid_list}
 use Rattle.cbor_edn_stream.specs.declared.print.Nested.{Nested}
 use Rattle.cbor_edn_stream.specs.declared.print.Nested.TheVariants as nested
-use Rattle.cbor_edn_stream.specs.Printed.{Prints, Writes, WritesParts, greatest, front_room, nested_major, nested_by}
+use Rattle.cbor_edn_stream.specs.Printed.{Prints, Writes, WritesParts, greatest, front_columns, front_room, nested_major, nested_by}
+use Rattle.cbor_edn_stream.specs.Wide.{IsWider}
 use Rattle.cbor_edn_stream.proofs.lemmas.Lengths.{line_width}
 use Rattle.cbor_edn_stream.proofs.lemmas.Prefixes.{front_read, front_refused}
 use Rattle.cbor_edn_stream.proofs.lemmas.Turns.{array_at, map_at, tag_at}
 
--- an item of which that front is not enough has lines of its own
-pub wide_parts : (l : Layout) (t : Tree OneItem) (n : ℕ) → n < 2 ^ 64 - 1 → front_room l ≤ n → n < 9 * line_width t → of_parts l (measured t) ≡ of_parts l 18446744073709551615
-wide_parts Kept t n small le lt = refl
-wide_parts (Inline column) t n small le lt = refl
-wide_parts (Lines base end level width) t n small le lt =
+-- an item that is wider than what is left of the line has lines of its own
+pub wide_parts : (l : Layout) (t : Tree OneItem) → front_columns l < line_width t → of_parts l (measured t) ≡ of_parts l greatest
+wide_parts Kept t lt = refl
+wide_parts (Inline column) t lt = refl
+wide_parts (Lines base end level width) t lt =
     elim (cases_lt 18446744073709551615 width) [
       | inl big ↦ rw (lt-ltb (saturating_add (measured t) base) width (omega (arith, big)), lt-ltb (saturating_add 18446744073709551615 base) width (omega (arith, big))) refl
       | inr narrow ↦ (
-          let first : width ≤ saturating_add (measured t) base = omega (arith, narrow, small, le, lt) in
+          let first : width ≤ saturating_add (measured t) base = omega (arith, narrow, lt) in
           let second : width ≤ saturating_add 18446744073709551615 base = omega (arith, narrow) in
           rw (le-ltb (saturating_add (measured t) base) width first, le-ltb (saturating_add 18446744073709551615 base) width second) refl)
     ]
@@ -45,15 +46,24 @@ nested_at limit nested.Array argument bytes behind read = array_at limit argumen
 nested_at limit nested.Map argument bytes behind read = map_at limit argument bytes behind read
 nested_at limit nested.Tag argument bytes behind read = tag_at limit argument bytes behind read
 
--- What the front does not hold has lines of its own.
-pub lines_written : {X : Type 0} (view : X → List ℕ) (l parts : Layout) (limit n : ℕ) (bytes front old new : List ℕ) (e : CborError) (r : Result X (Fault CborError)) → IsBytes bytes → n ≡ min (front_room l) (length bytes) → length bytes < 2 ^ 64
+-- What the front does not hold is wider, and so is what its heads tell to be.
+lines_wider : (l : Layout) (limit n : ℕ) (bytes front : List ℕ) (e : CborError) → IsBytes bytes
+    → (n ≡ min (front_room l) (length bytes)) ⊎ IsWider (front_columns l) bytes → length bytes < 2 ^ 64
+    → front ≡ take n bytes → item_at trees limit front ≡ Err e → (t : Tree OneItem) (rest : List ℕ) → item_at trees limit bytes ≡ Ok (t, rest) → front_columns l < line_width t
+lines_wider l limit n bytes front e fits (inl is) small part refused t rest read =
+    let long = front_refused limit n bytes e (t, rest) fits (subst (λ (b : List ℕ). item_at trees limit b ≡ Err e) part refused) read in
+    omega (arith, is, long.0, long.1, small)
+lines_wider l limit n bytes front e fits (inr wider) small part refused t rest read = wider limit t rest read
+
+-- Both have lines of their own.
+pub lines_written : {X : Type 0} (view : X → List ℕ) (l parts : Layout) (limit n : ℕ) (bytes front old new : List ℕ) (e : CborError) (r : Result X (Fault CborError)) → IsBytes bytes
+    → (n ≡ min (front_room l) (length bytes)) ⊎ IsWider (front_columns l) bytes → length bytes < 2 ^ 64
     → front ≡ take n bytes → item_at trees limit front ≡ Err e → parts ≡ of_parts l greatest
     → Prints (λ t. WritesParts parts t) view old new r (item_at trees limit bytes) → Prints (λ t. Writes l t) view old new r (item_at trees limit bytes)
-lines_written view l parts limit n bytes front old new e (Ok x) fits is small part refused given p =
-    let long = front_refused limit n bytes e (p.0, view x) fits (subst (λ (b : List ℕ). item_at trees limit b ≡ Err e) part refused) p.1 in
-    let wide = wide_parts l p.0 n (omega (arith, long.1, small)) (omega (arith, is, long.1)) long.0 in
+lines_written view l parts limit n bytes front old new e (Ok x) fits enough small part refused given p =
+    let wide = wide_parts l p.0 (lines_wider l limit n bytes front e fits enough small part refused p.0 (view x) p.1) in
     (p.0, p.1, parts_written l parts p.0 old new (wide ∙ sym given) p.2)
-lines_written view l parts limit n bytes front old new e (Err f) fits is small part refused given p = p
+lines_written view l parts limit n bytes front old new e (Err f) fits enough small part refused given p = p
 
 -- What it holds is read from all.
 pub front_written : (l : Layout) (limit n : ℕ) (bytes front behind rest old new : List ℕ) (t : Tree OneItem) → IsBytes bytes → front ≡ take n bytes → item_at trees limit front ≡ Ok (t, behind) → rest ≡ drop (length front - length behind) bytes → Writes l t old new

@@ -151,13 +151,13 @@ print_until-turns-preserved t c =
 
 pub print_nested-returns-in_ok-print_item-in-Ok-clause-exact : goal.print_nested-returns-in_ok-print_item-in-Ok-clause-exact
 print_nested-returns-in_ok-print_item-in-Ok-clause-exact t c =
-    front_written c.args.layout c.args.limit c.min.result c.args.bytes.now c.split_at.result.0.now c.in-Ok.after.now c.split_at-in-Ok.result.1.now (buffer_bytes c.args.out.now) (buffer_bytes c.print_item.new.out) (item_tree c.in-Ok.item)
+    front_written c.args.layout c.args.limit c.front_len.result c.args.bytes.now c.split_at.result.0.now c.in-Ok.after.now c.split_at-in-Ok.result.1.now (buffer_bytes c.args.out.now) (buffer_bytes c.print_item.new.out) (item_tree c.in-Ok.item)
     (λ i. omega (arith, c.type_inv.bytes i)) c.split_at.ensures.front c.in-Ok.ensures.exact c.split_at-in-Ok.ensures.back (grind arith)
 
 pub print_nested-returns-in-Some-clause-exact : goal.print_nested-returns-in-Some-clause-exact
 print_nested-returns-in-Some-clause-exact t c =
-    lines_written (λ r. r.now) c.args.layout c.of_parts-parts.result c.args.limit c.min.result c.args.bytes.now c.split_at.result.0.now (buffer_bytes c.args.out.now) (buffer_bytes c.print_parts.new.out) c.in-Err-Told.field-0-0 c.print_parts.result
-    (λ i. omega (arith, c.type_inv.bytes i)) (grind arith) (omega arith) c.split_at.ensures.front
+    lines_written (λ r. r.now) c.args.layout c.of_parts-parts.result c.args.limit c.front_len.result c.args.bytes.now c.split_at.result.0.now (buffer_bytes c.args.out.now) (buffer_bytes c.print_parts.new.out) c.in-Err-Told.field-0-0 c.print_parts.result
+    (λ i. omega (arith, c.type_inv.bytes i)) c.front_len.ensures.enough (omega arith) c.split_at.ensures.front
     (fault_told c.in-Err-Told.field-0 c.in-Err-Told.field-0-0 (item_at trees c.args.limit c.split_at.result.0.now) c.in-Err-Told.field-0-is c.in-Err-Told.ensures.exact) c.of_parts-parts.ensures
     (rw (nested_at c.args.limit c.in-Some.nested c.in_ok-major-in-Err-Told.argument c.args.bytes.now c.in_ok-major-in-Err-Told.behind.now
     (head_is c.args.bytes.now c.in_ok-major-in-Err-Told.behind.now c.in_ok-major-in-Err-Told.major (nested_major c.in-Some.nested) c.in_ok-major-in-Err-Told.argument c.in_ok-major-in-Err-Told.argument c.in_ok-major-in-Err-Told.ensures.exact (sym c.in-Some.ensures) refl)) c.print_parts.ensures.exact)
