@@ -18,3 +18,5 @@ mod TagNestings
 mod UntaggedSteps
 mod VisitNestings
 mod WrittenOutput
+mod ElementTexts
+mod SplitSteps

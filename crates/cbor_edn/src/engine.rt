@@ -12,7 +12,7 @@ ghost use Rattle.cbor_edn.specs.declared.engine.RunError.{RunError};
 ghost use Rattle.cbor_edn.specs.declared.engine.RunError.TheVariants.{Memory, Parse, Cbor, Inconsistent, Hex, Read};
 
 use crate::boxed::boxed;
-use crate::steps;
+use crate::{elements, steps};
 pub use cbor_edn_command::count::Count;
 pub use cbor_edn_command::devices::{DeviceFault, Sink, Source, StdSink, StdSource};
 use cbor_edn_command::hexadecimal::{self, NotHex};
@@ -182,11 +182,7 @@ fn diagnosed(alloc: Global, options: &Options, bytes: &[u8]) -> Result<Vec<u8>, 
     if let Some(out) = streamed(alloc, options, bytes)? {
         return Ok(out);
     }
-    let mut sequence = boxed(
-        alloc,
-        Sequence::from_cbor_within(alloc, bytes, options.limit),
-    )?;
-    Ok(printed(alloc, options, &mut sequence)?)
+    Ok(elements::changed(alloc, options, bytes)?)
 }
 
 // The text of the items of a text.

@@ -3,6 +3,7 @@
 
 pub mod application;
 mod boxed;
+mod elements;
 pub mod engine;
 pub mod format;
 pub mod laws;
