@@ -63,7 +63,7 @@ fn front_items<'a, 'b>(
     ensures refused { IfErr result (λ e. IsFault limit bytes.now e) }
     ensures shorter { IfOk result (λ x. 0 < length bytes.now → length x.1.now < length bytes.now) }
 {
-    let mut items = Vec::new(alloc);
+    let mut items: Vec<Item<'a>> = Vec::new(alloc);
     let mut rest = bytes;
     'items: while !rest.is_empty() && bytes.len() - rest.len() < TOGETHER {
         let (item, behind) = decode_item(alloc, rest, limit)?;
@@ -134,9 +134,17 @@ fn lay_separators(
     }
 }
 
-/// A sequence of these items.
+/// A sequence of these items, with commas between them.
 fn sequence_of<'a>(alloc: Global, items: Vec<Item<'a>>) -> Result<Sequence<'a>, AllocError>
     ensures { IfOk result (λ s. sequence_tree s ≡ comma_sequence (map element_tree items.entry.items)) }
 {
-    Sequence::new(alloc, items)
+    let mut items = items;
+    match items.pop() {
+        Some(item) if items.is_empty() => Ok(Sequence::of_item(alloc, item)),
+        Some(item) => {
+            items.push(item)?;
+            Sequence::new(alloc, items)
+        }
+        None => Sequence::new(alloc, items),
+    }
 }
