@@ -214,6 +214,7 @@ NAMES = {
     "streams": "`(_ 'a', 'b')`",
     "one stream": "one",
     "tags": "tags",
+    "tags alone": "not in an array",
     "COSE": "COSE",
     "CWT": "in CWT",
     "embedded": "embedded sequences",

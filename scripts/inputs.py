@@ -43,6 +43,7 @@ FLAT = {
     "streams": array("(_ 'a', 'b')"),
     "one stream": fill("(_ ", ["'a'", "'b'"], ", ", ")"),
     "tags": array("1(2)"),
+    "tags alone": sequence("1(2)"),
     "COSE": sequence(COSE),
     "CWT": sequence(f"61({COSE})"),
     "embedded": array("<<1, 2>>"),

@@ -174,9 +174,9 @@ pub more_in_front : (o : Options) (ws xs : List (Tree OneItem)) (a b : List ℕ)
 more_in_front o ws xs a b (es, first, valid, utf8, is) (fs, second, sound, good, same) = (
   es ++ fs,
   λ m n h.
-  let c = first (entries_onto (separated xs) m) (entries_onto fs n) (second m n h) in
-  let before : entries_onto (separated (ws ++ xs)) m ≡ entries_onto (separated ws) (entries_onto (separated xs) m) = ap (λ (l : Fronts). entries_onto l m) (separated_on ws xs) ∙ entries_on (separated ws) (separated xs) m in
-  subst (λ (t : Tree (Rest Elements)). StepsGive o (elements t) (elements (entries_onto (es ++ fs) n))) (sym before) (subst (λ (t : Tree (Rest Elements)). StepsGive o (elements (entries_onto (separated ws) (entries_onto (separated xs) m))) (elements t)) (sym (entries_on es fs n)) c),
+      let c = first (entries_onto (separated xs) m) (entries_onto fs n) (second m n h) in
+      let before : entries_onto (separated (ws ++ xs)) m ≡ entries_onto (separated ws) (entries_onto (separated xs) m) = ap (λ (l : Fronts). entries_onto l m) (separated_on ws xs) ∙ entries_on (separated ws) (separated xs) m in
+      subst (λ (t : Tree (Rest Elements)). StepsGive o (elements t) (elements (entries_onto (es ++ fs) n))) (sym before) (subst (λ (t : Tree (Rest Elements)). StepsGive o (elements (entries_onto (separated ws) (entries_onto (separated xs) m))) (elements t)) (sym (entries_on es fs n)) c),
   λ m h. subst (λ (t : Tree (Rest Elements)). Valid t) (sym (entries_on es fs m)) (valid (entries_onto fs m) (sound m h)),
   IsUtf8-append a b utf8 good,
   ap (λ (t : List ℕ). t ++ b) is ∙ ap (λ (t : List ℕ). entries_text es ++ t) same ∙ sym (texts_on es fs),

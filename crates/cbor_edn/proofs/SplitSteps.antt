@@ -49,9 +49,9 @@ split_turn P Q p q es m v (u, first, second) =
       b.2,
       (elements a.1, a.3, b.3),
       λ x y h.
-      let c = p [] x h.0 h.1 in
-      let d = entries_onto c.0 c.1 in
-      (elements (entries_onto a.0 d), a.4 x d (subst (λ (t : Tree Seq). P (elements x) t) c.2 h.1), b.4 d y (subst (λ (t : Tree Seq). Q t (elements y)) c.2 h.2)),
+          let c = p [] x h.0 h.1 in
+          let d = entries_onto c.0 c.1 in
+          (elements (entries_onto a.0 d), a.4 x d (subst (λ (t : Tree Seq). P (elements x) t) c.2 h.1), b.4 d y (subst (λ (t : Tree Seq). Q t (elements y)) c.2 h.2)),
     )
 
 split_where : (asked : Bool) (P : Step) → Splits P → Splits (Where asked P)

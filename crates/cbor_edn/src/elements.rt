@@ -105,11 +105,7 @@ fn zero_len(options: &Options) -> usize
 }
 
 /// The text after the steps of all items of a sequence.
-fn text_of(
-    alloc: Global,
-    options: &Options,
-    items: Vec<Item<'_>>,
-) -> Result<Vec<u8>, AllocError>
+fn text_of(alloc: Global, options: &Options, items: Vec<Item<'_>>) -> Result<Vec<u8>, AllocError>
     requires { All IsLine (map item_tree items.items) }
     ensures { IfOk result (λ out. IsTextOf options.now (map item_tree items.entry.items) out.items) }
 {
@@ -120,11 +116,7 @@ fn text_of(
 }
 
 /// Gives a sequence the spaces of a single line, if asked: its items have them, and what stands between two of them may not.
-fn lay_separators(
-    alloc: Global,
-    asked: bool,
-    sequence: &mut Sequence<'_>,
-) -> Result<(), AllocError>
+fn lay_separators(alloc: Global, asked: bool, sequence: &mut Sequence<'_>) -> Result<(), AllocError>
     ensures { OnOk result (Where asked (IsLaidOut SingleLineRegularSpacing) (sequence_tree sequence.old) (sequence_tree sequence.new)) }
 {
     if asked {
