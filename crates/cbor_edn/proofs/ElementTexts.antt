@@ -1,12 +1,12 @@
 -- Elements of a sequence that are read, changed and printed before those behind them.
-use Rattle.std.proofs.Common.{◌≡◌, ◌≢◌, ℕ, zero, suc, ◌-◌, ◌<◌, ◌≤◌, Bool, true, false, List, [], ◌∷◌, ◌++◌, map, length, take, Option, Some, None, Ok, Err, refl, sym, ap, subst, ◌∙◌, append_assoc, arith}
+use Rattle.std.proofs.Common.{◌≡◌, ℕ, zero, suc, ◌-◌, ◌<◌, Bool, true, false, List, [], ◌∷◌, ◌++◌, map, length, take, Option, Some, None, Ok, Err, refl, sym, ap, subst, ◌∙◌, append_assoc, arith}
 use Rattle.std.specs.Prelude.{All, Result, IfOk, pos, nat_lt}
 use Rattle.std.specs.Fmt.{signed_decimal}
 use Rattle.std.proofs.lemmas.Fmt.{decimal_digit}
 use Rattle.std.specs.declared.alloc.AllocError.{AllocError}
 use Rattle.std.specs.declared.alloc.Global.{Global}
 use Rattle.std.specs.declared.vec.Vec.{Vec}
-use Rattle.std.specs.Str.{IsUtf8, IsCharBoundary}
+use Rattle.std.specs.Str.{IsUtf8}
 use Rattle.std.proofs.lemmas.Str.{IsUtf8-append, IsUtf8-take, IsUtf8-from_ascii, IsCharBoundary-at_seam}
 use Rattle.std.proofs.lemmas.List.{length-append, length-map}
 use Rattle.std.proofs.lemmas.List.Elements.{All-nil, All-cons, All-head, All-tail, All-push}
@@ -18,10 +18,10 @@ use Rattle.cbor_edn_model.specs.declared.cbor.decode.CborError.{CborError}
 use Rattle.cbor_edn_model.specs.declared.cbor.decode.head.Stop.TheVariants.{EndOfData}
 use Rattle.cbor_edn_model.specs.cbor.Decoded.{item_of}
 use Rattle.cbor_edn_model.specs.layout.Layout.{laid, laid_out}
-use Rattle.cbor_edn_model.specs.tree.Constructed.{comma_rest, comma_row, comma_sequence}
+use Rattle.cbor_edn_model.specs.tree.Constructed.{comma_rest, comma_sequence}
 use Rattle.cbor_edn_model.specs.tree.Items.{Elements}
 use Rattle.cbor_edn_model.specs.tree.Rows.{entries_onto, entries_text}
-use Rattle.cbor_edn_model.specs.tree.Trees.{Tree, OneItem, OneEntry, Rest, Seq, NumberTree, ElementTree, LastTree, MoreTree, NothingTree, SequenceTree, Valid, text}
+use Rattle.cbor_edn_model.specs.tree.Trees.{Tree, OneItem, OneEntry, Rest, Seq, NumberTree, ElementTree, LastTree, MoreTree, Valid, text}
 use Rattle.cbor_edn_model.specs.internal.CborReading.{DecoderFails, item_at, until, past_stop, trees, row_of, element_row, sequence_at}
 use Rattle.cbor_edn_model.specs.internal.Regular.{in_front, sequence_tree_of, regular}
 use Rattle.cbor_edn_model.proofs.lemmas.cbor.CborHeads.{IsBytes}
@@ -30,7 +30,7 @@ use Rattle.cbor_edn_model.proofs.lemmas.cbor.CborTurns.{shown_ok}
 use Rattle.cbor_edn_model.proofs.lemmas.cbor.CborValues.{value_at}
 use Rattle.cbor_edn_model.proofs.lemmas.layout.RegularLayout.{item_fixed}
 use Rattle.cbor_edn_model.proofs.lemmas.text.Texts.{text_sequence, text_entries}
-use Rattle.cbor_edn.specs.Elements.{IsLine, AreRead, IsFault, Fronts, elements, InFront, separated, AreValid, zero_item, zero_text, IsTextInFront, IsTextOf}
+use Rattle.cbor_edn.specs.Elements.{IsLine, AreRead, IsFault, Fronts, elements, separated, AreValid, zero_item, zero_text, IsTextInFront, IsTextOf}
 use Rattle.cbor_edn_command.specs.declared.options.Options.{Options}
 use Rattle.cbor_edn.specs.Runs.{IsPrintedAs}
 use Rattle.cbor_edn.specs.RunSteps.{Where, IsLaidOut, StepsGive}

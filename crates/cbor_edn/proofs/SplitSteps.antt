@@ -1,6 +1,6 @@
 -- The steps of a run over a sequence are the steps over the elements in front, and over those behind them.
-use Rattle.std.proofs.Common.{◌≡◌, ℕ, Bool, true, false, List, [], ◌∷◌, ◌++◌, map, Option, Some, None, refl, sym, ap, subst, ◌∙◌}
-use Rattle.std.specs.Prelude.{All, not, if◌then◌else◌}
+use Rattle.std.proofs.Common.{◌≡◌, ℕ, Bool, true, false, List, [], ◌∷◌, ◌++◌, map, None, refl, sym, ap, subst, ◌∙◌}
+use Rattle.std.specs.Prelude.{All, not}
 use Rattle.std.proofs.lemmas.List.Elements.{All-append}
 use Rattle.cbor_edn_parts.specs.declared.policy.DelimiterPolicy.{DelimiterPolicy}
 use Rattle.cbor_edn_parts.specs.declared.policy.DelimiterPolicy.TheVariants.{DiscardAll}
@@ -9,9 +9,9 @@ use Rattle.cbor_edn_parts.specs.internal.CommentReading.{from_first, to_last, up
 use Rattle.cbor_edn_model.specs.layout.Layout.{Layout, Between, Elsewhere, layout, respaced, laid, laid_out}
 use Rattle.cbor_edn_model.specs.tree.Items.{Elements}
 use Rattle.cbor_edn_model.specs.tree.Rows.{entries_onto}
-use Rattle.cbor_edn_model.specs.tree.Trees.{Tree, OneItem, OneEntry, Rest, Seq, NumberTree, ElementTree, LastTree, MoreTree, NothingTree, SequenceTree, text}
+use Rattle.cbor_edn_model.specs.tree.Trees.{Tree, OneItem, OneEntry, Rest, Seq, ElementTree, LastTree, MoreTree, NothingTree, SequenceTree, text}
 use Rattle.cbor_edn_model.specs.visit.Seeking.{CallArguments, number, prefix_and_text, IsTag, IsApplication, SoughtCall, VisitItem, passed, entered, stayed, refused, not_called, VisitParts, of_number, of_last, of_more, of_more_cut, of_sequence, VisitEntry, of_element}
-use Rattle.cbor_edn_model.specs.visit.Visits.{Ending, whole, cut}
+use Rattle.cbor_edn_model.specs.visit.Visits.{Ending, whole}
 use Rattle.cbor_edn_model.proofs.lemmas.text.Texts.{text_number, text_element, text_last, text_sequence}
 use Rattle.cbor_edn_conversions.specs.Addresses.{resolve_address, pretty_address}
 use Rattle.cbor_edn_conversions.specs.Annotations.{comment_lang}

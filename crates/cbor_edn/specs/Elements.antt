@@ -7,7 +7,7 @@ use Rattle.cbor_edn_model.specs.declared.cbor.decode.CborError.{CborError}
 use Rattle.cbor_edn_model.specs.layout.Layout.{laid_out}
 use Rattle.cbor_edn_model.specs.tree.Items.{Elements}
 use Rattle.cbor_edn_model.specs.tree.Rows.{entries_onto, entries_text}
-use Rattle.cbor_edn_model.specs.tree.Trees.{Tree, OneItem, OneEntry, Rest, Seq, NumberTree, ElementTree, SequenceTree, Valid, text}
+use Rattle.cbor_edn_model.specs.tree.Trees.{Tree, OneItem, OneEntry, Rest, Seq, NumberTree, ElementTree, SequenceTree, Valid}
 use Rattle.cbor_edn_model.specs.internal.CborReading.{DecoderFails, item_at, trees, element_row}
 use Rattle.cbor_edn_model.specs.internal.Regular.{sequence_tree_of}
 use Rattle.cbor_edn_command.specs.declared.options.Options.{Options}

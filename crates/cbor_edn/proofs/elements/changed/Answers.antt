@@ -1,6 +1,5 @@
 use Rattle.std.proofs.Common.{ℕ, List, ◌++◌, sym, ap, ◌∙◌, arith}
 use Rattle.std.proofs.lemmas.Result.{err_from_is_err_and}
-use Rattle.cbor_edn_core.specs.tree.View.{item_tree}
 use Rattle.cbor_edn_core.proofs.lemmas.cbor.Decodes.{is_empty, sequence_fails_refused, sequence_fails_deep}
 use Rattle.cbor_edn.proofs.ElementTexts.{lines_read, sequence_fails, fault_behind, more_done, diagnosed, all_diagnosed}
 use Rattle.cbor_edn.proofs.elements.changed.Goals as goal

@@ -1,5 +1,5 @@
 use Rattle.cbor_edn_core.specs.tree.View.{item_tree, sequence_tree}
-use Rattle.std.proofs.Common.{ℕ, ◌≡◌, length, ap, arith}
+use Rattle.std.proofs.Common.{◌≡◌, length, ap, arith}
 use Rattle.std.specs.Prelude.{nat_lt}
 use Rattle.cbor_edn.proofs.ElementTexts.{text_given}
 use Rattle.cbor_edn.proofs.elements.text_of.Goals as goal

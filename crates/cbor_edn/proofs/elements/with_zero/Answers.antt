@@ -1,4 +1,3 @@
-use Rattle.std.proofs.Common.{refl, ◌∙◌}
 use Rattle.cbor_edn_core.specs.tree.View.{item_tree}
 use Rattle.cbor_edn.proofs.ElementTexts.{items_pushed}
 use Rattle.cbor_edn.proofs.elements.with_zero.Goals as goal
