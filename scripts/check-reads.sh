@@ -28,7 +28,7 @@ stands_in '.slice(' crates/cbor_edn_parts/src/number/start.rt crates/cbor_edn_pa
 by_hand=$(find crates -path '*/out' -prune -o -name Proof.antt -print | sort)
 wanted='crates/cbor_edn_command/proofs/count/Count/after/Proof.antt
 crates/cbor_edn_command/proofs/count/Count/new/Proof.antt
-crates/cbor_edn_core/proofs/tree/InnerItemOf/+reach/Proof.antt
+crates/cbor_edn_core/proofs/tree/InnerItemOf/+descend/Proof.antt
 crates/cbor_edn_core/proofs/tree/ItemOf/at_mut/Proof.antt
 crates/cbor_edn_parts/proofs/looks/Looks/new/Proof.antt
 crates/cbor_edn_parts/proofs/looks/Looks/next/Proof.antt'

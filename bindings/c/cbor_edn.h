@@ -80,7 +80,7 @@ typedef struct {
  * the first report->output_len bytes alone. At a fault (3 to 9), message gets as much of the message as fits, in UTF-8 and
  * without a zero at its end; 160 bytes suffice for each. At CBOR_EDN_NO_ROOM the whole work was done: call again with room. */
 uint32_t cbor_edn_convert(uint32_t command, uint32_t flags, size_t limit, const uint8_t *input, size_t input_len,
-                          uint8_t *output, size_t output_room, uint8_t *message, size_t message_room,
+                          uint8_t *output, size_t output_capacity, uint8_t *message, size_t message_capacity,
                           cbor_edn_report *report);
 
 #ifdef __cplusplus

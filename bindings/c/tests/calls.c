@@ -124,11 +124,11 @@ static int all_are(const uint8_t *bytes, size_t from, size_t to, uint8_t byte) {
 }
 
 static uint32_t call(uint32_t command, uint32_t flags, size_t limit, const char *input, size_t input_len, size_t room,
-                     size_t message_room) {
+                     size_t message_capacity) {
   memset(output, OLD_OUTPUT, sizeof output);
   memset(message, OLD_MESSAGE, sizeof message);
   memset(&report, OLD_REPORT, sizeof report);
-  return cbor_edn_convert(command, flags, limit, (const uint8_t *)input, input_len, output, room, message, message_room, &report);
+  return cbor_edn_convert(command, flags, limit, (const uint8_t *)input, input_len, output, room, message, message_capacity, &report);
 }
 
 static int tells_no_fault(void) {

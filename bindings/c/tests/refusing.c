@@ -7,7 +7,7 @@
 #include <stdlib.h>
 
 uint32_t library_convert(uint32_t command, uint32_t flags, size_t limit, const uint8_t *input, size_t input_len, uint8_t *output,
-                         size_t output_room, uint8_t *message, size_t message_room, cbor_edn_report *report);
+                         size_t output_capacity, uint8_t *message, size_t message_capacity, cbor_edn_report *report);
 void *refusing_malloc(size_t size);
 void *refusing_realloc(void *block, size_t size);
 void refusing_free(void *block);
@@ -21,9 +21,9 @@ long cbor_edn_allocations(void) { return made; }
 long cbor_edn_blocks_left(void) { return left; }
 
 uint32_t cbor_edn_convert(uint32_t command, uint32_t flags, size_t limit, const uint8_t *input, size_t input_len, uint8_t *output,
-                          size_t output_room, uint8_t *message, size_t message_room, cbor_edn_report *report) {
+                          size_t output_capacity, uint8_t *message, size_t message_capacity, cbor_edn_report *report) {
   made = left = 0;
-  return library_convert(command, flags, limit, input, input_len, output, output_room, message, message_room, report);
+  return library_convert(command, flags, limit, input, input_len, output, output_capacity, message, message_capacity, report);
 }
 
 void *refusing_malloc(size_t size) {

@@ -21,9 +21,9 @@ extern "C" {
         input: *const u8,
         input_len: usize,
         output: *mut u8,
-        output_room: usize,
+        output_capacity: usize,
         message: *mut u8,
-        message_room: usize,
+        message_capacity: usize,
         report: *mut Report,
     ) -> u32;
 }

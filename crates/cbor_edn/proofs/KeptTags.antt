@@ -5,7 +5,7 @@ use Rattle.std.proofs.lemmas.Bool.{or_parts}
 use Rattle.std.proofs.lemmas.List.Elements.{All-nil, All-cons, All-append}
 use Rattle.cbor_edn_parts.specs.declared.indicator.Indicator.{Indicator}
 use Rattle.cbor_edn_parts.specs.declared.string.StringKind.{StringKind}
-use Rattle.cbor_edn_model.specs.declared.text.label.LabelKind.TheVariants as label
+use Rattle.cbor_edn_model.specs.declared.text.opener.OpenerKind.TheVariants as opener
 use Rattle.cbor_edn_model.specs.access.Accessed.{tag_number}
 use Rattle.cbor_edn_model.specs.tree.Items as kind
 use Rattle.cbor_edn_model.specs.tree.Items.{Row, Elements, Strings, Bracketed, entries_of, Node, Item}
@@ -23,7 +23,7 @@ use Rattle.cbor_edn_stream.specs.Tags.{among, value_has_tag, values_have_tag, pa
 
 -- The call does nothing at tags of other numbers.
 abbrev pub ActsOn : List ℕ → Act → Type 0
-ActsOn numbers act = (n : ℕ) (i : Option Indicator) (w : Tree Standalone) → among numbers n ≡ false → act (number n) (EnclosedTree (label.Tag i n) w) ≡ (fine, EnclosedTree (label.Tag i n) w)
+ActsOn numbers act = (n : ℕ) (i : Option Indicator) (w : Tree Standalone) → among numbers n ≡ false → act (number n) (EnclosedTree (opener.Tag i n) w) ≡ (fine, EnclosedTree (opener.Tag i n) w)
 
 -- an item without a tag's number is no tag
 no_tag : (w : Tree OneItem) → tag_number w ≡ None → (a : CallArguments) → IsTag w a → ⊥
@@ -63,9 +63,9 @@ module _ (numbers : List ℕ) (act : Act) (acts : ActsOn numbers act) where
   list_stays k i None row s = ([], All-nil (AnswersBy act), passed (no_tag (ListTree k (list_inside i None)) refl) (of_list of_none_inside))
   list_stays k i (Some m) row s = (row.0, row.1, passed (no_tag (ListTree k (list_inside i (Some m))) refl) (of_list (of_all_inside row.2)))
 
-  tag_stays : (i : Option Indicator) (n : ℕ) (w : Tree OneItem) → among numbers n ≡ false → Stays w → Stays (EnclosedTree (label.Tag i n) (alone w))
+  tag_stays : (i : Option Indicator) (n : ℕ) (w : Tree OneItem) → among numbers n ≡ false → Stays w → Stays (EnclosedTree (opener.Tag i n) (alone w))
   tag_stays i n w other inside s =
-      let t = EnclosedTree (label.Tag i n) (alone w) in
+      let t = EnclosedTree (opener.Tag i n) (alone w) in
       let c : SoughtCall = record { arguments = number n; before = t; answer = fine; after = t } in
       let done = acts n i (alone w) other in
       let a = inside [] in (

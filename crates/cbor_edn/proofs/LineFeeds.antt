@@ -4,17 +4,17 @@ use Rattle.std.specs.Prelude.{if◌then◌else◌}
 use Rattle.std.specs.Str.{IsUtf8}
 use Rattle.std.specs.Char.{encode_utf8}
 use Rattle.std.proofs.lemmas.Str.{IsUtf8-append, IsUtf8-encode}
-use Rattle.cbor_edn_parts.specs.Space.{IsS, blank, empty, IsSoc, space, comma}
+use Rattle.cbor_edn_parts.specs.Space.{IsSpace, blank, empty, IsListEnd, space, comma}
 use Rattle.cbor_edn_parts.proofs.lemmas.space.CommentTexts.{spaces_append}
 use Rattle.cbor_edn_model.specs.text.Spelling.{Spells, SpellsSequence}
 use Rattle.cbor_edn_model.specs.tree.Items.{Items, End, Then}
 
-space_ended : (s : List ℕ) → IsS s → IsS (s ++ (10 ∷ []))
+space_ended : (s : List ℕ) → IsSpace s → IsSpace (s ++ (10 ∷ []))
 space_ended s is = spaces_append is (blank (inr (inl refl)) empty)
 
-soc_ended : (s : List ℕ) → IsSoc s → IsSoc (s ++ (10 ∷ []))
-soc_ended s (space is) = space (space_ended s is)
-soc_ended s (comma {x = x} {y = y} is too) = subst IsSoc (sym (append_assoc x (44 ∷ y) (10 ∷ []))) (comma is (space_ended y too))
+at_end_ended : (s : List ℕ) → IsListEnd s → IsListEnd (s ++ (10 ∷ []))
+at_end_ended s (space is) = space (space_ended s is)
+at_end_ended s (comma {x = x} {y = y} is too) = subst IsListEnd (sym (append_assoc x (44 ∷ y) (10 ∷ []))) (comma is (space_ended y too))
 
 -- one part more at the end
 behind : (t a b : List ℕ) → t ≡ a ++ b → t ++ (10 ∷ []) ≡ a ++ (b ++ (10 ∷ []))
@@ -25,7 +25,7 @@ behind_two t a b c is = behind t a (b ++ c) is ∙ ap (λ l. a ++ l) (append_ass
 
 rest_ended : (m : Items) (t : List ℕ) → Spells m t → Spells m (t ++ (10 ∷ []))
 unfolding Spells
-rest_ended End t is = soc_ended t is
+rest_ended End t is = at_end_ended t is
 rest_ended (Then e m) t (c, a, b, between, entry, rest, is) = (c, a, b ++ (10 ∷ []), between, entry, rest_ended m b rest, behind_two t c a b is)
 
 sequence_ended : (m : Items) (t : List ℕ) → SpellsSequence m t → SpellsSequence m (t ++ (10 ∷ []))

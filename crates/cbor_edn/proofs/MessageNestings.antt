@@ -1,9 +1,9 @@
 -- Claims in COSE messages, with their comments and their times, nest no deeper, and names leave the items.
 use Rattle.std.proofs.Common.{ℕ, ◌-◌, ◌≤◌, ◌≡◌, Bool, true, false, cond, eqb, ltb, List, length, slice_get, Option, Some, None, refl, ap, arith}
 use Rattle.cbor_edn_model.specs.access.Paths.{items_in, with_item}
-use Rattle.cbor_edn_model.specs.declared.text.label.LabelKind.TheVariants as label
+use Rattle.cbor_edn_model.specs.declared.text.opener.OpenerKind.TheVariants as opener
 use Rattle.cbor_edn_model.specs.tree.Items.{Array, Map, nesting}
-use Rattle.cbor_edn_model.specs.tree.Trees.{Rule, Tree, OneItem, NumberTree, FloatTree, NamedTree, EnclosedTree, ListTree, StringTree, StreamTree, LiteralTree, DotsTree, EmbeddedTree, LastPieceTree, PlusTree, ElementTree, PairTree, ChunkTree, EmptyTree, FullTree, LastTree, MoreTree, NothingTree, SequenceTree, StandaloneTree, items}
+use Rattle.cbor_edn_model.specs.tree.Trees.{Rule, Tree, OneItem, NumberTree, FloatTree, NamedTree, EnclosedTree, ListTree, StringTree, StreamTree, LiteralTree, EllipsisTree, EmbeddedTree, LastPieceTree, PlusTree, ElementTree, PairTree, ChunkTree, EmptyTree, FullTree, LastTree, MoreTree, NothingTree, SequenceTree, StandaloneTree, items}
 use Rattle.cbor_edn_model.specs.visit.Seeking.{CallArguments}
 use Rattle.cbor_edn_model.specs.visit.Visits.{fine}
 use Rattle.cbor_edn_model.proofs.lemmas.access.ReplacedItems.{put_back}
@@ -38,13 +38,13 @@ unfolding items
 in_place i x y (NumberTree n p) h = omega arith
 in_place i x y (FloatTree f p) h = omega arith
 in_place i x y (NamedTree b) h = omega arith
-in_place i x y (EnclosedTree (label.Tag p n) w) h = let k = in_place i x y w h in omega (arith, k)
-in_place i x y (EnclosedTree label.Simple w) h = omega arith
+in_place i x y (EnclosedTree (opener.Tag p n) w) h = let k = in_place i x y w h in omega (arith, k)
+in_place i x y (EnclosedTree opener.Simple w) h = omega arith
 in_place i x y (ListTree l w) h = let k = in_place i x y w h in omega (arith, k)
 in_place i x y (StringTree w) h = in_place i x y w h
 in_place i x y (StreamTree ms m) h = in_place i x y m h
 in_place i x y (LiteralTree t p) h = omega arith
-in_place i x y (DotsTree t) h = omega arith
+in_place i x y (EllipsisTree t) h = omega arith
 in_place i x y (EmbeddedTree w p) h = let k = in_place i x y w h in omega (arith, k)
 in_place i x y (LastPieceTree p) h = in_place i x y p h
 in_place i x y (PlusTree p s t w) h =

@@ -4,7 +4,7 @@ use Rattle.std.specs.Prelude.{All, not}
 use Rattle.std.proofs.lemmas.List.Elements.{All-append}
 use Rattle.cbor_edn_parts.specs.declared.policy.DelimiterPolicy.{DelimiterPolicy}
 use Rattle.cbor_edn_parts.specs.declared.policy.DelimiterPolicy.TheVariants.{DiscardAll}
-use Rattle.cbor_edn_parts.specs.Spacing.{S, MSC, indented, line}
+use Rattle.cbor_edn_parts.specs.Spacing.{Optional, Separating, indented, line}
 use Rattle.cbor_edn_parts.specs.internal.CommentReading.{from_first, to_last, up_to_comma, past_comma}
 use Rattle.cbor_edn_model.specs.layout.Layout.{Layout, Between, Elsewhere, layout, respaced, laid, laid_out}
 use Rattle.cbor_edn_model.specs.tree.Items.{Elements}
@@ -106,18 +106,18 @@ module _ (IsSought : Tree OneItem → CallArguments → Type 0) (act : Act) wher
 -- ---- policies
 
 laid_front : Layout → Tree (OneEntry Elements) × List ℕ → Tree (OneEntry Elements) × List ℕ
-laid_front l e = (laid l e.0, respaced MSC Between l e.1)
+laid_front l e = (laid l e.0, respaced Separating Between l e.1)
 
 laid_onto : (l : Layout) (es : Fronts) (m : Tree (Rest Elements)) → laid l (entries_onto es m) ≡ entries_onto (map (laid_front l) es) (laid l m)
 unfolding laid laid_front
 laid_onto l [] m = refl
-laid_onto l (e ∷ es) m = ap (MoreTree (laid l e.0) (respaced MSC Between l e.1)) (laid_onto l es m)
+laid_onto l (e ∷ es) m = ap (MoreTree (laid l e.0) (respaced Separating Between l e.1)) (laid_onto l es m)
 
-laid_elements : (policy : DelimiterPolicy) → respaced S Elsewhere (layout policy) [] ≡ [] → (m : Tree (Rest Elements)) → laid_out policy (elements m) ≡ elements (laid (layout policy) m)
+laid_elements : (policy : DelimiterPolicy) → respaced Optional Elsewhere (layout policy) [] ≡ [] → (m : Tree (Rest Elements)) → laid_out policy (elements m) ≡ elements (laid (layout policy) m)
 unfolding laid
 laid_elements policy bare m = ap (λ (s : List ℕ). SequenceTree s (laid (layout policy) m)) bare
 
-split_laid : (policy : DelimiterPolicy) → respaced S Elsewhere (layout policy) [] ≡ [] → Splits (IsLaidOut policy)
+split_laid : (policy : DelimiterPolicy) → respaced Optional Elsewhere (layout policy) [] ≡ [] → Splits (IsLaidOut policy)
 split_laid policy bare es m v is =
     let l = layout policy in
     let fs = map (laid_front l) es in (
@@ -129,10 +129,10 @@ split_laid policy bare es m v is =
     )
 
 -- nothing stands in front of a sequence
-bare_discarded : respaced S Elsewhere (layout DiscardAll) [] ≡ []
+bare_discarded : respaced Optional Elsewhere (layout DiscardAll) [] ≡ []
 bare_discarded = refl
 
-bare_indented : respaced S Elsewhere (layout indented) [] ≡ []
+bare_indented : respaced Optional Elsewhere (layout indented) [] ≡ []
 unfolding from_first to_last
 bare_indented = refl
 

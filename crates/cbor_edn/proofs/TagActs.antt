@@ -3,7 +3,7 @@ use Rattle.std.proofs.Common.{◌≡◌, ℕ, Bool, true, false, cond, eqb, List
 use Rattle.std.specs.Prelude.{◌&&◌, if◌then◌else◌}
 use Rattle.std.proofs.lemmas.Bool.{or_parts, ne_eqb, eqb-false}
 use Rattle.cbor_edn_parts.specs.declared.indicator.Indicator.{Indicator}
-use Rattle.cbor_edn_model.specs.declared.text.label.LabelKind.TheVariants as label
+use Rattle.cbor_edn_model.specs.declared.text.opener.OpenerKind.TheVariants as opener
 use Rattle.cbor_edn_model.specs.access.Accessed.{inner_item}
 use Rattle.cbor_edn_model.specs.tree.Trees.{Tree, OneItem, EnclosedTree}
 use Rattle.cbor_edn_model.specs.visit.Visits.{fine}
@@ -74,7 +74,7 @@ module _ (bignum : Bool) where
   unfolding comment_lang
   language_acts n i w none =
       let o = first n none in
-      let t = EnclosedTree (label.Tag i n) w in
+      let t = EnclosedTree (opener.Tag i n) w in
       ap (λ (b : Bool). if b then at_content with_direction t else (fine, t)) (no_language (eqb n n) (eqb n 38) o.1)
 
 shown : (n : ℕ) → among (2 ∷ 3 ∷ []) n ≡ false → (eqb n 2 ≡ false) × (eqb n 3 ≡ false)

@@ -2,7 +2,7 @@
 use Rattle.std.proofs.Common.{◌≡◌, ◌≤◌, ℕ, List, [], All, subst, ap, arith}
 use Rattle.std.proofs.lemmas.List.Elements.{All-head, All-tail}
 use Rattle.cbor_edn_model.specs.tree.Items.{Row, nesting}
-use Rattle.cbor_edn_model.specs.visit.Seeking.{CallArguments, IsTag, SoughtCall, VisitItem, passed, entered, stayed, refused, not_called, VisitParts, of_number, of_float, of_name, of_tag, of_simple, of_list, of_string, of_stream, of_literal, of_dots, of_embedded, of_last_piece, of_pieces, of_pieces_cut, of_none_inside, of_all_inside, of_last, of_more, of_more_cut, of_nothing, of_sequence, of_standalone, VisitEntry, of_element, of_pair, of_pair_cut, of_chunk}
+use Rattle.cbor_edn_model.specs.visit.Seeking.{CallArguments, IsTag, SoughtCall, VisitItem, passed, entered, stayed, refused, not_called, VisitParts, of_number, of_float, of_name, of_tag, of_simple, of_list, of_string, of_stream, of_literal, of_ellipsis, of_embedded, of_last_piece, of_pieces, of_pieces_cut, of_none_inside, of_all_inside, of_last, of_more, of_more_cut, of_nothing, of_sequence, of_standalone, VisitEntry, of_element, of_pair, of_pair_cut, of_chunk}
 use Rattle.cbor_edn_model.specs.tree.Trees.{Rule, Tree, OneItem, OnePiece, OneString, OneEntry, Inside, Rest, Seq, Standalone, Of, items}
 use Rattle.cbor_edn_model.specs.visit.Visits.{Ending}
 use Rattle.cbor_edn_conversions.specs.Conversions.{Reply}
@@ -50,7 +50,7 @@ module _ (Sought : Tree OneItem → CallArguments → Type 0) where
     parts_within (of_string a) all = parts_within a all
     parts_within (of_stream a) all = parts_within a all
     parts_within of_literal all = omega arith
-    parts_within of_dots all = omega arith
+    parts_within of_ellipsis all = omega arith
     parts_within (of_embedded a) all = let h = parts_within a all in omega (arith, h)
     parts_within (of_last_piece a) all = parts_within a all
     parts_within (of_pieces {cs = cs} {ds = ds} a b e) all = let s = all_split StaysWithin cs ds (subst (All StaysWithin) e all) in let h = parts_within a s.0 in let g = parts_within b s.1 in omega (arith, h, g)

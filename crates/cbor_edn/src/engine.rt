@@ -132,7 +132,7 @@ fn parsed<'a>(alloc: Global, limit: usize, input: &'a [u8]) -> Result<Box<Sequen
 }
 
 // The encodings of what the items of a text mean after the steps. The last step sets spaces, which have no part in it.
-fn encoded(alloc: Global, options: &Options, input: &[u8]) -> Result<Vec<u8>, RunError>
+fn to_cbor(alloc: Global, options: &Options, input: &[u8]) -> Result<Vec<u8>, RunError>
     ensures ok { IfOk result (λ bytes. IsEncoded options.now input.now bytes.items) }
     ensures err { IfErr result (IsUnencoded options.now input.now) }
 {
@@ -203,9 +203,9 @@ pub fn converted(alloc: Global, options: &Options, input: &[u8]) -> Result<Vec<u
 {
     match options.command {
         Command::Diag2Cbor => {
-            let bytes = encoded(alloc, options, input)?;
+            let bytes = to_cbor(alloc, options, input)?;
             if options.hex {
-                Ok(hexadecimal::encoded(alloc, &bytes)?)
+                Ok(hexadecimal::to_lines(alloc, &bytes)?)
             } else {
                 Ok(bytes)
             }

@@ -22,7 +22,7 @@ use cbor_edn_application::visits::{
 pub use cbor_edn_command::file_options::ShowOptions;
 use cbor_edn_command::hexadecimal;
 use cbor_edn_core::tree::Sequence;
-use cbor_edn_parts::space::S;
+use cbor_edn_parts::space::Space;
 use std::alloc::{AllocError, Global};
 
 /// All that `show` writes for an input, which is CBOR, or digits of CBOR where `hex` is set. It ends in a line feed. Fails with `Cbor`, with `Hex` and with
@@ -141,7 +141,7 @@ fn name_messages(
 pub fn behind_name(alloc: Global, name: &str, text: &[u8]) -> Result<Vec<u8>, AllocError>
     ensures { IfOk result (λ out. out.items ≡ ended (ended (noted name.now) ++ text.now)) }
 {
-    let note = S::note(alloc, name)?;
+    let note = Space::note(alloc, name)?;
     let mut out = Vec::new(alloc);
     out.extend_from_slice(note.as_str().as_bytes())?;
     end_line(&mut out)?;

@@ -2,7 +2,7 @@
 use Rattle.std.proofs.Common.{◌≡◌, ◌==◌, ℕ, Bool, true, false, Option, Some, None, refl, sym, ap, ◌∙◌, subst, eqb-true}
 use Rattle.std.specs.Prelude.{if◌then◌else◌}
 use Rattle.cbor_edn_parts.specs.declared.indicator.Indicator.{Indicator}
-use Rattle.cbor_edn_model.specs.declared.text.label.LabelKind.TheVariants as label
+use Rattle.cbor_edn_model.specs.declared.text.opener.OpenerKind.TheVariants as opener
 use Rattle.cbor_edn_model.specs.access.Accessed.{inner_item}
 use Rattle.cbor_edn_model.specs.visit.Seeking.{number}
 use Rattle.cbor_edn_model.specs.tree.Trees.{Tree, OneItem, NumberTree, FloatTree, NamedTree, EnclosedTree, ListTree, StringTree, StreamTree}
@@ -18,8 +18,8 @@ module _ (n : ℕ) (none : (i : Option Indicator) (x : Tree OneItem) → address
   other_number m i x false e = refl
 
   pub no_literal : (w : Tree OneItem) → address_of_tag (called_tag (number n) w) ≡ None
-  no_literal (EnclosedTree (label.Tag i m) c) = other_number m i (inner_item c) (n == m) refl
-  no_literal (EnclosedTree label.Simple c) = refl
+  no_literal (EnclosedTree (opener.Tag i m) c) = other_number m i (inner_item c) (n == m) refl
+  no_literal (EnclosedTree opener.Simple c) = refl
   no_literal (NumberTree x i) = refl
   no_literal (FloatTree f i) = refl
   no_literal (NamedTree b) = refl

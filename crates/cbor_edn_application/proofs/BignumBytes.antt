@@ -12,11 +12,11 @@ use Rattle.cbor_edn_parts.specs.internal.ContentReading.{literal_content}
 use Rattle.cbor_edn_parts.specs.internal.NumberReading.{integer_of}
 use Rattle.cbor_edn_parts.proofs.lemmas.number.Decimals.{integer_of_decimal}
 use Rattle.cbor_edn_model.specs.declared.cbor.heads.Width.{Width}
-use Rattle.cbor_edn_model.specs.declared.text.label.LabelKind.TheVariants as label
+use Rattle.cbor_edn_model.specs.declared.text.opener.OpenerKind.TheVariants as opener
 use Rattle.cbor_edn_model.specs.access.Accessed.{tag_head, tag_content, inner_item, only_bytes, both_joined, pieces, pieces_bytes, item_bytes, is_plain_piece, is_plain_string}
 use Rattle.cbor_edn_model.specs.cbor.Meaning.{◌>>=◌, means, width_of, without_zeros, magnitude_bytes, tagged_bytes, bignum, means_integer, pieces_indicator, chunk_of, string_of}
 use Rattle.cbor_edn_model.specs.visit.Seeking.{CallArguments, number}
-use Rattle.cbor_edn_model.specs.tree.Trees.{Tree, OneItem, OneString, Standalone, NumberTree, FloatTree, NamedTree, EnclosedTree, ListTree, StringTree, StreamTree, LiteralTree, DotsTree, EmbeddedTree, LastPieceTree, PlusTree, items}
+use Rattle.cbor_edn_model.specs.tree.Trees.{Tree, OneItem, OneString, Standalone, NumberTree, FloatTree, NamedTree, EnclosedTree, ListTree, StringTree, StreamTree, LiteralTree, EllipsisTree, EmbeddedTree, LastPieceTree, PlusTree, items}
 use Rattle.cbor_edn_model.specs.cbor.Value.{Value, Chunk, unsigned, negative, string, tag}
 use Rattle.cbor_edn_model.specs.visit.Visits.{fine}
 use Rattle.cbor_edn_model.proofs.lemmas.cbor.MeaningSteps.{given, some_is, some_if, both_steps, bind}
@@ -41,11 +41,11 @@ string_quoted : (w : Tree OneString) → quoted_string_bytes w ≡ cond (list_al
 unfolding means items
 string_quoted (LastPieceTree (LiteralTree x None)) = sym (joined_nil (only_bytes (literal_content x)))
 string_quoted (LastPieceTree (LiteralTree x (Some i))) = refl
-string_quoted (LastPieceTree (DotsTree x)) = refl
+string_quoted (LastPieceTree (EllipsisTree x)) = refl
 string_quoted (LastPieceTree (EmbeddedTree w i)) = refl
 string_quoted (PlusTree (LiteralTree x None) s t w) = ap (λ o. both_joined (only_bytes (literal_content x)) o) (string_quoted w) ∙ joined_if (only_bytes (literal_content x)) (pieces_bytes w) (list_all is_plain_piece (pieces w))
 string_quoted (PlusTree (LiteralTree x (Some i)) s t w) = refl
-string_quoted (PlusTree (DotsTree x) s t w) = refl
+string_quoted (PlusTree (EllipsisTree x) s t w) = refl
 string_quoted (PlusTree (EmbeddedTree v i) s t w) = refl
 
 -- The bytes of a string whose pieces are all quoted and have no indicator are those of the string.
@@ -276,8 +276,8 @@ parts_by k m i c d e same =
     ∙ (ap (λ n. parts n i c) same_number ∙ (ap (λ j. parts k j c) indicator_is ∙ ap (λ x. parts k None x) (sym same)))
 
 pub plain_tag : (w : Tree OneItem) (k : ℕ) (u : Tree Standalone) (c : Tree OneItem) → tag_head w ≡ Some (k, None) → tag_content w ≡ Some u → c ≡ inner_item u → called_tag (number k) w ≡ Some (k, None, c)
-plain_tag (EnclosedTree (label.Tag i m) v) k u c e is same = parts_by k m i (inner_item v) c e (same ∙ ap inner_item (sym (some_is v u is)))
-plain_tag (EnclosedTree label.Simple v) k u c e is same = absurd cc
+plain_tag (EnclosedTree (opener.Tag i m) v) k u c e is same = parts_by k m i (inner_item v) c e (same ∙ ap inner_item (sym (some_is v u is)))
+plain_tag (EnclosedTree opener.Simple v) k u c e is same = absurd cc
 plain_tag (NumberTree x i) k u c e is same = absurd cc
 plain_tag (FloatTree f i) k u c e is same = absurd cc
 plain_tag (NamedTree b) k u c e is same = absurd cc
@@ -292,8 +292,8 @@ head_by true k m None c e other = absurd (other (ap (λ n. head n None) (sym (eq
 
 -- any other head
 other_head : (w : Tree OneItem) (k : ℕ) → (tag_head w ≡ Some (k, None) → ⊥) → bignum_of_tag (called_tag (number k) w) ≡ None
-other_head (EnclosedTree (label.Tag i m) v) k other = head_by (k == m) k m i (inner_item v) refl other
-other_head (EnclosedTree label.Simple v) k other = refl
+other_head (EnclosedTree (opener.Tag i m) v) k other = head_by (k == m) k m i (inner_item v) refl other
+other_head (EnclosedTree opener.Simple v) k other = refl
 other_head (NumberTree x i) k other = refl
 other_head (FloatTree f i) k other = refl
 other_head (NamedTree b) k other = refl
@@ -316,8 +316,8 @@ indicator_head w k m i is indicated = other_head w k (λ e. indicator_not i indi
 
 -- no tag
 pub no_content : (w : Tree OneItem) (k : ℕ) → tag_content w ≡ None → bignum_of_tag (called_tag (number k) w) ≡ None
-no_content (EnclosedTree (label.Tag i m) v) k e = absurd cc
-no_content (EnclosedTree label.Simple v) k e = refl
+no_content (EnclosedTree (opener.Tag i m) v) k e = absurd cc
+no_content (EnclosedTree opener.Simple v) k e = refl
 no_content (NumberTree x i) k e = refl
 no_content (FloatTree f i) k e = refl
 no_content (NamedTree b) k e = refl
@@ -336,8 +336,8 @@ number_by true k m None c e a b = let same = eqb-true k m e in no_integer m c (q
 
 -- any other number
 pub other_number : (w : Tree OneItem) (k : ℕ) → k ≢ 2 → k ≢ 3 → bignum_of_tag (called_tag (number k) w) ≡ None
-other_number (EnclosedTree (label.Tag i m) v) k a b = number_by (k == m) k m i (inner_item v) refl a b
-other_number (EnclosedTree label.Simple v) k a b = refl
+other_number (EnclosedTree (opener.Tag i m) v) k a b = number_by (k == m) k m i (inner_item v) refl a b
+other_number (EnclosedTree opener.Simple v) k a b = refl
 other_number (NumberTree x i) k a b = refl
 other_number (FloatTree f i) k a b = refl
 other_number (NamedTree c) k a b = refl

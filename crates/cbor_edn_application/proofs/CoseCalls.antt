@@ -2,7 +2,7 @@
 use Rattle.std.proofs.Common.{ℕ, pos, List, [], ◌==◌, ◌≡◌, ◌≢◌, true, false, cond, None, Some, Option, refl, sym, ap, subst, ◌∙◌, arith}
 use Rattle.std.proofs.lemmas.Bool.Decides.{nat_tests}
 use Rattle.cbor_edn_parts.specs.declared.indicator.Indicator.{Indicator}
-use Rattle.cbor_edn_model.specs.declared.text.label.LabelKind.TheVariants as label
+use Rattle.cbor_edn_model.specs.declared.text.opener.OpenerKind.TheVariants as opener
 use Rattle.cbor_edn_model.specs.access.Accessed.{tag_content, tag_head}
 use Rattle.cbor_edn_model.specs.access.Paths.{at_standalone, with_at_standalone}
 use Rattle.cbor_edn_model.specs.tree.Items as kind
@@ -36,24 +36,24 @@ array_comments name x w v no_memory left said = ap (λ z. items z) left ∙ part
 -- ---- tags
 
 content_comments : (name : List ℕ) (x : Structure) (i : Option Indicator) (n : ℕ) (a b : List ℕ) (z y : Tree OneItem) (r : Answer) (v : Tree OneItem)
-    → CommentsSo (message_reply name x) z r y → v ≡ EnclosedTree (label.Tag i n) (StandaloneTree a y b)
-    → CommentsSo (λ w. named_message w (Some (name, x))) (EnclosedTree (label.Tag i n) (StandaloneTree a z b)) r v
+    → CommentsSo (message_reply name x) z r y → v ≡ EnclosedTree (opener.Tag i n) (StandaloneTree a y b)
+    → CommentsSo (λ w. named_message w (Some (name, x))) (EnclosedTree (opener.Tag i n) (StandaloneTree a z b)) r v
 unfolding items
-content_comments name x i n a b z y fine v h left = (h.0, left ∙ ap (λ z. EnclosedTree (label.Tag i n) (StandaloneTree a z b)) h.1)
-content_comments name x i n a b z y (comment c) v h left = (h.0, left ∙ ap (λ z. EnclosedTree (label.Tag i n) (StandaloneTree a z b)) h.1)
+content_comments name x i n a b z y fine v h left = (h.0, left ∙ ap (λ z. EnclosedTree (opener.Tag i n) (StandaloneTree a z b)) h.1)
+content_comments name x i n a b z y (comment c) v h left = (h.0, left ∙ ap (λ z. EnclosedTree (opener.Tag i n) (StandaloneTree a z b)) h.1)
 content_comments name x i n a b z y no_memory v h left = ap (λ z. items z) left ∙ ap (λ m. kind.Tagged n i m) h
 
 -- A tag has comments in what it holds, once the loan of that is over.
 tag_comments : (name : List ℕ) (x : Structure) (w v : Tree OneItem) (s t : Tree Standalone) (r : Answer)
     → Some s ≡ tag_content w → v ≡ with_tag_content t w → CommentsInside (message_reply name x) s r t → CommentsSo (λ w. named_message w (Some (name, x))) w r v
-tag_comments name x (EnclosedTree (label.Tag i n) (StandaloneTree a z b)) v s t r holds lent h =
+tag_comments name x (EnclosedTree (opener.Tag i n) (StandaloneTree a z b)) v s t r holds lent h =
     let is : s ≡ StandaloneTree a z b = cc in
     let k : CommentsInside (message_reply name x) (StandaloneTree a z b) r t = subst (λ o. CommentsInside (message_reply name x) o r t) is h in
-    content_comments name x i n a b z k.0 r v k.2 (lent ∙ ap (λ c. EnclosedTree (label.Tag i n) c) k.1)
+    content_comments name x i n a b z k.0 r v k.2 (lent ∙ ap (λ c. EnclosedTree (opener.Tag i n) c) k.1)
 tag_comments name x (NumberTree p i) v s t r holds lent h = absurd cc
 tag_comments name x (FloatTree p i) v s t r holds lent h = absurd cc
 tag_comments name x (NamedTree b) v s t r holds lent h = absurd cc
-tag_comments name x (EnclosedTree label.Simple w) v s t r holds lent h = absurd cc
+tag_comments name x (EnclosedTree opener.Simple w) v s t r holds lent h = absurd cc
 tag_comments name x (ListTree k w) v s t r holds lent h = absurd cc
 tag_comments name x (StringTree w) v s t r holds lent h = absurd cc
 tag_comments name x (StreamTree p m) v s t r holds lent h = absurd cc
@@ -73,8 +73,8 @@ no_message a w is = by_message a w w fine None is (refl, refl)
 
 -- a message has a content
 pub message_content : (a : CallArguments) (w : Tree OneItem) (m : List ℕ × Structure) → called_message a w ≡ Some m → tag_content w ≡ None → ⊥
-message_content a (EnclosedTree (label.Tag i n) w) m is none = cc
-message_content a (EnclosedTree label.Simple w) m is none = cc
+message_content a (EnclosedTree (opener.Tag i n) w) m is none = cc
+message_content a (EnclosedTree opener.Simple w) m is none = cc
 message_content a (NumberTree x i) m is none = cc
 message_content a (FloatTree f i) m is none = cc
 message_content a (NamedTree b) m is none = cc
@@ -89,8 +89,8 @@ by_head n None = None
 by_head n (Some p) = cond (n == p.0) (found messages (pos p.0)) None
 
 is_by_head : (n : ℕ) (w : Tree OneItem) → by_head n (tag_head w) ≡ called_message (number n) w
-is_by_head n (EnclosedTree (label.Tag j l) w) = refl
-is_by_head n (EnclosedTree label.Simple w) = refl
+is_by_head n (EnclosedTree (opener.Tag j l) w) = refl
+is_by_head n (EnclosedTree opener.Simple w) = refl
 is_by_head n (NumberTree x j) = refl
 is_by_head n (FloatTree f j) = refl
 is_by_head n (NamedTree b) = refl

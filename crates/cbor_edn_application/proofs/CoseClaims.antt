@@ -1,7 +1,7 @@
 -- What functions make of claims sets that are payloads of COSE messages.
 use Rattle.std.proofs.Common.{ℕ, List, [], ◌∷◌, ◌≡◌, Bool, true, false, cond, None, Some, Option, refl, sym, ap, subst, ◌∙◌}
 use Rattle.std.specs.Prelude.{is_some, slice_get}
-use Rattle.cbor_edn_model.specs.declared.text.label.LabelKind.TheVariants as label
+use Rattle.cbor_edn_model.specs.declared.text.opener.OpenerKind.TheVariants as opener
 use Rattle.cbor_edn_model.specs.access.Accessed.{tag_content, array_items, inner_item}
 use Rattle.cbor_edn_model.specs.access.Paths.{at_standalone, with_at, with_at_standalone}
 use Rattle.cbor_edn_model.specs.tree.Items.{Array, Map}
@@ -58,22 +58,22 @@ inside_no_array f (StandaloneTree a z b) none = ap (λ v. StandaloneTree a v b) 
 -- ---- tags, once the loan of the content is over
 
 tag_done : (f : Tree OneItem → Tree OneItem) (w v : Tree OneItem) (s t : Tree Standalone) → Some s ≡ tag_content w → v ≡ with_tag_content t w → t ≡ inside f s → v ≡ in_item 0 f w
-tag_done f (EnclosedTree (label.Tag i n) (StandaloneTree a z b)) v s t holds lent done =
-    let is : s ≡ StandaloneTree a z b = cc in lent ∙ ap (λ c. EnclosedTree (label.Tag i n) c) (done ∙ ap (inside f) is)
+tag_done f (EnclosedTree (opener.Tag i n) (StandaloneTree a z b)) v s t holds lent done =
+    let is : s ≡ StandaloneTree a z b = cc in lent ∙ ap (λ c. EnclosedTree (opener.Tag i n) c) (done ∙ ap (inside f) is)
 tag_done f (NumberTree p i) v s t holds lent done = absurd cc
 tag_done f (FloatTree p i) v s t holds lent done = absurd cc
 tag_done f (NamedTree b) v s t holds lent done = absurd cc
-tag_done f (EnclosedTree label.Simple w) v s t holds lent done = absurd cc
+tag_done f (EnclosedTree opener.Simple w) v s t holds lent done = absurd cc
 tag_done f (ListTree k w) v s t holds lent done = absurd cc
 tag_done f (StringTree w) v s t holds lent done = absurd cc
 tag_done f (StreamTree p m) v s t holds lent done = absurd cc
 
 tag_same : (w v : Tree OneItem) (s t : Tree Standalone) → Some s ≡ tag_content w → v ≡ with_tag_content t w → t ≡ s → v ≡ w
-tag_same (EnclosedTree (label.Tag i n) c) v s t holds lent same = let is : s ≡ c = cc in lent ∙ ap (λ c. EnclosedTree (label.Tag i n) c) (same ∙ is)
+tag_same (EnclosedTree (opener.Tag i n) c) v s t holds lent same = let is : s ≡ c = cc in lent ∙ ap (λ c. EnclosedTree (opener.Tag i n) c) (same ∙ is)
 tag_same (NumberTree p i) v s t holds lent same = absurd cc
 tag_same (FloatTree p i) v s t holds lent same = absurd cc
 tag_same (NamedTree b) v s t holds lent same = absurd cc
-tag_same (EnclosedTree label.Simple w) v s t holds lent same = absurd cc
+tag_same (EnclosedTree opener.Simple w) v s t holds lent same = absurd cc
 tag_same (ListTree k w) v s t holds lent same = absurd cc
 tag_same (StringTree w) v s t holds lent same = absurd cc
 tag_same (StreamTree p m) v s t holds lent same = absurd cc

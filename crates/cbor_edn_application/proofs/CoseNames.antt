@@ -9,7 +9,7 @@ use Rattle.cbor_edn_conversions.specs.CoseKeys.{with_names, key_label, method_ke
 use Rattle.cbor_edn_conversions.specs.CoseTables.{headers}
 use Rattle.cbor_edn_conversions.specs.Tables.{found}
 use Rattle.cbor_edn_conversions.specs.declared.tables.KeyType.{KeyType}
-use Rattle.cbor_edn_conversions.proofs.conversions.CoseKept.{label_leaves, method_key_leaves, cnf_key_leaves}
+use Rattle.cbor_edn_conversions.proofs.conversions.CoseKept.{opener_leaves, method_key_leaves, cnf_key_leaves}
 use Rattle.cbor_edn_conversions.proofs.conversions.KeysLeft.{Leaves}
 use Rattle.cbor_edn_application.proofs.MapVisits.{Keeps, no_map}
 
@@ -22,10 +22,10 @@ keeps None h = tt
 keeps (Some f) h = h
 
 pub headers_kept : (k : Tree OneItem) → Keeps (header_key k).1
-headers_kept k = keeps (header_key k).1 (label_leaves (found headers) k)
+headers_kept k = keeps (header_key k).1 (opener_leaves (found headers) k)
 
-pub labels_kept : (t : Option KeyType) (k : Tree OneItem) → Keeps (key_label t k).1
-labels_kept t k = keeps (key_label t k).1 (label_leaves _ k)
+pub openers_kept : (t : Option KeyType) (k : Tree OneItem) → Keeps (key_label t k).1
+openers_kept t k = keeps (key_label t k).1 (opener_leaves _ k)
 
 pub methods_kept : (k : Tree OneItem) → Keeps (method_key k).1
 methods_kept k = keeps (method_key k).1 (method_key_leaves k)

@@ -7,7 +7,7 @@ use Rattle.cbor_edn_model.specs.cbor.Decoded.{IsDecoded, NoneIs, IsTooDeepEncodi
 use Rattle.cbor_edn_model.specs.cbor.Value.{AreBytes, Enc}
 use Rattle.cbor_edn_model.specs.declared.cbor.decode.CborError.{CborError}
 use Rattle.cbor_edn_model.specs.declared.cbor.decode.CborError.TheVariants.{OutOfData, Reserved, MissingArgument, OtherChunk, OpenChunk, OpenNumber, MisplacedBreak, InvalidSimple, FloatOutOfScope, MissingBytes, InvalidUtf8, DataAfter, TooDeep}
-use Rattle.cbor_edn_model.specs.declared.text.label.LabelKind.TheVariants as label
+use Rattle.cbor_edn_model.specs.declared.text.opener.OpenerKind.TheVariants as opener
 use Rattle.cbor_edn_model.specs.tree.Items.{Array, Map, nesting}
 use Rattle.cbor_edn_model.specs.tree.Trees.{Tree, OneItem, Seq, NumberTree, FloatTree, NamedTree, EnclosedTree, ListTree, StringTree, StreamTree, ElementTree, LastTree, SequenceTree, items, tree_nesting}
 use Rattle.cbor_edn_model.specs.visit.Seeking.{CallArguments, IsApplication}
@@ -61,8 +61,8 @@ pub structure_tests : (w : Tree OneItem) → is_structure w ≡ (is_some (tag_he
 structure_tests (NumberTree x i) = refl
 structure_tests (FloatTree f i) = refl
 structure_tests (NamedTree b) = refl
-structure_tests (EnclosedTree (label.Tag i n) w) = refl
-structure_tests (EnclosedTree label.Simple w) = refl
+structure_tests (EnclosedTree (opener.Tag i n) w) = refl
+structure_tests (EnclosedTree opener.Simple w) = refl
 structure_tests (ListTree Array w) = refl
 structure_tests (ListTree Map w) = refl
 structure_tests (StringTree w) = refl

@@ -1,12 +1,12 @@
 -- An item with another first item below it, and a tag with another content.
 use Rattle.std.proofs.Common.{◌≡◌, ◌-◌, ◌==◌, ℕ, Bool, true, false, Option, Some, None, List, [], ◌∷◌, ◌++◌, length, refl, sym, ap, ◌∙◌, subst}
 use Rattle.std.specs.Prelude.{if◌then◌else◌, ltb, slice_get, option_map, unwrap_or}
-use Rattle.cbor_edn_model.specs.declared.text.label.LabelKind.TheVariants as label
+use Rattle.cbor_edn_model.specs.declared.text.opener.OpenerKind.TheVariants as opener
 use Rattle.cbor_edn_parts.specs.declared.indicator.Indicator.{Indicator}
 use Rattle.cbor_edn_model.specs.access.Accessed.{tag_content}
 use Rattle.cbor_edn_model.specs.cbor.Decoded.{alone}
 use Rattle.cbor_edn_model.specs.access.Paths.{items_in, at, with_item, with_at, at_standalone, with_at_standalone}
-use Rattle.cbor_edn_model.specs.tree.Trees.{Rule, Tree, OneItem, Standalone, NumberTree, FloatTree, NamedTree, EnclosedTree, ListTree, StringTree, StreamTree, LiteralTree, DotsTree, EmbeddedTree, LastPieceTree, PlusTree, ElementTree, PairTree, ChunkTree, EmptyTree, FullTree, LastTree, MoreTree, NothingTree, SequenceTree, StandaloneTree}
+use Rattle.cbor_edn_model.specs.tree.Trees.{Rule, Tree, OneItem, Standalone, NumberTree, FloatTree, NamedTree, EnclosedTree, ListTree, StringTree, StreamTree, LiteralTree, EllipsisTree, EmbeddedTree, LastPieceTree, PlusTree, ElementTree, PairTree, ChunkTree, EmptyTree, FullTree, LastTree, MoreTree, NothingTree, SequenceTree, StandaloneTree}
 use Rattle.cbor_edn_model.specs.visit.Seeking.{number}
 use Rattle.cbor_edn_model.proofs.lemmas.cbor.MeaningSteps.{some_is}
 use Rattle.cbor_edn_model.specs.tree.Constructed.{tagged_tree}
@@ -23,13 +23,13 @@ none_first : {s : Rule} (x : Tree OneItem) (t : Tree s) → items_in t ≡ [] �
 none_first x (NumberTree n p) e = refl
 none_first x (FloatTree f p) e = refl
 none_first x (NamedTree b) e = refl
-none_first x (EnclosedTree (label.Tag p n) w) e = ap (EnclosedTree (label.Tag p n)) (none_first x w e)
-none_first x (EnclosedTree label.Simple w) e = refl
+none_first x (EnclosedTree (opener.Tag p n) w) e = ap (EnclosedTree (opener.Tag p n)) (none_first x w e)
+none_first x (EnclosedTree opener.Simple w) e = refl
 none_first x (ListTree k w) e = ap (ListTree k) (none_first x w e)
 none_first x (StringTree w) e = ap StringTree (none_first x w e)
 none_first x (StreamTree ms m) e = ap (StreamTree ms) (none_first x m e)
 none_first x (LiteralTree y p) e = refl
-none_first x (DotsTree y) e = refl
+none_first x (EllipsisTree y) e = refl
 none_first x (EmbeddedTree w p) e = ap (λ z. EmbeddedTree z p) (none_first x w e)
 none_first x (LastPieceTree p) e = ap LastPieceTree (none_first x p e)
 none_first x (PlusTree p s t w) e =
@@ -67,12 +67,12 @@ first_by w v x r y s t same alone put is =
 record IsTagOf (n : ℕ) (i : Option Indicator) (w old : Tree OneItem) : Type 0 where
   pub before : List ℕ
   pub behind : List ℕ
-  pub is : old ≡ EnclosedTree (label.Tag i n) (StandaloneTree before w behind)
+  pub is : old ≡ EnclosedTree (opener.Tag i n) (StandaloneTree before w behind)
 
 abbrev tag_of : Option Indicator → ℕ → List ℕ → Tree OneItem → List ℕ → Tree OneItem
-tag_of i n s w t = EnclosedTree (label.Tag i n) (StandaloneTree s w t)
+tag_of i n s w t = EnclosedTree (opener.Tag i n) (StandaloneTree s w t)
 
-called_by : (b : Bool) (m n : ℕ) (j i : Option Indicator) (s t : List ℕ) (v w : Tree OneItem) → (if b then Some (parts m j v) else None) ≡ Some (parts n i w) → IsTagOf n i w (EnclosedTree (label.Tag j m) (StandaloneTree s v t))
+called_by : (b : Bool) (m n : ℕ) (j i : Option Indicator) (s t : List ℕ) (v w : Tree OneItem) → (if b then Some (parts m j v) else None) ≡ Some (parts n i w) → IsTagOf n i w (EnclosedTree (opener.Tag j m) (StandaloneTree s v t))
 called_by true m n j i s t v w e =
     let same = some_is (parts m j v) (parts n i w) e in
     record { before = s; behind = t; is = by (ap (λ (p : ℕ × Option Indicator × Tree OneItem). p.0) same) (ap (λ (p : ℕ × Option Indicator × Tree OneItem). p.1) same) (ap (λ (p : ℕ × Option Indicator × Tree OneItem). p.2) same) }
@@ -82,8 +82,8 @@ called_by true m n j i s t v w e =
 called_by false m n j i s t v w e = absurd cc
 
 is_tag_of : (k n : ℕ) (i : Option Indicator) (w old : Tree OneItem) → called_tag (number k) old ≡ Some (n, i, w) → IsTagOf n i w old
-is_tag_of k n i w (EnclosedTree (label.Tag j m) (StandaloneTree s v t)) e = called_by (k == m) m n j i s t v w e
-is_tag_of k n i w (EnclosedTree label.Simple c) e = absurd cc
+is_tag_of k n i w (EnclosedTree (opener.Tag j m) (StandaloneTree s v t)) e = called_by (k == m) m n j i s t v w e
+is_tag_of k n i w (EnclosedTree opener.Simple c) e = absurd cc
 is_tag_of k n i w (NumberTree x j) e = absurd cc
 is_tag_of k n i w (FloatTree f j) e = absurd cc
 is_tag_of k n i w (NamedTree b) e = absurd cc

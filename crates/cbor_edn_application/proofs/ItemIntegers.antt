@@ -5,7 +5,7 @@ use Rattle.std.specs.Int.{w128}
 use Rattle.cbor_edn_parts.specs.Number.{signed, number_of, radix}
 use Rattle.cbor_edn_parts.specs.internal.NumberReading.{integer_of}
 use Rattle.cbor_edn_parts.proofs.lemmas.number.NumberParts.{integer_reads, integer_read}
-use Rattle.cbor_edn_model.specs.access.Accessed.{number_text, IsIntegerItem, IsLiteralItem}
+use Rattle.cbor_edn_model.specs.access.Accessed.{number_text, IsIntegerItem, IsIntegerLiteral}
 use Rattle.cbor_edn_core.specs.access.Mismatch.{IsIntegerMismatch}
 use Rattle.cbor_edn_core.specs.declared.access.TypeMismatch.{TypeMismatch}
 use Rattle.cbor_edn_core.specs.declared.access.TypeMismatch.TheVariants.{Integer, IntegerInRange}
@@ -62,7 +62,7 @@ integer_missed w none = of_integer (literal_integer w) refl
 pub parameter_found : (w : Tree OneItem) (z : ℤ) → FitsSigned w128 z → IsIntegerItem w z → parameter_key w ≡ fitting_parameter (Some z)
 parameter_found w z f is = ap numbered_parameter (integer_item w z is) ∙ ap fitting_parameter (fits z f)
 
-literal_refused : (w : Tree OneItem) → ((z : ℤ) → FitsSigned w128 z → IsIntegerItem w z → ⊥) → IsLiteralItem w → parameter_key w ≡ (comment (integer_message IntegerInRange), None)
+literal_refused : (w : Tree OneItem) → ((z : ℤ) → FitsSigned w128 z → IsIntegerItem w z → ⊥) → IsIntegerLiteral w → parameter_key w ≡ (comment (integer_message IntegerInRange), None)
 literal_refused w misses (x, text, is) = of_fit (within_128 z) refl
   where
     z : ℤ
@@ -75,13 +75,13 @@ literal_refused w misses (x, text, is) = of_fit (within_128 z) refl
     of_fit None e = ap numbered_parameter (integer_item w z item) ∙ ap fitting_parameter e
     of_fit (Some y) e = absurd (misses z (unfit z y e) item)
 
-other_refused : (w : Tree OneItem) → (IsLiteralItem w → ⊥) → parameter_key w ≡ (comment (integer_message Integer), None)
+other_refused : (w : Tree OneItem) → (IsIntegerLiteral w → ⊥) → parameter_key w ≡ (comment (integer_message Integer), None)
 other_refused w misses = of_integer (literal_integer w) refl
   where
     of_integer : (o : Option ℤ) → literal_integer w ≡ o → parameter_key w ≡ (comment (integer_message Integer), None)
     of_integer None e = ap numbered_parameter e
     of_integer (Some z) e = let item = integer_is_of w z e in absurd (misses (item.0, item.1, item.2.literal))
 
-pub parameter_refused : (w : Tree OneItem) (e : TypeMismatch) → ((z : ℤ) → FitsSigned w128 z → IsIntegerItem w z → ⊥) → IsIntegerMismatch (IsLiteralItem w) e → parameter_key w ≡ (comment (integer_message e), None)
+pub parameter_refused : (w : Tree OneItem) (e : TypeMismatch) → ((z : ℤ) → FitsSigned w128 z → IsIntegerItem w z → ⊥) → IsIntegerMismatch (IsIntegerLiteral w) e → parameter_key w ≡ (comment (integer_message e), None)
 parameter_refused w e misses (inl h) = literal_refused w misses h.1 ∙ ap (λ m. (comment (integer_message m), None)) (sym h.0)
 parameter_refused w e misses (inr h) = other_refused w h.1 ∙ ap (λ m. (comment (integer_message m), None)) (sym h.0)

@@ -2,9 +2,9 @@
 use Rattle.std.proofs.Common.{ℕ, ℤ, suc, max, ◌-◌, ◌≤◌, ◌≡◌, Bool, true, false, cond, not, eqb, ltb, codes, List, length, slice_get, Option, Some, None, Ok, Err, refl, ap, arith}
 use Rattle.std.specs.Prelude.{option_map, option_and_then}
 use Rattle.cbor_edn_model.specs.access.Paths.{items_in, with_item}
-use Rattle.cbor_edn_model.specs.declared.text.label.LabelKind.TheVariants as label
+use Rattle.cbor_edn_model.specs.declared.text.opener.OpenerKind.TheVariants as opener
 use Rattle.cbor_edn_model.specs.tree.Items.{Pairs, Array, Map}
-use Rattle.cbor_edn_model.specs.tree.Trees.{Rule, Tree, OneItem, Rest, NumberTree, FloatTree, NamedTree, EnclosedTree, ListTree, StringTree, StreamTree, LiteralTree, DotsTree, EmbeddedTree, LastPieceTree, PlusTree, ElementTree, PairTree, ChunkTree, EmptyTree, FullTree, LastTree, MoreTree, NothingTree, SequenceTree, StandaloneTree, items}
+use Rattle.cbor_edn_model.specs.tree.Trees.{Rule, Tree, OneItem, Rest, NumberTree, FloatTree, NamedTree, EnclosedTree, ListTree, StringTree, StreamTree, LiteralTree, EllipsisTree, EmbeddedTree, LastPieceTree, PlusTree, ElementTree, PairTree, ChunkTree, EmptyTree, FullTree, LastTree, MoreTree, NothingTree, SequenceTree, StandaloneTree, items}
 use Rattle.cbor_edn_model.specs.visit.Depth.{depth}
 use Rattle.cbor_edn_model.specs.visit.Seeking.{CallArguments}
 use Rattle.cbor_edn_model.proofs.lemmas.access.ReplacedItems.{put_back}
@@ -45,13 +45,13 @@ unfolding depth
 in_place i x y (NumberTree n p) h = omega arith
 in_place i x y (FloatTree f p) h = omega arith
 in_place i x y (NamedTree b) h = omega arith
-in_place i x y (EnclosedTree (label.Tag p n) w) h = let k = in_place i x y w h in omega (arith, k)
-in_place i x y (EnclosedTree label.Simple w) h = omega arith
+in_place i x y (EnclosedTree (opener.Tag p n) w) h = let k = in_place i x y w h in omega (arith, k)
+in_place i x y (EnclosedTree opener.Simple w) h = omega arith
 in_place i x y (ListTree k w) h = let k = in_place i x y w h in omega (arith, k)
 in_place i x y (StringTree w) h = in_place i x y w h
 in_place i x y (StreamTree ms m) h = in_place i x y m h
 in_place i x y (LiteralTree t p) h = omega arith
-in_place i x y (DotsTree t) h = omega arith
+in_place i x y (EllipsisTree t) h = omega arith
 in_place i x y (EmbeddedTree w p) h = let k = in_place i x y w h in omega (arith, k)
 in_place i x y (LastPieceTree p) h = in_place i x y p h
 in_place i x y (PlusTree p s t w) h =

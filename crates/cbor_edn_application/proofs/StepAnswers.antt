@@ -6,7 +6,7 @@ use Rattle.cbor_edn_parts.specs.declared.indicator.Indicator.{Indicator}
 use Rattle.cbor_edn_parts.specs.Number.{signed, number_of, radix}
 use Rattle.cbor_edn_parts.specs.internal.NumberReading.{integer_of}
 use Rattle.cbor_edn_parts.proofs.lemmas.number.NumberParts.{integer_reads, integer_read}
-use Rattle.cbor_edn_model.specs.access.Accessed.{number_and_indicator, number_text, IsIntegerItem, IsLiteralItem}
+use Rattle.cbor_edn_model.specs.access.Accessed.{number_and_indicator, number_text, IsIntegerItem, IsIntegerLiteral}
 use Rattle.cbor_edn_model.specs.tree.Trees.{Tree, OneItem, NumberTree, FloatTree, NamedTree, EnclosedTree, ListTree, StringTree, StreamTree}
 use Rattle.cbor_edn_model.proofs.lemmas.cbor.MeaningSteps.{some_is}
 use Rattle.cbor_edn_core.specs.access.Mismatch.{IsIntegerMismatch}
@@ -101,7 +101,7 @@ module _ (w : Tree OneItem) (x : List ℕ) (i : Option Indicator) (number : numb
   pub integer_steps : (z : ℤ) → IsIntegerItem w z → (wrap : Bool) → time_literal w wrap ≡ integer_literal z i wrap
   integer_steps z is = λ wrap. number_literal (Some z) wrap (item_integer z is)
 
-  pub decimal_steps : (IsLiteralItem w → ⊥) → (wrap : Bool) → time_literal w wrap ≡ decimal_literal x i wrap
+  pub decimal_steps : (IsIntegerLiteral w → ⊥) → (wrap : Bool) → time_literal w wrap ≡ decimal_literal x i wrap
   decimal_steps none = λ wrap. number_literal None wrap (by (integer_of x) refl)
     where
       by : (o : Option ℤ) → integer_of x ≡ o → integer_of x ≡ None
@@ -109,7 +109,7 @@ module _ (w : Tree OneItem) (x : List ℕ) (i : Option Indicator) (number : numb
       by (Some z) e = absurd (none (x, text_is, (integer_read x z e).literal))
 
   -- an integer too large to be read
-  pub large_stays : IsLiteralItem w → ((z : ℤ) → FitsSigned w128 z → IsIntegerItem w z → ⊥) → StaysFor (time_literal w) (codes "Value out of range for time stamps")
+  pub large_stays : IsIntegerLiteral w → ((z : ℤ) → FitsSigned w128 z → IsIntegerItem w z → ⊥) → StaysFor (time_literal w) (codes "Value out of range for time stamps")
   large_stays (y, text, is) none = λ wrap. integer_steps z item wrap ∙ outside wrap _ z 0 (λ stamp. none z (fits z stamp) item)
     where
       z : ℤ

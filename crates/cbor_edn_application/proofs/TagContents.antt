@@ -1,6 +1,6 @@
 -- Comments in what stands in a tag.
 use Rattle.std.proofs.Common.{ℕ, Bool, true, false, List, [], ◌≡◌, None, Some, refl, sym, ap, subst, ◌∙◌, if◌then◌else◌}
-use Rattle.cbor_edn_model.specs.declared.text.label.LabelKind.TheVariants as label
+use Rattle.cbor_edn_model.specs.declared.text.opener.OpenerKind.TheVariants as opener
 use Rattle.cbor_edn_model.specs.access.Accessed.{tag_content}
 use Rattle.cbor_edn_model.specs.access.Paths.{at_standalone, with_at_standalone}
 use Rattle.cbor_edn_model.specs.visit.Seeking.{CallArguments}
@@ -12,10 +12,10 @@ use Rattle.cbor_edn_conversions.specs.Conversions.{Reply}
 use Rattle.cbor_edn_application.specs.Acts.{ActsSo, ActsBy, ActsInside}
 
 content_acts : (f : Tree OneItem → Reply) (i : _) (n : ℕ) (a b : List ℕ) (x y : Tree OneItem) (r : Answer)
-    → ActsSo f x r y → ActsSo (at_content f) (EnclosedTree (label.Tag i n) (StandaloneTree a x b)) r (EnclosedTree (label.Tag i n) (StandaloneTree a y b))
-content_acts f i n a b x y fine h = (h.0, ap (λ z. EnclosedTree (label.Tag i n) (StandaloneTree a z b)) h.1)
-content_acts f i n a b x y (comment c) h = (h.0, ap (λ z. EnclosedTree (label.Tag i n) (StandaloneTree a z b)) h.1)
-content_acts f i n a b x y no_memory h = ap (λ z. EnclosedTree (label.Tag i n) (StandaloneTree a z b)) h
+    → ActsSo f x r y → ActsSo (at_content f) (EnclosedTree (opener.Tag i n) (StandaloneTree a x b)) r (EnclosedTree (opener.Tag i n) (StandaloneTree a y b))
+content_acts f i n a b x y fine h = (h.0, ap (λ z. EnclosedTree (opener.Tag i n) (StandaloneTree a z b)) h.1)
+content_acts f i n a b x y (comment c) h = (h.0, ap (λ z. EnclosedTree (opener.Tag i n) (StandaloneTree a z b)) h.1)
+content_acts f i n a b x y no_memory h = ap (λ z. EnclosedTree (opener.Tag i n) (StandaloneTree a z b)) h
 
 some_is : (x y : Tree OneItem) → Some x ≡ Some y → x ≡ y
 some_is x y e = cc
@@ -31,15 +31,15 @@ nothing_inside (StandaloneTree a z b) at = cc
 -- A tag acts as what it holds, once the loan of that is over.
 pub tag_acts : (f : Tree OneItem → Reply) (w v : Tree OneItem) (s t : Tree Standalone) (r : Answer)
     → Some s ≡ tag_content w → v ≡ with_tag_content t w → ActsInside f s r t → ActsSo (at_content f) w r v
-tag_acts f (EnclosedTree (label.Tag i n) (StandaloneTree a z b)) v s t r holds lent acts =
+tag_acts f (EnclosedTree (opener.Tag i n) (StandaloneTree a z b)) v s t r holds lent acts =
     let is : s ≡ StandaloneTree a z b = cc in
     let h : ActsInside f (StandaloneTree a z b) r t = subst (λ o. ActsInside f o r t) is acts in
-    let left : v ≡ EnclosedTree (label.Tag i n) (StandaloneTree a h.0 b) = lent ∙ ap (λ c. EnclosedTree (label.Tag i n) c) h.1 in
-    subst (λ o. ActsSo (at_content f) (EnclosedTree (label.Tag i n) (StandaloneTree a z b)) r o) (sym left) (content_acts f i n a b z h.0 r h.2)
+    let left : v ≡ EnclosedTree (opener.Tag i n) (StandaloneTree a h.0 b) = lent ∙ ap (λ c. EnclosedTree (opener.Tag i n) c) h.1 in
+    subst (λ o. ActsSo (at_content f) (EnclosedTree (opener.Tag i n) (StandaloneTree a z b)) r o) (sym left) (content_acts f i n a b z h.0 r h.2)
 tag_acts f (NumberTree p i) v s t r holds lent acts = absurd cc
 tag_acts f (FloatTree p i) v s t r holds lent acts = absurd cc
 tag_acts f (NamedTree b) v s t r holds lent acts = absurd cc
-tag_acts f (EnclosedTree label.Simple w) v s t r holds lent acts = absurd cc
+tag_acts f (EnclosedTree opener.Simple w) v s t r holds lent acts = absurd cc
 tag_acts f (ListTree k w) v s t r holds lent acts = absurd cc
 tag_acts f (StringTree w) v s t r holds lent acts = absurd cc
 tag_acts f (StreamTree p m) v s t r holds lent acts = absurd cc
@@ -48,8 +48,8 @@ tag_acts f (StreamTree p m) v s t r holds lent acts = absurd cc
 
 -- the tag of a call has a content
 pub called_content : (a : CallArguments) (n : ℕ) (w : Tree OneItem) → is_called_tag a n w ≡ true → tag_content w ≡ None → ⊥
-called_content a n (EnclosedTree (label.Tag i m) w) called none = cc
-called_content a n (EnclosedTree label.Simple w) called none = cc
+called_content a n (EnclosedTree (opener.Tag i m) w) called none = cc
+called_content a n (EnclosedTree opener.Simple w) called none = cc
 called_content a n (NumberTree x i) called none = cc
 called_content a n (FloatTree f i) called none = cc
 called_content a n (NamedTree b) called none = cc

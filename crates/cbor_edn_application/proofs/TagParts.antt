@@ -1,7 +1,7 @@
 -- The parts of the tag of a call.
 use Rattle.std.proofs.Common.{ℕ, ◌≡◌, ◌≢◌, Option, Some, None, refl, sym, ap, ◌∙◌, ne_eqb, eq-eqb}
 use Rattle.cbor_edn_parts.specs.declared.indicator.Indicator.{Indicator}
-use Rattle.cbor_edn_model.specs.declared.text.label.LabelKind.TheVariants as label
+use Rattle.cbor_edn_model.specs.declared.text.opener.OpenerKind.TheVariants as opener
 use Rattle.cbor_edn_model.specs.access.Accessed.{tag_head, tag_content, inner_item}
 use Rattle.cbor_edn_model.specs.visit.Seeking.{number}
 use Rattle.cbor_edn_model.specs.tree.Trees.{Tree, OneItem, Standalone, NumberTree, FloatTree, NamedTree, EnclosedTree, ListTree, StringTree, StreamTree}
@@ -15,8 +15,8 @@ abbrev pub parts : ℕ → Option Indicator → Tree OneItem → ℕ × Option I
 parts n i w = (n, i, w)
 
 pub no_tag : (n : ℕ) (w : Tree OneItem) → tag_head w ≡ None → called_tag (number n) w ≡ None
-no_tag n (EnclosedTree (label.Tag i m) c) e = absurd cc
-no_tag n (EnclosedTree label.Simple c) e = refl
+no_tag n (EnclosedTree (opener.Tag i m) c) e = absurd cc
+no_tag n (EnclosedTree opener.Simple c) e = refl
 no_tag n (NumberTree x i) e = refl
 no_tag n (FloatTree f i) e = refl
 no_tag n (NamedTree b) e = refl
@@ -26,10 +26,10 @@ no_tag n (StreamTree s m) e = refl
 
 -- a tag of another number
 pub another_tag : (n m : ℕ) (i : Option Indicator) (w : Tree OneItem) → tag_head w ≡ Some (m, i) → m ≢ n → called_tag (number n) w ≡ None
-another_tag n m i (EnclosedTree (label.Tag j k) c) e other =
+another_tag n m i (EnclosedTree (opener.Tag j k) c) e other =
     let same : k ≡ m = ap (λ (p : ℕ × Option Indicator). p.0) (some_is (head k j) (head m i) e) in
     rw (ne_eqb n k (λ is. other (sym (is ∙ same))))
-another_tag n m i (EnclosedTree label.Simple c) e other = refl
+another_tag n m i (EnclosedTree opener.Simple c) e other = refl
 another_tag n m i (NumberTree x j) e other = refl
 another_tag n m i (FloatTree f j) e other = refl
 another_tag n m i (NamedTree b) e other = refl
@@ -39,7 +39,7 @@ another_tag n m i (StreamTree s k) e other = refl
 
 -- the tag of this number
 pub this_tag : (n m : ℕ) (i : Option Indicator) (c : Tree Standalone) (w : Tree OneItem) → tag_head w ≡ Some (m, i) → m ≡ n → tag_content w ≡ Some c → Some (parts n i (inner_item c)) ≡ called_tag (number n) w
-this_tag n m i c (EnclosedTree (label.Tag j k) d) e same content =
+this_tag n m i c (EnclosedTree (opener.Tag j k) d) e same content =
     let is = some_is (head k j) (head m i) e in
     let inner : d ≡ c = some_is d c content in
     let number : k ≡ n = ap (λ (p : ℕ × Option Indicator). p.0) is ∙ same in
@@ -48,7 +48,7 @@ this_tag n m i c (EnclosedTree (label.Tag j k) d) e same content =
   where
     by : {k n : ℕ} {j i : Option Indicator} {d c : Tree Standalone} → k ≡ n → j ≡ i → d ≡ c → Some (parts k j (inner_item d)) ≡ Some (parts n i (inner_item c))
     by a b e = cc
-this_tag n m i c (EnclosedTree label.Simple d) e same content = absurd cc
+this_tag n m i c (EnclosedTree opener.Simple d) e same content = absurd cc
 this_tag n m i c (NumberTree x j) e same content = absurd cc
 this_tag n m i c (FloatTree f j) e same content = absurd cc
 this_tag n m i c (NamedTree b) e same content = absurd cc
@@ -58,8 +58,8 @@ this_tag n m i c (StreamTree s k) e same content = absurd cc
 
 -- a tag has a content
 pub has_content : (m : ℕ) (i : Option Indicator) (w : Tree OneItem) → tag_head w ≡ Some (m, i) → tag_content w ≡ None → ⊥
-has_content m i (EnclosedTree (label.Tag j k) d) e content = cc
-has_content m i (EnclosedTree label.Simple d) e content = cc
+has_content m i (EnclosedTree (opener.Tag j k) d) e content = cc
+has_content m i (EnclosedTree opener.Simple d) e content = cc
 has_content m i (NumberTree x j) e content = cc
 has_content m i (FloatTree f j) e content = cc
 has_content m i (NamedTree b) e content = cc

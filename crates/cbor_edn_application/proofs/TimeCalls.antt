@@ -4,7 +4,7 @@ use Rattle.std.proofs.lemmas.Bool.{eqb-true}
 use Rattle.cbor_edn_parts.specs.declared.indicator.Indicator.{Indicator}
 use Rattle.cbor_edn_parts.specs.internal.ContentReading.{same}
 use Rattle.cbor_edn_parts.proofs.lemmas.literal.LiteralPrefixes.{differ}
-use Rattle.cbor_edn_model.specs.declared.text.label.LabelKind.TheVariants as label
+use Rattle.cbor_edn_model.specs.declared.text.opener.OpenerKind.TheVariants as opener
 use Rattle.cbor_edn_model.specs.visit.Seeking.{number}
 use Rattle.cbor_edn_model.specs.tree.Trees.{Tree, OneItem, NumberTree, FloatTree, NamedTree, EnclosedTree, ListTree, StringTree, StreamTree}
 use Rattle.cbor_edn_literals.specs.Time.{HasInstant}
@@ -38,8 +38,8 @@ other_by n m i c false e other = refl
 other_by n m i c true e other = let same = eqb-true n m e in rw (ne_eqb m 1 (λ one. other (same ∙ one)))
 
 pub other_tag : (n : ℕ) (w : Tree OneItem) → n ≢ 1 → time_of_tag (called_tag (number n) w) ≡ None
-other_tag n (EnclosedTree (label.Tag i m) w) other = other_by n m i _ (n == m) refl other
-other_tag n (EnclosedTree label.Simple w) other = refl
+other_tag n (EnclosedTree (opener.Tag i m) w) other = other_by n m i _ (n == m) refl other
+other_tag n (EnclosedTree opener.Simple w) other = refl
 other_tag n (NumberTree x i) other = refl
 other_tag n (FloatTree f i) other = refl
 other_tag n (NamedTree b) other = refl

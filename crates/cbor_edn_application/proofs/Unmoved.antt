@@ -3,7 +3,7 @@ use Rattle.std.proofs.Common.{List, [], ◌≡◌, All, refl, ap, subst, ◌∙�
 use Rattle.std.proofs.lemmas.List.Elements.{All-head, All-tail, All-weaker}
 use Rattle.cbor_edn_model.specs.tree.Items as kind
 use Rattle.cbor_edn_model.specs.tree.Items.{Row, Elements, Pairs, Bracketed, Node, Entries, Entry, Item, Piece, Pieces}
-use Rattle.cbor_edn_model.specs.visit.Seeking.{CallArguments, SoughtCall, VisitItem, passed, entered, stayed, refused, not_called, VisitParts, of_number, of_float, of_name, of_tag, of_simple, of_list, of_string, of_stream, of_literal, of_dots, of_embedded, of_last_piece, of_pieces, of_pieces_cut, of_none_inside, of_all_inside, of_last, of_more, of_more_cut, of_nothing, of_sequence, of_standalone, VisitEntry, of_element, of_pair, of_pair_cut, of_chunk}
+use Rattle.cbor_edn_model.specs.visit.Seeking.{CallArguments, SoughtCall, VisitItem, passed, entered, stayed, refused, not_called, VisitParts, of_number, of_float, of_name, of_tag, of_simple, of_list, of_string, of_stream, of_literal, of_ellipsis, of_embedded, of_last_piece, of_pieces, of_pieces_cut, of_none_inside, of_all_inside, of_last, of_more, of_more_cut, of_nothing, of_sequence, of_standalone, VisitEntry, of_element, of_pair, of_pair_cut, of_chunk}
 use Rattle.cbor_edn_model.specs.tree.Trees.{Rule, Tree, OneItem, OneEntry, head_indicator, items}
 use Rattle.cbor_edn_model.specs.visit.Visits.{Answer, fine, comment, no_memory, Ending, whole, cut}
 use Rattle.cbor_edn_application.specs.Acts.{Act, ActsBy, EndsBy, IsVisited}
@@ -44,7 +44,7 @@ module _ (Sought : Tree OneItem → CallArguments → Type 0) where
     parts_unmoved (of_string a) all = ap (λ x. kind.String x) (parts_unmoved a all)
     parts_unmoved (of_stream a) all = ap (λ x. kind.Stream x) (parts_unmoved a all)
     parts_unmoved of_literal all = refl
-    parts_unmoved of_dots all = refl
+    parts_unmoved of_ellipsis all = refl
     parts_unmoved (of_embedded {i = i} a) all = ap (λ x. kind.Embedded x i) (parts_unmoved a all)
     parts_unmoved (of_last_piece a) all = ap (λ x. kind.LastPiece x) (parts_unmoved a all)
     parts_unmoved (of_pieces {cs = cs} {ds = ds} a b e) all = let h = all_split Unmoved cs ds (subst (All Unmoved) e all) in plus_same _ _ _ _ (parts_unmoved a h.0) (parts_unmoved b h.1)

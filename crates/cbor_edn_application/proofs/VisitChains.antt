@@ -2,7 +2,7 @@
 use Rattle.std.proofs.Common.{ℕ, Result, MutBor, List, [], ◌∷◌, ◌++◌, ◌≡◌, ◌≢◌, All, refl, sym, subst, string_bytes}
 use Rattle.std.proofs.lemmas.List.Elements.{All-nil, All-cons, All-append, All-head, All-tail}
 use Rattle.cbor_edn_model.specs.tree.Items.{Row}
-use Rattle.cbor_edn_model.specs.visit.Seeking.{CallArguments, IsTag, IsApplication, SoughtCall, number, prefix_and_text, VisitItem, passed, entered, stayed, refused, not_called, VisitParts, of_number, of_float, of_name, of_tag, of_simple, of_list, of_string, of_stream, of_literal, of_dots, of_embedded, of_last_piece, of_pieces, of_pieces_cut, of_none_inside, of_all_inside, of_last, of_more, of_more_cut, of_nothing, of_sequence, of_standalone, VisitEntry, of_element, of_pair, of_pair_cut, of_chunk}
+use Rattle.cbor_edn_model.specs.visit.Seeking.{CallArguments, IsTag, IsApplication, SoughtCall, number, prefix_and_text, VisitItem, passed, entered, stayed, refused, not_called, VisitParts, of_number, of_float, of_name, of_tag, of_simple, of_list, of_string, of_stream, of_literal, of_ellipsis, of_embedded, of_last_piece, of_pieces, of_pieces_cut, of_none_inside, of_all_inside, of_last, of_more, of_more_cut, of_nothing, of_sequence, of_standalone, VisitEntry, of_element, of_pair, of_pair_cut, of_chunk}
 use Rattle.cbor_edn_model.specs.tree.Trees.{Rule, Tree, OneItem, OneEntry}
 use Rattle.cbor_edn_model.specs.visit.Visits.{Answer, fine, comment, no_memory, Ending, whole, cut, Chain, no_calls, one_call}
 use Rattle.std.specs.Fn.{Called}
@@ -73,7 +73,7 @@ module _ (Sought : Tree OneItem → CallArguments → Type 0) (act : Act) (Known
     parts_whole (of_string a) is all = parts_whole a is all
     parts_whole (of_stream a) is all = parts_whole a is all
     parts_whole of_literal is all = All-nil (AnswersBy act)
-    parts_whole of_dots is all = All-nil (AnswersBy act)
+    parts_whole of_ellipsis is all = All-nil (AnswersBy act)
     parts_whole (of_embedded a) is all = parts_whole a is all
     parts_whole (of_last_piece a) is all = parts_whole a is all
     parts_whole (of_pieces {cs = cs} {ds = ds} {all = xs} a b e) is all = both cs ds xs e (parts_whole a refl) (parts_whole b is) all

@@ -5,7 +5,7 @@ use Rattle.cbor_edn_literals.specs.Time.{IsTimeStamp}
 use Rattle.cbor_edn_literals.specs.internal.TimeComputing.{time_text}
 use Rattle.cbor_edn_literals.specs.declared.time.number.NotTime.{NotTime}
 use Rattle.cbor_edn_literals.specs.declared.time.number.NotTime.TheVariants.{Unreadable, OutOfRange}
-use Rattle.cbor_edn_conversions.specs.Conversions.{Conversion, Message, is_narrowest, argument, literal_tree}
+use Rattle.cbor_edn_conversions.specs.Conversions.{Conversion, Message, is_shortest, argument, literal_tree}
 use Rattle.cbor_edn_conversions.specs.Times.{time_prefix, decimal_instant, instant_literal}
 
 -- what an item becomes, in tag 1 or alone
@@ -23,7 +23,7 @@ StaysFor f e = (wrap : Bool) → f wrap ≡ Err e
 
 -- an integer with this indicator
 abbrev pub integer_literal : ℤ → Option Indicator → Converted
-integer_literal z i wrap = instant_literal wrap (is_narrowest i (argument z)) (Some (z, 0))
+integer_literal z i wrap = instant_literal wrap (is_shortest i (argument z)) (Some (z, 0))
 
 -- a number that is no integer
 abbrev pub decimal_literal : List ℕ → Option Indicator → Converted

@@ -7,7 +7,7 @@ ghost use Rattle.cbor_edn_conversions.specs.Conversions.{called_tag};
 use cbor_edn_core::tree::{Indicator, Item};
 
 /// The encoding indicator and the content of the tag of this number, or none where the item is no such tag.
-pub(crate) fn tag_parts<'t, 'a>(
+pub(crate) fn tag_indicator_and_content<'t, 'a>(
     tag: u64,
     item: &'t Item<'a>,
 ) -> Option<(Option<Indicator>, &'t Item<'a>)>

@@ -9,8 +9,8 @@ ghost use Rattle.cbor_edn_conversions.specs.Times.{time_item, time_of_literal, t
 ghost use Rattle.cbor_edn_application.specs.Acts.{ActsBy};
 
 use crate::reply::reply;
-use crate::tags::tag_parts;
-use cbor_edn_conversions::steps::is_narrowest;
+use crate::tags::tag_indicator_and_content;
+use cbor_edn_conversions::steps::is_shortest;
 use cbor_edn_core::tree::{Indicator, Item};
 use cbor_edn_parts::error::{CallbackError, Fault};
 use std::alloc::Global;
@@ -79,7 +79,7 @@ pub fn dt_tag_to_aol(alloc: Global, tag: u64, item: &mut Item<'_>) -> Result<(),
     if tag != 1 {
         return Ok(());
     }
-    let Some((indicator, content)) = tag_parts(tag, item) else {
+    let Some((indicator, content)) = tag_indicator_and_content(tag, item) else {
         return Ok(());
     };
     let conversion = tag_literal(alloc, indicator, content);
@@ -96,7 +96,7 @@ fn tag_literal<'a>(
     ensures refused { IfTold result (λ e. without_tag indicator 1 (time_literal (item_tree content.now) true) ≡ Err e.now) }
 {
     let literal = dt_item_to_aol(alloc, content, true)?;
-    if !is_narrowest(indicator, 1) {
+    if !is_shortest(indicator, 1) {
         return Err(Fault::Told("Conversion would change the encoding"));
     }
     Ok(literal)

@@ -6,11 +6,11 @@ use Rattle.cbor_edn.specs.declared.engine.RunError.{RunError}
 use Rattle.cbor_edn.specs.declared.engine.RunError.TheVariants as run
 use Rattle.cbor_edn.specs.Runs.{IsOutput, IsRefused}
 use Rattle.cbor_edn.specs.Show.{IsShown, IsUnshown}
-use Rattle.cbor_edn_c_calls.specs.Asked.{IsBadCall, IsCallOf}
+use Rattle.cbor_edn_c_calls.specs.Flags.{IsBadCall, IsCallOf}
 use Rattle.cbor_edn_c_calls.specs.Reports.{TellsOutput, TellsLocation}
-use Rattle.cbor_edn_c_calls.specs.Rooms.{HasNoRoom, IsPutFront, IsPutWhole}
-use Rattle.cbor_edn_c_calls.specs.declared.asked.Asked.{Asked}
-use Rattle.cbor_edn_c_calls.specs.declared.asked.Asked.TheVariants.{Run, Show}
+use Rattle.cbor_edn_c_calls.specs.Buffers.{HasNoRoom, IsPutFront, IsPutWhole}
+use Rattle.cbor_edn_c_calls.specs.declared.flags.Asked.{Asked}
+use Rattle.cbor_edn_c_calls.specs.declared.flags.Asked.TheVariants.{Run, Show}
 use Rattle.cbor_edn_c_calls.specs.declared.report.Report.{Report}
 use Rattle.cbor_edn_c_calls.specs.declared.status.CallFault.{CallFault}
 use Rattle.cbor_edn_c_calls.specs.declared.status.CallFault.TheVariants.{NotUtf8, InvalidCbor, InvalidHex, NoEncoding, OutOfMemory, TooDeepCbor}

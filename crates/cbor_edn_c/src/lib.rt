@@ -10,11 +10,11 @@ ghost use Rattle.cbor_edn_c_calls.specs.declared.status.Status.{Status};
 use cbor_edn::CborError;
 use cbor_edn::engine::{RunError, converted};
 use cbor_edn::show::shown;
-use cbor_edn_c_calls::asked::{Asked, asked_for};
+use cbor_edn_c_calls::buffer::put_whole;
+use cbor_edn_c_calls::flags::{Asked, asked_for};
+use cbor_edn_c_calls::message::put_message;
 use cbor_edn_c_calls::report::Report;
-use cbor_edn_c_calls::room::put_whole;
 use cbor_edn_c_calls::status::{CallFault, Status};
-use cbor_edn_c_calls::told::told;
 use std::alloc::Global;
 
 fn call_fault(fault: &RunError) -> CallFault
@@ -39,8 +39,8 @@ fn report_of(alloc: Global, fault: &RunError, message: &mut [u8]) -> Report
     ensures message { IsMessage result.message_len message.old message.new }
 {
     match fault.to_string(alloc) {
-        Ok(text) => told(&call_fault(fault), text.as_bytes(), message),
-        Err(_) => told(&call_fault(fault), b"", message),
+        Ok(text) => put_message(&call_fault(fault), text.as_bytes(), message),
+        Err(_) => put_message(&call_fault(fault), b"", message),
     }
 }
 

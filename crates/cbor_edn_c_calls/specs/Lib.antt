@@ -1,4 +1,4 @@
-pub mod Asked
+pub mod Buffers
+pub mod Flags
 pub mod Reports
-pub mod Rooms
 pub mod Statuses

@@ -1,8 +1,8 @@
 //! What a caller that is not Rattle asks for by numbers, what is written into its room, and what it is told. It knows no tree.
 #![tactic(auto)]
 
-pub mod asked;
+pub mod buffer;
+pub mod flags;
+pub mod message;
 pub mod report;
-pub mod room;
 pub mod status;
-pub mod told;

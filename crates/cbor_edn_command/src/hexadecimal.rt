@@ -50,7 +50,7 @@ pub fn decoded(alloc: Global, input: &[u8]) -> Result<Vec<u8>, Fault<NotHex>>
 
 /// The hexadecimal digits of some bytes, in lower case, in lines of at most 64 digits, each with LF at its end. Fails where memory runs
 /// out.
-pub fn encoded(alloc: Global, bytes: &[u8]) -> Result<Vec<u8>, AllocError>
+pub fn to_lines(alloc: Global, bytes: &[u8]) -> Result<Vec<u8>, AllocError>
     ensures { IfOk result (λ v. v.items ≡ hex_lines bytes.now) }
 {
     let digits = hex::encode(alloc, bytes)?;

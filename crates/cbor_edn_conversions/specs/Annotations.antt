@@ -1,6 +1,6 @@
 -- Comments behind tags, and behind the third element of a tag 38: `38(["he", "x", true/ Right-to-left /])`.
 use Rattle.std.specs.Prelude.{ℕ, zero, suc, ◌==◌, ◌&&◌, codes, Bool, false, if◌then◌else◌, List}
-use Rattle.cbor_edn_model.specs.declared.text.label.LabelKind.TheVariants as label
+use Rattle.cbor_edn_model.specs.declared.text.opener.OpenerKind.TheVariants as opener
 use Rattle.cbor_edn_model.specs.declared.text.keyword.NamedSimple.TheVariants.{True, False, Null}
 use Rattle.cbor_edn_model.specs.access.Accessed.{element}
 use Rattle.cbor_edn_model.specs.tree.Items.{Row, Elements, Array}
@@ -54,7 +54,7 @@ at_content f w = (fine, w)
 
 -- the item is the tag of the call, of this number
 abbrev pub is_called_tag : CallArguments → ℕ → Tree OneItem → Bool
-is_called_tag a n (EnclosedTree (label.Tag i m) w) = tells a m && m == n
+is_called_tag a n (EnclosedTree (opener.Tag i m) w) = tells a m && m == n
 is_called_tag a n w = false
 
 -- `comment_lang_tag`

@@ -1,7 +1,7 @@
 -- Messages of COSE (RFC 9052) with their names, those of their parts and of their header parameters:
 -- `18([<<{1/ alg /: -7/ ES256 /}>>/ protected /, {}/ unprotected /, h'00'/ payload /, h'00'/ signature /])/ COSE_Sign1 /`.
 use Rattle.std.specs.Prelude.{ℕ, zero, suc, pos, ◌^◌, ◌-◌, [], List, Option, None, Some, if◌then◌else◌, slice_get}
-use Rattle.cbor_edn_model.specs.declared.text.label.LabelKind.TheVariants as label
+use Rattle.cbor_edn_model.specs.declared.text.opener.OpenerKind.TheVariants as opener
 use Rattle.cbor_edn_model.specs.access.Paths.{items_in, with_item}
 use Rattle.cbor_edn_model.specs.tree.Items.{Elements, Array}
 use Rattle.cbor_edn_model.specs.tree.Trees.{Tree, OneItem, EnclosedTree, ListTree, FullTree, ElementTree}
@@ -76,7 +76,7 @@ with_parts (suc n) x w = with_elements (λ i. part_reply (in_part (with_parts n)
 
 -- the name and the structure of the message whose tag is the tag of the call
 abbrev pub called_message : CallArguments → Tree OneItem → Option (List ℕ × Structure)
-called_message a (EnclosedTree (label.Tag i n) w) = if tells a n then found messages (pos n) else None
+called_message a (EnclosedTree (opener.Tag i n) w) = if tells a n then found messages (pos n) else None
 called_message a w = None
 
 -- Recipients nest in one another no deeper than that, since no item in memory does.

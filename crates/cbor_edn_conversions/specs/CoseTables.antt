@@ -11,8 +11,8 @@ use Rattle.cbor_edn_conversions.specs.declared.tables.Structure.TheVariants.{Enc
 use Rattle.cbor_edn_conversions.specs.Tables.{neg, algorithms}
 
 -- a table of labels: each with its name, and what the number behind it is, where that has a name
-abbrev pub Labels : Type 0
-Labels = List (ℤ × (List ℕ × Option NamedNumber))
+abbrev pub Openers : Type 0
+Openers = List (ℤ × (List ℕ × Option NamedNumber))
 
 -- ---- messages
 
@@ -49,7 +49,7 @@ part_name Signatures = codes "signatures"
 part_name Recipients = codes "recipients"
 
 -- header parameters, by their label
-unfoldable pub headers : Labels
+unfoldable pub headers : Openers
 headers =
     (pos 1, (codes "alg", Some named.Algorithm))
     ∷ (pos 2, (codes "crit", None))
@@ -115,7 +115,7 @@ curves =
     ∷ []
 
 -- parameters of keys of any type, by their label
-unfoldable pub key_parameters : Labels
+unfoldable pub key_parameters : Openers
 key_parameters =
     (pos 1, (codes "kty", Some named.KeyType))
     ∷ (pos 2, (codes "kid", None))
@@ -125,7 +125,7 @@ key_parameters =
     ∷ []
 
 -- those of one type
-abbrev pub typed_parameters : Option KeyType → Labels
+abbrev pub typed_parameters : Option KeyType → Openers
 typed_parameters None = []
 typed_parameters (Some Okp) =
     (neg 1, (codes "crv", Some named.Curve))

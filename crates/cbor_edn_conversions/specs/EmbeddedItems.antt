@@ -5,10 +5,10 @@ use Rattle.cbor_edn_parts.specs.declared.string.Quote.TheVariants as quotes
 use Rattle.cbor_edn_parts.specs.declared.string.QuotedState.TheVariants as part
 use Rattle.cbor_edn_parts.specs.internal.ContentReading.{prefixed_bytes, behind_quote}
 use Rattle.cbor_edn_parts.specs.internal.LiteralTokens.{is_literal, prefix_of, decoded}
-use Rattle.cbor_edn_model.specs.declared.text.label.LabelKind.TheVariants as label
+use Rattle.cbor_edn_model.specs.declared.text.opener.OpenerKind.TheVariants as opener
 use Rattle.cbor_edn_model.specs.internal.CborReading.{DecoderResult, item_at, trees}
 use Rattle.cbor_edn_model.specs.tree.Items.{nesting}
-use Rattle.cbor_edn_model.specs.tree.Trees.{Rule, Tree, OneItem, OneString, NumberTree, FloatTree, NamedTree, EnclosedTree, ListTree, StringTree, StreamTree, LiteralTree, DotsTree, EmbeddedTree, LastPieceTree, PlusTree, ElementTree, PairTree, ChunkTree, EmptyTree, FullTree, LastTree, MoreTree, NothingTree, SequenceTree, StandaloneTree, items}
+use Rattle.cbor_edn_model.specs.tree.Trees.{Rule, Tree, OneItem, OneString, NumberTree, FloatTree, NamedTree, EnclosedTree, ListTree, StringTree, StreamTree, LiteralTree, EllipsisTree, EmbeddedTree, LastPieceTree, PlusTree, ElementTree, PairTree, ChunkTree, EmptyTree, FullTree, LastTree, MoreTree, NothingTree, SequenceTree, StandaloneTree, items}
 use Rattle.cbor_edn_model.specs.visit.Seeking.{CallArguments}
 use Rattle.cbor_edn_model.specs.visit.Visits.{fine}
 use Rattle.cbor_edn_conversions.specs.Conversions.{Reply}
@@ -34,13 +34,13 @@ unfoldable pub with_literals : OfLiteral → {s : Rule} → Tree s → Tree s
 with_literals f (NumberTree x i) = NumberTree x i
 with_literals f (FloatTree g i) = FloatTree g i
 with_literals f (NamedTree b) = NamedTree b
-with_literals f (EnclosedTree (label.Tag i n) w) = EnclosedTree (label.Tag i n) (with_literals f w)
-with_literals f (EnclosedTree label.Simple w) = EnclosedTree label.Simple w
+with_literals f (EnclosedTree (opener.Tag i n) w) = EnclosedTree (opener.Tag i n) (with_literals f w)
+with_literals f (EnclosedTree opener.Simple w) = EnclosedTree opener.Simple w
 with_literals f (ListTree k w) = ListTree k (with_literals f w)
 with_literals f (StringTree w) = if_literal f w (StringTree (with_literals f w))
 with_literals f (StreamTree ms m) = StreamTree ms (with_literals f m)
 with_literals f (LiteralTree x i) = LiteralTree x i
-with_literals f (DotsTree x) = DotsTree x
+with_literals f (EllipsisTree x) = EllipsisTree x
 with_literals f (EmbeddedTree w i) = EmbeddedTree (with_literals f w) i
 with_literals f (LastPieceTree p) = LastPieceTree (with_literals f p)
 with_literals f (PlusTree p s t w) = PlusTree (with_literals f p) s t (with_literals f w)
@@ -77,7 +77,7 @@ decoded_item limit bytes = only_item (item_at trees limit bytes)
 
 abbrev pub is_structure : Tree OneItem → Bool
 is_structure (ListTree k w) = true
-is_structure (EnclosedTree (label.Tag i n) w) = true
+is_structure (EnclosedTree (opener.Tag i n) w) = true
 is_structure _ = false
 
 -- the first byte is of major type 4, 5 or 6, as that of arrays, maps and tags is

@@ -1,7 +1,7 @@
 -- Items that nest as deep as the values that they mean.
 use Rattle.std.specs.Prelude.{◌≢◌, Some}
 use Rattle.cbor_edn_model.specs.declared.text.keyword.NamedSimple.{NamedSimple}
-use Rattle.cbor_edn_model.specs.tree.Items.{Sort, Item, Node, Number, Float, Listed, Tagged, Named, Simple, String, Stream, Literal, Dots, Embedded, LastPiece, Plus, Element, Pair, Chunk, End, Then}
+use Rattle.cbor_edn_model.specs.tree.Items.{Sort, Item, Node, Number, Float, Listed, Tagged, Named, Simple, String, Stream, Literal, Ellipsis, Embedded, LastPiece, Plus, Element, Pair, Chunk, End, Then}
 use Rattle.cbor_edn_model.specs.cbor.Meaning.{means_simple, named_number}
 use Rattle.cbor_edn_model.specs.visit.Seeking.{SoughtCall}
 use Rattle.cbor_edn_model.specs.tree.Trees.{items}
@@ -23,7 +23,7 @@ IsDirect (Simple w) = HasNoKeyword w
 IsDirect (String w) = IsDirect w
 IsDirect (Stream m) = IsDirect m
 IsDirect (Literal x i) = Unit {0}
-IsDirect (Dots x) = Unit {0}
+IsDirect (Ellipsis x) = Unit {0}
 IsDirect (Embedded m i) = ⊥
 IsDirect (LastPiece p) = IsDirect p
 IsDirect (Plus p w) = IsDirect p × IsDirect w

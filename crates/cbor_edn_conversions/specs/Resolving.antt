@@ -9,7 +9,7 @@ use Rattle.cbor_edn_parts.specs.declared.string.Quote.TheVariants as quotes
 use Rattle.cbor_edn_parts.specs.declared.string.QuotedState.TheVariants as part
 use Rattle.cbor_edn_parts.specs.Contents.{h}
 use Rattle.cbor_edn_parts.specs.Literal.{Prefixed, IsLiteral}
-use Rattle.cbor_edn_model.specs.tree.Items.{Sort, Item, Pieces, Node, Number, Float, Listed, Tagged, Named, Simple, String, Stream, Literal, Dots, Embedded, LastPiece, Plus, Element, Pair, Chunk, End, Then}
+use Rattle.cbor_edn_model.specs.tree.Items.{Sort, Item, Pieces, Node, Number, Float, Listed, Tagged, Named, Simple, String, Stream, Literal, Ellipsis, Embedded, LastPiece, Plus, Element, Pair, Chunk, End, Then}
 use Rattle.cbor_edn_model.specs.cbor.Value.{Value, tag, simple, encodings}
 use Rattle.cbor_edn_model.specs.cbor.Meaning.{◌>>=◌, MeaningOf, width_of, means_integer, means_float, means_simple, named_number, listed, pieces_indicator, string_of, chunk_of, stream_of, joined, no_entries, one_more}
 use Rattle.cbor_edn_model.specs.visit.Seeking.{CallArguments, SoughtCall}
@@ -56,7 +56,7 @@ module _ (R : Resolver) where
   means_by (String w) = or_else (resolved R w) (means_by w >>= λ c. pieces_indicator w >>= string_of c)
   means_by (Stream m) = means_by m >>= stream_of
   means_by (Literal x i) = literal_content x
-  means_by (Dots x) = None
+  means_by (Ellipsis x) = None
   means_by (Embedded m i) = means_by m >>= λ vs. Some (Bytes, encodings vs)
   means_by (LastPiece p) = means_by p
   means_by (Plus p w) = means_by p >>= λ c. means_by w >>= λ d. Some (joined c d)

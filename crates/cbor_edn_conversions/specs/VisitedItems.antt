@@ -5,7 +5,7 @@ use Rattle.cbor_edn_parts.specs.Literal.{Prefixed, IsLiteral}
 use Rattle.cbor_edn_model.specs.declared.text.keyword.NamedSimple.{NamedSimple}
 use Rattle.cbor_edn_model.specs.declared.text.keyword.NonFinite.{NonFinite}
 use Rattle.cbor_edn_model.specs.visit.Depth.{embedded_depth}
-use Rattle.cbor_edn_model.specs.tree.Items.{Row, Elements, Pairs, Strings, Bracketed, entries_of, Sort, Item, Piece, Pieces, Entry, Entries, Node, Number, Float, Listed, Tagged, Named, Simple, String, Stream, Literal, Dots, Embedded, LastPiece, Plus, Element, Pair, Chunk, End, Then}
+use Rattle.cbor_edn_model.specs.tree.Items.{Row, Elements, Pairs, Strings, Bracketed, entries_of, Sort, Item, Piece, Pieces, Entry, Entries, Node, Number, Float, Listed, Tagged, Named, Simple, String, Stream, Literal, Ellipsis, Embedded, LastPiece, Plus, Element, Pair, Chunk, End, Then}
 use Rattle.cbor_edn_model.specs.visit.Seeking as arguments
 use Rattle.cbor_edn_model.specs.visit.Seeking.{CallArguments, SoughtCall}
 use Rattle.cbor_edn_model.specs.tree.Trees.{items}
@@ -23,7 +23,7 @@ node_depth (Simple w) = 0
 node_depth (String w) = node_depth w
 node_depth (Stream m) = node_depth m
 node_depth (Literal x i) = 0
-node_depth (Dots x) = 0
+node_depth (Ellipsis x) = 0
 node_depth (Embedded m i) = embedded_depth (node_depth m)
 node_depth (LastPiece p) = node_depth p
 node_depth (Plus p w) = max (node_depth p) (node_depth w)
@@ -66,7 +66,7 @@ module _ (IsSought : Node Item → CallArguments → Type 0) (Step : CallArgumen
       string : {w v : Node Pieces} → VisitedNode Pieces w v → VisitedNode Item (String w) (String v)
       stream : {m n : Node (Entries Strings)} → VisitedNode (Entries Strings) m n → VisitedNode Item (Stream m) (Stream n)
       literal : {x : List ℕ} {i : Option Indicator} → VisitedNode Piece (Literal x i) (Literal x i)
-      dots : {x : List ℕ} → VisitedNode Piece (Dots x) (Dots x)
+      ellipsis : {x : List ℕ} → VisitedNode Piece (Ellipsis x) (Ellipsis x)
       embedded : {m n : Node (Entries Elements)} {i : Option Indicator} → VisitedNode (Entries Elements) m n → VisitedNode Piece (Embedded m i) (Embedded n i)
       last_piece : {p q : Node Piece} → VisitedNode Piece p q → VisitedNode Pieces (LastPiece p) (LastPiece q)
       plus : {p q : Node Piece} {w v : Node Pieces} → VisitedNode Piece p q → VisitedNode Pieces w v → VisitedNode Pieces (Plus p w) (Plus q v)

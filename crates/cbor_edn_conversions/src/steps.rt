@@ -2,7 +2,7 @@
 ghost use Rattle.std.specs.Prelude.{◌≡◌, ◌<◌, ◌^◌, ◌+◌, pos, Option, Some, Ok, Err, IfOk, string_bytes, option_map};
 ghost use Rattle.std.specs.Fmt.{signed_decimal};
 ghost use Rattle.cbor_edn_parts.specs.Refusals.{IfTold};
-ghost use Rattle.cbor_edn_conversions.specs.Conversions.{is_narrowest};
+ghost use Rattle.cbor_edn_conversions.specs.Conversions.{is_shortest};
 ghost use Rattle.cbor_edn_conversions.specs.Addresses.{address_tag, refusal_message, whole_text, prefix_text};
 ghost use Rattle.cbor_edn_conversions.specs.Bignums.{bignum_integer};
 ghost use Rattle.cbor_edn_literals.specs.Address.{size_of};
@@ -14,8 +14,8 @@ use std::alloc::{AllocError, Global};
 
 /// Whether there is no indicator, or the one of the shortest head of this argument, as `_0` of 52. Such a one may go: the encoding stays
 /// the same.
-pub fn is_narrowest(indicator: Option<Indicator>, argument: u64) -> bool
-    ensures { result ≡ is_narrowest indicator argument }
+pub fn is_shortest(indicator: Option<Indicator>, argument: u64) -> bool
+    ensures { result ≡ is_shortest indicator argument }
 {
     match indicator {
         None => true,

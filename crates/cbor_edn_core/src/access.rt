@@ -3,7 +3,7 @@ ghost use Rattle.std.specs.Prelude.{◌≡◌, ℤ, FitsSigned, IfOk, IfErr, Som
 ghost use Rattle.std.specs.Int.{w128};
 ghost use Rattle.cbor_edn_parts.specs.Leaves.{number_bytes};
 ghost use Rattle.cbor_edn_parts.specs.Number.{IsInteger};
-ghost use Rattle.cbor_edn_model.specs.access.Accessed.{tag_number, tag_head, tag_content, named_keyword, number_and_indicator, inner_item, number_text, IsIntegerItem, IsLiteralItem, array_items, map_items, element, key_and_value, entries_inside};
+ghost use Rattle.cbor_edn_model.specs.access.Accessed.{tag_number, tag_head, tag_content, named_keyword, number_and_indicator, inner_item, number_text, IsIntegerItem, IsIntegerLiteral, array_items, map_items, element, key_and_value, entries_inside};
 ghost use Rattle.cbor_edn_model.specs.tree.TreeLeaves.{texts};
 ghost use Rattle.cbor_edn_core.specs.access.Mismatch.{IsIntegerMismatch};
 ghost use Rattle.cbor_edn_model.specs.access.Paths.{items_in};
@@ -12,7 +12,7 @@ ghost use Rattle.cbor_edn_core.specs.access.IteratedMut.{items_to_lend, pairs_to
 ghost use Rattle.cbor_edn_core.specs.tree.View.{item_tree, sequence_tree, standalone_tree, view_list, view_pair_list};
 
 use crate::tree::{
-    Indicator, InnerItem, Item, ItemList, LabelKind, PairList, Sequence, StandaloneItem,
+    Indicator, InnerItem, Item, ItemList, OpenerKind, PairList, Sequence, StandaloneItem,
 };
 use cbor_edn_model::text::keyword::NamedSimple;
 use cbor_edn_parts::number::Number;
@@ -74,9 +74,9 @@ impl<'a> Item<'a> {
         ensures { result ≡ tag_head (item_tree self.now) }
     {
         match &self.inner {
-            InnerItem::Enclosed(label, _) => match label.kind {
-                LabelKind::Tag(indicator, number) => Some((number, indicator)),
-                LabelKind::Simple => None,
+            InnerItem::Enclosed(opener, _) => match opener.kind {
+                OpenerKind::Tag(indicator, number) => Some((number, indicator)),
+                OpenerKind::Simple => None,
             },
             InnerItem::Number(..)
             | InnerItem::NonFinite(..)
@@ -142,7 +142,7 @@ impl<'a> Item<'a> {
     pub fn get_integer(&self) -> Result<i128, TypeMismatch>
         ensures found { IfOk result (λ z. IsIntegerItem (item_tree self.now) z) }
         ensures refused { IfErr result (λ _. (z : ℤ) → FitsSigned w128 z → IsIntegerItem (item_tree self.now) z → ⊥) }
-        ensures words { IfErr result (IsIntegerMismatch (IsLiteralItem (item_tree self.now))) }
+        ensures words { IfErr result (IsIntegerMismatch (IsIntegerLiteral (item_tree self.now))) }
     {
         match number_of(self) {
             Some(number) => match number.to_i128() {
@@ -230,9 +230,9 @@ fn tag_of<'t, 'a>(item: &'t Item<'a>) -> Option<(u64, &'t StandaloneItem<'a>)>
     ensures content { option_map (λ p. standalone_tree p.1.now) result ≡ tag_content (item_tree item.now) }
 {
     match &item.inner {
-        InnerItem::Enclosed(label, content) => match label.kind {
-            LabelKind::Tag(_, number) => Some((number, content)),
-            LabelKind::Simple => None,
+        InnerItem::Enclosed(opener, content) => match opener.kind {
+            OpenerKind::Tag(_, number) => Some((number, content)),
+            OpenerKind::Simple => None,
         },
         InnerItem::Number(..)
         | InnerItem::NonFinite(..)

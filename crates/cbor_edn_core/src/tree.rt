@@ -14,108 +14,156 @@ pub(crate) mod nesting;
 pub(crate) mod row;
 
 use cbor_edn_model::text::keyword::{NamedSimple, NonFinite};
-pub use cbor_edn_model::text::label::{Label, LabelKind};
+pub use cbor_edn_model::text::opener::{Opener, OpenerKind};
 pub use cbor_edn_parts::indicator::Indicator;
 pub use cbor_edn_parts::nesting::NESTING_LIMIT;
 use cbor_edn_parts::number::Number;
-use cbor_edn_parts::space::{Ms, Msc, S, Soc};
-use cbor_edn_parts::string::{Dots, Literal};
+use cbor_edn_parts::space::{ListEnd, MandatorySpace, Separator, Space};
+use cbor_edn_parts::string::{Ellipsis, Literal};
 
 /// An item of a text, with the spaces in it and none round it: a number, a keyword, a string, an array, a map, a tag or `simple(..)`.
-pub type Item<'a> = ItemOf<S<'a>, Ms<'a>, Msc<'a>, Soc<'a>, Number<'a>, Literal<'a>, Dots<'a>>;
+pub type Item<'a> = ItemOf<
+    Space<'a>,
+    MandatorySpace<'a>,
+    Separator<'a>,
+    ListEnd<'a>,
+    Number<'a>,
+    Literal<'a>,
+    Ellipsis<'a>,
+>;
 
 /// An item with the spaces and comments round it, as ` [1] # a`: a whole text of one item, or what stands between the parentheses of a
 /// tag.
 pub type StandaloneItem<'a> = StandaloneItemOf<
-    S<'a>,
-    Ms<'a>,
-    Msc<'a>,
-    Soc<'a>,
+    Space<'a>,
+    MandatorySpace<'a>,
+    Separator<'a>,
+    ListEnd<'a>,
     Number<'a>,
     Literal<'a>,
-    Dots<'a>,
+    Ellipsis<'a>,
 >;
 
 /// A CBOR sequence (RFC 8742): any number of items, also none, with the spaces round them, as `1, 2 3`.
 pub type Sequence<'a> = SequenceOf<
-    S<'a>,
-    Ms<'a>,
-    Msc<'a>,
-    Soc<'a>,
+    Space<'a>,
+    MandatorySpace<'a>,
+    Separator<'a>,
+    ListEnd<'a>,
     Number<'a>,
     Literal<'a>,
-    Dots<'a>,
+    Ellipsis<'a>,
 >;
 
 /// The forms of items, at the leaves of a text.
 pub type InnerItem<'a> = InnerItemOf<
-    S<'a>,
-    Ms<'a>,
-    Msc<'a>,
-    Soc<'a>,
+    Space<'a>,
+    MandatorySpace<'a>,
+    Separator<'a>,
+    ListEnd<'a>,
     Number<'a>,
     Literal<'a>,
-    Dots<'a>,
+    Ellipsis<'a>,
 >;
 
 /// A string, at the leaves of a text: one piece, or more that plus signs join.
 pub type CborString<'a> = CborStringOf<
-    S<'a>,
-    Ms<'a>,
-    Msc<'a>,
-    Soc<'a>,
+    Space<'a>,
+    MandatorySpace<'a>,
+    Separator<'a>,
+    ListEnd<'a>,
     Number<'a>,
     Literal<'a>,
-    Dots<'a>,
+    Ellipsis<'a>,
 >;
 
 /// A piece of a string, at the leaves of a text, as `'a'` of `'a' + h'62'`.
-pub type Piece<'a> = PieceOf<S<'a>, Ms<'a>, Msc<'a>, Soc<'a>, Number<'a>, Literal<'a>, Dots<'a>>;
+pub type Piece<'a> = PieceOf<
+    Space<'a>,
+    MandatorySpace<'a>,
+    Separator<'a>,
+    ListEnd<'a>,
+    Number<'a>,
+    Literal<'a>,
+    Ellipsis<'a>,
+>;
 
 /// A string of indefinite length, at the leaves of a text: what stands between its parentheses, behind the underscore.
-pub type Stream<'a> = StreamOf<S<'a>, Ms<'a>, Msc<'a>, Soc<'a>, Number<'a>, Literal<'a>, Dots<'a>>;
+pub type Stream<'a> = StreamOf<
+    Space<'a>,
+    MandatorySpace<'a>,
+    Separator<'a>,
+    ListEnd<'a>,
+    Number<'a>,
+    Literal<'a>,
+    Ellipsis<'a>,
+>;
 
 /// The strings of a stream, at the leaves of a text, with the separators behind them.
 pub type Strings<'a> = StringsOf<
-    S<'a>,
-    Ms<'a>,
-    Msc<'a>,
-    Soc<'a>,
+    Space<'a>,
+    MandatorySpace<'a>,
+    Separator<'a>,
+    ListEnd<'a>,
     Number<'a>,
     Literal<'a>,
-    Dots<'a>,
+    Ellipsis<'a>,
 >;
 
 /// What stands between the brackets of an array, at the leaves of a text.
 pub type ItemList<'a> = ItemListOf<
-    S<'a>,
-    Ms<'a>,
-    Msc<'a>,
-    Soc<'a>,
+    Space<'a>,
+    MandatorySpace<'a>,
+    Separator<'a>,
+    ListEnd<'a>,
     Number<'a>,
     Literal<'a>,
-    Dots<'a>,
+    Ellipsis<'a>,
 >;
 
 /// The items of an array or a sequence, one or more, at the leaves of a text, with the separators behind them.
-pub type Items<'a> = ItemsOf<S<'a>, Ms<'a>, Msc<'a>, Soc<'a>, Number<'a>, Literal<'a>, Dots<'a>>;
+pub type Items<'a> = ItemsOf<
+    Space<'a>,
+    MandatorySpace<'a>,
+    Separator<'a>,
+    ListEnd<'a>,
+    Number<'a>,
+    Literal<'a>,
+    Ellipsis<'a>,
+>;
 
 /// A key of a map with its value, at the leaves of a text, and the spaces round the colon.
-pub type Kp<'a> = KpOf<S<'a>, Ms<'a>, Msc<'a>, Soc<'a>, Number<'a>, Literal<'a>, Dots<'a>>;
+pub type Pair<'a> = PairOf<
+    Space<'a>,
+    MandatorySpace<'a>,
+    Separator<'a>,
+    ListEnd<'a>,
+    Number<'a>,
+    Literal<'a>,
+    Ellipsis<'a>,
+>;
 
 /// What stands between the braces of a map, at the leaves of a text.
 pub type PairList<'a> = PairListOf<
-    S<'a>,
-    Ms<'a>,
-    Msc<'a>,
-    Soc<'a>,
+    Space<'a>,
+    MandatorySpace<'a>,
+    Separator<'a>,
+    ListEnd<'a>,
     Number<'a>,
     Literal<'a>,
-    Dots<'a>,
+    Ellipsis<'a>,
 >;
 
 /// The keys of a map with their values, one pair or more, at the leaves of a text, with the separators behind them.
-pub type Pairs<'a> = PairsOf<S<'a>, Ms<'a>, Msc<'a>, Soc<'a>, Number<'a>, Literal<'a>, Dots<'a>>;
+pub type Pairs<'a> = PairsOf<
+    Space<'a>,
+    MandatorySpace<'a>,
+    Separator<'a>,
+    ListEnd<'a>,
+    Number<'a>,
+    Literal<'a>,
+    Ellipsis<'a>,
+>;
 
 /// An item over any leaves.
 #[cycle(tree)]
@@ -136,7 +184,7 @@ pub enum InnerItemOf<O: Drop, M: Drop, C: Drop, E: Drop, N: Drop, L: Drop, D: Dr
     /// A simple value by its name.
     Named(NamedSimple),
     /// An item between parentheses, and what stands in front of them.
-    Enclosed(Label, Box<StandaloneItemOf<O, M, C, E, N, L, D>>),
+    Enclosed(Opener, Box<StandaloneItemOf<O, M, C, E, N, L, D>>),
     /// An array, by what stands between its brackets.
     Array(Box<ItemListOf<O, M, C, E, N, L, D>>),
     /// A map, by what stands between its braces.
@@ -164,7 +212,7 @@ pub enum PieceOf<O: Drop, M: Drop, C: Drop, E: Drop, N: Drop, L: Drop, D: Drop> 
     /// A literal with its encoding indicator.
     Literal(Option<Indicator>, L),
     /// What stands in place of a piece that is left out.
-    Dots(D),
+    Ellipsis(D),
     /// A sequence, whose encoding is the piece, with the piece's encoding indicator.
     Embedded(Option<Indicator>, Box<SequenceOf<O, M, C, E, N, L, D>>),
 }
@@ -173,7 +221,7 @@ pub enum PieceOf<O: Drop, M: Drop, C: Drop, E: Drop, N: Drop, L: Drop, D: Drop> 
 #[cycle(tree)]
 #[derive(Drop)]
 pub struct StreamOf<O: Drop, M: Drop, C: Drop, E: Drop, N: Drop, L: Drop, D: Drop> {
-    pub(crate) ms: M,
+    pub(crate) space: M,
     pub(crate) strings: StringsOf<O, M, C, E, N, L, D>,
 }
 
@@ -183,24 +231,24 @@ pub struct StreamOf<O: Drop, M: Drop, C: Drop, E: Drop, N: Drop, L: Drop, D: Dro
 pub struct StringsOf<O: Drop, M: Drop, C: Drop, E: Drop, N: Drop, L: Drop, D: Drop> {
     pub(crate) row: Vec<(CborStringOf<O, M, C, E, N, L, D>, C)>,
     pub(crate) last: CborStringOf<O, M, C, E, N, L, D>,
-    pub(crate) soc: E,
+    pub(crate) end: E,
 }
 
 /// What stands between the brackets of an array.
 #[cycle(tree)]
 #[derive(Drop)]
 pub enum ItemListOf<O: Drop, M: Drop, C: Drop, E: Drop, N: Drop, L: Drop, D: Drop> {
-    /// One item or more, behind the space `s`.
+    /// One item or more, behind the space `space`.
     Present {
         /// The array's encoding indicator and the space behind it.
         head: Option<(Indicator, M)>,
-        s: O,
+        space: O,
         items: ItemsOf<O, M, C, E, N, L, D>,
     },
     /// No item: an indicator, if there is one, and space.
     Absent {
         indicator: Option<Indicator>,
-        s: O,
+        space: O,
     },
 }
 
@@ -210,13 +258,13 @@ pub enum ItemListOf<O: Drop, M: Drop, C: Drop, E: Drop, N: Drop, L: Drop, D: Dro
 pub struct ItemsOf<O: Drop, M: Drop, C: Drop, E: Drop, N: Drop, L: Drop, D: Drop> {
     pub(crate) row: Vec<(ItemOf<O, M, C, E, N, L, D>, C)>,
     pub(crate) last: ItemOf<O, M, C, E, N, L, D>,
-    pub(crate) soc: E,
+    pub(crate) end: E,
 }
 
 /// A key of a map with its value, and the spaces round the colon between them.
 #[cycle(tree)]
 #[derive(Drop)]
-pub struct KpOf<O: Drop, M: Drop, C: Drop, E: Drop, N: Drop, L: Drop, D: Drop> {
+pub struct PairOf<O: Drop, M: Drop, C: Drop, E: Drop, N: Drop, L: Drop, D: Drop> {
     pub(crate) key: ItemOf<O, M, C, E, N, L, D>,
     pub(crate) before_colon: O,
     pub(crate) after_colon: O,
@@ -227,17 +275,17 @@ pub struct KpOf<O: Drop, M: Drop, C: Drop, E: Drop, N: Drop, L: Drop, D: Drop> {
 #[cycle(tree)]
 #[derive(Drop)]
 pub enum PairListOf<O: Drop, M: Drop, C: Drop, E: Drop, N: Drop, L: Drop, D: Drop> {
-    /// One pair or more, behind the space `s`.
+    /// One pair or more, behind the space `space`.
     Present {
         /// The map's encoding indicator and the space behind it.
         head: Option<(Indicator, M)>,
-        s: O,
+        space: O,
         pairs: PairsOf<O, M, C, E, N, L, D>,
     },
     /// No pair: an indicator, if there is one, and space.
     Absent {
         indicator: Option<Indicator>,
-        s: O,
+        space: O,
     },
 }
 
@@ -245,9 +293,9 @@ pub enum PairListOf<O: Drop, M: Drop, C: Drop, E: Drop, N: Drop, L: Drop, D: Dro
 #[cycle(tree)]
 #[derive(Drop)]
 pub struct PairsOf<O: Drop, M: Drop, C: Drop, E: Drop, N: Drop, L: Drop, D: Drop> {
-    pub(crate) row: Vec<(KpOf<O, M, C, E, N, L, D>, C)>,
-    pub(crate) last: KpOf<O, M, C, E, N, L, D>,
-    pub(crate) soc: E,
+    pub(crate) row: Vec<(PairOf<O, M, C, E, N, L, D>, C)>,
+    pub(crate) last: PairOf<O, M, C, E, N, L, D>,
+    pub(crate) end: E,
 }
 
 /// An item with the spaces round it, over any leaves.

@@ -16,8 +16,8 @@ mod walk;
 use crate::tree::{Item, Sequence, StandaloneItem};
 use cbor_edn_parts::error::CallbackError;
 use cbor_edn_parts::number::Number;
-use cbor_edn_parts::space::{Ms, Msc, S, Soc, TakesComment};
-use cbor_edn_parts::string::{Dots, Literal};
+use cbor_edn_parts::space::{ListEnd, MandatorySpace, Separator, Space, TakesComment};
+use cbor_edn_parts::string::{Ellipsis, Literal};
 pub use map::MapValueHandler;
 use seek::{ApplicationItems, Literals, Tags, TagsNoDeeper};
 use std::alloc::{AllocError, Global};
@@ -27,27 +27,27 @@ use walk::Walk;
 
 /// The walk over trees of a text.
 type TextWalk<'a, F, K> = Walk<
-    S<'a>,
-    Ms<'a>,
-    Msc<'a>,
-    Soc<'a>,
+    Space<'a>,
+    MandatorySpace<'a>,
+    Separator<'a>,
+    ListEnd<'a>,
     Number<'a>,
     Literal<'a>,
-    Dots<'a>,
+    Ellipsis<'a>,
     F,
     K,
 >;
 
 /// Puts the comment that an answer asks for into the space that follows its item.
-fn put_answer<S: TakesComment>(
+fn put_answer<X: TakesComment>(
     answer: Result<Option<String>, CallbackError>,
-    space: &mut S,
+    space: &mut X,
     alloc: Global,
 ) -> Result<(), AllocError>
     ensures had_memory { OnOk result (answer_of answer ≢ no_memory) }
-    ensures put { OnOk result (S.bytes space.new ≡ answered (answer_of answer) (S.bytes space.old)) }
+    ensures put { OnOk result (X.bytes space.new ≡ answered (answer_of answer) (X.bytes space.old)) }
     ensures had_comment { OnErr result (answer_of answer ≢ fine) }
-    ensures out_of_memory { OnErr result (S.bytes space.new ≡ S.bytes space.old) }
+    ensures out_of_memory { OnErr result (X.bytes space.new ≡ X.bytes space.old) }
 {
     match answer {
         Ok(Some(comment)) | Err(CallbackError::Comment(comment)) => {

@@ -7,9 +7,9 @@ use cbor_edn::engine::Options;
 use cbor_edn_application::visits::{resolve_addresses, resolve_times, to_999};
 use cbor_edn_core::tree::Sequence;
 use cbor_edn_parts::error::{Fault, InconsistentEdn, ParseError, Refusal};
+use cbor_edn_parts::input::Input;
 use cbor_edn_parts::location::with_location;
 use cbor_edn_parts::looks::Looks;
-use cbor_edn_parts::text::Text;
 use cbor_edn_places::offset::offset_of;
 use cbor_edn_places::path::{cut_to_item, first_valueless};
 use std::alloc::{AllocError, Global};
@@ -23,7 +23,7 @@ pub fn located(text: &str, offset: usize) -> Option<ParseError>
     }
     let mut looks = Looks::new();
     let refusal = Refusal::invalid(offset);
-    Some(with_location(&Text::new(text), refusal, &mut looks))
+    Some(with_location(&Input::new(text), refusal, &mut looks))
 }
 
 // Does what `diag2cbor` does to literals before it encodes items.

@@ -1,18 +1,20 @@
 //! The leaves of a tree at a place of a text: spaces and encoding indicators, and the locations of refusals.
 ghost use Rattle.std.specs.Str.{IsCharBoundary};
 ghost use Rattle.cbor_edn_parts.specs.internal.Scans.{ScanLands};
-ghost use Rattle.cbor_edn_parts.specs.internal.Text.{text_bytes};
+ghost use Rattle.cbor_edn_parts.specs.internal.Input.{text_bytes};
 
 use cbor_edn_expect::failures::Failures;
 use cbor_edn_expect::{expect, expect_row};
 use cbor_edn_parts::error::Refusal;
 use cbor_edn_parts::indicator::{Indicator, indicator_at};
+use cbor_edn_parts::input::Input;
 use cbor_edn_parts::looks::Looks;
 use cbor_edn_parts::number::{Number, number_start};
 use cbor_edn_parts::policy::{DelimiterPolicy, Spacing};
-use cbor_edn_parts::space::{ItemEnd, Ms, Msc, S, Soc, separator_behind, space, space_behind};
-use cbor_edn_parts::string::{Dots, Literal, dots_at, literal_at};
-use cbor_edn_parts::text::Text;
+use cbor_edn_parts::space::{
+    ItemEnd, ListEnd, MandatorySpace, Separator, Space, separator_behind, space_at, space_behind,
+};
+use cbor_edn_parts::string::{Ellipsis, Literal, ellipsis_at, literal_at};
 use std::alloc::{AllocError, Global};
 use std::test::Fail;
 
@@ -23,8 +25,8 @@ trait AnyLeaf: PartialEq + Drop {
     fn told(&self) -> &str;
 }
 
-impl<'a> AnyLeaf for S<'a> {
-    fn copied(&self) -> Result<S<'a>, AllocError> {
+impl<'a> AnyLeaf for Space<'a> {
+    fn copied(&self) -> Result<Space<'a>, AllocError> {
         self.clone()
     }
 
@@ -33,8 +35,8 @@ impl<'a> AnyLeaf for S<'a> {
     }
 }
 
-impl<'a> AnyLeaf for Ms<'a> {
-    fn copied(&self) -> Result<Ms<'a>, AllocError> {
+impl<'a> AnyLeaf for MandatorySpace<'a> {
+    fn copied(&self) -> Result<MandatorySpace<'a>, AllocError> {
         self.clone()
     }
 
@@ -43,8 +45,8 @@ impl<'a> AnyLeaf for Ms<'a> {
     }
 }
 
-impl<'a> AnyLeaf for Soc<'a> {
-    fn copied(&self) -> Result<Soc<'a>, AllocError> {
+impl<'a> AnyLeaf for ListEnd<'a> {
+    fn copied(&self) -> Result<ListEnd<'a>, AllocError> {
         self.clone()
     }
 
@@ -53,8 +55,8 @@ impl<'a> AnyLeaf for Soc<'a> {
     }
 }
 
-impl<'a> AnyLeaf for Msc<'a> {
-    fn copied(&self) -> Result<Msc<'a>, AllocError> {
+impl<'a> AnyLeaf for Separator<'a> {
+    fn copied(&self) -> Result<Separator<'a>, AllocError> {
         self.clone()
     }
 
@@ -83,8 +85,8 @@ impl<'a> AnyLeaf for Literal<'a> {
     }
 }
 
-impl<'a> AnyLeaf for Dots<'a> {
-    fn copied(&self) -> Result<Dots<'a>, AllocError> {
+impl<'a> AnyLeaf for Ellipsis<'a> {
+    fn copied(&self) -> Result<Ellipsis<'a>, AllocError> {
         self.clone()
     }
 
@@ -110,26 +112,26 @@ trait AnySpace: AnyLeaf {
     fn by(&self, alloc: Global, spacing: Spacing) -> Result<Self, AllocError>;
 }
 
-impl<'a> AnySpace for S<'a> {
-    fn by(&self, alloc: Global, spacing: Spacing) -> Result<S<'a>, AllocError> {
+impl<'a> AnySpace for Space<'a> {
+    fn by(&self, alloc: Global, spacing: Spacing) -> Result<Space<'a>, AllocError> {
         self.spaced(alloc, spacing)
     }
 }
 
-impl<'a> AnySpace for Ms<'a> {
-    fn by(&self, alloc: Global, spacing: Spacing) -> Result<Ms<'a>, AllocError> {
+impl<'a> AnySpace for MandatorySpace<'a> {
+    fn by(&self, alloc: Global, spacing: Spacing) -> Result<MandatorySpace<'a>, AllocError> {
         self.spaced(alloc, spacing)
     }
 }
 
-impl<'a> AnySpace for Soc<'a> {
-    fn by(&self, alloc: Global, spacing: Spacing) -> Result<Soc<'a>, AllocError> {
+impl<'a> AnySpace for ListEnd<'a> {
+    fn by(&self, alloc: Global, spacing: Spacing) -> Result<ListEnd<'a>, AllocError> {
         self.spaced(alloc, spacing)
     }
 }
 
-impl<'a> AnySpace for Msc<'a> {
-    fn by(&self, alloc: Global, spacing: Spacing) -> Result<Msc<'a>, AllocError> {
+impl<'a> AnySpace for Separator<'a> {
+    fn by(&self, alloc: Global, spacing: Spacing) -> Result<Separator<'a>, AllocError> {
         self.spaced(alloc, spacing)
     }
 }
@@ -145,18 +147,22 @@ fn text_by<T: AnySpace>(
 }
 
 /// The space that a text begins with.
-fn space_of(text: &str) -> Result<S<'_>, Fail> {
-    let text = Text::new(text);
-    let (before, _) = space(&text, text.start(), &mut Looks::new())?;
+fn space_of(text: &str) -> Result<Space<'_>, Fail> {
+    let text = Input::new(text);
+    let (before, _) = space_at(&text, text.start(), &mut Looks::new())?;
     Ok(before)
 }
 
-fn mandatory_of(text: &str) -> Result<Ms<'_>, Fail> {
-    Ok(space_of(text)?.into_ms().ok_or("no space")?)
+fn mandatory_of(text: &str) -> Result<MandatorySpace<'_>, Fail> {
+    Ok(space_of(text)?.into_mandatory().ok_or("no space")?)
 }
 
 // The separator at a place.
-fn separator<'a>(text: &Text<'a>, at: usize, looks: &mut Looks) -> Result<(Soc<'a>, usize), Refusal>
+fn separator<'a>(
+    text: &Input<'a>,
+    at: usize,
+    looks: &mut Looks,
+) -> Result<(ListEnd<'a>, usize), Refusal>
     requires { IsCharBoundary (text_bytes text.now) at }
     ensures { ScanLands (text_bytes text.now) at result }
 {
@@ -164,19 +170,19 @@ fn separator<'a>(text: &Text<'a>, at: usize, looks: &mut Looks) -> Result<(Soc<'
 }
 
 /// The separator that a text begins with.
-fn separator_of(text: &str) -> Result<Soc<'_>, Fail> {
-    let text = Text::new(text);
+fn separator_of(text: &str) -> Result<ListEnd<'_>, Fail> {
+    let text = Input::new(text);
     let (end, _) = separator(&text, text.start(), &mut Looks::new())?;
     Ok(end)
 }
 
-fn between_of(text: &str) -> Result<Msc<'_>, Fail> {
-    Ok(separator_of(text)?.into_msc().ok_or("no separator")?)
+fn between_of(text: &str) -> Result<Separator<'_>, Fail> {
+    Ok(separator_of(text)?.into_separator().ok_or("no separator")?)
 }
 
 // The number at a place, and the place behind it.
 fn number_at<'a>(
-    text: &Text<'a>,
+    text: &Input<'a>,
     from: usize,
     looks: &mut Looks,
 ) -> Result<(Number<'a>, usize), Refusal>
@@ -188,7 +194,7 @@ fn number_at<'a>(
 
 /// The number behind the separator that a text begins with.
 fn number_behind(text: &str) -> Result<Number<'_>, Fail> {
-    let text = Text::new(text);
+    let text = Input::new(text);
     let (_, to) = separator(&text, text.start(), &mut Looks::new())?;
     let (number, _) = number_at(&text, to, &mut Looks::new())?;
     Ok(number)
@@ -201,7 +207,11 @@ fn spaces(rt: HostRuntime) -> Result<(), Fail> {
     let alloc = rt.alloc();
     let mut failures = Failures::new(alloc);
     failures.held(alloc, "space", is_leaf(space_of(LEADING), " /\u{e9}/ "))?;
-    failures.held(alloc, "no space", is_other(space_of(LEADING), S::empty()))?;
+    failures.held(
+        alloc,
+        "no space",
+        is_other(space_of(LEADING), Space::empty()),
+    )?;
     failures.held(
         alloc,
         "mandatory",
@@ -210,7 +220,7 @@ fn spaces(rt: HostRuntime) -> Result<(), Fail> {
     failures.held(
         alloc,
         "plain space",
-        is_other(mandatory_of(LEADING), Ms::space()),
+        is_other(mandatory_of(LEADING), MandatorySpace::single()),
     )?;
     failures.held(
         alloc,
@@ -229,17 +239,20 @@ fn spaces(rt: HostRuntime) -> Result<(), Fail> {
 #[test]
 fn plain_spaces(rt: HostRuntime) -> Result<(), Fail> {
     let alloc = rt.alloc();
-    expect_row(alloc, "space", S::space().as_str(), " ")?;
-    expect_row(alloc, "mandatory", Ms::space().as_str(), " ")?;
-    expect_row(alloc, "comma", Msc::comma().as_str(), ",")?;
-    expect_row(alloc, "and space", Msc::comma_space().as_str(), ", ")
+    expect_row(alloc, "space", Space::single().as_str(), " ")?;
+    expect_row(alloc, "mandatory", MandatorySpace::single().as_str(), " ")?;
+    expect_row(alloc, "comma", Separator::comma().as_str(), ",")?;
+    expect_row(alloc, "and space", Separator::comma_space().as_str(), ", ")
 }
 
 #[test]
 fn plain_spaces_as_mandatory_ones(_rt: HostRuntime) -> Result<(), Fail> {
-    expect("no space", S::empty().into_ms() == None)?;
-    expect("a space", S::space().into_ms() == Some(Ms::space()))?;
-    expect("no comma", Soc::empty().into_msc() == None)
+    expect("no space", Space::empty().into_mandatory() == None)?;
+    expect(
+        "a space",
+        Space::single().into_mandatory() == Some(MandatorySpace::single()),
+    )?;
+    expect("no comma", ListEnd::empty().into_separator() == None)
 }
 
 /// Texts, a column, and the space and the mandatory space that they begin with by it, from the table of
@@ -339,19 +352,19 @@ fn endless_indents(rt: HostRuntime) -> Result<(), Fail> {
 const ENDLESS: Spacing = Spacing::NewLine(usize::MAX);
 
 fn is_space_refused(alloc: Global) -> bool {
-    S::empty().spaced(alloc, ENDLESS).is_err()
+    Space::empty().spaced(alloc, ENDLESS).is_err()
 }
 
 fn is_mandatory_refused(alloc: Global) -> bool {
-    Ms::space().spaced(alloc, ENDLESS).is_err()
+    MandatorySpace::single().spaced(alloc, ENDLESS).is_err()
 }
 
 fn is_between_refused(alloc: Global) -> bool {
-    Msc::comma().spaced(alloc, ENDLESS).is_err()
+    Separator::comma().spaced(alloc, ENDLESS).is_err()
 }
 
 fn is_separator_refused(alloc: Global) -> bool {
-    Soc::empty().spaced(alloc, ENDLESS).is_err()
+    ListEnd::empty().spaced(alloc, ENDLESS).is_err()
 }
 
 /// Comments, and how they are written, by `parts/specs/Notes.antt`.
@@ -371,7 +384,7 @@ fn notes(rt: HostRuntime) -> Result<(), Fail> {
     let alloc = rt.alloc();
     let mut failures = Failures::new(alloc);
     for &(comment, wanted) in NOTES {
-        let note = S::note(alloc, comment)?;
+        let note = Space::note(alloc, comment)?;
         failures.row(alloc, comment, note.as_str(), wanted)?;
     }
     failures.end()
@@ -388,8 +401,8 @@ fn indented(_rt: HostRuntime) -> Result<(), Fail> {
 }
 
 // The space and the separator behind the number that a text begins with, and where they end.
-fn space_behind_number(text: &str) -> Result<(S<'_>, usize), Fail> {
-    let text = Text::new(text);
+fn space_behind_number(text: &str) -> Result<(Space<'_>, usize), Fail> {
+    let text = Input::new(text);
     let (_, item) = number_at(&text, text.start(), &mut Looks::new())?;
     let end = ItemEnd {
         at: item,
@@ -398,8 +411,8 @@ fn space_behind_number(text: &str) -> Result<(S<'_>, usize), Fail> {
     Ok(space_behind(&text, end, &mut Looks::new())?)
 }
 
-fn separator_behind_number(text: &str) -> Result<(Soc<'_>, usize), Fail> {
-    let text = Text::new(text);
+fn separator_behind_number(text: &str) -> Result<(ListEnd<'_>, usize), Fail> {
+    let text = Input::new(text);
     let (_, item) = number_at(&text, text.start(), &mut Looks::new())?;
     let end = ItemEnd {
         at: item,
@@ -421,29 +434,29 @@ fn spaces_behind_items(rt: HostRuntime) -> Result<(), Fail> {
 }
 
 fn literal_of(text: &str) -> Result<Literal<'_>, Fail> {
-    let text = Text::new(text);
+    let text = Input::new(text);
     let (literal, _) = literal_at(&text, text.start(), &mut Looks::new())?;
     Ok(literal)
 }
 
 /// The dots behind the literal that a text begins with.
-fn dots_behind(text: &str) -> Result<Dots<'_>, Fail> {
-    let text = Text::new(text);
+fn ellipsis_behind(text: &str) -> Result<Ellipsis<'_>, Fail> {
+    let text = Input::new(text);
     let (_, to) = literal_at(&text, text.start(), &mut Looks::new())?;
-    let (dots, _) = dots_at(&text, to, &mut Looks::new())?;
-    Ok(dots)
+    let (ellipsis, _) = ellipsis_at(&text, to, &mut Looks::new())?;
+    Ok(ellipsis)
 }
 
 #[test]
-fn literals_and_dots(_rt: HostRuntime) -> Result<(), Fail> {
+fn literals_and_ellipses(_rt: HostRuntime) -> Result<(), Fail> {
     let text = "h'\u{e9}'...";
     expect("literal", is_leaf(literal_of(text), "h'\u{e9}'")?)?;
-    expect("dots", is_leaf(dots_behind(text), "...")?)
+    expect("dots", is_leaf(ellipsis_behind(text), "...")?)
 }
 
 // The indicator that a text begins with, and how many bytes it takes.
 fn indicator_of(text: &str) -> (Option<Indicator>, usize) {
-    let text = Text::new(text);
+    let text = Input::new(text);
     indicator_at(&text, text.start(), &mut Looks::new())
 }
 
@@ -479,19 +492,19 @@ enum Leaf {
     Space,
     Separator,
     Literal,
-    Dots,
+    Ellipsis,
 }
 
 fn refusal_of(leaf: Leaf, text: &str) -> Option<Refusal> {
-    let text = Text::new(text);
+    let text = Input::new(text);
     let from = text.start();
     let mut looks = Looks::new();
     match leaf {
         Leaf::Number => number_at(&text, from, &mut looks).err(),
-        Leaf::Space => space(&text, from, &mut looks).err(),
+        Leaf::Space => space_at(&text, from, &mut looks).err(),
         Leaf::Separator => separator(&text, from, &mut looks).err(),
         Leaf::Literal => literal_at(&text, from, &mut looks).err(),
-        Leaf::Dots => dots_at(&text, from, &mut looks).err(),
+        Leaf::Ellipsis => ellipsis_at(&text, from, &mut looks).err(),
     }
 }
 
@@ -502,7 +515,7 @@ const REFUSALS: &[(Leaf, &str, usize)] = &[
     (Leaf::Space, "/\u{e9}\u{1}/", 3),
     (Leaf::Separator, " # no end", 9),
     (Leaf::Literal, "\"a\u{1}\"", 2),
-    (Leaf::Dots, "..", 2),
+    (Leaf::Ellipsis, "..", 2),
 ];
 
 #[test]

@@ -12,7 +12,7 @@ ghost use Rattle.cbor_edn_parts.specs.Errors.{error_kind, error_offset, error_li
 ghost use Rattle.cbor_edn_parts.specs.Indicator.{indicator_text};
 ghost use Rattle.cbor_edn_parts.specs.LayoutColumns.{least, respaced};
 ghost use Rattle.cbor_edn_parts.specs.Leaves as leaves;
-ghost use Rattle.cbor_edn_parts.specs.Leaves.{s_bytes, msc_bytes};
+ghost use Rattle.cbor_edn_parts.specs.Leaves.{space_bytes, separator_bytes};
 ghost use Rattle.cbor_edn_parts.specs.Location.{IsLocation};
 ghost use Rattle.cbor_edn_parts.specs.Notes.{noted};
 ghost use Rattle.cbor_edn_parts.specs.Refusals.{IfTold};
@@ -20,7 +20,7 @@ ghost use Rattle.cbor_edn_parts.specs.Spacing as kind;
 ghost use Rattle.cbor_edn_parts.specs.declared.error.ParseErrorKind.TheVariants.{Invalid};
 ghost use Rattle.cbor_edn_parts.specs.declared.layout.Slot.TheVariants.{Between};
 ghost use Rattle.cbor_edn_parts.specs.internal.Scans.{IsAt};
-ghost use Rattle.cbor_edn_parts.specs.internal.Text.{text_bytes};
+ghost use Rattle.cbor_edn_parts.specs.internal.Input.{text_bytes};
 ghost use Rattle.cbor_edn_model.specs.cbor.Meaning as meaning;
 ghost use Rattle.cbor_edn_model.specs.cbor.Meaning.{means_integer};
 ghost use Rattle.cbor_edn_model.specs.cbor.Value.{encoding};
@@ -40,22 +40,25 @@ use cbor_edn_conversions::steps::NoAddress;
 use cbor_edn_literals::address::IpVersion;
 use cbor_edn_model::cbor::decode::head::Argument;
 use cbor_edn_model::cbor::heads::Width;
-use cbor_edn_model::text::lookahead::Opening;
+use cbor_edn_model::text::lookahead::FormStart;
 use cbor_edn_parts::buffer::TextBuffer;
 use cbor_edn_parts::error::{Fault, InconsistentEdn, ParseError, Refusal};
 use cbor_edn_parts::indicator::Indicator;
+use cbor_edn_parts::input::Input;
 use cbor_edn_parts::layout::{Layout, Slot};
 use cbor_edn_parts::looks::Looks;
 use cbor_edn_parts::number::Integer;
 use cbor_edn_parts::policy::Spacing;
-use cbor_edn_parts::space::{Ms, Msc, S};
+use cbor_edn_parts::space::{MandatorySpace, Separator, Space};
 use cbor_edn_parts::string::StringKind;
-use cbor_edn_parts::text::Text;
 use std::alloc::{AllocError, Global};
 
 /// `tree::copy::clone_spaces`.
-pub fn clone_spaces<'a>(before: &S<'a>, after: &S<'a>) -> Result<(S<'a>, S<'a>), AllocError>
-    ensures { IfOk result (λ p. (s_bytes p.0 ≡ s_bytes before.now) × (s_bytes p.1 ≡ s_bytes after.now)) }
+pub fn clone_spaces<'a>(
+    before: &Space<'a>,
+    after: &Space<'a>,
+) -> Result<(Space<'a>, Space<'a>), AllocError>
+    ensures { IfOk result (λ p. (space_bytes p.0 ≡ space_bytes before.now) × (space_bytes p.1 ≡ space_bytes after.now)) }
 {
     cbor_edn_model::tree::copy::clone_spaces(before, after)
 }
@@ -68,7 +71,10 @@ pub fn depth_of_embedded(items: usize) -> usize
 }
 
 /// `text::list_head::have_same_head`.
-pub fn have_same_head(a: &Option<(Indicator, Ms<'_>)>, b: &Option<(Indicator, Ms<'_>)>) -> bool
+pub fn have_same_head(
+    a: &Option<(Indicator, MandatorySpace<'_>)>,
+    b: &Option<(Indicator, MandatorySpace<'_>)>,
+) -> bool
     ensures { result ≡ same_head (view_list_head texts a.now) (view_list_head texts b.now) }
 {
     cbor_edn_model::text::list_head::have_same_head(a, b)
@@ -77,20 +83,20 @@ pub fn have_same_head(a: &Option<(Indicator, Ms<'_>)>, b: &Option<(Indicator, Ms
 /// `text::lookahead::list_head_and_space`.
 pub fn list_head_and_space<'a>(
     indicator: Option<Indicator>,
-    s: S<'a>,
-) -> Option<(Option<(Indicator, Ms<'a>)>, S<'a>)>
-    ensures some { IfSome result (λ p. list_head_of indicator (s_bytes s.entry) ≡ Ok (view_list_head texts p.0, s_bytes p.1)) }
-    ensures none { IfNone result (list_head_of indicator (s_bytes s.entry) ≡ Err Invalid) }
+    s: Space<'a>,
+) -> Option<(Option<(Indicator, MandatorySpace<'a>)>, Space<'a>)>
+    ensures some { IfSome result (λ p. list_head_of indicator (space_bytes s.entry) ≡ Ok (view_list_head texts p.0, space_bytes p.1)) }
+    ensures none { IfNone result (list_head_of indicator (space_bytes s.entry) ≡ Err Invalid) }
 {
     cbor_edn_model::text::lookahead::list_head_and_space(indicator, s)
 }
 
-/// `text::lookahead::opening_at`, where the text begins.
-pub fn opening_of(input: &str, looks: &mut Looks) -> Opening
+/// `text::lookahead::form_start_at`, where the text begins.
+pub fn form_start_of(input: &str, looks: &mut Looks) -> FormStart
     ensures { Opens input.now 0 result }
 {
-    let text = Text::new(input);
-    cbor_edn_model::text::lookahead::opening_at(&text, text.start(), looks)
+    let text = Input::new(input);
+    cbor_edn_model::text::lookahead::form_start_at(&text, text.start(), looks)
 }
 
 /// `text::write::print_indicator`.
@@ -102,11 +108,11 @@ pub fn print_indicator(out: &mut TextBuffer, indicator: Option<Indicator>) -> Re
 
 /// `layout::bare::moved_space`.
 pub fn moved_space<'a>(
-    head: &Option<(Indicator, Ms<'a>)>,
-    first: &S<'a>,
+    head: &Option<(Indicator, MandatorySpace<'a>)>,
+    first: &Space<'a>,
     alloc: Global,
-) -> Result<Option<S<'a>>, AllocError>
-    ensures { IfOk result (λ moved. space_or moved (s_bytes first.now) ≡ first_space (view_list_head texts head.now) (s_bytes first.now)) }
+) -> Result<Option<Space<'a>>, AllocError>
+    ensures { IfOk result (λ moved. space_or moved (space_bytes first.now) ≡ first_space (view_list_head texts head.now) (space_bytes first.now)) }
 {
     cbor_edn_model::layout::bare::moved_space(head, first, alloc)
 }
@@ -151,8 +157,8 @@ pub fn encode_text(
     cbor_edn_model::cbor::heads::encode_text(out, kind, indicator, content)
 }
 
-/// `Text::byte`.
-pub fn byte(text: &Text<'_>, at: usize, looks: &mut Looks) -> Option<u8>
+/// `Input::byte`.
+pub fn byte(text: &Input<'_>, at: usize, looks: &mut Looks) -> Option<u8>
     ensures value { IsAt (text_bytes text.now) at result }
     ensures count { looks.new.count ≡ looks.old.count + 1 }
 {
@@ -160,42 +166,42 @@ pub fn byte(text: &Text<'_>, at: usize, looks: &mut Looks) -> Option<u8>
 }
 
 /// `location::with_location`.
-pub fn with_location(text: &Text<'_>, refusal: Refusal, looks: &mut Looks) -> ParseError
-    requires { IsCharBoundary (text_bytes text.now) refusal.at }
+pub fn with_location(text: &Input<'_>, refusal: Refusal, looks: &mut Looks) -> ParseError
+    requires { IsCharBoundary (text_bytes text.now) refusal.offset }
     ensures kind { error_kind result ≡ refusal.kind }
     ensures place { IsLocation (text_bytes text.now) (error_offset result) (error_line result) (error_column result) }
-    ensures cost { looks.new.count ≡ looks.old.count + refusal.at }
+    ensures cost { looks.new.count ≡ looks.old.count + refusal.offset }
 {
     cbor_edn_parts::location::with_location(text, refusal, looks)
 }
 
-/// The text of `S::note`.
+/// The text of `Space::note`.
 pub fn note(alloc: Global, comment: &str) -> Result<String, AllocError>
     ensures { IfOk result (λ t. string_bytes t ≡ noted comment.now) }
 {
-    let space = S::note(alloc, comment)?;
+    let space = Space::note(alloc, comment)?;
     String::from_str(alloc, space.as_str())
 }
 
 /// `layout::print_space`.
 pub fn print_space(
     out: &mut TextBuffer,
-    space: &S<'_>,
+    space: &Space<'_>,
     layout: Layout,
     slot: Slot,
 ) -> Result<(), AllocError>
-    ensures { OnOk result (buffer_bytes out.new ≡ buffer_bytes out.old ++ respaced kind.S slot layout (s_bytes space.now)) }
+    ensures { OnOk result (buffer_bytes out.new ≡ buffer_bytes out.old ++ respaced kind.Optional slot layout (space_bytes space.now)) }
 {
     cbor_edn_parts::layout::print_space(out, space, layout, slot)
 }
 
 /// `layout::lay_separator`.
 pub fn lay_separator<'a>(
-    separator: &mut Msc<'a>,
+    separator: &mut Separator<'a>,
     alloc: Global,
     layout: Layout,
 ) -> Result<(), AllocError>
-    ensures laid { OnOk result (msc_bytes separator.new ≡ respaced kind.MSC Between layout (msc_bytes separator.old)) }
+    ensures laid { OnOk result (separator_bytes separator.new ≡ respaced kind.Separating Between layout (separator_bytes separator.old)) }
     ensures least { layout ≡ least → IsOk result }
 {
     cbor_edn_parts::layout::lay_separator(separator, alloc, layout)

@@ -1,6 +1,6 @@
 -- Keywords, labels, and what spells an item.
-pub mod Labels
 pub mod ListHeads
+pub mod Openers
 pub mod TextLaws
 pub mod Openings
 pub mod Spelling

@@ -2,7 +2,7 @@
 use Rattle.std.specs.Prelude.{ℕ, ◌≡◌, ◌⊎◌, ◌+◌, ◌*◌, ◌/◌, ◌%◌, ◌-◌, ◌^◌, ◌<◌, ◌==◌, ◌||◌, ◌&&◌, nat_le, nat_lt, Bool, false, List, [], ◌∷◌, ◌++◌, length, Option, Some, None, All, if◌then◌else◌, zero, suc}
 use Rattle.std.specs.Char.{digit_value, digit_char}
 use Rattle.hex.specs.Hex.{encode_lower}
-use Rattle.cbor_edn_parts.specs.Space.{Each, IsS, InHash}
+use Rattle.cbor_edn_parts.specs.Space.{Each, IsSpace, InHash}
 use Rattle.cbor_edn_parts.specs.Number.{Hexadecimal, IsDigitOf}
 use Rattle.cbor_edn_parts.specs.Literal.{single_quote, double_quote, backslash, Quoting, Double, Single, Prefixed, IsLiteral}
 use Rattle.cbor_edn_parts.specs.declared.error.InconsistentEdn.{InconsistentEdn}
@@ -16,12 +16,12 @@ use Rattle.cbor_edn_parts.specs.declared.string.StringKind.TheVariants.{Bytes, T
 pub data IsHexPairs : List ℕ → List ℕ → Type 0 where
   end : IsHexPairs [] []
   unended : {x : List ℕ} → Each InHash x → IsHexPairs (35 ∷ x) []
-  pair : (a b : ℕ) {s t x bs : List ℕ} → IsDigitOf Hexadecimal a → IsS s → IsDigitOf Hexadecimal b → IsS t → IsHexPairs x bs
+  pair : (a b : ℕ) {s t x bs : List ℕ} → IsDigitOf Hexadecimal a → IsSpace s → IsDigitOf Hexadecimal b → IsSpace t → IsHexPairs x bs
       → IsHexPairs (a ∷ (s ++ (b ∷ (t ++ x)))) ((16 * digit_value a + digit_value b) ∷ bs)
 
 -- The text v of a literal with the prefix `h` stands for these bytes: `01 /c/ 02 # rest` for 01 02.
 abbrev pub IsHex : List ℕ → List ℕ → Type 0
-IsHex v bs = (s x : List ℕ) × IsS s × IsHexPairs x bs × (v ≡ s ++ x)
+IsHex v bs = (s x : List ℕ) × IsSpace s × IsHexPairs x bs × (v ≡ s ++ x)
 
 -- ---- b64, b32, h32: symbols of 6 or 5 bits
 

@@ -4,13 +4,13 @@ use Rattle.cbor_edn_parts.specs.Bytes.{Follow}
 use Rattle.cbor_edn_parts.specs.Indicator.{indicator_text, indicator_at}
 use Rattle.cbor_edn_parts.specs.declared.indicator.Indicator.{Indicator}
 use Rattle.cbor_edn_parts.specs.internal.Lex.{Is}
-use Rattle.cbor_edn_parts.specs.Space.{IsS, IsMs, IsSoc, IsMsc}
-use Rattle.cbor_edn_parts.specs.internal.SpaceTokens.{space, separator, is_s, is_ms, is_soc, is_msc}
+use Rattle.cbor_edn_parts.specs.Space.{IsSpace, IsMandatorySpace, IsListEnd, IsSeparator}
+use Rattle.cbor_edn_parts.specs.internal.SpaceTokens.{space, separator, is_space, is_mandatory_space, is_list_end, is_separator}
 use Rattle.cbor_edn_parts.specs.Number.{IsNumber, HasInteger}
 use Rattle.cbor_edn_parts.specs.internal.NumberReading.{integer_of}
 use Rattle.cbor_edn_parts.specs.internal.NumberTokens.{number, is_number}
-use Rattle.cbor_edn_parts.specs.Literal.{IsQuoted, AreDots}
-use Rattle.cbor_edn_parts.specs.internal.LiteralTokens.{literal, dots, is_literal, are_dots}
+use Rattle.cbor_edn_parts.specs.Literal.{IsQuoted, IsEllipsis}
+use Rattle.cbor_edn_parts.specs.internal.LiteralTokens.{literal, ellipsis, is_literal, is_ellipsis}
 use Rattle.cbor_edn_parts.specs.Contents.{HasContent, IsSupported, hex_literal, text_literal}
 use Rattle.cbor_edn_parts.specs.internal.ContentReading.{literal_content, literal_kind, is_supported}
 use Rattle.cbor_edn_parts.specs.declared.string.StringKind.{StringKind}
@@ -18,12 +18,12 @@ use Rattle.cbor_edn_parts.specs.declared.string.StringKind.TheVariants.{Bytes, T
 
 -- Each test takes exactly the texts of the grammar's rule, and so does its automaton.
 pub record SpaceTexts (text : List ℕ) : Type 0 where
-  pub s : IsS text ↔ (is_s text ≡ true)
-  pub ms : IsMs text ↔ (is_ms text ≡ true)
-  pub soc : IsSoc text ↔ (is_soc text ≡ true)
-  pub msc : IsMsc text ↔ (is_msc text ≡ true)
-  pub s_automaton : IsS text ↔ Is space text
-  pub soc_automaton : IsSoc text ↔ Is separator text
+  pub optional : IsSpace text ↔ (is_space text ≡ true)
+  pub mandatory : IsMandatorySpace text ↔ (is_mandatory_space text ≡ true)
+  pub at_end : IsListEnd text ↔ (is_list_end text ≡ true)
+  pub separating : IsSeparator text ↔ (is_separator text ≡ true)
+  pub optional_automaton : IsSpace text ↔ Is space text
+  pub at_end_automaton : IsListEnd text ↔ Is separator text
 
 -- The test and the automaton take exactly the numbers, and the reader of integers answers exactly the integer of a text.
 pub record NumberTexts (text : List ℕ) : Type 0 where
@@ -42,8 +42,8 @@ pub record IndicatorTexts (text : List ℕ) : Type 0 where
 pub record LiteralTexts (text : List ℕ) : Type 0 where
   pub test : IsQuoted text ↔ (is_literal text ≡ true)
   pub automaton : IsQuoted text ↔ Is literal text
-  pub dots_test : AreDots text ↔ (are_dots text ≡ true)
-  pub dots_automaton : AreDots text ↔ Is dots text
+  pub ellipsis_test : IsEllipsis text ↔ (is_ellipsis text ≡ true)
+  pub ellipsis_automaton : IsEllipsis text ↔ Is ellipsis text
   pub content : (kind : StringKind) (bytes : List ℕ) → HasContent text kind bytes ↔ (IsQuoted text × (literal_content text ≡ Some (kind, bytes)))
   pub kind : (kind : StringKind) (bytes : List ℕ) → HasContent text kind bytes → literal_kind text ≡ kind
   pub supported : IsSupported text ↔ (IsQuoted text × (is_supported text ≡ true))

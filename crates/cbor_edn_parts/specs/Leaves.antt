@@ -1,29 +1,29 @@
 -- The bytes of each leaf of a tree, and that they are borrowed from the text.
 use Rattle.std.specs.Prelude.{ℕ, ℤ, pos, negsuc, ◌+◌, ◌<◌, ◌^◌, List}
 use Rattle.cbor_edn_parts.specs.LeafTexts.{leaf_bytes, IsBorrowed}
-use Rattle.cbor_edn_parts.specs.declared.space.S.{S}
-use Rattle.cbor_edn_parts.specs.declared.space.Ms.{Ms}
-use Rattle.cbor_edn_parts.specs.declared.space.Msc.{Msc}
-use Rattle.cbor_edn_parts.specs.declared.space.Soc.{Soc}
+use Rattle.cbor_edn_parts.specs.declared.space.Space.{Space}
+use Rattle.cbor_edn_parts.specs.declared.space.MandatorySpace.{MandatorySpace}
+use Rattle.cbor_edn_parts.specs.declared.space.Separator.{Separator}
+use Rattle.cbor_edn_parts.specs.declared.space.ListEnd.{ListEnd}
 use Rattle.cbor_edn_parts.specs.declared.number.Number.{Number}
 use Rattle.cbor_edn_parts.specs.declared.string.Literal.{Literal}
-use Rattle.cbor_edn_parts.specs.declared.string.Dots.{Dots}
+use Rattle.cbor_edn_parts.specs.declared.string.Ellipsis.{Ellipsis}
 use Rattle.cbor_edn_parts.specs.declared.number.Integer.{Integer}
 use Rattle.cbor_edn_parts.specs.declared.number.Integer.TheVariants.{Positive, Negative}
 use Rattle.cbor_edn_parts.specs.declared.number.small.SmallInteger.{SmallInteger}
 use Rattle.cbor_edn_parts.specs.declared.number.small.SmallInteger.TheVariants as small
 
-abbrev pub s_bytes : S → List ℕ
-s_bytes s = leaf_bytes s.text
+abbrev pub space_bytes : Space → List ℕ
+space_bytes s = leaf_bytes s.text
 
-abbrev pub ms_bytes : Ms → List ℕ
-ms_bytes s = leaf_bytes s.text
+abbrev pub mandatory_bytes : MandatorySpace → List ℕ
+mandatory_bytes s = leaf_bytes s.text
 
-abbrev pub msc_bytes : Msc → List ℕ
-msc_bytes s = leaf_bytes s.text
+abbrev pub separator_bytes : Separator → List ℕ
+separator_bytes s = leaf_bytes s.text
 
-abbrev pub soc_bytes : Soc → List ℕ
-soc_bytes s = leaf_bytes s.text
+abbrev pub list_end_bytes : ListEnd → List ℕ
+list_end_bytes s = leaf_bytes s.text
 
 abbrev pub number_bytes : Number → List ℕ
 number_bytes n = leaf_bytes n.text
@@ -31,20 +31,20 @@ number_bytes n = leaf_bytes n.text
 abbrev pub literal_bytes : Literal → List ℕ
 literal_bytes l = leaf_bytes l.text
 
-abbrev pub dots_bytes : Dots → List ℕ
-dots_bytes d = leaf_bytes d.text
+abbrev pub ellipsis_bytes : Ellipsis → List ℕ
+ellipsis_bytes d = leaf_bytes d.text
 
-abbrev pub BorrowsS : S → Type 0
-BorrowsS s = IsBorrowed s.text
+abbrev pub BorrowsSpace : Space → Type 0
+BorrowsSpace s = IsBorrowed s.text
 
-abbrev pub BorrowsMs : Ms → Type 0
-BorrowsMs s = IsBorrowed s.text
+abbrev pub BorrowsMandatory : MandatorySpace → Type 0
+BorrowsMandatory s = IsBorrowed s.text
 
-abbrev pub BorrowsMsc : Msc → Type 0
-BorrowsMsc s = IsBorrowed s.text
+abbrev pub BorrowsSeparator : Separator → Type 0
+BorrowsSeparator s = IsBorrowed s.text
 
-abbrev pub BorrowsSoc : Soc → Type 0
-BorrowsSoc s = IsBorrowed s.text
+abbrev pub BorrowsListEnd : ListEnd → Type 0
+BorrowsListEnd s = IsBorrowed s.text
 
 abbrev pub BorrowsNumber : Number → Type 0
 BorrowsNumber n = IsBorrowed n.text
@@ -52,8 +52,8 @@ BorrowsNumber n = IsBorrowed n.text
 abbrev pub BorrowsLiteral : Literal → Type 0
 BorrowsLiteral l = IsBorrowed l.text
 
-abbrev pub BorrowsDots : Dots → Type 0
-BorrowsDots d = IsBorrowed d.text
+abbrev pub BorrowsEllipsis : Ellipsis → Type 0
+BorrowsEllipsis d = IsBorrowed d.text
 
 -- the integer of a value
 abbrev pub integer : Integer → ℤ

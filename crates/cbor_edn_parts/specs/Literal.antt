@@ -91,5 +91,5 @@ abbrev pub IsQuoted : List ℕ → Type 0
 IsQuoted t = (q : Quoting) × (v : List ℕ) × IsLiteral q v t
 
 -- three dots or more
-abbrev pub AreDots : List ℕ → Type 0
-AreDots t = Each (λ c. c ≡ 46) t × (3 ≤ length t)
+abbrev pub IsEllipsis : List ℕ → Type 0
+IsEllipsis t = Each (λ c. c ≡ 46) t × (3 ≤ length t)

@@ -27,22 +27,22 @@ pub data IsComment : List ℕ → Type 0 where
   hash : {x : List ℕ} → Each InHash x → IsComment (35 ∷ (x ++ (10 ∷ [])))
 
 -- S = *blank *(comment *blank), as ` /a/ ` or the empty text
-pub data IsS : List ℕ → Type 0 where
-  empty : IsS []
-  blank : {c : ℕ} {x : List ℕ} → IsBlank c → IsS x → IsS (c ∷ x)
-  comment : {b x : List ℕ} → IsComment b → IsS x → IsS (b ++ x)
+pub data IsSpace : List ℕ → Type 0 where
+  empty : IsSpace []
+  blank : {c : ℕ} {x : List ℕ} → IsBlank c → IsSpace x → IsSpace (c ∷ x)
+  comment : {b x : List ℕ} → IsComment b → IsSpace x → IsSpace (b ++ x)
 
 -- MS = (blank / comment) S
-abbrev pub IsMs : List ℕ → Type 0
-IsMs t = IsS t × (t ≢ [])
+abbrev pub IsMandatorySpace : List ℕ → Type 0
+IsMandatorySpace t = IsSpace t × (t ≢ [])
 
 -- SOC = S ["," S], as ` , /a/`
-pub data IsSoc : List ℕ → Type 0 where
-  space : {x : List ℕ} → IsS x → IsSoc x
-  comma : {x y : List ℕ} → IsS x → IsS y → IsSoc (x ++ (44 ∷ y))
+pub data IsListEnd : List ℕ → Type 0 where
+  space : {x : List ℕ} → IsSpace x → IsListEnd x
+  comma : {x y : List ℕ} → IsSpace x → IsSpace y → IsListEnd (x ++ (44 ∷ y))
 
 -- MSC = "," S / MS ["," S], as `,` and ` # a` LF
-pub data IsMsc : List ℕ → Type 0 where
-  comma_first : {y : List ℕ} → IsS y → IsMsc (44 ∷ y)
-  space_alone : {x : List ℕ} → IsMs x → IsMsc x
-  space_comma : {x y : List ℕ} → IsMs x → IsS y → IsMsc (x ++ (44 ∷ y))
+pub data IsSeparator : List ℕ → Type 0 where
+  comma_first : {y : List ℕ} → IsSpace y → IsSeparator (44 ∷ y)
+  space_alone : {x : List ℕ} → IsMandatorySpace x → IsSeparator x
+  space_comma : {x y : List ℕ} → IsMandatorySpace x → IsSpace y → IsSeparator (x ++ (44 ∷ y))

@@ -15,13 +15,13 @@ indented = IndentedRegularSpacing 0 4 80
 -- The four kinds of space text between tokens.
 pub data SpaceKind : Type 0 where
   -- optional space
-  S : SpaceKind
+  Optional : SpaceKind
   -- mandatory space
-  MS : SpaceKind
+  Mandatory : SpaceKind
   -- a separator: a comma, space, or both
-  MSC : SpaceKind
+  Separating : SpaceKind
   -- space with one comma or none
-  SOC : SpaceKind
+  AtEnd : SpaceKind
 
 -- a line feed and so many spaces
 unfoldable pub line : ℕ → List ℕ
@@ -46,23 +46,23 @@ comments_after x = comments_of (after_comma x)
 
 -- The table: comments always stay, but in the first column. A separator has its comma in every column, and the end of a list in none.
 abbrev pub spaced : SpaceKind → Spacing → List ℕ → List ℕ
-spaced S Least x = []
-spaced S Comments x = comments_of x
-spaced S OneLine x = comments_of x
-spaced S (NewLine n) x = line n ++ comments_of x
-spaced S OneSpace x = 32 ∷ comments_of x
-spaced MS Least x = 32 ∷ []
-spaced MS Comments x = or_space (comments_of x)
-spaced MS OneLine x = or_space (comments_of x)
-spaced MS (NewLine n) x = line n ++ comments_of x
-spaced MS OneSpace x = 32 ∷ comments_of x
-spaced MSC Least x = 44 ∷ []
-spaced MSC Comments x = comments_before x ++ (44 ∷ comments_after x)
-spaced MSC OneLine x = comments_before x ++ (44 ∷ 32 ∷ comments_after x)
-spaced MSC (NewLine n) x = comments_before x ++ (44 ∷ (line n ++ comments_after x))
-spaced MSC OneSpace x = 32 ∷ (comments_before x ++ (44 ∷ comments_after x))
-spaced SOC Least x = []
-spaced SOC Comments x = comments_before x ++ comments_after x
-spaced SOC OneLine x = comments_before x ++ comments_after x
-spaced SOC (NewLine n) x = line n ++ (comments_before x ++ comments_after x)
-spaced SOC OneSpace x = 32 ∷ (comments_before x ++ comments_after x)
+spaced Optional Least x = []
+spaced Optional Comments x = comments_of x
+spaced Optional OneLine x = comments_of x
+spaced Optional (NewLine n) x = line n ++ comments_of x
+spaced Optional OneSpace x = 32 ∷ comments_of x
+spaced Mandatory Least x = 32 ∷ []
+spaced Mandatory Comments x = or_space (comments_of x)
+spaced Mandatory OneLine x = or_space (comments_of x)
+spaced Mandatory (NewLine n) x = line n ++ comments_of x
+spaced Mandatory OneSpace x = 32 ∷ comments_of x
+spaced Separating Least x = 44 ∷ []
+spaced Separating Comments x = comments_before x ++ (44 ∷ comments_after x)
+spaced Separating OneLine x = comments_before x ++ (44 ∷ 32 ∷ comments_after x)
+spaced Separating (NewLine n) x = comments_before x ++ (44 ∷ (line n ++ comments_after x))
+spaced Separating OneSpace x = 32 ∷ (comments_before x ++ (44 ∷ comments_after x))
+spaced AtEnd Least x = []
+spaced AtEnd Comments x = comments_before x ++ comments_after x
+spaced AtEnd OneLine x = comments_before x ++ comments_after x
+spaced AtEnd (NewLine n) x = line n ++ (comments_before x ++ comments_after x)
+spaced AtEnd OneSpace x = 32 ∷ (comments_before x ++ comments_after x)

@@ -1,16 +1,16 @@
 -- The laws of the table of spaces, as contracts name them.
 use Rattle.std.specs.Prelude.{ℕ, ◌<◌, Bool, true, List, ◌++◌, ◌≡◌, All}
 use Rattle.cbor_edn_parts.specs.Notes.{noted}
-use Rattle.cbor_edn_parts.specs.Space.{IsMs}
-use Rattle.cbor_edn_parts.specs.internal.SpaceTokens.{is_s, is_ms, is_msc, is_soc}
-use Rattle.cbor_edn_parts.specs.Spacing.{SpaceKind, S, MS, MSC, SOC, Spacing, Least, spaced}
+use Rattle.cbor_edn_parts.specs.Space.{IsMandatorySpace}
+use Rattle.cbor_edn_parts.specs.internal.SpaceTokens.{is_space, is_mandatory_space, is_separator, is_list_end}
+use Rattle.cbor_edn_parts.specs.Spacing.{SpaceKind, Optional, Mandatory, Separating, AtEnd, Spacing, Least, spaced}
 
 -- whether a text is of a kind
 abbrev pub is_of : SpaceKind → List ℕ → Bool
-is_of S x = is_s x
-is_of MS x = is_ms x
-is_of MSC x = is_msc x
-is_of SOC x = is_soc x
+is_of Optional x = is_space x
+is_of Mandatory x = is_mandatory_space x
+is_of Separating x = is_separator x
+is_of AtEnd x = is_list_end x
 
 -- every column but the first
 abbrev pub KeepsComments : Spacing → Type 0
@@ -27,7 +27,7 @@ ForgetsColumn = (k : SpaceKind) (c d : Spacing) (x : List ℕ) → KeepsComments
 
 -- The note of a comment is a space text that is not empty, and in front of a space text of a kind it leaves one of this kind.
 abbrev pub NotesAreSpace : Type 0
-NotesAreSpace = (c : List ℕ) → All (λ b. b < 256) c → IsMs (noted c)
+NotesAreSpace = (c : List ℕ) → All (λ b. b < 256) c → IsMandatorySpace (noted c)
 
 abbrev pub NotesInFront : Type 0
 NotesInFront = (k : SpaceKind) (c x : List ℕ) → All (λ b. b < 256) c → is_of k x ≡ true → is_of k (noted c ++ x) ≡ true

@@ -6,6 +6,7 @@ pub mod CommentReading
 pub mod ContentReading
 pub mod Ended
 pub mod Ends
+pub mod Input
 pub mod Lex
 pub mod LiteralTokens
 pub mod NumberReading
@@ -16,4 +17,3 @@ pub mod Prefixes
 pub mod Scans
 pub mod SpaceTokens
 pub mod StateLaws
-pub mod Text

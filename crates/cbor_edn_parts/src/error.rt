@@ -74,27 +74,27 @@ pub struct Refusal {
     /// Why the text is refused.
     pub kind: ParseErrorKind,
     /// The place in bytes, from 0.
-    pub at: usize,
+    pub offset: usize,
 }
 
 impl Refusal {
     /// The refusal of a text that is none of the grammar, at a place in bytes.
-    pub fn invalid(at: usize) -> Refusal
-        ensures { result ≡ record { kind = ParseErrorKind.Invalid; at = at } }
+    pub fn invalid(offset: usize) -> Refusal
+        ensures { result ≡ record { kind = ParseErrorKind.Invalid; offset = offset } }
     {
         Refusal {
             kind: ParseErrorKind::Invalid,
-            at,
+            offset,
         }
     }
 
     /// The refusal of a text that nests deeper than the limit, at a place in bytes.
-    pub fn too_deep(at: usize) -> Refusal
-        ensures { result ≡ record { kind = ParseErrorKind.TooDeep; at = at } }
+    pub fn too_deep(offset: usize) -> Refusal
+        ensures { result ≡ record { kind = ParseErrorKind.TooDeep; offset = offset } }
     {
         Refusal {
             kind: ParseErrorKind::TooDeep,
-            at,
+            offset,
         }
     }
 }

@@ -3,12 +3,12 @@ ghost use Rattle.std.specs.Prelude.{◌≡◌, ◌++◌, IsOk, OnOk};
 ghost use Rattle.cbor_edn_parts.specs.Buffer.{buffer_bytes};
 ghost use Rattle.cbor_edn_parts.specs.LayoutColumns as spec;
 ghost use Rattle.cbor_edn_parts.specs.LayoutColumns.{least, respaced};
-ghost use Rattle.cbor_edn_parts.specs.Leaves.{s_bytes, ms_bytes, msc_bytes, soc_bytes};
+ghost use Rattle.cbor_edn_parts.specs.Leaves.{space_bytes, mandatory_bytes, separator_bytes, list_end_bytes};
 ghost use Rattle.cbor_edn_parts.specs.Spacing as kind;
 
 use crate::buffer::TextBuffer;
 use crate::policy::{DelimiterPolicy, Spacing};
-use crate::space::{Ms, Msc, S, Soc};
+use crate::space::{ListEnd, MandatorySpace, Separator, Space};
 use std::alloc::{AllocError, Global};
 
 /// How the spaces of a part of a tree are changed.
@@ -132,12 +132,12 @@ impl Layout {
 
 /// Lays out an optional space at its slot. Fails where memory runs out, and leaves the text then; the layout of `DiscardAll` takes none.
 pub fn lay_space<'a>(
-    space: &mut S<'a>,
+    space: &mut Space<'a>,
     alloc: Global,
     layout: Layout,
     slot: Slot,
 ) -> Result<(), AllocError>
-    ensures laid { OnOk result (s_bytes space.new ≡ respaced kind.S slot layout (s_bytes space.old)) }
+    ensures laid { OnOk result (space_bytes space.new ≡ respaced kind.Optional slot layout (space_bytes space.old)) }
     ensures least { layout ≡ least → IsOk result }
 {
     if let Some(column) = layout.spacing(slot) {
@@ -149,12 +149,12 @@ pub fn lay_space<'a>(
 /// Lays out a mandatory space at its slot; it does not become empty. Fails where memory runs out, and leaves the text then; the layout
 /// of `DiscardAll` takes none.
 pub fn lay_mandatory<'a>(
-    space: &mut Ms<'a>,
+    space: &mut MandatorySpace<'a>,
     alloc: Global,
     layout: Layout,
     slot: Slot,
 ) -> Result<(), AllocError>
-    ensures laid { OnOk result (ms_bytes space.new ≡ respaced kind.MS slot layout (ms_bytes space.old)) }
+    ensures laid { OnOk result (mandatory_bytes space.new ≡ respaced kind.Mandatory slot layout (mandatory_bytes space.old)) }
     ensures least { layout ≡ least → IsOk result }
 {
     if let Some(column) = layout.spacing(slot) {
@@ -166,11 +166,11 @@ pub fn lay_mandatory<'a>(
 /// Lays out the separator between two entries. Fails where memory runs out, and leaves the text then; the layout of `DiscardAll` takes
 /// none.
 pub fn lay_separator<'a>(
-    separator: &mut Msc<'a>,
+    separator: &mut Separator<'a>,
     alloc: Global,
     layout: Layout,
 ) -> Result<(), AllocError>
-    ensures laid { OnOk result (msc_bytes separator.new ≡ respaced kind.MSC spec.Between layout (msc_bytes separator.old)) }
+    ensures laid { OnOk result (separator_bytes separator.new ≡ respaced kind.Separating spec.Between layout (separator_bytes separator.old)) }
     ensures least { layout ≡ least → IsOk result }
 {
     if let Some(column) = layout.spacing(Slot::Between) {
@@ -181,8 +181,8 @@ pub fn lay_separator<'a>(
 
 /// Lays out the end of a list, behind its last entry. Fails where memory runs out, and leaves the text then; the layout of `DiscardAll`
 /// takes none.
-pub fn lay_end<'a>(end: &mut Soc<'a>, alloc: Global, layout: Layout) -> Result<(), AllocError>
-    ensures laid { OnOk result (soc_bytes end.new ≡ respaced kind.SOC spec.Last layout (soc_bytes end.old)) }
+pub fn lay_end<'a>(end: &mut ListEnd<'a>, alloc: Global, layout: Layout) -> Result<(), AllocError>
+    ensures laid { OnOk result (list_end_bytes end.new ≡ respaced kind.AtEnd spec.Last layout (list_end_bytes end.old)) }
     ensures least { layout ≡ least → IsOk result }
 {
     if let Some(column) = layout.spacing(Slot::Last) {
@@ -195,11 +195,11 @@ pub fn lay_end<'a>(end: &mut Soc<'a>, alloc: Global, layout: Layout) -> Result<(
 #[inline(always)]
 pub fn print_space(
     out: &mut TextBuffer,
-    space: &S<'_>,
+    space: &Space<'_>,
     layout: Layout,
     slot: Slot,
 ) -> Result<(), AllocError>
-    ensures { OnOk result (buffer_bytes out.new ≡ buffer_bytes out.old ++ respaced kind.S slot layout (s_bytes space.now)) }
+    ensures { OnOk result (buffer_bytes out.new ≡ buffer_bytes out.old ++ respaced kind.Optional slot layout (space_bytes space.now)) }
 {
     match layout.spacing(slot) {
         None => out.push_if_any(space.as_str()),
@@ -211,11 +211,11 @@ pub fn print_space(
 #[inline(always)]
 pub fn print_mandatory(
     out: &mut TextBuffer,
-    space: &Ms<'_>,
+    space: &MandatorySpace<'_>,
     layout: Layout,
     slot: Slot,
 ) -> Result<(), AllocError>
-    ensures { OnOk result (buffer_bytes out.new ≡ buffer_bytes out.old ++ respaced kind.MS slot layout (ms_bytes space.now)) }
+    ensures { OnOk result (buffer_bytes out.new ≡ buffer_bytes out.old ++ respaced kind.Mandatory slot layout (mandatory_bytes space.now)) }
 {
     match layout.spacing(slot) {
         None => out.push_if_any(space.as_str()),
@@ -227,10 +227,10 @@ pub fn print_mandatory(
 #[inline(always)]
 pub fn print_separator(
     out: &mut TextBuffer,
-    separator: &Msc<'_>,
+    separator: &Separator<'_>,
     layout: Layout,
 ) -> Result<(), AllocError>
-    ensures { OnOk result (buffer_bytes out.new ≡ buffer_bytes out.old ++ respaced kind.MSC spec.Between layout (msc_bytes separator.now)) }
+    ensures { OnOk result (buffer_bytes out.new ≡ buffer_bytes out.old ++ respaced kind.Separating spec.Between layout (separator_bytes separator.now)) }
 {
     match layout.spacing(Slot::Between) {
         None => out.push_if_any(separator.as_str()),
@@ -240,8 +240,8 @@ pub fn print_separator(
 
 /// Writes the end of a list as it is laid out at the end of a text. Fails where memory runs out.
 #[inline(always)]
-pub fn print_end(out: &mut TextBuffer, end: &Soc<'_>, layout: Layout) -> Result<(), AllocError>
-    ensures { OnOk result (buffer_bytes out.new ≡ buffer_bytes out.old ++ respaced kind.SOC spec.Last layout (soc_bytes end.now)) }
+pub fn print_end(out: &mut TextBuffer, end: &ListEnd<'_>, layout: Layout) -> Result<(), AllocError>
+    ensures { OnOk result (buffer_bytes out.new ≡ buffer_bytes out.old ++ respaced kind.AtEnd spec.Last layout (list_end_bytes end.now)) }
 {
     match layout.spacing(Slot::Last) {
         None => out.push_if_any(end.as_str()),

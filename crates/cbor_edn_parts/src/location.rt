@@ -3,25 +3,25 @@ ghost use Rattle.std.specs.Prelude.{◌≡◌, ◌+◌, ◌-◌, ◌^◌, ◌<�
 ghost use Rattle.std.specs.Str.{IsCharBoundary};
 ghost use Rattle.cbor_edn_parts.specs.Errors.{error_kind, error_offset, error_line, error_column};
 ghost use Rattle.cbor_edn_parts.specs.Location.{IsLocation, location_behind};
-ghost use Rattle.cbor_edn_parts.specs.internal.Text.{text_bytes};
+ghost use Rattle.cbor_edn_parts.specs.internal.Input.{text_bytes};
 
 use crate::error::{ParseError, Refusal};
+use crate::input::Input;
 use crate::looks::Looks;
-use crate::text::Text;
 
 /// The refusal with its line and column, for which the text in front of its place is read again.
-pub fn with_location(text: &Text<'_>, refusal: Refusal, looks: &mut Looks) -> ParseError
-    requires { IsCharBoundary (text_bytes text.now) refusal.at }
+pub fn with_location(text: &Input<'_>, refusal: Refusal, looks: &mut Looks) -> ParseError
+    requires { IsCharBoundary (text_bytes text.now) refusal.offset }
     ensures kind { error_kind result ≡ refusal.kind }
     ensures place { IsLocation (text_bytes text.now) (error_offset result) (error_line result) (error_column result) }
-    ensures cost { looks.new.count ≡ looks.old.count + refusal.at }
+    ensures cost { looks.new.count ≡ looks.old.count + refusal.offset }
 {
     let mut line = 1;
     let mut column = 1;
-    'bytes: for at in 0..refusal.at {
+    'bytes: for at in 0..refusal.offset {
         (line, column) = location_after(text.byte(at, looks), line, column);
     }
-    ParseError::new(refusal.kind, refusal.at, line, column)
+    ParseError::new(refusal.kind, refusal.offset, line, column)
 }
 
 /// The line and the column behind a byte.

@@ -4,11 +4,11 @@ ghost use Rattle.std.specs.Str.{IsCharBoundary};
 ghost use Rattle.cbor_edn_parts.specs.Bytes.{IsLong};
 ghost use Rattle.cbor_edn_parts.specs.internal.Lex.{Automaton, munch};
 ghost use Rattle.cbor_edn_parts.specs.internal.Scans.{IsRead, Scans, ScanLands, Ends, Costs};
-ghost use Rattle.cbor_edn_parts.specs.internal.Text.{text_bytes};
+ghost use Rattle.cbor_edn_parts.specs.internal.Input.{text_bytes};
 
 use crate::error::Refusal;
+use crate::input::Input;
 use crate::looks::Looks;
-use crate::text::Text;
 
 /// Where the scan of a token stands.
 pub(crate) trait State: Copy {
@@ -40,7 +40,7 @@ pub(crate) trait State: Copy {
 /// The token at a place, and the place behind it.
 pub(crate) fn scan<'a, T: State>(
     start: T,
-    text: &Text<'a>,
+    text: &Input<'a>,
     from: usize,
     looks: &mut Looks,
 ) -> Result<(&'a str, usize), Refusal>
@@ -57,7 +57,7 @@ pub(crate) fn scan<'a, T: State>(
 /// The byte behind the token at a place whose byte is read, and the place of that byte.
 pub(crate) fn token_end<T: State>(
     start: T,
-    text: &Text<'_>,
+    text: &Input<'_>,
     from: usize,
     first: Option<u8>,
     looks: &mut Looks,
@@ -78,7 +78,7 @@ pub(crate) fn token_end<T: State>(
 /// The state in front of the first byte that leads no further, that byte, and its place. The byte at `from` is read already.
 fn run<T: State>(
     start: T,
-    text: &Text<'_>,
+    text: &Input<'_>,
     from: usize,
     first: Option<u8>,
     looks: &mut Looks,

@@ -2,14 +2,14 @@
 ghost use Rattle.std.specs.Prelude.{◌≡◌, ◌↔◌, IsTrue, [], ◌∷◌, IfOk, IfSome, IsNone};
 ghost use Rattle.cbor_edn_parts.specs.LeafTexts.{leaf_bytes};
 ghost use Rattle.cbor_edn_parts.specs.internal.SpaceTokens as tokens;
-ghost use Rattle.cbor_edn_parts.specs.internal.SpaceTokens.{is_s, is_ms, is_msc, is_soc};
+ghost use Rattle.cbor_edn_parts.specs.internal.SpaceTokens.{is_space, is_mandatory_space, is_separator, is_list_end};
 ghost use Rattle.cbor_edn_parts.specs.internal.StateLaws.{space_stays, space_inside};
 
 use crate::bytes::Kind;
 use crate::leaf_text::LeafText;
 use crate::scan::State;
 pub use note::TakesComment;
-pub use read::{ItemEnd, separator_behind, space, space_behind};
+pub use read::{ItemEnd, separator_behind, space_at, space_behind};
 use std::alloc::AllocError;
 
 mod comments;
@@ -19,191 +19,191 @@ mod read;
 mod spaced;
 mod width;
 
-/// Optional space (S): blanks and comments.
+/// Optional space: blanks and comments, `S` of the grammar.
 #[derive(Debug, PartialEq, Drop)]
-pub struct S<'a> {
+pub struct Space<'a> {
     text: LeafText<'a>,
-    pub ghost spelled: { IsTrue (is_s (leaf_bytes text)) },
+    pub ghost spelled: { IsTrue (is_space (leaf_bytes text)) },
 }
 
-/// Mandatory space (MS): space that is not empty.
+/// Mandatory space, which is not empty: `MS` of the grammar.
 #[derive(Debug, PartialEq, Drop)]
-pub struct Ms<'a> {
+pub struct MandatorySpace<'a> {
     text: LeafText<'a>,
-    pub ghost spelled: { IsTrue (is_ms (leaf_bytes text)) },
+    pub ghost spelled: { IsTrue (is_mandatory_space (leaf_bytes text)) },
 }
 
-/// A separator (MSC): a comma, space, or both.
+/// A separator: a comma, space, or both, `MSC` of the grammar.
 #[derive(Debug, PartialEq, Drop)]
-pub struct Msc<'a> {
+pub struct Separator<'a> {
     text: LeafText<'a>,
-    pub ghost spelled: { IsTrue (is_msc (leaf_bytes text)) },
+    pub ghost spelled: { IsTrue (is_separator (leaf_bytes text)) },
 }
 
-/// The end of a list (SOC): space with at most one comma.
+/// The end of a list: space with at most one comma, `SOC` of the grammar.
 #[derive(Debug, PartialEq, Drop)]
-pub struct Soc<'a> {
+pub struct ListEnd<'a> {
     text: LeafText<'a>,
-    pub ghost spelled: { IsTrue (is_soc (leaf_bytes text)) },
+    pub ghost spelled: { IsTrue (is_list_end (leaf_bytes text)) },
 }
 
-impl<'a> S<'a> {
-    ghost use Rattle.cbor_edn_parts.specs.Leaves.{s_bytes, ms_bytes, BorrowsS, BorrowsMs};
+impl<'a> Space<'a> {
+    ghost use Rattle.cbor_edn_parts.specs.Leaves.{space_bytes, mandatory_bytes, BorrowsSpace, BorrowsMandatory};
 
     /// No space.
-    pub fn empty() -> S<'a>
-        ensures bytes { s_bytes result ≡ [] }
-        ensures borrowed { BorrowsS result }
+    pub fn empty() -> Space<'a>
+        ensures bytes { space_bytes result ≡ [] }
+        ensures borrowed { BorrowsSpace result }
     {
         let text = LeafText::Borrowed("");
-        S { text }
+        Space { text }
     }
 
     /// One space.
-    pub fn space() -> S<'a>
-        ensures bytes { s_bytes result ≡ 32 ∷ [] }
-        ensures borrowed { BorrowsS result }
+    pub fn single() -> Space<'a>
+        ensures bytes { space_bytes result ≡ 32 ∷ [] }
+        ensures borrowed { BorrowsSpace result }
     {
         let text = LeafText::Borrowed(" ");
-        S { text }
+        Space { text }
     }
 
     /// The text as it is written, comments and all.
     #[inline]
     pub fn as_str(&self) -> &str
-        ensures { result.now ≡ s_bytes self.now }
+        ensures { result.now ≡ space_bytes self.now }
     {
         self.text.as_str()
     }
 
     /// A copy of the text. Fails where memory runs out, which a text that is borrowed or of at most 22 bytes doesn't need.
-    pub fn clone(&self) -> Result<S<'a>, AllocError>
-        ensures { IfOk result (λ t. s_bytes t ≡ s_bytes self.now) }
+    pub fn clone(&self) -> Result<Space<'a>, AllocError>
+        ensures { IfOk result (λ t. space_bytes t ≡ space_bytes self.now) }
     {
         let text = self.text.clone()?;
-        Ok(S { text })
+        Ok(Space { text })
     }
 
     /// The text as mandatory space, or none where it is empty.
-    pub fn into_ms(self) -> Option<Ms<'a>>
-        ensures none { IsNone result ↔ (s_bytes self.entry ≡ []) }
-        ensures same { IfSome result (λ s. ms_bytes s ≡ s_bytes self.entry) }
-        ensures borrowed { BorrowsS self.entry → IfSome result (λ s. BorrowsMs s) }
+    pub fn into_mandatory(self) -> Option<MandatorySpace<'a>>
+        ensures none { IsNone result ↔ (space_bytes self.entry ≡ []) }
+        ensures same { IfSome result (λ s. mandatory_bytes s ≡ space_bytes self.entry) }
+        ensures borrowed { BorrowsSpace self.entry → IfSome result (λ s. BorrowsMandatory s) }
     {
         let text = self.text;
         if text.as_str().is_empty() {
             None
         } else {
-            Some(Ms { text })
+            Some(MandatorySpace { text })
         }
     }
 }
 
-impl<'a> Ms<'a> {
-    ghost use Rattle.cbor_edn_parts.specs.Leaves.{ms_bytes, BorrowsMs};
+impl<'a> MandatorySpace<'a> {
+    ghost use Rattle.cbor_edn_parts.specs.Leaves.{mandatory_bytes, BorrowsMandatory};
 
     /// One space.
-    pub fn space() -> Ms<'a>
-        ensures bytes { ms_bytes result ≡ 32 ∷ [] }
-        ensures borrowed { BorrowsMs result }
+    pub fn single() -> MandatorySpace<'a>
+        ensures bytes { mandatory_bytes result ≡ 32 ∷ [] }
+        ensures borrowed { BorrowsMandatory result }
     {
-        let text = S::space().text;
-        Ms { text }
+        let text = Space::single().text;
+        MandatorySpace { text }
     }
 
     /// The text as it is written, comments and all.
     #[inline]
     pub fn as_str(&self) -> &str
-        ensures { result.now ≡ ms_bytes self.now }
+        ensures { result.now ≡ mandatory_bytes self.now }
     {
         self.text.as_str()
     }
 
     /// A copy of the text. Fails where memory runs out, which a text that is borrowed or of at most 22 bytes doesn't need.
-    pub fn clone(&self) -> Result<Ms<'a>, AllocError>
-        ensures { IfOk result (λ t. ms_bytes t ≡ ms_bytes self.now) }
+    pub fn clone(&self) -> Result<MandatorySpace<'a>, AllocError>
+        ensures { IfOk result (λ t. mandatory_bytes t ≡ mandatory_bytes self.now) }
     {
         let text = self.text.clone()?;
-        Ok(Ms { text })
+        Ok(MandatorySpace { text })
     }
 }
 
-impl<'a> Msc<'a> {
-    ghost use Rattle.cbor_edn_parts.specs.Leaves.{msc_bytes, BorrowsMsc};
+impl<'a> Separator<'a> {
+    ghost use Rattle.cbor_edn_parts.specs.Leaves.{separator_bytes, BorrowsSeparator};
 
     /// A comma.
-    pub fn comma() -> Msc<'a>
-        ensures bytes { msc_bytes result ≡ 44 ∷ [] }
-        ensures borrowed { BorrowsMsc result }
+    pub fn comma() -> Separator<'a>
+        ensures bytes { separator_bytes result ≡ 44 ∷ [] }
+        ensures borrowed { BorrowsSeparator result }
     {
         let text = LeafText::Borrowed(",");
-        Msc { text }
+        Separator { text }
     }
 
     /// A comma and one space.
-    pub fn comma_space() -> Msc<'a>
-        ensures bytes { msc_bytes result ≡ 44 ∷ 32 ∷ [] }
-        ensures borrowed { BorrowsMsc result }
+    pub fn comma_space() -> Separator<'a>
+        ensures bytes { separator_bytes result ≡ 44 ∷ 32 ∷ [] }
+        ensures borrowed { BorrowsSeparator result }
     {
         let text = LeafText::Borrowed(", ");
-        Msc { text }
+        Separator { text }
     }
 
     /// The text as it is written, comments and all.
     #[inline]
     pub fn as_str(&self) -> &str
-        ensures { result.now ≡ msc_bytes self.now }
+        ensures { result.now ≡ separator_bytes self.now }
     {
         self.text.as_str()
     }
 
     /// A copy of the text. Fails where memory runs out, which a text that is borrowed or of at most 22 bytes doesn't need.
-    pub fn clone(&self) -> Result<Msc<'a>, AllocError>
-        ensures { IfOk result (λ t. msc_bytes t ≡ msc_bytes self.now) }
+    pub fn clone(&self) -> Result<Separator<'a>, AllocError>
+        ensures { IfOk result (λ t. separator_bytes t ≡ separator_bytes self.now) }
     {
         let text = self.text.clone()?;
-        Ok(Msc { text })
+        Ok(Separator { text })
     }
 }
 
-impl<'a> Soc<'a> {
-    ghost use Rattle.cbor_edn_parts.specs.Leaves.{msc_bytes, soc_bytes, BorrowsMsc, BorrowsSoc};
+impl<'a> ListEnd<'a> {
+    ghost use Rattle.cbor_edn_parts.specs.Leaves.{separator_bytes, list_end_bytes, BorrowsSeparator, BorrowsListEnd};
 
     /// No space and no comma.
-    pub fn empty() -> Soc<'a>
-        ensures { soc_bytes result ≡ [] }
+    pub fn empty() -> ListEnd<'a>
+        ensures { list_end_bytes result ≡ [] }
     {
         let text = LeafText::Borrowed("");
-        Soc { text }
+        ListEnd { text }
     }
 
     /// The text as it is written, comments and all.
     #[inline]
     pub fn as_str(&self) -> &str
-        ensures { result.now ≡ soc_bytes self.now }
+        ensures { result.now ≡ list_end_bytes self.now }
     {
         self.text.as_str()
     }
 
     /// A copy of the text. Fails where memory runs out, which a text that is borrowed or of at most 22 bytes doesn't need.
-    pub fn clone(&self) -> Result<Soc<'a>, AllocError>
-        ensures { IfOk result (λ t. soc_bytes t ≡ soc_bytes self.now) }
+    pub fn clone(&self) -> Result<ListEnd<'a>, AllocError>
+        ensures { IfOk result (λ t. list_end_bytes t ≡ list_end_bytes self.now) }
     {
         let text = self.text.clone()?;
-        Ok(Soc { text })
+        Ok(ListEnd { text })
     }
 
     /// The text as a separator, or none where it is empty.
-    pub fn into_msc(self) -> Option<Msc<'a>>
-        ensures none { IsNone result ↔ (soc_bytes self.entry ≡ []) }
-        ensures same { IfSome result (λ s. msc_bytes s ≡ soc_bytes self.entry) }
-        ensures borrowed { BorrowsSoc self.entry → IfSome result (λ s. BorrowsMsc s) }
+    pub fn into_separator(self) -> Option<Separator<'a>>
+        ensures none { IsNone result ↔ (list_end_bytes self.entry ≡ []) }
+        ensures same { IfSome result (λ s. separator_bytes s ≡ list_end_bytes self.entry) }
+        ensures borrowed { BorrowsListEnd self.entry → IfSome result (λ s. BorrowsSeparator s) }
     {
         let text = self.text;
         if text.as_str().is_empty() {
             None
         } else {
-            Some(Msc { text })
+            Some(Separator { text })
         }
     }
 }

@@ -5,13 +5,13 @@ ghost use Rattle.cbor_edn_parts.specs.LeafTexts.{leaf_bytes};
 ghost use Rattle.cbor_edn_parts.specs.internal.Ended.{Steps};
 ghost use Rattle.cbor_edn_parts.specs.Literal.{letter_escape};
 ghost use Rattle.cbor_edn_parts.specs.internal.LiteralTokens as tokens;
-ghost use Rattle.cbor_edn_parts.specs.internal.LiteralTokens.{is_literal, are_dots, quote_byte};
-ghost use Rattle.cbor_edn_parts.specs.internal.StateLaws.{literal_stays, literal_inside, dots_stays, dots_inside};
+ghost use Rattle.cbor_edn_parts.specs.internal.LiteralTokens.{is_literal, is_ellipsis, quote_byte};
+ghost use Rattle.cbor_edn_parts.specs.internal.StateLaws.{literal_stays, literal_inside, ellipsis_stays, ellipsis_inside};
 
 use crate::buffer::TextBuffer;
 use crate::leaf_text::LeafText;
 use crate::scan::State;
-pub use read::{dots_at, literal_at};
+pub use read::{ellipsis_at, literal_at};
 use std::alloc::AllocError;
 
 mod application;
@@ -31,9 +31,9 @@ pub struct Literal<'a> {
 
 /// Dots, three or more, in place of what is left out.
 #[derive(Debug, PartialEq, Drop)]
-pub struct Dots<'a> {
+pub struct Ellipsis<'a> {
     text: LeafText<'a>,
-    pub ghost spelled: { IsTrue (are_dots (leaf_bytes text)) },
+    pub ghost spelled: { IsTrue (is_ellipsis (leaf_bytes text)) },
 }
 
 /// The kind of a CBOR string.
@@ -85,7 +85,7 @@ pub enum LiteralState {
 
 /// How many dots a scan has seen.
 #[derive(Clone, Copy, Debug, PartialEq)]
-pub enum DotsState {
+pub enum EllipsisState {
     None,
     One,
     Two,
@@ -135,30 +135,30 @@ impl<'a> Literal<'a> {
     }
 }
 
-impl<'a> Dots<'a> {
-    ghost use Rattle.cbor_edn_parts.specs.Leaves.{dots_bytes};
+impl<'a> Ellipsis<'a> {
+    ghost use Rattle.cbor_edn_parts.specs.Leaves.{ellipsis_bytes};
 
     /// The dots as they are written.
     #[inline]
     pub fn as_str(&self) -> &str
-        ensures { result.now ≡ dots_bytes self.now }
+        ensures { result.now ≡ ellipsis_bytes self.now }
     {
         self.text.as_str()
     }
 
     /// Its length in bytes.
     pub fn len(&self) -> usize
-        ensures { result ≡ length (dots_bytes self.now) }
+        ensures { result ≡ length (ellipsis_bytes self.now) }
     {
         self.text.len()
     }
 
     /// A copy of the text. Fails where memory runs out, which a text that is borrowed or of at most 22 bytes doesn't need.
-    pub fn clone(&self) -> Result<Dots<'a>, AllocError>
-        ensures { IfOk result (λ t. dots_bytes t ≡ dots_bytes self.now) }
+    pub fn clone(&self) -> Result<Ellipsis<'a>, AllocError>
+        ensures { IfOk result (λ t. ellipsis_bytes t ≡ ellipsis_bytes self.now) }
     {
         let text = self.text.clone()?;
-        Ok(Dots { text })
+        Ok(Ellipsis { text })
     }
 }
 
@@ -337,25 +337,25 @@ fn between(quote: Quote, part: QuotedState, byte: u8) -> Option<LiteralState>
     Some(LiteralState::Inside(quote, part))
 }
 
-impl State for DotsState {
-    ghost automaton = { tokens.dots };
+impl State for EllipsisState {
+    ghost automaton = { tokens.ellipsis };
 
-    fn step(self, byte: u8) -> Option<DotsState> {
+    fn step(self, byte: u8) -> Option<EllipsisState> {
         if byte != b'.' {
             return None;
         }
         match self {
-            DotsState::None => Some(DotsState::One),
-            DotsState::One => Some(DotsState::Two),
-            DotsState::Two | DotsState::Enough => Some(DotsState::Enough),
+            EllipsisState::None => Some(EllipsisState::One),
+            EllipsisState::One => Some(EllipsisState::Two),
+            EllipsisState::Two | EllipsisState::Enough => Some(EllipsisState::Enough),
         }
     }
 
     fn is_final(self) -> bool {
-        matches!(self, DotsState::Enough)
+        matches!(self, EllipsisState::Enough)
     }
 
-    ghost stays = { dots_stays };
+    ghost stays = { ellipsis_stays };
 
-    ghost inside = { dots_inside };
+    ghost inside = { ellipsis_inside };
 }

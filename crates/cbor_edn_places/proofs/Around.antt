@@ -5,9 +5,9 @@ use Rattle.std.proofs.lemmas.Bool.{ltb-true, ltb-false}
 use Rattle.cbor_edn_model.proofs.lemmas.access.CountedItems.{get_left, get_right}
 use Prim.Native.Nat.{zero}
 use Rattle.cbor_edn_parts.specs.Indicator.{indicator_text}
-use Rattle.cbor_edn_model.specs.declared.text.label.LabelKind.TheVariants as label
-use Rattle.cbor_edn_model.specs.text.Spelling.{opening, ending}
-use Rattle.cbor_edn_model.specs.tree.Trees.{Rule, Tree, OneItem, Seq, OnePiece, OneString, Rest, OneEntry, NumberTree, FloatTree, NamedTree, EnclosedTree, ListTree, StringTree, StreamTree, LiteralTree, DotsTree, EmbeddedTree, LastPieceTree, PlusTree, ElementTree, PairTree, ChunkTree, EmptyTree, FullTree, LastTree, MoreTree, NothingTree, SequenceTree, StandaloneTree, onto, text, label_text, list_head_text}
+use Rattle.cbor_edn_model.specs.declared.text.opener.OpenerKind.TheVariants as opener
+use Rattle.cbor_edn_model.specs.text.Spelling.{open_byte, close_byte}
+use Rattle.cbor_edn_model.specs.tree.Trees.{Rule, Tree, OneItem, Seq, OnePiece, OneString, Rest, OneEntry, NumberTree, FloatTree, NamedTree, EnclosedTree, ListTree, StringTree, StreamTree, LiteralTree, EllipsisTree, EmbeddedTree, LastPieceTree, PlusTree, ElementTree, PairTree, ChunkTree, EmptyTree, FullTree, LastTree, MoreTree, NothingTree, SequenceTree, StandaloneTree, onto, text, opener_text, list_head_text}
 use Rattle.cbor_edn_model.specs.access.Paths.{items_in, at, at_sequence, with_item, with_at, with_at_sequence}
 use Rattle.cbor_edn_model.proofs.lemmas.text.Spelled.{onto-text}
 use Rattle.cbor_edn_model.proofs.lemmas.access.ReplacedItems.{put_back}
@@ -58,15 +58,15 @@ unfolding onto
 around_item i c (NumberTree x p) e = let bad : ⊥ = cc in absurd bad
 around_item i c (FloatTree f p) e = let bad : ⊥ = cc in absurd bad
 around_item i c (NamedTree b) e = let bad : ⊥ = cc in absurd bad
-around_item i c (EnclosedTree (label.Tag p n) w) e =
-    outside (λ y. with_item i y w) (λ y. EnclosedTree (label.Tag p n) (with_item i y w)) (label_text (label.Tag p n) ++ (40 ∷ [])) (41 ∷ [])
-    (λ y r. sym (append_assoc (label_text (label.Tag p n)) (40 ∷ []) (onto (with_item i y w) (41 ∷ r)))) (around_item i c w e)
-around_item i c (EnclosedTree label.Simple w) e = let bad : ⊥ = cc in absurd bad
-around_item i c (ListTree k w) e = outside (λ y. with_item i y w) (λ y. ListTree k (with_item i y w)) (opening k ∷ []) (ending k ∷ []) (λ y r. refl) (around_item i c w e)
+around_item i c (EnclosedTree (opener.Tag p n) w) e =
+    outside (λ y. with_item i y w) (λ y. EnclosedTree (opener.Tag p n) (with_item i y w)) (opener_text (opener.Tag p n) ++ (40 ∷ [])) (41 ∷ [])
+    (λ y r. sym (append_assoc (opener_text (opener.Tag p n)) (40 ∷ []) (onto (with_item i y w) (41 ∷ r)))) (around_item i c w e)
+around_item i c (EnclosedTree opener.Simple w) e = let bad : ⊥ = cc in absurd bad
+around_item i c (ListTree k w) e = outside (λ y. with_item i y w) (λ y. ListTree k (with_item i y w)) (open_byte k ∷ []) (close_byte k ∷ []) (λ y r. refl) (around_item i c w e)
 around_item i c (StringTree w) e = outside (λ y. with_item i y w) (λ y. StringTree (with_item i y w)) [] [] (λ y r. refl) (around_item i c w e)
 around_item i c (StreamTree ms m) e = outside (λ y. with_item i y m) (λ y. StreamTree ms (with_item i y m)) (40 ∷ 95 ∷ ms) (41 ∷ []) (λ y r. refl) (around_item i c m e)
 around_item i c (LiteralTree x p) e = let bad : ⊥ = cc in absurd bad
-around_item i c (DotsTree x) e = let bad : ⊥ = cc in absurd bad
+around_item i c (EllipsisTree x) e = let bad : ⊥ = cc in absurd bad
 around_item i c (EmbeddedTree w p) e = outside (λ y. with_item i y w) (λ y. EmbeddedTree (with_item i y w) p) (60 ∷ 60 ∷ []) (62 ∷ 62 ∷ indicator_text p) (λ y r. refl) (around_item i c w e)
 around_item i c (LastPieceTree p) e = outside (λ y. with_item i y p) (λ y. LastPieceTree (with_item i y p)) [] [] (λ y r. refl) (around_item i c p e)
 around_item i c (PlusTree p s t w) e =

@@ -79,8 +79,8 @@ front_utf8 t front rest e utf8 =
 
 pub offset_is : (w : Tree Seq) (path s t : List ℕ) (n : ℕ) → s ≡ text (with_at_sequence path (NumberTree (signed_decimal (pos 0)) None) w) → t ≡ text (with_at_sequence path (literal_tree (text_literal [])) w)
     → IsUtf8 s → n ≡ common s t → IsOffset w path n
-offset_is w path s t n s_is t_is utf8 is x there =
+offset_is w path s t n optional_is t_is utf8 is x there =
     let h = between w path x there in
-    let first : s ≡ h.0 ++ (48 ∷ h.1) = s_is ∙ h.2.with_other (NumberTree (signed_decimal (pos 0)) None) ∙ ap (λ u. h.0 ++ (u ++ h.1)) text_of_number in
+    let first : s ≡ h.0 ++ (48 ∷ h.1) = optional_is ∙ h.2.with_other (NumberTree (signed_decimal (pos 0)) None) ∙ ap (λ u. h.0 ++ (u ++ h.1)) text_of_number in
     let second : t ≡ h.0 ++ (34 ∷ 34 ∷ h.1) = t_is ∙ h.2.with_other (literal_tree (text_literal [])) ∙ ap (λ u. h.0 ++ (u ++ h.1)) text_of_string in
     (h.0, h.1, h.2, front_utf8 s h.0 h.1 first utf8, sym (common_in h.0 h.1 (34 ∷ h.1)) ∙ sym (is ∙ ap (λ u. common u t) first ∙ ap (λ u. common (h.0 ++ (48 ∷ h.1)) u) second))

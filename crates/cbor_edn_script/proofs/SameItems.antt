@@ -7,20 +7,20 @@ use Rattle.cbor_edn_parts.specs.internal.NumberReading.{integer_of}
 use Rattle.cbor_edn_literals.specs.declared.address.IpVersion.{IpVersion}
 use Rattle.cbor_edn_literals.specs.declared.address.IpVersion.TheVariants.{V4, V6}
 use Rattle.cbor_edn_model.specs.access.Accessed.{both_joined, only_bytes, piece_bytes, pieces_bytes, strings_bytes, item_bytes, array_items, entries_inside, entries, element, number_text}
-use Rattle.cbor_edn_model.specs.declared.text.label.LabelKind.TheVariants as label
+use Rattle.cbor_edn_model.specs.declared.text.opener.OpenerKind.TheVariants as opener
 use Rattle.cbor_edn_model.specs.tree.Items as kind
 use Rattle.cbor_edn_model.specs.tree.Items.{Elements, Strings, Array, Map, Item, Piece, Pieces, Entries, Node}
 use Rattle.cbor_edn_model.specs.cbor.Meaning.{means}
 use Rattle.cbor_edn_model.specs.access.Paths.{with_item}
 use Rattle.cbor_edn_model.specs.visit.Seeking.{CallArguments}
-use Rattle.cbor_edn_model.specs.tree.Trees.{Tree, OneItem, OnePiece, OneString, Rest, Inside, NumberTree, FloatTree, NamedTree, EnclosedTree, ListTree, StringTree, StreamTree, LiteralTree, DotsTree, EmbeddedTree, LastPieceTree, PlusTree, ElementTree, ChunkTree, EmptyTree, FullTree, LastTree, MoreTree, StandaloneTree, head_indicator, items}
+use Rattle.cbor_edn_model.specs.tree.Trees.{Tree, OneItem, OnePiece, OneString, Rest, Inside, NumberTree, FloatTree, NamedTree, EnclosedTree, ListTree, StringTree, StreamTree, LiteralTree, EllipsisTree, EmbeddedTree, LastPieceTree, PlusTree, ElementTree, ChunkTree, EmptyTree, FullTree, LastTree, MoreTree, StandaloneTree, head_indicator, items}
 use Rattle.cbor_edn_model.specs.visit.Visits.{Answer, fine, comment, no_memory}
 use Rattle.cbor_edn_model.proofs.lemmas.cbor.MeaningSteps.{some_is}
 use Rattle.cbor_edn_conversions.specs.Addresses.{address_tag, address_prefix, address_item, whole_text, prefix_text, if_same, as_literal, with_first, as_first, by_length, by_first, by_elements, by_bytes, address_literal, address_of_tag, address_of_literal, resolve_address, pretty_address}
 use Rattle.cbor_edn_conversions.specs.All.{resolve_all, pretty_all}
 use Rattle.cbor_edn_conversions.specs.Bignums.{quoted_bytes, quoted_string_bytes, quoted_item_bytes, magnitude, bignum_integer, if_same_integer, integer_of_tag, bignum_of_tag, pretty_bignum}
 use Rattle.cbor_edn_conversions.specs.ConversionLaws.{Made}
-use Rattle.cbor_edn_conversions.specs.Conversions.{Message, Conversion, Reply, reply, and_then, converted, of_literal, tells, called_tag, is_narrowest, changed_encoding, without_tag, encoded, item_encoding, are_same, mean_the_same, integer_tree, literal_tree, tag_tree, in_tag}
+use Rattle.cbor_edn_conversions.specs.Conversions.{Message, Conversion, Reply, reply, and_then, converted, of_literal, tells, called_tag, is_shortest, changed_encoding, without_tag, encoded, item_encoding, are_same, mean_the_same, integer_tree, literal_tree, tag_tree, in_tag}
 use Rattle.cbor_edn_conversions.specs.Integers.{within_128, item_integer}
 use Rattle.cbor_edn_conversions.specs.Tag999.{tag999_of_literal, to_tag999}
 use Rattle.cbor_edn_conversions.specs.Times.{is_plain, instant_by, instant_literal, time_literal, time_of_tag, time_of_literal, resolve_time, pretty_time}
@@ -118,8 +118,8 @@ unfolding items
 called_items a (NumberTree x i) = refl
 called_items a (FloatTree f i) = refl
 called_items a (NamedTree b) = refl
-called_items a (EnclosedTree (label.Tag i n) (StandaloneTree s w t)) = if_tells (tells a n) n i w
-called_items a (EnclosedTree label.Simple w) = refl
+called_items a (EnclosedTree (opener.Tag i n) (StandaloneTree s w t)) = if_tells (tells a n) n i w
+called_items a (EnclosedTree opener.Simple w) = refl
 called_items a (ListTree k w) = refl
 called_items a (StringTree w) = refl
 called_items a (StreamTree s m) = refl
@@ -151,8 +151,8 @@ unfolding items time_literal
 time_items (NumberTree x i) wrap = refl
 time_items (FloatTree f i) wrap = refl
 time_items (NamedTree b) wrap = refl
-time_items (EnclosedTree (label.Tag i n) w) wrap = refl
-time_items (EnclosedTree label.Simple w) wrap = refl
+time_items (EnclosedTree (opener.Tag i n) w) wrap = refl
+time_items (EnclosedTree opener.Simple w) wrap = refl
 time_items (ListTree k w) wrap = refl
 time_items (StringTree w) wrap = refl
 time_items (StreamTree s m) wrap = refl
@@ -169,8 +169,8 @@ unfolding items
 number_items (NumberTree x i) = refl
 number_items (FloatTree f i) = refl
 number_items (NamedTree b) = refl
-number_items (EnclosedTree (label.Tag i n) w) = refl
-number_items (EnclosedTree label.Simple w) = refl
+number_items (EnclosedTree (opener.Tag i n) w) = refl
+number_items (EnclosedTree opener.Simple w) = refl
 number_items (ListTree k w) = refl
 number_items (StringTree w) = refl
 number_items (StreamTree s m) = refl
@@ -206,8 +206,8 @@ unfolding items
 bytes_items (NumberTree x i) = refl
 bytes_items (FloatTree f i) = refl
 bytes_items (NamedTree b) = refl
-bytes_items (EnclosedTree (label.Tag i n) w) = refl
-bytes_items (EnclosedTree label.Simple w) = refl
+bytes_items (EnclosedTree (opener.Tag i n) w) = refl
+bytes_items (EnclosedTree opener.Simple w) = refl
 bytes_items (ListTree k w) = refl
 bytes_items (StringTree w) = pieces_items w
 bytes_items (StreamTree s m) = strings_items m
@@ -241,8 +241,8 @@ unfolding items
 array_is_items (NumberTree x i) = refl
 array_is_items (FloatTree f i) = refl
 array_is_items (NamedTree b) = refl
-array_is_items (EnclosedTree (label.Tag i n) w) = refl
-array_is_items (EnclosedTree label.Simple w) = refl
+array_is_items (EnclosedTree (opener.Tag i n) w) = refl
+array_is_items (EnclosedTree opener.Simple w) = refl
 array_is_items (ListTree Array w) = ap (λ xs. Some xs) (inside_items w)
 array_is_items (ListTree Map w) = refl
 array_is_items (StringTree w) = refl
@@ -267,7 +267,7 @@ quoted_piece_items : (p : Tree OnePiece) → quoted_bytes p ≡ node_quoted_piec
 unfolding items
 quoted_piece_items (LiteralTree x None) = refl
 quoted_piece_items (LiteralTree x (Some i)) = refl
-quoted_piece_items (DotsTree x) = refl
+quoted_piece_items (EllipsisTree x) = refl
 quoted_piece_items (EmbeddedTree w i) = refl
 
 quoted_pieces_items : (w : Tree OneString) → quoted_string_bytes w ≡ node_quoted_pieces (items w)
@@ -280,8 +280,8 @@ unfolding items
 quoted_items (NumberTree x i) = refl
 quoted_items (FloatTree f i) = refl
 quoted_items (NamedTree b) = refl
-quoted_items (EnclosedTree (label.Tag i n) w) = refl
-quoted_items (EnclosedTree label.Simple w) = refl
+quoted_items (EnclosedTree (opener.Tag i n) w) = refl
+quoted_items (EnclosedTree opener.Simple w) = refl
 quoted_items (ListTree k w) = refl
 quoted_items (StringTree w) = quoted_pieces_items w
 quoted_items (StreamTree s m) = refl
@@ -295,7 +295,7 @@ without_same : (i : Option Indicator) (n : ℕ) (c d : Conversion) → SameConve
 without_same i n (Err e) (Err f) h = h
 without_same i n (Ok w) (Err f) h = absurd h
 without_same i n (Err e) (Ok v) h = absurd h
-without_same i n (Ok w) (Ok v) h = kept (is_narrowest i n)
+without_same i n (Ok w) (Ok v) h = kept (is_shortest i n)
   where
     kept : (b : Bool) → SameConversion (if b then Ok w else Err changed_encoding) (if b then Ok v else Err changed_encoding)
     kept true = h

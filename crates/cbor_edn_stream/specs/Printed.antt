@@ -1,11 +1,11 @@
 -- What is printed of the items that bytes encode, while they are read.
 use Rattle.std.specs.Prelude.{ℕ, ◌-◌, ◌*◌, ◌^◌, min, ◌≡◌, List, [], ◌∷◌, ◌++◌, Option, Some, None, Result, Ok, Err}
 use Rattle.cbor_edn_parts.specs.declared.error.Fault.{Fault}
-use Rattle.cbor_edn_parts.specs.Spacing.{MSC, SOC}
+use Rattle.cbor_edn_parts.specs.Spacing.{Separating, AtEnd}
 use Rattle.cbor_edn_model.specs.declared.cbor.decode.CborError.{CborError}
-use Rattle.cbor_edn_model.specs.text.Spelling.{opening, ending}
+use Rattle.cbor_edn_model.specs.text.Spelling.{open_byte, close_byte}
 use Rattle.cbor_edn_model.specs.tree.Items.{Row, Bracketed, Array, Map, entries_of}
-use Rattle.cbor_edn_model.specs.tree.Trees.{Rule, Tree, OneItem, OneEntry, Rest, ListTree, EnclosedTree, ElementTree, text, label_text}
+use Rattle.cbor_edn_model.specs.tree.Trees.{Rule, Tree, OneItem, OneEntry, Rest, ListTree, EnclosedTree, ElementTree, text, opener_text}
 use Rattle.cbor_edn_model.specs.layout.Layout.{Layout, Kept, Inline, Lines, Between, Last, respaced, laid}
 use Rattle.cbor_edn_model.specs.internal.CborReading.{DecoderResult, Decoder, DecoderFails, Argument, shown, item_at, pair_at, array_by, map_by, tag_by, inner, trees}
 use Rattle.cbor_edn_stream.specs.declared.print.Brackets.{Brackets}
@@ -47,10 +47,10 @@ WritesRow l (Some m) old new = Writes l m old new
 
 -- the separator between entries, and the end of their list
 abbrev pub separator : Layout → List ℕ
-separator l = respaced MSC Between l (44 ∷ 32 ∷ [])
+separator l = respaced Separating Between l (44 ∷ 32 ∷ [])
 
 abbrev pub finish : Layout → List ℕ
-finish l = respaced SOC Last l []
+finish l = respaced AtEnd Last l []
 
 -- the items in which others nest, by their major types, behind their heads
 abbrev pub nested_major : Nested → ℕ
@@ -65,8 +65,8 @@ nested_by nested.Tag limit argument bytes = tag_by trees (inner trees limit) arg
 
 -- such an item is written by the layout of what is in it
 abbrev pub WritesParts : Layout → Tree OneItem → List ℕ → List ℕ → Type 0
-WritesParts l (ListTree k w) old new = new ≡ old ++ (opening k ∷ (text (laid l w) ++ (ending k ∷ [])))
-WritesParts l (EnclosedTree label w) old new = new ≡ old ++ (label_text label ++ (40 ∷ (text (laid l w) ++ (41 ∷ []))))
+WritesParts l (ListTree k w) old new = new ≡ old ++ (open_byte k ∷ (text (laid l w) ++ (close_byte k ∷ [])))
+WritesParts l (EnclosedTree opener w) old new = new ≡ old ++ (opener_text opener ++ (40 ∷ (text (laid l w) ++ (41 ∷ []))))
 WritesParts l w old new = ⊥
 
 -- wider than any item

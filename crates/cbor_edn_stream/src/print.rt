@@ -30,15 +30,15 @@ use cbor_edn_core::cbor::decode::{CborError, decode_item};
 use cbor_edn_core::layout::print_item as print_tree;
 use cbor_edn_model::cbor::decode::head::{Argument, Stop, head_of, indicator_of, past_stop};
 use cbor_edn_model::cbor::heads::Width;
-use cbor_edn_model::text::label::LabelKind;
 use cbor_edn_model::text::list_head::{head_space, print_laid_head};
-use cbor_edn_model::text::write::{print_indicator, print_label};
+use cbor_edn_model::text::opener::OpenerKind;
+use cbor_edn_model::text::write::{print_indicator, print_opener};
 use cbor_edn_parts::buffer::TextBuffer;
 use cbor_edn_parts::error::Fault;
 use cbor_edn_parts::layout::{Layout, Slot, print_end, print_separator, print_space};
 use cbor_edn_parts::number::{Number, SmallInteger};
 use cbor_edn_parts::policy::DelimiterPolicy;
-use cbor_edn_parts::space::{Msc, S, Soc};
+use cbor_edn_parts::space::{ListEnd, Separator, Space};
 use cbor_edn_parts::string::{Literal, StringKind};
 use std::alloc::{AllocError, Global};
 
@@ -153,7 +153,7 @@ fn print_item<'b>(
     limit: usize,
     untried: usize,
 ) -> Result<&'b [u8], Fault<CborError>>
-    ensures exact { Prints (λ t. Writes layout t) (λ r. r.now) (buffer_bytes out.old) (buffer_bytes out.new) result (item_at trees limit bytes.now) }
+    ensures value { Prints (λ t. Writes layout t) (λ r. r.now) (buffer_bytes out.old) (buffer_bytes out.new) result (item_at trees limit bytes.now) }
     ensures shorter { IfOk result (λ r. length r.now < length bytes.now) }
 {
     match bytes {
@@ -174,7 +174,7 @@ fn print_leaf<'b>(
     bytes: &'b [u8],
     limit: usize,
 ) -> Result<&'b [u8], Fault<CborError>>
-    ensures exact { Prints (λ t. Writes layout t) (λ r. r.now) (buffer_bytes out.old) (buffer_bytes out.new) result (item_at trees limit bytes.now) }
+    ensures value { Prints (λ t. Writes layout t) (λ r. r.now) (buffer_bytes out.old) (buffer_bytes out.new) result (item_at trees limit bytes.now) }
     ensures shorter { IfOk result (λ r. length r.now < length bytes.now) }
 {
     let ((major, argument), behind) = head_of(bytes)?;
@@ -222,7 +222,7 @@ fn print_string<'b>(
     count: u64,
     bytes: &'b [u8],
 ) -> Result<&'b [u8], Fault<CborError>>
-    ensures exact { Prints WritesAnyhow (λ r. r.now) (buffer_bytes out.old) (buffer_bytes out.new) result (string_by trees kind (Some (width, count)) bytes.now) }
+    ensures value { Prints WritesAnyhow (λ r. r.now) (buffer_bytes out.old) (buffer_bytes out.new) result (string_by trees kind (Some (width, count)) bytes.now) }
     ensures shorter { IfOk result (λ r. length r.now ≤ length bytes.now) }
 {
     let (literal, rest) = read_literal(alloc, kind, count, bytes)?;
@@ -238,7 +238,7 @@ fn read_literal<'a, 'b>(
     count: u64,
     bytes: &'b [u8],
 ) -> Result<(Literal<'a>, &'b [u8]), Fault<CborError>>
-    ensures exact { DecoderGives (λ x. (literal_bytes x.0, x.1.now)) result (shown (kind_literal kind) (string_at kind count bytes.now)) }
+    ensures value { DecoderGives (λ x. (literal_bytes x.0, x.1.now)) result (shown (kind_literal kind) (string_at kind count bytes.now)) }
     ensures shorter { IfOk result (λ x. length x.1.now ≤ length bytes.now) }
 {
     if (bytes.len() as u64) < count {
@@ -264,7 +264,7 @@ fn print_decoded<'b>(
     bytes: &'b [u8],
     limit: usize,
 ) -> Result<&'b [u8], Fault<CborError>>
-    ensures exact { Prints (λ t. Writes layout t) (λ r. r.now) (buffer_bytes out.old) (buffer_bytes out.new) result (item_at trees limit bytes.now) }
+    ensures value { Prints (λ t. Writes layout t) (λ r. r.now) (buffer_bytes out.old) (buffer_bytes out.new) result (item_at trees limit bytes.now) }
     ensures shorter { IfOk result (λ r. length r.now < length bytes.now) }
 {
     let (item, rest) = decode_item(alloc, bytes, limit)?;
@@ -284,7 +284,7 @@ fn print_nested<'b>(
     limit: usize,
     untried: usize,
 ) -> Result<&'b [u8], Fault<CborError>>
-    ensures exact { Prints (λ t. Writes layout t) (λ r. r.now) (buffer_bytes out.old) (buffer_bytes out.new) result (item_at trees limit bytes.now) }
+    ensures value { Prints (λ t. Writes layout t) (λ r. r.now) (buffer_bytes out.old) (buffer_bytes out.new) result (item_at trees limit bytes.now) }
     ensures shorter { IfOk result (λ r. length r.now < length bytes.now) }
 {
     let (front, _) = bytes.split_at(front_len(layout, bytes, untried));
@@ -331,7 +331,7 @@ fn print_parts<'b>(
     limit: usize,
     untried: usize,
 ) -> Result<&'b [u8], Fault<CborError>>
-    ensures exact { Prints (λ t. WritesParts parts t) (λ r. r.now) (buffer_bytes out.old) (buffer_bytes out.new) result (nested_by nested limit argument bytes.now) }
+    ensures value { Prints (λ t. WritesParts parts t) (λ r. r.now) (buffer_bytes out.old) (buffer_bytes out.new) result (nested_by nested limit argument bytes.now) }
     ensures shorter { IfOk result (λ r. length r.now ≤ length bytes.now) }
 {
     match nested {
@@ -371,15 +371,15 @@ fn print_list<'b>(
     limit: usize,
     untried: usize,
 ) -> Result<&'b [u8], Fault<CborError>>
-    ensures exact { Prints (λ t. WritesParts parts t) (λ r. r.now) (buffer_bytes out.old) (buffer_bytes out.new) result (list_by (bracketed list) limit argument bytes.now) }
+    ensures value { Prints (λ t. WritesParts parts t) (λ r. r.now) (buffer_bytes out.old) (buffer_bytes out.new) result (list_by (bracketed list) limit argument bytes.now) }
     ensures shorter { IfOk result (λ r. length r.now ≤ length bytes.now) }
 {
     if limit == 0 {
         return Err(Fault::Told(CborError::TooDeep));
     }
-    out.push_str(opening(list))?;
+    out.push_str(open_bracket(list))?;
     let rest = print_inside(alloc, out, parts, list, argument, bytes, limit - 1, untried)?;
-    out.push_str(ending(list))?;
+    out.push_str(close_bracket(list))?;
     Ok(rest)
 }
 
@@ -394,7 +394,7 @@ fn print_tag<'b>(
     limit: usize,
     untried: usize,
 ) -> Result<&'b [u8], Fault<CborError>>
-    ensures exact { Prints (λ t. WritesParts parts t) (λ r. r.now) (buffer_bytes out.old) (buffer_bytes out.new) result (tag_by trees (inner trees limit) argument bytes.now) }
+    ensures value { Prints (λ t. WritesParts parts t) (λ r. r.now) (buffer_bytes out.old) (buffer_bytes out.new) result (tag_by trees (inner trees limit) argument bytes.now) }
     ensures shorter { IfOk result (λ r. length r.now ≤ length bytes.now) }
 {
     let Some((_, number)) = argument else {
@@ -403,18 +403,18 @@ fn print_tag<'b>(
     if limit == 0 {
         return Err(Fault::Told(CborError::TooDeep));
     }
-    print_label(out, LabelKind::Tag(indicator_of(argument), number))?;
+    print_opener(out, OpenerKind::Tag(indicator_of(argument), number))?;
     out.push_str("(")?;
-    print_space(out, &S::empty(), parts, Slot::Elsewhere)?;
+    print_space(out, &Space::empty(), parts, Slot::Elsewhere)?;
     let rest = print_item(alloc, out, parts, bytes, limit - 1, untried)?;
-    print_space(out, &S::empty(), parts, Slot::Elsewhere)?;
+    print_space(out, &Space::empty(), parts, Slot::Elsewhere)?;
     out.push_str(")")?;
     Ok(rest)
 }
 
 /// The bracket in front of a list.
-fn opening(list: Brackets) -> &'static str
-    ensures { result.now ≡ spelling.opening (bracketed list) ∷ [] }
+fn open_bracket(list: Brackets) -> &'static str
+    ensures { result.now ≡ spelling.open_byte (bracketed list) ∷ [] }
 {
     match list {
         Brackets::Array => "[",
@@ -423,8 +423,8 @@ fn opening(list: Brackets) -> &'static str
 }
 
 /// The bracket behind a list.
-fn ending(list: Brackets) -> &'static str
-    ensures { result.now ≡ spelling.ending (bracketed list) ∷ [] }
+fn close_bracket(list: Brackets) -> &'static str
+    ensures { result.now ≡ spelling.close_byte (bracketed list) ∷ [] }
 {
     match list {
         Brackets::Array => "]",
@@ -444,7 +444,7 @@ fn print_inside<'b>(
     limit: usize,
     untried: usize,
 ) -> Result<&'b [u8], Fault<CborError>>
-    ensures exact { Prints (λ es. Writes layout (list_inside {k = bracketed list} (argument_indicator argument) (row_of es))) (λ r. r.now) (buffer_bytes out.old) (buffer_bytes out.new) result (several (entry_at (bracketed list) limit) argument bytes.now) }
+    ensures value { Prints (λ es. Writes layout (list_inside {k = bracketed list} (argument_indicator argument) (row_of es))) (λ r. r.now) (buffer_bytes out.old) (buffer_bytes out.new) result (several (entry_at (bracketed list) limit) argument bytes.now) }
     ensures shorter { IfOk result (λ r. length r.now ≤ length bytes.now) }
 {
     match argument {
@@ -471,18 +471,18 @@ fn print_inside<'b>(
 
 /// Writes what stands between the brackets of a list without entries.
 fn print_empty(out: &mut TextBuffer, layout: Layout, argument: Argument) -> Result<(), AllocError>
-    ensures { OnOk result (buffer_bytes out.new ≡ buffer_bytes out.old ++ (indicator_text (argument_indicator argument) ++ respaced spacing.S slots.Elsewhere layout [])) }
+    ensures { OnOk result (buffer_bytes out.new ≡ buffer_bytes out.old ++ (indicator_text (argument_indicator argument) ++ respaced spacing.Optional slots.Elsewhere layout [])) }
 {
     print_indicator(out, indicator_of(argument))?;
-    print_space(out, &S::empty(), layout, Slot::Elsewhere)
+    print_space(out, &Space::empty(), layout, Slot::Elsewhere)
 }
 
 /// Writes what stands in front of the first entry of a list.
 fn print_front(out: &mut TextBuffer, layout: Layout, argument: Argument) -> Result<(), AllocError>
-    ensures { OnOk result (buffer_bytes out.new ≡ buffer_bytes out.old ++ (list_head_text (laid_list_head layout (spaced_list_head (argument_indicator argument))) ++ respaced spacing.S slots.First layout [])) }
+    ensures { OnOk result (buffer_bytes out.new ≡ buffer_bytes out.old ++ (list_head_text (laid_list_head layout (spaced_list_head (argument_indicator argument))) ++ respaced spacing.Optional slots.First layout [])) }
 {
     print_laid_head(out, &head_space(indicator_of(argument)), layout)?;
-    print_space(out, &S::empty(), layout, Slot::First)
+    print_space(out, &Space::empty(), layout, Slot::First)
 }
 
 /// Writes so many entries, the separators between them, and the end of their list.
@@ -498,17 +498,17 @@ fn print_many<'b>(
     untried: usize,
 ) -> Result<&'b [u8], Fault<CborError>>
     requires { 0 < count }
-    ensures exact { Prints (λ es. WritesRow layout (row_of es)) (λ r. r.now) (buffer_bytes out.old) (buffer_bytes out.new) result (many (entry_at (bracketed list) limit) count bytes.now) }
+    ensures value { Prints (λ es. WritesRow layout (row_of es)) (λ r. r.now) (buffer_bytes out.old) (buffer_bytes out.new) result (many (entry_at (bracketed list) limit) count bytes.now) }
     ensures shorter { IfOk result (λ r. length r.now ≤ length bytes.now) }
 {
     let mut rest = bytes;
     for _ in 0..count - 1 {
         let after = print_entry(alloc, out, layout, list, rest, limit, untried)?;
-        print_separator(out, &Msc::comma_space(), layout)?;
+        print_separator(out, &Separator::comma_space(), layout)?;
         rest = after;
     }
     let after = print_entry(alloc, out, layout, list, rest, limit, untried)?;
-    print_end(out, &Soc::empty(), layout)?;
+    print_end(out, &ListEnd::empty(), layout)?;
     Ok(after)
 }
 
@@ -525,7 +525,7 @@ fn print_until<'b>(
     untried: usize,
 ) -> Result<&'b [u8], Fault<CborError>>
     requires { reading.past_stop stop bytes.now ≡ None }
-    ensures exact { Prints (λ es. WritesRow layout (row_of es)) (λ r. r.now) (buffer_bytes out.old) (buffer_bytes out.new) result (until stop (entry_at (bracketed list) limit) (suc (length bytes.now)) bytes.now) }
+    ensures value { Prints (λ es. WritesRow layout (row_of es)) (λ r. r.now) (buffer_bytes out.old) (buffer_bytes out.new) result (until stop (entry_at (bracketed list) limit) (suc (length bytes.now)) bytes.now) }
     ensures shorter { IfOk result (λ r. length r.now ≤ length bytes.now) }
 {
     let mut rest = bytes;
@@ -533,11 +533,11 @@ fn print_until<'b>(
         let after = print_entry(alloc, out, layout, list, rest, limit, untried)?;
         match past_stop(stop, after) {
             Some(behind) => {
-                print_end(out, &Soc::empty(), layout)?;
+                print_end(out, &ListEnd::empty(), layout)?;
                 return Ok(behind);
             }
             None => {
-                print_separator(out, &Msc::comma_space(), layout)?;
+                print_separator(out, &Separator::comma_space(), layout)?;
                 rest = after;
             }
         }
@@ -555,7 +555,7 @@ fn print_entry<'b>(
     limit: usize,
     untried: usize,
 ) -> Result<&'b [u8], Fault<CborError>>
-    ensures exact { Prints (λ e. Writes layout e) (λ r. r.now) (buffer_bytes out.old) (buffer_bytes out.new) result (entry_at (bracketed list) limit bytes.now) }
+    ensures value { Prints (λ e. Writes layout e) (λ r. r.now) (buffer_bytes out.old) (buffer_bytes out.new) result (entry_at (bracketed list) limit bytes.now) }
     ensures shorter { IfOk result (λ r. length r.now < length bytes.now) }
 {
     match list {
@@ -574,12 +574,12 @@ fn print_pair<'b>(
     limit: usize,
     untried: usize,
 ) -> Result<&'b [u8], Fault<CborError>>
-    ensures exact { Prints (λ e. Writes layout e) (λ r. r.now) (buffer_bytes out.old) (buffer_bytes out.new) result (pair_at trees (item_at trees limit) bytes.now) }
+    ensures value { Prints (λ e. Writes layout e) (λ r. r.now) (buffer_bytes out.old) (buffer_bytes out.new) result (pair_at trees (item_at trees limit) bytes.now) }
     ensures shorter { IfOk result (λ r. length r.now < length bytes.now) }
 {
     let rest = print_item(alloc, out, layout, bytes, limit, untried)?;
-    print_space(out, &S::empty(), layout, Slot::Elsewhere)?;
+    print_space(out, &Space::empty(), layout, Slot::Elsewhere)?;
     out.push_str(":")?;
-    print_space(out, &S::space(), layout, Slot::AfterColon)?;
+    print_space(out, &Space::single(), layout, Slot::AfterColon)?;
     print_item(alloc, out, layout, rest, limit, untried)
 }

@@ -14,7 +14,7 @@ ghost use Rattle.cbor_edn_core.specs.access.Lent.{with_tag_content};
 ghost use Rattle.cbor_edn_core.specs.access.Mismatch.{IsIntegerMismatch, literal_mismatch};
 ghost use Rattle.cbor_edn_core.specs.visit.Sought.{IsTagCall, IsLiteralCall, LeavesNoneDeeper, MayVisitTags, MayVisitLiterals};
 ghost use Rattle.cbor_edn_core.specs.tree.View.{item_tree, sequence_tree, standalone_tree};
-ghost use Rattle.cbor_edn_model.specs.access.Accessed.{IsApplicationItem, IsIntegerItem, IsLiteralItem, array_items, item_bytes, map_items, string_tree, tag_content, tag_head, tag_number};
+ghost use Rattle.cbor_edn_model.specs.access.Accessed.{IsApplicationItem, IsIntegerItem, IsIntegerLiteral, array_items, item_bytes, map_items, string_tree, tag_content, tag_head, tag_number};
 ghost use Rattle.cbor_edn_model.specs.layout.Commented.{commented};
 ghost use Rattle.cbor_edn_model.specs.cbor.Decoded.{alone};
 ghost use Rattle.cbor_edn_model.specs.tree.Items.{Array, Map};
@@ -79,7 +79,7 @@ pub fn set_comment_in_tag(
 pub fn get_integer(item: &Item<'_>) -> Result<i128, TypeMismatch>
     ensures found { IfOk result (λ z. IsIntegerItem (item_tree item.now) z) }
     ensures refused { IfErr result (λ _. (z : ℤ) → FitsSigned w128 z → IsIntegerItem (item_tree item.now) z → ⊥) }
-    ensures words { IfErr result (IsIntegerMismatch (IsLiteralItem (item_tree item.now))) }
+    ensures words { IfErr result (IsIntegerMismatch (IsIntegerLiteral (item_tree item.now))) }
 {
     item.get_integer()
 }

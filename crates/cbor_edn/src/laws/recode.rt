@@ -27,7 +27,7 @@ pub fn recoded(alloc: Global, bytes: &[u8]) -> Result<Vec<u8>, Fault<CborError>>
     ensures too_deep { IfTold result (λ e. e ≡ CborError.TooDeep → IsTooDeepSequence NESTING_LIMIT bytes.now) }
 {
     let sequence: Box<Sequence<'_>> = boxed(alloc, Sequence::from_cbor(alloc, bytes))?;
-    Ok(encoded(alloc, &sequence)?)
+    Ok(to_cbor(alloc, &sequence)?)
 }
 
 /// The bytes that the items of an encoding are encoded as by way of their text, which has the spaces of each policy in turn and is parsed
@@ -46,7 +46,7 @@ pub fn recoded_by_text(
 }
 
 /// The encodings of items that mean something.
-fn encoded(alloc: Global, sequence: &Sequence<'_>) -> Result<Vec<u8>, AllocError>
+fn to_cbor(alloc: Global, sequence: &Sequence<'_>) -> Result<Vec<u8>, AllocError>
     requires { (vs : Values) × (means (items (sequence_tree sequence.now)) ≡ Some vs) }
     ensures { IfOk result (λ b. (vs : Values) × (means (items (sequence_tree sequence.now)) ≡ Some vs) × EncAll b.items vs) }
 {
@@ -91,7 +91,7 @@ fn read_and_encoded(alloc: Global, text: &str) -> Result<Vec<u8>, AllocError>
     ensures { IfOk result (λ b. IsTextOfItems NESTING_LIMIT b.items text.now) }
 {
     match boxed(alloc, Sequence::parse(alloc, text)) {
-        Ok(sequence) => encoded(alloc, &sequence),
+        Ok(sequence) => to_cbor(alloc, &sequence),
         Err(Fault::Memory(refused)) => Err(refused),
         Err(Fault::Told(_)) => unreachable!(),
     }

@@ -135,13 +135,18 @@ fn length_and_bytes<'a>(
 ) -> Result<Item<'a>, AllocError>
     ensures { IfOk result (λ t. item_tree t ≡ pair_tree (integer_tree (pos prefix_length)) (bytes_tree bytes.now)) }
 {
-    let items = parts(alloc, prefix_length, bytes)?;
+    let items = length_and_bytes_items(alloc, prefix_length, bytes)?;
     let mut array = array_of(alloc, items)?;
     array.set_delimiters(alloc, DelimiterPolicy::SingleLineRegularSpacing)?;
     Ok(array)
 }
 
-fn parts<'a>(alloc: Global, prefix_length: u8, bytes: &[u8]) -> Result<Vec<Item<'a>>, AllocError>
+/// The two items of an array of a prefix length and bytes.
+fn length_and_bytes_items<'a>(
+    alloc: Global,
+    prefix_length: u8,
+    bytes: &[u8],
+) -> Result<Vec<Item<'a>>, AllocError>
     ensures { IfOk result (λ v. map element_tree v.items ≡ ElementTree (integer_tree (pos prefix_length)) ∷ ElementTree (bytes_tree bytes.now) ∷ []) }
 {
     let mut items: Vec<Item<'a>> = Vec::new(alloc);

@@ -14,8 +14,8 @@ ghost use Rattle.cbor_edn_application.specs.Placing.{with_placed};
 use super::literals::placed_literal;
 use super::placing::{CHANGED_ENCODING, Placed, put};
 use crate::reply::refusal;
-use crate::tags::tag_parts;
-use cbor_edn_conversions::steps::{address_tag, is_narrowest};
+use crate::tags::tag_indicator_and_content;
+use cbor_edn_conversions::steps::{address_tag, is_shortest};
 use cbor_edn_core::tree::{Indicator, Item};
 use cbor_edn_literals::address::IpVersion;
 use cbor_edn_parts::error::{CallbackError, Fault};
@@ -41,7 +41,7 @@ fn version_tag_to_aol<'a>(
 ) -> Result<(), CallbackError>
     ensures { ActsBy pretty_address (number (address_tag version)) (item_tree item.old) (sought_answer result) (item_tree item.new) }
 {
-    let Some((indicator, content)) = tag_parts(address_tag(version), item) else {
+    let Some((indicator, content)) = tag_indicator_and_content(address_tag(version), item) else {
         return Ok(());
     };
     match content_literal(alloc, content, version, indicator) {
@@ -73,7 +73,7 @@ fn content_literal<'a>(
     ensures refused { IfTold result (λ e. without_tag indicator (address_tag version) (address_literal (item_tree content.now) version true) ≡ Err e.now) }
 {
     let literal = placed_literal(alloc, content, version, true)?;
-    if !is_narrowest(indicator, address_tag(version)) {
+    if !is_shortest(indicator, address_tag(version)) {
         return Err(Fault::Told(CHANGED_ENCODING));
     }
     Ok(literal)

@@ -110,7 +110,7 @@ fn comment_parameters(alloc: Global, key: &mut Item<'_>) -> Result<(), AllocErro
     let key_type = type_of(key);
     let answer = key.visit_map_elements(
         alloc,
-        &mut |label| comment_parameter(alloc, key_type, label),
+        &mut |opener| comment_parameter(alloc, key_type, opener),
     );
     any_item(answer)
 }
@@ -119,12 +119,12 @@ fn comment_parameters(alloc: Global, key: &mut Item<'_>) -> Result<(), AllocErro
 fn comment_parameter(
     alloc: Global,
     key_type: Option<KeyType>,
-    label: &mut Item<'_>,
+    opener: &mut Item<'_>,
 ) -> Result<(Option<String>, Option<NameHandler>), CallbackError>
-    ensures same { item_tree label.new ≡ item_tree label.old }
-    ensures answer { KeyAnswers (key_label key_type (item_tree label.old)) (key_answer result) (option_map at_number (handler_of result)) }
+    ensures same { item_tree opener.new ≡ item_tree opener.old }
+    ensures answer { KeyAnswers (key_label key_type (item_tree opener.old)) (key_answer result) (option_map at_number (handler_of result)) }
 {
-    let Some(number) = integer_of(label) else {
+    let Some(number) = integer_of(opener) else {
         return Ok((None, None));
     };
     labelled(alloc, key_parameter(key_type, number))
@@ -146,8 +146,8 @@ fn type_item<'t, 'a>(key: &'t Item<'a>) -> Option<&'t Item<'a>>
     let Ok(pairs) = key.get_map_items() else {
         return None;
     };
-    for (label, value) in pairs {
-        if integer_of(label) == Some(1) {
+    for (opener, value) in pairs {
+        if integer_of(opener) == Some(1) {
             return Some(value);
         }
     }

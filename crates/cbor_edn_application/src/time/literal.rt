@@ -8,7 +8,7 @@ ghost use Rattle.cbor_edn_conversions.specs.Conversions.{argument, literal_tree}
 ghost use Rattle.cbor_edn_conversions.specs.Times.{time_prefix, time_literal};
 ghost use Rattle.cbor_edn_application.specs.TimeSteps.{BecomesTime, StaysFor, integer_literal, decimal_literal, not_time_message};
 
-use cbor_edn_conversions::steps::is_narrowest;
+use cbor_edn_conversions::steps::is_shortest;
 use cbor_edn_core::access::TypeMismatch;
 use cbor_edn_core::tree::{Indicator, Item};
 use cbor_edn_literals::time::{Instant, NotTime, printed_time, read_decimal, read_integer};
@@ -41,7 +41,7 @@ fn instant_of_integer(integer: i128, indicator: Option<Indicator>) -> Result<Ins
     let Some(instant) = read_integer(integer) else {
         return Err("Value out of range for time stamps");
     };
-    if !is_narrowest(indicator, argument(instant.seconds)) {
+    if !is_shortest(indicator, argument(instant.seconds)) {
         return Err("Conversion would change the encoding");
     }
     Ok(instant)

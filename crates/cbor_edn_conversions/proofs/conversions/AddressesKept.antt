@@ -16,12 +16,12 @@ use Rattle.cbor_edn_literals.specs.Address.{size_of}
 use Rattle.cbor_edn_literals.proofs.PrintedBytes.{printed_text_bytes}
 use Rattle.cbor_edn_conversions.specs.Resolving.{Resolver, means_by, ResolvesNoContent}
 use Rattle.cbor_edn_conversions.proofs.resolving.Resolved.{more_means}
-use Rattle.cbor_edn_conversions.specs.Conversions.{Message, Conversion, converted, called_tag, is_narrowest, changed_encoding, without_tag, mean_the_same, literal_tree, tag_tree, in_tag}
+use Rattle.cbor_edn_conversions.specs.Conversions.{Message, Conversion, converted, called_tag, is_shortest, changed_encoding, without_tag, mean_the_same, literal_tree, tag_tree, in_tag}
 use Rattle.cbor_edn_conversions.specs.Resolvers.{TurnsTo}
 use Rattle.cbor_edn_conversions.specs.Integers.{item_integer}
 use Rattle.cbor_edn_conversions.specs.Addresses.{address_prefix, address_tag, address_item, whole_text, length_text, prefix_text, if_same, as_literal, with_first, as_first, by_length, by_others, by_first, by_elements, by_bytes, address_literal, address_of_tag, pretty_address}
 use Rattle.cbor_edn_conversions.proofs.conversions.SameValues.{MeanOne, mean_one}
-use Rattle.cbor_edn_conversions.proofs.conversions.Calls.{reply_turns, called_tag_is, narrowest_means, without_tag_is}
+use Rattle.cbor_edn_conversions.proofs.conversions.Calls.{reply_turns, called_tag_is, shortest_means, without_tag_is}
 use Rattle.cbor_edn_conversions.proofs.conversions.Literals.{GivesAddresses, address_prefix_is, tree_means}
 use Rattle.cbor_edn_conversions.proofs.conversions.ItemBytes.{bytes_fit, MeansFit, elements_fit}
 
@@ -250,16 +250,16 @@ module _ (R : Resolver) (no_content : ResolvesNoContent R) (gives : GivesAddress
   -- ---- the call
 
   -- the tag of a version, where its indicator is the shortest
-  stands_turns : (version : IpVersion) (i : Option Indicator) (c v : Tree OneItem) → is_narrowest i (address_tag version) ≡ true → StandsFor true (address_tag version) c v → (u : Value) → means_by R (Tagged (address_tag version) i (items c)) ≡ Some u → means_by R (items v) ≡ Some u
+  stands_turns : (version : IpVersion) (i : Option Indicator) (c v : Tree OneItem) → is_shortest i (address_tag version) ≡ true → StandsFor true (address_tag version) c v → (u : Value) → means_by R (Tagged (address_tag version) i (items c)) ≡ Some u → means_by R (items v) ≡ Some u
   unfolding items
   stands_turns version i c v narrow h u e =
-      let value : h.value ≡ u = some_is h.value u (sym (more_means R no_content (items (tag_tree (address_tag version) c)) h.value h.before) ∙ (sym (narrowest_means R (address_tag version) i (items c) narrow) ∙ e)) in
+      let value : h.value ≡ u = some_is h.value u (sym (more_means R no_content (items (tag_tree (address_tag version) c)) h.value h.before) ∙ (sym (shortest_means R (address_tag version) i (items c) narrow) ∙ e)) in
       h.after ∙ ap (λ (x : Value). Some x) value
 
   version_turns : (version : IpVersion) (n : ℕ) (i : Option Indicator) (c v : Tree OneItem) → n ≡ address_tag version → without_tag i n (address_literal c version true) ≡ Ok v → (u : Value) → means_by R (Tagged n i (items c)) ≡ Some u → means_by R (items v) ≡ Some u
   version_turns version n i c v same e u is =
       let h = without_tag_is i n (address_literal c version true) v e in
-      stands_turns version i c v (subst (λ n. is_narrowest i n ≡ true) same h.narrow) (address_stands version true c v h.is_ok) u (ap (λ n. means_by R (Tagged n i (items c))) (sym same) ∙ is)
+      stands_turns version i c v (subst (λ n. is_shortest i n ≡ true) same h.narrow) (address_stands version true c v h.is_ok) u (ap (λ n. means_by R (Tagged n i (items c))) (sym same) ∙ is)
 
   tag_by : (n : ℕ) (i : Option Indicator) (c v : Tree OneItem) (a b : Bool) → (n == 52) ≡ a → (n == 54) ≡ b
       → cond a (Some (without_tag i n (address_literal c V4 true))) (cond b (Some (without_tag i n (address_literal c V6 true))) None) ≡ Some (Ok v)

@@ -1,7 +1,7 @@
 -- What one call does to what an item means, by its conversion.
 use Rattle.std.proofs.Common.{ℕ, ◌≡◌, Bool, true, false, cond, Option, Some, None, Ok, Err, refl, ap, ◌∙◌}
 use Rattle.cbor_edn_parts.specs.declared.indicator.Indicator.{Indicator}
-use Rattle.cbor_edn_model.specs.declared.text.label.LabelKind.TheVariants as label
+use Rattle.cbor_edn_model.specs.declared.text.opener.OpenerKind.TheVariants as opener
 use Rattle.cbor_edn_model.specs.tree.Items.{Item, Node, Tagged}
 use Rattle.cbor_edn_model.specs.cbor.Meaning.{◌>>=◌, width_of}
 use Rattle.cbor_edn_model.specs.visit.Seeking.{CallArguments, SoughtCall}
@@ -11,7 +11,7 @@ use Rattle.cbor_edn_model.specs.visit.Visits.{fine, comment, no_memory}
 use Rattle.cbor_edn_model.proofs.lemmas.cbor.MeaningSteps.{both_steps, some_is}
 use Rattle.cbor_edn_conversions.specs.Resolving.{Resolver, means_by, Turns, AnswersBy}
 use Rattle.cbor_edn_conversions.specs.Resolvers.{TurnsTo}
-use Rattle.cbor_edn_conversions.specs.Conversions.{Conversion, Reply, reply, and_then, tells, called_tag, is_narrowest, without_tag, changed_encoding}
+use Rattle.cbor_edn_conversions.specs.Conversions.{Conversion, Reply, reply, and_then, tells, called_tag, is_shortest, without_tag, changed_encoding}
 use Rattle.cbor_edn_conversions.proofs.conversions.SameValues.{narrow_width}
 
 pub turns_to : (B A : Resolver) (f : CallArguments → Tree OneItem → Reply) (c : SoughtCall) → AnswersBy f c → TurnsTo B A c.before (f c.arguments c.before).1 → Turns B A c
@@ -42,8 +42,8 @@ called_by false n m i j u c e = absurd cc
 
 pub called_tag_is : (a : CallArguments) (w : Tree OneItem) (m : ℕ) (j : Option Indicator) (c : Tree OneItem) → called_tag a w ≡ Some (m, j, c) → items w ≡ Tagged m j (items c)
 unfolding items
-called_tag_is a (EnclosedTree (label.Tag i n) (StandaloneTree s u t)) m j c e = called_by (tells a n) n m i j u c e
-called_tag_is a (EnclosedTree label.Simple w) m j c e = absurd cc
+called_tag_is a (EnclosedTree (opener.Tag i n) (StandaloneTree s u t)) m j c e = called_by (tells a n) n m i j u c e
+called_tag_is a (EnclosedTree opener.Simple w) m j c e = absurd cc
 called_tag_is a (NumberTree x i) m j c e = absurd cc
 called_tag_is a (FloatTree f i) m j c e = absurd cc
 called_tag_is a (NamedTree b) m j c e = absurd cc
@@ -67,16 +67,16 @@ tag_means R n i w x e =
     record { width = d; width_is = width; content = v; content_is = content; value_is = some_is (tag d n v) x is }
 
 -- A tag means what it means without its indicator, where this is the shortest.
-pub narrowest_means : (R : Resolver) (n : ℕ) (i : Option Indicator) (w : Node Item) → is_narrowest i n ≡ true → means_by R (Tagged n i w) ≡ means_by R (Tagged n None w)
+pub shortest_means : (R : Resolver) (n : ℕ) (i : Option Indicator) (w : Node Item) → is_shortest i n ≡ true → means_by R (Tagged n i w) ≡ means_by R (Tagged n None w)
 unfolding means_by
-narrowest_means R n i w e = ap (λ o. o >>= λ d. means_by R w >>= λ v. Some (tag d n v)) (narrow_width i n e)
+shortest_means R n i w e = ap (λ o. o >>= λ d. means_by R w >>= λ v. Some (tag d n v)) (narrow_width i n e)
 
 -- a conversion that goes with the tag
 pub record WithoutTag (i : Option Indicator) (n : ℕ) (c : Conversion) (v : Tree OneItem) : Type 0 where
   pub is_ok : c ≡ Ok v
-  pub narrow : is_narrowest i n ≡ true
+  pub narrow : is_shortest i n ≡ true
 
-narrow_by : (i : Option Indicator) (n : ℕ) (u v : Tree OneItem) (b : Bool) → is_narrowest i n ≡ b → cond b (Ok u) (Err changed_encoding) ≡ Ok v → WithoutTag i n (Ok u) v
+narrow_by : (i : Option Indicator) (n : ℕ) (u v : Tree OneItem) (b : Bool) → is_shortest i n ≡ b → cond b (Ok u) (Err changed_encoding) ≡ Ok v → WithoutTag i n (Ok u) v
 narrow_by i n u v true p e = record { is_ok = e; narrow = p }
 narrow_by i n u v false p e = absurd cc
 

@@ -2,10 +2,10 @@
 use Rattle.std.proofs.Common.{ℕ, ℤ, zero, suc, ◌-◌, ◌≡◌, Bool, true, false, cond, eqb, ltb, List, length, slice_get, Option, Some, None, refl, ap, ◌∙◌}
 use Rattle.std.specs.Prelude.{option_map, option_and_then, pos}
 use Rattle.cbor_edn_model.specs.access.Paths.{items_in, with_item}
-use Rattle.cbor_edn_model.specs.declared.text.label.LabelKind.TheVariants as label
+use Rattle.cbor_edn_model.specs.declared.text.opener.OpenerKind.TheVariants as opener
 use Rattle.cbor_edn_model.specs.tree.Items as kind
 use Rattle.cbor_edn_model.specs.tree.Items.{Elements, Array, Map, Plus, Pair, Then, Listed}
-use Rattle.cbor_edn_model.specs.tree.Trees.{Rule, Tree, OneItem, OneEntry, head_indicator, NumberTree, FloatTree, NamedTree, EnclosedTree, ListTree, StringTree, StreamTree, LiteralTree, DotsTree, EmbeddedTree, LastPieceTree, PlusTree, ElementTree, PairTree, ChunkTree, EmptyTree, FullTree, LastTree, MoreTree, NothingTree, SequenceTree, StandaloneTree, items}
+use Rattle.cbor_edn_model.specs.tree.Trees.{Rule, Tree, OneItem, OneEntry, head_indicator, NumberTree, FloatTree, NamedTree, EnclosedTree, ListTree, StringTree, StreamTree, LiteralTree, EllipsisTree, EmbeddedTree, LastPieceTree, PlusTree, ElementTree, PairTree, ChunkTree, EmptyTree, FullTree, LastTree, MoreTree, NothingTree, SequenceTree, StandaloneTree, items}
 use Rattle.cbor_edn_model.specs.visit.Visits.{fine, no_memory}
 use Rattle.cbor_edn_model.proofs.lemmas.access.ReplacedItems.{put_back}
 use Rattle.cbor_edn_conversions.specs.Claims.{named, key_of}
@@ -34,18 +34,18 @@ named_leaves : (o : Option (List ℕ × Option NamedNumber)) → Leaves (named w
 named_leaves None = tt
 named_leaves (Some r) = number_leaves r.1
 
-pub label_leaves : (find : ℤ → Option (List ℕ × Option NamedNumber)) (k : Tree OneItem) → Leaves (key_of with_name find k).1
-label_leaves find k = named_leaves (option_and_then find (item_integer k))
+pub opener_leaves : (find : ℤ → Option (List ℕ × Option NamedNumber)) (k : Tree OneItem) → Leaves (key_of with_name find k).1
+opener_leaves find k = named_leaves (option_and_then find (item_integer k))
 
 pub headers_keep : HeadersKeepItems
 unfolding with_headers
-headers_keep w = keys_left header_key (label_leaves (found headers)) w
+headers_keep w = keys_left header_key (opener_leaves (found headers)) w
 
 -- ---- keys
 
 pub parameters_left : LeavesItems with_parameters
 unfolding with_parameters
-parameters_left w = keys_left (key_label (type_of_key w)) (label_leaves _) w
+parameters_left w = keys_left (key_label (type_of_key w)) (opener_leaves _) w
 
 method_leaves : (o : Option (List ℕ × Bool)) → Leaves (key_method o).1
 method_leaves None = tt
@@ -81,13 +81,13 @@ unfolding items
 same_items i x y (NumberTree n p) e = refl
 same_items i x y (FloatTree f p) e = refl
 same_items i x y (NamedTree b) e = refl
-same_items i x y (EnclosedTree (label.Tag p n) w) e = ap (kind.Tagged n p) (same_items i x y w e)
-same_items i x y (EnclosedTree label.Simple w) e = refl
+same_items i x y (EnclosedTree (opener.Tag p n) w) e = ap (kind.Tagged n p) (same_items i x y w e)
+same_items i x y (EnclosedTree opener.Simple w) e = refl
 same_items i x y (ListTree k w) e = ap (λ l. Listed k l.0 l.1) (same_items i x y w e)
 same_items i x y (StringTree w) e = ap kind.String (same_items i x y w e)
 same_items i x y (StreamTree ms m) e = ap kind.Stream (same_items i x y m e)
 same_items i x y (LiteralTree t p) e = refl
-same_items i x y (DotsTree t) e = refl
+same_items i x y (EllipsisTree t) e = refl
 same_items i x y (EmbeddedTree w p) e = ap (λ m. kind.Embedded m p) (same_items i x y w e)
 same_items i x y (LastPieceTree p) e = ap kind.LastPiece (same_items i x y p e)
 same_items i x y (PlusTree p s t w) e =

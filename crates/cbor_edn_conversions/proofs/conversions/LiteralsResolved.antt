@@ -11,7 +11,7 @@ use Rattle.cbor_edn_parts.proofs.lemmas.literal.Applications.{one_application, p
 use Rattle.cbor_edn_parts.proofs.lemmas.literal.LiteralTexts.{literal_test}
 use Rattle.cbor_edn_parts.proofs.lemmas.literal.LiteralContents.{content_is, content_of}
 use Rattle.cbor_edn_parts.proofs.lemmas.literal.LiteralPrefixes.{same-found}
-use Rattle.cbor_edn_model.specs.tree.Items.{Item, Node, Number, Float, Listed, Tagged, Named, Simple, String, Stream, LastPiece, Plus, Literal, Dots, Embedded}
+use Rattle.cbor_edn_model.specs.tree.Items.{Item, Node, Number, Float, Listed, Tagged, Named, Simple, String, Stream, LastPiece, Plus, Literal, Ellipsis, Embedded}
 use Rattle.cbor_edn_model.specs.cbor.Meaning.{◌>>=◌, means, string_of}
 use Rattle.cbor_edn_model.specs.visit.Seeking.{CallArguments, number, prefix_and_text, IsApplication}
 use Rattle.cbor_edn_model.specs.tree.Trees.{Tree, OneItem, items}
@@ -40,7 +40,7 @@ record LiteralItem (y : Node Item) (p t : List ℕ) : Type 0 where
 
 node_is : (y : Node Item) (p t : List ℕ) → IsApplicationNode y (prefix_and_text p t) → LiteralItem y p t
 node_is (String (LastPiece (Literal x i))) p t h = record { text = x; indicator = i; is = refl; literal = h }
-node_is (String (LastPiece (Dots x))) p t h = absurd h
+node_is (String (LastPiece (Ellipsis x))) p t h = absurd h
 node_is (String (LastPiece (Embedded m i))) p t h = absurd h
 node_is (String (Plus q w)) p t h = absurd h
 node_is (Number x i) p t h = absurd h

@@ -2,11 +2,11 @@
 use Rattle.std.proofs.Common.{ℕ, ◌-◌, ◌≡◌, Bool, true, false, cond, eqb, ltb, List, length, slice_get, Option, Some, None, refl, ap, subst, ◌∙◌}
 use Rattle.cbor_edn_parts.specs.declared.string.StringKind.TheVariants.{Bytes}
 use Rattle.cbor_edn_model.specs.access.Paths.{items_in, with_item}
-use Rattle.cbor_edn_model.specs.declared.text.label.LabelKind.TheVariants as label
+use Rattle.cbor_edn_model.specs.declared.text.opener.OpenerKind.TheVariants as opener
 use Rattle.cbor_edn_model.specs.cbor.Meaning.{◌>>=◌, width_of, listed, pieces_indicator, chunk_of, stream_of, joined, one_more, no_entries}
 use Rattle.cbor_edn_model.specs.cbor.Value.{Value, encodings, tag}
 use Rattle.cbor_edn_model.specs.tree.Items.{Array, Map, Plus, LastPiece}
-use Rattle.cbor_edn_model.specs.tree.Trees.{Rule, Tree, OneItem, OnePiece, OneString, NumberTree, FloatTree, NamedTree, EnclosedTree, ListTree, StringTree, StreamTree, LiteralTree, DotsTree, EmbeddedTree, LastPieceTree, PlusTree, ElementTree, PairTree, ChunkTree, EmptyTree, FullTree, LastTree, MoreTree, NothingTree, SequenceTree, StandaloneTree, items}
+use Rattle.cbor_edn_model.specs.tree.Trees.{Rule, Tree, OneItem, OnePiece, OneString, NumberTree, FloatTree, NamedTree, EnclosedTree, ListTree, StringTree, StreamTree, LiteralTree, EllipsisTree, EmbeddedTree, LastPieceTree, PlusTree, ElementTree, PairTree, ChunkTree, EmptyTree, FullTree, LastTree, MoreTree, NothingTree, SequenceTree, StandaloneTree, items}
 use Rattle.cbor_edn_model.proofs.lemmas.access.ReplacedItems.{put_back}
 use Rattle.cbor_edn_conversions.specs.Claims.{with_claims}
 use Rattle.cbor_edn_conversions.specs.Cose.{with_other, in_item, in_string, called_message}
@@ -31,7 +31,7 @@ pick_piece false l r k q first second = second
 piece_stays : (i : ℕ) (x y : Tree OneItem) (p : Tree OnePiece) → piece_shape (items (with_item i x p)) ≡ piece_shape (items (with_item i y p))
 unfolding items
 piece_stays i x y (LiteralTree t j) = refl
-piece_stays i x y (DotsTree t) = refl
+piece_stays i x y (EllipsisTree t) = refl
 piece_stays i x y (EmbeddedTree w j) = refl
 
 string_stays : (i : ℕ) (x y : Tree OneItem) (w : Tree OneString) → shape (items (with_item i x w)) ≡ shape (items (with_item i y w))
@@ -63,9 +63,9 @@ module _ (R : Resolver) where
   item_still i x y (NumberTree n p) e = λ agree. same _
   item_still i x y (FloatTree f p) e = λ agree. same _
   item_still i x y (NamedTree b) e = λ agree. same _
-  item_still i x y (EnclosedTree (label.Tag p n) w) e =
+  item_still i x y (EnclosedTree (opener.Tag p n) w) e =
       λ agree. two_steps Below belows (width_of p n) (width_of p n) (means_by R (items (with_item i x w))) (means_by R (items (with_item i y w))) (λ d v. tag d n v) (same (width_of p n)) (item_still i x y w e)
-  item_still i x y (EnclosedTree label.Simple w) e = λ agree. same _
+  item_still i x y (EnclosedTree opener.Simple w) e = λ agree. same _
   item_still i x y (ListTree k w) e = λ agree.
       let v = with_item i x w in let u = with_item i y w in
       let h = item_still i x y w e in
@@ -74,7 +74,7 @@ module _ (R : Resolver) where
   item_still i x y (StringTree w) e = string_kept Below belows R R (items (with_item i x w)) (items (with_item i y w)) (string_stays i x y w) (item_still i x y w e)
   item_still i x y (StreamTree ms m) e = λ agree. one_step Below belows (means_by R (items (with_item i x m))) (means_by R (items (with_item i y m))) stream_of (item_still i x y m e)
   item_still i x y (LiteralTree t p) e = same _
-  item_still i x y (DotsTree t) e = same _
+  item_still i x y (EllipsisTree t) e = same _
   item_still i x y (EmbeddedTree w p) e = one_step Below belows (means_by R (items (with_item i x w))) (means_by R (items (with_item i y w))) (λ vs. Some (Bytes, encodings vs)) (item_still i x y w e)
   item_still i x y (LastPieceTree p) e = item_still i x y p e
   item_still i x y (PlusTree p s t w) e =

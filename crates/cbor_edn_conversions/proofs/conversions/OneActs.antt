@@ -4,7 +4,7 @@ use Rattle.std.proofs.lemmas.Bool.{eqb-true}
 use Rattle.cbor_edn_parts.specs.declared.indicator.Indicator.{Indicator}
 use Rattle.cbor_edn_parts.specs.internal.ContentReading.{same}
 use Rattle.cbor_edn_parts.proofs.lemmas.literal.LiteralPrefixes.{same-found}
-use Rattle.cbor_edn_model.specs.declared.text.label.LabelKind.TheVariants as label
+use Rattle.cbor_edn_model.specs.declared.text.opener.OpenerKind.TheVariants as opener
 use Rattle.cbor_edn_model.specs.visit.Seeking.{number, prefix_and_text}
 use Rattle.cbor_edn_model.specs.tree.Trees.{Tree, OneItem, NumberTree, FloatTree, NamedTree, EnclosedTree, ListTree, StringTree, StreamTree}
 use Rattle.cbor_edn_model.specs.visit.Visits.{fine, comment, no_memory}
@@ -44,8 +44,8 @@ module _ (f : OfTag) (nothing : f None ≡ None) (n : ℕ) (at : (i : Option Ind
   by_number i m c false e = nothing
 
   tag_idle : (w : Tree OneItem) → f (called_tag (number n) w) ≡ None
-  tag_idle (EnclosedTree (label.Tag i m) w) = by_number i m (inner_item w) (n == m) refl
-  tag_idle (EnclosedTree label.Simple w) = nothing
+  tag_idle (EnclosedTree (opener.Tag i m) w) = by_number i m (inner_item w) (n == m) refl
+  tag_idle (EnclosedTree opener.Simple w) = nothing
   tag_idle (NumberTree x i) = nothing
   tag_idle (FloatTree g i) = nothing
   tag_idle (NamedTree b) = nothing

@@ -14,7 +14,7 @@ use Rattle.cbor_edn_model.specs.cbor.Value.{Value, unsigned, negative, encoding,
 use Rattle.cbor_edn_model.proofs.lemmas.cbor.MeaningSteps.{given, some_is}
 use Rattle.cbor_edn_model.proofs.lemmas.cbor.Meanings.{meaning_fits}
 use Rattle.cbor_edn_model.proofs.lemmas.cbor.CborOneValue.{one_encoding_holds}
-use Rattle.cbor_edn_conversions.specs.Conversions.{encoded, are_same, mean_the_same, is_narrowest, argument}
+use Rattle.cbor_edn_conversions.specs.Conversions.{encoded, are_same, mean_the_same, is_shortest, argument}
 use Rattle.cbor_edn_conversions.specs.ConversionLaws.{EncodingsComputed}
 
 -- ---- the same bytes
@@ -79,7 +79,7 @@ shortest_eight n low = rw (le-ltb n 24 (omega arith), le-ltb n (2 ^ 8) (omega ar
 shortest_immediate : (n : ℕ) → n < 24 → shortest n ≡ Immediate
 shortest_immediate n high = rw (lt-ltb n 24 high) refl
 
-pub narrow_width : (i : Option Indicator) (n : ℕ) → is_narrowest i n ≡ true → width_of i n ≡ width_of None n
+pub narrow_width : (i : Option Indicator) (n : ℕ) → is_shortest i n ≡ true → width_of i n ≡ width_of None n
 narrow_width None n e = refl
 narrow_width (Some indicator.Indefinite) n e = absurd cc
 narrow_width (Some indicator.Immediate) n e = ap (λ w. fitting w n) (sym (shortest_immediate n (ltb-true n 24 e)))
@@ -88,7 +88,7 @@ narrow_width (Some indicator.Two) n e = let both = and_parts _ _ e in ap (λ w. 
 narrow_width (Some indicator.Four) n e = let both = and_parts _ _ e in ap (λ w. fitting w n) (sym (shortest_four n (leb-true (2 ^ 16) n both.0) (ltb-true n (2 ^ 32) both.1)))
 narrow_width (Some indicator.Eight) n e = let both = and_parts _ _ e in ap (λ w. fitting w n) (sym (shortest_eight n (leb-true (2 ^ 32) n both.0)))
 
-pub plain_integer : (i : Option Indicator) (z : ℤ) → argument z < 2 ^ 64 → is_narrowest i (argument z) ≡ true → means_integer i z ≡ means_integer None z
+pub plain_integer : (i : Option Indicator) (z : ℤ) → argument z < 2 ^ 64 → is_shortest i (argument z) ≡ true → means_integer i z ≡ means_integer None z
 plain_integer i (pos n) high e = let small = lt-ltb n (2 ^ 64) high in rw small (ap (λ o. o >>= λ w. Some (unsigned w n)) (narrow_width i n e))
 plain_integer i (negsuc n) high e = let small = lt-ltb n (2 ^ 64) high in rw small (ap (λ o. o >>= λ w. Some (negative w n)) (narrow_width i n e))
 

@@ -2,7 +2,7 @@
 use Rattle.std.proofs.Common.{◌≡◌, List, [], ◌∷◌, ◌++◌, All, sym, subst}
 use Rattle.std.proofs.lemmas.List.Elements.{All-nil, All-cons, All-append, All-head, All-tail}
 use Rattle.cbor_edn_model.specs.tree.Items.{Row}
-use Rattle.cbor_edn_model.specs.visit.Seeking.{CallArguments, SoughtCall, VisitItem, VisitParts, VisitEntry, passed, entered, stayed, refused, not_called, of_number, of_float, of_name, of_tag, of_simple, of_list, of_string, of_stream, of_literal, of_dots, of_embedded, of_last_piece, of_pieces, of_pieces_cut, of_none_inside, of_all_inside, of_last, of_more, of_more_cut, of_nothing, of_sequence, of_standalone, of_element, of_pair, of_pair_cut, of_chunk}
+use Rattle.cbor_edn_model.specs.visit.Seeking.{CallArguments, SoughtCall, VisitItem, VisitParts, VisitEntry, passed, entered, stayed, refused, not_called, of_number, of_float, of_name, of_tag, of_simple, of_list, of_string, of_stream, of_literal, of_ellipsis, of_embedded, of_last_piece, of_pieces, of_pieces_cut, of_none_inside, of_all_inside, of_last, of_more, of_more_cut, of_nothing, of_sequence, of_standalone, of_element, of_pair, of_pair_cut, of_chunk}
 use Rattle.cbor_edn_model.specs.tree.Trees.{Rule, Tree, OneItem, OneEntry}
 use Rattle.cbor_edn_model.specs.visit.Visits.{Ending}
 
@@ -31,7 +31,7 @@ module _ (IsSought : Tree OneItem → CallArguments → Type 0) where
     parts_sought (of_string h) = parts_sought h
     parts_sought (of_stream h) = parts_sought h
     parts_sought of_literal = All-nil Sought
-    parts_sought of_dots = All-nil Sought
+    parts_sought of_ellipsis = All-nil Sought
     parts_sought (of_embedded h) = parts_sought h
     parts_sought (of_last_piece h) = parts_sought h
     parts_sought (of_pieces h k e) = both _ _ _ e (parts_sought h) (parts_sought k)

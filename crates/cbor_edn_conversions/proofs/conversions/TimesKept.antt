@@ -20,11 +20,11 @@ use Rattle.cbor_edn_literals.proofs.TimeComputedText.{time_text_is}
 use Rattle.cbor_edn_literals.proofs.TimeComputedNumbers.{decimal_computed}
 use Rattle.cbor_edn_conversions.specs.ConversionLaws.{StampsTested, TimesReadBack}
 use Rattle.cbor_edn_conversions.specs.Resolving.{Resolver, means_by}
-use Rattle.cbor_edn_conversions.specs.Conversions.{Conversion, called_tag, is_narrowest, argument, changed_encoding, without_tag, literal_tree, tag_tree, in_tag}
+use Rattle.cbor_edn_conversions.specs.Conversions.{Conversion, called_tag, is_shortest, argument, changed_encoding, without_tag, literal_tree, tag_tree, in_tag}
 use Rattle.cbor_edn_conversions.specs.Resolvers.{TurnsTo}
 use Rattle.cbor_edn_conversions.specs.Times.{time_prefix, time_item, instant_item, instant_by, is_plain, is_time_stamp, instant_literal, time_literal, time_of_tag, pretty_time}
 use Rattle.cbor_edn_conversions.proofs.conversions.SameValues.{plain_integer}
-use Rattle.cbor_edn_conversions.proofs.conversions.Calls.{reply_turns, called_tag_is, tag_means, narrowest_means, without_tag_is}
+use Rattle.cbor_edn_conversions.proofs.conversions.Calls.{reply_turns, called_tag_is, tag_means, shortest_means, without_tag_is}
 use Rattle.cbor_edn_conversions.proofs.conversions.Literals.{GivesTimes, time_prefix_is, tree_means}
 
 -- ---- the text of a time is of bytes
@@ -158,7 +158,7 @@ module _ (R : Resolver) (gives : GivesTimes R) where
 
   -- ---- the call
 
-  module _ (i : Option Indicator) (v : Tree OneItem) (narrow : is_narrowest i 1 ≡ true) where
+  module _ (i : Option Indicator) (v : Tree OneItem) (narrow : is_shortest i 1 ≡ true) where
     -- an integer, or a number without a meaning
     number_turns : (x : List ℕ) (j : Option Indicator) (o : Option ℤ) → integer_of x ≡ o → InstantLiteral true (is_plain o j) (instant_by o j x) v → (u : Value) → means_by R (Tagged 1 i (Number x j)) ≡ Some u → means_by R (items v) ≡ Some u
     unfolding means_by
@@ -167,7 +167,7 @@ module _ (R : Resolver) (gives : GivesTimes R) where
         let nothing : None ≡ Some t.content = sym (ap (λ o. o >>= means_integer j) read) ∙ t.content_is in
         absurd cc
     number_turns x j (Some z) read h u e =
-        let t = tag_means R 1 None (Number x j) u (sym (narrowest_means R 1 i (Number x j) narrow) ∙ e) in
+        let t = tag_means R 1 None (Number x j) u (sym (shortest_means R 1 i (Number x j) narrow) ∙ e) in
         let seconds : z ≡ h.seconds = ap (λ (p : ℤ × ℕ). p.0) (some_is (z, 0) (h.seconds, h.nanoseconds) h.instant) in
         let none : 0 ≡ h.nanoseconds = ap (λ (p : ℤ × ℕ). p.1) (some_is (z, 0) (h.seconds, h.nanoseconds) h.instant) in
         let stamp : is_time_stamp z ≡ true = ap is_time_stamp seconds ∙ h.stamp in
@@ -222,7 +222,7 @@ module _ (R : Resolver) (gives : GivesTimes R) where
   tag_by n i c v true p e u is =
       let one = eqb-true n 1 p in
       let h = without_tag_is i n (time_literal c true) v (some_is _ _ e) in
-      content_turns i v (subst (λ n. is_narrowest i n ≡ true) one h.narrow) c h.is_ok u (ap (λ n. means_by R (Tagged n i (items c))) (sym one) ∙ is)
+      content_turns i v (subst (λ n. is_shortest i n ≡ true) one h.narrow) c h.is_ok u (ap (λ n. means_by R (Tagged n i (items c))) (sym one) ∙ is)
 
   by_tag : (w : Tree OneItem) (o : Option (ℕ × Option Indicator × Tree OneItem)) → ((n : ℕ) (i : Option Indicator) (c : Tree OneItem) → o ≡ Some (n, i, c) → items w ≡ Tagged n i (items c)) → (v : Tree OneItem) → time_of_tag o ≡ Some (Ok v) → TurnsTo R R w v
   by_tag w None is v e u h = absurd cc

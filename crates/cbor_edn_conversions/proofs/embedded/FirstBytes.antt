@@ -6,7 +6,7 @@ use Rattle.std.proofs.lemmas.Bool.Decides.{nat_tests}
 use Rattle.cbor_edn_parts.specs.declared.string.StringKind.{StringKind}
 use Rattle.cbor_edn_model.specs.declared.cbor.heads.Width.{Width}
 use Rattle.cbor_edn_model.specs.declared.cbor.heads.Width.TheVariants.{Immediate, One, Two, Four, Eight}
-use Rattle.cbor_edn_model.specs.declared.text.label.LabelKind.TheVariants as label
+use Rattle.cbor_edn_model.specs.declared.text.opener.OpenerKind.TheVariants as opener
 use Rattle.cbor_edn_model.specs.cbor.Decoded.{item_of, simple_item, chunked_item}
 use Rattle.cbor_edn_model.specs.cbor.Value as values
 use Rattle.cbor_edn_model.specs.cbor.Value.{Value, unsigned, negative, string, chunks, array, cbor_map, tag, simple, float, values_len, pairs_len, head, open_head, break, list_encoding, LengthFits, ArgumentFits, AreBytes, encoding, encodings, pair_encodings, Fits}
@@ -28,8 +28,8 @@ unfolding items
 structure_is (NumberTree x i) = refl
 structure_is (FloatTree f i) = refl
 structure_is (NamedTree b) = refl
-structure_is (EnclosedTree (label.Tag i n) w) = refl
-structure_is (EnclosedTree label.Simple w) = refl
+structure_is (EnclosedTree (opener.Tag i n) w) = refl
+structure_is (EnclosedTree opener.Simple w) = refl
 structure_is (ListTree k w) = refl
 structure_is (StringTree w) = refl
 structure_is (StreamTree ms m) = refl

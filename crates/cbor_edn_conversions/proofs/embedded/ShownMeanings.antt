@@ -7,7 +7,7 @@ use Rattle.cbor_edn_parts.specs.Contents.{Content}
 use Rattle.cbor_edn_parts.specs.internal.ContentReading.{literal_content}
 use Rattle.cbor_edn_model.specs.cbor.Meaning.{means, string_of}
 use Rattle.cbor_edn_model.specs.cbor.Value.{Value, no_values, value, encoding, encodings}
-use Rattle.cbor_edn_model.specs.tree.Trees.{Tree, OneItem, Seq, Standalone, StringTree, LastPieceTree, NumberTree, FloatTree, NamedTree, EnclosedTree, ListTree, StreamTree, LiteralTree, DotsTree, EmbeddedTree, PlusTree, StandaloneTree, items}
+use Rattle.cbor_edn_model.specs.tree.Trees.{Tree, OneItem, Seq, Standalone, StringTree, LastPieceTree, NumberTree, FloatTree, NamedTree, EnclosedTree, ListTree, StreamTree, LiteralTree, EllipsisTree, EmbeddedTree, PlusTree, StandaloneTree, items}
 use Rattle.cbor_edn_model.specs.visit.Seeking.{SoughtCall}
 use Rattle.cbor_edn_model.specs.visit.Visits.{whole}
 use Rattle.cbor_edn_model.proofs.lemmas.cbor.Decoding.{item_means, items_mean}
@@ -66,7 +66,7 @@ module _ (R : Resolver) (of_applications : IsOfApplications R) where
   module _ (levels limit : ℕ) (same : (x : List ℕ) (i : Option Indicator) → Same x i (shown levels limit x i)) where
     lone_keeps : (w : Tree OneItem) → means_by R (items (of_lone_literal (shown levels limit) w)) ≡ means_by R (items w)
     lone_keeps (StringTree (LastPieceTree (LiteralTree x i))) = same x i
-    lone_keeps (StringTree (LastPieceTree (DotsTree x))) = refl
+    lone_keeps (StringTree (LastPieceTree (EllipsisTree x))) = refl
     lone_keeps (StringTree (LastPieceTree (EmbeddedTree w i))) = refl
     lone_keeps (StringTree (PlusTree p s t w)) = refl
     lone_keeps (NumberTree x i) = refl

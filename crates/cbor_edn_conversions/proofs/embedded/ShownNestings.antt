@@ -1,9 +1,9 @@
 -- How deep items nest of which literals are shown.
 use Rattle.std.proofs.Common.{ℕ, zero, suc, ◌+◌, ◌-◌, ◌<◌, ◌≤◌, ◌≡◌, List, [], ◌∷◌, Option, Some, None, option_and_then, refl, sym, ap, ◌∙◌, subst, arith}
 use Rattle.cbor_edn_parts.specs.declared.indicator.Indicator.{Indicator}
-use Rattle.cbor_edn_model.specs.declared.text.label.LabelKind.TheVariants as label
+use Rattle.cbor_edn_model.specs.declared.text.opener.OpenerKind.TheVariants as opener
 use Rattle.cbor_edn_model.specs.tree.Items.{nesting}
-use Rattle.cbor_edn_model.specs.tree.Trees.{Rule, Tree, OneItem, OnePiece, OneString, OneEntry, Inside, Rest, Seq, Standalone, Of, NumberTree, FloatTree, NamedTree, EnclosedTree, ListTree, StringTree, StreamTree, LiteralTree, DotsTree, EmbeddedTree, LastPieceTree, PlusTree, ElementTree, PairTree, ChunkTree, EmptyTree, FullTree, LastTree, MoreTree, NothingTree, SequenceTree, StandaloneTree, items}
+use Rattle.cbor_edn_model.specs.tree.Trees.{Rule, Tree, OneItem, OnePiece, OneString, OneEntry, Inside, Rest, Seq, Standalone, Of, NumberTree, FloatTree, NamedTree, EnclosedTree, ListTree, StringTree, StreamTree, LiteralTree, EllipsisTree, EmbeddedTree, LastPieceTree, PlusTree, ElementTree, PairTree, ChunkTree, EmptyTree, FullTree, LastTree, MoreTree, NothingTree, SequenceTree, StandaloneTree, items}
 use Rattle.cbor_edn_model.proofs.lemmas.cbor.MeaningSteps.{some_if}
 use Rattle.cbor_edn_conversions.specs.EmbeddedItems.{OfLiteral, literal_item, with_literals, bytes_behind_prefix, decoded_item, is_structure, if_structure, structure_of, embedded_item, shown_or, shown}
 use Rattle.cbor_edn_conversions.specs.EmbeddedLaws.{ShownNests, ShownWithin}
@@ -54,16 +54,16 @@ module _ (f : OfLiteral) (n : ℕ) (nests : (x : List ℕ) (i : Option Indicator
   nests_with (NumberTree x i) = omega arith
   nests_with (FloatTree g i) = omega arith
   nests_with (NamedTree b) = omega arith
-  nests_with (EnclosedTree (label.Tag i m) w) = let h = nests_with w in omega (arith, h)
-  nests_with (EnclosedTree label.Simple w) = omega arith
+  nests_with (EnclosedTree (opener.Tag i m) w) = let h = nests_with w in omega (arith, h)
+  nests_with (EnclosedTree opener.Simple w) = omega arith
   nests_with (ListTree k w) = let h = nests_with w in omega (arith, h)
   nests_with (StringTree (LastPieceTree (LiteralTree x i))) = let h = nests x i in omega (arith, h)
-  nests_with (StringTree (LastPieceTree (DotsTree x))) = omega arith
+  nests_with (StringTree (LastPieceTree (EllipsisTree x))) = omega arith
   nests_with (StringTree (LastPieceTree (EmbeddedTree w i))) = let h = nests_with w in omega (arith, h)
   nests_with (StringTree (PlusTree p s t w)) = nests_with (PlusTree p s t w)
   nests_with (StreamTree ms m) = nests_with m
   nests_with (LiteralTree x i) = omega arith
-  nests_with (DotsTree x) = omega arith
+  nests_with (EllipsisTree x) = omega arith
   nests_with (EmbeddedTree w i) = let h = nests_with w in omega (arith, h)
   nests_with (LastPieceTree p) = nests_with p
   nests_with (PlusTree p s t w) = let h = nests_with p in let g = nests_with w in omega (arith, h, g)

@@ -4,11 +4,11 @@ use Rattle.std.proofs.lemmas.List.Elements.{All-head, All-tail}
 use Rattle.cbor_edn_parts.specs.declared.indicator.Indicator.{Indicator}
 use Rattle.cbor_edn_parts.specs.Literal.{Prefixed, IsLiteral}
 use Rattle.cbor_edn_model.specs.access.Accessed.{IsApplicationPiece}
-use Rattle.cbor_edn_model.specs.declared.text.label.LabelKind.TheVariants as label
+use Rattle.cbor_edn_model.specs.declared.text.opener.OpenerKind.TheVariants as opener
 use Rattle.cbor_edn_model.specs.tree.Items.{Row}
 use Rattle.cbor_edn_model.specs.visit.Depth.{depth}
-use Rattle.cbor_edn_model.specs.visit.Seeking.{CallArguments, number, prefix_and_text, IsApplication, SoughtCall, VisitItem, passed, entered, stayed, refused, not_called, VisitParts, of_number, of_float, of_name, of_tag, of_simple, of_list, of_string, of_stream, of_literal, of_dots, of_embedded, of_last_piece, of_pieces, of_pieces_cut, of_none_inside, of_all_inside, of_last, of_more, of_more_cut, of_nothing, of_sequence, of_standalone, VisitEntry, of_element, of_pair, of_pair_cut, of_chunk}
-use Rattle.cbor_edn_model.specs.tree.Trees.{Rule, Tree, OneItem, OnePiece, OneString, OneEntry, Inside, Rest, Seq, Standalone, NumberTree, FloatTree, NamedTree, EnclosedTree, ListTree, StringTree, StreamTree, LiteralTree, DotsTree, EmbeddedTree, LastPieceTree, PlusTree, ElementTree, PairTree, ChunkTree, FullTree, LastTree, MoreTree, SequenceTree, StandaloneTree}
+use Rattle.cbor_edn_model.specs.visit.Seeking.{CallArguments, number, prefix_and_text, IsApplication, SoughtCall, VisitItem, passed, entered, stayed, refused, not_called, VisitParts, of_number, of_float, of_name, of_tag, of_simple, of_list, of_string, of_stream, of_literal, of_ellipsis, of_embedded, of_last_piece, of_pieces, of_pieces_cut, of_none_inside, of_all_inside, of_last, of_more, of_more_cut, of_nothing, of_sequence, of_standalone, VisitEntry, of_element, of_pair, of_pair_cut, of_chunk}
+use Rattle.cbor_edn_model.specs.tree.Trees.{Rule, Tree, OneItem, OnePiece, OneString, OneEntry, Inside, Rest, Seq, Standalone, NumberTree, FloatTree, NamedTree, EnclosedTree, ListTree, StringTree, StreamTree, LiteralTree, EllipsisTree, EmbeddedTree, LastPieceTree, PlusTree, ElementTree, PairTree, ChunkTree, FullTree, LastTree, MoreTree, SequenceTree, StandaloneTree}
 use Rattle.cbor_edn_model.specs.visit.Visits.{fine, answered, Ending, whole}
 use Rattle.cbor_edn_conversions.specs.Conversions.{Reply}
 use Rattle.cbor_edn_conversions.specs.EmbeddedItems.{OfLiteral, literal_item, with_literals, of_lone_literal, bytes_behind_prefix, structure_of, shown_or, shown, show_embedded}
@@ -34,7 +34,7 @@ last_is l m e = cc
 pub lone_of : (w : Tree OneItem) (a : CallArguments) → IsApplication w a → IsLone w
 lone_of w (number n) h = absurd h
 lone_of (StringTree (LastPieceTree (LiteralTree x i))) (prefix_and_text p t) h = record { text = x; indicator = i; is = refl }
-lone_of (StringTree (LastPieceTree (DotsTree x))) (prefix_and_text p t) h = absurd (subst (λ l. IsApplicationPiece l p t) (sym (last_is (DotsTree x) h.0 h.1)) h.2)
+lone_of (StringTree (LastPieceTree (EllipsisTree x))) (prefix_and_text p t) h = absurd (subst (λ l. IsApplicationPiece l p t) (sym (last_is (EllipsisTree x) h.0 h.1)) h.2)
 lone_of (StringTree (LastPieceTree (EmbeddedTree w i))) (prefix_and_text p t) h = absurd (subst (λ l. IsApplicationPiece l p t) (sym (last_is (EmbeddedTree w i) h.0 h.1)) h.2)
 lone_of (StringTree (PlusTree q s u w)) (prefix_and_text p t) h = let e = h.1 in absurd cc
 lone_of (NumberTree x i) (prefix_and_text p t) h = let e = h.1 in absurd cc
@@ -66,7 +66,7 @@ module _ (f : OfLiteral) (plain : (x : List ℕ) (i : Option Indicator) → ((p 
   not_called_at : (w : Tree OneItem) → ((a : CallArguments) → IsApplication w a → ⊥) → inside w ≡ with_literals f w
   unfolding with_literals
   not_called_at (StringTree (LastPieceTree (LiteralTree x i))) none = sym (plain x i (λ p t is. none (prefix_and_text p t) (LiteralTree x i, refl, is)))
-  not_called_at (StringTree (LastPieceTree (DotsTree x))) none = refl
+  not_called_at (StringTree (LastPieceTree (EllipsisTree x))) none = refl
   not_called_at (StringTree (LastPieceTree (EmbeddedTree w i))) none = refl
   not_called_at (StringTree (PlusTree p s t w)) none = refl
   not_called_at (NumberTree x i) none = refl
@@ -132,13 +132,13 @@ module _ (f : OfLiteral) (plain : (x : List ℕ) (i : Option Indicator) → ((p 
       parts_left of_number is all = refl
       parts_left of_float is all = refl
       parts_left of_name is all = refl
-      parts_left (of_tag {n = n} {i = i} a) is all = ap (EnclosedTree (label.Tag i n)) (parts_left a is all)
+      parts_left (of_tag {n = n} {i = i} a) is all = ap (EnclosedTree (opener.Tag i n)) (parts_left a is all)
       parts_left of_simple is all = refl
       parts_left (of_list {k = k} a) is all = ap (ListTree k) (parts_left a is all)
       parts_left (of_string a) is all = ap StringTree (parts_left a is all)
       parts_left (of_stream {ms = ms} a) is all = ap (StreamTree ms) (parts_left a is all)
       parts_left of_literal is all = refl
-      parts_left of_dots is all = refl
+      parts_left of_ellipsis is all = refl
       parts_left (of_embedded {i = i} a) is all = ap (λ w. EmbeddedTree w i) (parts_left a is all)
       parts_left (of_last_piece a) is all = ap LastPieceTree (parts_left a is all)
       parts_left (of_pieces {p = p} {q = q} {s = s} {t = t} {w = w} {v = v} {cs = cs} {ds = ds} a b e) is all =

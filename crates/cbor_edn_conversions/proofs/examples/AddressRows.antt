@@ -8,7 +8,7 @@ use Rattle.cbor_edn_parts.specs.declared.indicator.Indicator.TheVariants as indi
 use Rattle.cbor_edn_parts.specs.internal.NumberReading.{integer_of}
 use Rattle.cbor_edn_parts.specs.internal.ContentReading.{hex_bytes, base_bytes}
 use Rattle.cbor_edn_parts.specs.internal.LiteralTokens.{decoded, prefix_of, quoted_of}
-use Rattle.cbor_edn_model.specs.declared.text.label.LabelKind.TheVariants as label
+use Rattle.cbor_edn_model.specs.declared.text.opener.OpenerKind.TheVariants as opener
 use Rattle.cbor_edn_model.specs.cbor.Decoded.{alone}
 use Rattle.cbor_edn_model.specs.tree.Items.{Array}
 use Rattle.cbor_edn_model.specs.cbor.Meaning.{means, magnitude_bytes}
@@ -45,11 +45,11 @@ prefix_24 : Row (pretty_address (number 52) (tag_tree 52 (two NoIndicator (numer
 unfolding pretty_address address_literal integer_of onto items means decoded prefix_of quoted_of hex_bytes head digits address_of read_ipv4 read_octet read_number read_ipv6 read_segments read_segment ipv6_text hex_groups_text encode_with
 prefix_24 = (refl, refl)
 
-with_indicator : Row (pretty_address (number 52) (EnclosedTree (label.Tag (Some indicator.Two) 52) (alone (written (codes "h'c0000201'"))))) (comment changed_encoding) (codes "52_1(h'c0000201')")
+with_indicator : Row (pretty_address (number 52) (EnclosedTree (opener.Tag (Some indicator.Two) 52) (alone (written (codes "h'c0000201'"))))) (comment changed_encoding) (codes "52_1(h'c0000201')")
 unfolding pretty_address address_literal integer_of onto items means decoded prefix_of quoted_of hex_bytes head digits address_of read_ipv4 read_octet read_number read_ipv6 read_segments read_segment ipv6_text hex_groups_text encode_with
 with_indicator = (refl, refl)
 
-other_indicator : Row (pretty_address (number 52) (EnclosedTree (label.Tag (Some indicator.Two) 52) (alone (numeral (codes "1"))))) (comment (codes "Unexpected type for this tag")) (codes "52_1(1)")
+other_indicator : Row (pretty_address (number 52) (EnclosedTree (opener.Tag (Some indicator.Two) 52) (alone (numeral (codes "1"))))) (comment (codes "Unexpected type for this tag")) (codes "52_1(1)")
 unfolding pretty_address address_literal integer_of onto items means decoded prefix_of quoted_of hex_bytes head digits address_of read_ipv4 read_octet read_number read_ipv6 read_segments read_segment ipv6_text hex_groups_text encode_with
 other_indicator = (refl, refl)
 
@@ -169,6 +169,6 @@ almost : Row (pretty_bignum (number 3) (tag_tree 3 (written (codes "h'ffffffffff
 unfolding pretty_bignum integer_of onto items means decoded prefix_of quoted_of hex_bytes base_bytes head digits magnitude_bytes
 almost = (refl, refl)
 
-bignum_indicator : Row (pretty_bignum (number 2) (EnclosedTree (label.Tag (Some indicator.Immediate) 2) (alone (written (codes "h'010000000000000000'"))))) fine (codes "2_i(h'010000000000000000')")
+bignum_indicator : Row (pretty_bignum (number 2) (EnclosedTree (opener.Tag (Some indicator.Immediate) 2) (alone (written (codes "h'010000000000000000'"))))) fine (codes "2_i(h'010000000000000000')")
 unfolding pretty_bignum integer_of onto items means decoded prefix_of quoted_of hex_bytes base_bytes head digits magnitude_bytes
 bignum_indicator = (refl, refl)

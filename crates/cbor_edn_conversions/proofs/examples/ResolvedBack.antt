@@ -8,7 +8,7 @@ use Rattle.cbor_edn_parts.specs.internal.ContentReading.{same}
 use Rattle.cbor_edn_model.specs.cbor.Decoded.{alone}
 use Rattle.cbor_edn_model.specs.visit.Depth.{depth}
 use Rattle.cbor_edn_model.specs.declared.cbor.heads.Width.TheVariants.{Immediate}
-use Rattle.cbor_edn_model.specs.declared.text.label.LabelKind.TheVariants as label
+use Rattle.cbor_edn_model.specs.declared.text.opener.OpenerKind.TheVariants as opener
 use Rattle.cbor_edn_model.specs.declared.text.keyword.NamedSimple.TheVariants.{True}
 use Rattle.cbor_edn_model.specs.cbor.Meaning.{means}
 use Rattle.cbor_edn_model.specs.visit.Seeking.{number, prefix_and_text, IsTag, IsApplication, SoughtCall, entered, stayed, VisitParts, of_string, of_last_piece, of_literal, of_standalone}
@@ -42,7 +42,7 @@ resolved : R text None ≡ Some v
 resolved = by_prefix_is F x [] text None is_literal refl
 
 abbrev tagged : Tree OneItem
-tagged = EnclosedTree (label.Tag None 9) (alone (NamedTree True))
+tagged = EnclosedTree (opener.Tag None 9) (alone (NamedTree True))
 
 abbrev literal : Tree OneItem
 literal = StringTree (LastPieceTree (LiteralTree text None))

@@ -4,7 +4,7 @@ use Rattle.std.specs.declared.net.ip_addr.IpAddr.{IpAddr}
 use Rattle.cbor_edn_parts.specs.declared.indicator.Indicator.{Indicator}
 use Rattle.cbor_edn_parts.specs.internal.ContentReading.{same}
 use Rattle.cbor_edn_parts.specs.internal.NumberReading.{integer_of}
-use Rattle.cbor_edn_model.specs.declared.text.label.LabelKind.TheVariants as label
+use Rattle.cbor_edn_model.specs.declared.text.opener.OpenerKind.TheVariants as opener
 use Rattle.cbor_edn_model.specs.access.Accessed.{item_bytes, array_items}
 use Rattle.cbor_edn_model.specs.tree.Items.{Elements, Array, Map, Item, Node, Tagged, Listed, Simple, Then}
 use Rattle.cbor_edn_model.specs.access.Paths.{with_item}
@@ -16,7 +16,7 @@ use Rattle.cbor_edn_literals.specs.declared.address.IpVersion.TheVariants.{V4, V
 use Rattle.cbor_edn_literals.specs.declared.address.AddressError.{AddressError}
 use Rattle.cbor_edn_literals.specs.internal.AddressReading.{address_of}
 use Rattle.cbor_edn_literals.specs.internal.TimeComputing.{instant_of, time_text}
-use Rattle.cbor_edn_conversions.specs.Conversions.{Message, Conversion, Reply, reply, and_then, of_prefixes, of_literal, called_tag, is_narrowest, changed_encoding, without_tag, mean_the_same, literal_tree, integer_tree, tag_tree, in_tag}
+use Rattle.cbor_edn_conversions.specs.Conversions.{Message, Conversion, Reply, reply, and_then, of_prefixes, of_literal, called_tag, is_shortest, changed_encoding, without_tag, mean_the_same, literal_tree, integer_tree, tag_tree, in_tag}
 use Rattle.cbor_edn_conversions.specs.Integers.{item_integer}
 use Rattle.cbor_edn_conversions.specs.Times.{time_prefix, instant_item, time_item, resolve_time, is_plain, instant_by, is_time_stamp, instant_literal, time_literal, time_of_tag, pretty_time}
 use Rattle.cbor_edn_conversions.specs.Addresses.{address_prefix, address_tag, bytes_behind, read_item, address_item, resolve_address, whole_text, prefix_text, if_same, as_literal, with_first, as_first, by_length, by_others, by_first, by_elements, by_bytes, address_literal, address_of_tag, pretty_address}
@@ -63,7 +63,7 @@ may_give false o p g h = h
 
 without_gives : (i : Option Indicator) (n : ℕ) (c : Conversion) → Gives c → Gives (without_tag i n c)
 without_gives i n (Err e) g = tt
-without_gives i n (Ok v) g = if_gives (is_narrowest i n) (Ok v) (Err changed_encoding) g tt
+without_gives i n (Ok v) g = if_gives (is_shortest i n) (Ok v) (Err changed_encoding) g tt
 
 -- an item in a tag is as direct as without
 in_tag_direct : (wrap : Bool) (n : ℕ) (w : Tree OneItem) → IsDirect (items w) → IsDirect (items (in_tag wrap n w))
@@ -268,8 +268,8 @@ direction_items (EnclosedTree l w) = refl
 
 content_items : (w : Tree OneItem) → items (at_content with_direction w).1 ≡ items w
 unfolding items
-content_items (EnclosedTree (label.Tag i n) (StandaloneTree s w t)) = ap (Tagged n i) (direction_items w)
-content_items (EnclosedTree label.Simple (StandaloneTree s w t)) = ap Simple (direction_items w)
+content_items (EnclosedTree (opener.Tag i n) (StandaloneTree s w t)) = ap (Tagged n i) (direction_items w)
+content_items (EnclosedTree opener.Simple (StandaloneTree s w t)) = ap Simple (direction_items w)
 content_items (ListTree k w) = refl
 content_items (StringTree w) = refl
 content_items (StreamTree s m) = refl

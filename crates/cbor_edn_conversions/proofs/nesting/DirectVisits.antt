@@ -2,7 +2,7 @@
 use Rattle.std.proofs.Common.{List, [], All, subst}
 use Rattle.std.proofs.lemmas.List.Elements.{All-head, All-tail}
 use Rattle.cbor_edn_model.specs.tree.Items.{Row}
-use Rattle.cbor_edn_model.specs.visit.Seeking.{CallArguments, IsTag, IsApplication, SoughtCall, VisitItem, passed, entered, stayed, refused, not_called, VisitParts, of_number, of_float, of_name, of_tag, of_simple, of_list, of_string, of_stream, of_literal, of_dots, of_embedded, of_last_piece, of_pieces, of_pieces_cut, of_none_inside, of_all_inside, of_last, of_more, of_more_cut, of_nothing, of_sequence, of_standalone, VisitEntry, of_element, of_pair, of_pair_cut, of_chunk}
+use Rattle.cbor_edn_model.specs.visit.Seeking.{CallArguments, IsTag, IsApplication, SoughtCall, VisitItem, passed, entered, stayed, refused, not_called, VisitParts, of_number, of_float, of_name, of_tag, of_simple, of_list, of_string, of_stream, of_literal, of_ellipsis, of_embedded, of_last_piece, of_pieces, of_pieces_cut, of_none_inside, of_all_inside, of_last, of_more, of_more_cut, of_nothing, of_sequence, of_standalone, VisitEntry, of_element, of_pair, of_pair_cut, of_chunk}
 use Rattle.cbor_edn_model.specs.tree.Trees.{Rule, Tree, OneItem, OnePiece, OneString, OneEntry, Inside, Rest, Seq, Standalone, Of, items}
 use Rattle.cbor_edn_model.specs.visit.Visits.{Ending}
 use Rattle.cbor_edn_conversions.specs.Nesting.{IsDirect, StaysDirect}
@@ -40,7 +40,7 @@ module _ (Sought : Tree OneItem → CallArguments → Type 0) where
     parts_stay (of_string a) all d = parts_stay a all d
     parts_stay (of_stream a) all d = parts_stay a all d
     parts_stay of_literal all d = d
-    parts_stay of_dots all d = d
+    parts_stay of_ellipsis all d = d
     parts_stay (of_embedded a) all d = absurd d
     parts_stay (of_last_piece a) all d = parts_stay a all d
     parts_stay (of_pieces {cs = cs} {ds = ds} a b e) all d = let h = all_split StaysDirect cs ds (subst (All StaysDirect) e all) in (parts_stay a h.0 d.0, parts_stay b h.1 d.1)

@@ -8,7 +8,7 @@ use Rattle.cbor_edn_model.specs.declared.cbor.heads.Width.{Width}
 use Rattle.cbor_edn_model.specs.cbor.Decoded as decoded
 use Rattle.cbor_edn_model.specs.cbor.Decoded.{item_of, items_of, chunk_items, simple_item}
 use Rattle.cbor_edn_model.specs.tree.Items as kind
-use Rattle.cbor_edn_model.specs.tree.Items.{Row, Elements, Strings, Bracketed, Array, Map, entries_of, Sort, Item, Piece, Pieces, Entry, Entries, Node, Number, Float, Listed, Tagged, Named, Simple, String, Stream, Literal, Dots, Embedded, LastPiece, Plus, Element, Pair, Chunk, End, Then, nesting}
+use Rattle.cbor_edn_model.specs.tree.Items.{Row, Elements, Strings, Bracketed, Array, Map, entries_of, Sort, Item, Piece, Pieces, Entry, Entries, Node, Number, Float, Listed, Tagged, Named, Simple, String, Stream, Literal, Ellipsis, Embedded, LastPiece, Plus, Element, Pair, Chunk, End, Then, nesting}
 use Rattle.cbor_edn_model.specs.cbor.Meaning.{◌>>=◌, MeaningOf, RowOf, EntryOf, width_of, length_of, row_len, list_value, listed, one_more, means_simple, simple_of, named_number, means}
 use Rattle.cbor_edn_model.specs.cbor.Value as values
 use Rattle.cbor_edn_model.specs.cbor.Value.{Value, unsigned, negative, string, chunks, array, cbor_map, tag, simple, float, Values, no_values, value, Pairs, no_pairs, pair, Fits, ValuesFit, PairsFit, IsSimple}
@@ -22,7 +22,7 @@ use Rattle.cbor_edn_conversions.specs.NestingLaws.{NestsAsMeant, DecodedIsDirect
 
 piece_flat : (p : Node Piece) → IsDirect p → nesting p ≡ 0
 piece_flat (Literal x i) d = refl
-piece_flat (Dots x) d = refl
+piece_flat (Ellipsis x) d = refl
 piece_flat (Embedded m i) d = absurd d
 
 string_flat : (w : Node Pieces) → IsDirect w → nesting w ≡ 0
@@ -111,7 +111,7 @@ module _ (R : Resolver) where
   nests (String w) y d e = let h = string_flat w d in omega (arith, h)
   nests (Stream m) y d e = let h = strings_flat m d in omega (arith, h)
   nests (Literal x i) y d e = omega arith
-  nests (Dots x) y d e = omega arith
+  nests (Ellipsis x) y d e = omega arith
   nests (Embedded m i) y d e = absurd d
   nests (LastPiece p) y d e = let h = piece_flat p d in omega (arith, h)
   nests (Plus p w) y d e = let h = string_flat (Plus p w) d in omega (arith, h)

@@ -2,7 +2,7 @@
 use Rattle.std.proofs.Common.{ℕ, ℤ, suc, max, ◌≡◌, ◌≤◌, ◌==◌, Bool, true, false, cond, not, List, [], ◌∷◌, codes, Option, Some, None, Result, Ok, Err, refl, sym, ap, subst, arith}
 use Rattle.cbor_edn_parts.specs.declared.indicator.Indicator.{Indicator}
 use Rattle.cbor_edn_parts.specs.internal.NumberReading.{integer_of}
-use Rattle.cbor_edn_model.specs.declared.text.label.LabelKind.TheVariants as label
+use Rattle.cbor_edn_model.specs.declared.text.opener.OpenerKind.TheVariants as opener
 use Rattle.cbor_edn_model.specs.access.Accessed.{item_bytes, array_items}
 use Rattle.cbor_edn_model.specs.tree.Items.{Elements, Array, Map}
 use Rattle.cbor_edn_model.specs.access.Paths.{with_item}
@@ -14,7 +14,7 @@ use Rattle.cbor_edn_model.proofs.lemmas.cbor.MeaningSteps.{some_is}
 use Rattle.cbor_edn_literals.specs.declared.address.IpVersion.{IpVersion}
 use Rattle.cbor_edn_literals.specs.declared.address.IpVersion.TheVariants.{V4, V6}
 use Rattle.cbor_edn_literals.specs.internal.TimeComputing.{time_text}
-use Rattle.cbor_edn_conversions.specs.Conversions.{Message, Conversion, Reply, reply, and_then, called_tag, tells, is_narrowest, changed_encoding, without_tag, mean_the_same, literal_tree, integer_tree, tag_tree, in_tag}
+use Rattle.cbor_edn_conversions.specs.Conversions.{Message, Conversion, Reply, reply, and_then, called_tag, tells, is_shortest, changed_encoding, without_tag, mean_the_same, literal_tree, integer_tree, tag_tree, in_tag}
 use Rattle.cbor_edn_conversions.specs.Integers.{item_integer}
 use Rattle.cbor_edn_conversions.specs.Times.{time_prefix, is_plain, instant_by, is_time_stamp, instant_literal, time_literal, time_of_tag, pretty_time}
 use Rattle.cbor_edn_conversions.specs.Addresses.{address_prefix, address_tag, address_item, whole_text, prefix_text, if_same, as_literal, with_first, as_first, by_length, by_others, by_first, by_elements, by_bytes, address_literal, address_of_tag, pretty_address}
@@ -58,7 +58,7 @@ module _ (d : ℕ) where
 
   without_gives : (i : Option Indicator) (n : ℕ) (c : Conversion) → Gives c → Gives (without_tag i n c)
   without_gives i n (Err e) g = tt
-  without_gives i n (Ok v) g = if_gives (is_narrowest i n) (Ok v) (Err changed_encoding) g tt
+  without_gives i n (Ok v) g = if_gives (is_shortest i n) (Ok v) (Err changed_encoding) g tt
 
   literal_flat : (p t : List ℕ) → depth (literal_tree p t) ≤ d
   unfolding depth
@@ -199,8 +199,8 @@ called_by false n m i j u c e = absurd cc
 
 called_depth : (a : CallArguments) (w : Tree OneItem) (n : ℕ) (i : Option Indicator) (c : Tree OneItem) → called_tag a w ≡ Some (n, i, c) → suc (depth c) ≡ depth w
 unfolding depth
-called_depth a (EnclosedTree (label.Tag i n) (StandaloneTree s u t)) m j c e = ap (λ w. suc (depth w)) (called_by (tells a n) n m i j u c e)
-called_depth a (EnclosedTree label.Simple w) m j c e = absurd cc
+called_depth a (EnclosedTree (opener.Tag i n) (StandaloneTree s u t)) m j c e = ap (λ w. suc (depth w)) (called_by (tells a n) n m i j u c e)
+called_depth a (EnclosedTree opener.Simple w) m j c e = absurd cc
 called_depth a (NumberTree x i) m j c e = absurd cc
 called_depth a (FloatTree f i) m j c e = absurd cc
 called_depth a (NamedTree b) m j c e = absurd cc
@@ -229,8 +229,8 @@ direction_depth (EnclosedTree l w) = refl
 
 content_depth : (w : Tree OneItem) → depth (at_content with_direction w).1 ≡ depth w
 unfolding depth
-content_depth (EnclosedTree (label.Tag i n) (StandaloneTree s w t)) = ap suc (direction_depth w)
-content_depth (EnclosedTree label.Simple (StandaloneTree s w t)) = refl
+content_depth (EnclosedTree (opener.Tag i n) (StandaloneTree s w t)) = ap suc (direction_depth w)
+content_depth (EnclosedTree opener.Simple (StandaloneTree s w t)) = refl
 content_depth (ListTree k w) = refl
 content_depth (StringTree w) = refl
 content_depth (StreamTree s m) = refl

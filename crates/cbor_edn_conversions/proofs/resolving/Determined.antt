@@ -3,11 +3,11 @@ use Rattle.std.proofs.Common.{ℕ, ◌≡◌, ◌≤◌, ◌<◌, List, [], ◌�
 use Rattle.std.proofs.lemmas.List.Elements.{All-head, All-tail}
 use Rattle.cbor_edn_parts.proofs.lemmas.literal.Applications.{one_application}
 use Rattle.cbor_edn_model.specs.access.Accessed.{IsApplicationPiece}
-use Rattle.cbor_edn_model.specs.declared.text.label.LabelKind.TheVariants as label
+use Rattle.cbor_edn_model.specs.declared.text.opener.OpenerKind.TheVariants as opener
 use Rattle.cbor_edn_model.specs.visit.Depth.{depth}
 use Rattle.cbor_edn_model.specs.tree.Items.{Row, Elements, Strings, entries_of}
-use Rattle.cbor_edn_model.specs.visit.Seeking.{CallArguments, number, prefix_and_text, IsTag, IsApplication, SoughtCall, VisitItem, passed, entered, stayed, refused, not_called, VisitParts, of_number, of_float, of_name, of_tag, of_simple, of_list, of_string, of_stream, of_literal, of_dots, of_embedded, of_last_piece, of_pieces, of_pieces_cut, of_none_inside, of_all_inside, of_last, of_more, of_more_cut, of_nothing, of_sequence, of_standalone, VisitEntry, of_element, of_pair, of_pair_cut, of_chunk}
-use Rattle.cbor_edn_model.specs.tree.Trees.{Rule, Tree, OneItem, OnePiece, OneString, OneEntry, Inside, Rest, Seq, Standalone, NumberTree, FloatTree, NamedTree, EnclosedTree, ListTree, StringTree, StreamTree, LiteralTree, DotsTree, EmbeddedTree, LastPieceTree, PlusTree, ElementTree, PairTree, ChunkTree, EmptyTree, FullTree, LastTree, MoreTree, NothingTree, SequenceTree, StandaloneTree}
+use Rattle.cbor_edn_model.specs.visit.Seeking.{CallArguments, number, prefix_and_text, IsTag, IsApplication, SoughtCall, VisitItem, passed, entered, stayed, refused, not_called, VisitParts, of_number, of_float, of_name, of_tag, of_simple, of_list, of_string, of_stream, of_literal, of_ellipsis, of_embedded, of_last_piece, of_pieces, of_pieces_cut, of_none_inside, of_all_inside, of_last, of_more, of_more_cut, of_nothing, of_sequence, of_standalone, VisitEntry, of_element, of_pair, of_pair_cut, of_chunk}
+use Rattle.cbor_edn_model.specs.tree.Trees.{Rule, Tree, OneItem, OnePiece, OneString, OneEntry, Inside, Rest, Seq, Standalone, NumberTree, FloatTree, NamedTree, EnclosedTree, ListTree, StringTree, StreamTree, LiteralTree, EllipsisTree, EmbeddedTree, LastPieceTree, PlusTree, ElementTree, PairTree, ChunkTree, EmptyTree, FullTree, LastTree, MoreTree, NothingTree, SequenceTree, StandaloneTree}
 use Rattle.cbor_edn_model.specs.visit.Visits.{Answer, answered, Ending, whole}
 use Rattle.cbor_edn_conversions.proofs.resolving.Keeping.{all_split}
 
@@ -29,13 +29,13 @@ module _ (Sought : Tree OneItem → CallArguments → Type 0) where
   Inverted (NumberTree x i) ds u q = (u ≡ NumberTree x i) × (ds ≡ [])
   Inverted (FloatTree f i) ds u q = (u ≡ FloatTree f i) × (ds ≡ [])
   Inverted (NamedTree b) ds u q = (u ≡ NamedTree b) × (ds ≡ [])
-  Inverted (EnclosedTree (label.Tag i n) w) ds u q = (y : Tree Standalone) × Parts w ds y q × (u ≡ EnclosedTree (label.Tag i n) y)
-  Inverted (EnclosedTree label.Simple w) ds u q = (u ≡ EnclosedTree label.Simple w) × (ds ≡ [])
+  Inverted (EnclosedTree (opener.Tag i n) w) ds u q = (y : Tree Standalone) × Parts w ds y q × (u ≡ EnclosedTree (opener.Tag i n) y)
+  Inverted (EnclosedTree opener.Simple w) ds u q = (u ≡ EnclosedTree opener.Simple w) × (ds ≡ [])
   Inverted (ListTree k w) ds u q = (y : Tree (Inside k)) × Parts w ds y q × (u ≡ ListTree k y)
   Inverted (StringTree w) ds u q = (y : Tree OneString) × Parts w ds y q × (u ≡ StringTree y)
   Inverted (StreamTree ms m) ds u q = (n : Tree (Rest Strings)) × Parts m ds n q × (u ≡ StreamTree ms n)
   Inverted (LiteralTree x i) ds u q = (u ≡ LiteralTree x i) × (ds ≡ [])
-  Inverted (DotsTree x) ds u q = (u ≡ DotsTree x) × (ds ≡ [])
+  Inverted (EllipsisTree x) ds u q = (u ≡ EllipsisTree x) × (ds ≡ [])
   Inverted (EmbeddedTree w i) ds u q = (y : Tree Seq) × Parts w ds y q × (u ≡ EmbeddedTree y i)
   Inverted (LastPieceTree p) ds u q = (y : Tree OnePiece) × Parts p ds y q × (u ≡ LastPieceTree y)
   Inverted (PlusTree p s t w) ds u q = (y : Tree OnePiece) × (z : Tree OneString) × (before behind : List SoughtCall) × Parts p before y whole × Parts w behind z q × (ds ≡ before ++ behind) × (u ≡ PlusTree y s t z)
@@ -60,7 +60,7 @@ module _ (Sought : Tree OneItem → CallArguments → Type 0) where
   inverted (of_string {v = v} a) is = (v, a, refl)
   inverted (of_stream {n = n} a) is = (n, a, refl)
   inverted of_literal is = (refl, refl)
-  inverted of_dots is = (refl, refl)
+  inverted of_ellipsis is = (refl, refl)
   inverted (of_embedded {v = v} a) is = (v, a, refl)
   inverted (of_last_piece {q = q} a) is = (q, a, refl)
   inverted (of_pieces {q = q} {v = v} {cs = cs} {ds = ds} a b e) is = (q, v, cs, ds, a, b, e, refl)
@@ -151,13 +151,13 @@ module _ (Sought : Tree OneItem → CallArguments → Type 0) where
       parts_once of_number end all u ds q b is others = let h = inverted b is in (sym h.0, sym h.1)
       parts_once of_float end all u ds q b is others = let h = inverted b is in (sym h.0, sym h.1)
       parts_once of_name end all u ds q b is others = let h = inverted b is in (sym h.0, sym h.1)
-      parts_once (of_tag {n = n} {i = i} a) end all u ds q b is others = let h = inverted b is in let o = parts_once a end all h.0 ds q h.1 is others in (ap (EnclosedTree (label.Tag i n)) o.0 ∙ sym h.2, o.1)
+      parts_once (of_tag {n = n} {i = i} a) end all u ds q b is others = let h = inverted b is in let o = parts_once a end all h.0 ds q h.1 is others in (ap (EnclosedTree (opener.Tag i n)) o.0 ∙ sym h.2, o.1)
       parts_once of_simple end all u ds q b is others = let h = inverted b is in (sym h.0, sym h.1)
       parts_once (of_list {k = k} a) end all u ds q b is others = let h = inverted b is in let o = parts_once a end all h.0 ds q h.1 is others in (ap (ListTree k) o.0 ∙ sym h.2, o.1)
       parts_once (of_string a) end all u ds q b is others = let h = inverted b is in let o = parts_once a end all h.0 ds q h.1 is others in (ap StringTree o.0 ∙ sym h.2, o.1)
       parts_once (of_stream {ms = ms} a) end all u ds q b is others = let h = inverted b is in let o = parts_once a end all h.0 ds q h.1 is others in (ap (StreamTree ms) o.0 ∙ sym h.2, o.1)
       parts_once of_literal end all u ds q b is others = let h = inverted b is in (sym h.0, sym h.1)
-      parts_once of_dots end all u ds q b is others = let h = inverted b is in (sym h.0, sym h.1)
+      parts_once of_ellipsis end all u ds q b is others = let h = inverted b is in (sym h.0, sym h.1)
       parts_once (of_embedded {i = i} a) end all u ds q b is others = let h = inverted b is in let o = parts_once a end all h.0 ds q h.1 is others in (ap (λ w. EmbeddedTree w i) o.0 ∙ sym h.2, o.1)
       parts_once (of_last_piece a) end all u ds q b is others = let h = inverted b is in let o = parts_once a end all h.0 ds q h.1 is others in (ap LastPieceTree o.0 ∙ sym h.2, o.1)
       parts_once (of_pieces {s = s} {t = t} {v = v} {cs = cs} {ds = es} a c e) end all u ds q b is others =
@@ -211,7 +211,7 @@ tag_arguments_once w (prefix_and_text p v) b a c = absurd a
 
 piece_arguments_once : (l : Tree OnePiece) (p v q u : List ℕ) → IsApplicationPiece l p v → IsApplicationPiece l q u → prefix_and_text p v ≡ prefix_and_text q u
 piece_arguments_once (LiteralTree x i) p v q u a b = let h = one_application p v q u x a b in cc
-piece_arguments_once (DotsTree x) p v q u a b = absurd a
+piece_arguments_once (EllipsisTree x) p v q u a b = absurd a
 piece_arguments_once (EmbeddedTree w i) p v q u a b = absurd a
 
 pub application_arguments_once : (w : Tree OneItem) (a b : CallArguments) → IsApplication w a → IsApplication w b → a ≡ b

@@ -7,11 +7,11 @@ use Rattle.cbor_edn_parts.specs.internal.LiteralTokens.{is_literal, prefix_of}
 use Rattle.cbor_edn_parts.specs.Literal.{Prefixed, IsLiteral}
 use Rattle.cbor_edn_parts.proofs.lemmas.literal.Applications.{prefixed_read, unprefixed_read}
 use Rattle.cbor_edn_parts.proofs.lemmas.literal.LiteralTexts.{literal_test}
-use Rattle.cbor_edn_model.specs.declared.text.label.LabelKind.TheVariants as label
+use Rattle.cbor_edn_model.specs.declared.text.opener.OpenerKind.TheVariants as opener
 use Rattle.cbor_edn_model.specs.visit.Depth.{depth}
-use Rattle.cbor_edn_model.specs.tree.Items.{Row, Elements, Pairs, Strings, Bracketed, Array, Map, entries_of, Item, Node, Tagged, String, Literal, Dots, Embedded, LastPiece, Plus}
-use Rattle.cbor_edn_model.specs.visit.Seeking.{CallArguments, number, prefix_and_text, IsTag, IsApplication, SoughtCall, VisitItem, passed, entered, stayed, VisitParts, of_number, of_float, of_name, of_tag, of_simple, of_list, of_string, of_stream, of_literal, of_dots, of_embedded, of_last_piece, of_pieces, of_none_inside, of_all_inside, of_last, of_more, of_nothing, of_sequence, of_standalone, VisitEntry, of_element, of_pair, of_chunk}
-use Rattle.cbor_edn_model.specs.tree.Trees.{Rule, Tree, OneItem, OnePiece, OneString, OneEntry, Inside, Rest, Seq, Standalone, NumberTree, FloatTree, NamedTree, EnclosedTree, ListTree, StringTree, StreamTree, LiteralTree, DotsTree, EmbeddedTree, LastPieceTree, PlusTree, ElementTree, PairTree, ChunkTree, EmptyTree, FullTree, LastTree, MoreTree, NothingTree, SequenceTree, StandaloneTree, items}
+use Rattle.cbor_edn_model.specs.tree.Items.{Row, Elements, Pairs, Strings, Bracketed, Array, Map, entries_of, Item, Node, Tagged, String, Literal, Ellipsis, Embedded, LastPiece, Plus}
+use Rattle.cbor_edn_model.specs.visit.Seeking.{CallArguments, number, prefix_and_text, IsTag, IsApplication, SoughtCall, VisitItem, passed, entered, stayed, VisitParts, of_number, of_float, of_name, of_tag, of_simple, of_list, of_string, of_stream, of_literal, of_ellipsis, of_embedded, of_last_piece, of_pieces, of_none_inside, of_all_inside, of_last, of_more, of_nothing, of_sequence, of_standalone, VisitEntry, of_element, of_pair, of_chunk}
+use Rattle.cbor_edn_model.specs.tree.Trees.{Rule, Tree, OneItem, OnePiece, OneString, OneEntry, Inside, Rest, Seq, Standalone, NumberTree, FloatTree, NamedTree, EnclosedTree, ListTree, StringTree, StreamTree, LiteralTree, EllipsisTree, EmbeddedTree, LastPieceTree, PlusTree, ElementTree, PairTree, ChunkTree, EmptyTree, FullTree, LastTree, MoreTree, NothingTree, SequenceTree, StandaloneTree, items}
 use Rattle.cbor_edn_model.specs.visit.Visits.{Answer, answered, whole}
 use Rattle.cbor_edn_conversions.specs.Resolving.{AnswersBy}
 use Rattle.cbor_edn_conversions.specs.ResolvingLaws.{NeverRefused, VisitsExist}
@@ -50,7 +50,7 @@ module _ (x : List ℕ) (i : Option Indicator) where
 
 literal_decided : (x : Node Item) → Decided IsApplicationNode x
 literal_decided (String (LastPiece (Literal x i))) = of_text x i (by_tests x (is_literal x) refl (empty_decided (prefix_of x)))
-literal_decided (String (LastPiece (Dots x))) = inr (λ a is. is)
+literal_decided (String (LastPiece (Ellipsis x))) = inr (λ a is. is)
 literal_decided (String (LastPiece (Embedded m i))) = inr (λ a is. is)
 literal_decided (String (Plus p w)) = inr (λ a is. is)
 literal_decided _ = inr (λ a is. is)
@@ -136,13 +136,13 @@ module _ (Sought : Tree OneItem → CallArguments → Type 0) (decided : (w : Tr
     parts (NumberTree x i) h = (_, [], All-nil (AnswersBy f), of_number)
     parts (FloatTree x i) h = (_, [], All-nil (AnswersBy f), of_float)
     parts (NamedTree b) h = (_, [], All-nil (AnswersBy f), of_name)
-    parts (EnclosedTree (label.Tag i m) w) h = let p = parts w (omega arith) in (_, p.1, p.2, of_tag p.3)
-    parts (EnclosedTree label.Simple w) h = (_, [], All-nil (AnswersBy f), of_simple)
+    parts (EnclosedTree (opener.Tag i m) w) h = let p = parts w (omega arith) in (_, p.1, p.2, of_tag p.3)
+    parts (EnclosedTree opener.Simple w) h = (_, [], All-nil (AnswersBy f), of_simple)
     parts (ListTree k w) h = let p = parts w (omega arith) in (_, p.1, p.2, of_list p.3)
     parts (StringTree w) h = let p = parts w h in (_, p.1, p.2, of_string p.3)
     parts (StreamTree ms m) h = let p = parts m h in (_, p.1, p.2, of_stream p.3)
     parts (LiteralTree x i) h = (_, [], All-nil (AnswersBy f), of_literal)
-    parts (DotsTree x) h = (_, [], All-nil (AnswersBy f), of_dots)
+    parts (EllipsisTree x) h = (_, [], All-nil (AnswersBy f), of_ellipsis)
     parts (EmbeddedTree w i) h = let p = parts w (omega arith) in (_, p.1, p.2, of_embedded p.3)
     parts (LastPieceTree q) h = let p = parts q h in (_, p.1, p.2, of_last_piece p.3)
     parts (PlusTree q s t w) h = pieces_visited q s t w (parts q (omega arith)) (parts w (omega arith))

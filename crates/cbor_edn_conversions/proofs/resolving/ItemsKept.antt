@@ -2,20 +2,20 @@
 use Rattle.std.proofs.Common.{◌≡◌, ◌≤◌, Option, Some, refl, sym, ap, ◌∙◌, subst, le_trans, arith}
 use Rattle.cbor_edn_parts.specs.declared.string.StringKind.TheVariants.{Bytes}
 use Rattle.cbor_edn_model.specs.tree.Items as kind
-use Rattle.cbor_edn_model.specs.tree.Items.{Row, Sort, Item, Piece, Pieces, Entry, Entries, Strings, entries_of, Node, Literal, Dots, Embedded, LastPiece, Plus, String, Chunk, End, Then}
+use Rattle.cbor_edn_model.specs.tree.Items.{Row, Sort, Item, Piece, Pieces, Entry, Entries, Strings, entries_of, Node, Literal, Ellipsis, Embedded, LastPiece, Plus, String, Chunk, End, Then}
 use Rattle.cbor_edn_model.specs.cbor.Meaning.{◌>>=◌, width_of, listed, pieces_indicator, chunk_of, stream_of, joined, one_more}
 use Rattle.cbor_edn_model.specs.visit.Seeking as arguments
 use Rattle.cbor_edn_model.specs.visit.Seeking.{CallArguments}
 use Rattle.cbor_edn_model.specs.cbor.Value.{Value, encodings, tag}
 use Rattle.cbor_edn_conversions.specs.Resolving.{Resolver, resolved, resolved_item, means_by, DifferAtPrefixes}
 use Rattle.cbor_edn_conversions.specs.VisitedItems as visited
-use Rattle.cbor_edn_conversions.specs.VisitedItems.{node_depth, IsTagNode, IsApplicationNode, ReachedItem, passed, entered, stayed, VisitedNode, number, float, named, simple, tagged, string, stream, literal, dots, embedded, last_piece, plus, element, pair, chunk, end, then}
+use Rattle.cbor_edn_conversions.specs.VisitedItems.{node_depth, IsTagNode, IsApplicationNode, ReachedItem, passed, entered, stayed, VisitedNode, number, float, named, simple, tagged, string, stream, literal, ellipsis, embedded, last_piece, plus, element, pair, chunk, end, then}
 use Rattle.cbor_edn_conversions.proofs.resolving.Keeping.{Relates, one_step, two_steps, Kept, EnteredKept, piece_shape, shape, same_piece_indicator, string_kept}
 
 module _ {Sought : Node Item → CallArguments → Type 0} {Step : CallArguments → Node Item → Node Item → Type 0} where
   piece_shaped : {p q : Node Piece} → VisitedNode Sought Step Piece p q → piece_shape p ≡ piece_shape q
   piece_shaped literal = refl
-  piece_shaped dots = refl
+  piece_shaped ellipsis = refl
   piece_shaped (embedded a) = refl
 
   string_shaped : {w v : Node Pieces} → VisitedNode Sought Step Pieces w v → shape w ≡ shape v
@@ -26,7 +26,7 @@ module _ {Sought : Node Item → CallArguments → Type 0} {Step : CallArguments
 
   piece_still : {p q : Node Piece} → VisitedNode Sought Step Piece p q → node_depth p ≤ 0 → q ≡ p
   piece_still literal flat = refl
-  piece_still dots flat = refl
+  piece_still ellipsis flat = refl
   piece_still (embedded a) flat = absurd (omega arith)
 
   string_still : {w v : Node Pieces} → VisitedNode Sought Step Pieces w v → node_depth w ≤ 0 → v ≡ w
@@ -84,7 +84,7 @@ module _ (Rel : (A : Type 0) → Option A → Option A → Type 0) (relates : Re
     visited_kept (string {w = w} {v = v} a) = string_kept Rel relates B A w v (string_shaped a) (visited_kept a)
     visited_kept (stream {m = m} {n = n} a) = λ agree. one_step Rel relates (means_by B m) (means_by A n) stream_of (visited_kept a)
     visited_kept literal = relates.same _ _
-    visited_kept dots = relates.same _ _
+    visited_kept ellipsis = relates.same _ _
     visited_kept (embedded {m = m} {n = n} a) = one_step Rel relates (means_by B m) (means_by A n) (λ vs. Some (Bytes, encodings vs)) (visited_kept a)
     visited_kept (last_piece a) = visited_kept a
     visited_kept (plus {p = p} {q = q} {w = w} {v = v} a b) = two_steps Rel relates (means_by B p) (means_by A q) (means_by B w) (means_by A v) joined (visited_kept a) (visited_kept b)
@@ -111,7 +111,7 @@ module _ (Rel : (A : Type 0) → Option A → Option A → Type 0) (relates : Re
 
   unsought_string : (B A : Resolver) → DifferAtPrefixes B A → (w : Node Pieces) → ((a : CallArguments) → IsApplicationNode (String w) a → ⊥) → resolved B w ≡ resolved A w
   unsought_string B A q (LastPiece (Literal x i)) n = q x i (λ p t is. n (arguments.prefix_and_text p t) is)
-  unsought_string B A q (LastPiece (Dots x)) n = refl
+  unsought_string B A q (LastPiece (Ellipsis x)) n = refl
   unsought_string B A q (LastPiece (Embedded m i)) n = refl
   unsought_string B A q (Plus p w) n = refl
 
@@ -121,7 +121,7 @@ module _ (Rel : (A : Type 0) → Option A → Option A → Type 0) (relates : Re
 
   string_flat : (w : Node Pieces) (a : CallArguments) → IsApplicationNode (String w) a → node_depth w ≤ 0
   string_flat (LastPiece (Literal x i)) a is = omega arith
-  string_flat (LastPiece (Dots x)) a is = absurd is
+  string_flat (LastPiece (Ellipsis x)) a is = absurd is
   string_flat (LastPiece (Embedded m i)) a is = absurd is
   string_flat (Plus p w) a is = absurd is
 

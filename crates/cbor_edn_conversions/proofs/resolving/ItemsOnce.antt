@@ -1,11 +1,11 @@
 -- A visit of items has one result where each call has one.
 use Rattle.std.proofs.Common.{◌≡◌, ◌≤◌, ◌<◌, refl, sym, ap, ◌∙◌, subst, arith}
 use Rattle.cbor_edn_parts.proofs.lemmas.literal.Applications.{one_application}
-use Rattle.cbor_edn_model.specs.tree.Items.{Elements, Strings, Sort, Item, Piece, Pieces, Entry, Entries, entries_of, Node, Number, Float, Listed, Tagged, Named, Simple, String, Stream, Literal, Dots, Embedded, LastPiece, Plus, Element, Pair, Chunk, End, Then}
+use Rattle.cbor_edn_model.specs.tree.Items.{Elements, Strings, Sort, Item, Piece, Pieces, Entry, Entries, entries_of, Node, Number, Float, Listed, Tagged, Named, Simple, String, Stream, Literal, Ellipsis, Embedded, LastPiece, Plus, Element, Pair, Chunk, End, Then}
 use Rattle.cbor_edn_model.specs.visit.Seeking as arguments
 use Rattle.cbor_edn_model.specs.visit.Seeking.{CallArguments}
 use Rattle.cbor_edn_conversions.specs.VisitedItems as visited
-use Rattle.cbor_edn_conversions.specs.VisitedItems.{node_depth, IsTagNode, IsApplicationNode, ReachedItem, passed, entered, stayed, VisitedNode, number, float, named, simple, tagged, string, stream, literal, dots, embedded, last_piece, plus, element, pair, chunk, end, then}
+use Rattle.cbor_edn_conversions.specs.VisitedItems.{node_depth, IsTagNode, IsApplicationNode, ReachedItem, passed, entered, stayed, VisitedNode, number, float, named, simple, tagged, string, stream, literal, ellipsis, embedded, last_piece, plus, element, pair, chunk, end, then}
 
 module _ (Sought : Node Item → CallArguments → Type 0) (Step : CallArguments → Node Item → Node Item → Type 0) where
   abbrev At : {s : Sort} → Node s → Node s → Type 0
@@ -24,7 +24,7 @@ module _ (Sought : Node Item → CallArguments → Type 0) (Step : CallArguments
   Inverted (String w) y = (v : Node Pieces) × At w v × (y ≡ String v)
   Inverted (Stream m) y = (n : Node (Entries Strings)) × At m n × (y ≡ Stream n)
   Inverted (Literal x i) y = y ≡ Literal x i
-  Inverted (Dots x) y = y ≡ Dots x
+  Inverted (Ellipsis x) y = y ≡ Ellipsis x
   Inverted (Embedded m i) y = (n : Node (Entries Elements)) × At m n × (y ≡ Embedded n i)
   Inverted (LastPiece p) y = (q : Node Piece) × At p q × (y ≡ LastPiece q)
   Inverted (Plus p w) y = (q : Node Piece) × (v : Node Pieces) × At p q × At w v × (y ≡ Plus q v)
@@ -44,7 +44,7 @@ module _ (Sought : Node Item → CallArguments → Type 0) (Step : CallArguments
   inverted (string {v = v} a) = (v, a, refl)
   inverted (stream {n = n} a) = (n, a, refl)
   inverted literal = refl
-  inverted dots = refl
+  inverted ellipsis = refl
   inverted (embedded {n = n} a) = (n, a, refl)
   inverted (last_piece {q = q} a) = (q, a, refl)
   inverted (plus {q = q} {v = v} a b) = (q, v, a, b, refl)
@@ -92,7 +92,7 @@ module _ (Sought : Node Item → CallArguments → Type 0) (Step : CallArguments
       visited_once (string a) z b = let h = inverted b in ap String (visited_once a h.0 h.1) ∙ sym h.2
       visited_once (stream a) z b = let h = inverted b in ap Stream (visited_once a h.0 h.1) ∙ sym h.2
       visited_once literal z b = sym (inverted b)
-      visited_once dots z b = sym (inverted b)
+      visited_once ellipsis z b = sym (inverted b)
       visited_once (embedded {i = i} a) z b = let h = inverted b in ap (λ m. Embedded m i) (visited_once a h.0 h.1) ∙ sym h.2
       visited_once (last_piece a) z b = let h = inverted b in ap LastPiece (visited_once a h.0 h.1) ∙ sym h.2
       visited_once (plus {v = v} c d) z b = let h = inverted b in ap (λ p. Plus p v) (visited_once c h.0 h.2) ∙ (ap (Plus h.0) (visited_once d h.1 h.3) ∙ sym h.4)
@@ -114,7 +114,7 @@ string_node_once : (w : Node Pieces) (a b : CallArguments) → IsApplicationNode
 string_node_once (LastPiece (Literal x i)) (arguments.prefix_and_text p t) (arguments.prefix_and_text q u) a b = let h = one_application p t q u x a b in cc
 string_node_once (LastPiece (Literal x i)) (arguments.prefix_and_text p t) (arguments.number n) a b = absurd b
 string_node_once (LastPiece (Literal x i)) (arguments.number n) b a c = absurd a
-string_node_once (LastPiece (Dots x)) a b s t = absurd s
+string_node_once (LastPiece (Ellipsis x)) a b s t = absurd s
 string_node_once (LastPiece (Embedded m i)) a b s t = absurd s
 string_node_once (Plus p w) a b s t = absurd s
 

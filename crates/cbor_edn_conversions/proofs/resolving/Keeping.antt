@@ -4,10 +4,10 @@ use Rattle.std.proofs.lemmas.List.Elements.{All-nil, All-cons, All-head, All-tai
 use Rattle.cbor_edn_parts.specs.declared.string.StringKind.TheVariants.{Bytes}
 use Rattle.cbor_edn_model.specs.visit.Depth.{depth}
 use Rattle.cbor_edn_model.specs.tree.Items as kind
-use Rattle.cbor_edn_model.specs.tree.Items.{Row, Sort, Item, Node, Piece, Pieces, Entry, Entries, entries_of, Literal, Dots, Embedded, LastPiece, Plus, End, Items}
+use Rattle.cbor_edn_model.specs.tree.Items.{Row, Sort, Item, Node, Piece, Pieces, Entry, Entries, entries_of, Literal, Ellipsis, Embedded, LastPiece, Plus, End, Items}
 use Rattle.cbor_edn_model.specs.cbor.Value.{Value, encodings, tag}
 use Rattle.cbor_edn_model.specs.cbor.Meaning.{◌>>=◌, MeaningOf, width_of, listed, pieces_indicator, have_no_indicators, string_of, chunk_of, stream_of, joined, one_more, no_entries}
-use Rattle.cbor_edn_model.specs.visit.Seeking.{CallArguments, SoughtCall, VisitItem, passed, entered, stayed, refused, not_called, VisitParts, of_number, of_float, of_name, of_tag, of_simple, of_list, of_string, of_stream, of_literal, of_dots, of_embedded, of_last_piece, of_pieces, of_pieces_cut, of_none_inside, of_all_inside, of_last, of_more, of_more_cut, of_nothing, of_sequence, of_standalone, VisitEntry, of_element, of_pair, of_pair_cut, of_chunk}
+use Rattle.cbor_edn_model.specs.visit.Seeking.{CallArguments, SoughtCall, VisitItem, passed, entered, stayed, refused, not_called, VisitParts, of_number, of_float, of_name, of_tag, of_simple, of_list, of_string, of_stream, of_literal, of_ellipsis, of_embedded, of_last_piece, of_pieces, of_pieces_cut, of_none_inside, of_all_inside, of_last, of_more, of_more_cut, of_nothing, of_sequence, of_standalone, VisitEntry, of_element, of_pair, of_pair_cut, of_chunk}
 use Rattle.cbor_edn_model.specs.tree.Trees.{Rule, Tree, OneItem, OnePiece, OneString, OneEntry, Inside, Rest, Seq, Standalone, Of, items}
 use Rattle.cbor_edn_model.specs.visit.Visits.{Ending, whole, cut}
 use Rattle.cbor_edn_conversions.specs.Resolving.{Resolver, or_else, resolved, resolved_item, means_by}
@@ -21,7 +21,7 @@ all_split P (x ∷ xs) ys all = let rest = all_split P xs ys (All-tail P x (xs +
 -- a string whose embedded pieces are emptied
 abbrev pub piece_shape : Node Piece → Node Piece
 piece_shape (Literal x i) = Literal x i
-piece_shape (Dots x) = Dots x
+piece_shape (Ellipsis x) = Ellipsis x
 piece_shape (Embedded m i) = Embedded End i
 
 abbrev pub shape : Node Pieces → Node Pieces
@@ -30,21 +30,21 @@ shape (Plus p w) = Plus (piece_shape p) (shape w)
 
 no_indicators_shape : (w : Node Pieces) → have_no_indicators (shape w) ≡ have_no_indicators w
 no_indicators_shape (LastPiece (Literal x i)) = refl
-no_indicators_shape (LastPiece (Dots x)) = refl
+no_indicators_shape (LastPiece (Ellipsis x)) = refl
 no_indicators_shape (LastPiece (Embedded m i)) = refl
 no_indicators_shape (Plus (Literal x i) w) = ap (λ b. is_none i && b) (no_indicators_shape w)
-no_indicators_shape (Plus (Dots x) w) = no_indicators_shape w
+no_indicators_shape (Plus (Ellipsis x) w) = no_indicators_shape w
 no_indicators_shape (Plus (Embedded m i) w) = ap (λ b. is_none i && b) (no_indicators_shape w)
 
 indicator_shape : (w : Node Pieces) → pieces_indicator (shape w) ≡ pieces_indicator w
 indicator_shape (LastPiece (Literal x i)) = refl
-indicator_shape (LastPiece (Dots x)) = refl
+indicator_shape (LastPiece (Ellipsis x)) = refl
 indicator_shape (LastPiece (Embedded m i)) = refl
 indicator_shape (Plus p w) = ap (λ b. cond b (Some None) None) (no_indicators_shape (Plus p w))
 
 resolved_shape : (R : Resolver) (w : Node Pieces) → resolved R (shape w) ≡ resolved R w
 resolved_shape R (LastPiece (Literal x i)) = refl
-resolved_shape R (LastPiece (Dots x)) = refl
+resolved_shape R (LastPiece (Ellipsis x)) = refl
 resolved_shape R (LastPiece (Embedded m i)) = refl
 resolved_shape R (Plus p w) = refl
 
@@ -58,7 +58,7 @@ module _ {Sought : Tree OneItem → CallArguments → Type 0} where
   pub piece_stays : {p q : Tree OnePiece} {cs : List SoughtCall} {r : Ending} → VisitParts Sought OnePiece p cs q r → piece_shape (items p) ≡ piece_shape (items q)
   unfolding items
   piece_stays of_literal = refl
-  piece_stays of_dots = refl
+  piece_stays of_ellipsis = refl
   piece_stays (of_embedded a) = refl
 
   pub string_stays : {w v : Tree OneString} {cs : List SoughtCall} {r : Ending} → VisitParts Sought OneString w cs v r → shape (items w) ≡ shape (items v)
@@ -149,7 +149,7 @@ module _ (Rel : (A : Type 0) → Option A → Option A → Type 0) (relates : Re
         parts_kept (of_string {w = w} {v = v} a) all done = string_kept (items w) (items v) (string_stays a) (parts_kept a all done)
         parts_kept (of_stream {m = m} {n = n} a) all done = λ agree. one_step (means_by B (items m)) (means_by A (items n)) stream_of (parts_kept a all done)
         parts_kept of_literal all done = relates.same _ _
-        parts_kept of_dots all done = relates.same _ _
+        parts_kept of_ellipsis all done = relates.same _ _
         parts_kept (of_embedded {w = w} {v = v} a) all done = one_step (means_by B (items w)) (means_by A (items v)) (λ vs. Some (Bytes, encodings vs)) (parts_kept a all done)
         parts_kept (of_last_piece a) all done = parts_kept a all done
         parts_kept (of_pieces {p = p} {q = q} {w = w} {v = v} {cs = cs} {ds = ds} a b e) all done =

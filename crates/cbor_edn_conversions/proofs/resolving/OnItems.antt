@@ -2,16 +2,16 @@
 use Rattle.std.proofs.Common.{ℕ, suc, max, ◌≡◌, ◌↔◌, List, [], Option, Some, None, All, refl, sym, ap, subst, arith}
 use Rattle.std.proofs.lemmas.List.Elements.{All-head, All-tail}
 use Rattle.cbor_edn_model.specs.access.Accessed.{string_tree, IsApplicationPiece}
-use Rattle.cbor_edn_model.specs.declared.text.label.LabelKind.{LabelKind}
-use Rattle.cbor_edn_model.specs.declared.text.label.LabelKind.TheVariants as label
+use Rattle.cbor_edn_model.specs.declared.text.opener.OpenerKind.{OpenerKind}
+use Rattle.cbor_edn_model.specs.declared.text.opener.OpenerKind.TheVariants as opener
 use Rattle.cbor_edn_model.specs.visit.Depth.{depth, embedded_depth}
 use Rattle.cbor_edn_model.specs.tree.Items as kind
 use Rattle.cbor_edn_model.specs.tree.Items.{Row, Sort, Item, Piece, Pieces, Entry, Entries, entries_of, Elements, Node}
 use Rattle.cbor_edn_model.specs.visit.Seeking as tree
-use Rattle.cbor_edn_model.specs.visit.Seeking.{CallArguments, prefix_and_text, IsTag, IsApplication, SoughtCall, VisitItem, VisitParts, of_number, of_float, of_name, of_tag, of_simple, of_list, of_string, of_stream, of_literal, of_dots, of_embedded, of_last_piece, of_pieces, of_pieces_cut, of_none_inside, of_all_inside, of_last, of_more, of_more_cut, of_nothing, of_sequence, of_standalone, VisitEntry, of_element, of_pair, of_pair_cut, of_chunk}
-use Rattle.cbor_edn_model.specs.tree.Trees.{Rule, Tree, OneItem, OnePiece, OneString, OneEntry, Inside, Rest, Seq, Standalone, NumberTree, FloatTree, NamedTree, EnclosedTree, ListTree, StringTree, StreamTree, LiteralTree, DotsTree, EmbeddedTree, LastPieceTree, PlusTree, ElementTree, PairTree, ChunkTree, EmptyTree, FullTree, LastTree, MoreTree, NothingTree, SequenceTree, StandaloneTree, Of, items}
+use Rattle.cbor_edn_model.specs.visit.Seeking.{CallArguments, prefix_and_text, IsTag, IsApplication, SoughtCall, VisitItem, VisitParts, of_number, of_float, of_name, of_tag, of_simple, of_list, of_string, of_stream, of_literal, of_ellipsis, of_embedded, of_last_piece, of_pieces, of_pieces_cut, of_none_inside, of_all_inside, of_last, of_more, of_more_cut, of_nothing, of_sequence, of_standalone, VisitEntry, of_element, of_pair, of_pair_cut, of_chunk}
+use Rattle.cbor_edn_model.specs.tree.Trees.{Rule, Tree, OneItem, OnePiece, OneString, OneEntry, Inside, Rest, Seq, Standalone, NumberTree, FloatTree, NamedTree, EnclosedTree, ListTree, StringTree, StreamTree, LiteralTree, EllipsisTree, EmbeddedTree, LastPieceTree, PlusTree, ElementTree, PairTree, ChunkTree, EmptyTree, FullTree, LastTree, MoreTree, NothingTree, SequenceTree, StandaloneTree, Of, items}
 use Rattle.cbor_edn_model.specs.visit.Visits.{Ending, whole}
-use Rattle.cbor_edn_conversions.specs.VisitedItems.{node_depth, IsTagNode, IsApplicationNode, ReachedItem, passed, entered, stayed, VisitedNode, number, float, named, simple, listed, tagged, string, stream, literal, dots, embedded, last_piece, plus, element, pair, chunk, end, then}
+use Rattle.cbor_edn_conversions.specs.VisitedItems.{node_depth, IsTagNode, IsApplicationNode, ReachedItem, passed, entered, stayed, VisitedNode, number, float, named, simple, listed, tagged, string, stream, literal, ellipsis, embedded, last_piece, plus, element, pair, chunk, end, then}
 use Rattle.cbor_edn_conversions.proofs.resolving.Keeping.{all_split}
 
 -- ---- how deep they nest
@@ -34,13 +34,13 @@ unfolding depth items
 depth_items (NumberTree x i) = refl
 depth_items (FloatTree f i) = refl
 depth_items (NamedTree b) = refl
-depth_items (EnclosedTree (label.Tag i n) w) = ap (λ d. suc d) (depth_items w)
-depth_items (EnclosedTree label.Simple w) = refl
+depth_items (EnclosedTree (opener.Tag i n) w) = ap (λ d. suc d) (depth_items w)
+depth_items (EnclosedTree opener.Simple w) = refl
 depth_items (ListTree k w) = ap (λ d. suc d) (depth_items w)
 depth_items (StringTree w) = depth_items w
 depth_items (StreamTree ms m) = depth_items m
 depth_items (LiteralTree x i) = refl
-depth_items (DotsTree x) = refl
+depth_items (EllipsisTree x) = refl
 depth_items (EmbeddedTree w i) = ap embedded_depth (depth_items w)
 depth_items (LastPieceTree p) = depth_items p
 depth_items (PlusTree p s t w) = same_max _ _ _ _ (depth_items p) (depth_items w)
@@ -60,12 +60,12 @@ item_depth w = depth_items w
 
 -- ---- what is sought
 
-enclosed_tag : (l : LabelKind) (w : Tree Standalone) (a : CallArguments) → IsTag (EnclosedTree l w) a ↔ IsTagNode (items (EnclosedTree l w)) a
+enclosed_tag : (l : OpenerKind) (w : Tree Standalone) (a : CallArguments) → IsTag (EnclosedTree l w) a ↔ IsTagNode (items (EnclosedTree l w)) a
 unfolding items
-enclosed_tag (label.Tag i n) w (tree.number m) = (λ e. cc, λ e. cc)
-enclosed_tag (label.Tag i n) w (prefix_and_text p t) = (λ e. e, λ e. e)
-enclosed_tag label.Simple w (tree.number m) = (λ e. absurd cc, λ e. absurd e)
-enclosed_tag label.Simple w (prefix_and_text p t) = (λ e. e, λ e. e)
+enclosed_tag (opener.Tag i n) w (tree.number m) = (λ e. cc, λ e. cc)
+enclosed_tag (opener.Tag i n) w (prefix_and_text p t) = (λ e. e, λ e. e)
+enclosed_tag opener.Simple w (tree.number m) = (λ e. absurd cc, λ e. absurd e)
+enclosed_tag opener.Simple w (prefix_and_text p t) = (λ e. e, λ e. e)
 
 pub tag_node : (w : Tree OneItem) (a : CallArguments) → IsTag w a ↔ IsTagNode (items w) a
 unfolding items
@@ -92,26 +92,26 @@ last_is l m e = cc
 of_last_literal : (l : Tree OnePiece) (p t : List ℕ) → IsApplication (StringTree (LastPieceTree l)) (prefix_and_text p t) ↔ IsApplicationPiece l p t
 of_last_literal l p t = (λ a. subst (λ m. IsApplicationPiece m p t) (sym (last_is l a.0 a.1)) a.2, λ a. (l, refl, a))
 
-enclosed_literal : (l : LabelKind) (w : Tree Standalone) (p t : List ℕ) → IsApplicationNode (items (EnclosedTree l w)) (prefix_and_text p t) → ⊥
+enclosed_literal : (l : OpenerKind) (w : Tree Standalone) (p t : List ℕ) → IsApplicationNode (items (EnclosedTree l w)) (prefix_and_text p t) → ⊥
 unfolding items
-enclosed_literal (label.Tag i n) w p t e = e
-enclosed_literal label.Simple w p t e = e
+enclosed_literal (opener.Tag i n) w p t e = e
+enclosed_literal opener.Simple w p t e = e
 
-enclosed_number : (l : LabelKind) (w : Tree Standalone) (n : ℕ) → IsApplicationNode (items (EnclosedTree l w)) (tree.number n) → ⊥
+enclosed_number : (l : OpenerKind) (w : Tree Standalone) (n : ℕ) → IsApplicationNode (items (EnclosedTree l w)) (tree.number n) → ⊥
 unfolding items
-enclosed_number (label.Tag i m) w n e = e
-enclosed_number label.Simple w n e = e
+enclosed_number (opener.Tag i m) w n e = e
+enclosed_number opener.Simple w n e = e
 
 no_string : (w : Tree OneItem) (p t : List ℕ) → string_tree w ≡ None → IsApplication w (prefix_and_text p t) → ⊥
 no_string w p t none a = let some = a.1 in absurd cc
 
-enclosed_none : (l : LabelKind) (w : Tree Standalone) (p t : List ℕ) → IsApplication (EnclosedTree l w) (prefix_and_text p t) → ⊥
+enclosed_none : (l : OpenerKind) (w : Tree Standalone) (p t : List ℕ) → IsApplication (EnclosedTree l w) (prefix_and_text p t) → ⊥
 enclosed_none l w p t a = no_string (EnclosedTree l w) p t refl a
 
 pub application_node : (w : Tree OneItem) (a : CallArguments) → IsApplication w a ↔ IsApplicationNode (items w) a
 unfolding items
 application_node (StringTree (LastPieceTree (LiteralTree x i))) (prefix_and_text p t) = of_last_literal (LiteralTree x i) p t
-application_node (StringTree (LastPieceTree (DotsTree x))) (prefix_and_text p t) = of_last_literal (DotsTree x) p t
+application_node (StringTree (LastPieceTree (EllipsisTree x))) (prefix_and_text p t) = of_last_literal (EllipsisTree x) p t
 application_node (StringTree (LastPieceTree (EmbeddedTree w i))) (prefix_and_text p t) = of_last_literal (EmbeddedTree w i) p t
 application_node (StringTree (PlusTree q s u w)) (prefix_and_text p t) = (λ a. let e = a.1 in absurd cc, λ e. absurd e)
 application_node (EnclosedTree l w) (prefix_and_text p t) = (λ a. absurd (enclosed_none l w p t a), λ a. absurd (enclosed_literal l w p t a))
@@ -121,7 +121,7 @@ application_node (NamedTree b) (prefix_and_text p t) = (λ a. absurd (no_string 
 application_node (ListTree k w) (prefix_and_text p t) = (λ a. absurd (no_string (ListTree k w) p t refl a), λ e. absurd e)
 application_node (StreamTree s m) (prefix_and_text p t) = (λ a. absurd (no_string (StreamTree s m) p t refl a), λ e. absurd e)
 application_node (StringTree (LastPieceTree (LiteralTree x i))) (tree.number n) = (λ e. e, λ e. e)
-application_node (StringTree (LastPieceTree (DotsTree x))) (tree.number n) = (λ e. e, λ e. e)
+application_node (StringTree (LastPieceTree (EllipsisTree x))) (tree.number n) = (λ e. e, λ e. e)
 application_node (StringTree (LastPieceTree (EmbeddedTree w i))) (tree.number n) = (λ e. e, λ e. e)
 application_node (StringTree (PlusTree q s u w)) (tree.number n) = (λ e. e, λ e. e)
 application_node (EnclosedTree l w) (tree.number n) = (λ e. absurd e, λ e. absurd (enclosed_number l w n e))
@@ -168,7 +168,7 @@ module _ (Sought : Tree OneItem → CallArguments → Type 0) (SoughtNode : Node
     parts_visited (of_string a) is all = string (parts_visited a is all)
     parts_visited (of_stream a) is all = stream (parts_visited a is all)
     parts_visited of_literal is all = literal
-    parts_visited of_dots is all = dots
+    parts_visited of_ellipsis is all = ellipsis
     parts_visited (of_embedded a) is all = embedded (parts_visited a is all)
     parts_visited (of_last_piece a) is all = last_piece (parts_visited a is all)
     parts_visited (of_pieces {cs = cs} {ds = ds} a b e) is all = let h = all_split Good cs ds (subst (All Good) e all) in plus (parts_visited a refl h.0) (parts_visited b is h.1)

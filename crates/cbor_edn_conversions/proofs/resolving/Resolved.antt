@@ -12,7 +12,7 @@ use Rattle.cbor_edn_parts.proofs.lemmas.literal.LiteralContents.{prefix_plain, p
 use Rattle.cbor_edn_model.specs.cbor.Decoded as decoded
 use Rattle.cbor_edn_model.specs.cbor.Decoded.{indicator_of, list_indicator, item_of, items_of, chunk_items, simple_item}
 use Rattle.cbor_edn_model.specs.tree.Items as kind
-use Rattle.cbor_edn_model.specs.tree.Items.{Sort, Item, Node, Pieces, Strings, Array, Map, Number, Float, Listed, Tagged, Named, Simple, String, Stream, Literal, Dots, Embedded, LastPiece, Plus, Element, Pair, Chunk, End, Then}
+use Rattle.cbor_edn_model.specs.tree.Items.{Sort, Item, Node, Pieces, Strings, Array, Map, Number, Float, Listed, Tagged, Named, Simple, String, Stream, Literal, Ellipsis, Embedded, LastPiece, Plus, Element, Pair, Chunk, End, Then}
 use Rattle.cbor_edn_model.specs.cbor.Meaning.{◌>>=◌, MeaningOf, width_of, listed, pieces_indicator, string_of, chunk_of, stream_of, joined, one_more, means}
 use Rattle.cbor_edn_model.specs.cbor.Value as values
 use Rattle.cbor_edn_model.specs.cbor.Value.{Value, unsigned, negative, string, chunks, array, cbor_map, tag, simple, float, Values, no_values, value, values_len, Pairs, no_pairs, pair, pairs_len, encodings}
@@ -25,7 +25,7 @@ use Rattle.cbor_edn_conversions.proofs.resolving.VisitsKept.{Below, belows}
 
 or_none : (o : Option Value) (w : Node Pieces) → or_else (resolved no_resolver w) o ≡ o
 or_none o (LastPiece (Literal x i)) = refl
-or_none o (LastPiece (Dots x)) = refl
+or_none o (LastPiece (Ellipsis x)) = refl
 or_none o (LastPiece (Embedded m i)) = refl
 or_none o (Plus p w) = refl
 
@@ -43,7 +43,7 @@ none_means (Listed k i m) = ap (λ o. bind o (listed k i)) (none_means m)
 none_means (String w) = or_none (means_by no_resolver w >>= λ c. pieces_indicator w >>= string_of c) w ∙ ap (λ o. bind o (λ c. bind (pieces_indicator w) (string_of c))) (none_means w)
 none_means (Stream m) = ap (λ o. bind o stream_of) (none_means m)
 none_means (Literal x i) = refl
-none_means (Dots x) = refl
+none_means (Ellipsis x) = refl
 none_means (Embedded m i) = ap (λ o. bind o (λ vs. Some (Bytes, encodings vs))) (none_means m)
 none_means (LastPiece p) = none_means p
 none_means (Plus p w) = pair_same _ _ _ _ joined (none_means p) (none_means w)
@@ -66,12 +66,12 @@ module _ (Rel : (A : Type 0) → Option A → Option A → Type 0) (relates : Re
   by_two (Simple w) = relates.same _ _
   by_two (Listed k i m) = one_step Rel relates (means_by B m) (means_by A m) (listed k i) (by_two m)
   by_two (String (LastPiece (Literal x i))) = at_literals x i
-  by_two (String (LastPiece (Dots x))) = relates.same _ _
+  by_two (String (LastPiece (Ellipsis x))) = relates.same _ _
   by_two (String (LastPiece (Embedded m i))) = one_step Rel relates (means_by B (Embedded m i)) (means_by A (Embedded m i)) (λ c. string_of c i) (one_step Rel relates (means_by B m) (means_by A m) (λ vs. Some (Bytes, encodings vs)) (by_two m))
   by_two (String (Plus p w)) = one_step Rel relates (means_by B (Plus p w)) (means_by A (Plus p w)) (λ c. pieces_indicator (Plus p w) >>= string_of c) (two_steps Rel relates (means_by B p) (means_by A p) (means_by B w) (means_by A w) joined (by_two p) (by_two w))
   by_two (Stream m) = one_step Rel relates (means_by B m) (means_by A m) stream_of (by_two m)
   by_two (Literal x i) = relates.same _ _
-  by_two (Dots x) = relates.same _ _
+  by_two (Ellipsis x) = relates.same _ _
   by_two (Embedded m i) = one_step Rel relates (means_by B m) (means_by A m) (λ vs. Some (Bytes, encodings vs)) (by_two m)
   by_two (LastPiece p) = by_two p
   by_two (Plus p w) = two_steps Rel relates (means_by B p) (means_by A p) (means_by B w) (means_by A w) joined (by_two p) (by_two w)

@@ -1,11 +1,11 @@
 -- Visits whose calls keep a meaning, and those that replace the literals of a resolver.
 use Rattle.std.proofs.Common.{ℕ, ◌≡◌, List, Option, Some, None, All, refl, sym, ap, ◌∙◌, subst, le_trans}
-use Rattle.cbor_edn_model.specs.declared.text.label.LabelKind.{LabelKind}
-use Rattle.cbor_edn_model.specs.declared.text.label.LabelKind.TheVariants as label
+use Rattle.cbor_edn_model.specs.declared.text.opener.OpenerKind.{OpenerKind}
+use Rattle.cbor_edn_model.specs.declared.text.opener.OpenerKind.TheVariants as opener
 use Rattle.cbor_edn_model.specs.tree.Items.{Row, Item, Node}
 use Rattle.cbor_edn_model.specs.cbor.Meaning.{◌>>=◌, MeaningOf}
 use Rattle.cbor_edn_model.specs.visit.Seeking.{CallArguments, prefix_and_text, IsApplication, SoughtCall, VisitItem, VisitParts, VisitEntry}
-use Rattle.cbor_edn_model.specs.tree.Trees.{Rule, Tree, OneItem, OneEntry, NumberTree, FloatTree, NamedTree, EnclosedTree, ListTree, StringTree, StreamTree, LiteralTree, DotsTree, EmbeddedTree, LastPieceTree, PlusTree, labelled, items}
+use Rattle.cbor_edn_model.specs.tree.Trees.{Rule, Tree, OneItem, OneEntry, NumberTree, FloatTree, NamedTree, EnclosedTree, ListTree, StringTree, StreamTree, LiteralTree, EllipsisTree, EmbeddedTree, LastPieceTree, PlusTree, labelled, items}
 use Rattle.cbor_edn_model.specs.cbor.Value.{Value}
 use Rattle.cbor_edn_model.specs.visit.Visits.{Ending, whole}
 use Rattle.cbor_edn_conversions.specs.Resolving.{Resolver, resolved_item, means_by, DifferAtPrefixes, Turns, TurnsExactly}
@@ -58,14 +58,14 @@ module _ (Rel : (A : Type 0) → Option A → Option A → Type 0) (relates : Re
     entering = λ c v cs r k is d a e. trans (means_by R (items c.before)) (means_by R (items c.after)) (means_by R (items v)) k (e refl);
   }
 
-  agree_enclosed : (B A : Resolver) (l : LabelKind) (x : Node Item) → resolved_item B (labelled l x) ≡ resolved_item A (labelled l x)
-  agree_enclosed B A (label.Tag i n) x = refl
-  agree_enclosed B A label.Simple x = refl
+  agree_enclosed : (B A : Resolver) (l : OpenerKind) (x : Node Item) → resolved_item B (labelled l x) ≡ resolved_item A (labelled l x)
+  agree_enclosed B A (opener.Tag i n) x = refl
+  agree_enclosed B A opener.Simple x = refl
 
   unsought_agree : (B A : Resolver) → DifferAtPrefixes B A → (w : Tree OneItem) → ((a : CallArguments) → IsApplication w a → ⊥) → resolved_item B (items w) ≡ resolved_item A (items w)
   unfolding items
   unsought_agree B A q (StringTree (LastPieceTree (LiteralTree x i))) n = q x i (λ p t is. n (prefix_and_text p t) (LiteralTree x i, refl, is))
-  unsought_agree B A q (StringTree (LastPieceTree (DotsTree x))) n = refl
+  unsought_agree B A q (StringTree (LastPieceTree (EllipsisTree x))) n = refl
   unsought_agree B A q (StringTree (LastPieceTree (EmbeddedTree w i))) n = refl
   unsought_agree B A q (StringTree (PlusTree p s t w)) n = refl
   unsought_agree B A q (NumberTree x i) n = refl

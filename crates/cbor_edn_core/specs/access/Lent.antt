@@ -31,11 +31,11 @@ use Rattle.cbor_edn_core.specs.declared.access.TypeMismatch.{TypeMismatch}
 use Rattle.cbor_edn_core.specs.declared.tree.ItemOf.{ItemOf}
 use Rattle.cbor_edn_core.specs.declared.tree.InnerItemOf.{InnerItemOf}
 use Rattle.cbor_edn_core.specs.declared.tree.StandaloneItemOf.{StandaloneItemOf}
-use Rattle.cbor_edn_model.specs.declared.text.label.LabelKind.TheVariants as label
+use Rattle.cbor_edn_model.specs.declared.text.opener.OpenerKind.TheVariants as opener
 
 -- a tag with another content: `1(3 )` of `3 ` and `1( 2 )`; what is no tag stays
 abbrev pub with_tag_content : Tree Standalone → Tree OneItem → Tree OneItem
-with_tag_content c (EnclosedTree (label.Tag i n) w) = EnclosedTree (label.Tag i n) c
+with_tag_content c (EnclosedTree (opener.Tag i n) w) = EnclosedTree (opener.Tag i n) c
 with_tag_content c w = w
 
 module _ (O M C E N L D : RattleType) where

@@ -6,9 +6,9 @@ use Rattle.cbor_edn_parts.specs.declared.error.Refusal.{Refusal}
 use Rattle.cbor_edn_parts.specs.declared.error.Fault.{Fault}
 use Rattle.cbor_edn_parts.specs.declared.error.Fault.TheVariants.{Memory, Told}
 use Rattle.cbor_edn_parts.specs.Bytes.{is_closed}
-use Rattle.cbor_edn_parts.specs.Leaves.{msc_bytes, soc_bytes, BorrowsMsc, BorrowsSoc}
-use Rattle.cbor_edn_parts.specs.declared.space.Msc.{Msc}
-use Rattle.cbor_edn_parts.specs.declared.space.Soc.{Soc}
+use Rattle.cbor_edn_parts.specs.Leaves.{separator_bytes, list_end_bytes, BorrowsSeparator, BorrowsListEnd}
+use Rattle.cbor_edn_parts.specs.declared.space.Separator.{Separator}
+use Rattle.cbor_edn_parts.specs.declared.space.ListEnd.{ListEnd}
 use Rattle.cbor_edn_parts.specs.declared.space.read.ItemEnd.{ItemEnd}
 use Rattle.cbor_edn_parts.specs.internal.Ends.{IsEnd, reached}
 use Rattle.cbor_edn_parts.specs.internal.SpaceTokens.{space, separator}
@@ -19,11 +19,11 @@ use Rattle.cbor_edn_model.specs.tree.TreeLeaves.{texts}
 use Rattle.cbor_edn_core.specs.declared.text.grammar.entries.Behind.{Behind}
 use Rattle.cbor_edn_core.specs.declared.text.grammar.entries.Behind.TheVariants.{Last, More}
 use Rattle.cbor_edn_core.specs.declared.tree.CborStringOf.{CborStringOf}
-use Rattle.cbor_edn_parts.specs.declared.space.S.{S}
-use Rattle.cbor_edn_parts.specs.declared.space.Ms.{Ms}
+use Rattle.cbor_edn_parts.specs.declared.space.Space.{Space}
+use Rattle.cbor_edn_parts.specs.declared.space.MandatorySpace.{MandatorySpace}
 use Rattle.cbor_edn_parts.specs.declared.number.Number.{Number}
 use Rattle.cbor_edn_parts.specs.declared.string.Literal.{Literal}
-use Rattle.cbor_edn_parts.specs.declared.string.Dots.{Dots}
+use Rattle.cbor_edn_parts.specs.declared.string.Ellipsis.{Ellipsis}
 use Rattle.cbor_edn_model.specs.internal.LookCosts.{separator_extra}
 use Rattle.cbor_edn_model.specs.internal.BytesAt.{IsNotAt, ahead}
 use Rattle.cbor_edn_model.specs.internal.Results.{◌>>=◌, FailsBy, GivesBy}
@@ -45,7 +45,7 @@ Gives = GivesBy (λ r. r.kind)
 -- A refusal names a place where a character begins.
 abbrev pub IsPlaced : List ℕ → Fault Refusal → Type 0
 IsPlaced text (Memory e) = Unit {0}
-IsPlaced text (Told r) = IsCharBoundary text r.at
+IsPlaced text (Told r) = IsCharBoundary text r.offset
 
 -- The place behind is one where a character begins, and so is that of a refusal.
 abbrev pub Lands : {X : Type 0} → List ℕ → ℕ → Result (X × ℕ) (Fault Refusal) → Type 0
@@ -76,12 +76,12 @@ CostsAhead rate k failed text at old new (Ok p) = (new + ahead text at + rate * 
 CostsAhead rate k failed text at old new (Err e) = (new + ahead text at + rate * at ≤ old + rate * length text + failed) × (old ≤ new)
 
 -- An entry was set behind the others, with a separator of this text.
-pub record IsPushed {T : Type 0} (old new : List (T × Msc)) (entry : T) (soc : Soc) : Type 0 where
-  pub separator : Msc
+pub record IsPushed {T : Type 0} (old new : List (T × Separator)) (entry : T) (list_end : ListEnd) : Type 0 where
+  pub separator : Separator
   pub items : new ≡ old ++ (entry, separator) ∷ []
-  pub same : msc_bytes separator ≡ soc_bytes soc
-  pub not_empty : soc_bytes soc ≢ []
-  pub borrowed : BorrowsSoc soc → BorrowsMsc separator
+  pub same : separator_bytes separator ≡ list_end_bytes list_end
+  pub not_empty : list_end_bytes list_end ≢ []
+  pub borrowed : BorrowsListEnd list_end → BorrowsSeparator separator
 
 -- No `>>` stands in front.
 abbrev pub IsUnclosed : List ℕ → Type 0
@@ -99,19 +99,19 @@ with_separator limit k xs = reads limit (OneEntry k) xs >>= λ e. token separato
 abbrev pub element_tree : Item → Tree (OneEntry Elements)
 element_tree x = ElementTree (item_tree x)
 
-abbrev pub chunk_tree : CborStringOf S Ms Msc Soc Number Literal Dots → Tree (OneEntry Strings)
+abbrev pub chunk_tree : CborStringOf Space MandatorySpace Separator ListEnd Number Literal Ellipsis → Tree (OneEntry Strings)
 chunk_tree x = ChunkTree (view_string texts x)
 
 -- The same three of what stands behind an entry: its separator, and how little that costs.
-abbrev pub ReadsSeparator : {X : Type 0} → List ℕ → Result (X × Soc × ℕ) (Fault Refusal) → ℕ → Type 0
-ReadsSeparator text (Ok p) at = token separator (drop at text) ≡ Ok (soc_bytes p.1, drop p.2 text)
+abbrev pub ReadsSeparator : {X : Type 0} → List ℕ → Result (X × ListEnd × ℕ) (Fault Refusal) → ℕ → Type 0
+ReadsSeparator text (Ok p) at = token separator (drop at text) ≡ Ok (list_end_bytes p.1, drop p.2 text)
 ReadsSeparator text (Err e) at = Fails e (token separator (drop at text))
 
-abbrev pub LandsSeparator : {X : Type 0} → List ℕ → ℕ → Result (X × Soc × ℕ) (Fault Refusal) → Type 0
-LandsSeparator text at (Ok p) = (at + length (soc_bytes p.1) ≤ p.2) × IsCharBoundary text p.2
+abbrev pub LandsSeparator : {X : Type 0} → List ℕ → ℕ → Result (X × ListEnd × ℕ) (Fault Refusal) → Type 0
+LandsSeparator text at (Ok p) = (at + length (list_end_bytes p.1) ≤ p.2) × IsCharBoundary text p.2
 LandsSeparator text at (Err e) = IsPlaced text e
 
-abbrev pub CostsSeparator : {X E : Type 0} → List ℕ → ℕ → ℕ → ℕ → Result (X × Soc × ℕ) E → Type 0
+abbrev pub CostsSeparator : {X E : Type 0} → List ℕ → ℕ → ℕ → ℕ → Result (X × ListEnd × ℕ) E → Type 0
 CostsSeparator text at old new (Ok p) = (new + at ≤ old + p.2 + separator_extra) × (old + p.2 ≤ new + at)
 CostsSeparator text at old new (Err e) = (new + at ≤ old + length text + separator_extra) × (old ≤ new)
 
@@ -125,28 +125,28 @@ parted xs = token separator xs >>= λ s. cond (is_closed s.1) (Ok s) (filled s)
 
 -- The same three of a separator with the look behind it, by whether another entry follows.
 abbrev pub ReadsBehind : List ℕ → Result Behind (Fault Refusal) → ℕ → Type 0
-ReadsBehind text (Ok (Last soc next)) at = (token separator (drop at text) ≡ Ok (soc_bytes soc, drop next text)) × (is_closed (drop next text) ≡ true)
-ReadsBehind text (Ok (More msc next)) at = (token separator (drop at text) ≡ Ok (msc_bytes msc, drop next text)) × (is_closed (drop next text) ≡ false) × (msc_bytes msc ≢ [])
+ReadsBehind text (Ok (Last list_end next)) at = (token separator (drop at text) ≡ Ok (list_end_bytes list_end, drop next text)) × (is_closed (drop next text) ≡ true)
+ReadsBehind text (Ok (More between next)) at = (token separator (drop at text) ≡ Ok (separator_bytes between, drop next text)) × (is_closed (drop next text) ≡ false) × (separator_bytes between ≢ [])
 ReadsBehind text (Err e) at = Fails e (parted (drop at text))
 
 abbrev pub LandsBehind : List ℕ → ℕ → Result Behind (Fault Refusal) → Type 0
-LandsBehind text at (Ok (Last soc next)) = (at ≤ next) × IsCharBoundary text next
-LandsBehind text at (Ok (More msc next)) = (at < next) × IsCharBoundary text next
+LandsBehind text at (Ok (Last list_end next)) = (at ≤ next) × IsCharBoundary text next
+LandsBehind text at (Ok (More between next)) = (at < next) × IsCharBoundary text next
 LandsBehind text at (Err e) = IsPlaced text e
 
 abbrev pub behind_next : Behind → ℕ
-behind_next (Last soc next) = next
-behind_next (More msc next) = next
+behind_next (Last list_end next) = next
+behind_next (More between next) = next
 
 abbrev pub CostsBehind : {E : Type 0} → List ℕ → ℕ → ℕ → ℕ → Result Behind E → Type 0
 CostsBehind text at old new (Ok b) = (new + at ≤ old + behind_next b + separator_extra + 1) × (old + behind_next b ≤ new + at)
 CostsBehind text at old new (Err e) = (new + at ≤ old + length text + separator_extra + 1) × (old ≤ new)
 
 abbrev pub BorrowsBehind : Behind → Type 0
-BorrowsBehind (Last soc next) = BorrowsSoc soc
-BorrowsBehind (More msc next) = BorrowsMsc msc
+BorrowsBehind (Last list_end next) = BorrowsListEnd list_end
+BorrowsBehind (More between next) = BorrowsSeparator between
 
 -- This holds where another entry follows.
 abbrev pub OnMore : Behind → Type 0 → Type 0
-OnMore (Last soc next) fact = Unit {0}
-OnMore (More msc next) fact = fact
+OnMore (Last list_end next) fact = Unit {0}
+OnMore (More between next) fact = fact

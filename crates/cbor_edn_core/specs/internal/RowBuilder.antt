@@ -1,6 +1,6 @@
 -- Rows that grow at their end.
 use Rattle.std.specs.Prelude.{List, [], ◌∷◌, ◌++◌, map, Option, Some, None}
-use Rattle.cbor_edn_parts.specs.declared.space.Msc.{Msc}
+use Rattle.cbor_edn_parts.specs.declared.space.Separator.{Separator}
 use Rattle.cbor_edn_core.specs.declared.cbor.decode.row_builder.RowBuilder.{RowBuilder}
 
 -- the last entry alone, if there is one
@@ -9,7 +9,7 @@ last_alone None = []
 last_alone (Some x) = x ∷ []
 
 -- each entry without its separator, then the last
-abbrev pub entries : {X : Type 0} → List (X × Msc) → Option X → List X
+abbrev pub entries : {X : Type 0} → List (X × Separator) → Option X → List X
 entries row last = map (λ p. p.0) row ++ last_alone last
 
 -- the entries so far

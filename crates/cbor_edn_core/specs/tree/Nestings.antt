@@ -2,9 +2,9 @@
 use Rattle.std.specs.Prelude.{ℕ, suc, max, List, [], ◌∷◌}
 use Rattle.cbor_edn_core.specs.declared.tree.nesting.Levels.{Levels}
 use Rattle.cbor_edn_core.specs.declared.tree.nesting.Levels.TheVariants as levels
-use Rattle.cbor_edn_model.specs.declared.text.label.LabelKind.TheVariants as label
+use Rattle.cbor_edn_model.specs.declared.text.opener.OpenerKind.TheVariants as opener
 use Rattle.cbor_edn_model.specs.tree.Items.{Row}
-use Rattle.cbor_edn_model.specs.tree.Trees.{Rule, Tree, OneEntry, OnePiece, NumberTree, FloatTree, NamedTree, EnclosedTree, ListTree, StringTree, StreamTree, LiteralTree, DotsTree, EmbeddedTree, LastPieceTree, PlusTree, ElementTree, PairTree, ChunkTree, EmptyTree, FullTree, LastTree, MoreTree, NothingTree, SequenceTree, StandaloneTree}
+use Rattle.cbor_edn_model.specs.tree.Trees.{Rule, Tree, OneEntry, OnePiece, NumberTree, FloatTree, NamedTree, EnclosedTree, ListTree, StringTree, StreamTree, LiteralTree, EllipsisTree, EmbeddedTree, LastPieceTree, PlusTree, ElementTree, PairTree, ChunkTree, EmptyTree, FullTree, LastTree, MoreTree, NothingTree, SequenceTree, StandaloneTree}
 
 -- how deep `simple(..)` nests round an item that nests so deep
 abbrev pub simple_nesting : Levels → ℕ → ℕ
@@ -16,13 +16,13 @@ abbrev pub nesting_by : Levels → {s : Rule} → Tree s → ℕ
 nesting_by l (NumberTree x i) = 0
 nesting_by l (FloatTree f i) = 0
 nesting_by l (NamedTree b) = 0
-nesting_by l (EnclosedTree (label.Tag i n) w) = suc (nesting_by l w)
-nesting_by l (EnclosedTree label.Simple w) = simple_nesting l (nesting_by l w)
+nesting_by l (EnclosedTree (opener.Tag i n) w) = suc (nesting_by l w)
+nesting_by l (EnclosedTree opener.Simple w) = simple_nesting l (nesting_by l w)
 nesting_by l (ListTree k w) = suc (nesting_by l w)
 nesting_by l (StringTree w) = nesting_by l w
 nesting_by l (StreamTree ms m) = nesting_by l m
 nesting_by l (LiteralTree x i) = 0
-nesting_by l (DotsTree x) = 0
+nesting_by l (EllipsisTree x) = 0
 nesting_by l (EmbeddedTree w i) = suc (nesting_by l w)
 nesting_by l (LastPieceTree p) = nesting_by l p
 nesting_by l (PlusTree p s t w) = max (nesting_by l p) (nesting_by l w)

@@ -1,12 +1,12 @@
 -- The tree that a declared value stands for.
 use Rattle.std.specs.Prelude.{ℕ, map, List, Option, None, Some}
-use Rattle.cbor_edn_parts.specs.declared.space.S.{S}
-use Rattle.cbor_edn_parts.specs.declared.space.Ms.{Ms}
-use Rattle.cbor_edn_parts.specs.declared.space.Msc.{Msc}
-use Rattle.cbor_edn_parts.specs.declared.space.Soc.{Soc}
+use Rattle.cbor_edn_parts.specs.declared.space.Space.{Space}
+use Rattle.cbor_edn_parts.specs.declared.space.MandatorySpace.{MandatorySpace}
+use Rattle.cbor_edn_parts.specs.declared.space.Separator.{Separator}
+use Rattle.cbor_edn_parts.specs.declared.space.ListEnd.{ListEnd}
 use Rattle.cbor_edn_parts.specs.declared.number.Number.{Number}
 use Rattle.cbor_edn_parts.specs.declared.string.Literal.{Literal}
-use Rattle.cbor_edn_parts.specs.declared.string.Dots.{Dots}
+use Rattle.cbor_edn_parts.specs.declared.string.Ellipsis.{Ellipsis}
 use Rattle.cbor_edn_model.specs.tree.TreeLeaves.{Ghosts, texts}
 use Rattle.cbor_edn_model.specs.text.ListHeads.{view_list_head}
 use Rattle.cbor_edn_model.specs.tree.Rows.{entries_onto, pieces_onto}
@@ -16,7 +16,7 @@ use Rattle.cbor_edn_core.specs.declared.tree.ItemOf.{ItemOf}
 use Rattle.cbor_edn_core.specs.declared.tree.ItemListOf.{ItemListOf}
 use Rattle.cbor_edn_core.specs.declared.tree.ItemListOf.TheVariants as item_list
 use Rattle.cbor_edn_core.specs.declared.tree.ItemsOf.{ItemsOf, ItemsOf', Row_of-ItemsOf-row-2, end_of-ItemsOf-row-2, more_of-ItemsOf-row-2}
-use Rattle.cbor_edn_core.specs.declared.tree.KpOf.{KpOf}
+use Rattle.cbor_edn_core.specs.declared.tree.PairOf.{PairOf}
 use Rattle.cbor_edn_core.specs.declared.tree.PairListOf.{PairListOf}
 use Rattle.cbor_edn_core.specs.declared.tree.PairListOf.TheVariants as pair_list
 use Rattle.cbor_edn_core.specs.declared.tree.PairsOf.{PairsOf, PairsOf', Row_of-PairsOf-row-2, end_of-PairsOf-row-2, more_of-PairsOf-row-2}
@@ -29,7 +29,7 @@ use Rattle.cbor_edn_core.specs.declared.tree.StandaloneItemOf.{StandaloneItemOf}
 use Rattle.cbor_edn_core.specs.declared.tree.SequenceOf.{SequenceOf, SequenceOf', Held-SequenceOf-items}
 use Rattle.cbor_edn_core.specs.declared.tree.SequenceOf as sequence
 use Rattle.cbor_edn_model.specs.tree.Items as kind
-use Rattle.cbor_edn_model.specs.tree.Trees.{Tree, OneItem, OnePiece, OneString, OneEntry, Inside, Rest, Seq, Standalone, NumberTree, FloatTree, NamedTree, EnclosedTree, ListTree, StringTree, StreamTree, LiteralTree, DotsTree, EmbeddedTree, LastPieceTree, PlusTree, ElementTree, PairTree, ChunkTree, EmptyTree, FullTree, LastTree, MoreTree, NothingTree, SequenceTree, StandaloneTree}
+use Rattle.cbor_edn_model.specs.tree.Trees.{Tree, OneItem, OnePiece, OneString, OneEntry, Inside, Rest, Seq, Standalone, NumberTree, FloatTree, NamedTree, EnclosedTree, ListTree, StringTree, StreamTree, LiteralTree, EllipsisTree, EmbeddedTree, LastPieceTree, PlusTree, ElementTree, PairTree, ChunkTree, EmptyTree, FullTree, LastTree, MoreTree, NothingTree, SequenceTree, StandaloneTree}
 
 module _ {O M C E N L D : Type 0} (leaves : Ghosts O M C E N L D) where
   abbrev mutual
@@ -37,7 +37,7 @@ module _ {O M C E N L D : Type 0} (leaves : Ghosts O M C E N L D) where
     view_inner (inner.Number i n) = NumberTree (leaves.number n) i
     view_inner (inner.NonFinite i f) = FloatTree f i
     view_inner (inner.Named b) = NamedTree b
-    view_inner (inner.Enclosed' label p before item after) = EnclosedTree label.kind (StandaloneTree (leaves.space before) (view_inner item) (leaves.space after))
+    view_inner (inner.Enclosed' opener p before item after) = EnclosedTree opener.kind (StandaloneTree (leaves.space before) (view_inner item) (leaves.space after))
     view_inner (inner.Array' p list) = ListTree kind.Array (view_list list)
     view_inner (inner.Map' p list) = ListTree kind.Map (view_pair_list list)
     view_inner (inner.Literal i literal) = StringTree (LastPieceTree (LiteralTree (leaves.literal literal) i))
@@ -51,7 +51,7 @@ module _ {O M C E N L D : Type 0} (leaves : Ghosts O M C E N L D) where
 
     pub view_piece : PieceOf O M C E N L D → Tree OnePiece
     view_piece (piece.Literal i literal) = LiteralTree (leaves.literal literal) i
-    view_piece (piece.Dots dots) = DotsTree (leaves.dots dots)
+    view_piece (piece.Ellipsis ellipsis) = EllipsisTree (leaves.ellipsis ellipsis)
     view_piece (piece.Embedded' i p sequence) = EmbeddedTree (view_sequence sequence) i
 
     -- a sequence
@@ -66,7 +66,7 @@ module _ {O M C E N L D : Type 0} (leaves : Ghosts O M C E N L D) where
     view_stream (StreamOf' ms strings) = StreamTree (leaves.mandatory ms) (view_strings strings)
 
     pub view_strings : StringsOf O M C E N L D → Tree (Rest kind.Strings)
-    view_strings (StringsOf' n row m pieces last soc) = view_string_row row (LastTree (ChunkTree (view_pieces pieces (LastPieceTree (view_piece last)))) (leaves.end soc))
+    view_strings (StringsOf' n row m pieces last list_end) = view_string_row row (LastTree (ChunkTree (view_pieces pieces (LastPieceTree (view_piece last)))) (leaves.end list_end))
 
     pub view_string_row : {n : _} → Row_of-StringsOf-row-2 O M C E N L D n → Tree (Rest kind.Strings) → Tree (Rest kind.Strings)
     view_string_row end_of-StringsOf-row-2 m = m
@@ -77,7 +77,7 @@ module _ {O M C E N L D : Type 0} (leaves : Ghosts O M C E N L D) where
     view_list (item_list.Absent i s) = EmptyTree i (leaves.space s)
 
     pub view_items : ItemsOf O M C E N L D → Tree (Rest kind.Elements)
-    view_items (ItemsOf' n row last soc) = view_row row (LastTree (ElementTree (view_inner last)) (leaves.end soc))
+    view_items (ItemsOf' n row last list_end) = view_row row (LastTree (ElementTree (view_inner last)) (leaves.end list_end))
 
     pub view_row : {n : _} → Row_of-ItemsOf-row-2 O M C E N L D n → Tree (Rest kind.Elements) → Tree (Rest kind.Elements)
     view_row end_of-ItemsOf-row-2 m = m
@@ -88,7 +88,7 @@ module _ {O M C E N L D : Type 0} (leaves : Ghosts O M C E N L D) where
     view_pair_list (pair_list.Absent i s) = EmptyTree i (leaves.space s)
 
     pub view_pairs : PairsOf O M C E N L D → Tree (Rest kind.Pairs)
-    view_pairs (PairsOf' n row key before after value soc) = view_pair_row row (LastTree (PairTree (view_inner key) (leaves.space before) (leaves.space after) (view_inner value)) (leaves.end soc))
+    view_pairs (PairsOf' n row key before after value list_end) = view_pair_row row (LastTree (PairTree (view_inner key) (leaves.space before) (leaves.space after) (view_inner value)) (leaves.end list_end))
 
     pub view_pair_row : {n : _} → Row_of-PairsOf-row-2 O M C E N L D n → Tree (Rest kind.Pairs) → Tree (Rest kind.Pairs)
     view_pair_row end_of-PairsOf-row-2 m = m
@@ -97,7 +97,7 @@ module _ {O M C E N L D : Type 0} (leaves : Ghosts O M C E N L D) where
   abbrev pub view_item : ItemOf O M C E N L D → Tree OneItem
   view_item x = view_inner x.inner
 
-  abbrev pub view_pair : KpOf O M C E N L D → Tree (OneEntry kind.Pairs)
+  abbrev pub view_pair : PairOf O M C E N L D → Tree (OneEntry kind.Pairs)
   view_pair x = PairTree (view_item x.key) (leaves.space x.before_colon) (leaves.space x.after_colon) (view_item x.value)
 
   -- an item and the separator behind it
@@ -105,7 +105,7 @@ module _ {O M C E N L D : Type 0} (leaves : Ghosts O M C E N L D) where
   seen p = (ElementTree (view_item p.0), leaves.separator p.1)
 
   -- a pair and the separator behind it
-  abbrev pub seen_pair : KpOf O M C E N L D × C → Tree (OneEntry kind.Pairs) × List ℕ
+  abbrev pub seen_pair : PairOf O M C E N L D × C → Tree (OneEntry kind.Pairs) × List ℕ
   seen_pair p = (view_pair p.0, leaves.separator p.1)
 
   -- items, each with the separator behind it, in front of a rest
@@ -113,7 +113,7 @@ module _ {O M C E N L D : Type 0} (leaves : Ghosts O M C E N L D) where
   row_onto ps m = entries_onto (map seen ps) m
 
   -- the same of pairs
-  abbrev pub pair_row_onto : List (KpOf O M C E N L D × C) → Tree (Rest kind.Pairs) → Tree (Rest kind.Pairs)
+  abbrev pub pair_row_onto : List (PairOf O M C E N L D × C) → Tree (Rest kind.Pairs) → Tree (Rest kind.Pairs)
   pair_row_onto ps m = entries_onto (map seen_pair ps) m
 
   -- pieces, each with the spaces round the plus sign behind it, in front of others
@@ -143,16 +143,16 @@ module _ {O M C E N L D : Type 0} (leaves : Ghosts O M C E N L D) where
 
 -- the values of a text
 abbrev pub Item : Type 0
-Item = ItemOf S Ms Msc Soc Number Literal Dots
+Item = ItemOf Space MandatorySpace Separator ListEnd Number Literal Ellipsis
 
-abbrev pub Kp : Type 0
-Kp = KpOf S Ms Msc Soc Number Literal Dots
+abbrev pub Pair : Type 0
+Pair = PairOf Space MandatorySpace Separator ListEnd Number Literal Ellipsis
 
 abbrev pub StandaloneItem : Type 0
-StandaloneItem = StandaloneItemOf S Ms Msc Soc Number Literal Dots
+StandaloneItem = StandaloneItemOf Space MandatorySpace Separator ListEnd Number Literal Ellipsis
 
 abbrev pub Sequence : Type 0
-Sequence = SequenceOf S Ms Msc Soc Number Literal Dots
+Sequence = SequenceOf Space MandatorySpace Separator ListEnd Number Literal Ellipsis
 
 -- the trees of the values of a text
 abbrev pub item_tree : Item → Tree OneItem
@@ -165,9 +165,9 @@ abbrev pub sequence_tree : Sequence → Tree Seq
 sequence_tree = view_sequence texts
 
 -- an item of a row
-abbrev pub row_item : Item × Msc → Tree OneItem
+abbrev pub row_item : Item × Separator → Tree OneItem
 row_item p = item_tree p.0
 
 -- the key of a row's pair
-abbrev pub row_key : Kp × Msc → Tree OneItem
+abbrev pub row_key : Pair × Separator → Tree OneItem
 row_key p = item_tree p.0.key

@@ -115,7 +115,7 @@ fn piece_literal<'p, 'a>(piece: &'p Piece<'a>) -> Option<&'p Literal<'a>>
 {
     match piece {
         Piece::Literal(_, literal) => Some(literal),
-        Piece::Dots(_) | Piece::Embedded(..) => None,
+        Piece::Ellipsis(_) | Piece::Embedded(..) => None,
     }
 }
 
@@ -136,6 +136,6 @@ fn prefix_and_text_of(
 {
     match piece {
         Piece::Literal(_, literal) => literal.application_parts(alloc),
-        Piece::Dots(_) | Piece::Embedded(..) => Ok(None),
+        Piece::Ellipsis(_) | Piece::Embedded(..) => Ok(None),
     }
 }

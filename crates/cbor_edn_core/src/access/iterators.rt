@@ -1,20 +1,20 @@
 //! Iterators over the parts of items.
-use crate::tree::{Item, Items, Kp, Pairs};
-use cbor_edn_parts::space::Msc;
+use crate::tree::{Item, Items, Pair, Pairs};
+use cbor_edn_parts::space::Separator;
 use std::slice::Iter;
 
 /// The items of an array that are left, in text order, as [`Item::get_array_items`] answers them.
 #[derive(Drop)]
 pub struct ArrayItems<'t, 'a> {
-    row: Option<Iter<'t, (Item<'a>, Msc<'a>)>>,
+    row: Option<Iter<'t, (Item<'a>, Separator<'a>)>>,
     last: Option<&'t Item<'a>>,
 }
 
 /// The keys of a map that are left, with their values, in text order, as [`Item::get_map_items`] answers them.
 #[derive(Drop)]
 pub struct MapItems<'t, 'a> {
-    row: Option<Iter<'t, (Kp<'a>, Msc<'a>)>>,
-    last: Option<&'t Kp<'a>>,
+    row: Option<Iter<'t, (Pair<'a>, Separator<'a>)>>,
+    last: Option<&'t Pair<'a>>,
 }
 
 impl<'t, 'a> ArrayItems<'t, 'a> {

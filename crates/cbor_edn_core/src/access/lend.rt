@@ -9,7 +9,7 @@ ghost use Rattle.cbor_edn_core.specs.access.Lent.{LendsTagged, LendsTaggedInner}
 ghost use Rattle.cbor_edn_core.specs.tree.View.{view_item, view_inner, view_standalone};
 
 use crate::access::TypeMismatch;
-use crate::tree::{InnerItemOf, ItemOf, LabelKind, StandaloneItemOf};
+use crate::tree::{InnerItemOf, ItemOf, OpenerKind, StandaloneItemOf};
 
 impl<O: Drop, M: Drop, C: Drop, E: Drop, N: Drop, L: Drop, D: Drop> ItemOf<O, M, C, E, N, L, D> {
     /// What stands between the parentheses of a tag, the spaces there included, lent to be changed. Fails with `TaggedItem` where the
@@ -52,9 +52,9 @@ impl<O: Drop, M: Drop, C: Drop, E: Drop, N: Drop, L: Drop, D: Drop> InnerItemOf<
         ensures { (leaves : Ghosts O M C E N L D) → result ≡ is_some (tag_content (view_inner leaves self.now)) }
     {
         match self {
-            InnerItemOf::Enclosed(label, _) => match label.kind {
-                LabelKind::Tag(..) => true,
-                LabelKind::Simple => false,
+            InnerItemOf::Enclosed(opener, _) => match opener.kind {
+                OpenerKind::Tag(..) => true,
+                OpenerKind::Simple => false,
             },
             _ => false,
         }

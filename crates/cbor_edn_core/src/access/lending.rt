@@ -1,12 +1,12 @@
 //! Iterators that lend the parts of items.
-use crate::tree::{Item, Items, Kp, Pairs, Sequence};
-use cbor_edn_parts::space::Msc;
+use crate::tree::{Item, Items, Pair, Pairs, Sequence};
+use cbor_edn_parts::space::Separator;
 use std::slice::IterMut;
 
 /// The items of an array that are left to lend, in text order, as [`Item::get_array_items_mut`] answers them.
 #[derive(Drop)]
 pub struct ArrayItemsMut<'t, 'a> {
-    row: Option<IterMut<'t, (Item<'a>, Msc<'a>)>>,
+    row: Option<IterMut<'t, (Item<'a>, Separator<'a>)>>,
     last: Option<&'t mut Item<'a>>,
 }
 
@@ -58,8 +58,8 @@ impl<'t, 'a> Iterator for ArrayItemsMut<'t, 'a> {
 /// The keys of a map that are left to lend, with their values, in text order, as [`Item::get_map_items_mut`] answers them.
 #[derive(Drop)]
 pub struct MapItemsMut<'t, 'a> {
-    row: Option<IterMut<'t, (Kp<'a>, Msc<'a>)>>,
-    last: Option<&'t mut Kp<'a>>,
+    row: Option<IterMut<'t, (Pair<'a>, Separator<'a>)>>,
+    last: Option<&'t mut Pair<'a>>,
 }
 
 impl<'t, 'a> MapItemsMut<'t, 'a> {

@@ -10,7 +10,7 @@ ghost use Rattle.std.specs.Borrow.{sem};
 ghost use Rattle.cbor_edn_core.specs.access.Lent.{LendsInner, LendsOfItems, LendsOfPairs, LendsOfList, LendsOfPairList, LendsOfSequence, LendsOfPiece, LendsOfString, LendsOfStrings, LendsOfStream, LendsOfStandalone, LendsOfInner, LendsBelow, LendsAt, LendsAtStandalone, LendsAtSequence};
 
 use crate::tree::{
-    CborStringOf, InnerItemOf, ItemListOf, ItemOf, ItemsOf, LabelKind, PairListOf, PairsOf,
+    CborStringOf, InnerItemOf, ItemListOf, ItemOf, ItemsOf, OpenerKind, PairListOf, PairsOf,
     PieceOf, SequenceOf, StandaloneItemOf, StreamOf, StringsOf,
 };
 
@@ -123,7 +123,7 @@ impl<O: Drop, M: Drop, C: Drop, E: Drop, N: Drop, L: Drop, D: Drop> InnerItemOf<
         ensures value { (leaves : Ghosts O M C E N L D) → option_map (λ w. view_item leaves w.now) result ≡ at_path (drop at path.now) (view_inner leaves self.old) }
     {
         if self.leads(path, at) {
-            self.reach(path, at)
+            self.descend(path, at)
         } else {
             None
         }
@@ -145,7 +145,7 @@ impl<O: Drop, M: Drop, C: Drop, E: Drop, N: Drop, L: Drop, D: Drop> InnerItemOf<
     }
 
     // The item where it leads, once it is known that it leads to one.
-    fn reach(&mut self, path: &[usize], at: usize) -> Option<&mut ItemOf<O, M, C, E, N, L, D>>
+    fn descend(&mut self, path: &[usize], at: usize) -> Option<&mut ItemOf<O, M, C, E, N, L, D>>
         requires { ((leaves : Ghosts O M C E N L D) → IsSome (at_path (drop at path.now) (view_inner leaves self.old))) × (at < length path.now) }
         ensures* lent { sem 𝓛 (LendsBelow O.row M.row C.row E.row N.row L.row D.row self.entry (drop at path.now) result) }
         ensures value { (leaves : Ghosts O M C E N L D) → option_map (λ w. view_item leaves w.now) result ≡ at_path (drop at path.now) (view_inner leaves self.old) }
@@ -156,7 +156,7 @@ impl<O: Drop, M: Drop, C: Drop, E: Drop, N: Drop, L: Drop, D: Drop> InnerItemOf<
             return Some(part);
         }
         let inner = part.inner_mut();
-        inner.reach(path, at + 1)
+        inner.descend(path, at + 1)
     }
 
     fn child_at(&mut self, path: &[usize], at: usize) -> Option<&mut ItemOf<O, M, C, E, N, L, D>>
@@ -192,9 +192,9 @@ impl<O: Drop, M: Drop, C: Drop, E: Drop, N: Drop, L: Drop, D: Drop> InnerItemOf<
         ensures { (leaves : Ghosts O M C E N L D) → result ≡ is_simple_item (view_inner leaves self.now) }
     {
         match self {
-            InnerItemOf::Enclosed(label, _) => match label.kind {
-                LabelKind::Tag(..) => false,
-                LabelKind::Simple => true,
+            InnerItemOf::Enclosed(opener, _) => match opener.kind {
+                OpenerKind::Tag(..) => false,
+                OpenerKind::Simple => true,
             },
             _ => false,
         }
@@ -315,7 +315,7 @@ impl<O: Drop, M: Drop, C: Drop, E: Drop, N: Drop, L: Drop, D: Drop> PieceOf<O, M
         ensures value { (leaves : Ghosts O M C E N L D) → option_map (λ w. view_item leaves w.now) result ≡ slice_get (items_in (view_piece leaves self.old)) i }
     {
         match self {
-            PieceOf::Literal(..) | PieceOf::Dots(_) => None,
+            PieceOf::Literal(..) | PieceOf::Ellipsis(_) => None,
             PieceOf::Embedded(_, sequence) => sequence.item_mut(i),
         }
     }
@@ -324,7 +324,7 @@ impl<O: Drop, M: Drop, C: Drop, E: Drop, N: Drop, L: Drop, D: Drop> PieceOf<O, M
         ensures { (leaves : Ghosts O M C E N L D) → result ≡ past_of (length (items_in (view_piece leaves self.now))) i }
     {
         match self {
-            PieceOf::Literal(..) | PieceOf::Dots(_) => Some(i),
+            PieceOf::Literal(..) | PieceOf::Ellipsis(_) => Some(i),
             PieceOf::Embedded(_, sequence) => sequence.past(i),
         }
     }

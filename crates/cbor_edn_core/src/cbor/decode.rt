@@ -10,7 +10,7 @@ use crate::tree::{Item, NESTING_LIMIT, Sequence, StandaloneItem};
 pub use cbor_edn_model::cbor::decode::CborError;
 use cbor_edn_model::cbor::decode::head::Stop;
 use cbor_edn_parts::error::Fault;
-use cbor_edn_parts::space::S;
+use cbor_edn_parts::space::Space;
 use finish::finish_items;
 pub use reader::decode_item;
 use reader::decode_items_until;
@@ -159,7 +159,7 @@ impl<'a> Sequence<'a> {
     {
         let (found, _) = decode_items_until(alloc, bytes, limit, Stop::EndOfData)?;
         Ok(Sequence {
-            before: S::empty(),
+            before: Space::empty(),
             items: finish_items(found),
         })
     }

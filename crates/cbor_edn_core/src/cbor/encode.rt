@@ -13,8 +13,8 @@ ghost use Rattle.cbor_edn_model.specs.internal.Encoding as calls;
 ghost use Rattle.cbor_edn_model.specs.internal.Encoding.{Encodes, Finds, Gathers, entry_encoding, string_encodings, row_items, list_head};
 
 use crate::tree::{
-    CborString, InnerItem, Item, ItemList, Items, Kp, LabelKind, PairList, Pairs, Piece, Sequence,
-    StandaloneItem, Strings,
+    CborString, InnerItem, Item, ItemList, Items, OpenerKind, Pair, PairList, Pairs, Piece,
+    Sequence, StandaloneItem, Strings,
 };
 use cbor_edn_model::cbor::encode::{encode_empty, encode_literal, encode_number, simple_of};
 use cbor_edn_model::cbor::heads::{
@@ -25,7 +25,7 @@ use cbor_edn_model::text::list_head::indicator_of_head;
 use cbor_edn_parts::error::{Fault, InconsistentEdn};
 use cbor_edn_parts::indicator::Indicator;
 use cbor_edn_parts::number::Number;
-use cbor_edn_parts::space::{Msc, S};
+use cbor_edn_parts::space::{Separator, Space};
 use cbor_edn_parts::string::{Literal, StringKind};
 use std::alloc::Global;
 
@@ -90,7 +90,7 @@ fn encode_item(out: &mut Vec<u8>, item: &Item<'_>) -> Result<(), Fault<Inconsist
         InnerItem::Number(indicator, number) => encode_number(out, number, *indicator),
         InnerItem::NonFinite(indicator, float) => encode_float(out, *float, *indicator),
         InnerItem::Named(name) => Ok(encode_simple(out, named_number(*name))?),
-        InnerItem::Enclosed(label, content) => encode_enclosed(out, label.kind, content),
+        InnerItem::Enclosed(opener, content) => encode_enclosed(out, opener.kind, content),
         InnerItem::Array(list) => encode_array(out, list),
         InnerItem::Map(list) => encode_map(out, list),
         InnerItem::Literal(indicator, literal) => encode_lone_literal(out, *indicator, literal),
@@ -103,17 +103,17 @@ fn encode_item(out: &mut Vec<u8>, item: &Item<'_>) -> Result<(), Fault<Inconsist
 #[tactic(auto, unfolding(cbor_edn_model::specs::tree::Trees::items))]
 fn encode_enclosed(
     out: &mut Vec<u8>,
-    label: LabelKind,
+    opener: OpenerKind,
     content: &StandaloneItem<'_>,
 ) -> Result<(), Fault<InconsistentEdn>>
-    ensures { Encodes encoding (means (trees.labelled label (trees.items (standalone_tree content.now)))) out.old.items out.new.items result }
+    ensures { Encodes encoding (means (trees.labelled opener (trees.items (standalone_tree content.now)))) out.old.items out.new.items result }
 {
-    match label {
-        LabelKind::Tag(indicator, number) => {
+    match opener {
+        OpenerKind::Tag(indicator, number) => {
             encode_indicated_head(out, 6, indicator, number)?;
             encode_item(out, &content.item)
         }
-        LabelKind::Simple => encode_numeric(out, &content.item),
+        OpenerKind::Simple => encode_numeric(out, &content.item),
     }
 }
 
@@ -158,7 +158,10 @@ fn encode_items(out: &mut Vec<u8>, items: &Items<'_>) -> Result<(), Fault<Incons
 }
 
 #[cycle(encode)]
-fn encode_row(out: &mut Vec<u8>, row: &[(Item<'_>, Msc<'_>)]) -> Result<(), Fault<InconsistentEdn>>
+fn encode_row(
+    out: &mut Vec<u8>,
+    row: &[(Item<'_>, Separator<'_>)],
+) -> Result<(), Fault<InconsistentEdn>>
     ensures { Encodes encodings (means (row_items (map (seen texts) row.now))) out.old.items out.new.items result }
 {
     for (item, _) in row {
@@ -195,7 +198,7 @@ fn encode_pairs(out: &mut Vec<u8>, pairs: &Pairs<'_>) -> Result<(), Fault<Incons
 #[cycle(encode)]
 fn encode_pair_row(
     out: &mut Vec<u8>,
-    row: &[(Kp<'_>, Msc<'_>)],
+    row: &[(Pair<'_>, Separator<'_>)],
 ) -> Result<(), Fault<InconsistentEdn>>
     ensures { Encodes pair_encodings (means (row_items (map (seen_pair texts) row.now))) out.old.items out.new.items result }
 {
@@ -206,7 +209,7 @@ fn encode_pair_row(
 }
 
 #[cycle(encode)]
-fn encode_pair(out: &mut Vec<u8>, pair: &Kp<'_>) -> Result<(), Fault<InconsistentEdn>>
+fn encode_pair(out: &mut Vec<u8>, pair: &Pair<'_>) -> Result<(), Fault<InconsistentEdn>>
     ensures { Encodes (entry_encoding nodes.Pairs) (means (trees.items (view_pair texts pair.now))) out.old.items out.new.items result }
 {
     encode_item(out, &pair.key)?;
@@ -284,11 +287,11 @@ fn piece_indicator(piece: &Piece<'_>) -> Option<Indicator>
 {
     match piece {
         Piece::Literal(indicator, _) | Piece::Embedded(indicator, _) => *indicator,
-        Piece::Dots(_) => None,
+        Piece::Ellipsis(_) => None,
     }
 }
 
-fn have_no_indicators(row: &[(Piece<'_>, S<'_>, S<'_>)]) -> bool
+fn have_no_indicators(row: &[(Piece<'_>, Space<'_>, Space<'_>)]) -> bool
     ensures { result ≡ calls.no_indicators (map (seen_piece texts) row.now) }
 {
     for (piece, _, _) in row {
@@ -340,7 +343,7 @@ pub(crate) fn encode_piece(
 {
     match piece {
         Piece::Literal(_, literal) => encode_literal(out, literal),
-        Piece::Dots(_) => Err(Fault::Told(InconsistentEdn::UnsupportedLiteral)),
+        Piece::Ellipsis(_) => Err(Fault::Told(InconsistentEdn::UnsupportedLiteral)),
         Piece::Embedded(_, sequence) => {
             encode_sequence(out, sequence)?;
             Ok(StringKind::Bytes)
@@ -376,7 +379,7 @@ fn has_unsupported(string: &CborString<'_>) -> bool {
 fn is_unsupported(piece: &Piece<'_>) -> bool {
     match piece {
         Piece::Literal(_, literal) => !literal.is_supported(),
-        Piece::Dots(_) => true,
+        Piece::Ellipsis(_) => true,
         Piece::Embedded(..) => false,
     }
 }
@@ -451,7 +454,7 @@ fn encode_stream_chunks(
 #[cycle(encode)]
 fn encode_stream_chunk_row(
     out: &mut Vec<u8>,
-    row: &[(CborString<'_>, Msc<'_>)],
+    row: &[(CborString<'_>, Separator<'_>)],
 ) -> Result<(), Fault<InconsistentEdn>>
     ensures { Encodes string_encodings (means (row_items (map (seen_string texts) row.now))) out.old.items out.new.items result }
 {
@@ -482,7 +485,7 @@ fn first_kind(strings: &Strings<'_>) -> StringKind
     }
 }
 
-fn are_of_kind(kind: StringKind, row: &[(CborString<'_>, Msc<'_>)]) -> bool
+fn are_of_kind(kind: StringKind, row: &[(CborString<'_>, Separator<'_>)]) -> bool
     ensures { result ≡ calls.kinds_are kind (row_items (map (seen_string texts) row.now)) }
 {
     for (string, _) in row {
@@ -509,6 +512,6 @@ fn piece_kind(piece: &Piece<'_>) -> StringKind
 {
     match piece {
         Piece::Literal(_, literal) => literal.kind(),
-        Piece::Dots(_) | Piece::Embedded(..) => StringKind::Bytes,
+        Piece::Ellipsis(_) | Piece::Embedded(..) => StringKind::Bytes,
     }
 }

@@ -8,14 +8,14 @@ ghost use Rattle.cbor_edn_model.specs.tree.Trees.{items};
 ghost use Rattle.cbor_edn_core.specs.tree.View.{view_list, view_items, seen, view_pair_list, view_pairs, view_pair, seen_pair, view_string, view_piece, seen_piece, view_stream, view_strings, seen_string, item_tree, standalone_tree, sequence_tree};
 ghost use Rattle.cbor_edn_model.specs.tree.TreeLeaves.{texts};
 ghost use Rattle.cbor_edn_model.specs.internal.LayoutRows.{entry_without_indicators, piece_without_indicators};
-ghost use Rattle.cbor_edn_model.specs.internal.IndicatorRemoval.{FewerInside, FewerEntries, headless, label_gone};
+ghost use Rattle.cbor_edn_model.specs.internal.IndicatorRemoval.{FewerInside, FewerEntries, headless, opener_gone};
 
 use crate::tree::{
-    CborString, InnerItem, Item, ItemList, Items, Kp, PairList, Pairs, Piece, Sequence,
+    CborString, InnerItem, Item, ItemList, Items, Pair, PairList, Pairs, Piece, Sequence,
     StandaloneItem, Stream, Strings,
 };
 use cbor_edn_model::layout::bare::moved_space;
-use cbor_edn_parts::space::{Msc, S};
+use cbor_edn_parts::space::{Separator, Space};
 use std::alloc::{AllocError, Global};
 
 impl<'a> Item<'a> {
@@ -43,11 +43,11 @@ impl<'a> Sequence<'a> {
 }
 
 /// Takes the indicator of a tag away.
-fn remove_label_indicators(item: &mut Item<'_>)
-    ensures { item_tree item.new ≡ label_gone (item_tree item.old) }
+fn remove_opener_indicators(item: &mut Item<'_>)
+    ensures { item_tree item.new ≡ opener_gone (item_tree item.old) }
 {
-    if let InnerItem::Enclosed(label, _) = &mut item.inner {
-        *label = label.without_indicator();
+    if let InnerItem::Enclosed(opener, _) = &mut item.inner {
+        *opener = opener.without_indicator();
     }
 }
 
@@ -58,7 +58,7 @@ fn remove_piece_indicators(piece: &mut Piece<'_>)
 {
     match piece {
         Piece::Literal(indicator, _) => *indicator = None,
-        Piece::Dots(_) => {}
+        Piece::Ellipsis(_) => {}
         Piece::Embedded(indicator, _) => *indicator = None,
     }
 }
@@ -70,7 +70,7 @@ fn remove_string_indicators(string: &mut CborString<'_>)
     remove_piece_indicators(&mut string.last);
 }
 
-fn remove_piece_row_indicators<'a>(row: &mut Vec<(Piece<'a>, S<'a>, S<'a>)>)
+fn remove_piece_row_indicators<'a>(row: &mut Vec<(Piece<'a>, Space<'a>, Space<'a>)>)
     ensures { map (seen_piece texts) row.new.items ≡ map piece_without_indicators (map (seen_piece texts) row.old.items) }
 {
     for (piece, _, _) in row.iter_mut() {
@@ -92,7 +92,7 @@ fn remove_strings_indicators(strings: &mut Strings<'_>)
     remove_string_indicators(&mut strings.last);
 }
 
-fn remove_string_row_indicators<'a>(row: &mut Vec<(CborString<'a>, Msc<'a>)>)
+fn remove_string_row_indicators<'a>(row: &mut Vec<(CborString<'a>, Separator<'a>)>)
     ensures { map (seen_string texts) row.new.items ≡ map entry_without_indicators (map (seen_string texts) row.old.items) }
 {
     for (string, _) in row.iter_mut() {
@@ -106,13 +106,13 @@ fn remove_head_indicators<'a>(list: &mut ItemList<'a>, alloc: Global) -> Result<
     ensures out_of_memory { IfErr result (λ _. view_list texts list.new ≡ view_list texts list.old) }
 {
     let moved = match &*list {
-        ItemList::Present { head, s, .. } => moved_space(head, s, alloc)?,
+        ItemList::Present { head, space, .. } => moved_space(head, space, alloc)?,
         ItemList::Absent { .. } => None,
     };
     match list {
-        ItemList::Present { s, .. } => {
-            if let Some(space) = moved {
-                *s = space;
+        ItemList::Present { space, .. } => {
+            if let Some(moved) = moved {
+                *space = moved;
             }
         }
         ItemList::Absent { indicator, .. } => *indicator = None,
@@ -129,13 +129,13 @@ fn remove_pair_head_indicators<'a>(list: &mut PairList<'a>, alloc: Global) -> Re
     ensures out_of_memory { IfErr result (λ _. view_pair_list texts list.new ≡ view_pair_list texts list.old) }
 {
     let moved = match &*list {
-        PairList::Present { head, s, .. } => moved_space(head, s, alloc)?,
+        PairList::Present { head, space, .. } => moved_space(head, space, alloc)?,
         PairList::Absent { .. } => None,
     };
     match list {
-        PairList::Present { s, .. } => {
-            if let Some(space) = moved {
-                *s = space;
+        PairList::Present { space, .. } => {
+            if let Some(moved) = moved {
+                *space = moved;
             }
         }
         PairList::Absent { indicator, .. } => *indicator = None,
@@ -164,7 +164,7 @@ fn remove_item_indicators(item: &mut Item<'_>, alloc: Global) -> Result<(), Allo
         InnerItem::Named(_) => Ok(()),
         InnerItem::Enclosed(_, content) => {
             let result = remove_standalone_indicators(content, alloc);
-            remove_label_indicators(item);
+            remove_opener_indicators(item);
             result
         }
         InnerItem::Array(list) => remove_list_indicators(list, alloc),
@@ -220,7 +220,7 @@ fn remove_items_indicators(items: &mut Items<'_>, alloc: Global) -> Result<(), A
 
 #[cycle(remove_indicators)]
 fn remove_row_indicators<'a>(
-    row: &mut Vec<(Item<'a>, Msc<'a>)>,
+    row: &mut Vec<(Item<'a>, Separator<'a>)>,
     alloc: Global,
 ) -> Result<(), AllocError>
     ensures without_indicators { OnOk result (map (seen texts) row.new.items ≡ map entry_without_indicators (map (seen texts) row.old.items)) }
@@ -256,7 +256,7 @@ fn remove_pairs_indicators(pairs: &mut Pairs<'_>, alloc: Global) -> Result<(), A
 
 #[cycle(remove_indicators)]
 fn remove_pair_row_indicators<'a>(
-    row: &mut Vec<(Kp<'a>, Msc<'a>)>,
+    row: &mut Vec<(Pair<'a>, Separator<'a>)>,
     alloc: Global,
 ) -> Result<(), AllocError>
     ensures without_indicators { OnOk result (map (seen_pair texts) row.new.items ≡ map entry_without_indicators (map (seen_pair texts) row.old.items)) }
@@ -270,7 +270,7 @@ fn remove_pair_row_indicators<'a>(
 
 #[cycle(remove_indicators)]
 #[tactic(auto, using(crate::proofs::lemmas::layout::ViewsWithoutIndicators::pair_fewer, cbor_edn_model::proofs::lemmas::layout::FewestIndicators::same_fewer), unfolding(cbor_edn_model::specs::layout::Bare::without_indicators))]
-fn remove_pair_indicators(pair: &mut Kp<'_>, alloc: Global) -> Result<(), AllocError>
+fn remove_pair_indicators(pair: &mut Pair<'_>, alloc: Global) -> Result<(), AllocError>
     ensures without_indicators { OnOk result (view_pair texts pair.new ≡ without_indicators (view_pair texts pair.old)) }
     ensures fewer { Fewer (items (view_pair texts pair.old)) (items (view_pair texts pair.new)) }
 {

@@ -12,11 +12,11 @@ ghost use Rattle.cbor_edn_model.specs.internal.LayoutRows.{laid_entry, entry_ite
 use super::room::layout_of_parts;
 use super::strings::{lay_boxed_string, lay_stream};
 use crate::tree::{
-    InnerItem, Item, ItemList, Items, Kp, PairList, Pairs, Sequence, StandaloneItem,
+    InnerItem, Item, ItemList, Items, Pair, PairList, Pairs, Sequence, StandaloneItem,
 };
 use cbor_edn_model::text::list_head::lay_head;
 use cbor_edn_parts::layout::{Layout, Slot, lay_end, lay_separator, lay_space};
-use cbor_edn_parts::space::Msc;
+use cbor_edn_parts::space::Separator;
 use std::alloc::{AllocError, Global};
 
 #[cycle(lay)]
@@ -84,8 +84,8 @@ fn lay_opening<'a>(list: &mut ItemList<'a>, alloc: Global, layout: Layout) -> Re
         lay_head(head, alloc, layout)?;
     }
     match list {
-        ItemList::Present { s, .. } => lay_space(s, alloc, layout, Slot::First),
-        ItemList::Absent { s, .. } => lay_space(s, alloc, layout, Slot::Elsewhere),
+        ItemList::Present { space, .. } => lay_space(space, alloc, layout, Slot::First),
+        ItemList::Absent { space, .. } => lay_space(space, alloc, layout, Slot::Elsewhere),
     }
 }
 
@@ -104,8 +104,8 @@ fn lay_pair_opening<'a>(
         lay_head(head, alloc, layout)?;
     }
     match list {
-        PairList::Present { s, .. } => lay_space(s, alloc, layout, Slot::First),
-        PairList::Absent { s, .. } => lay_space(s, alloc, layout, Slot::Elsewhere),
+        PairList::Present { space, .. } => lay_space(space, alloc, layout, Slot::First),
+        PairList::Absent { space, .. } => lay_space(space, alloc, layout, Slot::Elsewhere),
     }
 }
 
@@ -131,12 +131,12 @@ fn lay_items(items: &mut Items<'_>, alloc: Global, layout: Layout) -> Result<(),
 {
     lay_row(&mut items.row, alloc, layout)?;
     lay_item(&mut items.last, alloc, layout)?;
-    lay_end(&mut items.soc, alloc, layout)
+    lay_end(&mut items.end, alloc, layout)
 }
 
 #[cycle(lay)]
 fn lay_row<'a>(
-    row: &mut Vec<(Item<'a>, Msc<'a>)>,
+    row: &mut Vec<(Item<'a>, Separator<'a>)>,
     alloc: Global,
     layout: Layout,
 ) -> Result<(), AllocError>
@@ -173,12 +173,12 @@ fn lay_pairs(pairs: &mut Pairs<'_>, alloc: Global, layout: Layout) -> Result<(),
 {
     lay_pair_row(&mut pairs.row, alloc, layout)?;
     lay_pair(&mut pairs.last, alloc, layout)?;
-    lay_end(&mut pairs.soc, alloc, layout)
+    lay_end(&mut pairs.end, alloc, layout)
 }
 
 #[cycle(lay)]
 fn lay_pair_row<'a>(
-    row: &mut Vec<(Kp<'a>, Msc<'a>)>,
+    row: &mut Vec<(Pair<'a>, Separator<'a>)>,
     alloc: Global,
     layout: Layout,
 ) -> Result<(), AllocError>
@@ -195,7 +195,7 @@ fn lay_pair_row<'a>(
 
 #[cycle(lay)]
 #[tactic(auto, unfolding(cbor_edn_model::specs::layout::Layout::laid, cbor_edn_model::specs::tree::Trees::items))]
-fn lay_pair(pair: &mut Kp<'_>, alloc: Global, layout: Layout) -> Result<(), AllocError>
+fn lay_pair(pair: &mut Pair<'_>, alloc: Global, layout: Layout) -> Result<(), AllocError>
     ensures laid { OnOk result (view_pair texts pair.new ≡ laid layout (view_pair texts pair.old)) }
     ensures items { items (view_pair texts pair.new) ≡ items (view_pair texts pair.old) }
     ensures least { layout ≡ least → IsOk result }

@@ -16,7 +16,7 @@ use crate::tree::{Item, Sequence, StandaloneItem};
 use cbor_edn_parts::buffer::TextBuffer;
 use cbor_edn_parts::layout::Layout;
 use cbor_edn_parts::policy::DelimiterPolicy;
-use cbor_edn_parts::space::S;
+use cbor_edn_parts::space::Space;
 use std::alloc::{AllocError, Global};
 
 impl<'a> Item<'a> {
@@ -115,7 +115,7 @@ impl<'a> StandaloneItem<'a> {
         ensures commented { OnOk result (standalone_tree self.new ≡ commented comment.now (standalone_tree self.old)) }
         ensures out_of_memory { IfErr result (λ _. standalone_tree self.new ≡ standalone_tree self.old) }
     {
-        self.before = S::note(alloc, comment)?;
+        self.before = Space::note(alloc, comment)?;
         Ok(())
     }
 }

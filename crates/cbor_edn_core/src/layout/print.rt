@@ -12,17 +12,17 @@ ghost use Rattle.cbor_edn_core.specs.tree.View.{view_list, view_items, seen, vie
 
 use super::room::layout_of_parts;
 use crate::tree::{
-    CborString, Indicator, InnerItem, Item, ItemList, Items, Kp, PairList, Pairs, Piece, Sequence,
-    StandaloneItem, Stream, Strings,
+    CborString, Indicator, InnerItem, Item, ItemList, Items, Pair, PairList, Pairs, Piece,
+    Sequence, StandaloneItem, Stream, Strings,
 };
 use cbor_edn_model::text::list_head::print_laid_head;
-use cbor_edn_model::text::write::{print_indicator, print_label};
+use cbor_edn_model::text::write::{print_indicator, print_opener};
 use cbor_edn_parts::buffer::TextBuffer;
 use cbor_edn_parts::layout::{
     Layout, Slot, print_end, print_mandatory, print_separator, print_space,
 };
 use cbor_edn_parts::number::Number;
-use cbor_edn_parts::space::{Msc, S};
+use cbor_edn_parts::space::{Separator, Space};
 use cbor_edn_parts::string::Literal;
 use std::alloc::AllocError;
 
@@ -96,9 +96,9 @@ pub fn print_item(out: &mut TextBuffer, item: &Item<'_>, layout: &Layout) -> Res
             print_indicator(out, *indicator)
         }
         InnerItem::Named(name) => out.push_str(name.as_str()),
-        InnerItem::Enclosed(label, content) => {
+        InnerItem::Enclosed(opener, content) => {
             let parts = layout_of_parts(*layout, item);
-            print_label(out, label.kind)?;
+            print_opener(out, opener.kind)?;
             out.push_str("(")?;
             print_standalone(out, content, &parts)?;
             out.push_str(")")
@@ -143,7 +143,7 @@ fn print_string(
 #[cycle(print)]
 fn print_piece_row(
     out: &mut TextBuffer,
-    row: &[(Piece<'_>, S<'_>, S<'_>)],
+    row: &[(Piece<'_>, Space<'_>, Space<'_>)],
     layout: &Layout,
 ) -> Result<(), AllocError>
     ensures { OnOk result (buffer_bytes out.new ≡ buffer_bytes out.old ++ pieces_text (map (laid_piece layout.now) (map (seen_piece texts) row.now))) }
@@ -159,13 +159,13 @@ fn print_piece_row(
 
 /// Writes a piece. What it embeds keeps its spaces.
 #[cycle(print)]
-#[tactic(auto, using(cbor_edn_model::proofs::lemmas::text::Texts::text_literal, cbor_edn_model::proofs::lemmas::text::Texts::text_dots, cbor_edn_model::proofs::lemmas::text::Texts::text_embedded, cbor_edn_model::proofs::lemmas::layout::LaidTrees::laid_kept, std::proofs::Common::append_assoc))]
+#[tactic(auto, using(cbor_edn_model::proofs::lemmas::text::Texts::text_literal, cbor_edn_model::proofs::lemmas::text::Texts::text_ellipsis, cbor_edn_model::proofs::lemmas::text::Texts::text_embedded, cbor_edn_model::proofs::lemmas::layout::LaidTrees::laid_kept, std::proofs::Common::append_assoc))]
 fn print_piece(out: &mut TextBuffer, piece: &Piece<'_>) -> Result<(), AllocError>
     ensures { OnOk result (buffer_bytes out.new ≡ buffer_bytes out.old ++ text (view_piece texts piece.now)) }
 {
     match piece {
         Piece::Literal(indicator, literal) => print_literal(out, literal, *indicator),
-        Piece::Dots(dots) => out.push_str(dots.as_str()),
+        Piece::Ellipsis(ellipsis) => out.push_str(ellipsis.as_str()),
         Piece::Embedded(indicator, sequence) => {
             out.push_str("<<")?;
             print_sequence(out, sequence, &Layout::Kept)?;
@@ -185,7 +185,7 @@ fn print_stream(
     ensures { OnOk result (buffer_bytes out.new ≡ buffer_bytes out.old ++ text (laid_stream layout.now (view_stream texts stream.now))) }
 {
     out.push_str("(_")?;
-    print_mandatory(out, &stream.ms, *layout, Slot::First)?;
+    print_mandatory(out, &stream.space, *layout, Slot::First)?;
     print_strings(out, &stream.strings, layout)?;
     out.push_str(")")
 }
@@ -201,14 +201,14 @@ fn print_strings(
 {
     print_string_row(out, &strings.row, layout)?;
     print_string(out, &strings.last, &layout.in_chunk())?;
-    print_end(out, &strings.soc, *layout)
+    print_end(out, &strings.end, *layout)
 }
 
 #[cycle(print)]
 #[tactic(auto, unfolding(cbor_edn_model::specs::layout::Layout::laid, cbor_edn_model::specs::tree::Trees::onto))]
 fn print_string_row(
     out: &mut TextBuffer,
-    row: &[(CborString<'_>, Msc<'_>)],
+    row: &[(CborString<'_>, Separator<'_>)],
     layout: &Layout,
 ) -> Result<(), AllocError>
     ensures { OnOk result (buffer_bytes out.new ≡ buffer_bytes out.old ++ entries_text (map (laid_entry layout.now) (map (seen_string texts) row.now))) }
@@ -240,14 +240,14 @@ fn print_list(out: &mut TextBuffer, list: &ItemList<'_>, layout: &Layout) -> Res
     ensures { OnOk result (buffer_bytes out.new ≡ buffer_bytes out.old ++ text (laid layout.now (view_list texts list.now))) }
 {
     match list {
-        ItemList::Present { head, s, items } => {
+        ItemList::Present { head, space, items } => {
             print_laid_head(out, head, *layout)?;
-            print_space(out, s, *layout, Slot::First)?;
+            print_space(out, space, *layout, Slot::First)?;
             print_items(out, items, layout)
         }
-        ItemList::Absent { indicator, s } => {
+        ItemList::Absent { indicator, space } => {
             print_indicator(out, *indicator)?;
-            print_space(out, s, *layout, Slot::Elsewhere)
+            print_space(out, space, *layout, Slot::Elsewhere)
         }
     }
 }
@@ -259,14 +259,14 @@ fn print_items(out: &mut TextBuffer, items: &Items<'_>, layout: &Layout) -> Resu
 {
     print_row(out, &items.row, layout)?;
     print_item(out, &items.last, layout)?;
-    print_end(out, &items.soc, *layout)
+    print_end(out, &items.end, *layout)
 }
 
 #[cycle(print)]
 #[tactic(auto, unfolding(cbor_edn_model::specs::layout::Layout::laid, cbor_edn_model::specs::tree::Trees::onto))]
 fn print_row(
     out: &mut TextBuffer,
-    row: &[(Item<'_>, Msc<'_>)],
+    row: &[(Item<'_>, Separator<'_>)],
     layout: &Layout,
 ) -> Result<(), AllocError>
     ensures { OnOk result (buffer_bytes out.new ≡ buffer_bytes out.old ++ entries_text (map (laid_entry layout.now) (map (seen texts) row.now))) }
@@ -288,14 +288,14 @@ fn print_pair_list(
     ensures { OnOk result (buffer_bytes out.new ≡ buffer_bytes out.old ++ text (laid layout.now (view_pair_list texts list.now))) }
 {
     match list {
-        PairList::Present { head, s, pairs } => {
+        PairList::Present { head, space, pairs } => {
             print_laid_head(out, head, *layout)?;
-            print_space(out, s, *layout, Slot::First)?;
+            print_space(out, space, *layout, Slot::First)?;
             print_pairs(out, pairs, layout)
         }
-        PairList::Absent { indicator, s } => {
+        PairList::Absent { indicator, space } => {
             print_indicator(out, *indicator)?;
-            print_space(out, s, *layout, Slot::Elsewhere)
+            print_space(out, space, *layout, Slot::Elsewhere)
         }
     }
 }
@@ -307,13 +307,13 @@ fn print_pairs(out: &mut TextBuffer, pairs: &Pairs<'_>, layout: &Layout) -> Resu
 {
     print_pair_row(out, &pairs.row, layout)?;
     print_pair(out, &pairs.last, layout)?;
-    print_end(out, &pairs.soc, *layout)
+    print_end(out, &pairs.end, *layout)
 }
 
 #[cycle(print)]
 fn print_pair_row(
     out: &mut TextBuffer,
-    row: &[(Kp<'_>, Msc<'_>)],
+    row: &[(Pair<'_>, Separator<'_>)],
     layout: &Layout,
 ) -> Result<(), AllocError>
     ensures { OnOk result (buffer_bytes out.new ≡ buffer_bytes out.old ++ entries_text (map (laid_entry layout.now) (map (seen_pair texts) row.now))) }
@@ -327,7 +327,7 @@ fn print_pair_row(
 
 #[cycle(print)]
 #[tactic(auto, using(cbor_edn_model::proofs::lemmas::layout::LaidTexts::text_laid_pair, std::proofs::Common::append_assoc))]
-fn print_pair(out: &mut TextBuffer, pair: &Kp<'_>, layout: &Layout) -> Result<(), AllocError>
+fn print_pair(out: &mut TextBuffer, pair: &Pair<'_>, layout: &Layout) -> Result<(), AllocError>
     ensures { OnOk result (buffer_bytes out.new ≡ buffer_bytes out.old ++ text (laid layout.now (view_pair texts pair.now))) }
 {
     print_at_once(out, &pair.key, layout)?;

@@ -8,15 +8,16 @@ ghost use Rattle.cbor_edn_model.specs.internal.Widths.{Leaves, width, measured, 
 ghost use Rattle.cbor_edn_core.specs.tree.View.{view_list, view_items, seen, view_pair_list, view_pairs, view_pair, seen_pair, view_string, view_piece, seen_piece, view_stream, view_strings, seen_string, item_tree, standalone_tree, sequence_tree};
 
 use crate::tree::{
-    CborString, InnerItem, Item, ItemList, Items, Kp, PairList, Pairs, Piece, Sequence,
+    CborString, InnerItem, Item, ItemList, Items, Pair, PairList, Pairs, Piece, Sequence,
     StandaloneItem, Stream, Strings,
 };
 use cbor_edn_model::layout::width::{
-    Spaces, head_len, indicator_len, label_len, ms_len, msc_len, room_behind, s_len, soc_len,
+    Spaces, head_len, indicator_len, list_end_len, mandatory_len, opener_len, room_behind,
+    separator_len, space_len,
 };
 use cbor_edn_parts::layout::Layout;
 use cbor_edn_parts::policy::Spacing;
-use cbor_edn_parts::space::{Msc, S};
+use cbor_edn_parts::space::{Separator, Space};
 
 /// The layout of the parts of an item.
 pub(super) fn layout_of_parts(layout: Layout, item: &Item<'_>) -> Layout
@@ -49,7 +50,7 @@ fn room_behind_sequence(room: usize, spaces: Spaces, sequence: &Sequence<'_>) ->
     requires { room < 2 ^ 64 - 1 }
     ensures { Leaves room (width spaces (sequence_tree sequence.now)) result }
 {
-    let room = room_behind(room, s_len(spaces, &sequence.before))?;
+    let room = room_behind(room, space_len(spaces, &sequence.before))?;
     match &sequence.items {
         None => Some(room),
         Some(items) => room_behind_items(room, spaces, items),
@@ -62,9 +63,9 @@ fn room_behind_standalone(room: usize, spaces: Spaces, item: &StandaloneItem<'_>
     requires { room < 2 ^ 64 - 1 }
     ensures { Leaves room (width spaces (standalone_tree item.now)) result }
 {
-    let room = room_behind(room, s_len(spaces, &item.before))?;
+    let room = room_behind(room, space_len(spaces, &item.before))?;
     let room = room_behind_item(room, spaces, &item.item)?;
-    room_behind(room, s_len(spaces, &item.after))
+    room_behind(room, space_len(spaces, &item.after))
 }
 
 #[cycle(room)]
@@ -83,8 +84,8 @@ fn room_behind_item(room: usize, spaces: Spaces, item: &Item<'_>) -> Option<usiz
             room_behind(room, indicator_len(*indicator))
         }
         InnerItem::Named(name) => room_behind(room, name.as_str().len()),
-        InnerItem::Enclosed(label, content) => {
-            let room = room_behind(room, label_len(label.kind))?;
+        InnerItem::Enclosed(opener, content) => {
+            let room = room_behind(room, opener_len(opener.kind))?;
             let room = room_behind(room, 2)?;
             room_behind_standalone(room, spaces, content)
         }
@@ -119,7 +120,7 @@ fn room_behind_string(room: usize, spaces: Spaces, string: &CborString<'_>) -> O
 fn room_behind_piece_row(
     room: usize,
     spaces: Spaces,
-    row: &[(Piece<'_>, S<'_>, S<'_>)],
+    row: &[(Piece<'_>, Space<'_>, Space<'_>)],
 ) -> Option<usize>
     requires { room < 2 ^ 64 - 1 }
     ensures { Leaves room (pieces_width spaces (map (seen_piece texts) row.now)) result }
@@ -127,9 +128,9 @@ fn room_behind_piece_row(
     let mut room = room;
     for (piece, before, after) in row {
         room = room_behind_piece(room, spaces, piece)?;
-        room = room_behind(room, s_len(spaces.wide(), before))?;
+        room = room_behind(room, space_len(spaces.wide(), before))?;
         room = room_behind(room, 1)?;
-        room = room_behind(room, s_len(spaces.wide(), after))?;
+        room = room_behind(room, space_len(spaces.wide(), after))?;
     }
     Some(room)
 }
@@ -145,7 +146,7 @@ fn room_behind_piece(room: usize, spaces: Spaces, piece: &Piece<'_>) -> Option<u
             let room = room_behind(room, literal.len())?;
             room_behind(room, indicator_len(*indicator))
         }
-        Piece::Dots(dots) => room_behind(room, dots.len()),
+        Piece::Ellipsis(ellipsis) => room_behind(room, ellipsis.len()),
         Piece::Embedded(indicator, sequence) => {
             let room = room_behind(room, 4)?;
             let room = room_behind(room, indicator_len(*indicator))?;
@@ -161,7 +162,7 @@ fn room_behind_stream(room: usize, spaces: Spaces, stream: &Stream<'_>) -> Optio
     ensures { Leaves room (width spaces (view_stream texts stream.now)) result }
 {
     let room = room_behind(room, 3)?;
-    let room = room_behind(room, ms_len(spaces, &stream.ms))?;
+    let room = room_behind(room, mandatory_len(spaces, &stream.space))?;
     room_behind_strings(room, spaces, &stream.strings)
 }
 
@@ -173,7 +174,7 @@ fn room_behind_strings(room: usize, spaces: Spaces, strings: &Strings<'_>) -> Op
 {
     let room = room_behind_string_row(room, spaces, &strings.row)?;
     let room = room_behind_string(room, spaces.in_stream(), &strings.last)?;
-    room_behind(room, soc_len(spaces, &strings.soc))
+    room_behind(room, list_end_len(spaces, &strings.end))
 }
 
 #[cycle(room)]
@@ -181,7 +182,7 @@ fn room_behind_strings(room: usize, spaces: Spaces, strings: &Strings<'_>) -> Op
 fn room_behind_string_row(
     room: usize,
     spaces: Spaces,
-    row: &[(CborString<'_>, Msc<'_>)],
+    row: &[(CborString<'_>, Separator<'_>)],
 ) -> Option<usize>
     requires { room < 2 ^ 64 - 1 }
     ensures { Leaves room (entries_width spaces (map (seen_string texts) row.now)) result }
@@ -189,7 +190,7 @@ fn room_behind_string_row(
     let mut room = room;
     for (string, separator) in row {
         room = room_behind_string(room, spaces.in_stream(), string)?;
-        room = room_behind(room, msc_len(spaces, separator))?;
+        room = room_behind(room, separator_len(spaces, separator))?;
     }
     Some(room)
 }
@@ -201,14 +202,14 @@ fn room_behind_list(room: usize, spaces: Spaces, list: &ItemList<'_>) -> Option<
     ensures { Leaves room (width spaces (view_list texts list.now)) result }
 {
     match list {
-        ItemList::Present { head, s, items } => {
+        ItemList::Present { head, space, items } => {
             let room = room_behind(room, head_len(spaces, head))?;
-            let room = room_behind(room, s_len(spaces, s))?;
+            let room = room_behind(room, space_len(spaces, space))?;
             room_behind_items(room, spaces, items)
         }
-        ItemList::Absent { indicator, s } => {
+        ItemList::Absent { indicator, space } => {
             let room = room_behind(room, indicator_len(*indicator))?;
-            room_behind(room, s_len(spaces, s))
+            room_behind(room, space_len(spaces, space))
         }
     }
 }
@@ -221,19 +222,19 @@ fn room_behind_items(room: usize, spaces: Spaces, items: &Items<'_>) -> Option<u
 {
     let room = room_behind_row(room, spaces, &items.row)?;
     let room = room_behind_item(room, spaces, &items.last)?;
-    room_behind(room, soc_len(spaces, &items.soc))
+    room_behind(room, list_end_len(spaces, &items.end))
 }
 
 #[cycle(room)]
 #[tactic(auto, unfolding(cbor_edn_model::specs::internal::Widths::width))]
-fn room_behind_row(room: usize, spaces: Spaces, row: &[(Item<'_>, Msc<'_>)]) -> Option<usize>
+fn room_behind_row(room: usize, spaces: Spaces, row: &[(Item<'_>, Separator<'_>)]) -> Option<usize>
     requires { room < 2 ^ 64 - 1 }
     ensures { Leaves room (entries_width spaces (map (seen texts) row.now)) result }
 {
     let mut room = room;
     for (item, separator) in row {
         room = room_behind_item(room, spaces, item)?;
-        room = room_behind(room, msc_len(spaces, separator))?;
+        room = room_behind(room, separator_len(spaces, separator))?;
     }
     Some(room)
 }
@@ -245,14 +246,14 @@ fn room_behind_pair_list(room: usize, spaces: Spaces, list: &PairList<'_>) -> Op
     ensures { Leaves room (width spaces (view_pair_list texts list.now)) result }
 {
     match list {
-        PairList::Present { head, s, pairs } => {
+        PairList::Present { head, space, pairs } => {
             let room = room_behind(room, head_len(spaces, head))?;
-            let room = room_behind(room, s_len(spaces, s))?;
+            let room = room_behind(room, space_len(spaces, space))?;
             room_behind_pairs(room, spaces, pairs)
         }
-        PairList::Absent { indicator, s } => {
+        PairList::Absent { indicator, space } => {
             let room = room_behind(room, indicator_len(*indicator))?;
-            room_behind(room, s_len(spaces, s))
+            room_behind(room, space_len(spaces, space))
         }
     }
 }
@@ -265,18 +266,22 @@ fn room_behind_pairs(room: usize, spaces: Spaces, pairs: &Pairs<'_>) -> Option<u
 {
     let room = room_behind_pair_row(room, spaces, &pairs.row)?;
     let room = room_behind_pair(room, spaces, &pairs.last)?;
-    room_behind(room, soc_len(spaces, &pairs.soc))
+    room_behind(room, list_end_len(spaces, &pairs.end))
 }
 
 #[cycle(room)]
-fn room_behind_pair_row(room: usize, spaces: Spaces, row: &[(Kp<'_>, Msc<'_>)]) -> Option<usize>
+fn room_behind_pair_row(
+    room: usize,
+    spaces: Spaces,
+    row: &[(Pair<'_>, Separator<'_>)],
+) -> Option<usize>
     requires { room < 2 ^ 64 - 1 }
     ensures { Leaves room (entries_width spaces (map (seen_pair texts) row.now)) result }
 {
     let mut room = room;
     for (pair, separator) in row {
         room = room_behind_pair(room, spaces, pair)?;
-        room = room_behind(room, msc_len(spaces, separator))?;
+        room = room_behind(room, separator_len(spaces, separator))?;
     }
     Some(room)
 }
@@ -284,13 +289,13 @@ fn room_behind_pair_row(room: usize, spaces: Spaces, row: &[(Kp<'_>, Msc<'_>)]) 
 #[inline(always)]
 #[cycle(room)]
 #[tactic(auto, unfolding(cbor_edn_model::specs::internal::Widths::width))]
-fn room_behind_pair(room: usize, spaces: Spaces, pair: &Kp<'_>) -> Option<usize>
+fn room_behind_pair(room: usize, spaces: Spaces, pair: &Pair<'_>) -> Option<usize>
     requires { room < 2 ^ 64 - 1 }
     ensures { Leaves room (width spaces (view_pair texts pair.now)) result }
 {
     let room = room_behind_item(room, spaces, &pair.key)?;
-    let room = room_behind(room, s_len(spaces, &pair.before_colon))?;
+    let room = room_behind(room, space_len(spaces, &pair.before_colon))?;
     let room = room_behind(room, 1)?;
-    let room = room_behind(room, s_len(spaces.wide(), &pair.after_colon))?;
+    let room = room_behind(room, space_len(spaces.wide(), &pair.after_colon))?;
     room_behind_item(room, spaces, &pair.value)
 }

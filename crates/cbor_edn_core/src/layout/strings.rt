@@ -10,7 +10,7 @@ ghost use Rattle.cbor_edn_model.specs.internal.LayoutRows.{laid_entry, entry_ite
 
 use crate::tree::{CborString, Piece, Stream, Strings};
 use cbor_edn_parts::layout::{Layout, Slot, lay_end, lay_mandatory, lay_separator, lay_space};
-use cbor_edn_parts::space::{Msc, S};
+use cbor_edn_parts::space::{Separator, Space};
 use std::alloc::{AllocError, Global};
 
 pub(super) fn lay_boxed_string(
@@ -34,7 +34,7 @@ fn lay_string(string: &mut CborString<'_>, alloc: Global, layout: Layout) -> Res
 }
 
 fn lay_piece_row<'a>(
-    row: &mut Vec<(Piece<'a>, S<'a>, S<'a>)>,
+    row: &mut Vec<(Piece<'a>, Space<'a>, Space<'a>)>,
     alloc: Global,
     layout: Layout,
 ) -> Result<(), AllocError>
@@ -60,7 +60,7 @@ pub(super) fn lay_stream(
     ensures least { layout ≡ least → IsOk result }
 {
     lay_strings(&mut stream.strings, alloc, layout)?;
-    lay_mandatory(&mut stream.ms, alloc, layout, Slot::First)
+    lay_mandatory(&mut stream.space, alloc, layout, Slot::First)
 }
 
 fn lay_strings(strings: &mut Strings<'_>, alloc: Global, layout: Layout) -> Result<(), AllocError>
@@ -70,11 +70,11 @@ fn lay_strings(strings: &mut Strings<'_>, alloc: Global, layout: Layout) -> Resu
 {
     lay_string_row(&mut strings.row, alloc, layout)?;
     lay_string(&mut strings.last, alloc, layout.in_chunk())?;
-    lay_end(&mut strings.soc, alloc, layout)
+    lay_end(&mut strings.end, alloc, layout)
 }
 
 fn lay_string_row<'a>(
-    row: &mut Vec<(CborString<'a>, Msc<'a>)>,
+    row: &mut Vec<(CborString<'a>, Separator<'a>)>,
     alloc: Global,
     layout: Layout,
 ) -> Result<(), AllocError>

@@ -1,7 +1,7 @@
 //! The public calls that read a text.
 ghost use Rattle.std.specs.Prelude.{◌≤◌, ◌+◌, ◌*◌, length, IfOk, IfErr, OnOk};
 ghost use Rattle.cbor_edn_core.specs.tree.Borrowed.{BorrowsSequence, BorrowsStandalone};
-ghost use Rattle.cbor_edn_parts.specs.internal.Text.{text_bytes};
+ghost use Rattle.cbor_edn_parts.specs.internal.Input.{text_bytes};
 ghost use Rattle.cbor_edn_model.specs.internal.LookCosts.{a_byte, text_extra};
 ghost use Rattle.cbor_edn_core.specs.internal.ParserResults.{Gives, IsPlaced};
 ghost use Rattle.cbor_edn_model.specs.internal.Reading.{reads_all};
@@ -16,9 +16,9 @@ use crate::text::grammar::{sequence, standalone};
 use crate::tree::{NESTING_LIMIT, Sequence, StandaloneItem};
 use cbor_edn_model::text::lookahead::ends;
 use cbor_edn_parts::error::{Fault, ParseError, Refusal};
+use cbor_edn_parts::input::Input;
 use cbor_edn_parts::location::with_location;
 use cbor_edn_parts::looks::Looks;
-use cbor_edn_parts::text::Text;
 use std::alloc::Global;
 
 impl<'a> Sequence<'a> {
@@ -72,7 +72,7 @@ impl<'a> Sequence<'a> {
         ensures least { OnOk result (looks.old.count + length input.now ≤ looks.new.count) }
         ensures no_fewer { looks.old.count ≤ looks.new.count }
     {
-        let text = Text::new(input);
+        let text = Input::new(input);
         match whole_sequence(alloc, &text, limit, looks) {
             Ok(sequence) => Ok(sequence),
             Err(Fault::Memory(refused)) => Err(Fault::Memory(refused)),
@@ -132,7 +132,7 @@ impl<'a> StandaloneItem<'a> {
         ensures least { OnOk result (looks.old.count + length input.now ≤ looks.new.count) }
         ensures no_fewer { looks.old.count ≤ looks.new.count }
     {
-        let text = Text::new(input);
+        let text = Input::new(input);
         match whole_standalone(alloc, &text, limit, looks) {
             Ok(item) => Ok(item),
             Err(Fault::Memory(refused)) => Err(Fault::Memory(refused)),
@@ -144,7 +144,7 @@ impl<'a> StandaloneItem<'a> {
 /// All of the text as a sequence.
 fn whole_sequence<'a>(
     alloc: Global,
-    text: &Text<'a>,
+    text: &Input<'a>,
     limit: usize,
     looks: &mut Looks,
 ) -> Result<Sequence<'a>, Fault<Refusal>>
@@ -163,7 +163,7 @@ fn whole_sequence<'a>(
 /// All of the text as an item between spaces.
 fn whole_standalone<'a>(
     alloc: Global,
-    text: &Text<'a>,
+    text: &Input<'a>,
     limit: usize,
     looks: &mut Looks,
 ) -> Result<StandaloneItem<'a>, Fault<Refusal>>

@@ -1,6 +1,6 @@
 //! Copies of trees. Memory comes from the allocator of what is copied.
 ghost use Rattle.std.specs.Prelude.{◌≡◌, ◌∷◌, ◌++◌, [], map, IfOk, OnOk};
-ghost use Rattle.cbor_edn_parts.specs.Leaves.{s_bytes, msc_bytes, soc_bytes, number_bytes, literal_bytes, dots_bytes};
+ghost use Rattle.cbor_edn_parts.specs.Leaves.{space_bytes, separator_bytes, list_end_bytes, number_bytes, literal_bytes, ellipsis_bytes};
 ghost use Rattle.cbor_edn_core.specs.declared.tree.ItemsOf.{out-ItemsOf};
 ghost use Rattle.cbor_edn_core.specs.declared.tree.SequenceOf.{out-SequenceOf};
 ghost use Rattle.cbor_edn_core.specs.declared.tree.StreamOf.{out-StreamOf};
@@ -8,18 +8,18 @@ ghost use Rattle.cbor_edn_core.specs.declared.tree.StringsOf.{out-StringsOf};
 ghost use Rattle.cbor_edn_core.specs.tree.View.{pair_row_onto, view_some, view_list, view_items, seen, view_pair_list, view_pair, seen_pair, view_string, view_piece, seen_piece, view_stream, seen_string, item_tree, standalone_tree, sequence_tree};
 ghost use Rattle.cbor_edn_model.specs.tree.Items.{Array, Map};
 ghost use Rattle.cbor_edn_model.specs.tree.TreeLeaves.{texts};
-ghost use Rattle.cbor_edn_model.specs.tree.Trees.{NumberTree, EnclosedTree, ListTree, FullTree, EmptyTree, StringTree, ChunkTree, LastPieceTree, LiteralTree, DotsTree, EmbeddedTree, SequenceTree, NothingTree, ElementTree, LastTree};
+ghost use Rattle.cbor_edn_model.specs.tree.Trees.{NumberTree, EnclosedTree, ListTree, FullTree, EmptyTree, StringTree, ChunkTree, LastPieceTree, LiteralTree, EllipsisTree, EmbeddedTree, SequenceTree, NothingTree, ElementTree, LastTree};
 ghost use Rattle.cbor_edn_model.specs.text.ListHeads.{view_list_head};
 
 use crate::tree::{
-    CborString, Indicator, InnerItem, Item, ItemList, ItemOf, Items, Kp, Label, PairList, Pairs,
+    CborString, Indicator, InnerItem, Item, ItemList, ItemOf, Items, Opener, Pair, PairList, Pairs,
     Piece, Sequence, SequenceOf, StandaloneItem, StandaloneItemOf, Stream, Strings,
 };
 use cbor_edn_model::text::list_head::clone_list_head;
 use cbor_edn_model::tree::copy::clone_spaces;
 use cbor_edn_parts::number::Number;
-use cbor_edn_parts::space::{Ms, Msc, S, Soc};
-use cbor_edn_parts::string::{Dots, Literal};
+use cbor_edn_parts::space::{ListEnd, MandatorySpace, Separator, Space};
+use cbor_edn_parts::string::{Ellipsis, Literal};
 use std::alloc::{AllocError, Global};
 
 impl<'a> Item<'a> {
@@ -68,8 +68,8 @@ fn clone_item<'a>(item: &Item<'a>) -> Result<Item<'a>, AllocError>
         InnerItem::Named(name) => Ok(ItemOf {
             inner: InnerItem::Named(*name),
         }),
-        InnerItem::Enclosed(label, content) => {
-            clone_enclosed(*Box::allocator(content), *label, content)
+        InnerItem::Enclosed(opener, content) => {
+            clone_enclosed(*Box::allocator(content), *opener, content)
         }
         InnerItem::Array(list) => clone_array(*Box::allocator(list), list),
         InnerItem::Map(list) => clone_map(*Box::allocator(list), list),
@@ -107,13 +107,13 @@ fn clone_lone_literal<'a>(
 #[inline(never)]
 fn clone_enclosed<'a>(
     alloc: Global,
-    label: Label,
+    opener: Opener,
     content: &StandaloneItem<'a>,
 ) -> Result<Item<'a>, AllocError>
-    ensures { IfOk result (λ t. item_tree t ≡ EnclosedTree label.kind (standalone_tree content.now)) }
+    ensures { IfOk result (λ t. item_tree t ≡ EnclosedTree opener.kind (standalone_tree content.now)) }
 {
     let copy = clone_standalone(content)?;
-    Item::enclosed(alloc, label, copy)
+    Item::enclosed(alloc, opener, copy)
 }
 
 #[cycle(copy)]
@@ -136,38 +136,38 @@ fn clone_array<'a>(alloc: Global, list: &ItemList<'a>) -> Result<Item<'a>, Alloc
     ensures { IfOk result (λ t. item_tree t ≡ ListTree Array (view_list texts list.now)) }
 {
     match list {
-        ItemList::Present { head, s, items } => {
+        ItemList::Present { head, space, items } => {
             let items = clone_items(items)?;
-            make_array(alloc, head, s, items)
+            make_array(alloc, head, space, items)
         }
-        ItemList::Absent { indicator, s } => make_empty_array(alloc, *indicator, s),
+        ItemList::Absent { indicator, space } => make_empty_array(alloc, *indicator, space),
     }
 }
 
 #[inline(never)]
 fn make_array<'a>(
     alloc: Global,
-    head: &Option<(Indicator, Ms<'a>)>,
-    s: &S<'a>,
+    head: &Option<(Indicator, MandatorySpace<'a>)>,
+    space: &Space<'a>,
     items: Items<'a>,
 ) -> Result<Item<'a>, AllocError>
-    ensures { IfOk result (λ t. item_tree t ≡ ListTree Array (FullTree (view_list_head texts head.now) (s_bytes s.now) (view_items texts items.entry))) }
+    ensures { IfOk result (λ t. item_tree t ≡ ListTree Array (FullTree (view_list_head texts head.now) (space_bytes space.now) (view_items texts items.entry))) }
 {
     let head = clone_list_head(head)?;
-    let s = s.clone()?;
-    Item::array(alloc, ItemList::Present { head, s, items })
+    let space = space.clone()?;
+    Item::array(alloc, ItemList::Present { head, space, items })
 }
 
 #[inline(never)]
 fn make_empty_array<'a>(
     alloc: Global,
     indicator: Option<Indicator>,
-    s: &S<'a>,
+    space: &Space<'a>,
 ) -> Result<Item<'a>, AllocError>
-    ensures { IfOk result (λ t. item_tree t ≡ ListTree Array (EmptyTree indicator (s_bytes s.now))) }
+    ensures { IfOk result (λ t. item_tree t ≡ ListTree Array (EmptyTree indicator (space_bytes space.now))) }
 {
-    let s = s.clone()?;
-    Item::array(alloc, ItemList::Absent { indicator, s })
+    let space = space.clone()?;
+    Item::array(alloc, ItemList::Absent { indicator, space })
 }
 
 #[cycle(copy)]
@@ -177,12 +177,12 @@ fn clone_map<'a>(alloc: Global, list: &PairList<'a>) -> Result<Item<'a>, AllocEr
     ensures { IfOk result (λ t. item_tree t ≡ ListTree Map (view_pair_list texts list.now)) }
 {
     match list {
-        PairList::Present { head, s, pairs } => {
+        PairList::Present { head, space, pairs } => {
             let row = clone_pair_row(&pairs.row)?;
             let last = clone_pair(&pairs.last)?;
-            make_map(alloc, head, s, row, last, &pairs.soc)
+            make_map(alloc, head, space, row, last, &pairs.end)
         }
-        PairList::Absent { indicator, s } => make_empty_map(alloc, *indicator, s),
+        PairList::Absent { indicator, space } => make_empty_map(alloc, *indicator, space),
     }
 }
 
@@ -190,31 +190,31 @@ fn clone_map<'a>(alloc: Global, list: &PairList<'a>) -> Result<Item<'a>, AllocEr
 #[tactic(auto, using(crate::proofs::lemmas::tree::Views::view_pairs_made))]
 fn make_map<'a>(
     alloc: Global,
-    head: &Option<(Indicator, Ms<'a>)>,
-    s: &S<'a>,
-    row: Vec<(Kp<'a>, Msc<'a>)>,
-    last: Kp<'a>,
-    soc: &Soc<'a>,
+    head: &Option<(Indicator, MandatorySpace<'a>)>,
+    space: &Space<'a>,
+    row: Vec<(Pair<'a>, Separator<'a>)>,
+    last: Pair<'a>,
+    end: &ListEnd<'a>,
 ) -> Result<Item<'a>, AllocError>
-    ensures { IfOk result (λ t. item_tree t ≡ ListTree Map (FullTree (view_list_head texts head.now) (s_bytes s.now) (pair_row_onto texts row.entry.items (LastTree (view_pair texts last.entry) (soc_bytes soc.now))))) }
+    ensures { IfOk result (λ t. item_tree t ≡ ListTree Map (FullTree (view_list_head texts head.now) (space_bytes space.now) (pair_row_onto texts row.entry.items (LastTree (view_pair texts last.entry) (list_end_bytes end.now))))) }
 {
     let head = clone_list_head(head)?;
-    let s = s.clone()?;
-    let soc = soc.clone()?;
-    let pairs = Pairs { row, last, soc };
-    Item::map(alloc, PairList::Present { head, s, pairs })
+    let space = space.clone()?;
+    let end = end.clone()?;
+    let pairs = Pairs { row, last, end };
+    Item::map(alloc, PairList::Present { head, space, pairs })
 }
 
 #[inline(never)]
 fn make_empty_map<'a>(
     alloc: Global,
     indicator: Option<Indicator>,
-    s: &S<'a>,
+    space: &Space<'a>,
 ) -> Result<Item<'a>, AllocError>
-    ensures { IfOk result (λ t. item_tree t ≡ ListTree Map (EmptyTree indicator (s_bytes s.now))) }
+    ensures { IfOk result (λ t. item_tree t ≡ ListTree Map (EmptyTree indicator (space_bytes space.now))) }
 {
-    let s = s.clone()?;
-    Item::map(alloc, PairList::Absent { indicator, s })
+    let space = space.clone()?;
+    Item::map(alloc, PairList::Absent { indicator, space })
 }
 
 #[cycle(copy)]
@@ -239,7 +239,7 @@ fn clone_string<'a>(string: &CborString<'a>) -> Result<CborString<'a>, AllocErro
 #[inline(never)]
 fn make_string<'a>(
     string: &CborString<'a>,
-    row: Vec<(Piece<'a>, S<'a>, S<'a>)>,
+    row: Vec<(Piece<'a>, Space<'a>, Space<'a>)>,
     last: Result<Piece<'a>, AllocError>,
 ) -> Result<CborString<'a>, AllocError>
     requires row { map (seen_piece texts) row.items ≡ map (seen_piece texts) string.now.row.items }
@@ -253,8 +253,8 @@ fn make_string<'a>(
 #[cycle(copy)]
 #[inline(never)]
 fn clone_piece_row<'a>(
-    row: &Vec<(Piece<'a>, S<'a>, S<'a>)>,
-) -> Result<Vec<(Piece<'a>, S<'a>, S<'a>)>, AllocError>
+    row: &Vec<(Piece<'a>, Space<'a>, Space<'a>)>,
+) -> Result<Vec<(Piece<'a>, Space<'a>, Space<'a>)>, AllocError>
     ensures { IfOk result (λ t. map (seen_piece texts) t.items ≡ map (seen_piece texts) row.now.items) }
 {
     let mut copy = Vec::new(*row.allocator());
@@ -267,12 +267,12 @@ fn clone_piece_row<'a>(
 
 #[inline(never)]
 fn push_piece<'a>(
-    row: &mut Vec<(Piece<'a>, S<'a>, S<'a>)>,
+    row: &mut Vec<(Piece<'a>, Space<'a>, Space<'a>)>,
     piece: Piece<'a>,
-    before: &S<'a>,
-    after: &S<'a>,
+    before: &Space<'a>,
+    after: &Space<'a>,
 ) -> Result<(), AllocError>
-    ensures { OnOk result (map (seen_piece texts) row.new.items ≡ map (seen_piece texts) row.old.items ++ (view_piece texts piece.entry, s_bytes before.now, s_bytes after.now) ∷ []) }
+    ensures { OnOk result (map (seen_piece texts) row.new.items ≡ map (seen_piece texts) row.old.items ++ (view_piece texts piece.entry, space_bytes before.now, space_bytes after.now) ∷ []) }
 {
     let (before, after) = clone_spaces(before, after)?;
     row.push((piece, before, after))?;
@@ -286,7 +286,7 @@ fn clone_piece<'a>(piece: &Piece<'a>) -> Result<Piece<'a>, AllocError>
 {
     match piece {
         Piece::Literal(indicator, literal) => clone_literal(literal, *indicator),
-        Piece::Dots(dots) => clone_dots(dots),
+        Piece::Ellipsis(ellipsis) => clone_ellipsis(ellipsis),
         Piece::Embedded(indicator, sequence) => {
             clone_embedded(*Box::allocator(sequence), sequence, *indicator)
         }
@@ -305,11 +305,11 @@ fn clone_literal<'a>(
 }
 
 #[inline(never)]
-fn clone_dots<'a>(dots: &Dots<'a>) -> Result<Piece<'a>, AllocError>
-    ensures { IfOk result (λ t. view_piece texts t ≡ DotsTree (dots_bytes dots.now)) }
+fn clone_ellipsis<'a>(ellipsis: &Ellipsis<'a>) -> Result<Piece<'a>, AllocError>
+    ensures { IfOk result (λ t. view_piece texts t ≡ EllipsisTree (ellipsis_bytes ellipsis.now)) }
 {
-    let dots = dots.clone()?;
-    Ok(Piece::Dots(dots))
+    let ellipsis = ellipsis.clone()?;
+    Ok(Piece::Ellipsis(ellipsis))
 }
 
 #[cycle(copy)]
@@ -335,7 +335,7 @@ fn make_embedded<'a>(
     items: Result<Items<'a>, AllocError>,
     indicator: Option<Indicator>,
 ) -> Result<Piece<'a>, AllocError>
-    requires items { IfOk items (λ t. SequenceTree (s_bytes (out-SequenceOf _ _ _ _ _ _ _ sequence.now).before) (view_items texts t) ≡ sequence_tree sequence.now) }
+    requires items { IfOk items (λ t. SequenceTree (space_bytes (out-SequenceOf _ _ _ _ _ _ _ sequence.now).before) (view_items texts t) ≡ sequence_tree sequence.now) }
     ensures { IfOk result (λ t. view_piece texts t ≡ EmbeddedTree (sequence_tree sequence.now) indicator) }
 {
     let items = items?;
@@ -347,10 +347,10 @@ fn make_embedded<'a>(
 #[inline(never)]
 fn make_empty_embedded<'a>(
     alloc: Global,
-    before: &S<'a>,
+    before: &Space<'a>,
     indicator: Option<Indicator>,
 ) -> Result<Piece<'a>, AllocError>
-    ensures { IfOk result (λ t. view_piece texts t ≡ EmbeddedTree (NothingTree (s_bytes before.now)) indicator) }
+    ensures { IfOk result (λ t. view_piece texts t ≡ EmbeddedTree (NothingTree (space_bytes before.now)) indicator) }
 {
     let sequence = make_sequence(before, None)?;
     let sequence = Box::new(alloc, sequence)?;
@@ -369,8 +369,11 @@ fn clone_sequence<'a>(sequence: &Sequence<'a>) -> Result<Sequence<'a>, AllocErro
 }
 
 #[tactic(auto, using(crate::proofs::lemmas::tree::Views::view_sequence_made))]
-fn make_sequence<'a>(before: &S<'a>, items: Option<Items<'a>>) -> Result<Sequence<'a>, AllocError>
-    ensures { IfOk result (λ t. sequence_tree t ≡ view_some texts (s_bytes before.now) items.entry) }
+fn make_sequence<'a>(
+    before: &Space<'a>,
+    items: Option<Items<'a>>,
+) -> Result<Sequence<'a>, AllocError>
+    ensures { IfOk result (λ t. sequence_tree t ≡ view_some texts (space_bytes before.now) items.entry) }
 {
     let before = before.clone()?;
     Ok(SequenceOf { before, items })
@@ -390,7 +393,7 @@ fn clone_stream<'a>(alloc: Global, stream: &Stream<'a>) -> Result<Item<'a>, Allo
 fn make_stream<'a>(
     alloc: Global,
     stream: &Stream<'a>,
-    row: Vec<(CborString<'a>, Msc<'a>)>,
+    row: Vec<(CborString<'a>, Separator<'a>)>,
     last: Result<CborString<'a>, AllocError>,
 ) -> Result<Item<'a>, AllocError>
     requires row { map (seen_string texts) row.items ≡ map (seen_string texts) (out-StringsOf _ _ _ _ _ _ _ (out-StreamOf _ _ _ _ _ _ _ stream.now).strings).row.items }
@@ -398,17 +401,17 @@ fn make_stream<'a>(
     ensures { IfOk result (λ t. item_tree t ≡ view_stream texts stream.now) }
 {
     let last = last?;
-    let ms = stream.ms.clone()?;
-    let soc = stream.strings.soc.clone()?;
-    let strings = Strings { row, last, soc };
-    Item::stream(alloc, Stream { ms, strings })
+    let space = stream.space.clone()?;
+    let end = stream.strings.end.clone()?;
+    let strings = Strings { row, last, end };
+    Item::stream(alloc, Stream { space, strings })
 }
 
 #[cycle(copy)]
 #[inline(never)]
 fn clone_string_row<'a>(
-    row: &Vec<(CborString<'a>, Msc<'a>)>,
-) -> Result<Vec<(CborString<'a>, Msc<'a>)>, AllocError>
+    row: &Vec<(CborString<'a>, Separator<'a>)>,
+) -> Result<Vec<(CborString<'a>, Separator<'a>)>, AllocError>
     ensures { IfOk result (λ t. map (seen_string texts) t.items ≡ map (seen_string texts) row.now.items) }
 {
     let mut copy = Vec::new(*row.allocator());
@@ -421,11 +424,11 @@ fn clone_string_row<'a>(
 
 #[inline(never)]
 fn push_string<'a>(
-    row: &mut Vec<(CborString<'a>, Msc<'a>)>,
+    row: &mut Vec<(CborString<'a>, Separator<'a>)>,
     string: CborString<'a>,
-    separator: &Msc<'a>,
+    separator: &Separator<'a>,
 ) -> Result<(), AllocError>
-    ensures { OnOk result (map (seen_string texts) row.new.items ≡ map (seen_string texts) row.old.items ++ (ChunkTree (view_string texts string.entry), msc_bytes separator.now) ∷ []) }
+    ensures { OnOk result (map (seen_string texts) row.new.items ≡ map (seen_string texts) row.old.items ++ (ChunkTree (view_string texts string.entry), separator_bytes separator.now) ∷ []) }
 {
     let separator = separator.clone()?;
     row.push((string, separator))?;
@@ -445,7 +448,7 @@ fn clone_items<'a>(items: &Items<'a>) -> Result<Items<'a>, AllocError>
 #[tactic(auto, using(crate::proofs::lemmas::tree::Views::view_items_is, crate::proofs::lemmas::tree::Views::view_items_made))]
 fn make_items<'a>(
     items: &Items<'a>,
-    row: Vec<(Item<'a>, Msc<'a>)>,
+    row: Vec<(Item<'a>, Separator<'a>)>,
     last: Result<Item<'a>, AllocError>,
 ) -> Result<Items<'a>, AllocError>
     requires row { map (seen texts) row.items ≡ map (seen texts) (out-ItemsOf _ _ _ _ _ _ _ items.now).row.items }
@@ -453,13 +456,15 @@ fn make_items<'a>(
     ensures { IfOk result (λ t. view_items texts t ≡ view_items texts items.now) }
 {
     let last = last?;
-    let soc = items.soc.clone()?;
-    Ok(Items { row, last, soc })
+    let end = items.end.clone()?;
+    Ok(Items { row, last, end })
 }
 
 #[cycle(copy)]
 #[inline(never)]
-fn clone_row<'a>(row: &Vec<(Item<'a>, Msc<'a>)>) -> Result<Vec<(Item<'a>, Msc<'a>)>, AllocError>
+fn clone_row<'a>(
+    row: &Vec<(Item<'a>, Separator<'a>)>,
+) -> Result<Vec<(Item<'a>, Separator<'a>)>, AllocError>
     ensures { IfOk result (λ t. map (seen texts) t.items ≡ map (seen texts) row.now.items) }
 {
     let mut copy = Vec::new(*row.allocator());
@@ -472,11 +477,11 @@ fn clone_row<'a>(row: &Vec<(Item<'a>, Msc<'a>)>) -> Result<Vec<(Item<'a>, Msc<'a
 
 #[inline(never)]
 fn push_item<'a>(
-    row: &mut Vec<(Item<'a>, Msc<'a>)>,
+    row: &mut Vec<(Item<'a>, Separator<'a>)>,
     item: Item<'a>,
-    separator: &Msc<'a>,
+    separator: &Separator<'a>,
 ) -> Result<(), AllocError>
-    ensures { OnOk result (map (seen texts) row.new.items ≡ map (seen texts) row.old.items ++ (ElementTree (item_tree item.entry), msc_bytes separator.now) ∷ []) }
+    ensures { OnOk result (map (seen texts) row.new.items ≡ map (seen texts) row.old.items ++ (ElementTree (item_tree item.entry), separator_bytes separator.now) ∷ []) }
 {
     let separator = separator.clone()?;
     row.push((item, separator))?;
@@ -485,7 +490,9 @@ fn push_item<'a>(
 
 #[cycle(copy)]
 #[inline(never)]
-fn clone_pair_row<'a>(row: &Vec<(Kp<'a>, Msc<'a>)>) -> Result<Vec<(Kp<'a>, Msc<'a>)>, AllocError>
+fn clone_pair_row<'a>(
+    row: &Vec<(Pair<'a>, Separator<'a>)>,
+) -> Result<Vec<(Pair<'a>, Separator<'a>)>, AllocError>
     ensures { IfOk result (λ t. map (seen_pair texts) t.items ≡ map (seen_pair texts) row.now.items) }
 {
     let mut copy = Vec::new(*row.allocator());
@@ -498,11 +505,11 @@ fn clone_pair_row<'a>(row: &Vec<(Kp<'a>, Msc<'a>)>) -> Result<Vec<(Kp<'a>, Msc<'
 
 #[inline(never)]
 fn push_pair<'a>(
-    row: &mut Vec<(Kp<'a>, Msc<'a>)>,
-    pair: Kp<'a>,
-    separator: &Msc<'a>,
+    row: &mut Vec<(Pair<'a>, Separator<'a>)>,
+    pair: Pair<'a>,
+    separator: &Separator<'a>,
 ) -> Result<(), AllocError>
-    ensures { OnOk result (map (seen_pair texts) row.new.items ≡ map (seen_pair texts) row.old.items ++ (view_pair texts pair.entry, msc_bytes separator.now) ∷ []) }
+    ensures { OnOk result (map (seen_pair texts) row.new.items ≡ map (seen_pair texts) row.old.items ++ (view_pair texts pair.entry, separator_bytes separator.now) ∷ []) }
 {
     let separator = separator.clone()?;
     row.push((pair, separator))?;
@@ -511,7 +518,7 @@ fn push_pair<'a>(
 
 #[cycle(copy)]
 #[inline(never)]
-fn clone_pair<'a>(pair: &Kp<'a>) -> Result<Kp<'a>, AllocError>
+fn clone_pair<'a>(pair: &Pair<'a>) -> Result<Pair<'a>, AllocError>
     ensures { IfOk result (λ t. view_pair texts t ≡ view_pair texts pair.now) }
 {
     let key = clone_item(&pair.key)?;
@@ -520,17 +527,17 @@ fn clone_pair<'a>(pair: &Kp<'a>) -> Result<Kp<'a>, AllocError>
 
 #[inline(never)]
 fn make_pair<'a>(
-    pair: &Kp<'a>,
+    pair: &Pair<'a>,
     key: Item<'a>,
     value: Result<Item<'a>, AllocError>,
-) -> Result<Kp<'a>, AllocError>
+) -> Result<Pair<'a>, AllocError>
     requires key { item_tree key ≡ item_tree pair.now.key }
     requires value { IfOk value (λ t. item_tree t ≡ item_tree pair.now.value) }
     ensures { IfOk result (λ t. view_pair texts t ≡ view_pair texts pair.now) }
 {
     let value = value?;
     let (before_colon, after_colon) = clone_spaces(&pair.before_colon, &pair.after_colon)?;
-    Ok(Kp {
+    Ok(Pair {
         key,
         before_colon,
         after_colon,

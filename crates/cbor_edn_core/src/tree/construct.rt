@@ -2,7 +2,7 @@
 ghost use Rattle.std.specs.Prelude.{◌≡◌, ◌∷◌, [], map, option_map, IfOk, IfErr, IfSome, OnOk, None};
 ghost use Rattle.std.specs.Fmt.{signed_decimal};
 ghost use Rattle.cbor_edn_parts.specs.Contents.{hex_literal, text_literal};
-ghost use Rattle.cbor_edn_parts.specs.Leaves.{msc_bytes};
+ghost use Rattle.cbor_edn_parts.specs.Leaves.{separator_bytes};
 ghost use Rattle.cbor_edn_parts.specs.Literal.{IsPrefix};
 ghost use Rattle.cbor_edn_parts.specs.Number.{IsNumber};
 ghost use Rattle.cbor_edn_parts.specs.Refusals.{IfTold};
@@ -16,13 +16,13 @@ ghost use Rattle.cbor_edn_core.specs.tree.View.{view_items, view_pair, view_pair
 ghost use Rattle.cbor_edn_model.specs.tree.TreeLeaves.{texts};
 
 use crate::tree::{
-    InnerItem, Item, ItemList, ItemOf, Items, Kp, Label, PairList, Pairs, Sequence, SequenceOf,
+    InnerItem, Item, ItemList, ItemOf, Items, Opener, Pair, PairList, Pairs, Sequence, SequenceOf,
     StandaloneItem,
 };
 use cbor_edn_model::text::keyword::NamedSimple;
 use cbor_edn_parts::error::{Fault, InconsistentEdn};
 use cbor_edn_parts::number::Number;
-use cbor_edn_parts::space::{Msc, S, Soc};
+use cbor_edn_parts::space::{ListEnd, Separator, Space};
 use cbor_edn_parts::string::Literal;
 use std::alloc::{AllocError, Global};
 
@@ -102,7 +102,7 @@ impl<'a> Item<'a> {
         let content: StandaloneItem<'a> = StandaloneItem::from(placeholder());
         let mut content = Box::new(alloc, content)?;
         content.item = std::mem::replace(self, placeholder());
-        self.inner = InnerItem::Enclosed(Label::tag(number, None), content);
+        self.inner = InnerItem::Enclosed(Opener::tag(number, None), content);
         Ok(())
     }
 
@@ -121,7 +121,7 @@ impl<'a> StandaloneItem<'a> {
     pub fn tagged(self, alloc: Global, number: u64) -> Result<Item<'a>, AllocError>
         ensures { IfOk result (λ t. item_tree t ≡ tagged_tree number (standalone_tree self.entry)) }
     {
-        Item::enclosed(alloc, Label::tag(number, None), self)
+        Item::enclosed(alloc, Opener::tag(number, None), self)
     }
 }
 
@@ -145,11 +145,11 @@ impl<'a> Item<'a> {
         let list = match comma_items(alloc, items)? {
             None => ItemList::Absent {
                 indicator: None,
-                s: S::empty(),
+                space: Space::empty(),
             },
             Some(items) => ItemList::Present {
                 head: None,
-                s: S::empty(),
+                space: Space::empty(),
                 items,
             },
         };
@@ -175,11 +175,11 @@ impl<'a> Item<'a> {
         let list = match comma_pairs(alloc, entries)? {
             None => PairList::Absent {
                 indicator: None,
-                s: S::empty(),
+                space: Space::empty(),
             },
             Some(pairs) => PairList::Present {
                 head: None,
-                s: S::empty(),
+                space: Space::empty(),
                 pairs,
             },
         };
@@ -207,7 +207,7 @@ impl<'a> Sequence<'a> {
     {
         let items = comma_items(alloc, items)?;
         Ok(SequenceOf {
-            before: S::empty(),
+            before: Space::empty(),
             items,
         })
     }
@@ -232,7 +232,7 @@ fn comma_items<'a>(alloc: Global, items: Vec<Item<'a>>) -> Result<Option<Items<'
     Ok(Some(Items {
         row,
         last,
-        soc: Soc::empty(),
+        end: ListEnd::empty(),
     }))
 }
 
@@ -251,7 +251,7 @@ fn comma_pairs<'a>(
     Ok(Some(Pairs {
         row,
         last,
-        soc: Soc::empty(),
+        end: ListEnd::empty(),
     }))
 }
 
@@ -259,16 +259,16 @@ fn comma_pairs<'a>(
 fn bare_pairs<'a>(
     alloc: Global,
     entries: Vec<(Item<'a>, Item<'a>)>,
-) -> Result<Vec<Kp<'a>>, AllocError>
+) -> Result<Vec<Pair<'a>>, AllocError>
     ensures { IfOk result (λ pairs. map (view_pair texts) pairs.items ≡ map pair_tree entries.entry.items) }
 {
     let mut pairs = Vec::new(alloc);
     for entry in entries {
         let (key, value) = entry;
-        pairs.push(Kp {
+        pairs.push(Pair {
             key,
-            before_colon: S::empty(),
-            after_colon: S::empty(),
+            before_colon: Space::empty(),
+            after_colon: Space::empty(),
             value,
         })?;
     }
@@ -276,13 +276,16 @@ fn bare_pairs<'a>(
 }
 
 /// The entries, each with a comma behind it. Fails where memory runs out; the entries are dropped then.
-fn with_commas<'a, T: Drop>(alloc: Global, entries: Vec<T>) -> Result<Vec<(T, Msc<'a>)>, AllocError>
+fn with_commas<'a, T: Drop>(
+    alloc: Global,
+    entries: Vec<T>,
+) -> Result<Vec<(T, Separator<'a>)>, AllocError>
     ensures entries { IfOk result (λ row. map (λ p. p.0) row.items ≡ entries.items) }
-    ensures commas { IfOk result (λ row. map (λ p. msc_bytes p.1) row.items ≡ map (λ _. 44 ∷ []) row.items) }
+    ensures commas { IfOk result (λ row. map (λ p. separator_bytes p.1) row.items ≡ map (λ _. 44 ∷ []) row.items) }
 {
     let mut row = Vec::new(alloc);
     for entry in entries {
-        row.push((entry, Msc::comma()))?;
+        row.push((entry, Separator::comma()))?;
     }
     Ok(row)
 }

@@ -8,10 +8,10 @@ ghost use Rattle.cbor_edn_core.specs.tree.View.{view_list, view_pair_list, view_
 ghost use Rattle.cbor_edn_model.specs.tree.TreeLeaves.{texts};
 
 use crate::tree::{
-    CborString, Indicator, InnerItem, Item, ItemList, ItemOf, Label, PairList, Piece,
+    CborString, Indicator, InnerItem, Item, ItemList, ItemOf, Opener, PairList, Piece,
     StandaloneItem, StandaloneItemOf, Stream,
 };
-use cbor_edn_parts::space::S;
+use cbor_edn_parts::space::Space;
 use cbor_edn_parts::string::Literal;
 use std::alloc::{AllocError, Global};
 
@@ -19,15 +19,15 @@ use std::alloc::{AllocError, Global};
 impl<'a> Item<'a> {
     pub(crate) fn enclosed(
         alloc: Global,
-        label: Label,
+        opener: Opener,
         content: StandaloneItem<'a>,
     ) -> Result<Item<'a>, AllocError>
-        ensures view { IfOk result (λ t. item_tree t ≡ EnclosedTree label.kind (standalone_tree content.entry)) }
+        ensures view { IfOk result (λ t. item_tree t ≡ EnclosedTree opener.kind (standalone_tree content.entry)) }
         ensures borrowed { BorrowsStandalone content.entry → IfOk result BorrowsItem }
     {
         let content = Box::new(alloc, content)?;
         Ok(ItemOf {
-            inner: InnerItem::Enclosed(label, content),
+            inner: InnerItem::Enclosed(opener, content),
         })
     }
 
@@ -104,9 +104,9 @@ impl<'a> From<Item<'a>> for StandaloneItem<'a> {
 
     fn from(item: Item<'a>) -> StandaloneItem<'a> {
         StandaloneItemOf {
-            before: S::empty(),
+            before: Space::empty(),
             item,
-            after: S::empty(),
+            after: Space::empty(),
         }
     }
 }

@@ -48,7 +48,7 @@ fn outline_of_string<'b>(string: &'b CborString<'_>) -> &'b str {
     }
     match &string.last {
         Piece::Literal(_, literal) => literal.as_str(),
-        Piece::Dots(dots) => dots.as_str(),
+        Piece::Ellipsis(ellipsis) => ellipsis.as_str(),
         Piece::Embedded(_, _) => "<<..>>",
     }
 }

@@ -7,7 +7,7 @@ ghost use Rattle.cbor_edn_model.specs.tree.TreeLeaves.{texts};
 
 use crate::access::application::has_several_pieces;
 use crate::tree::{CborString, Indicator, InnerItem, Item, ItemsOf, Piece, Sequence, SequenceOf};
-use cbor_edn_parts::space::{S, Soc};
+use cbor_edn_parts::space::{ListEnd, Space};
 use std::alloc::{AllocError, Global};
 
 impl<'a> Sequence<'a> {
@@ -17,11 +17,11 @@ impl<'a> Sequence<'a> {
         ensures { sequence_tree result ≡ SequenceTree [] (LastTree (ElementTree (item_tree item.entry)) []) }
     {
         SequenceOf {
-            before: S::empty(),
+            before: Space::empty(),
             items: Some(ItemsOf {
                 row: Vec::new(alloc),
                 last: item,
-                soc: Soc::empty(),
+                end: ListEnd::empty(),
             }),
         }
     }
@@ -96,6 +96,6 @@ fn piece_indicator(piece: &Piece<'_>) -> Option<Option<Indicator>>
 {
     match piece {
         Piece::Literal(indicator, _) => Some(*indicator),
-        Piece::Dots(_) | Piece::Embedded(..) => None,
+        Piece::Ellipsis(_) | Piece::Embedded(..) => None,
     }
 }

@@ -8,12 +8,12 @@ ghost use Rattle.cbor_edn_parts.specs.Leaves.{literal_bytes};
 
 use crate::access::application::has_several_pieces;
 use crate::tree::{
-    CborString, Indicator, InnerItem, Item, ItemList, Items, Kp, PairList, Pairs, Piece, Sequence,
-    StandaloneItem, Stream, Strings,
+    CborString, Indicator, InnerItem, Item, ItemList, Items, Pair, PairList, Pairs, Piece,
+    Sequence, StandaloneItem, Stream, Strings,
 };
 use cbor_edn_model::text::keyword::NonFinite;
 use cbor_edn_model::text::list_head::have_same_head;
-use cbor_edn_parts::space::{Msc, S};
+use cbor_edn_parts::space::{Separator, Space};
 use cbor_edn_parts::string::Literal;
 
 impl PartialEq for Item<'_> {
@@ -83,7 +83,7 @@ fn is_literal_piece(piece: &Piece<'_>, indicator: Option<Indicator>, literal: &L
 {
     match piece {
         Piece::Literal(i, l) => *l == *literal && *i == indicator,
-        Piece::Dots(_) | Piece::Embedded(..) => false,
+        Piece::Ellipsis(_) | Piece::Embedded(..) => false,
     }
 }
 
@@ -104,7 +104,10 @@ fn same_string(a: &CborString<'_>, b: &CborString<'_>) -> bool
 
 #[cycle(same)]
 #[tactic(auto, using(cbor_edn_model::proofs::lemmas::tree::EqualRows::pieces_as_long))]
-fn same_piece_row(a: &[(Piece<'_>, S<'_>, S<'_>)], b: &[(Piece<'_>, S<'_>, S<'_>)]) -> bool
+fn same_piece_row(
+    a: &[(Piece<'_>, Space<'_>, Space<'_>)],
+    b: &[(Piece<'_>, Space<'_>, Space<'_>)],
+) -> bool
     ensures { result ≡ same_pieces (map (seen_piece texts) a.now) (map (seen_piece texts) b.now) }
 {
     if a.len() != b.len() {
@@ -126,7 +129,7 @@ fn same_piece(a: &Piece<'_>, b: &Piece<'_>) -> bool
 {
     match (a, b) {
         (Piece::Literal(i, x), Piece::Literal(j, y)) => *x == *y && *i == *j,
-        (Piece::Dots(x), Piece::Dots(y)) => *x == *y,
+        (Piece::Ellipsis(x), Piece::Ellipsis(y)) => *x == *y,
         (Piece::Embedded(i, x), Piece::Embedded(j, y)) => same_sequence(x, y) && *i == *j,
         _ => false,
     }
@@ -149,7 +152,7 @@ fn same_sequence(a: &Sequence<'_>, b: &Sequence<'_>) -> bool
 fn same_stream(a: &Stream<'_>, b: &Stream<'_>) -> bool
     ensures { result ≡ same_tree (view_stream texts a.now) (view_stream texts b.now) }
 {
-    a.ms == b.ms && same_strings(&a.strings, &b.strings)
+    a.space == b.space && same_strings(&a.strings, &b.strings)
 }
 
 #[cycle(same)]
@@ -157,12 +160,15 @@ fn same_stream(a: &Stream<'_>, b: &Stream<'_>) -> bool
 fn same_strings(a: &Strings<'_>, b: &Strings<'_>) -> bool
     ensures { result ≡ same_tree (view_strings texts a.now) (view_strings texts b.now) }
 {
-    same_string_row(&a.row, &b.row) && same_string(&a.last, &b.last) && a.soc == b.soc
+    same_string_row(&a.row, &b.row) && same_string(&a.last, &b.last) && a.end == b.end
 }
 
 #[cycle(same)]
 #[tactic(auto, using(cbor_edn_model::proofs::lemmas::tree::EqualRows::rows_as_long))]
-fn same_string_row(a: &[(CborString<'_>, Msc<'_>)], b: &[(CborString<'_>, Msc<'_>)]) -> bool
+fn same_string_row(
+    a: &[(CborString<'_>, Separator<'_>)],
+    b: &[(CborString<'_>, Separator<'_>)],
+) -> bool
     ensures { result ≡ same_entries (map (seen_string texts) a.now) (map (seen_string texts) b.now) }
 {
     if a.len() != b.len() {
@@ -186,18 +192,25 @@ fn same_list(a: &ItemList<'_>, b: &ItemList<'_>) -> bool
         (
             ItemList::Present {
                 head: h,
-                s,
+                space: s,
                 items: x,
             },
             ItemList::Present {
                 head: g,
-                s: t,
+                space: t,
                 items: y,
             },
         ) => { have_same_head(h, g) && *s == *t && same_items(x, y) }
-        (ItemList::Absent { indicator: i, s }, ItemList::Absent { indicator: j, s: t }) => {
-            *i == *j && *s == *t
-        }
+        (
+            ItemList::Absent {
+                indicator: i,
+                space: s,
+            },
+            ItemList::Absent {
+                indicator: j,
+                space: t,
+            },
+        ) => { *i == *j && *s == *t }
         _ => false,
     }
 }
@@ -207,12 +220,12 @@ fn same_list(a: &ItemList<'_>, b: &ItemList<'_>) -> bool
 fn same_items(a: &Items<'_>, b: &Items<'_>) -> bool
     ensures { result ≡ same_tree (view_items texts a.now) (view_items texts b.now) }
 {
-    same_row(&a.row, &b.row) && same_item(&a.last, &b.last) && a.soc == b.soc
+    same_row(&a.row, &b.row) && same_item(&a.last, &b.last) && a.end == b.end
 }
 
 #[cycle(same)]
 #[tactic(auto, using(cbor_edn_model::proofs::lemmas::tree::EqualRows::rows_as_long))]
-fn same_row(a: &[(Item<'_>, Msc<'_>)], b: &[(Item<'_>, Msc<'_>)]) -> bool
+fn same_row(a: &[(Item<'_>, Separator<'_>)], b: &[(Item<'_>, Separator<'_>)]) -> bool
     ensures { result ≡ same_entries (map (seen texts) a.now) (map (seen texts) b.now) }
 {
     if a.len() != b.len() {
@@ -236,18 +249,25 @@ fn same_pair_list(a: &PairList<'_>, b: &PairList<'_>) -> bool
         (
             PairList::Present {
                 head: h,
-                s,
+                space: s,
                 pairs: x,
             },
             PairList::Present {
                 head: g,
-                s: t,
+                space: t,
                 pairs: y,
             },
         ) => { have_same_head(h, g) && *s == *t && same_pairs(x, y) }
-        (PairList::Absent { indicator: i, s }, PairList::Absent { indicator: j, s: t }) => {
-            *i == *j && *s == *t
-        }
+        (
+            PairList::Absent {
+                indicator: i,
+                space: s,
+            },
+            PairList::Absent {
+                indicator: j,
+                space: t,
+            },
+        ) => { *i == *j && *s == *t }
         _ => false,
     }
 }
@@ -257,12 +277,12 @@ fn same_pair_list(a: &PairList<'_>, b: &PairList<'_>) -> bool
 fn same_pairs(a: &Pairs<'_>, b: &Pairs<'_>) -> bool
     ensures { result ≡ same_tree (view_pairs texts a.now) (view_pairs texts b.now) }
 {
-    same_pair_row(&a.row, &b.row) && same_pair(&a.last, &b.last) && a.soc == b.soc
+    same_pair_row(&a.row, &b.row) && same_pair(&a.last, &b.last) && a.end == b.end
 }
 
 #[cycle(same)]
 #[tactic(auto, using(cbor_edn_model::proofs::lemmas::tree::EqualRows::rows_as_long))]
-fn same_pair_row(a: &[(Kp<'_>, Msc<'_>)], b: &[(Kp<'_>, Msc<'_>)]) -> bool
+fn same_pair_row(a: &[(Pair<'_>, Separator<'_>)], b: &[(Pair<'_>, Separator<'_>)]) -> bool
     ensures { result ≡ same_entries (map (seen_pair texts) a.now) (map (seen_pair texts) b.now) }
 {
     if a.len() != b.len() {
@@ -279,7 +299,7 @@ fn same_pair_row(a: &[(Kp<'_>, Msc<'_>)], b: &[(Kp<'_>, Msc<'_>)]) -> bool
 }
 
 #[cycle(same)]
-fn same_pair(a: &Kp<'_>, b: &Kp<'_>) -> bool
+fn same_pair(a: &Pair<'_>, b: &Pair<'_>) -> bool
     ensures { result ≡ same_tree (view_pair texts a.now) (view_pair texts b.now) }
 {
     same_item(&a.key, &b.key)

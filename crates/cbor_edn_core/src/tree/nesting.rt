@@ -8,11 +8,11 @@ ghost use Rattle.cbor_edn_model.specs.internal.Widths.{capped};
 ghost use Rattle.cbor_edn_core.specs.tree.View.{item_tree, standalone_tree, sequence_tree, seen, seen_pair, seen_piece, seen_string, view_items, view_list, view_pair, view_pair_list, view_pairs, view_piece, view_stream, view_string, view_strings};
 
 use crate::tree::{
-    CborString, InnerItem, Item, ItemList, Items, Kp, LabelKind, PairList, Pairs, Piece, Sequence,
-    StandaloneItem, Stream, Strings,
+    CborString, InnerItem, Item, ItemList, Items, OpenerKind, Pair, PairList, Pairs, Piece,
+    Sequence, StandaloneItem, Stream, Strings,
 };
 use cbor_edn_model::visit::depth::depth_of_embedded;
-use cbor_edn_parts::space::{Msc, S};
+use cbor_edn_parts::space::{Separator, Space};
 
 impl Item<'_> {
     /// How deep arrays, maps, tags, `simple(..)` and embedded sequences nest in the item, which is the least limit at which its text is
@@ -63,9 +63,9 @@ fn item_nesting(item: &Item<'_>, levels: Levels) -> usize
         | InnerItem::NonFinite(..)
         | InnerItem::Named(_)
         | InnerItem::Literal(..) => 0,
-        InnerItem::Enclosed(label, content) => match (label.kind, levels) {
-            (LabelKind::Simple, Levels::Visited) => 0,
-            (LabelKind::Simple, Levels::Read) | (LabelKind::Tag(..), _) => {
+        InnerItem::Enclosed(opener, content) => match (opener.kind, levels) {
+            (OpenerKind::Simple, Levels::Visited) => 0,
+            (OpenerKind::Simple, Levels::Read) | (OpenerKind::Tag(..), _) => {
                 standalone_nesting(content, levels).saturating_add(1)
             }
         },
@@ -113,7 +113,7 @@ fn items_nesting(items: &Items<'_>, levels: Levels) -> usize
 }
 
 #[cycle(nesting)]
-fn row_nesting(row: &[(Item<'_>, Msc<'_>)], levels: Levels) -> usize
+fn row_nesting(row: &[(Item<'_>, Separator<'_>)], levels: Levels) -> usize
     ensures { result ≡ capped (entries_nesting levels (map (seen texts) row.now)) }
 {
     let mut deepest = 0;
@@ -142,7 +142,7 @@ fn pairs_nesting(pairs: &Pairs<'_>, levels: Levels) -> usize
 }
 
 #[cycle(nesting)]
-fn pair_row_nesting(row: &[(Kp<'_>, Msc<'_>)], levels: Levels) -> usize
+fn pair_row_nesting(row: &[(Pair<'_>, Separator<'_>)], levels: Levels) -> usize
     ensures { result ≡ capped (entries_nesting levels (map (seen_pair texts) row.now)) }
 {
     let mut deepest = 0;
@@ -153,7 +153,7 @@ fn pair_row_nesting(row: &[(Kp<'_>, Msc<'_>)], levels: Levels) -> usize
 }
 
 #[cycle(nesting)]
-fn pair_nesting(pair: &Kp<'_>, levels: Levels) -> usize
+fn pair_nesting(pair: &Pair<'_>, levels: Levels) -> usize
     ensures { result ≡ capped (nesting_by levels (view_pair texts pair.now)) }
 {
     item_nesting(&pair.key, levels).max(item_nesting(&pair.value, levels))
@@ -168,7 +168,7 @@ fn string_nesting(string: &CborString<'_>, levels: Levels) -> usize
 }
 
 #[cycle(nesting)]
-fn piece_row_nesting(row: &[(Piece<'_>, S<'_>, S<'_>)], levels: Levels) -> usize
+fn piece_row_nesting(row: &[(Piece<'_>, Space<'_>, Space<'_>)], levels: Levels) -> usize
     ensures { result ≡ capped (pieces_nesting levels (map (seen_piece texts) row.now)) }
 {
     let mut deepest = 0;
@@ -183,7 +183,7 @@ fn piece_nesting(piece: &Piece<'_>, levels: Levels) -> usize
     ensures { result ≡ capped (nesting_by levels (view_piece texts piece.now)) }
 {
     match piece {
-        Piece::Literal(..) | Piece::Dots(_) => 0,
+        Piece::Literal(..) | Piece::Ellipsis(_) => 0,
         Piece::Embedded(_, sequence) => depth_of_embedded(sequence_nesting(sequence, levels)),
     }
 }
@@ -205,7 +205,7 @@ fn strings_nesting(strings: &Strings<'_>, levels: Levels) -> usize
 }
 
 #[cycle(nesting)]
-fn string_row_nesting(row: &[(CborString<'_>, Msc<'_>)], levels: Levels) -> usize
+fn string_row_nesting(row: &[(CborString<'_>, Separator<'_>)], levels: Levels) -> usize
     ensures { result ≡ capped (entries_nesting levels (map (seen_string texts) row.now)) }
 {
     let mut deepest = 0;

@@ -45,6 +45,6 @@ fn grow<T>(row: &mut Vec<T>) -> Result<(), AllocError>
 /// Drops a value. Where that is inlined it takes stack at each level of what nests.
 #[cold]
 #[inline(never)]
-pub(crate) fn let_go<T: Drop>(value: T) {
+pub(crate) fn drop_out_of_line<T: Drop>(value: T) {
     drop(value)
 }

@@ -14,7 +14,7 @@ use super::put_answer;
 use crate::access::TypeMismatch;
 use crate::tree::{InnerItem, Item, ItemList, Items};
 use cbor_edn_parts::error::{CallbackError, Fault};
-use cbor_edn_parts::space::{Msc, TakesComment};
+use cbor_edn_parts::space::{Separator, TakesComment};
 use std::alloc::{AllocError, Global};
 
 /// The call at an element.
@@ -31,12 +31,12 @@ fn call<'a, F: FnMut(&mut Item<'a>) -> Result<Option<String>, CallbackError>>(
 /// The call at an element, with its comment.
 fn visit_element<
     'a,
-    S: TakesComment,
+    X: TakesComment,
     F: FnMut(&mut Item<'a>) -> Result<Option<String>, CallbackError>,
->(item: &mut Item<'a>, space: &mut S, alloc: Global, f: &mut F) -> Result<(), AllocError>
+>(item: &mut Item<'a>, space: &mut X, alloc: Global, f: &mut F) -> Result<(), AllocError>
     requires callable { MayCall item_tree F.FnMut f.old (item_tree item.old) }
     ensures visited { (c : Call) × IsCall item_tree F.FnMut f.old c f.new
-        × VisitElement (ElementTree (item_tree item.old)) (S.bytes space.old) c (ElementTree (item_tree item.new)) (S.bytes space.new) (ending result) }
+        × VisitElement (ElementTree (item_tree item.old)) (X.bytes space.old) c (ElementTree (item_tree item.new)) (X.bytes space.new) (ending result) }
 {
     let answer = call(item, f);
     put_answer(answer, space, alloc)
@@ -44,7 +44,7 @@ fn visit_element<
 
 /// The calls at the elements of a row.
 fn visit_row<'a, F: FnMut(&mut Item<'a>) -> Result<Option<String>, CallbackError>>(
-    row: &mut Vec<(Item<'a>, Msc<'a>)>,
+    row: &mut Vec<(Item<'a>, Separator<'a>)>,
     alloc: Global,
     f: &mut F,
 ) -> Result<(), AllocError>
@@ -69,7 +69,7 @@ fn visit_items<'a, F: FnMut(&mut Item<'a>) -> Result<Option<String>, CallbackErr
         × VisitEntries VisitElement (view_items texts items.old) cs (view_items texts items.new) (ending result) }
 {
     visit_row(&mut items.row, alloc, f)?;
-    visit_element(&mut items.last, &mut items.soc, alloc, f)
+    visit_element(&mut items.last, &mut items.end, alloc, f)
 }
 
 /// The calls at what stands between the brackets.

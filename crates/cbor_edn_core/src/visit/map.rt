@@ -15,9 +15,9 @@ ghost use Rattle.cbor_edn_core.specs.tree.View.{Item, item_tree, row_key, seen_p
 
 use super::put_answer;
 use crate::access::TypeMismatch;
-use crate::tree::{InnerItem, Item, Kp, PairList, Pairs};
+use crate::tree::{InnerItem, Item, Pair, PairList, Pairs};
 use cbor_edn_parts::error::{CallbackError, Fault};
-use cbor_edn_parts::space::{Msc, TakesComment};
+use cbor_edn_parts::space::{Separator, TakesComment};
 use std::alloc::{AllocError, Global};
 
 /// What a visit of a map does with the value of a key, once: it is in the answer at that key, and spent on the value.
@@ -59,13 +59,13 @@ fn answer_and_handler<H: Drop>(
 /// The call at a key with its comment, and then that of its handler at the value.
 fn visit_pair<
     'a,
-    S: TakesComment,
+    X: TakesComment,
     H: MapValueHandler<'a>,
     F: FnMut(&mut Item<'a>) -> Result<(Option<String>, Option<H>), CallbackError>,
->(pair: &mut Kp<'a>, space: &mut S, alloc: Global, f: &mut F) -> Result<(), AllocError>
+>(pair: &mut Pair<'a>, space: &mut X, alloc: Global, f: &mut F) -> Result<(), AllocError>
     requires callable { MayCall item_tree F.FnMut f.old (item_tree pair.old.key) }
     ensures visited { (c : KeyCall) × IsKeyCall item_tree F.FnMut H.handles f.old c f.new
-        × VisitPair (view_pair texts pair.old) (S.bytes space.old) c (view_pair texts pair.new) (S.bytes space.new) (ending result) }
+        × VisitPair (view_pair texts pair.old) (X.bytes space.old) c (view_pair texts pair.new) (X.bytes space.new) (ending result) }
 {
     let told = call(&mut pair.key, f);
     let parts = answer_and_handler(told);
@@ -84,7 +84,7 @@ fn visit_row<
     'a,
     H: MapValueHandler<'a>,
     F: FnMut(&mut Item<'a>) -> Result<(Option<String>, Option<H>), CallbackError>,
->(row: &mut Vec<(Kp<'a>, Msc<'a>)>, alloc: Global, f: &mut F) -> Result<(), AllocError>
+>(row: &mut Vec<(Pair<'a>, Separator<'a>)>, alloc: Global, f: &mut F) -> Result<(), AllocError>
     requires callable { MayVisit item_tree F.FnMut (IsKeyCall item_tree F.FnMut H.handles) (λ c. c.at_key.before) (map row_key row.old.items) f.old }
     ensures visited { (cs : List KeyCall) × Chain (IsKeyCall item_tree F.FnMut H.handles) f.old cs f.new × All (λ c. Contains (map row_key row.old.items) c.at_key.before) cs
         × VisitFront VisitPair (map (seen_pair texts) row.old.items) cs (map (seen_pair texts) row.new.items) (ending result) }
@@ -106,7 +106,7 @@ fn visit_pairs<
         × VisitEntries VisitPair (view_pairs texts pairs.old) cs (view_pairs texts pairs.new) (ending result) }
 {
     visit_row(&mut pairs.row, alloc, f)?;
-    visit_pair(&mut pairs.last, &mut pairs.soc, alloc, f)
+    visit_pair(&mut pairs.last, &mut pairs.end, alloc, f)
 }
 
 /// The calls at what stands between the braces.

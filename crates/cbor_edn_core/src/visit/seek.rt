@@ -18,8 +18,8 @@ use crate::tree::nesting::item_depth;
 use crate::tree::{Item, ItemOf};
 use cbor_edn_parts::error::{CallbackError, Fault};
 use cbor_edn_parts::number::Number;
-use cbor_edn_parts::space::{Ms, Msc, S, Soc, TakesComment};
-use cbor_edn_parts::string::{Dots, Literal};
+use cbor_edn_parts::space::{ListEnd, MandatorySpace, Separator, Space, TakesComment};
+use cbor_edn_parts::string::{Ellipsis, Literal};
 use std::alloc::{AllocError, Global};
 
 /// What a visit looks for, over any leaves: the call at an item that is sought, with its comment in the space that follows,
@@ -33,7 +33,7 @@ pub(super) trait Seek<F, O: Drop, M: Drop, C: Drop, E: Drop, N: Drop, L: Drop, D
 
     ghost ready: { F → Type 0 };
 
-    fn reach_spaced(
+    fn call_at_spaced(
         item: &mut ItemOf<O, M, C, E, N, L, D>,
         space: &mut O,
         alloc: Global,
@@ -43,7 +43,7 @@ pub(super) trait Seek<F, O: Drop, M: Drop, C: Drop, E: Drop, N: Drop, L: Drop, D
         ensures callable_after { ready f.new }
         ensures reached { (cs : List SoughtCall) × Chain calls f.old cs f.new × Reaches sought (view_item leaves item.old) (leaves.space space.old) cs (view_item leaves item.new) (leaves.space space.new) result };
 
-    fn reach_separated(
+    fn call_at_separated(
         item: &mut ItemOf<O, M, C, E, N, L, D>,
         separator: &mut C,
         alloc: Global,
@@ -53,7 +53,7 @@ pub(super) trait Seek<F, O: Drop, M: Drop, C: Drop, E: Drop, N: Drop, L: Drop, D
         ensures callable_after { ready f.new }
         ensures reached { (cs : List SoughtCall) × Chain calls f.old cs f.new × Reaches sought (view_item leaves item.old) (leaves.separator separator.old) cs (view_item leaves item.new) (leaves.separator separator.new) result };
 
-    fn reach_last(
+    fn call_at_last(
         item: &mut ItemOf<O, M, C, E, N, L, D>,
         end: &mut E,
         alloc: Global,
@@ -72,7 +72,7 @@ pub(super) trait SeekText<'a, F> {
 
     ghost ready: { F → Type 0 };
 
-    fn reach<X: TakesComment>(
+    fn call_at<X: TakesComment>(
         item: &mut Item<'a>,
         space: &mut X,
         alloc: Global,
@@ -85,13 +85,13 @@ pub(super) trait SeekText<'a, F> {
 
 impl<'a, F, K: SeekText<'a, F>> Seek<
     F,
-    S<'a>,
-    Ms<'a>,
-    Msc<'a>,
-    Soc<'a>,
+    Space<'a>,
+    MandatorySpace<'a>,
+    Separator<'a>,
+    ListEnd<'a>,
     Number<'a>,
     Literal<'a>,
-    Dots<'a>,
+    Ellipsis<'a>,
 > for K {
     ghost leaves = { texts };
 
@@ -102,33 +102,33 @@ impl<'a, F, K: SeekText<'a, F>> Seek<
     ghost ready = { K.SeekText.ready };
 
     #[inline]
-    fn reach_spaced(
+    fn call_at_spaced(
         item: &mut Item<'a>,
-        space: &mut S<'a>,
+        space: &mut Space<'a>,
         alloc: Global,
         f: &mut F,
     ) -> Result<bool, AllocError> {
-        K::reach(item, space, alloc, f)
+        K::call_at(item, space, alloc, f)
     }
 
     #[inline]
-    fn reach_separated(
+    fn call_at_separated(
         item: &mut Item<'a>,
-        separator: &mut Msc<'a>,
+        separator: &mut Separator<'a>,
         alloc: Global,
         f: &mut F,
     ) -> Result<bool, AllocError> {
-        K::reach(item, separator, alloc, f)
+        K::call_at(item, separator, alloc, f)
     }
 
     #[inline]
-    fn reach_last(
+    fn call_at_last(
         item: &mut Item<'a>,
-        end: &mut Soc<'a>,
+        end: &mut ListEnd<'a>,
         alloc: Global,
         f: &mut F,
     ) -> Result<bool, AllocError> {
-        K::reach(item, end, alloc, f)
+        K::call_at(item, end, alloc, f)
     }
 }
 
@@ -228,7 +228,7 @@ impl<'a, F: FnMut(u64, &mut Item<'a>) -> Result<(), CallbackError>> SeekText<'a,
 
     /// What is no tag, as most items, is passed over at once.
     #[inline]
-    fn reach<X: TakesComment>(
+    fn call_at<X: TakesComment>(
         item: &mut Item<'a>,
         space: &mut X,
         alloc: Global,
@@ -237,13 +237,13 @@ impl<'a, F: FnMut(u64, &mut Item<'a>) -> Result<(), CallbackError>> SeekText<'a,
         let Ok(tag) = item.get_tag() else {
             return Ok(true);
         };
-        reach_numbered(tag, item, space, alloc, f)
+        call_at_numbered(tag, item, space, alloc, f)
     }
 }
 
 /// The call at a tag of this number.
 #[inline(never)]
-fn reach_numbered<'a, X: TakesComment, F: FnMut(u64, &mut Item<'a>) -> Result<(), CallbackError>>(
+fn call_at_numbered<'a, X: TakesComment, F: FnMut(u64, &mut Item<'a>) -> Result<(), CallbackError>>(
     tag: u64,
     item: &mut Item<'a>,
     space: &mut X,
@@ -272,7 +272,7 @@ impl<'a, F: FnMut(u64, &mut Item<'a>) -> Result<(), CallbackError>> SeekText<'a,
     ghost ready = { λ f. MayVisitTags item_tree F.FnMut f × LeavesNoneDeeper item_tree F.FnMut };
 
     #[inline]
-    fn reach<X: TakesComment>(
+    fn call_at<X: TakesComment>(
         item: &mut Item<'a>,
         space: &mut X,
         alloc: Global,
@@ -300,7 +300,7 @@ impl<'a, F: FnMut(String, String, &mut Item<'a>) -> Result<(), CallbackError>> S
 
     /// What has no prefix, as most items, is passed over at once.
     #[inline]
-    fn reach<X: TakesComment>(
+    fn call_at<X: TakesComment>(
         item: &mut Item<'a>,
         space: &mut X,
         alloc: Global,
@@ -309,13 +309,13 @@ impl<'a, F: FnMut(String, String, &mut Item<'a>) -> Result<(), CallbackError>> S
         if !may_have_prefix(item) {
             return Ok(true);
         }
-        reach_application(item, space, alloc, f)
+        call_at_application(item, space, alloc, f)
     }
 }
 
 /// The call where an item is a literal, which its pieces tell.
 #[inline(never)]
-fn reach_application<
+fn call_at_application<
     'a,
     X: TakesComment,
     F: FnMut(String, String, &mut Item<'a>) -> Result<(), CallbackError>,
@@ -346,7 +346,7 @@ impl<'a, F: FnMut(&mut Item<'a>) -> Result<(), CallbackError>> SeekText<'a, F>
     ghost ready = { MayVisitItems item_tree F.FnMut };
 
     #[inline]
-    fn reach<X: TakesComment>(
+    fn call_at<X: TakesComment>(
         item: &mut Item<'a>,
         space: &mut X,
         alloc: Global,
@@ -355,12 +355,12 @@ impl<'a, F: FnMut(&mut Item<'a>) -> Result<(), CallbackError>> SeekText<'a, F>
         if !may_have_prefix(item) {
             return Ok(true);
         }
-        reach_application_item(item, space, alloc, f)
+        call_at_application_item(item, space, alloc, f)
     }
 }
 
 #[inline(never)]
-fn reach_application_item<
+fn call_at_application_item<
     'a,
     X: TakesComment,
     F: FnMut(&mut Item<'a>) -> Result<(), CallbackError>,

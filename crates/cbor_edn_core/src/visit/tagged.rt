@@ -6,10 +6,10 @@ ghost use Rattle.cbor_edn_model.specs.internal.TaggedRows.{entries_have_tag, pie
 ghost use Rattle.cbor_edn_core.specs.tree.View.{item_tree, sequence_tree, seen, seen_pair, seen_piece, seen_string, view_items, view_list, view_pair, view_pair_list, view_pairs, view_piece, view_stream, view_string, view_strings};
 
 use crate::tree::{
-    CborString, InnerItem, Item, ItemList, Items, Kp, LabelKind, PairList, Pairs, Piece, Sequence,
-    Stream, Strings,
+    CborString, InnerItem, Item, ItemList, Items, OpenerKind, Pair, PairList, Pairs, Piece,
+    Sequence, Stream, Strings,
 };
-use cbor_edn_parts::space::{Msc, S};
+use cbor_edn_parts::space::{Separator, Space};
 
 #[cycle(tagged)]
 #[tactic(auto, using(crate::proofs::lemmas::tree::Views::view_string_is, crate::proofs::lemmas::tree::Views::view_stream_is), unfolding(cbor_edn_model::specs::visit::Tagged::has_tag))]
@@ -36,9 +36,9 @@ fn inner_has_tag(item: &Item<'_>) -> bool
         | InnerItem::NonFinite(..)
         | InnerItem::Named(_)
         | InnerItem::Literal(..) => false,
-        InnerItem::Enclosed(label, _) => match label.kind {
-            LabelKind::Tag(..) => true,
-            LabelKind::Simple => false,
+        InnerItem::Enclosed(opener, _) => match opener.kind {
+            OpenerKind::Tag(..) => true,
+            OpenerKind::Simple => false,
         },
         InnerItem::Array(list) => list_has_tag(list),
         InnerItem::Map(list) => pair_list_has_tag(list),
@@ -80,7 +80,7 @@ fn items_have_tag(items: &Items<'_>) -> bool
 
 #[cycle(tagged)]
 #[tactic(auto, unfolding(cbor_edn_model::specs::visit::Tagged::has_tag))]
-fn row_has_tag(row: &[(Item<'_>, Msc<'_>)]) -> bool
+fn row_has_tag(row: &[(Item<'_>, Separator<'_>)]) -> bool
     ensures { result ≡ entries_have_tag (map (seen texts) row.now) }
 {
     let mut found = false;
@@ -111,7 +111,7 @@ fn pairs_have_tag(pairs: &Pairs<'_>) -> bool
 
 #[cycle(tagged)]
 #[tactic(auto, unfolding(cbor_edn_model::specs::visit::Tagged::has_tag))]
-fn pair_row_has_tag(row: &[(Kp<'_>, Msc<'_>)]) -> bool
+fn pair_row_has_tag(row: &[(Pair<'_>, Separator<'_>)]) -> bool
     ensures { result ≡ entries_have_tag (map (seen_pair texts) row.now) }
 {
     let mut found = false;
@@ -123,7 +123,7 @@ fn pair_row_has_tag(row: &[(Kp<'_>, Msc<'_>)]) -> bool
 
 #[cycle(tagged)]
 #[tactic(auto, unfolding(cbor_edn_model::specs::visit::Tagged::has_tag))]
-fn pair_has_tag(pair: &Kp<'_>) -> bool
+fn pair_has_tag(pair: &Pair<'_>) -> bool
     ensures { result ≡ has_tag (view_pair texts pair.now) }
 {
     item_has_tag(&pair.key) || item_has_tag(&pair.value)
@@ -139,7 +139,7 @@ fn string_has_tag(string: &CborString<'_>) -> bool
 
 #[cycle(tagged)]
 #[tactic(auto, unfolding(cbor_edn_model::specs::visit::Tagged::has_tag))]
-fn piece_row_has_tag(row: &[(Piece<'_>, S<'_>, S<'_>)]) -> bool
+fn piece_row_has_tag(row: &[(Piece<'_>, Space<'_>, Space<'_>)]) -> bool
     ensures { result ≡ pieces_have_tag (map (seen_piece texts) row.now) }
 {
     let mut found = false;
@@ -155,7 +155,7 @@ fn piece_has_tag(piece: &Piece<'_>) -> bool
     ensures { result ≡ has_tag (view_piece texts piece.now) }
 {
     match piece {
-        Piece::Literal(..) | Piece::Dots(_) => false,
+        Piece::Literal(..) | Piece::Ellipsis(_) => false,
         Piece::Embedded(_, sequence) => sequence_has_tag(sequence),
     }
 }
@@ -178,7 +178,7 @@ fn strings_have_tag(strings: &Strings<'_>) -> bool
 
 #[cycle(tagged)]
 #[tactic(auto, unfolding(cbor_edn_model::specs::visit::Tagged::has_tag))]
-fn string_row_has_tag(row: &[(CborString<'_>, Msc<'_>)]) -> bool
+fn string_row_has_tag(row: &[(CborString<'_>, Separator<'_>)]) -> bool
     ensures { result ≡ entries_have_tag (map (seen_string texts) row.now) }
 {
     let mut found = false;

@@ -8,8 +8,8 @@ ghost use Rattle.cbor_edn_core.specs.tree.View.{seen, seen_pair, seen_piece, see
 
 use super::seek::Seek;
 use crate::tree::{
-    CborStringOf, InnerItemOf, ItemListOf, ItemOf, ItemsOf, KpOf, LabelKind, PairListOf, PairsOf,
-    PieceOf, SequenceOf, StandaloneItemOf, StringsOf,
+    CborStringOf, InnerItemOf, ItemListOf, ItemOf, ItemsOf, OpenerKind, PairListOf, PairOf,
+    PairsOf, PieceOf, SequenceOf, StandaloneItemOf, StringsOf,
 };
 use std::alloc::{AllocError, Global};
 use std::marker::PhantomData;
@@ -46,9 +46,9 @@ impl<
             InnerItemOf::Number(..) => Ok(()),
             InnerItemOf::NonFinite(..) => Ok(()),
             InnerItemOf::Named(_) => Ok(()),
-            InnerItemOf::Enclosed(label, content) => match label.kind {
-                LabelKind::Tag(..) => Self::visit_standalone(content, alloc, f),
-                LabelKind::Simple => Ok(()),
+            InnerItemOf::Enclosed(opener, content) => match opener.kind {
+                OpenerKind::Tag(..) => Self::visit_standalone(content, alloc, f),
+                OpenerKind::Simple => Ok(()),
             },
             InnerItemOf::Array(list) => Self::visit_list(list, alloc, f),
             InnerItemOf::Map(list) => Self::visit_pair_list(list, alloc, f),
@@ -105,7 +105,7 @@ impl<
         ensures callable_after { K.ready f.new }
         ensures visited { (cs : List SoughtCall) × Chain K.calls f.old cs f.new × VisitParts K.sought _ (view_standalone K.leaves content.old) cs (view_standalone K.leaves content.new) (ending result) }
     {
-        let enters = K::reach_spaced(&mut content.item, &mut content.after, alloc, f)?;
+        let enters = K::call_at_spaced(&mut content.item, &mut content.after, alloc, f)?;
         Self::visit_if(enters, &mut content.item, alloc, f)
     }
 
@@ -155,7 +155,7 @@ impl<
         ensures visited { (cs : List SoughtCall) × Chain K.calls f.old cs f.new × VisitParts K.sought _ (view_items K.leaves items.old) cs (view_items K.leaves items.new) (ending result) }
     {
         Self::visit_row(&mut items.row, alloc, f)?;
-        let enters = K::reach_last(&mut items.last, &mut items.soc, alloc, f)?;
+        let enters = K::call_at_last(&mut items.last, &mut items.end, alloc, f)?;
         Self::visit_if(enters, &mut items.last, alloc, f)
     }
 
@@ -171,7 +171,7 @@ impl<
         ensures visited { (cs : List SoughtCall) × Chain K.calls f.old cs f.new × SoughtFront K.sought (map (seen K.leaves) row.old.items) cs (map (seen K.leaves) row.new.items) (ending result) }
     {
         for (item, separator) in row.iter_mut() {
-            let enters = K::reach_separated(item, separator, alloc, f)?;
+            let enters = K::call_at_separated(item, separator, alloc, f)?;
             Self::visit_if(enters, item, alloc, f)?;
         }
         Ok(())
@@ -206,13 +206,13 @@ impl<
         ensures visited { (cs : List SoughtCall) × Chain K.calls f.old cs f.new × VisitParts K.sought _ (view_pairs K.leaves pairs.old) cs (view_pairs K.leaves pairs.new) (ending result) }
     {
         Self::visit_pair_row(&mut pairs.row, alloc, f)?;
-        Self::visit_last_pair(&mut pairs.last, &mut pairs.soc, alloc, f)
+        Self::visit_last_pair(&mut pairs.last, &mut pairs.end, alloc, f)
     }
 
     /// The last pair, with the end of its list.
     #[cycle(visit)]
     fn visit_last_pair(
-        pair: &mut KpOf<O, M, C, E, N, L, D>,
+        pair: &mut PairOf<O, M, C, E, N, L, D>,
         end: &mut E,
         alloc: Global,
         f: &mut F,
@@ -222,14 +222,14 @@ impl<
         ensures visited { (cs : List SoughtCall) × Chain K.calls f.old cs f.new × VisitEntry K.sought _ (view_pair K.leaves pair.old) (K.leaves.end end.old) cs (view_pair K.leaves pair.new) (K.leaves.end end.new) (ending result) }
     {
         Self::visit_key(pair, alloc, f)?;
-        let enters = K::reach_last(&mut pair.value, end, alloc, f)?;
+        let enters = K::call_at_last(&mut pair.value, end, alloc, f)?;
         Self::visit_if(enters, &mut pair.value, alloc, f)
     }
 
     /// The key of a pair, with the space that follows it.
     #[cycle(visit)]
     fn visit_key(
-        pair: &mut KpOf<O, M, C, E, N, L, D>,
+        pair: &mut PairOf<O, M, C, E, N, L, D>,
         alloc: Global,
         f: &mut F,
     ) -> Result<(), AllocError>
@@ -237,14 +237,14 @@ impl<
         ensures callable_after { K.ready f.new }
         ensures visited { (cs : List SoughtCall) × Chain K.calls f.old cs f.new × VisitKey K.sought (view_pair K.leaves pair.old) cs (view_pair K.leaves pair.new) (ending result) }
     {
-        let enters = K::reach_spaced(&mut pair.key, &mut pair.before_colon, alloc, f)?;
+        let enters = K::call_at_spaced(&mut pair.key, &mut pair.before_colon, alloc, f)?;
         Self::visit_if(enters, &mut pair.key, alloc, f)
     }
 
     /// Pairs, each with the separator that follows it.
     #[cycle(visit)]
     fn visit_pair_row(
-        row: &mut Vec<(KpOf<O, M, C, E, N, L, D>, C)>,
+        row: &mut Vec<(PairOf<O, M, C, E, N, L, D>, C)>,
         alloc: Global,
         f: &mut F,
     ) -> Result<(), AllocError>
@@ -254,7 +254,7 @@ impl<
     {
         for (pair, separator) in row.iter_mut() {
             Self::visit_key(pair, alloc, f)?;
-            let enters = K::reach_separated(&mut pair.value, separator, alloc, f)?;
+            let enters = K::call_at_separated(&mut pair.value, separator, alloc, f)?;
             Self::visit_if(enters, &mut pair.value, alloc, f)?;
         }
         Ok(())
@@ -305,7 +305,7 @@ impl<
     {
         match piece {
             PieceOf::Literal(..) => Ok(()),
-            PieceOf::Dots(_) => Ok(()),
+            PieceOf::Ellipsis(_) => Ok(()),
             PieceOf::Embedded(_, sequence) => Self::visit_sequence(sequence, alloc, f),
         }
     }

@@ -7,24 +7,24 @@ use Rattle.cbor_edn_parts.specs.Contents.{Content}
 use Rattle.cbor_edn_parts.specs.declared.indicator.Indicator.{Indicator}
 use Rattle.cbor_edn_parts.specs.declared.string.StringKind.TheVariants.{Bytes}
 use Rattle.cbor_edn_model.specs.cbor.Meaning.{means}
-use Rattle.cbor_edn_model.specs.declared.text.label.LabelKind.TheVariants as label
+use Rattle.cbor_edn_model.specs.declared.text.opener.OpenerKind.TheVariants as opener
 use Rattle.cbor_edn_model.specs.declared.text.keyword.NamedSimple.{NamedSimple}
 use Rattle.cbor_edn_model.specs.tree.Items.{Row, Elements, Pairs, Strings, Bracketed, Array, Map, entries_of}
 use Rattle.cbor_edn_model.specs.tree.Trees.{Tree, OneItem, OnePiece, OneString, OneEntry, Inside, Rest, Standalone, NumberTree, NamedTree, EnclosedTree, ListTree, StringTree, StreamTree, LiteralTree, LastPieceTree, PlusTree, EmptyTree, FullTree, LastTree, MoreTree, ElementTree, PairTree, ChunkTree, StandaloneTree, items}
 
 -- the number of a tag: 1 of `1( 2 )`
 abbrev pub tag_number : Tree OneItem → Option ℕ
-tag_number (EnclosedTree (label.Tag i n) w) = Some n
+tag_number (EnclosedTree (opener.Tag i n) w) = Some n
 tag_number _ = None
 
 -- the number of a tag with its encoding indicator: 1 and `_0` of `1_0(2)`
 abbrev pub tag_head : Tree OneItem → Option (ℕ × Option Indicator)
-tag_head (EnclosedTree (label.Tag i n) w) = Some (n, i)
+tag_head (EnclosedTree (opener.Tag i n) w) = Some (n, i)
 tag_head _ = None
 
 -- what stands between the parentheses of a tag, with its spaces: ` 2 ` of `1( 2 )`
 abbrev pub tag_content : Tree OneItem → Option (Tree Standalone)
-tag_content (EnclosedTree (label.Tag i n) w) = Some w
+tag_content (EnclosedTree (opener.Tag i n) w) = Some w
 tag_content _ = None
 
 -- the item between two spaces: 2 of ` 2 `
@@ -51,8 +51,8 @@ abbrev pub IsIntegerItem : Tree OneItem → ℤ → Type 0
 IsIntegerItem w z = (x : List ℕ) × (number_text w ≡ Some x) × HasInteger x z
 
 -- the same, whatever its integer
-abbrev pub IsLiteralItem : Tree OneItem → Type 0
-IsLiteralItem w = (x : List ℕ) × (number_text w ≡ Some x) × IsInteger x
+abbrev pub IsIntegerLiteral : Tree OneItem → Type 0
+IsIntegerLiteral w = (x : List ℕ) × (number_text w ≡ Some x) × IsInteger x
 
 -- entries in text order, without the spaces behind them
 abbrev pub entries : {k : Row} → Tree (Rest k) → List (Tree (OneEntry k))

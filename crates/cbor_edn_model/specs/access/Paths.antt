@@ -1,7 +1,7 @@
 -- Where paths lead in a tree, and what the tree is with another item there.
 use Rattle.std.specs.Prelude.{ℕ, ◌-◌, ◌==◌, ltb, if◌then◌else◌, length, slice_get, List, [], ◌∷◌, ◌++◌, Option, Some, None, option_map, option_and_then, unwrap_or}
-use Rattle.cbor_edn_model.specs.declared.text.label.LabelKind.TheVariants as label
-use Rattle.cbor_edn_model.specs.tree.Trees.{Rule, Tree, OneItem, Seq, Standalone, NumberTree, FloatTree, NamedTree, EnclosedTree, ListTree, StringTree, StreamTree, LiteralTree, DotsTree, EmbeddedTree, LastPieceTree, PlusTree, ElementTree, PairTree, ChunkTree, EmptyTree, FullTree, LastTree, MoreTree, NothingTree, SequenceTree, StandaloneTree}
+use Rattle.cbor_edn_model.specs.declared.text.opener.OpenerKind.TheVariants as opener
+use Rattle.cbor_edn_model.specs.tree.Trees.{Rule, Tree, OneItem, Seq, Standalone, NumberTree, FloatTree, NamedTree, EnclosedTree, ListTree, StringTree, StreamTree, LiteralTree, EllipsisTree, EmbeddedTree, LastPieceTree, PlusTree, ElementTree, PairTree, ChunkTree, EmptyTree, FullTree, LastTree, MoreTree, NothingTree, SequenceTree, StandaloneTree}
 
 -- The items right below an item, in text order: the elements of an array, the keys and values of a map, the content of a tag, and
 -- the items of the sequences that are embedded in a string, whose pieces and chunks stand one behind the other. Nothing stands
@@ -10,13 +10,13 @@ abbrev pub items_in : {s : Rule} → Tree s → List (Tree OneItem)
 items_in (NumberTree x i) = []
 items_in (FloatTree f i) = []
 items_in (NamedTree b) = []
-items_in (EnclosedTree (label.Tag i n) w) = items_in w
-items_in (EnclosedTree label.Simple w) = []
+items_in (EnclosedTree (opener.Tag i n) w) = items_in w
+items_in (EnclosedTree opener.Simple w) = []
 items_in (ListTree k w) = items_in w
 items_in (StringTree w) = items_in w
 items_in (StreamTree ms m) = items_in m
 items_in (LiteralTree x i) = []
-items_in (DotsTree x) = []
+items_in (EllipsisTree x) = []
 items_in (EmbeddedTree w i) = items_in w
 items_in (LastPieceTree p) = items_in p
 items_in (PlusTree p s t w) = items_in p ++ items_in w
@@ -52,13 +52,13 @@ abbrev pub with_item : {s : Rule} → ℕ → Tree OneItem → Tree s → Tree s
 with_item i x (NumberTree n p) = NumberTree n p
 with_item i x (FloatTree f p) = FloatTree f p
 with_item i x (NamedTree b) = NamedTree b
-with_item i x (EnclosedTree (label.Tag p n) w) = EnclosedTree (label.Tag p n) (with_item i x w)
-with_item i x (EnclosedTree label.Simple w) = EnclosedTree label.Simple w
+with_item i x (EnclosedTree (opener.Tag p n) w) = EnclosedTree (opener.Tag p n) (with_item i x w)
+with_item i x (EnclosedTree opener.Simple w) = EnclosedTree opener.Simple w
 with_item i x (ListTree k w) = ListTree k (with_item i x w)
 with_item i x (StringTree w) = StringTree (with_item i x w)
 with_item i x (StreamTree ms m) = StreamTree ms (with_item i x m)
 with_item i x (LiteralTree y p) = LiteralTree y p
-with_item i x (DotsTree y) = DotsTree y
+with_item i x (EllipsisTree y) = EllipsisTree y
 with_item i x (EmbeddedTree w p) = EmbeddedTree (with_item i x w) p
 with_item i x (LastPieceTree p) = LastPieceTree (with_item i x p)
 with_item i x (PlusTree p s t w) =

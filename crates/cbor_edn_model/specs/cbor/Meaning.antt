@@ -14,7 +14,7 @@ use Rattle.cbor_edn_model.specs.declared.text.keyword.NamedSimple.TheVariants.{F
 use Rattle.cbor_edn_model.specs.declared.text.keyword.NonFinite.{NonFinite}
 use Rattle.cbor_edn_model.specs.declared.cbor.heads.Width.{Width}
 use Rattle.cbor_edn_model.specs.declared.cbor.heads.Width.TheVariants.{Immediate, One, Two, Four, Eight}
-use Rattle.cbor_edn_model.specs.tree.Items.{Row, Elements, Pairs, Strings, Bracketed, Array, Map, entries_of, Sort, Item, Piece, Pieces, Entry, Entries, Node, Number, Float, Listed, Tagged, Named, Simple, String, Stream, Literal, Dots, Embedded, LastPiece, Plus, Element, Pair, Chunk, End, Then}
+use Rattle.cbor_edn_model.specs.tree.Items.{Row, Elements, Pairs, Strings, Bracketed, Array, Map, entries_of, Sort, Item, Piece, Pieces, Entry, Entries, Node, Number, Float, Listed, Tagged, Named, Simple, String, Stream, Literal, Ellipsis, Embedded, LastPiece, Plus, Element, Pair, Chunk, End, Then}
 use Rattle.cbor_edn_model.specs.cbor.Value as values
 use Rattle.cbor_edn_model.specs.cbor.Value.{Value, unsigned, negative, string, chunks, is_content, array, cbor_map, tag, simple, float, Values, no_values, value, values_len, no_pairs, pair, pairs_len, limit_of, encodings}
 
@@ -130,7 +130,7 @@ joined c d = (c.0, c.1 ++ d.1)
 -- The indicators of the pieces of a string, as one: none of several pieces may have one.
 abbrev pub piece_indicator : Node Piece → Option Indicator
 piece_indicator (Literal x i) = i
-piece_indicator (Dots x) = None
+piece_indicator (Ellipsis x) = None
 piece_indicator (Embedded m i) = i
 
 abbrev pub have_no_indicators : Node Pieces → Bool
@@ -222,7 +222,7 @@ means (Listed k i m) = means m >>= listed k i
 means (String w) = means w >>= λ c. pieces_indicator w >>= string_of c
 means (Stream m) = means m >>= stream_of
 means (Literal x i) = literal_content x
-means (Dots x) = None
+means (Ellipsis x) = None
 means (Embedded m i) = means m >>= λ vs. Some (Bytes, encodings vs)
 means (LastPiece p) = means p
 means (Plus p w) = means p >>= λ c. means w >>= λ d. Some (joined c d)

@@ -20,7 +20,7 @@ use Rattle.cbor_edn_model.specs.tree.Items as kind
 use Rattle.cbor_edn_model.specs.tree.Items.{Row, Elements, Strings, Bracketed, Array, Map, entries_of}
 use Rattle.cbor_edn_model.specs.tree.Trees.{Tree, OneItem, OneString, OneEntry, Rest, NumberTree, FloatTree, EnclosedTree, ListTree, StringTree, LiteralTree, LastPieceTree, ElementTree, ChunkTree}
 use Rattle.cbor_edn_model.specs.cbor.Value.{Chunk, is_content, string_major, break, float_bits}
-use Rattle.cbor_edn_model.specs.declared.text.label.LabelKind.TheVariants.{Tag}
+use Rattle.cbor_edn_model.specs.declared.text.opener.OpenerKind.TheVariants.{Tag}
 use Rattle.cbor_edn_model.specs.declared.text.keyword.NonFinite.{NonFinite}
 use Rattle.cbor_edn_model.specs.declared.text.keyword.NonFinite.TheVariants.{Infinity, NegativeInfinity, NaN}
 use Rattle.cbor_edn_model.specs.cbor.Decoded.{indicator_of, float_indicator, simple_item, alone}

@@ -1,6 +1,6 @@
 -- Numbers counted over parts that stand one behind the other, and the one form with an item in it that does not count.
 use Rattle.std.specs.Prelude.{◌≡◌, ℕ, zero, suc, ◌+◌, ◌-◌, ◌<◌, ◌≤◌, ltb, if◌then◌else◌, length, slice_get, Bool, true, false, List, [], ◌∷◌, Option, Some, None}
-use Rattle.cbor_edn_model.specs.declared.text.label.LabelKind.TheVariants as label
+use Rattle.cbor_edn_model.specs.declared.text.opener.OpenerKind.TheVariants as opener
 use Rattle.cbor_edn_model.specs.tree.Trees.{Tree, OneItem, EnclosedTree}
 
 -- what is left of a number behind n parts, or nothing where it is one of these
@@ -22,5 +22,5 @@ pub record IsCounted (counts : List ℕ) (i : ℕ) (r : ℕ × ℕ) : Type 0 whe
 
 -- whether an item is `simple(..)`, below which nothing stands
 abbrev pub is_simple_item : Tree OneItem → Bool
-is_simple_item (EnclosedTree label.Simple w) = true
+is_simple_item (EnclosedTree opener.Simple w) = true
 is_simple_item w = false

@@ -8,7 +8,7 @@ use Rattle.cbor_edn_parts.specs.Contents.{Content}
 use Rattle.cbor_edn_parts.specs.internal.ContentReading.{literal_kind}
 use Rattle.cbor_edn_model.specs.declared.cbor.heads.Width.{Width}
 use Rattle.cbor_edn_parts.specs.Refusals.{IfTold}
-use Rattle.cbor_edn_model.specs.tree.Items.{Row, Elements, Pairs, Strings, Bracketed, Array, Map, Piece, Pieces, Node, Entries, Literal, Dots, Embedded, LastPiece, Plus, End, Then, Chunk}
+use Rattle.cbor_edn_model.specs.tree.Items.{Row, Elements, Pairs, Strings, Bracketed, Array, Map, Piece, Pieces, Node, Entries, Literal, Ellipsis, Embedded, LastPiece, Plus, End, Then, Chunk}
 use Rattle.cbor_edn_model.specs.tree.Trees.{Tree, OnePiece, OneEntry, items}
 use Rattle.cbor_edn_model.specs.cbor.Value as values
 use Rattle.cbor_edn_model.specs.cbor.Value.{chunk_encoding, head, open_head, break, encoding, encodings, pair_encodings}
@@ -33,7 +33,7 @@ Gathers content old new (Err e) = IfTold {X = StringKind} (Err e) (NoEncoding co
 -- the kind of a string by the form of its first piece, whether it has a content or not
 abbrev pub piece_kind : Node Piece → StringKind
 piece_kind (Literal x i) = literal_kind x
-piece_kind (Dots x) = Bytes
+piece_kind (Ellipsis x) = Bytes
 piece_kind (Embedded m i) = Bytes
 
 abbrev pub form_kind : Node Pieces → StringKind

@@ -2,7 +2,7 @@
 use Rattle.std.specs.Prelude.{ℕ, List, None}
 use Rattle.cbor_edn_model.specs.tree.Items.{Bracketed, Row}
 use Rattle.cbor_edn_model.specs.tree.Trees.{OneItem, OneEntry, Inside, Rest, Tree, NoIndicator, EnclosedTree, EmptyTree, FullTree, items}
-use Rattle.cbor_edn_model.specs.layout.Bare.{bare_label, first_space}
+use Rattle.cbor_edn_model.specs.layout.Bare.{bare_opener, first_space}
 use Rattle.cbor_edn_model.specs.tree.Rows.{entries_onto}
 use Rattle.cbor_edn_model.specs.layout.Fewer.{StaysOrGoes, Fewer}
 
@@ -15,9 +15,9 @@ abbrev pub FewerEntries : {k : Row} → List (Tree (OneEntry k) × List ℕ) →
 FewerEntries {k} ps qs = (m n : Tree (Rest k)) → Fewer (items m) (items n) → Fewer (items (entries_onto ps m)) (items (entries_onto qs n))
 
 -- an item between parentheses whose label has lost its indicator
-abbrev pub label_gone : Tree OneItem → Tree OneItem
-label_gone (EnclosedTree l w) = EnclosedTree (bare_label l) w
-label_gone w = w
+abbrev pub opener_gone : Tree OneItem → Tree OneItem
+opener_gone (EnclosedTree l w) = EnclosedTree (bare_opener l) w
+opener_gone w = w
 
 -- a list that has lost its own indicator alone
 abbrev pub headless : {k : Bracketed} → Tree (Inside k) → Tree (Inside k)

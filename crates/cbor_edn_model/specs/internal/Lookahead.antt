@@ -4,10 +4,10 @@ use Rattle.std.specs.Str.{IsCharBoundary}
 use Rattle.cbor_edn_parts.specs.internal.LiteralTokens.{is_digit}
 use Rattle.cbor_edn_model.specs.internal.BytesAt.{IsByteAt, IsNotAt, ahead}
 use Rattle.cbor_edn_model.specs.internal.Reading.{begins_string, starts_string, keyword_at}
-use Rattle.cbor_edn_model.specs.declared.text.lookahead.Opening.{Opening}
-use Rattle.cbor_edn_model.specs.declared.text.lookahead.Opening.TheVariants.{Array, Map, Stream, Keyword, String, Number}
+use Rattle.cbor_edn_model.specs.declared.text.lookahead.FormStart.{FormStart}
+use Rattle.cbor_edn_model.specs.declared.text.lookahead.FormStart.TheVariants.{Array, Map, Stream, Keyword, String, Number}
 
-abbrev pub Opens : List ℕ → ℕ → Opening → Type 0
+abbrev pub Opens : List ℕ → ℕ → FormStart → Type 0
 Opens text at Array = IsByteAt text at 91
 Opens text at Map = IsByteAt text at 123
 Opens text at Stream = IsByteAt text at 40
@@ -16,14 +16,14 @@ Opens text at String = (keyword_at (drop at text) ≡ None) × (starts_string (d
 Opens text at Number = IsNotAt 91 (drop at text) × IsNotAt 123 (drop at text) × IsNotAt 40 (drop at text) × (keyword_at (drop at text) ≡ None) × (starts_string (drop at text) ≡ false)
 
 -- What the looks cost that tell it.
-abbrev pub Looked : List ℕ → ℕ → ℕ → ℕ → Opening → Type 0
+abbrev pub Looked : List ℕ → ℕ → ℕ → ℕ → FormStart → Type 0
 Looked text at old new (Keyword w to) = (at < to) × (new + at ≡ old + to + 2)
 Looked text at old new String = new ≤ old + ahead text at + 2
 Looked text at old new Number = new ≤ old + ahead text at + 2
 Looked text at old new o = new ≤ old + 2
 
 -- the same of a byte that is no dot
-abbrev pub OpensWith : ℕ → Opening → Type 0
+abbrev pub OpensWith : ℕ → FormStart → Type 0
 OpensWith c Array = c ≡ 91
 OpensWith c Map = c ≡ 123
 OpensWith c Stream = c ≡ 40

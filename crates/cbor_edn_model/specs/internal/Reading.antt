@@ -9,22 +9,22 @@ use Rattle.cbor_edn_parts.specs.internal.Lex as lex
 use Rattle.cbor_edn_parts.specs.internal.Lex.{Automaton}
 use Rattle.cbor_edn_parts.specs.internal.SpaceTokens.{space, separator}
 use Rattle.cbor_edn_parts.specs.internal.NumberTokens.{number}
-use Rattle.cbor_edn_parts.specs.internal.LiteralTokens.{literal, dots, is_lower, is_upper, is_digit}
+use Rattle.cbor_edn_parts.specs.internal.LiteralTokens.{literal, ellipsis, is_lower, is_upper, is_digit}
 use Rattle.cbor_edn_parts.specs.Number.{number_of}
 use Rattle.cbor_edn_parts.specs.internal.ContentReading.{same}
 use Rattle.std.specs.Fmt.{decimal}
-use Rattle.cbor_edn_model.specs.declared.text.label.LabelKind.{LabelKind}
-use Rattle.cbor_edn_model.specs.declared.text.label.LabelKind.TheVariants.{Tag}
-use Rattle.cbor_edn_model.specs.declared.text.label.LabelKind.TheVariants as label
+use Rattle.cbor_edn_model.specs.declared.text.opener.OpenerKind.{OpenerKind}
+use Rattle.cbor_edn_model.specs.declared.text.opener.OpenerKind.TheVariants.{Tag}
+use Rattle.cbor_edn_model.specs.declared.text.opener.OpenerKind.TheVariants as opener
 use Rattle.cbor_edn_model.specs.declared.text.keyword.NamedSimple.TheVariants.{False, True, Null, Undefined}
 use Rattle.cbor_edn_model.specs.declared.text.keyword.NonFinite.TheVariants.{Infinity, NegativeInfinity, NaN}
 use Rattle.cbor_edn_model.specs.declared.text.keyword.Keyword.{Keyword}
 use Rattle.cbor_edn_model.specs.declared.text.keyword.Keyword.TheVariants.{Named, Simple, NonFinite}
 use Rattle.cbor_edn_model.specs.text.Keywords.{keyword_text}
 use Rattle.cbor_edn_model.specs.tree.Items.{Row, Elements, Pairs, Strings, Bracketed, Array, Map, entries_of}
-use Rattle.cbor_edn_model.specs.text.Spelling.{ending}
+use Rattle.cbor_edn_model.specs.text.Spelling.{close_byte}
 use Rattle.cbor_edn_model.specs.internal.Results.{◌>>=◌}
-use Rattle.cbor_edn_model.specs.tree.Trees.{Rule, OneItem, OnePiece, OneString, OneEntry, Inside, Rest, Seq, Standalone, ListHead, NoIndicator, WithIndicator, Tree, NumberTree, FloatTree, NamedTree, EnclosedTree, ListTree, StringTree, StreamTree, LiteralTree, DotsTree, EmbeddedTree, LastPieceTree, PlusTree, ElementTree, PairTree, ChunkTree, EmptyTree, FullTree, LastTree, MoreTree, NothingTree, SequenceTree, StandaloneTree, joins}
+use Rattle.cbor_edn_model.specs.tree.Trees.{Rule, OneItem, OnePiece, OneString, OneEntry, Inside, Rest, Seq, Standalone, ListHead, NoIndicator, WithIndicator, Tree, NumberTree, FloatTree, NamedTree, EnclosedTree, ListTree, StringTree, StreamTree, LiteralTree, EllipsisTree, EmbeddedTree, LastPieceTree, PlusTree, ElementTree, PairTree, ChunkTree, EmptyTree, FullTree, LastTree, MoreTree, NothingTree, SequenceTree, StandaloneTree, joins}
 
 -- what is read, and the text behind it
 abbrev pub Read : Type 0 → Type 0
@@ -112,7 +112,7 @@ tag_number x = cond (same x (decimal (number_of 10 x)) && nat_lt (number_of 10 x
 -- Each rule, by readers for a smaller text: `g n` for what nests at most n deep.
 module _ (g : ℕ → (s : Rule) → Reader s) where
   -- an item between parentheses, behind a label
-  unfoldable pub enclosed_item : (limit : ℕ) → LabelKind → Reader OneItem
+  unfoldable pub enclosed_item : (limit : ℕ) → OpenerKind → Reader OneItem
   enclosed_item zero l xs = byte 40 xs >>= λ r. Err TooDeep
   enclosed_item (suc limit) l xs = byte 40 xs >>= λ r. g limit Standalone r >>= λ w. byte 41 w.1 >>= λ r. Ok (EnclosedTree l w.0, r)
 
@@ -130,13 +130,13 @@ module _ (g : ℕ → (s : Rule) → Reader s) where
   -- behind a keyword
   unfoldable pub keyword_item : ℕ → Keyword → Reader OneItem
   keyword_item limit (Named b) xs = Ok (NamedTree b, xs)
-  keyword_item limit Simple xs = enclosed_item limit label.Simple xs
+  keyword_item limit Simple xs = enclosed_item limit opener.Simple xs
   keyword_item limit (NonFinite f) xs = Ok (FloatTree f (indicator_at xs).0, (indicator_at xs).1)
 
   -- behind the opening byte
   unfoldable pub list_item : (limit : ℕ) → Bracketed → Reader OneItem
   list_item zero k xs = Err TooDeep
-  list_item (suc limit) k xs = g limit (Inside k) xs >>= λ w. byte (ending k) w.1 >>= λ r. Ok (ListTree k w.0, r)
+  list_item (suc limit) k xs = g limit (Inside k) xs >>= λ w. byte (close_byte k) w.1 >>= λ r. Ok (ListTree k w.0, r)
 
   -- behind the parenthesis that opens it
   unfoldable pub stream_item : ℕ → Reader OneItem
@@ -161,8 +161,8 @@ module _ (g : ℕ → (s : Rule) → Reader s) where
   unfoldable pub literal_piece : Reader OnePiece
   literal_piece xs = token literal xs >>= λ x. Ok (LiteralTree x.0 (indicator_at x.1).0, (indicator_at x.1).1)
 
-  unfoldable pub dots_piece : Reader OnePiece
-  dots_piece xs = token dots xs >>= λ x. Ok (DotsTree x.0, x.1)
+  unfoldable pub ellipsis_piece : Reader OnePiece
+  ellipsis_piece xs = token ellipsis xs >>= λ x. Ok (EllipsisTree x.0, x.1)
 
   -- behind `<<`
   unfoldable pub embedded_piece : ℕ → Reader OnePiece
@@ -173,7 +173,7 @@ module _ (g : ℕ → (s : Rule) → Reader s) where
   piece limit [] = Err Invalid
   piece limit (c ∷ xs) =
       cond (eqb c 60) (byte 60 xs >>= embedded_piece limit) (
-      cond (eqb c 46) (dots_piece (c ∷ xs)) (literal_piece (c ∷ xs)))
+      cond (eqb c 46) (ellipsis_piece (c ∷ xs)) (literal_piece (c ∷ xs)))
 
   -- behind the plus sign
   unfoldable pub plus_string : ℕ → Tree OnePiece → List ℕ → Reader OneString

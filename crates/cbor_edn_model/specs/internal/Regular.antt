@@ -1,10 +1,10 @@
 -- The tree of an item with the spaces of a single line, part by part.
 use Rattle.std.specs.Prelude.{[], ◌∷◌, Option, Some, None}
 use Rattle.cbor_edn_parts.specs.declared.indicator.Indicator.{Indicator}
-use Rattle.cbor_edn_model.specs.declared.text.label.LabelKind.TheVariants as label
+use Rattle.cbor_edn_model.specs.declared.text.opener.OpenerKind.TheVariants as opener
 use Rattle.cbor_edn_model.specs.tree.Items as kind
-use Rattle.cbor_edn_model.specs.tree.Items.{Row, Elements, Strings, Bracketed, entries_of, Sort, Item, Piece, Pieces, Entry, Entries, Node, Number, Float, Listed, Tagged, Named, Simple, String, Stream, Literal, Dots, Embedded, LastPiece, Plus, Element, Pair, Chunk, End, Then, Items}
-use Rattle.cbor_edn_model.specs.tree.Trees.{Tree, OneItem, OnePiece, OneString, OneEntry, Inside, Rest, Seq, ListHead, NoIndicator, WithIndicator, NumberTree, FloatTree, NamedTree, EnclosedTree, ListTree, StringTree, StreamTree, LiteralTree, DotsTree, EmbeddedTree, LastPieceTree, PlusTree, ElementTree, PairTree, ChunkTree, EmptyTree, FullTree, LastTree, MoreTree, NothingTree, SequenceTree}
+use Rattle.cbor_edn_model.specs.tree.Items.{Row, Elements, Strings, Bracketed, entries_of, Sort, Item, Piece, Pieces, Entry, Entries, Node, Number, Float, Listed, Tagged, Named, Simple, String, Stream, Literal, Ellipsis, Embedded, LastPiece, Plus, Element, Pair, Chunk, End, Then, Items}
+use Rattle.cbor_edn_model.specs.tree.Trees.{Tree, OneItem, OnePiece, OneString, OneEntry, Inside, Rest, Seq, ListHead, NoIndicator, WithIndicator, NumberTree, FloatTree, NamedTree, EnclosedTree, ListTree, StringTree, StreamTree, LiteralTree, EllipsisTree, EmbeddedTree, LastPieceTree, PlusTree, ElementTree, PairTree, ChunkTree, EmptyTree, FullTree, LastTree, MoreTree, NothingTree, SequenceTree}
 use Rattle.cbor_edn_model.specs.cbor.Decoded.{alone}
 
 -- an entry in front of others: `, ` between two, and nothing behind the last
@@ -50,13 +50,13 @@ unfoldable pub regular : {s : Sort} → Node s → Regular s
 regular (Number x i) = NumberTree x i
 regular (Float f i) = FloatTree f i
 regular (Listed k i m) = ListTree k (list_inside i (regular m))
-regular (Tagged n i w) = EnclosedTree (label.Tag i n) (alone (regular w))
+regular (Tagged n i w) = EnclosedTree (opener.Tag i n) (alone (regular w))
 regular (Named b) = NamedTree b
-regular (Simple w) = EnclosedTree label.Simple (alone (regular w))
+regular (Simple w) = EnclosedTree opener.Simple (alone (regular w))
 regular (String w) = StringTree (regular w)
 regular (Stream m) = stream_tree (regular m)
 regular (Literal x i) = LiteralTree x i
-regular (Dots x) = DotsTree x
+regular (Ellipsis x) = EllipsisTree x
 regular (Embedded m i) = embedded_tree (regular m) i
 regular (LastPiece p) = LastPieceTree (regular p)
 regular (Plus p w) = PlusTree (regular p) (32 ∷ []) (32 ∷ []) (regular w)

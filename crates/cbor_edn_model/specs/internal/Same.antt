@@ -8,14 +8,14 @@ use Rattle.std.proofs.lemmas.Bool.{false≢true, eqb-true, eq-eqb}
 use Rattle.std.proofs.lemmas.Cmp.{nat_list_eq_equiv}
 use Rattle.cbor_edn_parts.specs.declared.indicator.Indicator.{Indicator}
 use Rattle.cbor_edn_parts.specs.declared.indicator.Indicator.TheVariants.{Indefinite, Immediate, One, Two, Four, Eight}
-use Rattle.cbor_edn_model.specs.declared.text.label.LabelKind.{LabelKind}
-use Rattle.cbor_edn_model.specs.declared.text.label.LabelKind.TheVariants.{Tag, Simple}
+use Rattle.cbor_edn_model.specs.declared.text.opener.OpenerKind.{OpenerKind}
+use Rattle.cbor_edn_model.specs.declared.text.opener.OpenerKind.TheVariants.{Tag, Simple}
 use Rattle.cbor_edn_model.specs.declared.text.keyword.NamedSimple.{NamedSimple}
 use Rattle.cbor_edn_model.specs.declared.text.keyword.NamedSimple.TheVariants.{False, True, Null, Undefined}
 use Rattle.cbor_edn_model.specs.declared.text.keyword.NonFinite.{NonFinite}
 use Rattle.cbor_edn_model.specs.declared.text.keyword.NonFinite.TheVariants.{Infinity, NegativeInfinity, NaN}
 use Rattle.cbor_edn_model.specs.tree.Items.{Row, Array, Map}
-use Rattle.cbor_edn_model.specs.tree.Trees.{Rule, OnePiece, OneEntry, ListHead, NoIndicator, WithIndicator, Tree, NumberTree, FloatTree, NamedTree, EnclosedTree, ListTree, StringTree, StreamTree, LiteralTree, DotsTree, EmbeddedTree, LastPieceTree, PlusTree, ElementTree, PairTree, ChunkTree, EmptyTree, FullTree, LastTree, MoreTree, NothingTree, SequenceTree, StandaloneTree}
+use Rattle.cbor_edn_model.specs.tree.Trees.{Rule, OnePiece, OneEntry, ListHead, NoIndicator, WithIndicator, Tree, NumberTree, FloatTree, NamedTree, EnclosedTree, ListTree, StringTree, StreamTree, LiteralTree, EllipsisTree, EmbeddedTree, LastPieceTree, PlusTree, ElementTree, PairTree, ChunkTree, EmptyTree, FullTree, LastTree, MoreTree, NothingTree, SequenceTree, StandaloneTree}
 
 abbrev pub same_bytes : List ℕ → List ℕ → Bool
 same_bytes = pointwise nat_eq
@@ -47,10 +47,10 @@ same_float NegativeInfinity NegativeInfinity = true
 same_float NaN NaN = true
 same_float _ _ = false
 
-abbrev pub same_label : LabelKind → LabelKind → Bool
-same_label (Tag i n) (Tag j k) = nat_eq n k && same_indicator i j
-same_label Simple Simple = true
-same_label _ _ = false
+abbrev pub same_opener : OpenerKind → OpenerKind → Bool
+same_opener (Tag i n) (Tag j k) = nat_eq n k && same_indicator i j
+same_opener Simple Simple = true
+same_opener _ _ = false
 
 abbrev pub same_head : ListHead → ListHead → Bool
 same_head NoIndicator NoIndicator = true
@@ -62,13 +62,13 @@ abbrev pub same_tree : {s : Rule} → Tree s → Tree s → Bool
 same_tree (NumberTree x i) (NumberTree y j) = same_bytes x y && same_indicator i j
 same_tree (FloatTree f i) (FloatTree g j) = same_float f g && same_indicator i j
 same_tree (NamedTree b) (NamedTree d) = same_named b d
-same_tree (EnclosedTree l w) (EnclosedTree m v) = same_label l m && same_tree w v
+same_tree (EnclosedTree l w) (EnclosedTree m v) = same_opener l m && same_tree w v
 same_tree (ListTree Array w) (ListTree Array v) = same_tree w v
 same_tree (ListTree Map w) (ListTree Map v) = same_tree w v
 same_tree (StringTree w) (StringTree v) = same_tree w v
 same_tree (StreamTree s m) (StreamTree t n) = same_bytes s t && same_tree m n
 same_tree (LiteralTree x i) (LiteralTree y j) = same_bytes x y && same_indicator i j
-same_tree (DotsTree x) (DotsTree y) = same_bytes x y
+same_tree (EllipsisTree x) (EllipsisTree y) = same_bytes x y
 same_tree (EmbeddedTree w i) (EmbeddedTree v j) = same_tree w v && same_indicator i j
 same_tree (LastPieceTree p) (LastPieceTree q) = same_tree p q
 same_tree (PlusTree p s t w) (PlusTree q u v x) = same_tree p q && (same_bytes s u && (same_bytes t v && same_tree w x))
@@ -131,10 +131,10 @@ floats_are NegativeInfinity NegativeInfinity e = refl
 floats_are NaN NaN e = refl
 floats_are _ _ e = absurd (false≢true e)
 
-labels_are : (l m : LabelKind) → same_label l m ≡ true → l ≡ m
-labels_are (Tag i n) (Tag j k) e = let h = both (eqb-true n k) (indicators_are i j) e in λ a. Tag (h.1 a) (h.0 a)
-labels_are Simple Simple e = refl
-labels_are _ _ e = absurd (false≢true e)
+openers_are : (l m : OpenerKind) → same_opener l m ≡ true → l ≡ m
+openers_are (Tag i n) (Tag j k) e = let h = both (eqb-true n k) (indicators_are i j) e in λ a. Tag (h.1 a) (h.0 a)
+openers_are Simple Simple e = refl
+openers_are _ _ e = absurd (false≢true e)
 
 heads_are : (h g : ListHead) → same_head h g ≡ true → h ≡ g
 heads_are NoIndicator NoIndicator e = refl
@@ -145,13 +145,13 @@ pub same_are : {s : Rule} (a b : Tree s) → same_tree a b ≡ true → a ≡ b
 same_are (NumberTree x i) (NumberTree y j) e = let h = both (bytes_are x y) (indicators_are i j) e in λ k. NumberTree (h.0 k) (h.1 k)
 same_are (FloatTree f i) (FloatTree g j) e = let h = both (floats_are f g) (indicators_are i j) e in λ k. FloatTree (h.0 k) (h.1 k)
 same_are (NamedTree b) (NamedTree d) e = λ k. NamedTree (named_are b d e k)
-same_are (EnclosedTree l w) (EnclosedTree m v) e = let h = both (labels_are l m) (same_are w v) e in λ k. EnclosedTree (h.0 k) (h.1 k)
+same_are (EnclosedTree l w) (EnclosedTree m v) e = let h = both (openers_are l m) (same_are w v) e in λ k. EnclosedTree (h.0 k) (h.1 k)
 same_are (ListTree Array w) (ListTree Array v) e = λ i. ListTree Array (same_are w v e i)
 same_are (ListTree Map w) (ListTree Map v) e = λ i. ListTree Map (same_are w v e i)
 same_are (StringTree w) (StringTree v) e = λ i. StringTree (same_are w v e i)
 same_are (StreamTree s m) (StreamTree t n) e = let h = both (bytes_are s t) (same_are m n) e in λ i. StreamTree (h.0 i) (h.1 i)
 same_are (LiteralTree x i) (LiteralTree y j) e = let h = both (bytes_are x y) (indicators_are i j) e in λ k. LiteralTree (h.0 k) (h.1 k)
-same_are (DotsTree x) (DotsTree y) e = λ i. DotsTree (bytes_are x y e i)
+same_are (EllipsisTree x) (EllipsisTree y) e = λ i. EllipsisTree (bytes_are x y e i)
 same_are (EmbeddedTree w i) (EmbeddedTree v j) e = let h = both (same_are w v) (indicators_are i j) e in λ k. EmbeddedTree (h.0 k) (h.1 k)
 same_are (LastPieceTree p) (LastPieceTree q) e = λ i. LastPieceTree (same_are p q e i)
 same_are (PlusTree p s t w) (PlusTree q u v x) e =
@@ -196,9 +196,9 @@ float_refl Infinity = refl
 float_refl NegativeInfinity = refl
 float_refl NaN = refl
 
-label_refl : (l : LabelKind) → same_label l l ≡ true
-label_refl (Tag i n) = both_true (eq-eqb n n refl) (indicator_refl i)
-label_refl Simple = refl
+opener_refl : (l : OpenerKind) → same_opener l l ≡ true
+opener_refl (Tag i n) = both_true (eq-eqb n n refl) (indicator_refl i)
+opener_refl Simple = refl
 
 head_refl : (h : ListHead) → same_head h h ≡ true
 head_refl NoIndicator = refl
@@ -208,13 +208,13 @@ same_refl : {s : Rule} (a : Tree s) → same_tree a a ≡ true
 same_refl (NumberTree x i) = both_true (bytes_refl x) (indicator_refl i)
 same_refl (FloatTree f i) = both_true (float_refl f) (indicator_refl i)
 same_refl (NamedTree b) = named_refl b
-same_refl (EnclosedTree l w) = both_true (label_refl l) (same_refl w)
+same_refl (EnclosedTree l w) = both_true (opener_refl l) (same_refl w)
 same_refl (ListTree Array w) = same_refl w
 same_refl (ListTree Map w) = same_refl w
 same_refl (StringTree w) = same_refl w
 same_refl (StreamTree s m) = both_true (bytes_refl s) (same_refl m)
 same_refl (LiteralTree x i) = both_true (bytes_refl x) (indicator_refl i)
-same_refl (DotsTree x) = bytes_refl x
+same_refl (EllipsisTree x) = bytes_refl x
 same_refl (EmbeddedTree w i) = both_true (same_refl w) (indicator_refl i)
 same_refl (LastPieceTree p) = same_refl p
 same_refl (PlusTree p s t w) = both_true (same_refl p) (both_true (bytes_refl s) (both_true (bytes_refl t) (same_refl w)))

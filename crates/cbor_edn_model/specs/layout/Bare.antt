@@ -1,9 +1,9 @@
 -- Items and trees without their encoding indicators.
 use Rattle.std.specs.Prelude.{ℕ, Bool, false, cond, eqb, List, [], ◌∷◌, ◌++◌, None}
-use Rattle.cbor_edn_model.specs.declared.text.label.LabelKind.{LabelKind}
-use Rattle.cbor_edn_model.specs.declared.text.label.LabelKind.TheVariants as label
-use Rattle.cbor_edn_model.specs.tree.Items.{Sort, Node, Number, Float, Listed, Tagged, Named, Simple, String, Stream, Literal, Dots, Embedded, LastPiece, Plus, Element, Pair, Chunk, End, Then}
-use Rattle.cbor_edn_model.specs.tree.Trees.{Rule, Tree, ListHead, NoIndicator, WithIndicator, NumberTree, FloatTree, NamedTree, EnclosedTree, ListTree, StringTree, StreamTree, LiteralTree, DotsTree, EmbeddedTree, LastPieceTree, PlusTree, ElementTree, PairTree, ChunkTree, EmptyTree, FullTree, LastTree, MoreTree, NothingTree, SequenceTree, StandaloneTree}
+use Rattle.cbor_edn_model.specs.declared.text.opener.OpenerKind.{OpenerKind}
+use Rattle.cbor_edn_model.specs.declared.text.opener.OpenerKind.TheVariants as opener
+use Rattle.cbor_edn_model.specs.tree.Items.{Sort, Node, Number, Float, Listed, Tagged, Named, Simple, String, Stream, Literal, Ellipsis, Embedded, LastPiece, Plus, Element, Pair, Chunk, End, Then}
+use Rattle.cbor_edn_model.specs.tree.Trees.{Rule, Tree, ListHead, NoIndicator, WithIndicator, NumberTree, FloatTree, NamedTree, EnclosedTree, ListTree, StringTree, StreamTree, LiteralTree, EllipsisTree, EmbeddedTree, LastPieceTree, PlusTree, ElementTree, PairTree, ChunkTree, EmptyTree, FullTree, LastTree, MoreTree, NothingTree, SequenceTree, StandaloneTree}
 
 -- The items without any indicator outside embedded sequences: that of an embedded sequence itself goes, and what stands in it stays.
 -- A stream stays one.
@@ -17,7 +17,7 @@ bare (Simple w) = Simple (bare w)
 bare (String w) = String (bare w)
 bare (Stream m) = Stream (bare m)
 bare (Literal x i) = Literal x None
-bare (Dots x) = Dots x
+bare (Ellipsis x) = Ellipsis x
 bare (Embedded m i) = Embedded m None
 bare (LastPiece p) = LastPiece (bare p)
 bare (Plus p w) = Plus (bare p) (bare w)
@@ -36,21 +36,21 @@ abbrev pub first_space : ListHead → List ℕ → List ℕ
 first_space NoIndicator s = s
 first_space (WithIndicator i ms) s = cond (is_one_space ms) s (ms ++ s)
 
-abbrev pub bare_label : LabelKind → LabelKind
-bare_label (label.Tag i n) = label.Tag None n
-bare_label label.Simple = label.Simple
+abbrev pub bare_opener : OpenerKind → OpenerKind
+bare_opener (opener.Tag i n) = opener.Tag None n
+bare_opener opener.Simple = opener.Simple
 
 -- The tree of the bare items, with the spaces that stay: `[_ 1]` becomes `[1]`, and `[_ /c/ 1]` becomes `[ /c/ 1]`.
 unfoldable pub without_indicators : {s : Rule} → Tree s → Tree s
 without_indicators (NumberTree x i) = NumberTree x None
 without_indicators (FloatTree f i) = FloatTree f None
 without_indicators (NamedTree b) = NamedTree b
-without_indicators (EnclosedTree l w) = EnclosedTree (bare_label l) (without_indicators w)
+without_indicators (EnclosedTree l w) = EnclosedTree (bare_opener l) (without_indicators w)
 without_indicators (ListTree k w) = ListTree k (without_indicators w)
 without_indicators (StringTree w) = StringTree (without_indicators w)
 without_indicators (StreamTree ms m) = StreamTree ms (without_indicators m)
 without_indicators (LiteralTree x i) = LiteralTree x None
-without_indicators (DotsTree x) = DotsTree x
+without_indicators (EllipsisTree x) = EllipsisTree x
 without_indicators (EmbeddedTree w i) = EmbeddedTree w None
 without_indicators (LastPieceTree p) = LastPieceTree (without_indicators p)
 without_indicators (PlusTree p s t w) = PlusTree (without_indicators p) s t (without_indicators w)

@@ -3,7 +3,7 @@ use Rattle.std.specs.Prelude.{ℕ, ◌≡◌, ◌⊎◌, ◌<◌, ◌^◌, List,
 use Rattle.cbor_edn_parts.specs.declared.indicator.Indicator.{Indicator}
 use Rattle.cbor_edn_model.specs.declared.text.keyword.NamedSimple.{NamedSimple}
 use Rattle.cbor_edn_model.specs.declared.text.keyword.NonFinite.{NonFinite}
-use Rattle.cbor_edn_model.specs.tree.Items.{Row, Elements, Pairs, Strings, Bracketed, entries_of, Sort, Item, Piece, Pieces, Entry, Entries, Node, Number, Float, Listed, Tagged, Named, Simple, String, Stream, Literal, Dots, Embedded, LastPiece, Plus, Element, Pair, Chunk, End, Then, Items}
+use Rattle.cbor_edn_model.specs.tree.Items.{Row, Elements, Pairs, Strings, Bracketed, entries_of, Sort, Item, Piece, Pieces, Entry, Entries, Node, Number, Float, Listed, Tagged, Named, Simple, String, Stream, Literal, Ellipsis, Embedded, LastPiece, Plus, Element, Pair, Chunk, End, Then, Items}
 use Rattle.cbor_edn_model.specs.cbor.Value.{Value, Values, encoding, encodings}
 use Rattle.cbor_edn_model.specs.cbor.Meaning.{means}
 use Rattle.cbor_edn_model.specs.layout.Plain.{plain, plain_values}
@@ -19,7 +19,7 @@ pub data IndicatorsBecome (R : Option Indicator → Option Indicator → Type 0)
   string : {w v : Node Pieces} → IndicatorsBecome R Pieces w v → IndicatorsBecome R Item (String w) (String v)
   stream : {m n : Node (Entries Strings)} → IndicatorsBecome R (Entries Strings) m n → IndicatorsBecome R Item (Stream m) (Stream n)
   literal : {x : List ℕ} {i j : Option Indicator} → R i j → IndicatorsBecome R Piece (Literal x i) (Literal x j)
-  dots : {x : List ℕ} → IndicatorsBecome R Piece (Dots x) (Dots x)
+  ellipsis : {x : List ℕ} → IndicatorsBecome R Piece (Ellipsis x) (Ellipsis x)
   embedded : {m : Items} {i j : Option Indicator} → R i j → IndicatorsBecome R Piece (Embedded m i) (Embedded m j)
   last_piece : {p q : Node Piece} → IndicatorsBecome R Piece p q → IndicatorsBecome R Pieces (LastPiece p) (LastPiece q)
   plus : {p q : Node Piece} {w v : Node Pieces} → IndicatorsBecome R Piece p q → IndicatorsBecome R Pieces w v → IndicatorsBecome R Pieces (Plus p w) (Plus q v)

@@ -16,25 +16,25 @@ use Rattle.std.specs.Prelude.{ℕ, ◌<◌, ◌^◌, codes, List, [], ◌∷◌,
 use Rattle.std.specs.Fmt.{decimal}
 use Rattle.cbor_edn_parts.specs.declared.indicator.Indicator.{Indicator}
 use Rattle.cbor_edn_parts.specs.Indicator.{indicator_text}
-use Rattle.cbor_edn_parts.specs.Space.{IsS, IsMs, IsMsc, IsSoc}
+use Rattle.cbor_edn_parts.specs.Space.{IsSpace, IsMandatorySpace, IsSeparator, IsListEnd}
 use Rattle.cbor_edn_parts.specs.Number.{IsNumber}
-use Rattle.cbor_edn_parts.specs.Literal.{IsQuoted, AreDots}
+use Rattle.cbor_edn_parts.specs.Literal.{IsQuoted, IsEllipsis}
 use Rattle.cbor_edn_model.specs.text.Keywords.{named_text, simple_text, non_finite_text}
-use Rattle.cbor_edn_model.specs.tree.Items.{Bracketed, Array, Map, Sort, Item, Node, Number, Float, Listed, Tagged, Named, Simple, String, Stream, Literal, Dots, Embedded, LastPiece, Plus, Element, Pair, Chunk, End, Then, Items}
+use Rattle.cbor_edn_model.specs.tree.Items.{Bracketed, Array, Map, Sort, Item, Node, Number, Float, Listed, Tagged, Named, Simple, String, Stream, Literal, Ellipsis, Embedded, LastPiece, Plus, Element, Pair, Chunk, End, Then, Items}
 
 -- the bytes that open and end a list
-abbrev pub opening : Bracketed → ℕ
-opening Array = 91
-opening Map = 123
+abbrev pub open_byte : Bracketed → ℕ
+open_byte Array = 91
+open_byte Map = 123
 
-abbrev pub ending : Bracketed → ℕ
-ending Array = 93
-ending Map = 125
+abbrev pub close_byte : Bracketed → ℕ
+close_byte Array = 93
+close_byte Map = 125
 
 -- specms
 abbrev pub IsSpecms : Option Indicator → List ℕ → Type 0
 IsSpecms None h = h ≡ []
-IsSpecms (Some i) h = (ms : List ℕ) × IsMs ms × (h ≡ indicator_text (Some i) ++ ms)
+IsSpecms (Some i) h = (ms : List ℕ) × IsMandatorySpace ms × (h ≡ indicator_text (Some i) ++ ms)
 
 unfoldable mutual
   -- What spells an item, a part of one, an entry, or what follows the first entry of a row, *(MSC entry) SOC.
@@ -44,42 +44,42 @@ unfoldable mutual
   -- ("Infinity" / "-Infinity" / "NaN") spec
   Spells (Float f i) t = t ≡ non_finite_text f ++ indicator_text i
   -- "[" spec S "]", "{" spec S "}"
-  Spells (Listed k i End) t = (s : List ℕ) × IsS s × (t ≡ opening k ∷ (indicator_text i ++ (s ++ (ending k ∷ []))))
+  Spells (Listed k i End) t = (s : List ℕ) × IsSpace s × (t ≡ open_byte k ∷ (indicator_text i ++ (s ++ (close_byte k ∷ []))))
   -- "[" specms S item *(MSC item) SOC "]", "{" specms S keyp *(MSC keyp) SOC "}"
-  Spells (Listed k i (Then e m)) t = (h s a b : List ℕ) × IsSpecms i h × IsS s × Spells e a × Spells m b × (t ≡ opening k ∷ (h ++ (s ++ (a ++ (b ++ (ending k ∷ []))))))
+  Spells (Listed k i (Then e m)) t = (h s a b : List ℕ) × IsSpecms i h × IsSpace s × Spells e a × Spells m b × (t ≡ open_byte k ∷ (h ++ (s ++ (a ++ (b ++ (close_byte k ∷ []))))))
   -- uint spec "(" S item S ")"
-  Spells (Tagged n i w) t = (s a u : List ℕ) × (n < 2 ^ 64) × IsS s × Spells w a × IsS u × (t ≡ decimal n ++ (indicator_text i ++ (codes "(" ++ (s ++ (a ++ (u ++ codes ")"))))))
+  Spells (Tagged n i w) t = (s a u : List ℕ) × (n < 2 ^ 64) × IsSpace s × Spells w a × IsSpace u × (t ≡ decimal n ++ (indicator_text i ++ (codes "(" ++ (s ++ (a ++ (u ++ codes ")"))))))
   -- "false" / "true" / "null" / "undefined"
   Spells (Named b) t = t ≡ named_text b
   -- "simple(" S item S ")"
-  Spells (Simple w) t = (s a u : List ℕ) × IsS s × Spells w a × IsS u × (t ≡ simple_text ++ (codes "(" ++ (s ++ (a ++ (u ++ codes ")")))))
+  Spells (Simple w) t = (s a u : List ℕ) × IsSpace s × Spells w a × IsSpace u × (t ≡ simple_text ++ (codes "(" ++ (s ++ (a ++ (u ++ codes ")")))))
   Spells (String w) t = Spells w t
   -- "(_" MS string *(MSC string) SOC ")", with one string or more
   Spells (Stream End) t = ⊥
-  Spells (Stream (Then e m)) t = (ms a b : List ℕ) × IsMs ms × Spells e a × Spells m b × (t ≡ codes "(_" ++ (ms ++ (a ++ (b ++ codes ")"))))
+  Spells (Stream (Then e m)) t = (ms a b : List ℕ) × IsMandatorySpace ms × Spells e a × Spells m b × (t ≡ codes "(_" ++ (ms ++ (a ++ (b ++ codes ")"))))
   -- (dquoted / [prefix] squoted) spec
   Spells (Literal x i) t = IsQuoted x × (t ≡ x ++ indicator_text i)
   -- 3*"."
-  Spells (Dots x) t = AreDots x × (t ≡ x)
+  Spells (Ellipsis x) t = IsEllipsis x × (t ≡ x)
   -- "<<" seq ">>" spec
   Spells (Embedded m i) t = (a : List ℕ) × SpellsSequence m a × (t ≡ codes "<<" ++ (a ++ (codes ">>" ++ indicator_text i)))
   Spells (LastPiece p) t = Spells p t
   -- piece *(S "+" S piece)
-  Spells (Plus p w) t = (a s u b : List ℕ) × Spells p a × IsS s × IsS u × Spells w b × (t ≡ a ++ (s ++ (codes "+" ++ (u ++ b))))
+  Spells (Plus p w) t = (a s u b : List ℕ) × Spells p a × IsSpace s × IsSpace u × Spells w b × (t ≡ a ++ (s ++ (codes "+" ++ (u ++ b))))
   Spells (Element w) t = Spells w t
   -- keyp = item S ":" S item
-  Spells (Pair v w) t = (a s u b : List ℕ) × Spells v a × IsS s × IsS u × Spells w b × (t ≡ a ++ (s ++ (codes ":" ++ (u ++ b))))
+  Spells (Pair v w) t = (a s u b : List ℕ) × Spells v a × IsSpace s × IsSpace u × Spells w b × (t ≡ a ++ (s ++ (codes ":" ++ (u ++ b))))
   Spells (Chunk w) t = Spells w t
   -- SOC, behind the last entry
-  Spells End t = IsSoc t
+  Spells End t = IsListEnd t
   -- MSC entry, and what follows it
-  Spells (Then e m) t = (c a b : List ℕ) × IsMsc c × Spells e a × Spells m b × (t ≡ c ++ (a ++ b))
+  Spells (Then e m) t = (c a b : List ℕ) × IsSeparator c × Spells e a × Spells m b × (t ≡ c ++ (a ++ b))
 
   -- seq
   pub SpellsSequence : Items → List ℕ → Type 0
-  SpellsSequence End t = IsS t
-  SpellsSequence (Then e m) t = (s a b : List ℕ) × IsS s × Spells e a × Spells m b × (t ≡ s ++ (a ++ b))
+  SpellsSequence End t = IsSpace t
+  SpellsSequence (Then e m) t = (s a b : List ℕ) × IsSpace s × Spells e a × Spells m b × (t ≡ s ++ (a ++ b))
 
 -- one-item
 unfoldable pub SpellsOne : Node Item → List ℕ → Type 0
-SpellsOne w t = (s a u : List ℕ) × IsS s × Spells w a × IsS u × (t ≡ s ++ (a ++ u))
+SpellsOne w t = (s a u : List ℕ) × IsSpace s × Spells w a × IsSpace u × (t ≡ s ++ (a ++ u))

@@ -1,6 +1,6 @@
 -- The trees of items that are made from values.
 use Rattle.std.specs.Prelude.{ℕ, List, [], ◌∷◌, Option, None, Some}
-use Rattle.cbor_edn_model.specs.declared.text.label.LabelKind.TheVariants as label
+use Rattle.cbor_edn_model.specs.declared.text.opener.OpenerKind.TheVariants as opener
 use Rattle.cbor_edn_model.specs.tree.Items.{Elements, Row, Bracketed, entries_of}
 use Rattle.cbor_edn_model.specs.tree.Trees.{Tree, OneItem, OneEntry, Inside, Rest, Seq, Standalone, NoIndicator, EnclosedTree, StringTree, LastPieceTree, LiteralTree, EmptyTree, FullTree, LastTree, MoreTree, NothingTree, SequenceTree}
 
@@ -10,7 +10,7 @@ literal_tree t = StringTree (LastPieceTree (LiteralTree t None))
 
 -- an item, with its spaces, in a tag: that of `1( 2 )` from ` 2 ` and 1
 abbrev pub tagged_tree : ℕ → Tree Standalone → Tree OneItem
-tagged_tree n w = EnclosedTree (label.Tag None n) w
+tagged_tree n w = EnclosedTree (opener.Tag None n) w
 
 -- entries, a comma between two and nothing behind the last: `1,2`
 abbrev pub comma_rest : {k : Row} → Tree (OneEntry k) → List (Tree (OneEntry k)) → Tree (Rest k)

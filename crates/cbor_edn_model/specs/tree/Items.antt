@@ -52,7 +52,7 @@ pub data Node : Sort → Type 0 where
   -- a quoted text as it is written, with its prefix and its encoding indicator
   Literal : List ℕ → Option Indicator → Node Piece
   -- three dots or more
-  Dots : List ℕ → Node Piece
+  Ellipsis : List ℕ → Node Piece
   -- `<<1, 2>>`: the encodings of its items, with its encoding indicator
   Embedded : Node (Entries Elements) → Option Indicator → Node Piece
   LastPiece : Node Piece → Node Pieces
@@ -78,7 +78,7 @@ nesting (Simple w) = suc (nesting w)
 nesting (String w) = nesting w
 nesting (Stream m) = nesting m
 nesting (Literal x i) = 0
-nesting (Dots x) = 0
+nesting (Ellipsis x) = 0
 nesting (Embedded m i) = suc (nesting m)
 nesting (LastPiece p) = nesting p
 nesting (Plus p w) = max (nesting p) (nesting w)

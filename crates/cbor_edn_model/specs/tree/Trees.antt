@@ -2,21 +2,21 @@
 use Rattle.std.specs.Fmt.{decimal}
 use Rattle.std.specs.Prelude.{ℕ, codes, suc, max, Bool, false, not, eqb, ◌||◌, ◌&&◌, List, [], ◌∷◌, ◌≡◌, ◌++◌, Option, Some, None}
 use Rattle.cbor_edn_parts.specs.declared.indicator.Indicator.{Indicator}
-use Rattle.cbor_edn_model.specs.declared.text.label.LabelKind.{LabelKind}
-use Rattle.cbor_edn_model.specs.declared.text.label.LabelKind.TheVariants as label
+use Rattle.cbor_edn_model.specs.declared.text.opener.OpenerKind.{OpenerKind}
+use Rattle.cbor_edn_model.specs.declared.text.opener.OpenerKind.TheVariants as opener
 use Rattle.cbor_edn_model.specs.declared.text.keyword.NamedSimple.{NamedSimple}
 use Rattle.cbor_edn_model.specs.declared.text.keyword.NonFinite.{NonFinite}
 use Rattle.cbor_edn_parts.specs.Bytes.{Follow, Closes}
 use Rattle.cbor_edn_parts.specs.internal.Lex as lex
 use Rattle.cbor_edn_parts.specs.Indicator.{indicator_text}
-use Rattle.cbor_edn_parts.specs.Space.{IsS, IsMs, IsMsc, IsSoc}
+use Rattle.cbor_edn_parts.specs.Space.{IsSpace, IsMandatorySpace, IsSeparator, IsListEnd}
 use Rattle.cbor_edn_parts.specs.Number.{IsNumber}
-use Rattle.cbor_edn_parts.specs.Literal.{IsQuoted, AreDots}
+use Rattle.cbor_edn_parts.specs.Literal.{IsQuoted, IsEllipsis}
 use Rattle.cbor_edn_parts.specs.internal.SpaceTokens.{space}
 use Rattle.cbor_edn_parts.specs.internal.LiteralTokens.{is_digit}
-use Rattle.cbor_edn_model.specs.tree.Items.{Row, Elements, Pairs, Strings, Bracketed, entries_of, Item, Piece, Pieces, Entry, Entries, Node, Number, Float, Listed, Tagged, Named, Simple, String, Stream, Literal, Dots, Embedded, LastPiece, Plus, Element, Pair, Chunk, End, Then, Items}
-use Rattle.cbor_edn_model.specs.text.Labels.{IsLabel}
-use Rattle.cbor_edn_model.specs.text.Spelling.{opening, ending}
+use Rattle.cbor_edn_model.specs.tree.Items.{Row, Elements, Pairs, Strings, Bracketed, entries_of, Item, Piece, Pieces, Entry, Entries, Node, Number, Float, Listed, Tagged, Named, Simple, String, Stream, Literal, Ellipsis, Embedded, LastPiece, Plus, Element, Pair, Chunk, End, Then, Items}
+use Rattle.cbor_edn_model.specs.text.Openers.{IsOpener}
+use Rattle.cbor_edn_model.specs.text.Spelling.{open_byte, close_byte}
 use Rattle.cbor_edn_model.specs.text.Keywords.{named_text, simple_text, non_finite_text}
 
 -- The rules of the grammar.
@@ -46,13 +46,13 @@ list_head_text NoIndicator = []
 list_head_text (WithIndicator i ms) = indicator_text (Some i) ++ ms
 
 -- what stands in front of an item between parentheses: a tag's number and its indicator, or `simple`
-abbrev pub label_text : LabelKind → List ℕ
-label_text (label.Tag i n) = decimal n ++ indicator_text i
-label_text label.Simple = simple_text
+abbrev pub opener_text : OpenerKind → List ℕ
+opener_text (opener.Tag i n) = decimal n ++ indicator_text i
+opener_text opener.Simple = simple_text
 
-abbrev pub labelled : LabelKind → Node Item → Node Item
-labelled (label.Tag i n) w = Tagged n i w
-labelled label.Simple w = Simple w
+abbrev pub labelled : OpenerKind → Node Item → Node Item
+labelled (opener.Tag i n) w = Tagged n i w
+labelled opener.Simple w = Simple w
 
 -- A use of a rule, with the texts that it leaves open.
 pub data Tree : Rule → Type 0 where
@@ -61,13 +61,13 @@ pub data Tree : Rule → Type 0 where
   FloatTree : NonFinite → Option Indicator → Tree OneItem
   NamedTree : NamedSimple → Tree OneItem
   -- a label, and what stands between the parentheses behind it
-  EnclosedTree : LabelKind → Tree Standalone → Tree OneItem
+  EnclosedTree : OpenerKind → Tree Standalone → Tree OneItem
   ListTree : (k : Bracketed) → Tree (Inside k) → Tree OneItem
   StringTree : Tree OneString → Tree OneItem
   -- the space behind `(_`, and the strings
   StreamTree : List ℕ → Tree (Rest Strings) → Tree OneItem
   LiteralTree : List ℕ → Option Indicator → Tree OnePiece
-  DotsTree : List ℕ → Tree OnePiece
+  EllipsisTree : List ℕ → Tree OnePiece
   EmbeddedTree : Tree Seq → Option Indicator → Tree OnePiece
   LastPieceTree : Tree OnePiece → Tree OneString
   -- a piece, the space before the plus sign and the one behind it, and more pieces
@@ -96,12 +96,12 @@ unfoldable pub onto : {s : Rule} → Tree s → List ℕ → List ℕ
 onto (NumberTree x i) r = x ++ (indicator_text i ++ r)
 onto (FloatTree f i) r = non_finite_text f ++ (indicator_text i ++ r)
 onto (NamedTree b) r = named_text b ++ r
-onto (EnclosedTree l w) r = label_text l ++ (codes "(" ++ onto w (codes ")" ++ r))
-onto (ListTree k w) r = opening k ∷ onto w (ending k ∷ r)
+onto (EnclosedTree l w) r = opener_text l ++ (codes "(" ++ onto w (codes ")" ++ r))
+onto (ListTree k w) r = open_byte k ∷ onto w (close_byte k ∷ r)
 onto (StringTree w) r = onto w r
 onto (StreamTree ms m) r = codes "(_" ++ (ms ++ onto m (codes ")" ++ r))
 onto (LiteralTree x i) r = x ++ (indicator_text i ++ r)
-onto (DotsTree x) r = x ++ r
+onto (EllipsisTree x) r = x ++ r
 onto (EmbeddedTree w i) r = codes "<<" ++ onto w (codes ">>" ++ (indicator_text i ++ r))
 onto (LastPieceTree p) r = onto p r
 onto (PlusTree p s t w) r = onto p (s ++ (codes "+" ++ (t ++ onto w r)))
@@ -134,7 +134,7 @@ spaces_onto (ListTree k w) r = spaces_onto w r
 spaces_onto (StringTree w) r = spaces_onto w r
 spaces_onto (StreamTree ms m) r = ms ∷ spaces_onto m r
 spaces_onto (LiteralTree x i) r = r
-spaces_onto (DotsTree x) r = r
+spaces_onto (EllipsisTree x) r = r
 spaces_onto (EmbeddedTree w i) r = spaces_onto w r
 spaces_onto (LastPieceTree p) r = spaces_onto p r
 spaces_onto (PlusTree p s t w) r = spaces_onto p (s ∷ t ∷ spaces_onto w r)
@@ -172,7 +172,7 @@ items (ListTree k w) = Listed k (items w).0 (items w).1
 items (StringTree w) = String (items w)
 items (StreamTree ms m) = Stream (items m)
 items (LiteralTree x i) = Literal x i
-items (DotsTree x) = Dots x
+items (EllipsisTree x) = Ellipsis x
 items (EmbeddedTree w i) = Embedded (items w) i
 items (LastPieceTree p) = LastPiece (items p)
 items (PlusTree p s t w) = Plus (items p) (items w)
@@ -197,7 +197,7 @@ tree_nesting (ListTree k w) = suc (tree_nesting w)
 tree_nesting (StringTree w) = tree_nesting w
 tree_nesting (StreamTree ms m) = tree_nesting m
 tree_nesting (LiteralTree x i) = 0
-tree_nesting (DotsTree x) = 0
+tree_nesting (EllipsisTree x) = 0
 tree_nesting (EmbeddedTree w i) = suc (tree_nesting w)
 tree_nesting (LastPieceTree p) = tree_nesting p
 tree_nesting (PlusTree p s t w) = max (tree_nesting p) (tree_nesting w)
@@ -214,32 +214,32 @@ tree_nesting (StandaloneTree s w t) = tree_nesting w
 
 abbrev pub IsListHead : ListHead → Type 0
 IsListHead NoIndicator = Unit {0}
-IsListHead (WithIndicator i ms) = IsMs ms
+IsListHead (WithIndicator i ms) = IsMandatorySpace ms
 
 -- Each text of a tree is in its set.
 unfoldable pub Valid : {s : Rule} → Tree s → Type 0
 Valid (NumberTree x i) = IsNumber x
 Valid (FloatTree f i) = Unit {0}
 Valid (NamedTree b) = Unit {0}
-Valid (EnclosedTree l w) = IsLabel l × Valid w
+Valid (EnclosedTree l w) = IsOpener l × Valid w
 Valid (ListTree k w) = Valid w
 Valid (StringTree w) = Valid w
-Valid (StreamTree ms m) = IsMs ms × Valid m
+Valid (StreamTree ms m) = IsMandatorySpace ms × Valid m
 Valid (LiteralTree x i) = IsQuoted x
-Valid (DotsTree x) = AreDots x
+Valid (EllipsisTree x) = IsEllipsis x
 Valid (EmbeddedTree w i) = Valid w
 Valid (LastPieceTree p) = Valid p
-Valid (PlusTree p s t w) = Valid p × IsS s × IsS t × Valid w
+Valid (PlusTree p s t w) = Valid p × IsSpace s × IsSpace t × Valid w
 Valid (ElementTree w) = Valid w
-Valid (PairTree v s t w) = Valid v × IsS s × IsS t × Valid w
+Valid (PairTree v s t w) = Valid v × IsSpace s × IsSpace t × Valid w
 Valid (ChunkTree w) = Valid w
-Valid (EmptyTree i s) = IsS s
-Valid (FullTree h s m) = IsListHead h × IsS s × Valid m
-Valid (LastTree e s) = Valid e × IsSoc s
-Valid (MoreTree e s m) = Valid e × IsMsc s × Valid m
-Valid (NothingTree s) = IsS s
-Valid (SequenceTree s m) = IsS s × Valid m
-Valid (StandaloneTree s w t) = IsS s × Valid w × IsS t
+Valid (EmptyTree i s) = IsSpace s
+Valid (FullTree h s m) = IsListHead h × IsSpace s × Valid m
+Valid (LastTree e s) = Valid e × IsListEnd s
+Valid (MoreTree e s m) = Valid e × IsSeparator s × Valid m
+Valid (NothingTree s) = IsSpace s
+Valid (SequenceTree s m) = IsSpace s × Valid m
+Valid (StandaloneTree s w t) = IsSpace s × Valid w × IsSpace t
 
 -- behind an indicator's space no other space stands
 abbrev pub IsMerged : ListHead → List ℕ → Type 0
@@ -256,7 +256,7 @@ Merged (ListTree k w) = Merged w
 Merged (StringTree w) = Merged w
 Merged (StreamTree ms m) = Merged m
 Merged (LiteralTree x i) = Unit {0}
-Merged (DotsTree x) = Unit {0}
+Merged (EllipsisTree x) = Unit {0}
 Merged (EmbeddedTree w i) = Merged w
 Merged (LastPieceTree p) = Merged p
 Merged (PlusTree p s t w) = Merged p × Merged w

@@ -1,11 +1,11 @@
 -- What the visits of tags and of application literals do to a tree, call by call.
 use Rattle.std.specs.Prelude.{ℕ, List, [], ◌∷◌, ◌++◌, ◌≡◌, ◌≢◌, ◌≤◌, ◌<◌, Option, Some}
 use Rattle.cbor_edn_parts.specs.declared.indicator.Indicator.{Indicator}
-use Rattle.cbor_edn_model.specs.declared.text.label.LabelKind.TheVariants as label
+use Rattle.cbor_edn_model.specs.declared.text.opener.OpenerKind.TheVariants as opener
 use Rattle.cbor_edn_model.specs.visit.Depth.{depth}
 use Rattle.cbor_edn_model.specs.access.Accessed.{tag_number, IsApplicationItem}
 use Rattle.cbor_edn_model.specs.tree.Items.{Row, Elements, Strings, Bracketed, entries_of}
-use Rattle.cbor_edn_model.specs.tree.Trees.{Rule, Tree, OneItem, OnePiece, OneString, OneEntry, Inside, Rest, Seq, Standalone, ListHead, NumberTree, FloatTree, NamedTree, EnclosedTree, ListTree, StringTree, StreamTree, LiteralTree, DotsTree, EmbeddedTree, LastPieceTree, PlusTree, ElementTree, PairTree, ChunkTree, EmptyTree, FullTree, LastTree, MoreTree, NothingTree, SequenceTree, StandaloneTree}
+use Rattle.cbor_edn_model.specs.tree.Trees.{Rule, Tree, OneItem, OnePiece, OneString, OneEntry, Inside, Rest, Seq, Standalone, ListHead, NumberTree, FloatTree, NamedTree, EnclosedTree, ListTree, StringTree, StreamTree, LiteralTree, EllipsisTree, EmbeddedTree, LastPieceTree, PlusTree, ElementTree, PairTree, ChunkTree, EmptyTree, FullTree, LastTree, MoreTree, NothingTree, SequenceTree, StandaloneTree}
 use Rattle.cbor_edn_model.specs.visit.Visits.{Answer, fine, no_memory, answered, Ending, whole, cut}
 
 -- The arguments of a call: the number of a tag, or the prefix and the text of a literal.
@@ -57,9 +57,9 @@ module _ (IsSought : Tree OneItem → CallArguments → Type 0) where
       of_float : {f : _} {i : Option Indicator} → VisitParts _ (FloatTree f i) [] (FloatTree f i) whole
       of_name : {b : _} → VisitParts _ (NamedTree b) [] (NamedTree b) whole
       of_tag : {n : ℕ} {i : Option Indicator} {w v : Tree Standalone} {cs : List SoughtCall} {r : Ending}
-          → VisitParts _ w cs v r → VisitParts _ (EnclosedTree (label.Tag i n) w) cs (EnclosedTree (label.Tag i n) v) r
+          → VisitParts _ w cs v r → VisitParts _ (EnclosedTree (opener.Tag i n) w) cs (EnclosedTree (opener.Tag i n) v) r
       -- `simple(..)` is not entered
-      of_simple : {w : Tree Standalone} → VisitParts _ (EnclosedTree label.Simple w) [] (EnclosedTree label.Simple w) whole
+      of_simple : {w : Tree Standalone} → VisitParts _ (EnclosedTree opener.Simple w) [] (EnclosedTree opener.Simple w) whole
       of_list : {k : Bracketed} {w v : Tree (Inside k)} {cs : List SoughtCall} {r : Ending}
           → VisitParts _ w cs v r → VisitParts _ (ListTree k w) cs (ListTree k v) r
       of_string : {w v : Tree OneString} {cs : List SoughtCall} {r : Ending}
@@ -67,7 +67,7 @@ module _ (IsSought : Tree OneItem → CallArguments → Type 0) where
       of_stream : {ms : List ℕ} {m n : Tree (Rest Strings)} {cs : List SoughtCall} {r : Ending}
           → VisitParts _ m cs n r → VisitParts _ (StreamTree ms m) cs (StreamTree ms n) r
       of_literal : {x : List ℕ} {i : Option Indicator} → VisitParts _ (LiteralTree x i) [] (LiteralTree x i) whole
-      of_dots : {x : List ℕ} → VisitParts _ (DotsTree x) [] (DotsTree x) whole
+      of_ellipsis : {x : List ℕ} → VisitParts _ (EllipsisTree x) [] (EllipsisTree x) whole
       of_embedded : {w v : Tree Seq} {i : Option Indicator} {cs : List SoughtCall} {r : Ending}
           → VisitParts _ w cs v r → VisitParts _ (EmbeddedTree w i) cs (EmbeddedTree v i) r
       of_last_piece : {p q : Tree OnePiece} {cs : List SoughtCall} {r : Ending}

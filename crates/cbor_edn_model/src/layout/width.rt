@@ -2,18 +2,18 @@
 ghost use Rattle.std.specs.Fmt.{decimal};
 ghost use Rattle.std.specs.Prelude.{◌≡◌, length};
 ghost use Rattle.cbor_edn_parts.specs.Indicator.{indicator_text};
-ghost use Rattle.cbor_edn_parts.specs.Leaves.{s_bytes, ms_bytes, msc_bytes, soc_bytes};
+ghost use Rattle.cbor_edn_parts.specs.Leaves.{space_bytes, mandatory_bytes, separator_bytes, list_end_bytes};
 ghost use Rattle.cbor_edn_parts.specs.Spacing as kind;
 ghost use Rattle.cbor_edn_model.specs.tree.TreeLeaves.{texts};
 ghost use Rattle.cbor_edn_model.specs.text.ListHeads.{view_list_head};
-ghost use Rattle.cbor_edn_model.specs.tree.Trees.{label_text};
+ghost use Rattle.cbor_edn_model.specs.tree.Trees.{opener_text};
 ghost use Rattle.cbor_edn_model.specs.internal.Widths as widths;
 ghost use Rattle.cbor_edn_model.specs.internal.Widths.{Leaves, space_width, head_width, capped};
 
-use crate::text::label::LabelKind;
+use crate::text::opener::OpenerKind;
 use cbor_edn_parts::indicator::Indicator;
 use cbor_edn_parts::policy::Spacing;
-use cbor_edn_parts::space::{Ms, Msc, S, Soc};
+use cbor_edn_parts::space::{ListEnd, MandatorySpace, Separator, Space};
 
 /// Which spaces a width counts.
 #[derive(Clone, Copy)]
@@ -48,8 +48,8 @@ impl Spaces {
 
 /// How many bytes an optional space counts. The greatest number stands for any that is more.
 #[inline(always)]
-pub fn s_len(spaces: Spaces, space: &S<'_>) -> usize
-    ensures { result ≡ capped (space_width kind.S spaces (s_bytes space.now)) }
+pub fn space_len(spaces: Spaces, space: &Space<'_>) -> usize
+    ensures { result ≡ capped (space_width kind.Optional spaces (space_bytes space.now)) }
 {
     match spaces {
         Spaces::Kept => space.as_str().len(),
@@ -58,8 +58,8 @@ pub fn s_len(spaces: Spaces, space: &S<'_>) -> usize
 }
 
 /// How many bytes a mandatory space counts. The greatest number stands for any that is more.
-pub fn ms_len(spaces: Spaces, space: &Ms<'_>) -> usize
-    ensures { result ≡ capped (space_width kind.MS spaces (ms_bytes space.now)) }
+pub fn mandatory_len(spaces: Spaces, space: &MandatorySpace<'_>) -> usize
+    ensures { result ≡ capped (space_width kind.Mandatory spaces (mandatory_bytes space.now)) }
 {
     match spaces {
         Spaces::Kept => space.as_str().len(),
@@ -68,8 +68,8 @@ pub fn ms_len(spaces: Spaces, space: &Ms<'_>) -> usize
 }
 
 /// How many bytes a separator counts. The greatest number stands for any that is more.
-pub fn msc_len(spaces: Spaces, space: &Msc<'_>) -> usize
-    ensures { result ≡ capped (space_width kind.MSC spaces (msc_bytes space.now)) }
+pub fn separator_len(spaces: Spaces, space: &Separator<'_>) -> usize
+    ensures { result ≡ capped (space_width kind.Separating spaces (separator_bytes space.now)) }
 {
     match spaces {
         Spaces::Kept => space.as_str().len(),
@@ -78,8 +78,8 @@ pub fn msc_len(spaces: Spaces, space: &Msc<'_>) -> usize
 }
 
 /// How many bytes the end of a list counts. The greatest number stands for any that is more.
-pub fn soc_len(spaces: Spaces, space: &Soc<'_>) -> usize
-    ensures { result ≡ capped (space_width kind.SOC spaces (soc_bytes space.now)) }
+pub fn list_end_len(spaces: Spaces, space: &ListEnd<'_>) -> usize
+    ensures { result ≡ capped (space_width kind.AtEnd spaces (list_end_bytes space.now)) }
 {
     match spaces {
         Spaces::Kept => space.as_str().len(),
@@ -88,13 +88,13 @@ pub fn soc_len(spaces: Spaces, space: &Soc<'_>) -> usize
 }
 
 /// How many bytes the indicator of a list and the space behind it count, 0 without one. The greatest number stands for any that is more.
-pub fn head_len(spaces: Spaces, head: &Option<(Indicator, Ms<'_>)>) -> usize
+pub fn head_len(spaces: Spaces, head: &Option<(Indicator, MandatorySpace<'_>)>) -> usize
     ensures { result ≡ capped (head_width spaces (view_list_head texts head.now)) }
 {
     match head {
         None => 0,
         Some((indicator, space)) => {
-            ms_len(spaces, space).saturating_add(indicator.as_str().len())
+            mandatory_len(spaces, space).saturating_add(indicator.as_str().len())
         }
     }
 }
@@ -110,14 +110,14 @@ pub fn indicator_len(indicator: Option<Indicator>) -> usize
 }
 
 /// How many bytes a label has: 3 for `1_0`, and 6 for `simple`.
-pub fn label_len(label: LabelKind) -> usize
-    ensures { result ≡ capped (length (label_text label)) }
+pub fn opener_len(opener: OpenerKind) -> usize
+    ensures { result ≡ capped (length (opener_text opener)) }
 {
-    match label {
-        LabelKind::Tag(indicator, number) => {
+    match opener {
+        OpenerKind::Tag(indicator, number) => {
             decimal_len(number).saturating_add(indicator_len(indicator))
         }
-        LabelKind::Simple => "simple".len(),
+        OpenerKind::Simple => "simple".len(),
     }
 }
 

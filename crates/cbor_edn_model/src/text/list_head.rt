@@ -13,13 +13,13 @@ ghost use Rattle.cbor_edn_model.specs.internal.Regular.{spaced_list_head};
 use cbor_edn_parts::buffer::TextBuffer;
 use cbor_edn_parts::indicator::Indicator;
 use cbor_edn_parts::layout::{Layout, Slot, lay_mandatory, print_mandatory};
-use cbor_edn_parts::space::Ms;
+use cbor_edn_parts::space::MandatorySpace;
 use std::alloc::{AllocError, Global};
 
 /// A copy of the indicator of a list and the space behind it, if they are there. Fails where memory runs out.
 pub fn clone_list_head<'a>(
-    head: &Option<(Indicator, Ms<'a>)>,
-) -> Result<Option<(Indicator, Ms<'a>)>, AllocError>
+    head: &Option<(Indicator, MandatorySpace<'a>)>,
+) -> Result<Option<(Indicator, MandatorySpace<'a>)>, AllocError>
     ensures { IfOk result (λ t. view_list_head texts t ≡ view_list_head texts head.now) }
 {
     match head {
@@ -32,7 +32,10 @@ pub fn clone_list_head<'a>(
 }
 
 /// Whether two lists have the same indicator and the same space behind it, or both have none.
-pub fn have_same_head(a: &Option<(Indicator, Ms<'_>)>, b: &Option<(Indicator, Ms<'_>)>) -> bool
+pub fn have_same_head(
+    a: &Option<(Indicator, MandatorySpace<'_>)>,
+    b: &Option<(Indicator, MandatorySpace<'_>)>,
+) -> bool
     ensures { result ≡ same_head (view_list_head texts a.now) (view_list_head texts b.now) }
 {
     match (a, b) {
@@ -43,7 +46,7 @@ pub fn have_same_head(a: &Option<(Indicator, Ms<'_>)>, b: &Option<(Indicator, Ms
 }
 
 /// The indicator of a list with entries, if it has one.
-pub fn indicator_of_head(head: &Option<(Indicator, Ms<'_>)>) -> Option<Indicator>
+pub fn indicator_of_head(head: &Option<(Indicator, MandatorySpace<'_>)>) -> Option<Indicator>
     ensures { result ≡ trees.head_indicator (view_list_head texts head.now) }
 {
     match head {
@@ -54,7 +57,7 @@ pub fn indicator_of_head(head: &Option<(Indicator, Ms<'_>)>) -> Option<Indicator
 
 /// Lays out the space behind the indicator of a list. Fails where memory runs out, and leaves the space then.
 pub fn lay_head<'a>(
-    head: &mut Option<(Indicator, Ms<'a>)>,
+    head: &mut Option<(Indicator, MandatorySpace<'a>)>,
     alloc: Global,
     layout: Layout,
 ) -> Result<(), AllocError>
@@ -72,7 +75,7 @@ pub fn lay_head<'a>(
 #[inline(always)]
 pub fn print_laid_head(
     out: &mut TextBuffer,
-    head: &Option<(Indicator, Ms<'_>)>,
+    head: &Option<(Indicator, MandatorySpace<'_>)>,
     layout: Layout,
 ) -> Result<(), AllocError>
     ensures { OnOk result (buffer_bytes out.new ≡ buffer_bytes out.old ++ list_head_text (laid_list_head layout (view_list_head texts head.now))) }
@@ -87,11 +90,11 @@ pub fn print_laid_head(
 }
 
 /// An indicator with one space behind it, as in front of the entries of a decoded list, or nothing without one.
-pub fn head_space<'a>(indicator: Option<Indicator>) -> Option<(Indicator, Ms<'a>)>
+pub fn head_space<'a>(indicator: Option<Indicator>) -> Option<(Indicator, MandatorySpace<'a>)>
     ensures { view_list_head texts result ≡ spaced_list_head indicator }
 {
     match indicator {
         None => None,
-        Some(indicator) => Some((indicator, Ms::space())),
+        Some(indicator) => Some((indicator, MandatorySpace::single())),
     }
 }

@@ -2,8 +2,8 @@
 ghost use Rattle.std.specs.Prelude.{◌≡◌, ◌≢◌, ◌+◌, ◌-◌, ◌<◌, ◌≤◌, ◌∷◌, [], true, false, length, take, drop, All, OnOk, IfErr, IfSome, IfNone, Ok, Err, Some, None};
 ghost use Rattle.std.specs.Str.{IsCharBoundary};
 ghost use Rattle.cbor_edn_parts.specs.Bytes.{is_closed, closing, kind};
-ghost use Rattle.cbor_edn_parts.specs.internal.Text.{text_bytes};
-ghost use Rattle.cbor_edn_parts.specs.Leaves.{s_bytes, BorrowsS};
+ghost use Rattle.cbor_edn_parts.specs.internal.Input.{text_bytes};
+ghost use Rattle.cbor_edn_parts.specs.Leaves.{space_bytes, BorrowsSpace};
 ghost use Rattle.cbor_edn_model.specs.text.ListHeads.{BorrowsListHead};
 ghost use Rattle.cbor_edn_model.specs.internal.BytesAt.{IsNotAt, IsByteAt, ahead};
 ghost use Rattle.cbor_edn_model.specs.internal.Lookahead.{Opens, OpensWith, Looked, digit_in_front};
@@ -18,12 +18,12 @@ use crate::text::keyword::{Keyword, NamedSimple, NonFinite};
 use cbor_edn_parts::bytes::Kind;
 use cbor_edn_parts::error::{Fault, ParseErrorKind, Refusal};
 use cbor_edn_parts::indicator::Indicator;
+use cbor_edn_parts::input::Input;
 use cbor_edn_parts::looks::Looks;
-use cbor_edn_parts::space::{Ms, S};
-use cbor_edn_parts::text::Text;
+use cbor_edn_parts::space::{MandatorySpace, Space};
 
 /// Whether an ASCII byte stands at a place, for one look.
-pub fn is_at(text: &Text<'_>, at: usize, byte: u8, looks: &mut Looks) -> bool
+pub fn is_at(text: &Input<'_>, at: usize, byte: u8, looks: &mut Looks) -> bool
     requires { byte < 128 }
     ensures yes { result ≡ true → (drop at (text_bytes text.now) ≡ byte ∷ drop (at + 1) (text_bytes text.now)) × IsCharBoundary (text_bytes text.now) (at + 1) }
     ensures no { result ≡ false → IsNotAt byte (drop at (text_bytes text.now)) }
@@ -37,7 +37,7 @@ pub fn is_at(text: &Text<'_>, at: usize, byte: u8, looks: &mut Looks) -> bool
 
 /// What an item begins with, as the parser looks for it.
 #[derive(Clone, Copy, Debug, PartialEq)]
-pub enum Opening {
+pub enum FormStart {
     /// An array: `[`.
     Array,
     /// A map: `{`.
@@ -53,30 +53,30 @@ pub enum Opening {
 }
 
 /// What an item at a place is, by its first byte, by two where it begins with a dot, and by more where it begins as a keyword.
-pub fn opening_at(text: &Text<'_>, at: usize, looks: &mut Looks) -> Opening
+pub fn form_start_at(text: &Input<'_>, at: usize, looks: &mut Looks) -> FormStart
     requires { IsCharBoundary (text_bytes text.now) at }
     ensures opens { Opens (text_bytes text.now) at result }
     ensures count { (looks.old.count < looks.new.count) × Looked (text_bytes text.now) at looks.old.count looks.new.count result }
 {
     let Some(byte) = text.byte(at, looks) else {
-        return Opening::Number;
+        return FormStart::Number;
     };
     // the first byte of most numbers
     if byte.is_ascii_digit() {
-        return Opening::Number;
+        return FormStart::Number;
     }
     if byte == b'.' {
         if is_at(text, at + 1, b'.', looks) {
-            return Opening::String;
+            return FormStart::String;
         }
-        return Opening::Number;
+        return FormStart::Number;
     }
     if let Some(keyword) = keyword_of(byte) {
         if let Some(to) = keyword_at(text, at, keyword, looks) {
-            return Opening::Keyword(keyword, to);
+            return FormStart::Keyword(keyword, to);
         }
     }
-    opening_of(byte)
+    form_start_of(byte)
 }
 
 /// The keyword that a byte begins: each begins with another one.
@@ -97,7 +97,7 @@ fn keyword_of(byte: u8) -> Option<Keyword>
 }
 
 /// The place behind a keyword, where it stands at a place and is no prefix of a literal: those are read first.
-fn keyword_at(text: &Text<'_>, at: usize, keyword: Keyword, looks: &mut Looks) -> Option<usize>
+fn keyword_at(text: &Input<'_>, at: usize, keyword: Keyword, looks: &mut Looks) -> Option<usize>
     requires { IsCharBoundary (text_bytes text.now) at }
     ensures some { IfSome result (λ to. (reading.if_keyword (Some keyword) (drop at (text_bytes text.now)) ≡ Some (keyword, drop to (text_bytes text.now))) × IsCharBoundary (text_bytes text.now) to) }
     ensures none { IfNone result (reading.if_keyword (Some keyword) (drop at (text_bytes text.now)) ≡ None) }
@@ -113,7 +113,7 @@ fn keyword_at(text: &Text<'_>, at: usize, keyword: Keyword, looks: &mut Looks) -
 }
 
 /// The place behind ASCII bytes, where they stand at a place.
-fn behind_bytes(text: &Text<'_>, at: usize, bytes: &[u8], looks: &mut Looks) -> Option<usize>
+fn behind_bytes(text: &Input<'_>, at: usize, bytes: &[u8], looks: &mut Looks) -> Option<usize>
     requires begins { IsCharBoundary (text_bytes text.now) at }
     requires ascii { All (λ b. b < 128) bytes.now }
     ensures some { IfSome result (λ to. (reading.behind_bytes bytes.now (drop at (text_bytes text.now)) ≡ Some (drop to (text_bytes text.now))) × IsCharBoundary (text_bytes text.now) to) }
@@ -134,7 +134,7 @@ fn behind_bytes(text: &Text<'_>, at: usize, bytes: &[u8], looks: &mut Looks) -> 
 }
 
 /// Whether the prefix of a literal goes on at a place, or ends there.
-fn prefix_goes_on(text: &Text<'_>, at: usize, looks: &mut Looks) -> bool
+fn prefix_goes_on(text: &Input<'_>, at: usize, looks: &mut Looks) -> bool
     ensures value { result ≡ reading.prefix_goes_on (drop at (text_bytes text.now)) }
     ensures count { looks.new.count ≡ looks.old.count + 1 }
 {
@@ -142,7 +142,7 @@ fn prefix_goes_on(text: &Text<'_>, at: usize, looks: &mut Looks) -> bool
 }
 
 /// The value of the decimal digit at a place.
-fn digit_at(text: &Text<'_>, at: usize, looks: &mut Looks) -> Option<u8>
+fn digit_at(text: &Input<'_>, at: usize, looks: &mut Looks) -> Option<u8>
     ensures value { result ≡ digit_in_front (drop at (text_bytes text.now)) }
     ensures count { looks.new.count ≡ looks.old.count + 1 }
 {
@@ -153,7 +153,7 @@ fn digit_at(text: &Text<'_>, at: usize, looks: &mut Looks) -> Option<u8>
 }
 
 /// The number of a tag, whose digits stand between two places: decimal, without a leading zero, and below 2^64.
-pub fn tag_number(text: &Text<'_>, from: usize, to: usize, looks: &mut Looks) -> Option<u64>
+pub fn tag_number(text: &Input<'_>, from: usize, to: usize, looks: &mut Looks) -> Option<u64>
     requires { (from < to) × (to ≤ length (text_bytes text.now)) }
     ensures value { result ≡ reading.tag_number (take (to - from) (drop from (text_bytes text.now))) }
     ensures count { (looks.old.count ≤ looks.new.count) × (looks.new.count + from ≤ looks.old.count + to) }
@@ -170,21 +170,21 @@ pub fn tag_number(text: &Text<'_>, from: usize, to: usize, looks: &mut Looks) ->
 }
 
 /// What begins with a byte that is no dot.
-fn opening_of(byte: u8) -> Opening
+fn form_start_of(byte: u8) -> FormStart
     requires { byte ≢ 46 }
     ensures { OpensWith byte result }
 {
     match byte {
-        b'[' => Opening::Array,
-        b'{' => Opening::Map,
-        b'(' => Opening::Stream,
-        b'"' | b'\'' | b'<' | b'a'..=b'z' | b'A'..=b'Z' => Opening::String,
-        _ => Opening::Number,
+        b'[' => FormStart::Array,
+        b'{' => FormStart::Map,
+        b'(' => FormStart::Stream,
+        b'"' | b'\'' | b'<' | b'a'..=b'z' | b'A'..=b'Z' => FormStart::String,
+        _ => FormStart::Number,
     }
 }
 
 /// Whether a plus sign at a place joins two pieces: one that begins a number does not.
-pub fn joins(text: &Text<'_>, at: usize, looks: &mut Looks) -> bool
+pub fn joins(text: &Input<'_>, at: usize, looks: &mut Looks) -> bool
     ensures value { result ≡ trees.joins (drop at (text_bytes text.now)) }
     ensures yes { result ≡ true → IsByteAt (text_bytes text.now) at 43 }
     ensures count { (looks.old.count < looks.new.count) × (looks.new.count ≤ looks.old.count + 3) }
@@ -193,7 +193,7 @@ pub fn joins(text: &Text<'_>, at: usize, looks: &mut Looks) -> bool
 }
 
 /// Whether a digit, or a point and a digit, stands at a place.
-fn starts_number(text: &Text<'_>, at: usize, looks: &mut Looks) -> bool
+fn starts_number(text: &Input<'_>, at: usize, looks: &mut Looks) -> bool
     ensures value { result ≡ trees.starts_number (drop at (text_bytes text.now)) }
     ensures count { (looks.old.count < looks.new.count) × (looks.new.count ≤ looks.old.count + 2) }
 {
@@ -207,23 +207,23 @@ fn starts_number(text: &Text<'_>, at: usize, looks: &mut Looks) -> bool
 /// The first spaces of a list that has entries: behind an indicator the space is its own, and may not be missing. None where it is.
 pub fn list_head_and_space<'a>(
     indicator: Option<Indicator>,
-    s: S<'a>,
-) -> Option<(Option<(Indicator, Ms<'a>)>, S<'a>)>
-    ensures some { IfSome result (λ p. list_head_of indicator (s_bytes s.entry) ≡ Ok (view_list_head texts p.0, s_bytes p.1)) }
-    ensures none { IfNone result (list_head_of indicator (s_bytes s.entry) ≡ Err Invalid) }
-    ensures borrowed { BorrowsS s.entry → IfSome result (λ p. BorrowsListHead p.0 × BorrowsS p.1) }
+    s: Space<'a>,
+) -> Option<(Option<(Indicator, MandatorySpace<'a>)>, Space<'a>)>
+    ensures some { IfSome result (λ p. list_head_of indicator (space_bytes s.entry) ≡ Ok (view_list_head texts p.0, space_bytes p.1)) }
+    ensures none { IfNone result (list_head_of indicator (space_bytes s.entry) ≡ Err Invalid) }
+    ensures borrowed { BorrowsSpace s.entry → IfSome result (λ p. BorrowsListHead p.0 × BorrowsSpace p.1) }
 {
     match indicator {
         None => Some((None, s)),
-        Some(indicator) => match s.into_ms() {
+        Some(indicator) => match s.into_mandatory() {
             None => None,
-            Some(ms) => Some((Some((indicator, ms)), S::empty())),
+            Some(space) => Some((Some((indicator, space)), Space::empty())),
         },
     }
 }
 
 /// Whether a list is at its end: the end of the text, or a closing byte, whichever list that closes.
-pub fn closes(text: &Text<'_>, at: usize, looks: &mut Looks) -> bool
+pub fn closes(text: &Input<'_>, at: usize, looks: &mut Looks) -> bool
     ensures closed { result ≡ is_closed (drop at (text_bytes text.now)) }
     ensures count { looks.new.count ≡ looks.old.count + 1 }
 {
@@ -240,10 +240,10 @@ fn is_closing(byte: u8) -> bool
 }
 
 /// Refuses what stands behind a place, as invalid at that place: a text must end there.
-pub fn ends(text: &Text<'_>, at: usize) -> Result<(), Fault<Refusal>>
+pub fn ends(text: &Input<'_>, at: usize) -> Result<(), Fault<Refusal>>
     requires { IsCharBoundary (text_bytes text.now) at }
     ensures end { OnOk result (drop at (text_bytes text.now) ≡ []) }
-    ensures more { IfErr result (λ e. (0 < length (drop at (text_bytes text.now))) × (e ≡ Fault.Told (record { kind = ParseErrorKind.Invalid; at = at }))) }
+    ensures more { IfErr result (λ e. (0 < length (drop at (text_bytes text.now))) × (e ≡ Fault.Told (record { kind = ParseErrorKind.Invalid; offset = at }))) }
 {
     if at < text.len() {
         return Err(Fault::Told(Refusal::invalid(at)));

@@ -2,9 +2,9 @@
 ghost use Rattle.std.specs.Prelude.{◌≡◌, ◌++◌, OnOk};
 ghost use Rattle.cbor_edn_parts.specs.Buffer.{buffer_bytes};
 ghost use Rattle.cbor_edn_parts.specs.Indicator.{indicator_text};
-ghost use Rattle.cbor_edn_model.specs.tree.Trees.{label_text};
+ghost use Rattle.cbor_edn_model.specs.tree.Trees.{opener_text};
 
-use crate::text::label::LabelKind;
+use crate::text::opener::OpenerKind;
 use cbor_edn_parts::buffer::TextBuffer;
 use cbor_edn_parts::indicator::Indicator;
 use std::alloc::AllocError;
@@ -20,14 +20,14 @@ pub fn print_indicator(out: &mut TextBuffer, indicator: Option<Indicator>) -> Re
 }
 
 /// Writes a label at the end of a text: `1_0` or `simple`. Fails where memory runs out, and a part of it may stand then.
-pub fn print_label(out: &mut TextBuffer, label: LabelKind) -> Result<(), AllocError>
-    ensures { OnOk result (buffer_bytes out.new ≡ buffer_bytes out.old ++ label_text label) }
+pub fn print_opener(out: &mut TextBuffer, opener: OpenerKind) -> Result<(), AllocError>
+    ensures { OnOk result (buffer_bytes out.new ≡ buffer_bytes out.old ++ opener_text opener) }
 {
-    match label {
-        LabelKind::Tag(indicator, number) => {
+    match opener {
+        OpenerKind::Tag(indicator, number) => {
             out.push_str(itoa::Buffer::new().format(number))?;
             print_indicator(out, indicator)
         }
-        LabelKind::Simple => out.push_str("simple"),
+        OpenerKind::Simple => out.push_str("simple"),
     }
 }

@@ -1,7 +1,7 @@
 -- Quoted texts and dots: what they are, what they stand for, and those made from values.
+pub mod EllipsisTexts
 pub mod WrittenLiterals
 pub mod PrefixTests
-pub mod DotTexts
 pub mod LiteralContents
 pub mod ContentTexts
 pub mod LiteralRuns

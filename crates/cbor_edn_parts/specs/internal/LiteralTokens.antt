@@ -10,8 +10,8 @@ use Rattle.cbor_edn_parts.specs.declared.string.QuotedState.{QuotedState}
 use Rattle.cbor_edn_parts.specs.declared.string.QuotedState.TheVariants.{Between, Backslash, Unit, High, HighBackslash, LowUnit, Brace, Braced}
 use Rattle.cbor_edn_parts.specs.declared.string.LiteralState.{LiteralState}
 use Rattle.cbor_edn_parts.specs.declared.string.LiteralState.TheVariants.{Start, Lower, Upper, Inside, Closed}
-use Rattle.cbor_edn_parts.specs.declared.string.DotsState.{DotsState}
-use Rattle.cbor_edn_parts.specs.declared.string.DotsState.TheVariants.{None as NoDot, One, Two, Enough}
+use Rattle.cbor_edn_parts.specs.declared.string.EllipsisState.{EllipsisState}
+use Rattle.cbor_edn_parts.specs.declared.string.EllipsisState.TheVariants.{None as NoDot, One, Two, Enough}
 
 abbrev pub quote_byte : Quote → ℕ
 quote_byte Single = single_quote
@@ -122,25 +122,25 @@ literal = record { step = literal_step; final = literal_final; start = Start }
 abbrev pub is_literal : List ℕ → Bool
 is_literal t = is_token literal t
 
-abbrev pub next_dot : DotsState → DotsState
+abbrev pub next_dot : EllipsisState → EllipsisState
 next_dot NoDot = One
 next_dot One = Two
 next_dot Two = Enough
 next_dot Enough = Enough
 
-abbrev pub dots_step : ℕ → DotsState → Option DotsState
-dots_step c m = if c == 46 then Some (next_dot m) else None
+abbrev pub ellipsis_step : ℕ → EllipsisState → Option EllipsisState
+ellipsis_step c m = if c == 46 then Some (next_dot m) else None
 
-abbrev pub dots_final : DotsState → Bool
-dots_final Enough = true
-dots_final _ = false
+abbrev pub ellipsis_final : EllipsisState → Bool
+ellipsis_final Enough = true
+ellipsis_final _ = false
 
 -- three dots or more
-abbrev pub dots : Automaton DotsState
-dots = record { step = dots_step; final = dots_final; start = NoDot }
+abbrev pub ellipsis : Automaton EllipsisState
+ellipsis = record { step = ellipsis_step; final = ellipsis_final; start = NoDot }
 
-abbrev pub are_dots : List ℕ → Bool
-are_dots t = is_token dots t
+abbrev pub is_ellipsis : List ℕ → Bool
+is_ellipsis t = is_token ellipsis t
 
 -- ---- what a literal stands for
 

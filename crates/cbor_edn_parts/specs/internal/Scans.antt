@@ -32,7 +32,7 @@ Scans view text (Err r) read = (read ≡ None) × (r.kind ≡ Invalid)
 
 -- A place behind is one where a character begins, and so is that of a refusal.
 abbrev pub ScanLands : {X : Type 0} → List ℕ → ℕ → Result (X × ℕ) Refusal → Type 0
-ScanLands text at r = MatchResult r (λ p. (at ≤ p.1) × IsCharBoundary text p.1) (λ e. IsCharBoundary text e.at)
+ScanLands text at r = MatchResult r (λ p. (at ≤ p.1) × IsCharBoundary text p.1) (λ e. IsCharBoundary text e.offset)
 
 -- At most `rate` looks a byte and k more, and at least one look a byte; where it is refused, at most `failed` more than for the
 -- rest of the text, and looks never fall.

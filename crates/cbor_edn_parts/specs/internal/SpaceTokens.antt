@@ -58,14 +58,14 @@ is_empty [] = true
 is_empty (c ∷ x) = false
 
 -- the tests of the kinds of space text
-abbrev pub is_s : List ℕ → Bool
-is_s t = is_token space t
+abbrev pub is_space : List ℕ → Bool
+is_space t = is_token space t
 
-abbrev pub is_ms : List ℕ → Bool
-is_ms t = not (is_empty t) && is_token space t
+abbrev pub is_mandatory_space : List ℕ → Bool
+is_mandatory_space t = not (is_empty t) && is_token space t
 
-abbrev pub is_soc : List ℕ → Bool
-is_soc t = is_token separator t
+abbrev pub is_list_end : List ℕ → Bool
+is_list_end t = is_token separator t
 
-abbrev pub is_msc : List ℕ → Bool
-is_msc t = not (is_empty t) && is_token separator t
+abbrev pub is_separator : List ℕ → Bool
+is_separator t = not (is_empty t) && is_token separator t

@@ -11,7 +11,7 @@ use Rattle.cbor_edn_parts.specs.internal.SpaceTokens.{space_step, space_final}
 use Rattle.cbor_edn_parts.specs.internal.NumberTokens as numbers
 use Rattle.cbor_edn_parts.specs.internal.NumberTokens.{number_step, number_final}
 use Rattle.cbor_edn_parts.specs.internal.LiteralTokens as literals
-use Rattle.cbor_edn_parts.specs.internal.LiteralTokens.{with_digit, unit_digit, low_digit, braced_digit, escape_step, inside, literal_step, literal_final, dots_final}
+use Rattle.cbor_edn_parts.specs.internal.LiteralTokens.{with_digit, unit_digit, low_digit, braced_digit, escape_step, inside, literal_step, literal_final, ellipsis_final}
 use Rattle.cbor_edn_parts.specs.declared.space.SpaceState.{SpaceState}
 use Rattle.cbor_edn_parts.specs.declared.space.SpaceState.TheVariants as within
 use Rattle.cbor_edn_parts.specs.declared.space.SpaceState.TheVariants.{InSlashes, InHash}
@@ -21,7 +21,7 @@ use Rattle.cbor_edn_parts.specs.declared.string.Quote.TheVariants.{Single, Doubl
 use Rattle.cbor_edn_parts.specs.declared.string.QuotedState.TheVariants.{Between, Backslash, Unit as Digits, High, HighBackslash, LowUnit, Brace, Braced}
 use Rattle.cbor_edn_parts.specs.declared.string.LiteralState.{LiteralState}
 use Rattle.cbor_edn_parts.specs.declared.string.LiteralState.TheVariants.{Start, Lower, Upper, Inside, Closed}
-use Rattle.cbor_edn_parts.specs.declared.string.DotsState.{DotsState}
+use Rattle.cbor_edn_parts.specs.declared.string.EllipsisState.{EllipsisState}
 
 -- A test holds of each byte of a longer character, where a table of all bytes says so.
 each_long : (p : ℕ → Bool) → agree_below (λ c. ltb c 128 || p c) (λ c. true) 256 ≡ true → (c : ℕ) → IsLong c → p c ≡ true
@@ -147,11 +147,11 @@ literal_stays = stays_by literals.literal literal_goes literal_long literal_loop
 pub literal_inside : (c : ℕ) → IsLong c → (m : LiteralState) → literal_final m ≡ true → literal_step c m ≡ None
 literal_inside = inside_by literals.literal literal_goes literal_long literal_ends
 
-dots_long : (c : ℕ) → IsLong c → (m : DotsState) → literals.dots.step c m ≡ None
-dots_long c long m = cond-false (c == 46) _ _ (is_not 46 c refl long)
+ellipsis_long : (c : ℕ) → IsLong c → (m : EllipsisState) → literals.ellipsis.step c m ≡ None
+ellipsis_long c long m = cond-false (c == 46) _ _ (is_not 46 c refl long)
 
-pub dots_stays : (c d : ℕ) → IsLong c → IsLong d → (m n : DotsState) → literals.dots.step c m ≡ Some n → literals.dots.step d n ≡ Some n
-dots_stays = stays_by literals.dots (λ m. None) dots_long (λ m. tt)
+pub ellipsis_stays : (c d : ℕ) → IsLong c → IsLong d → (m n : EllipsisState) → literals.ellipsis.step c m ≡ Some n → literals.ellipsis.step d n ≡ Some n
+ellipsis_stays = stays_by literals.ellipsis (λ m. None) ellipsis_long (λ m. tt)
 
-pub dots_inside : (c : ℕ) → IsLong c → (m : DotsState) → dots_final m ≡ true → literals.dots.step c m ≡ None
-dots_inside = inside_by literals.dots (λ m. None) dots_long (λ m e. refl)
+pub ellipsis_inside : (c : ℕ) → IsLong c → (m : EllipsisState) → ellipsis_final m ≡ true → literals.ellipsis.step c m ≡ None
+ellipsis_inside = inside_by literals.ellipsis (λ m. None) ellipsis_long (λ m e. refl)

@@ -2,14 +2,14 @@
 ghost use Rattle.std.specs.Prelude.{◌≡◌, ◌≤◌, ◌+◌, drop};
 ghost use Rattle.std.specs.Str.{IsCharBoundary};
 ghost use Rattle.cbor_edn_parts.specs.Indicator as spec;
-ghost use Rattle.cbor_edn_parts.specs.internal.Text.{text_bytes};
+ghost use Rattle.cbor_edn_parts.specs.internal.Input.{text_bytes};
 
 use super::Indicator;
+use crate::input::Input;
 use crate::looks::Looks;
-use crate::text::Text;
 
 /// The encoding indicator at a place, if any, and the place behind it: for one look where there is none, else for two.
-pub fn indicator_at(text: &Text<'_>, from: usize, looks: &mut Looks) -> (Option<Indicator>, usize)
+pub fn indicator_at(text: &Input<'_>, from: usize, looks: &mut Looks) -> (Option<Indicator>, usize)
     requires { IsCharBoundary (text_bytes text.now) from }
     ensures value { spec.indicator_at (drop from (text_bytes text.now)) ≡ (result.0, drop result.1 (text_bytes text.now)) }
     ensures place { (from ≤ result.1) × IsCharBoundary (text_bytes text.now) result.1 }

@@ -7,15 +7,15 @@ ghost use Rattle.cbor_edn_parts.specs.internal.Lex.{token};
 ghost use Rattle.cbor_edn_parts.specs.internal.NumberStarts.{IsStart, IsPastDigits, follows_at};
 ghost use Rattle.cbor_edn_parts.specs.internal.NumberTokens as tokens;
 ghost use Rattle.cbor_edn_parts.specs.internal.Scans.{IsRead, Comes, Scans, ScanLands, Costs};
-ghost use Rattle.cbor_edn_parts.specs.internal.Text.{text_bytes};
+ghost use Rattle.cbor_edn_parts.specs.internal.Input.{text_bytes};
 
 use super::{Number, NumberState};
 use crate::bytes::Kind;
 use crate::error::Refusal;
+use crate::input::Input;
 use crate::leaf_text::LeafText;
 use crate::looks::Looks;
 use crate::scan::{State, token_end};
-use crate::text::Text;
 
 /// How far the scan of a number has come: behind a sign and a zero or other decimal digits, where these stand there.
 #[derive(Clone, Copy)]
@@ -28,7 +28,7 @@ pub struct NumberStart {
 
 /// The beginning of the number at a place.
 #[inline(always)]
-pub fn number_start(text: &Text<'_>, from: usize, looks: &mut Looks) -> NumberStart
+pub fn number_start(text: &Input<'_>, from: usize, looks: &mut Looks) -> NumberStart
     requires { IsCharBoundary (text_bytes text.now) from }
     ensures start { IsStart (text_bytes text.now) from result }
     ensures sign { result.next ≡ Some 45 → result.state ≡ NumberState.Start → ⊥ }
@@ -48,7 +48,7 @@ pub fn number_start(text: &Text<'_>, from: usize, looks: &mut Looks) -> NumberSt
 #[inline(always)]
 fn unsigned_start(
     state: NumberState,
-    text: &Text<'_>,
+    text: &Input<'_>,
     from: usize,
     first: Option<u8>,
     looks: &mut Looks,
@@ -83,7 +83,7 @@ fn unsigned_start(
 
 /// Where a scan stands behind decimal digits, the first of which is read.
 #[inline(always)]
-fn behind_digits(text: &Text<'_>, from: usize, looks: &mut Looks) -> NumberStart
+fn behind_digits(text: &Input<'_>, from: usize, looks: &mut Looks) -> NumberStart
     requires { IsCharBoundary (text_bytes text.now) from }
     ensures state { result.state ≡ NumberState.DecimalDigits }
     ensures comes { Comes tokens.number (text_bytes text.now) NumberState.DecimalDigits from result.state result.at }
@@ -153,7 +153,7 @@ impl NumberStart {
     /// The whole number, where it may end there and nothing follows, or what may stand behind an item. So it has no encoding indicator,
     /// and is no tag's.
     #[inline(always)]
-    pub fn plain<'a>(self, text: &Text<'a>, from: usize) -> Option<Number<'a>>
+    pub fn plain<'a>(self, text: &Input<'a>, from: usize) -> Option<Number<'a>>
         requires begins { IsCharBoundary (text_bytes text.now) from }
         requires start { IsStart (text_bytes text.now) from self }
         ensures some { IfSome result (λ n. token tokens.number (drop from (text_bytes text.now)) ≡ Some (number_bytes n, drop self.at (text_bytes text.now))) }
@@ -174,7 +174,7 @@ impl NumberStart {
     /// The longest number, and the place behind it. Refused as invalid where none stands there, at the byte that leads no further.
     pub fn number<'a>(
         self,
-        text: &Text<'a>,
+        text: &Input<'a>,
         from: usize,
         looks: &mut Looks,
     ) -> Result<(Number<'a>, usize), Refusal>

@@ -1,19 +1,19 @@
 //! Comments as space texts.
 ghost use Rattle.std.specs.Prelude.{◌≡◌, ◌∷◌, ◌++◌, [], IfOk, OnOk, OnErr, List, ℕ, map, encode_utf8, string_bytes};
 ghost use Rattle.cbor_edn_parts.specs.LeafTexts.{leaf_bytes};
-ghost use Rattle.cbor_edn_parts.specs.Leaves.{s_bytes, msc_bytes, soc_bytes};
+ghost use Rattle.cbor_edn_parts.specs.Leaves.{space_bytes, separator_bytes, list_end_bytes};
 ghost use Rattle.cbor_edn_parts.specs.Notes as definition;
 ghost use Rattle.cbor_edn_parts.specs.Notes.{noted, hash_lines};
 
-use super::{Msc, S, Soc};
+use super::{ListEnd, Separator, Space};
 use crate::leaf_text::LeafText;
 use std::alloc::{AllocError, Global};
 
-impl<'a> S<'a> {
+impl<'a> Space<'a> {
     /// A comment as space: `/ comment /`, or each line behind `# ` where it has a slash. Control characters other than HT, LF
     /// and CR become spaces. Fails where memory runs out.
-    pub fn note(alloc: Global, comment: &str) -> Result<S<'a>, AllocError>
-        ensures { IfOk result (λ t. s_bytes t ≡ noted comment.now) }
+    pub fn note(alloc: Global, comment: &str) -> Result<Space<'a>, AllocError>
+        ensures { IfOk result (λ t. space_bytes t ≡ noted comment.now) }
     {
         let text = if comment.as_bytes().contains(&b'/') {
             behind_hashes(alloc, comment)?
@@ -21,7 +21,7 @@ impl<'a> S<'a> {
             between_slashes(alloc, comment)?
         };
         let text = LeafText::own(alloc, text)?;
-        Ok(S { text })
+        Ok(Space { text })
     }
 }
 
@@ -29,14 +29,14 @@ impl<'a> S<'a> {
 pub trait TakesComment {
     ghost bytes: { Self → List ℕ };
 
-    /// Puts a comment in front of the text, as [`S::note`] writes it. Fails where memory runs out, and leaves the text then.
+    /// Puts a comment in front of the text, as [`Space::note`] writes it. Fails where memory runs out, and leaves the text then.
     fn put_comment(&mut self, alloc: Global, comment: &str) -> Result<(), AllocError>
         ensures put { OnOk result (bytes self.new ≡ noted comment.now ++ bytes self.old) }
         ensures out_of_memory { OnErr result (bytes self.new ≡ bytes self.old) };
 }
 
-impl<'a> TakesComment for S<'a> {
-    ghost bytes = { s_bytes };
+impl<'a> TakesComment for Space<'a> {
+    ghost bytes = { space_bytes };
 
     fn put_comment(&mut self, alloc: Global, comment: &str) -> Result<(), AllocError> {
         let text = note_before(alloc, comment, self.as_str())?;
@@ -45,8 +45,8 @@ impl<'a> TakesComment for S<'a> {
     }
 }
 
-impl<'a> TakesComment for Msc<'a> {
-    ghost bytes = { msc_bytes };
+impl<'a> TakesComment for Separator<'a> {
+    ghost bytes = { separator_bytes };
 
     fn put_comment(&mut self, alloc: Global, comment: &str) -> Result<(), AllocError> {
         let text = note_before(alloc, comment, self.as_str())?;
@@ -55,8 +55,8 @@ impl<'a> TakesComment for Msc<'a> {
     }
 }
 
-impl<'a> TakesComment for Soc<'a> {
-    ghost bytes = { soc_bytes };
+impl<'a> TakesComment for ListEnd<'a> {
+    ghost bytes = { list_end_bytes };
 
     fn put_comment(&mut self, alloc: Global, comment: &str) -> Result<(), AllocError> {
         let text = note_before(alloc, comment, self.as_str())?;
@@ -69,7 +69,7 @@ impl<'a> TakesComment for Soc<'a> {
 fn note_before<'a>(alloc: Global, comment: &str, text: &str) -> Result<LeafText<'a>, AllocError>
     ensures { IfOk result (λ t. leaf_bytes t ≡ noted comment.now ++ text.now) }
 {
-    let note = S::note(alloc, comment)?;
+    let note = Space::note(alloc, comment)?;
     LeafText::joined(alloc, note.as_str(), text)
 }
 

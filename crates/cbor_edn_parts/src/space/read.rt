@@ -1,40 +1,44 @@
 //! Space texts at a place of a text.
-ghost use Rattle.std.specs.Prelude.{◌≡◌, ◌+◌, ◌<◌, ◌≤◌, IfOk, IfSome, drop, false};
+ghost use Rattle.std.specs.Prelude.{◌≡◌, ◌+◌, ◌<◌, ◌≤◌, IfOk, IfSome, None, drop, false};
 ghost use Rattle.std.specs.Str.{IsCharBoundary};
 ghost use Rattle.cbor_edn_parts.specs.internal.Lex.{token};
-ghost use Rattle.cbor_edn_parts.specs.Leaves.{s_bytes, soc_bytes, BorrowsS, BorrowsSoc};
+ghost use Rattle.cbor_edn_parts.specs.Leaves.{space_bytes, list_end_bytes, BorrowsSpace, BorrowsListEnd};
 ghost use Rattle.cbor_edn_parts.specs.internal.Ends.{IsEnd, reached};
 ghost use Rattle.cbor_edn_parts.specs.internal.Blanks.{is_blank_at, begins_comment_at};
 ghost use Rattle.cbor_edn_parts.specs.internal.Scans.{IsRead, Comes, Ends, Scans, ScanLands, Costs};
 ghost use Rattle.cbor_edn_parts.specs.internal.SpaceTokens as tokens;
-ghost use Rattle.cbor_edn_parts.specs.internal.Text.{text_bytes};
+ghost use Rattle.cbor_edn_parts.specs.internal.Input.{text_bytes};
 
 use super::comments::is_blank;
-use super::{S, Soc, SpaceState};
+use super::{ListEnd, Space, SpaceState};
 use crate::error::Refusal;
+use crate::input::Input;
 use crate::leaf_text::LeafText;
 use crate::looks::Looks;
 use crate::scan::token_end;
-use crate::text::Text;
 
 /// The optional space at a place, and the place behind it.
 #[inline(always)]
-pub fn space<'a>(text: &Text<'a>, from: usize, looks: &mut Looks) -> Result<(S<'a>, usize), Refusal>
+pub fn space_at<'a>(
+    text: &Input<'a>,
+    from: usize,
+    looks: &mut Looks,
+) -> Result<(Space<'a>, usize), Refusal>
     requires { IsCharBoundary (text_bytes text.now) from }
-    ensures value { Scans s_bytes (text_bytes text.now) result (token tokens.space (drop from (text_bytes text.now))) }
-    ensures borrowed { IfOk result (λ p. BorrowsS p.0) }
+    ensures value { Scans space_bytes (text_bytes text.now) result (token tokens.space (drop from (text_bytes text.now))) }
+    ensures borrowed { IfOk result (λ p. BorrowsSpace p.0) }
     ensures place { ScanLands (text_bytes text.now) from result }
     ensures cost { Costs 1 1 1 (text_bytes text.now) from looks.old.count looks.new.count result }
 {
     let (_, to) = space_end(text, from, looks)?;
     let text = LeafText::Borrowed(text.slice(from, to));
-    Ok((S { text }, to))
+    Ok((Space { text }, to))
 }
 
 /// The byte behind the optional space at a place, and the place of that byte. Most space has no comment.
 #[inline(always)]
 fn space_end(
-    text: &Text<'_>,
+    text: &Input<'_>,
     from: usize,
     looks: &mut Looks,
 ) -> Result<(Option<u8>, usize), Refusal>
@@ -54,7 +58,7 @@ fn space_end(
 /// The same from a place whose byte is read.
 #[inline(never)]
 fn comments_end(
-    text: &Text<'_>,
+    text: &Input<'_>,
     from: usize,
     first: Option<u8>,
     looks: &mut Looks,
@@ -69,7 +73,7 @@ fn comments_end(
 
 /// The first byte at a place that is no blank, and its place.
 #[inline(always)]
-fn blanks(text: &Text<'_>, from: usize, looks: &mut Looks) -> (Option<u8>, usize)
+fn blanks(text: &Input<'_>, from: usize, looks: &mut Looks) -> (Option<u8>, usize)
     requires { IsCharBoundary (text_bytes text.now) from }
     ensures comes { Comes tokens.space (text_bytes text.now) SpaceState.Between from SpaceState.Between result.1 }
     ensures read { IsRead (text_bytes text.now) result.1 result.0 }
@@ -110,10 +114,19 @@ pub struct ItemEnd {
     pub space: Option<usize>,
 }
 
+impl ItemEnd {
+    /// The end of an item behind which no space is read.
+    pub fn bare(at: usize) -> ItemEnd
+        ensures { result ≡ record { at = at; space = None } }
+    {
+        ItemEnd { at, space: None }
+    }
+}
+
 /// The byte behind the optional space that follows an item, and the place of that byte. Space that is read is not read again.
 #[inline(always)]
 fn end_of_space(
-    text: &Text<'_>,
+    text: &Input<'_>,
     end: ItemEnd,
     looks: &mut Looks,
 ) -> Result<(Option<u8>, usize), Refusal>
@@ -133,31 +146,31 @@ fn end_of_space(
 /// The optional space behind an item, and the place behind it.
 #[inline(always)]
 pub fn space_behind<'a>(
-    text: &Text<'a>,
+    text: &Input<'a>,
     end: ItemEnd,
     looks: &mut Looks,
-) -> Result<(S<'a>, usize), Refusal>
+) -> Result<(Space<'a>, usize), Refusal>
     requires { IsEnd (text_bytes text.now) end }
-    ensures value { Scans s_bytes (text_bytes text.now) result (token tokens.space (drop end.at (text_bytes text.now))) }
-    ensures borrowed { IfOk result (λ p. BorrowsS p.0) }
+    ensures value { Scans space_bytes (text_bytes text.now) result (token tokens.space (drop end.at (text_bytes text.now))) }
+    ensures borrowed { IfOk result (λ p. BorrowsSpace p.0) }
     ensures place { ScanLands (text_bytes text.now) (reached end) result }
     ensures cost { Costs 1 1 1 (text_bytes text.now) (reached end) looks.old.count looks.new.count result }
 {
     let (_, to) = end_of_space(text, end, looks)?;
     let text = LeafText::Borrowed(text.slice(end.at, to));
-    Ok((S { text }, to))
+    Ok((Space { text }, to))
 }
 
 /// The space with at most one comma behind an item, and the place behind it.
 #[inline(always)]
 pub fn separator_behind<'a>(
-    text: &Text<'a>,
+    text: &Input<'a>,
     end: ItemEnd,
     looks: &mut Looks,
-) -> Result<(Soc<'a>, usize), Refusal>
+) -> Result<(ListEnd<'a>, usize), Refusal>
     requires { IsEnd (text_bytes text.now) end }
-    ensures value { Scans soc_bytes (text_bytes text.now) result (token tokens.separator (drop end.at (text_bytes text.now))) }
-    ensures borrowed { IfOk result (λ p. BorrowsSoc p.0) }
+    ensures value { Scans list_end_bytes (text_bytes text.now) result (token tokens.separator (drop end.at (text_bytes text.now))) }
+    ensures borrowed { IfOk result (λ p. BorrowsListEnd p.0) }
     ensures place { ScanLands (text_bytes text.now) (reached end) result }
     ensures cost { Costs 1 2 2 (text_bytes text.now) (reached end) looks.old.count looks.new.count result }
 {
@@ -167,5 +180,5 @@ pub fn separator_behind<'a>(
         _ => at,
     };
     let text = LeafText::Borrowed(text.slice(end.at, to));
-    Ok((Soc { text }, to))
+    Ok((ListEnd { text }, to))
 }

@@ -3,13 +3,13 @@ ghost use Rattle.std.specs.Prelude.{◌≡◌, ◌≤◌, [], ◌∷◌, ◌++�
 ghost use Rattle.cbor_edn_parts.specs.Buffer.{buffer_bytes};
 ghost use Rattle.cbor_edn_parts.specs.LeafTexts.{leaf_bytes};
 ghost use Rattle.cbor_edn_parts.specs.internal.CommentReading.{comments_of};
-ghost use Rattle.cbor_edn_parts.specs.Leaves.{s_bytes, ms_bytes, msc_bytes, soc_bytes};
+ghost use Rattle.cbor_edn_parts.specs.Leaves.{space_bytes, mandatory_bytes, separator_bytes, list_end_bytes};
 ghost use Rattle.cbor_edn_parts.specs.Spacing as table;
 ghost use Rattle.cbor_edn_parts.specs.Spacing.{line};
 ghost use Rattle.cbor_edn_parts.specs.internal.Columns.{in_column, comma_in_column};
 
 use super::comments::{comments, comments_in_parts, comments_round_comma, is_bare_separator};
-use super::{Ms, Msc, S, Soc};
+use super::{ListEnd, MandatorySpace, Separator, Space};
 use crate::buffer::TextBuffer;
 use crate::leaf_text::LeafText;
 use crate::policy::Spacing;
@@ -21,16 +21,16 @@ const SHORT: usize = 64;
 /// A comma, a line feed and so many spaces.
 const COMMA_LINE: &str = ",\n                                                                ";
 
-impl<'a> S<'a> {
+impl<'a> Space<'a> {
     /// The text by a column of the table. Fails where memory runs out; no memory is taken for no space, for one space and for a
     /// short line, nor for the comments alone of a text that is borrowed.
-    pub fn spaced(&self, alloc: Global, spacing: Spacing) -> Result<S<'a>, AllocError>
-        ensures bytes { IfOk result (λ t. s_bytes t ≡ table.spaced table.S spacing (s_bytes self.now)) }
+    pub fn spaced(&self, alloc: Global, spacing: Spacing) -> Result<Space<'a>, AllocError>
+        ensures bytes { IfOk result (λ t. space_bytes t ≡ table.spaced table.Optional spacing (space_bytes self.now)) }
         ensures least { spacing ≡ table.Least → IsOk result }
-        ensures free { table.IsShortSpacing spacing → comments_of (s_bytes self.now) ≡ [] → IsOk result }
+        ensures free { table.IsShortSpacing spacing → comments_of (space_bytes self.now) ≡ [] → IsOk result }
     {
         let text = comments_in_column(alloc, spacing, &self.text)?;
-        Ok(S { text })
+        Ok(Space { text })
     }
 
     /// Appends the text by a column of the table. Fails where memory runs out.
@@ -39,7 +39,7 @@ impl<'a> S<'a> {
         out: &mut TextBuffer,
         spacing: Spacing,
     ) -> Result<(), AllocError>
-        ensures { OnOk result (buffer_bytes out.new ≡ buffer_bytes out.old ++ table.spaced table.S spacing (s_bytes self.now)) }
+        ensures { OnOk result (buffer_bytes out.new ≡ buffer_bytes out.old ++ table.spaced table.Optional spacing (space_bytes self.now)) }
     {
         let comments = comments(self.as_str());
         if comments.is_empty() {
@@ -49,16 +49,16 @@ impl<'a> S<'a> {
     }
 }
 
-impl<'a> Ms<'a> {
+impl<'a> MandatorySpace<'a> {
     /// The text by a column of the table. Fails where memory runs out; no memory is taken for one space and for a short line, nor
     /// for the comments alone of a text that is borrowed.
-    pub fn spaced(&self, alloc: Global, spacing: Spacing) -> Result<Ms<'a>, AllocError>
-        ensures bytes { IfOk result (λ t. ms_bytes t ≡ table.spaced table.MS spacing (ms_bytes self.now)) }
+    pub fn spaced(&self, alloc: Global, spacing: Spacing) -> Result<MandatorySpace<'a>, AllocError>
+        ensures bytes { IfOk result (λ t. mandatory_bytes t ≡ table.spaced table.Mandatory spacing (mandatory_bytes self.now)) }
         ensures least { spacing ≡ table.Least → IsOk result }
-        ensures free { table.IsShortSpacing spacing → comments_of (ms_bytes self.now) ≡ [] → IsOk result }
+        ensures free { table.IsShortSpacing spacing → comments_of (mandatory_bytes self.now) ≡ [] → IsOk result }
     {
         let text = or_space(comments_in_column(alloc, spacing, &self.text)?);
-        Ok(Ms { text })
+        Ok(MandatorySpace { text })
     }
 
     /// Appends the text by a column of the table. Fails where memory runs out.
@@ -67,7 +67,7 @@ impl<'a> Ms<'a> {
         out: &mut TextBuffer,
         spacing: Spacing,
     ) -> Result<(), AllocError>
-        ensures { OnOk result (buffer_bytes out.new ≡ buffer_bytes out.old ++ table.spaced table.MS spacing (ms_bytes self.now)) }
+        ensures { OnOk result (buffer_bytes out.new ≡ buffer_bytes out.old ++ table.spaced table.Mandatory spacing (mandatory_bytes self.now)) }
     {
         let comments = comments(self.as_str());
         match spacing {
@@ -78,16 +78,16 @@ impl<'a> Ms<'a> {
     }
 }
 
-impl<'a> Msc<'a> {
+impl<'a> Separator<'a> {
     /// The text by a column of the table. Fails where memory runs out; no memory is taken for a comma, nor for a comma with
     /// one space or a short line.
-    pub fn spaced(&self, alloc: Global, spacing: Spacing) -> Result<Msc<'a>, AllocError>
-        ensures bytes { IfOk result (λ t. msc_bytes t ≡ table.spaced table.MSC spacing (msc_bytes self.now)) }
+    pub fn spaced(&self, alloc: Global, spacing: Spacing) -> Result<Separator<'a>, AllocError>
+        ensures bytes { IfOk result (λ t. separator_bytes t ≡ table.spaced table.Separating spacing (separator_bytes self.now)) }
         ensures least { spacing ≡ table.Least → IsOk result }
-        ensures free { table.IsShortSpacing spacing → table.comments_before (msc_bytes self.now) ≡ [] → table.comments_after (msc_bytes self.now) ≡ [] → IsOk result }
+        ensures free { table.IsShortSpacing spacing → table.comments_before (separator_bytes self.now) ≡ [] → table.comments_after (separator_bytes self.now) ≡ [] → IsOk result }
     {
         let text = with_comma(alloc, spacing, self.as_str())?;
-        Ok(Msc { text })
+        Ok(Separator { text })
     }
 
     /// Appends the text by a column of the table. Fails where memory runs out.
@@ -97,23 +97,23 @@ impl<'a> Msc<'a> {
         out: &mut TextBuffer,
         spacing: Spacing,
     ) -> Result<(), AllocError>
-        ensures { OnOk result (buffer_bytes out.new ≡ buffer_bytes out.old ++ table.spaced table.MSC spacing (msc_bytes self.now)) }
+        ensures { OnOk result (buffer_bytes out.new ≡ buffer_bytes out.old ++ table.spaced table.Separating spacing (separator_bytes self.now)) }
     {
         print_with_comma(out, spacing, self.as_str())
     }
 }
 
-impl<'a> Soc<'a> {
+impl<'a> ListEnd<'a> {
     /// The text by a column of the table. Fails where memory runs out; no memory is taken for no space, for one space and for a
     /// short line.
-    pub fn spaced(&self, alloc: Global, spacing: Spacing) -> Result<Soc<'a>, AllocError>
-        ensures bytes { IfOk result (λ t. soc_bytes t ≡ table.spaced table.SOC spacing (soc_bytes self.now)) }
+    pub fn spaced(&self, alloc: Global, spacing: Spacing) -> Result<ListEnd<'a>, AllocError>
+        ensures bytes { IfOk result (λ t. list_end_bytes t ≡ table.spaced table.AtEnd spacing (list_end_bytes self.now)) }
         ensures least { spacing ≡ table.Least → IsOk result }
-        ensures free { table.IsShortSpacing spacing → table.comments_before (soc_bytes self.now) ≡ [] → table.comments_after (soc_bytes self.now) ≡ [] → IsOk result }
+        ensures free { table.IsShortSpacing spacing → table.comments_before (list_end_bytes self.now) ≡ [] → table.comments_after (list_end_bytes self.now) ≡ [] → IsOk result }
     {
         let (before, after) = comments_round_comma(self.as_str());
         let text = in_column(alloc, spacing, before, after)?;
-        Ok(Soc { text })
+        Ok(ListEnd { text })
     }
 
     /// Appends the text by a column of the table. Fails where memory runs out.
@@ -122,7 +122,7 @@ impl<'a> Soc<'a> {
         out: &mut TextBuffer,
         spacing: Spacing,
     ) -> Result<(), AllocError>
-        ensures { OnOk result (buffer_bytes out.new ≡ buffer_bytes out.old ++ table.spaced table.SOC spacing (soc_bytes self.now)) }
+        ensures { OnOk result (buffer_bytes out.new ≡ buffer_bytes out.old ++ table.spaced table.AtEnd spacing (list_end_bytes self.now)) }
     {
         let (before, after) = comments_round_comma(self.as_str());
         print_in_column(out, spacing, before, after)
@@ -215,7 +215,7 @@ fn or_space<'a>(text: LeafText<'a>) -> LeafText<'a>
 
 /// A separator by a column: its comments with a comma between those in front of it and those behind it.
 fn with_comma<'a>(alloc: Global, spacing: Spacing, text: &str) -> Result<LeafText<'a>, AllocError>
-    ensures bytes { IfOk result (λ t. leaf_bytes t ≡ table.spaced table.MSC spacing text.now) }
+    ensures bytes { IfOk result (λ t. leaf_bytes t ≡ table.spaced table.Separating spacing text.now) }
     ensures least { spacing ≡ table.Least → IsOk result }
     ensures free { table.IsShortSpacing spacing → table.comments_before text.now ≡ [] → table.comments_after text.now ≡ [] → IsOk result }
 {
@@ -240,7 +240,7 @@ fn with_comma<'a>(alloc: Global, spacing: Spacing, text: &str) -> Result<LeafTex
 /// runs out.
 #[inline(always)]
 fn print_with_comma(out: &mut TextBuffer, spacing: Spacing, text: &str) -> Result<(), AllocError>
-    ensures { OnOk result (buffer_bytes out.new ≡ buffer_bytes out.old ++ table.spaced table.MSC spacing text.now) }
+    ensures { OnOk result (buffer_bytes out.new ≡ buffer_bytes out.old ++ table.spaced table.Separating spacing text.now) }
 {
     if is_bare_separator(text) {
         return print_comma(out, spacing);
@@ -264,7 +264,7 @@ fn print_comma(out: &mut TextBuffer, spacing: Spacing) -> Result<(), AllocError>
 /// As [`print_with_comma`], of a text that may have comments.
 #[inline(never)]
 fn print_round_comma(out: &mut TextBuffer, spacing: Spacing, text: &str) -> Result<(), AllocError>
-    ensures { OnOk result (buffer_bytes out.new ≡ buffer_bytes out.old ++ table.spaced table.MSC spacing text.now) }
+    ensures { OnOk result (buffer_bytes out.new ≡ buffer_bytes out.old ++ table.spaced table.Separating spacing text.now) }
 {
     let (ahead, behind) = comments_in_parts(text);
     match spacing {

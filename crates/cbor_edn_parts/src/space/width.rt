@@ -1,48 +1,48 @@
 //! How long space texts are by a column of the table, told without memory.
 ghost use Rattle.std.specs.Prelude.{◌≡◌, ◌-◌, ◌^◌, min, length};
-ghost use Rattle.cbor_edn_parts.specs.Leaves.{s_bytes, ms_bytes, msc_bytes, soc_bytes};
+ghost use Rattle.cbor_edn_parts.specs.Leaves.{space_bytes, mandatory_bytes, separator_bytes, list_end_bytes};
 ghost use Rattle.cbor_edn_parts.specs.Spacing as table;
 ghost use Rattle.cbor_edn_parts.specs.internal.Columns.{column_length, separator_length};
 
 use super::comments::{comments, comments_round_comma};
-use super::{Ms, Msc, S, Soc};
+use super::{ListEnd, MandatorySpace, Separator, Space};
 use crate::policy::Spacing;
 
-impl S<'_> {
+impl Space<'_> {
     /// How long the text is by a column of the table, or the greatest number where it is longer.
     #[inline(always)]
     pub fn spaced_len(&self, spacing: Spacing) -> usize
-        ensures { result ≡ min (length (table.spaced table.S spacing (s_bytes self.now))) (2 ^ 64 - 1) }
+        ensures { result ≡ min (length (table.spaced table.Optional spacing (space_bytes self.now))) (2 ^ 64 - 1) }
     {
         let comments = comments(self.as_str());
         column_len(spacing, comments.len())
     }
 }
 
-impl Ms<'_> {
+impl MandatorySpace<'_> {
     /// How long the text is by a column of the table, or the greatest number where it is longer.
     pub fn spaced_len(&self, spacing: Spacing) -> usize
-        ensures { result ≡ min (length (table.spaced table.MS spacing (ms_bytes self.now))) (2 ^ 64 - 1) }
+        ensures { result ≡ min (length (table.spaced table.Mandatory spacing (mandatory_bytes self.now))) (2 ^ 64 - 1) }
     {
         let comments = comments(self.as_str());
         column_len(spacing, comments.len()).max(1)
     }
 }
 
-impl Msc<'_> {
+impl Separator<'_> {
     /// How long the text is by a column of the table, or the greatest number where it is longer.
     pub fn spaced_len(&self, spacing: Spacing) -> usize
-        ensures { result ≡ min (length (table.spaced table.MSC spacing (msc_bytes self.now))) (2 ^ 64 - 1) }
+        ensures { result ≡ min (length (table.spaced table.Separating spacing (separator_bytes self.now))) (2 ^ 64 - 1) }
     {
         let (before, after) = comments_round_comma(self.as_str());
         separator_len(spacing, before.len().saturating_add(after.len()))
     }
 }
 
-impl Soc<'_> {
+impl ListEnd<'_> {
     /// How long the text is by a column of the table, or the greatest number where it is longer.
     pub fn spaced_len(&self, spacing: Spacing) -> usize
-        ensures { result ≡ min (length (table.spaced table.SOC spacing (soc_bytes self.now))) (2 ^ 64 - 1) }
+        ensures { result ≡ min (length (table.spaced table.AtEnd spacing (list_end_bytes self.now))) (2 ^ 64 - 1) }
     {
         let (before, after) = comments_round_comma(self.as_str());
         column_len(spacing, before.len().saturating_add(after.len()))

@@ -2,23 +2,23 @@
 ghost use Rattle.std.specs.Prelude.{◌≡◌, ◌+◌, ◌<◌, IsTrue, IfOk, IfSome, Some, drop, false};
 ghost use Rattle.std.specs.Str.{IsCharBoundary};
 ghost use Rattle.cbor_edn_parts.specs.internal.Lex.{token};
-ghost use Rattle.cbor_edn_parts.specs.Leaves.{literal_bytes, dots_bytes, BorrowsLiteral, BorrowsDots};
+ghost use Rattle.cbor_edn_parts.specs.Leaves.{literal_bytes, ellipsis_bytes, BorrowsLiteral, BorrowsEllipsis};
 ghost use Rattle.cbor_edn_parts.specs.internal.LiteralTokens as tokens;
 ghost use Rattle.cbor_edn_parts.specs.internal.PlainTexts.{in_text, is_plain_at};
 ghost use Rattle.cbor_edn_parts.specs.internal.Scans.{IsRead, Comes, Scans, ScanLands, Costs};
-ghost use Rattle.cbor_edn_parts.specs.internal.Text.{text_bytes};
+ghost use Rattle.cbor_edn_parts.specs.internal.Input.{text_bytes};
 
-use super::{Dots, DotsState, Literal, LiteralState, Quote, QuotedState};
+use super::{Ellipsis, EllipsisState, Literal, LiteralState, Quote, QuotedState};
 use crate::error::Refusal;
+use crate::input::Input;
 use crate::leaf_text::LeafText;
 use crate::looks::Looks;
 use crate::scan::{scan, token_end};
-use crate::text::Text;
 
 /// The literal at a place, and the place behind it. Refused as invalid where none stands there, at the byte that leads no further.
 #[inline(always)]
 pub fn literal_at<'a>(
-    text: &Text<'a>,
+    text: &Input<'a>,
     from: usize,
     looks: &mut Looks,
 ) -> Result<(Literal<'a>, usize), Refusal>
@@ -46,7 +46,7 @@ pub fn literal_at<'a>(
 #[inline(never)]
 fn literal_behind<'a>(
     state: LiteralState,
-    text: &Text<'a>,
+    text: &Input<'a>,
     from: usize,
     at: usize,
     next: Option<u8>,
@@ -67,7 +67,7 @@ fn literal_behind<'a>(
 
 /// The first byte of a text between double quotes that does not stand for itself, and its place.
 #[inline(always)]
-fn plain_end(text: &Text<'_>, from: usize, looks: &mut Looks) -> (Option<u8>, usize)
+fn plain_end(text: &Input<'_>, from: usize, looks: &mut Looks) -> (Option<u8>, usize)
     requires { IsCharBoundary (text_bytes text.now) from }
     ensures comes { Comes tokens.literal (text_bytes text.now) in_text from in_text result.1 }
     ensures read { IsRead (text_bytes text.now) result.1 result.0 }
@@ -102,18 +102,18 @@ fn is_plain(byte: Option<u8>) -> bool
 }
 
 /// The dots at a place, all that stand there, and the place behind them. Refused as invalid where fewer than three stand there.
-pub fn dots_at<'a>(
-    text: &Text<'a>,
+pub fn ellipsis_at<'a>(
+    text: &Input<'a>,
     from: usize,
     looks: &mut Looks,
-) -> Result<(Dots<'a>, usize), Refusal>
+) -> Result<(Ellipsis<'a>, usize), Refusal>
     requires { IsCharBoundary (text_bytes text.now) from }
-    ensures value { Scans dots_bytes (text_bytes text.now) result (token tokens.dots (drop from (text_bytes text.now))) }
-    ensures borrowed { IfOk result (λ p. BorrowsDots p.0) }
+    ensures value { Scans ellipsis_bytes (text_bytes text.now) result (token tokens.ellipsis (drop from (text_bytes text.now))) }
+    ensures borrowed { IfOk result (λ p. BorrowsEllipsis p.0) }
     ensures place { ScanLands (text_bytes text.now) from result }
     ensures cost { Costs 1 1 1 (text_bytes text.now) from looks.old.count looks.new.count result }
 {
-    let (text, to) = scan(DotsState::None, text, from, looks)?;
+    let (text, to) = scan(EllipsisState::None, text, from, looks)?;
     let text = LeafText::Borrowed(text);
-    Ok((Dots { text }, to))
+    Ok((Ellipsis { text }, to))
 }

@@ -5,8 +5,8 @@ use Rattle.std.proofs.lemmas.Bool.{cases_lt, lt-ltb, le-ltb}
 use Rattle.cbor_edn_parts.specs.LayoutColumns.{of_parts, saturating_add}
 use Rattle.cbor_edn_parts.specs.declared.error.Fault.{Fault}
 use Rattle.cbor_edn_model.specs.declared.cbor.decode.CborError.{CborError}
-use Rattle.cbor_edn_model.specs.text.Spelling.{opening, ending}
-use Rattle.cbor_edn_model.specs.tree.Trees.{Tree, OneItem, ListTree, EnclosedTree, text, label_text}
+use Rattle.cbor_edn_model.specs.text.Spelling.{open_byte, close_byte}
+use Rattle.cbor_edn_model.specs.tree.Trees.{Tree, OneItem, ListTree, EnclosedTree, text, opener_text}
 use Rattle.cbor_edn_model.specs.layout.Layout.{Layout, Kept, Inline, Lines, laid}
 use Rattle.cbor_edn_model.specs.internal.CborReading.{Argument, head_at, item_at, trees}
 use Rattle.cbor_edn_model.specs.internal.Widths.{measured}
@@ -35,8 +35,8 @@ wide_parts (Lines base end level width) t lt =
 
 -- what is written of an item in which others nest, by the layout of its parts
 pub parts_written : (l p : Layout) (t : Tree OneItem) (old new : List ℕ) → of_parts l (measured t) ≡ p → WritesParts p t old new → Writes l t old new
-parts_written l p (ListTree k w) old new e is = is ∙ ap (λ (x : List ℕ). old ++ x) (ap (λ (m : Layout). opening k ∷ (text (laid m w) ++ (ending k ∷ []))) (sym e) ∙ sym (text_laid_list l k w))
-parts_written l p (EnclosedTree label w) old new e is = is ∙ ap (λ (x : List ℕ). old ++ x) (ap (λ (m : Layout). label_text label ++ (40 ∷ (text (laid m w) ++ (41 ∷ [])))) (sym e) ∙ sym (text_laid_enclosed l label w))
+parts_written l p (ListTree k w) old new e is = is ∙ ap (λ (x : List ℕ). old ++ x) (ap (λ (m : Layout). open_byte k ∷ (text (laid m w) ++ (close_byte k ∷ []))) (sym e) ∙ sym (text_laid_list l k w))
+parts_written l p (EnclosedTree opener w) old new e is = is ∙ ap (λ (x : List ℕ). old ++ x) (ap (λ (m : Layout). opener_text opener ++ (40 ∷ (text (laid m w) ++ (41 ∷ [])))) (sym e) ∙ sym (text_laid_enclosed l opener w))
 parts_written l p _ old new e is = absurd is
 
 -- ---- bytes behind a head

@@ -2,7 +2,7 @@
 use Rattle.std.proofs.Common.{◌≡◌, ◌≢◌, ℕ, suc, List, [], ◌∷◌, ◌++◌, length, map, Option, Some, None, Ok, refl, sym, ap, subst, ◌∙◌, arith}
 use Rattle.std.proofs.lemmas.List.{append-nil}
 use Rattle.cbor_edn_parts.specs.declared.error.Fault.{Fault}
-use Rattle.cbor_edn_parts.specs.Spacing.{S, indented}
+use Rattle.cbor_edn_parts.specs.Spacing.{Optional, indented}
 use Rattle.cbor_edn_parts.specs.internal.CommentReading.{from_first, to_last}
 use Rattle.cbor_edn_model.specs.declared.cbor.decode.CborError.{CborError}
 use Rattle.cbor_edn_model.specs.declared.cbor.decode.head.Stop.TheVariants.{EndOfData}
@@ -34,7 +34,7 @@ abbrev pub IsPrinted : ℕ → List ℕ → List ℕ → List ℕ → Type 0
 IsPrinted limit bytes old new = (v : Tree Seq) × IsDecodedSequence limit bytes v × (new ≡ old ++ text (laid_out indented v))
 
 -- where nothing stands, nothing is printed in front of a sequence
-bare : respaced S Elsewhere (layout indented) [] ≡ []
+bare : respaced Optional Elsewhere (layout indented) [] ≡ []
 unfolding from_first to_last
 bare = refl
 

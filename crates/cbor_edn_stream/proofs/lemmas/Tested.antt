@@ -7,7 +7,7 @@ use Rattle.cbor_edn_parts.specs.declared.string.StringKind.TheVariants.{Bytes, T
 use Rattle.cbor_edn_parts.specs.Contents.{kind_literal}
 use Rattle.cbor_edn_parts.specs.Bytes.{kind}
 use Rattle.cbor_edn_parts.specs.internal.Lex.{munch, push}
-use Rattle.cbor_edn_parts.specs.internal.SpaceTokens.{is_s, is_ms, is_msc, is_soc}
+use Rattle.cbor_edn_parts.specs.internal.SpaceTokens.{is_space, is_mandatory_space, is_separator, is_list_end}
 use Rattle.cbor_edn_parts.specs.internal.LiteralTokens.{is_literal}
 use Rattle.cbor_edn_parts.proofs.lemmas.number.Decimals.{decimal_number}
 use Rattle.cbor_edn_parts.proofs.lemmas.literal.StringLiterals.{text_is_literal, hex_is_literal, empty_is_literal}
@@ -24,23 +24,23 @@ use Rattle.cbor_edn_model.proofs.lemmas.text.Tested.{Tested, valid}
 use Rattle.cbor_edn_stream.proofs.lemmas.Lengths.{fits_64}
 
 -- the spaces that a value's tree has
-no_s : is_s [] ≡ true
+no_optional : is_space [] ≡ true
 unfolding munch
-no_s = refl
+no_optional = refl
 
-no_soc : is_soc [] ≡ true
+no_at_end : is_list_end [] ≡ true
 unfolding munch push
-no_soc = refl
+no_at_end = refl
 
-space_s : is_s (32 ∷ []) ≡ true
+space_optional : is_space (32 ∷ []) ≡ true
 unfolding munch push kind
-space_s = refl
+space_optional = refl
 
-space_ms : is_ms (32 ∷ []) ≡ true
+space_mandatory : is_mandatory_space (32 ∷ []) ≡ true
 unfolding munch push kind
-space_ms = refl
+space_mandatory = refl
 
-comma_space : is_msc (44 ∷ 32 ∷ []) ≡ true
+comma_space : is_separator (44 ∷ 32 ∷ []) ≡ true
 unfolding munch push kind
 comma_space = refl
 
@@ -55,7 +55,7 @@ IsTestedRow (Some m) = Tested m
 
 in_front_tested : {k : Row} (e : Tree (OneEntry k)) (o : Option (Tree (Rest k))) → Tested e → IsTestedRow o → Tested (in_front e o)
 unfolding Tested
-in_front_tested e None one rest = (one, no_soc)
+in_front_tested e None one rest = (one, no_at_end)
 in_front_tested e (Some m) one rest = (one, comma_space, rest)
 
 chunks_tested : (k : StringKind) (cs : List Chunk) → ChunksFit k cs → IsTestedRow (string_row (map (definite_tree k) cs))
@@ -66,13 +66,13 @@ chunks_tested k (c ∷ cs) fit = in_front_tested _ (string_row (map (definite_tr
 stream_tested : (k : StringKind) (cs : List Chunk) → ChunksFit k cs → Tested (chunks_tree k cs)
 unfolding Tested
 stream_tested k [] fit = empty_is_literal k
-stream_tested k (c ∷ cs) fit = (space_ms, chunks_tested k (c ∷ cs) fit)
+stream_tested k (c ∷ cs) fit = (space_mandatory, chunks_tested k (c ∷ cs) fit)
 
 inside_tested : (k : Bracketed) (i : Option Indicator) (o : Option (Tree (Rest (entries_of k)))) → IsTestedRow o → Tested (ListTree k (list_inside i o))
 unfolding Tested
-inside_tested k i None row = no_s
-inside_tested k None (Some m) row = (tt, no_s, row)
-inside_tested k (Some i) (Some m) row = (space_ms, no_s, row)
+inside_tested k i None row = no_optional
+inside_tested k None (Some m) row = (tt, no_optional, row)
+inside_tested k (Some i) (Some m) row = (space_mandatory, no_optional, row)
 
 either_tested : (b : Bool) (x y : Node Item) → Tested (regular x) → Tested (regular y) → Tested (regular (cond b x y))
 either_tested true x y first second = first
@@ -81,7 +81,7 @@ either_tested false x y first second = second
 simple_tested : (n : ℕ) → n < 256 → Tested (simple_tree n)
 unfolding Tested regular
 simple_tested n fits =
-    either_tested (eqb n 20) _ _ tt (either_tested (eqb n 21) _ _ tt (either_tested (eqb n 22) _ _ tt (either_tested (eqb n 23) _ _ tt (tt, (no_s, decimal_number (pos n) (omega (arith, fits)), no_s)))))
+    either_tested (eqb n 20) _ _ tt (either_tested (eqb n 21) _ _ tt (either_tested (eqb n 22) _ _ tt (either_tested (eqb n 23) _ _ tt (tt, (no_optional, decimal_number (pos n) (omega (arith, fits)), no_optional)))))
 
 mutual
   unfolding Tested
@@ -93,7 +93,7 @@ mutual
   value_tested (chunks k cs) fits = stream_tested k cs fits
   value_tested (array w vs) fits = inside_tested items.Array (list_indicator w (values_len vs)) (row_tree vs) (values_tested vs fits.1)
   value_tested (cbor_map w ps) fits = inside_tested items.Map (list_indicator w (pairs_len ps)) (pair_row_tree ps) (pairs_tested ps fits.1)
-  value_tested (tag w n v) fits = (fits_64 w n fits.0, (no_s, value_tested v fits.1, no_s))
+  value_tested (tag w n v) fits = (fits_64 w n fits.0, (no_optional, value_tested v fits.1, no_optional))
   value_tested (simple n) fits = simple_tested n (omega (arith, fits))
   value_tested (float w f) fits = tt
 
@@ -103,12 +103,12 @@ mutual
 
   pairs_tested : (ps : Pairs) → PairsFit ps → IsTestedRow (pair_row_tree ps)
   pairs_tested no_pairs fits = tt
-  pairs_tested (pair k v ps) fits = in_front_tested (key_value (tree_of k) (tree_of v)) (pair_row_tree ps) (value_tested k fits.0, no_s, space_s, value_tested v fits.1) (pairs_tested ps fits.2)
+  pairs_tested (pair k v ps) fits = in_front_tested (key_value (tree_of k) (tree_of v)) (pair_row_tree ps) (value_tested k fits.0, no_optional, space_optional, value_tested v fits.1) (pairs_tested ps fits.2)
 
 sequence_tested : (o : Option (Tree (Rest Elements))) → IsTestedRow o → Tested (sequence_tree_of o)
 unfolding Tested
-sequence_tested None row = no_s
-sequence_tested (Some m) row = (no_s, row)
+sequence_tested None row = no_optional
+sequence_tested (Some m) row = (no_optional, row)
 
 -- what bytes encode is the tree of its values, and valid
 pub decoded_tree : (limit : ℕ) (bytes : List ℕ) (w : Tree Seq) (d : IsDecodedSequence limit bytes w) → w ≡ sequence_tree_of (row_tree d.values)

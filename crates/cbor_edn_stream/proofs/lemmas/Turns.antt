@@ -4,14 +4,14 @@ use Rattle.cbor_edn_parts.specs.declared.error.Fault.{Fault}
 use Rattle.cbor_edn_parts.specs.declared.error.Fault.TheVariants.{Memory, Told}
 use Rattle.cbor_edn_parts.specs.declared.indicator.Indicator.{Indicator}
 use Rattle.cbor_edn_model.specs.declared.cbor.heads.Width.{Width}
-use Rattle.cbor_edn_model.specs.declared.text.label.LabelKind.TheVariants.{Tag}
+use Rattle.cbor_edn_model.specs.declared.text.opener.OpenerKind.TheVariants.{Tag}
 use Rattle.cbor_edn_model.specs.declared.cbor.decode.CborError.{CborError}
 use Rattle.cbor_edn_model.specs.declared.cbor.decode.head.Stop.TheVariants.{Break}
-use Rattle.cbor_edn_model.specs.text.Spelling.{opening, ending}
+use Rattle.cbor_edn_model.specs.text.Spelling.{open_byte, close_byte}
 use Rattle.cbor_edn_model.specs.tree.Items as kind
 use Rattle.cbor_edn_model.specs.tree.Items.{Bracketed, Array, Map, entries_of}
-use Rattle.cbor_edn_model.specs.tree.Trees.{Tree, OneItem, OneEntry, Rest, StringTree, LastPieceTree, LiteralTree, ElementTree, text, label_text, list_head_text}
-use Rattle.cbor_edn_parts.specs.Spacing.{S}
+use Rattle.cbor_edn_model.specs.tree.Trees.{Tree, OneItem, OneEntry, Rest, StringTree, LastPieceTree, LiteralTree, ElementTree, text, opener_text, list_head_text}
+use Rattle.cbor_edn_parts.specs.Spacing.{Optional}
 use Rattle.cbor_edn_parts.specs.Indicator.{indicator_text}
 use Rattle.cbor_edn_model.specs.layout.Layout.{Layout, First, AfterColon, Elsewhere, respaced, laid, laid_list_head}
 use Rattle.cbor_edn_model.specs.internal.Regular.{list_inside, key_value, spaced_list_head}
@@ -91,14 +91,14 @@ fault_told f e r is p = subst (λ (g : Fault CborError). DecoderFails g r) is p
 -- ---- a list, from what stands in it
 
 pub list_printed : (l : Layout) (k : Bracketed) (limit : ℕ) (argument : Argument) (bytes rest old start mid new : List ℕ) (es : List (Tree (OneEntry (entries_of k)))) → 0 < limit → several (entry_at k (limit - 1)) argument bytes ≡ Ok (es, rest)
-    → start ≡ old ++ (opening k ∷ []) → mid ≡ start ++ text (laid l (list_inside {k = k} (argument_indicator argument) (row_of es))) → new ≡ mid ++ (ending k ∷ [])
+    → start ≡ old ++ (open_byte k ∷ []) → mid ≡ start ++ text (laid l (list_inside {k = k} (argument_indicator argument) (row_of es))) → new ≡ mid ++ (close_byte k ∷ [])
     → (t : Tree OneItem) × (list_by k limit argument bytes ≡ Ok (t, rest)) × WritesParts l t old new
 list_printed l k limit argument bytes rest old start mid new es some read first inside last =
     let deeper : limit ≡ suc (limit - 1) = omega (arith, some) in (
       list_tree k argument (row_of es),
       ap (λ n. list_by k n argument bytes) deeper ∙ list_read k (limit - 1) argument bytes rest es read,
-      last ∙ ap (λ (t : List ℕ). t ++ (ending k ∷ [])) (inside ∙ ap (λ (t : List ℕ). t ++ text (laid l (list_inside {k = k} (argument_indicator argument) (row_of es)))) first)
-          ∙ regroup old (opening k) (text (laid l (list_inside {k = k} (argument_indicator argument) (row_of es)))) (ending k ∷ []),
+      last ∙ ap (λ (t : List ℕ). t ++ (close_byte k ∷ [])) (inside ∙ ap (λ (t : List ℕ). t ++ text (laid l (list_inside {k = k} (argument_indicator argument) (row_of es)))) first)
+          ∙ regroup old (open_byte k) (text (laid l (list_inside {k = k} (argument_indicator argument) (row_of es)))) (close_byte k ∷ []),
     ) where
       regroup : (a : List ℕ) (b : ℕ) (c d : List ℕ) → ((a ++ (b ∷ [])) ++ c) ++ d ≡ a ++ (b ∷ (c ++ d))
       regroup a b c d = simp append_assoc refl
@@ -116,17 +116,17 @@ tag_fails limit argument w n bytes (Told f) is some e =
     ap (λ (a : Argument). tag_by trees (inner trees limit) a bytes) is ∙ ap (λ d. tag_by trees (inner trees d) (Some (w, n)) bytes) deeper ∙ tag_inner (limit - 1) w n bytes ∙ ap (λ (r : DecoderResult (Tree OneItem)). r >>= λ x. Ok (trees.tag w n x.0, x.1)) e
 
 pub tag_printed : (l : Layout) (limit : ℕ) (argument : Argument) (w : Width) (n : ℕ) (bytes rest old a b c d e new : List ℕ) (t : Tree OneItem) → argument ≡ Some (w, n) → 0 < limit → item_at trees (limit - 1) bytes ≡ Ok (t, rest)
-    → a ≡ old ++ label_text (Tag (argument_indicator argument) n) → b ≡ a ++ (40 ∷ []) → c ≡ b ++ respaced S Elsewhere l [] → d ≡ c ++ text (laid l t) → e ≡ d ++ respaced S Elsewhere l [] → new ≡ e ++ (41 ∷ [])
+    → a ≡ old ++ opener_text (Tag (argument_indicator argument) n) → b ≡ a ++ (40 ∷ []) → c ≡ b ++ respaced Optional Elsewhere l [] → d ≡ c ++ text (laid l t) → e ≡ d ++ respaced Optional Elsewhere l [] → new ≡ e ++ (41 ∷ [])
     → (u : Tree OneItem) × (tag_by trees (inner trees limit) argument bytes ≡ Ok (u, rest)) × WritesParts l u old new
 tag_printed l limit argument w n bytes rest old a b c d e new t is some read ea eb ec ed ee en =
     let deeper : limit ≡ suc (limit - 1) = omega (arith, some) in
-    let space = respaced S Elsewhere l [] in
-    let label = Tag (indicator_of w n) n in (
+    let space = respaced Optional Elsewhere l [] in
+    let opener = Tag (indicator_of w n) n in (
       trees.tag w n t,
       ap (λ (a : Argument). tag_by trees (inner trees limit) a bytes) is ∙ ap (λ d. tag_by trees (inner trees d) (Some (w, n)) bytes) deeper ∙ tag_inner (limit - 1) w n bytes ∙ ap (λ (r : DecoderResult (Tree OneItem)). r >>= λ x. Ok (trees.tag w n x.0, x.1)) read,
-      en ∙ ap (λ (t : List ℕ). t ++ (41 ∷ [])) (ee ∙ ap (λ (t : List ℕ). t ++ space) (ed ∙ ap (λ (u : List ℕ). u ++ text (laid l t)) (ec ∙ ap (λ (t : List ℕ). t ++ space) (eb ∙ ap (λ (t : List ℕ). t ++ (40 ∷ [])) (ea ∙ ap (λ (a : Argument). old ++ label_text (Tag (argument_indicator a) n)) is)))))
-          ∙ regroup old (label_text label) space (text (laid l t)) space
-          ∙ ap (λ (t : List ℕ). old ++ (label_text label ++ (40 ∷ (t ++ (41 ∷ []))))) (sym (text_laid_standalone l [] t [])),
+      en ∙ ap (λ (t : List ℕ). t ++ (41 ∷ [])) (ee ∙ ap (λ (t : List ℕ). t ++ space) (ed ∙ ap (λ (u : List ℕ). u ++ text (laid l t)) (ec ∙ ap (λ (t : List ℕ). t ++ space) (eb ∙ ap (λ (t : List ℕ). t ++ (40 ∷ [])) (ea ∙ ap (λ (a : Argument). old ++ opener_text (Tag (argument_indicator a) n)) is)))))
+          ∙ regroup old (opener_text opener) space (text (laid l t)) space
+          ∙ ap (λ (t : List ℕ). old ++ (opener_text opener ++ (40 ∷ (t ++ (41 ∷ []))))) (sym (text_laid_standalone l [] t [])),
     ) where
       regroup : (o h s t u : List ℕ) → (((((o ++ h) ++ (40 ∷ [])) ++ s) ++ t) ++ u) ++ (41 ∷ []) ≡ o ++ (h ++ (40 ∷ ((s ++ (t ++ u)) ++ (41 ∷ []))))
       regroup o h s t u = simp append_assoc refl
@@ -210,14 +210,14 @@ pair_fails (Memory m) limit bytes e = tt
 pair_fails (Told f) limit bytes e = rw e refl
 
 pub pair_printed : {X : Type 0} (view : X → List ℕ) (l : Layout) (limit : ℕ) (bytes after old a b c d new : List ℕ) (v : Tree OneItem) (r : Result X (Fault CborError)) → item_at trees limit bytes ≡ Ok (v, after)
-    → a ≡ old ++ text (laid l v) → b ≡ a ++ respaced S Elsewhere l [] → c ≡ b ++ (58 ∷ []) → d ≡ c ++ respaced S AfterColon l (32 ∷ [])
+    → a ≡ old ++ text (laid l v) → b ≡ a ++ respaced Optional Elsewhere l [] → c ≡ b ++ (58 ∷ []) → d ≡ c ++ respaced Optional AfterColon l (32 ∷ [])
     → Prints (λ t. Writes l t) view d new r (item_at trees limit after) → Prints (λ e. Writes l e) view old new r (pair_at trees (item_at trees limit) bytes)
 unfolding pair_at
 pair_printed view l limit bytes after old a b c d new v (Ok x) first ea eb ec ed p = (
   key_value v p.0,
   rw (first, p.1) refl,
-  p.2 ∙ ap (λ (t : List ℕ). t ++ text (laid l p.0)) (ed ∙ ap (λ (t : List ℕ). t ++ respaced S AfterColon l (32 ∷ [])) (ec ∙ ap (λ (t : List ℕ). t ++ (58 ∷ [])) (eb ∙ ap (λ (t : List ℕ). t ++ respaced S Elsewhere l []) ea)))
-      ∙ regroup old (text (laid l v)) (respaced S Elsewhere l []) (respaced S AfterColon l (32 ∷ [])) (text (laid l p.0)) ∙ ap (λ (t : List ℕ). old ++ t) (sym (text_laid_pair l v [] (32 ∷ []) p.0)),
+  p.2 ∙ ap (λ (t : List ℕ). t ++ text (laid l p.0)) (ed ∙ ap (λ (t : List ℕ). t ++ respaced Optional AfterColon l (32 ∷ [])) (ec ∙ ap (λ (t : List ℕ). t ++ (58 ∷ [])) (eb ∙ ap (λ (t : List ℕ). t ++ respaced Optional Elsewhere l []) ea)))
+      ∙ regroup old (text (laid l v)) (respaced Optional Elsewhere l []) (respaced Optional AfterColon l (32 ∷ [])) (text (laid l p.0)) ∙ ap (λ (t : List ℕ). old ++ t) (sym (text_laid_pair l v [] (32 ∷ []) p.0)),
 ) where
   regroup : (o k s t w : List ℕ) → ((((o ++ k) ++ s) ++ (58 ∷ [])) ++ t) ++ w ≡ o ++ (k ++ (s ++ (58 ∷ (t ++ w))))
   regroup o k s t w = simp append_assoc refl
@@ -231,12 +231,12 @@ abbrev pub WritesInside : Layout → (k : Bracketed) → Option Indicator → Li
 WritesInside l k i es old new = Writes l (list_inside {k = k} i (row_of es)) old new
 
 pub inside_printed : {X : Type 0} (view : X → List ℕ) (l : Layout) (k : Bracketed) (i : Option Indicator) (old mid new : List ℕ) (r : Result X (Fault CborError)) (read : DecoderResult (List (Tree (OneEntry (entries_of k)))))
-    → mid ≡ old ++ (list_head_text (laid_list_head l (spaced_list_head i)) ++ respaced S First l []) → Prints (λ es. WritesRow l (row_of es)) view mid new r read
+    → mid ≡ old ++ (list_head_text (laid_list_head l (spaced_list_head i)) ++ respaced Optional First l []) → Prints (λ es. WritesRow l (row_of es)) view mid new r read
     → Prints (WritesInside l k i) view old new r read
 inside_printed view l k i old mid new (Ok x) read front p = (p.0, p.1, of_row (row_of p.0) p.2) where
   of_row : (o : Option (Tree (Rest (entries_of k)))) → WritesRow l o mid new → Writes l (list_inside {k = k} i o) old new
   of_row None is = absurd is
-  of_row (Some m) is = is ∙ ap (λ (t : List ℕ). t ++ text (laid l m)) front ∙ regroup old (list_head_text (laid_list_head l (spaced_list_head i))) (respaced S First l []) (text (laid l m)) ∙ ap (λ (t : List ℕ). old ++ t) (sym (text_laid_full l k (spaced_list_head i) [] m)) where
+  of_row (Some m) is = is ∙ ap (λ (t : List ℕ). t ++ text (laid l m)) front ∙ regroup old (list_head_text (laid_list_head l (spaced_list_head i))) (respaced Optional First l []) (text (laid l m)) ∙ ap (λ (t : List ℕ). old ++ t) (sym (text_laid_full l k (spaced_list_head i) [] m)) where
     regroup : (o h s t : List ℕ) → (o ++ (h ++ s)) ++ t ≡ o ++ (h ++ (s ++ t))
     regroup o h s t = simp append_assoc refl
 inside_printed view l k i old mid new (Err f) read front p = p
@@ -253,6 +253,6 @@ pub stopped_at_once : (k : Bracketed) (d n : ℕ) (bytes after : List ℕ) → p
 unfolding until
 stopped_at_once k d n bytes after e = rw e refl
 
-pub empty_printed : (l : Layout) (k : Bracketed) (i : Option Indicator) (read : DecoderResult (List (Tree (OneEntry (entries_of k))))) (rest old new : List ℕ) → read ≡ Ok ([], rest) → new ≡ old ++ (indicator_text i ++ respaced S Elsewhere l [])
+pub empty_printed : (l : Layout) (k : Bracketed) (i : Option Indicator) (read : DecoderResult (List (Tree (OneEntry (entries_of k))))) (rest old new : List ℕ) → read ≡ Ok ([], rest) → new ≡ old ++ (indicator_text i ++ respaced Optional Elsewhere l [])
     → (es : List (Tree (OneEntry (entries_of k)))) × (read ≡ Ok (es, rest)) × WritesInside l k i es old new
 empty_printed l k i read rest old new e is = ([], e, is ∙ ap (λ (t : List ℕ). old ++ t) (sym (text_laid_empty l k i [])))

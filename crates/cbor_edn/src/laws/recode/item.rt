@@ -33,7 +33,7 @@ pub fn recoded_by_text(
 }
 
 /// The encoding of an item that means something.
-fn encoded(alloc: Global, item: &StandaloneItem<'_>) -> Result<Vec<u8>, AllocError>
+fn to_cbor(alloc: Global, item: &StandaloneItem<'_>) -> Result<Vec<u8>, AllocError>
     requires { (v : Value) × (means (items (standalone_tree item.now)) ≡ Some v) }
     ensures { IfOk result (λ b. (v : Value) × (means (items (standalone_tree item.now)) ≡ Some v) × Enc b.items v) }
 {
@@ -78,7 +78,7 @@ fn read_and_encoded(alloc: Global, text: &str) -> Result<Vec<u8>, AllocError>
     ensures { IfOk result (λ b. IsTextOfItem NESTING_LIMIT b.items text.now) }
 {
     match boxed(alloc, StandaloneItem::parse(alloc, text)) {
-        Ok(item) => encoded(alloc, &item),
+        Ok(item) => to_cbor(alloc, &item),
         Err(Fault::Memory(refused)) => Err(refused),
         Err(Fault::Told(_)) => unreachable!(),
     }

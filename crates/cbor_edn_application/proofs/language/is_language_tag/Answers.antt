@@ -2,7 +2,7 @@ use Rattle.std.proofs.Common.{ℕ, Bool, Option, Some, None, false, ◌&&◌, �
 use Rattle.std.proofs.lemmas.Bool.Decides.{nat_tests}
 use Rattle.cbor_edn_core.specs.tree.View.{item_tree}
 use Rattle.cbor_edn_parts.specs.declared.indicator.Indicator.{Indicator}
-use Rattle.cbor_edn_model.specs.declared.text.label.LabelKind.TheVariants as label
+use Rattle.cbor_edn_model.specs.declared.text.opener.OpenerKind.TheVariants as opener
 use Rattle.cbor_edn_model.specs.access.Accessed.{tag_head}
 use Rattle.cbor_edn_model.specs.visit.Seeking.{number}
 use Rattle.cbor_edn_model.specs.tree.Trees.{Tree, OneItem, NumberTree, FloatTree, NamedTree, EnclosedTree, ListTree, StringTree, StreamTree}
@@ -15,8 +15,8 @@ by_head n k None = false
 by_head n k (Some p) = n == p.0 && p.0 == k
 
 is_by_head : (n k : ℕ) (w : Tree OneItem) → by_head n k (tag_head w) ≡ is_called_tag (number n) k w
-is_by_head n k (EnclosedTree (label.Tag j l) w) = refl
-is_by_head n k (EnclosedTree label.Simple w) = refl
+is_by_head n k (EnclosedTree (opener.Tag j l) w) = refl
+is_by_head n k (EnclosedTree opener.Simple w) = refl
 is_by_head n k (NumberTree x j) = refl
 is_by_head n k (FloatTree f j) = refl
 is_by_head n k (NamedTree b) = refl

@@ -13,7 +13,7 @@ use Rattle.cbor_edn_model.proofs.lemmas.access.CountedItems.{key_items, value_it
 use Rattle.cbor_edn_core.specs.tree.View.{seen_pair, seen_piece, seen_string, view_item, view_items, view_pair, view_pairs, view_piece, view_string, view_strings, row_onto}
 use Rattle.cbor_edn_core.specs.declared.tree.ItemOf.{ItemOf}
 use Rattle.cbor_edn_core.specs.declared.tree.ItemsOf.{ItemsOf, out-ItemsOf}
-use Rattle.cbor_edn_core.specs.declared.tree.KpOf.{KpOf}
+use Rattle.cbor_edn_core.specs.declared.tree.PairOf.{PairOf}
 use Rattle.cbor_edn_core.specs.declared.tree.PairsOf.{PairsOf, out-PairsOf}
 use Rattle.cbor_edn_core.specs.declared.tree.PieceOf.{PieceOf}
 use Rattle.cbor_edn_core.specs.declared.tree.CborStringOf.{CborStringOf}
@@ -52,13 +52,13 @@ module _ {S P M O N T D : Type 0} (leaves : Ghosts S P M O N T D) where
 
   -- ---- pairs
 
-  pairs : (ps : List (KpOf S P M O N T D × M)) (w : Tree (OneEntry kind.Pairs)) (s : List ℕ)
+  pairs : (ps : List (PairOf S P M O N T D × M)) (w : Tree (OneEntry kind.Pairs)) (s : List ℕ)
       → entries (entries_onto (map (seen_pair leaves) ps) (LastTree w s)) ≡ map (λ p. view_pair leaves p.0) ps ++ (w ∷ [])
   pairs [] w s = refl
   pairs (p ∷ ps) w s = ap (λ r. view_pair leaves p.0 ∷ r) (pairs ps w s)
 
   module _ (x : PairsOf S P M O N T D) where
-    abbrev pair_row : List (KpOf S P M O N T D × M)
+    abbrev pair_row : List (PairOf S P M O N T D × M)
     pair_row = (out-PairsOf S P M O N T D x).row.items
 
     abbrev last_pair : Tree (OneEntry kind.Pairs)
@@ -67,7 +67,7 @@ module _ {S P M O N T D : Type 0} (leaves : Ghosts S P M O N T D) where
     pairs_are : entries (view_pairs leaves x) ≡ map (λ p. view_pair leaves p.0) pair_row ++ (last_pair ∷ [])
     pairs_are = ap entries (view_pairs_is leaves x) ∙ pairs pair_row last_pair _
 
-    pub pair_within : (k : ℕ) (d : KpOf S P M O N T D × M) → k < length pair_row → d ≡ get_or pair_row k d → Some (view_pair leaves d.0) ≡ slice_get (entries (view_pairs leaves x)) k
+    pub pair_within : (k : ℕ) (d : PairOf S P M O N T D × M) → k < length pair_row → d ≡ get_or pair_row k d → Some (view_pair leaves d.0) ≡ slice_get (entries (view_pairs leaves x)) k
     pair_within k d lt e = got_within (λ p. view_pair leaves p.0) pair_row last_pair k d lt e ∙ sym (ap (λ l. slice_get l k) pairs_are)
 
     pub pair_last : (k : ℕ) → k ≡ length pair_row → Some last_pair ≡ slice_get (entries (view_pairs leaves x)) k
@@ -82,10 +82,10 @@ module _ {S P M O N T D : Type 0} (leaves : Ghosts S P M O N T D) where
     odd_halves : (i : ℕ) → (i % 2 ≡ 0 → ⊥) → i ≡ suc (2 * (i / 2))
     odd_halves i e = omega (arith, e)
 
-    pub key_at : (i : ℕ) (d : KpOf S P M O N T D) → i % 2 ≡ 0 → Some (view_pair leaves d) ≡ slice_get (entries (view_pairs leaves x)) (i / 2) → Some (view_item leaves d.key) ≡ slice_get (items_in (view_pairs leaves x)) i
+    pub key_at : (i : ℕ) (d : PairOf S P M O N T D) → i % 2 ≡ 0 → Some (view_pair leaves d) ≡ slice_get (entries (view_pairs leaves x)) (i / 2) → Some (view_item leaves d.key) ≡ slice_get (items_in (view_pairs leaves x)) i
     key_at i d even is = ap (option_map (λ e. (key_and_value e).0)) is ∙ sym (key_items (view_pairs leaves x) (i / 2)) ∙ ap (slice_get (items_in (view_pairs leaves x))) (sym (halves i even))
 
-    pub value_at : (i : ℕ) (d : KpOf S P M O N T D) → (i % 2 ≡ 0 → ⊥) → Some (view_pair leaves d) ≡ slice_get (entries (view_pairs leaves x)) (i / 2) → Some (view_item leaves d.value) ≡ slice_get (items_in (view_pairs leaves x)) i
+    pub value_at : (i : ℕ) (d : PairOf S P M O N T D) → (i % 2 ≡ 0 → ⊥) → Some (view_pair leaves d) ≡ slice_get (entries (view_pairs leaves x)) (i / 2) → Some (view_item leaves d.value) ≡ slice_get (items_in (view_pairs leaves x)) i
     value_at i d odd is = ap (option_map (λ e. (key_and_value e).1)) is ∙ sym (value_items (view_pairs leaves x) (i / 2)) ∙ ap (slice_get (items_in (view_pairs leaves x))) (sym (odd_halves i odd))
 
     pub no_pair_at : (i : ℕ) → None ≡ slice_get (entries (view_pairs leaves x)) (i / 2) → None ≡ slice_get (items_in (view_pairs leaves x)) i

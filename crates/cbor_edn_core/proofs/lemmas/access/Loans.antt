@@ -7,12 +7,12 @@ use Rattle.cbor_edn_model.specs.internal.Counted.{is_simple_item}
 use Rattle.cbor_edn_core.specs.tree.View.{view_inner}
 use Rattle.cbor_edn_core.specs.declared.tree.InnerItemOf.{InnerItemOf}
 use Rattle.cbor_edn_core.specs.declared.tree.InnerItemOf.TheVariants as inner
-use Rattle.cbor_edn_model.specs.declared.text.label.Label.{Label}
+use Rattle.cbor_edn_model.specs.declared.text.opener.Opener.{Opener}
 use Rattle.cbor_edn_core.specs.declared.tree.StandaloneItemOf.{StandaloneItemOf}
 use Rattle.cbor_edn_core.specs.declared.tree.StreamOf.{StreamOf'}
 
 module _ {O M C E N L D : Type 0} (leaves : Ghosts O M C E N L D) where
-  pub no_tag : (x : InnerItemOf O M C E N L D) → ((l : Label) (b : Box (StandaloneItemOf O M C E N L D)) → x ≡ inner.Enclosed l b → ⊥) → None ≡ tag_content (view_inner leaves x)
+  pub no_tag : (x : InnerItemOf O M C E N L D) → ((l : Opener) (b : Box (StandaloneItemOf O M C E N L D)) → x ≡ inner.Enclosed l b → ⊥) → None ≡ tag_content (view_inner leaves x)
   no_tag (inner.Number i n) differs = refl
   no_tag (inner.NonFinite i f) differs = refl
   no_tag (inner.Named b) differs = refl
@@ -23,7 +23,7 @@ module _ {O M C E N L D : Type 0} (leaves : Ghosts O M C E N L D) where
   no_tag (inner.String' p n row last) differs = refl
   no_tag (inner.Stream' p (StreamOf' ms strings)) differs = refl
 
-  pub not_simple : (x : InnerItemOf O M C E N L D) → ((l : Label) (b : Box (StandaloneItemOf O M C E N L D)) → x ≡ inner.Enclosed l b → ⊥) → false ≡ is_simple_item (view_inner leaves x)
+  pub not_simple : (x : InnerItemOf O M C E N L D) → ((l : Opener) (b : Box (StandaloneItemOf O M C E N L D)) → x ≡ inner.Enclosed l b → ⊥) → false ≡ is_simple_item (view_inner leaves x)
   not_simple (inner.Number i n) differs = refl
   not_simple (inner.NonFinite i f) differs = refl
   not_simple (inner.Named b) differs = refl

@@ -14,7 +14,7 @@ use Rattle.cbor_edn_model.proofs.lemmas.access.CountedItems.{alike, with_in_part
 use Rattle.cbor_edn_core.specs.tree.View.{seen, seen_pair, seen_piece, seen_string, view_item, view_items, view_pair, view_pairs, view_piece, view_string, view_strings, view_stream, view_sequence, view_some}
 use Rattle.cbor_edn_core.specs.declared.tree.ItemOf.{ItemOf}
 use Rattle.cbor_edn_core.specs.declared.tree.ItemsOf.{ItemsOf, out-ItemsOf, roll-ItemsOf}
-use Rattle.cbor_edn_core.specs.declared.tree.KpOf.{KpOf}
+use Rattle.cbor_edn_core.specs.declared.tree.PairOf.{PairOf}
 use Rattle.cbor_edn_core.specs.declared.tree.PairsOf.{PairsOf, out-PairsOf, roll-PairsOf}
 use Rattle.cbor_edn_core.specs.declared.tree.PieceOf.{PieceOf}
 use Rattle.cbor_edn_core.specs.declared.tree.CborStringOf.{CborStringOf}
@@ -56,13 +56,13 @@ module _ {S P M O N T D : Type 0} (leaves : Ghosts S P M O N T D) (w : ItemOf S 
         → view_items leaves (roll-ItemsOf S P M O N T D (record (out-ItemsOf S P M O N T D x) { row = with_entry (out-ItemsOf S P M O N T D x).row i (w, d.1) })) ≡ with_item i new (view_items leaves x)
     element_replaced d lt e =
         view_items_made leaves (record (out-ItemsOf S P M O N T D x) { row = with_entry (out-ItemsOf S P M O N T D x).row i (w, d.1) })
-        ∙ with_in_part (seen leaves) new (out-ItemsOf S P M O N T D x).row.items (LastTree (ElementTree (view_item leaves (out-ItemsOf S P M O N T D x).last)) (leaves.end (out-ItemsOf S P M O N T D x).soc)) i i 0 d (w, d.1) (counted i refl (omega (arith, lt))) lt e refl
+        ∙ with_in_part (seen leaves) new (out-ItemsOf S P M O N T D x).row.items (LastTree (ElementTree (view_item leaves (out-ItemsOf S P M O N T D x).last)) (leaves.end (out-ItemsOf S P M O N T D x).end)) i i 0 d (w, d.1) (counted i refl (omega (arith, lt))) lt e refl
         ∙ sym (ap (λ t. with_item i new t) (view_items_is leaves x))
 
     pub last_element_replaced : i ≡ length (out-ItemsOf S P M O N T D x).row.items → view_items leaves (roll-ItemsOf S P M O N T D (record (out-ItemsOf S P M O N T D x) { last = w })) ≡ with_item i new (view_items leaves x)
     last_element_replaced e =
         view_items_made leaves (record (out-ItemsOf S P M O N T D x) { last = w })
-        ∙ with_in_rest (seen leaves) new (out-ItemsOf S P M O N T D x).row.items (LastTree (ElementTree (view_item leaves (out-ItemsOf S P M O N T D x).last)) (leaves.end (out-ItemsOf S P M O N T D x).soc)) (LastTree (ElementTree new) (leaves.end (out-ItemsOf S P M O N T D x).soc)) i (length (out-ItemsOf S P M O N T D x).row.items) 0
+        ∙ with_in_rest (seen leaves) new (out-ItemsOf S P M O N T D x).row.items (LastTree (ElementTree (view_item leaves (out-ItemsOf S P M O N T D x).last)) (leaves.end (out-ItemsOf S P M O N T D x).end)) (LastTree (ElementTree new) (leaves.end (out-ItemsOf S P M O N T D x).end)) i (length (out-ItemsOf S P M O N T D x).row.items) 0
         (counted (length (out-ItemsOf S P M O N T D x).row.items) e (omega arith)) (omega arith) refl
         ∙ sym (ap (λ t. with_item i new t) (view_items_is leaves x))
 
@@ -70,33 +70,33 @@ module _ {S P M O N T D : Type 0} (leaves : Ghosts S P M O N T D) (w : ItemOf S 
     counted_pairs : (place left : ℕ) → i ≡ 2 * place + left → left < 2 → place ≤ length (out-PairsOf S P M O N T D x).row.items → IsCounted (map (λ p. length (items_in (seen_pair leaves p).0)) (out-PairsOf S P M O N T D x).row.items) i (place, left)
     counted_pairs place left e lt le = alike (λ p. length (items_in (seen_pair leaves p).0)) 2 (λ p. refl) (out-PairsOf S P M O N T D x).row.items i place left e le lt
 
-    pub key_replaced : (d : KpOf S P M O N T D × M) → i % 2 ≡ 0 → i / 2 < length (out-PairsOf S P M O N T D x).row.items → d ≡ get_or (out-PairsOf S P M O N T D x).row.items (i / 2) d
+    pub key_replaced : (d : PairOf S P M O N T D × M) → i % 2 ≡ 0 → i / 2 < length (out-PairsOf S P M O N T D x).row.items → d ≡ get_or (out-PairsOf S P M O N T D x).row.items (i / 2) d
         → view_pairs leaves (roll-PairsOf S P M O N T D (record (out-PairsOf S P M O N T D x) { row = with_entry (out-PairsOf S P M O N T D x).row (i / 2) (record d.0 { key = w }, d.1) })) ≡ with_item i new (view_pairs leaves x)
     key_replaced d even lt e =
         view_pairs_made leaves (record (out-PairsOf S P M O N T D x) { row = with_entry (out-PairsOf S P M O N T D x).row (i / 2) (record d.0 { key = w }, d.1) })
-        ∙ with_in_part (seen_pair leaves) new (out-PairsOf S P M O N T D x).row.items (LastTree (view_pair leaves (out-PairsOf S P M O N T D x).last) (leaves.end (out-PairsOf S P M O N T D x).soc)) i (i / 2) 0 d (record d.0 { key = w }, d.1)
+        ∙ with_in_part (seen_pair leaves) new (out-PairsOf S P M O N T D x).row.items (LastTree (view_pair leaves (out-PairsOf S P M O N T D x).last) (leaves.end (out-PairsOf S P M O N T D x).end)) i (i / 2) 0 d (record d.0 { key = w }, d.1)
         (counted_pairs (i / 2) 0 (omega (arith, even)) (omega arith) (omega (arith, lt))) lt e refl
         ∙ sym (ap (λ t. with_item i new t) (view_pairs_is leaves x))
 
-    pub value_replaced : (d : KpOf S P M O N T D × M) → (i % 2 ≡ 0 → ⊥) → i / 2 < length (out-PairsOf S P M O N T D x).row.items → d ≡ get_or (out-PairsOf S P M O N T D x).row.items (i / 2) d
+    pub value_replaced : (d : PairOf S P M O N T D × M) → (i % 2 ≡ 0 → ⊥) → i / 2 < length (out-PairsOf S P M O N T D x).row.items → d ≡ get_or (out-PairsOf S P M O N T D x).row.items (i / 2) d
         → view_pairs leaves (roll-PairsOf S P M O N T D (record (out-PairsOf S P M O N T D x) { row = with_entry (out-PairsOf S P M O N T D x).row (i / 2) (record d.0 { value = w }, d.1) })) ≡ with_item i new (view_pairs leaves x)
     value_replaced d odd lt e =
         view_pairs_made leaves (record (out-PairsOf S P M O N T D x) { row = with_entry (out-PairsOf S P M O N T D x).row (i / 2) (record d.0 { value = w }, d.1) })
-        ∙ with_in_part (seen_pair leaves) new (out-PairsOf S P M O N T D x).row.items (LastTree (view_pair leaves (out-PairsOf S P M O N T D x).last) (leaves.end (out-PairsOf S P M O N T D x).soc)) i (i / 2) 1 d (record d.0 { value = w }, d.1)
+        ∙ with_in_part (seen_pair leaves) new (out-PairsOf S P M O N T D x).row.items (LastTree (view_pair leaves (out-PairsOf S P M O N T D x).last) (leaves.end (out-PairsOf S P M O N T D x).end)) i (i / 2) 1 d (record d.0 { value = w }, d.1)
         (counted_pairs (i / 2) 1 (omega (arith, odd)) (omega arith) (omega (arith, lt))) lt e refl
         ∙ sym (ap (λ t. with_item i new t) (view_pairs_is leaves x))
 
     pub last_key_replaced : i % 2 ≡ 0 → i / 2 ≡ length (out-PairsOf S P M O N T D x).row.items → view_pairs leaves (roll-PairsOf S P M O N T D (record (out-PairsOf S P M O N T D x) { last = record (out-PairsOf S P M O N T D x).last { key = w } })) ≡ with_item i new (view_pairs leaves x)
     last_key_replaced even e =
         view_pairs_made leaves (record (out-PairsOf S P M O N T D x) { last = record (out-PairsOf S P M O N T D x).last { key = w } })
-        ∙ with_in_rest (seen_pair leaves) new (out-PairsOf S P M O N T D x).row.items (LastTree (view_pair leaves (out-PairsOf S P M O N T D x).last) (leaves.end (out-PairsOf S P M O N T D x).soc)) (LastTree (view_pair leaves (record (out-PairsOf S P M O N T D x).last { key = w })) (leaves.end (out-PairsOf S P M O N T D x).soc)) i (length (out-PairsOf S P M O N T D x).row.items) 0
+        ∙ with_in_rest (seen_pair leaves) new (out-PairsOf S P M O N T D x).row.items (LastTree (view_pair leaves (out-PairsOf S P M O N T D x).last) (leaves.end (out-PairsOf S P M O N T D x).end)) (LastTree (view_pair leaves (record (out-PairsOf S P M O N T D x).last { key = w })) (leaves.end (out-PairsOf S P M O N T D x).end)) i (length (out-PairsOf S P M O N T D x).row.items) 0
         (counted_pairs (length (out-PairsOf S P M O N T D x).row.items) 0 (omega (arith, even, e)) (omega arith) (omega arith)) (omega arith) refl
         ∙ sym (ap (λ t. with_item i new t) (view_pairs_is leaves x))
 
     pub last_value_replaced : (i % 2 ≡ 0 → ⊥) → i / 2 ≡ length (out-PairsOf S P M O N T D x).row.items → view_pairs leaves (roll-PairsOf S P M O N T D (record (out-PairsOf S P M O N T D x) { last = record (out-PairsOf S P M O N T D x).last { value = w } })) ≡ with_item i new (view_pairs leaves x)
     last_value_replaced odd e =
         view_pairs_made leaves (record (out-PairsOf S P M O N T D x) { last = record (out-PairsOf S P M O N T D x).last { value = w } })
-        ∙ with_in_rest (seen_pair leaves) new (out-PairsOf S P M O N T D x).row.items (LastTree (view_pair leaves (out-PairsOf S P M O N T D x).last) (leaves.end (out-PairsOf S P M O N T D x).soc)) (LastTree (view_pair leaves (record (out-PairsOf S P M O N T D x).last { value = w })) (leaves.end (out-PairsOf S P M O N T D x).soc)) i (length (out-PairsOf S P M O N T D x).row.items) 1
+        ∙ with_in_rest (seen_pair leaves) new (out-PairsOf S P M O N T D x).row.items (LastTree (view_pair leaves (out-PairsOf S P M O N T D x).last) (leaves.end (out-PairsOf S P M O N T D x).end)) (LastTree (view_pair leaves (record (out-PairsOf S P M O N T D x).last { value = w })) (leaves.end (out-PairsOf S P M O N T D x).end)) i (length (out-PairsOf S P M O N T D x).row.items) 1
         (counted_pairs (length (out-PairsOf S P M O N T D x).row.items) 1 (omega (arith, odd, e)) (omega arith) (omega arith)) (omega arith) refl
         ∙ sym (ap (λ t. with_item i new t) (view_pairs_is leaves x))
 
@@ -118,7 +118,7 @@ module _ {S P M O N T D : Type 0} (leaves : Ghosts S P M O N T D) (w : ItemOf S 
         → view_strings leaves (roll-StringsOf S P M O N T D (record (out-StringsOf S P M O N T D x) { row = with_entry (out-StringsOf S P M O N T D x).row place (p, d.1) })) ≡ with_item i new (view_strings leaves x)
     in_string_replaced place left d p c lt e is =
         view_strings_made leaves (record (out-StringsOf S P M O N T D x) { row = with_entry (out-StringsOf S P M O N T D x).row place (p, d.1) })
-        ∙ with_in_part (seen_string leaves) new (out-StringsOf S P M O N T D x).row.items (LastTree (ChunkTree (view_string leaves (out-StringsOf S P M O N T D x).last)) (leaves.end (out-StringsOf S P M O N T D x).soc)) i place left d (p, d.1) c lt e (ap (λ t. (ChunkTree t, leaves.separator d.1)) is)
+        ∙ with_in_part (seen_string leaves) new (out-StringsOf S P M O N T D x).row.items (LastTree (ChunkTree (view_string leaves (out-StringsOf S P M O N T D x).last)) (leaves.end (out-StringsOf S P M O N T D x).end)) i place left d (p, d.1) c lt e (ap (λ t. (ChunkTree t, leaves.separator d.1)) is)
         ∙ sym (ap (λ t. with_item i new t) (view_strings_is leaves x))
 
     pub in_last_string_replaced : (place left : ℕ) (p : CborStringOf S P M O N T D) → IsCounted (map (λ p. length (items_in (view_string leaves p.0))) (out-StringsOf S P M O N T D x).row.items) i (place, left)
@@ -126,15 +126,15 @@ module _ {S P M O N T D : Type 0} (leaves : Ghosts S P M O N T D) (w : ItemOf S 
         → view_strings leaves (roll-StringsOf S P M O N T D (record (out-StringsOf S P M O N T D x) { last = p })) ≡ with_item i new (view_strings leaves x)
     in_last_string_replaced place left p c le is =
         view_strings_made leaves (record (out-StringsOf S P M O N T D x) { last = p })
-        ∙ with_in_rest (seen_string leaves) new (out-StringsOf S P M O N T D x).row.items (LastTree (ChunkTree (view_string leaves (out-StringsOf S P M O N T D x).last)) (leaves.end (out-StringsOf S P M O N T D x).soc)) (LastTree (ChunkTree (view_string leaves p)) (leaves.end (out-StringsOf S P M O N T D x).soc)) i place left c le
-        (ap (λ t. LastTree (ChunkTree t) (leaves.end (out-StringsOf S P M O N T D x).soc)) is)
+        ∙ with_in_rest (seen_string leaves) new (out-StringsOf S P M O N T D x).row.items (LastTree (ChunkTree (view_string leaves (out-StringsOf S P M O N T D x).last)) (leaves.end (out-StringsOf S P M O N T D x).end)) (LastTree (ChunkTree (view_string leaves p)) (leaves.end (out-StringsOf S P M O N T D x).end)) i place left c le
+        (ap (λ t. LastTree (ChunkTree t) (leaves.end (out-StringsOf S P M O N T D x).end)) is)
         ∙ sym (ap (λ t. with_item i new t) (view_strings_is leaves x))
 
   module _ (x : StreamOf S P M O N T D) where
     pub in_stream_replaced : (m : StringsOf S P M O N T D) → view_strings leaves m ≡ with_item i new (view_strings leaves (out-StreamOf S P M O N T D x).strings)
         → view_stream leaves (roll-StreamOf S P M O N T D (record (out-StreamOf S P M O N T D x) { strings = m })) ≡ with_item i new (view_stream leaves x)
     in_stream_replaced m is =
-        view_stream_made leaves (record (out-StreamOf S P M O N T D x) { strings = m }) ∙ ap (StreamTree (leaves.mandatory (out-StreamOf S P M O N T D x).ms)) is ∙ sym (ap (λ t. with_item i new t) (view_stream_is leaves x))
+        view_stream_made leaves (record (out-StreamOf S P M O N T D x) { strings = m }) ∙ ap (StreamTree (leaves.mandatory (out-StreamOf S P M O N T D x).space)) is ∙ sym (ap (λ t. with_item i new t) (view_stream_is leaves x))
 
   module _ (x : SequenceOf S P M O N T D) where
     pub in_sequence_replaced : (old m : ItemsOf S P M O N T D) → (out-SequenceOf S P M O N T D x).items ≡ Some old → view_items leaves m ≡ with_item i new (view_items leaves old)
@@ -157,7 +157,7 @@ module _ {S P M O N T D : Type 0} (leaves : Ghosts S P M O N T D) where
   string_kept x place d p e is =
       let strings = out-StringsOf S P M O N T D x in
       view_strings_made leaves (record strings { row = with_entry strings.row place (p, d.1) })
-      ∙ ap (λ ps. entries_onto ps (LastTree (ChunkTree (view_string leaves strings.last)) (leaves.end strings.soc)))
+      ∙ ap (λ ps. entries_onto ps (LastTree (ChunkTree (view_string leaves strings.last)) (leaves.end strings.end)))
       (map-set_same (seen_string leaves) strings.row.items place (p, d.1) d (ap (λ t. (ChunkTree t, leaves.separator d.1)) is ∙ ap (seen_string leaves) e))
       ∙ sym (view_strings_is leaves x)
 
@@ -166,14 +166,14 @@ module _ {S P M O N T D : Type 0} (leaves : Ghosts S P M O N T D) where
   last_string_kept x p is =
       let strings = out-StringsOf S P M O N T D x in
       view_strings_made leaves (record strings { last = p })
-      ∙ ap (λ t. entries_onto (map (seen_string leaves) strings.row.items) (LastTree (ChunkTree t) (leaves.end strings.soc))) is
+      ∙ ap (λ t. entries_onto (map (seen_string leaves) strings.row.items) (LastTree (ChunkTree t) (leaves.end strings.end))) is
       ∙ sym (view_strings_is leaves x)
 
   pub stream_kept : (x : StreamOf S P M O N T D) (m : StringsOf S P M O N T D) → view_strings leaves m ≡ view_strings leaves (out-StreamOf S P M O N T D x).strings
       → view_stream leaves (roll-StreamOf S P M O N T D (record (out-StreamOf S P M O N T D x) { strings = m })) ≡ view_stream leaves x
   stream_kept x m is =
       let stream = out-StreamOf S P M O N T D x in
-      view_stream_made leaves (record stream { strings = m }) ∙ ap (StreamTree (leaves.mandatory stream.ms)) is ∙ sym (view_stream_is leaves x)
+      view_stream_made leaves (record stream { strings = m }) ∙ ap (StreamTree (leaves.mandatory stream.space)) is ∙ sym (view_stream_is leaves x)
 
   pub sequence_kept : (x : SequenceOf S P M O N T D) (old m : ItemsOf S P M O N T D) → (out-SequenceOf S P M O N T D x).items ≡ Some old → view_items leaves m ≡ view_items leaves old
       → view_sequence leaves (roll-SequenceOf S P M O N T D (record (out-SequenceOf S P M O N T D x) { items = Some m })) ≡ view_sequence leaves x

@@ -8,11 +8,11 @@ use Rattle.cbor_edn_parts.specs.declared.error.Fault.{Fault}
 use Rattle.cbor_edn_parts.specs.declared.error.Fault.TheVariants.{Memory, Told}
 use Rattle.cbor_edn_parts.specs.declared.number.Number.{Number}
 use Rattle.cbor_edn_parts.specs.declared.string.Literal.{Literal}
-use Rattle.cbor_edn_parts.specs.declared.string.Dots.{Dots}
-use Rattle.cbor_edn_parts.specs.declared.space.S.{S}
-use Rattle.cbor_edn_parts.specs.declared.space.Ms.{Ms}
-use Rattle.cbor_edn_parts.specs.declared.space.Msc.{Msc}
-use Rattle.cbor_edn_parts.specs.declared.space.Soc.{Soc}
+use Rattle.cbor_edn_parts.specs.declared.string.Ellipsis.{Ellipsis}
+use Rattle.cbor_edn_parts.specs.declared.space.Space.{Space}
+use Rattle.cbor_edn_parts.specs.declared.space.MandatorySpace.{MandatorySpace}
+use Rattle.cbor_edn_parts.specs.declared.space.Separator.{Separator}
+use Rattle.cbor_edn_parts.specs.declared.space.ListEnd.{ListEnd}
 use Rattle.cbor_edn_core.specs.declared.tree.ItemsOf.{ItemsOf}
 use Rattle.cbor_edn_core.specs.tree.View.{view_items, view_some}
 use Rattle.cbor_edn_model.specs.tree.TreeLeaves.{texts}
@@ -248,6 +248,6 @@ module _ (limit : ℕ) (bytes : List ℕ) where
       let same : items w ≡ items_of f.0 = ap (λ (t : Tree Seq). items t) is ∙ sequence_items (items_of f.0) (regular (items_of f.0)) (row_again f.0) in
       record { values = f.0; encoded = f.1; within = f.2; same_items = same; spaced = is ∙ sym (sequence_regular f.0 w same); meant = ap means same ∙ f.4 }
 
-pub sequence_view : (s : List ℕ) (o : Option (ItemsOf S Ms Msc Soc Number Literal Dots)) → s ≡ [] → view_some texts s o ≡ sequence_tree_of (option_map (view_items texts) o)
+pub sequence_view : (s : List ℕ) (o : Option (ItemsOf Space MandatorySpace Separator ListEnd Number Literal Ellipsis)) → s ≡ [] → view_some texts s o ≡ sequence_tree_of (option_map (view_items texts) o)
 sequence_view s None e = ap NothingTree e
 sequence_view s (Some m) e = ap (λ s. SequenceTree s (view_items texts m)) e

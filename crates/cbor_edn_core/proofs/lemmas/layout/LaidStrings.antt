@@ -1,7 +1,7 @@
 -- The tree of a string or of the strings of a stream whose parts are laid out one after another.
 use Rattle.std.proofs.Common.{◌≡◌, [], map, sym, ap, ◌∙◌}
 use Rattle.cbor_edn_parts.specs.LayoutColumns.{of_parts}
-use Rattle.cbor_edn_parts.specs.Spacing.{SOC}
+use Rattle.cbor_edn_parts.specs.Spacing.{AtEnd}
 use Rattle.cbor_edn_core.specs.declared.tree.CborStringOf.{CborStringOf, roll-CborStringOf, out-roll-CborStringOf}
 use Rattle.cbor_edn_core.specs.declared.tree.StringsOf.{StringsOf, out-StringsOf, roll-StringsOf}
 use Rattle.cbor_edn_model.specs.tree.TreeLeaves.{Ghosts}
@@ -42,13 +42,13 @@ module _ {S P M O N T D : Type 0} (leaves : Ghosts S P M O N T D) where
   pub strings_laid : (l : Layout) (x y : StringsOf S P M O N T D) (f : _) → y ≡ roll-StringsOf S P M O N T D f
       → map (seen_string leaves) f.row.items ≡ map (laid_entry l) (map (seen_string leaves) (out-StringsOf S P M O N T D x).row.items)
       → view_string leaves f.last ≡ laid (in_chunk l) (view_string leaves (out-StringsOf S P M O N T D x).last)
-      → leaves.end f.soc ≡ respaced SOC Last l (leaves.end (out-StringsOf S P M O N T D x).soc)
+      → leaves.end f.end ≡ respaced AtEnd Last l (leaves.end (out-StringsOf S P M O N T D x).end)
       → view_strings leaves y ≡ laid l (view_strings leaves x)
-  strings_laid l x y f is row last soc =
+  strings_laid l x y f is row last list_end =
       let o = out-StringsOf S P M O N T D x in
       ap (view_strings leaves) is
       ∙ view_strings_made leaves f
-      ∙ laying.strings_laid l (map (seen_string leaves) o.row.items) (map (seen_string leaves) f.row.items) (view_string leaves o.last) (view_string leaves f.last) (leaves.end o.soc) (leaves.end f.soc) row last soc
+      ∙ laying.strings_laid l (map (seen_string leaves) o.row.items) (map (seen_string leaves) f.row.items) (view_string leaves o.last) (view_string leaves f.last) (leaves.end o.end) (leaves.end f.end) row last list_end
       ∙ ap (laid l) (sym (view_strings_is leaves x))
 
   pub strings_same : (x y : StringsOf S P M O N T D) (f : _) → y ≡ roll-StringsOf S P M O N T D f
@@ -59,5 +59,5 @@ module _ {S P M O N T D : Type 0} (leaves : Ghosts S P M O N T D) where
       let o = out-StringsOf S P M O N T D x in
       ap (λ y. items (view_strings leaves y)) is
       ∙ ap items (view_strings_made leaves f)
-      ∙ laying.strings_same (map (seen_string leaves) o.row.items) (map (seen_string leaves) f.row.items) (view_string leaves o.last) (view_string leaves f.last) (leaves.end o.soc) (leaves.end f.soc) row last
+      ∙ laying.strings_same (map (seen_string leaves) o.row.items) (map (seen_string leaves) f.row.items) (view_string leaves o.last) (view_string leaves f.last) (leaves.end o.end) (leaves.end f.end) row last
       ∙ ap items (sym (view_strings_is leaves x))

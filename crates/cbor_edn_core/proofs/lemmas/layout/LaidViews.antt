@@ -1,6 +1,6 @@
 -- The tree of a list whose parts are laid out one after another.
 use Rattle.std.proofs.Common.{◌≡◌, map, sym, ap, ◌∙◌}
-use Rattle.cbor_edn_parts.specs.Spacing.{SOC}
+use Rattle.cbor_edn_parts.specs.Spacing.{AtEnd}
 use Rattle.cbor_edn_core.specs.declared.tree.ItemsOf.{ItemsOf, out-ItemsOf, roll-ItemsOf}
 use Rattle.cbor_edn_core.specs.declared.tree.PairsOf.{PairsOf, out-PairsOf, roll-PairsOf}
 use Rattle.cbor_edn_model.specs.tree.TreeLeaves.{Ghosts}
@@ -17,13 +17,13 @@ module _ {S P M O N T D : Type 0} (leaves : Ghosts S P M O N T D) where
   pub items_laid : (l : Layout) (x y : ItemsOf S P M O N T D) (f : _) → y ≡ roll-ItemsOf S P M O N T D f
       → map (seen leaves) f.row.items ≡ map (laid_entry l) (map (seen leaves) (out-ItemsOf S P M O N T D x).row.items)
       → view_item leaves f.last ≡ laid l (view_item leaves (out-ItemsOf S P M O N T D x).last)
-      → leaves.end f.soc ≡ respaced SOC Last l (leaves.end (out-ItemsOf S P M O N T D x).soc)
+      → leaves.end f.end ≡ respaced AtEnd Last l (leaves.end (out-ItemsOf S P M O N T D x).end)
       → view_items leaves y ≡ laid l (view_items leaves x)
   unfolding laid
-  items_laid l x y f is row last soc =
+  items_laid l x y f is row last list_end =
       ap (view_items leaves) is
       ∙ view_items_made leaves f
-      ∙ (λ i. entries_onto (row i) (LastTree (ElementTree (last i)) (soc i)))
+      ∙ (λ i. entries_onto (row i) (LastTree (ElementTree (last i)) (list_end i)))
       ∙ sym (laid_entries l (map (seen leaves) (out-ItemsOf S P M O N T D x).row.items) _)
       ∙ ap (laid l) (sym (view_items_is leaves x))
 
@@ -41,13 +41,13 @@ module _ {S P M O N T D : Type 0} (leaves : Ghosts S P M O N T D) where
   pub pairs_laid : (l : Layout) (x y : PairsOf S P M O N T D) (f : _) → y ≡ roll-PairsOf S P M O N T D f
       → map (seen_pair leaves) f.row.items ≡ map (laid_entry l) (map (seen_pair leaves) (out-PairsOf S P M O N T D x).row.items)
       → view_pair leaves f.last ≡ laid l (view_pair leaves (out-PairsOf S P M O N T D x).last)
-      → leaves.end f.soc ≡ respaced SOC Last l (leaves.end (out-PairsOf S P M O N T D x).soc)
+      → leaves.end f.end ≡ respaced AtEnd Last l (leaves.end (out-PairsOf S P M O N T D x).end)
       → view_pairs leaves y ≡ laid l (view_pairs leaves x)
   unfolding laid
-  pairs_laid l x y f is row last soc =
+  pairs_laid l x y f is row last list_end =
       ap (view_pairs leaves) is
       ∙ view_pairs_made leaves f
-      ∙ (λ i. entries_onto (row i) (LastTree (last i) (soc i)))
+      ∙ (λ i. entries_onto (row i) (LastTree (last i) (list_end i)))
       ∙ sym (laid_entries l (map (seen_pair leaves) (out-PairsOf S P M O N T D x).row.items) _)
       ∙ ap (laid l) (sym (view_pairs_is leaves x))
 

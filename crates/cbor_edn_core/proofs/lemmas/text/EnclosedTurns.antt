@@ -13,9 +13,9 @@ use Rattle.cbor_edn_parts.specs.Indicator.{indicator_at}
 use Rattle.cbor_edn_parts.specs.internal.Lex as lex
 use Rattle.cbor_edn_parts.specs.internal.Lex.{Automaton}
 use Rattle.cbor_edn_parts.specs.internal.NumberTokens.{number}
-use Rattle.cbor_edn_model.specs.declared.text.label.LabelKind.{LabelKind}
-use Rattle.cbor_edn_model.specs.declared.text.label.LabelKind.TheVariants.{Tag}
-use Rattle.cbor_edn_model.specs.declared.text.label.LabelKind.TheVariants as label
+use Rattle.cbor_edn_model.specs.declared.text.opener.OpenerKind.{OpenerKind}
+use Rattle.cbor_edn_model.specs.declared.text.opener.OpenerKind.TheVariants.{Tag}
+use Rattle.cbor_edn_model.specs.declared.text.opener.OpenerKind.TheVariants as opener
 use Rattle.cbor_edn_model.specs.declared.text.keyword.NamedSimple.{NamedSimple}
 use Rattle.cbor_edn_model.specs.declared.text.keyword.NonFinite.{NonFinite}
 use Rattle.cbor_edn_model.specs.declared.text.keyword.Keyword.{Keyword}
@@ -33,31 +33,31 @@ use Rattle.cbor_edn_core.proofs.lemmas.text.Turns.{bind_fails, bind_ok, fails_at
 
 -- a refusal of which only the kind is of use
 abbrev invalid : Fault Refusal
-invalid = Told (record { kind = Invalid; at = 0 })
+invalid = Told (record { kind = Invalid; offset = 0 })
 
 -- what stands between parentheses, behind a label
 
-pub enclosed_shut : (limit : ℕ) (l : LabelKind) (xs : List ℕ) → IsNotAt 40 xs → enclosed_item reads limit l xs ≡ Err Invalid
+pub enclosed_shut : (limit : ℕ) (l : OpenerKind) (xs : List ℕ) → IsNotAt 40 xs → enclosed_item reads limit l xs ≡ Err Invalid
 unfolding enclosed_item
 enclosed_shut zero l xs n = bind_fails invalid (byte 40 xs) _ (byte_other 40 xs n)
 enclosed_shut (suc limit) l xs n = bind_fails invalid (byte 40 xs) _ (byte_other 40 xs n)
 
-pub enclosed_too_deep : (limit : ℕ) (l : LabelKind) (xs ys : List ℕ) → limit ≡ 0 → xs ≡ 40 ∷ ys → enclosed_item reads limit l xs ≡ Err TooDeep
+pub enclosed_too_deep : (limit : ℕ) (l : OpenerKind) (xs ys : List ℕ) → limit ≡ 0 → xs ≡ 40 ∷ ys → enclosed_item reads limit l xs ≡ Err TooDeep
 unfolding enclosed_item
 enclosed_too_deep limit l xs ys none e = rw none (bind_ok (byte 40 xs) ys _ (byte_there 40 xs ys e))
 
-enclosed_inside : (limit : ℕ) (l : LabelKind) (xs ys : List ℕ) → 0 < limit → xs ≡ 40 ∷ ys → enclosed_item reads limit l xs ≡ (reads (limit - 1) Standalone ys >>= λ w. byte 41 w.1 >>= λ r. Ok (EnclosedTree l w.0, r))
+enclosed_inside : (limit : ℕ) (l : OpenerKind) (xs ys : List ℕ) → 0 < limit → xs ≡ 40 ∷ ys → enclosed_item reads limit l xs ≡ (reads (limit - 1) Standalone ys >>= λ w. byte 41 w.1 >>= λ r. Ok (EnclosedTree l w.0, r))
 unfolding enclosed_item
 enclosed_inside zero l xs ys some e = absurd (omega arith)
 enclosed_inside (suc limit) l xs ys some e = let same : suc limit - 1 ≡ limit = omega arith in rw same (bind_ok (byte 40 xs) ys _ (byte_there 40 xs ys e))
 
-pub enclosed_fails : (e : Fault Refusal) (limit : ℕ) (l : LabelKind) (xs ys : List ℕ) → 0 < limit → xs ≡ 40 ∷ ys → Fails e (reads (limit - 1) Standalone ys) → Fails e (enclosed_item reads limit l xs)
+pub enclosed_fails : (e : Fault Refusal) (limit : ℕ) (l : OpenerKind) (xs ys : List ℕ) → 0 < limit → xs ≡ 40 ∷ ys → Fails e (reads (limit - 1) Standalone ys) → Fails e (enclosed_item reads limit l xs)
 enclosed_fails e limit l xs ys some at h = fails_at e _ _ (enclosed_inside limit l xs ys some at) (bind_fails e (reads (limit - 1) Standalone ys) _ h)
 
-pub enclosed_open : (limit : ℕ) (l : LabelKind) (xs ys r : List ℕ) (w : Tree Standalone) → 0 < limit → xs ≡ 40 ∷ ys → reads (limit - 1) Standalone ys ≡ Ok (w, r) → IsNotAt 41 r → enclosed_item reads limit l xs ≡ Err Invalid
+pub enclosed_open : (limit : ℕ) (l : OpenerKind) (xs ys r : List ℕ) (w : Tree Standalone) → 0 < limit → xs ≡ 40 ∷ ys → reads (limit - 1) Standalone ys ≡ Ok (w, r) → IsNotAt 41 r → enclosed_item reads limit l xs ≡ Err Invalid
 enclosed_open limit l xs ys r w some at h n = enclosed_inside limit l xs ys some at ∙ bind_ok _ (w, r) _ h ∙ bind_fails invalid (byte 41 r) (λ q. Ok (EnclosedTree l w, q)) (byte_other 41 r n)
 
-pub enclosed_read : (limit : ℕ) (l : LabelKind) (xs ys r q : List ℕ) (w : Tree Standalone) → 0 < limit → xs ≡ 40 ∷ ys → reads (limit - 1) Standalone ys ≡ Ok (w, r) → r ≡ 41 ∷ q → enclosed_item reads limit l xs ≡ Ok (EnclosedTree l w, q)
+pub enclosed_read : (limit : ℕ) (l : OpenerKind) (xs ys r q : List ℕ) (w : Tree Standalone) → 0 < limit → xs ≡ 40 ∷ ys → reads (limit - 1) Standalone ys ≡ Ok (w, r) → r ≡ 41 ∷ q → enclosed_item reads limit l xs ≡ Ok (EnclosedTree l w, q)
 enclosed_read limit l xs ys r q w some at h close = enclosed_inside limit l xs ys some at ∙ bind_ok _ (w, r) _ h ∙ bind_ok (byte 41 r) q (λ q. Ok (EnclosedTree l w, q)) (byte_there 41 r q close)
 
 -- numbers and tags
@@ -128,6 +128,6 @@ pub float_read : (limit : ℕ) (f : NonFinite) (xs : List ℕ) (i : Option Indic
 unfolding keyword_item
 float_read limit f xs i q k = ap (λ (p : Option Indicator × List ℕ). Ok (FloatTree f p.0, p.1)) k
 
-pub simple_at : (limit : ℕ) (xs : List ℕ) → keyword_item reads limit keyword.Simple xs ≡ enclosed_item reads limit label.Simple xs
+pub simple_at : (limit : ℕ) (xs : List ℕ) → keyword_item reads limit keyword.Simple xs ≡ enclosed_item reads limit opener.Simple xs
 unfolding keyword_item
 simple_at limit xs = refl

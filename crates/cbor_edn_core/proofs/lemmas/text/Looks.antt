@@ -4,7 +4,7 @@ use Rattle.std.specs.Prelude.{eqb}
 use Rattle.std.proofs.lemmas.Bool.{cond_both, both_ways}
 use Rattle.cbor_edn_parts.specs.internal.Lex as lex
 use Rattle.cbor_edn_parts.specs.internal.Lex.{Automaton, Accepts}
-use Rattle.cbor_edn_parts.specs.internal.LiteralTokens.{literal, dots, literal_final, dots_final, is_lower, is_upper}
+use Rattle.cbor_edn_parts.specs.internal.LiteralTokens.{literal, ellipsis, literal_final, ellipsis_final, is_lower, is_upper}
 use Rattle.cbor_edn_parts.specs.declared.space.read.ItemEnd.{ItemEnd}
 use Rattle.cbor_edn_parts.proofs.lemmas.scan.Tokens.{munch-took, Holds, nothing, just}
 use Rattle.cbor_edn_model.specs.internal.LookCosts.{a_byte, longest_keyword, extra, refused_extra, keyword_extra, enclosed_extra, refused_enclosed_extra}
@@ -41,8 +41,8 @@ literal_open c =
     cond_both (is_lower c) _ _ (Holds (λ n. literal_final n ≡ false)) (λ e. just refl) (λ e.
     cond_both (is_upper c) _ _ (Holds (λ n. literal_final n ≡ false)) (λ e. just refl) (λ e. nothing))))
 
-pub dots_open : Open dots
-dots_open c = cond_both (eqb c 46) _ _ (Holds (λ n. dots_final n ≡ false)) (λ e. just refl) (λ e. nothing)
+pub ellipsis_open : Open ellipsis
+ellipsis_open c = cond_both (eqb c 46) _ _ (Holds (λ n. ellipsis_final n ≡ false)) (λ e. just refl) (λ e. nothing)
 
 -- the first of several pieces
 

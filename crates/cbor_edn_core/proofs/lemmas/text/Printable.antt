@@ -1,14 +1,14 @@
 -- Each text of a declared tree is in its set.
 use Rattle.std.proofs.Common.{◌≡◌, ℕ, List, Option, None, Some, subst, sym}
-use Rattle.cbor_edn_parts.specs.Leaves.{s_bytes}
+use Rattle.cbor_edn_parts.specs.Leaves.{space_bytes}
 use Rattle.cbor_edn_parts.specs.declared.indicator.Indicator.{Indicator}
-use Rattle.cbor_edn_parts.specs.declared.space.S.{S}
-use Rattle.cbor_edn_parts.specs.declared.space.Ms.{Ms}
-use Rattle.cbor_edn_parts.specs.declared.space.Msc.{Msc}
-use Rattle.cbor_edn_parts.specs.declared.space.Soc.{Soc}
+use Rattle.cbor_edn_parts.specs.declared.space.Space.{Space}
+use Rattle.cbor_edn_parts.specs.declared.space.MandatorySpace.{MandatorySpace}
+use Rattle.cbor_edn_parts.specs.declared.space.Separator.{Separator}
+use Rattle.cbor_edn_parts.specs.declared.space.ListEnd.{ListEnd}
 use Rattle.cbor_edn_parts.specs.declared.number.Number.{Number}
 use Rattle.cbor_edn_parts.specs.declared.string.Literal.{Literal}
-use Rattle.cbor_edn_parts.specs.declared.string.Dots.{Dots}
+use Rattle.cbor_edn_parts.specs.declared.string.Ellipsis.{Ellipsis}
 use Rattle.cbor_edn_core.specs.declared.tree.InnerItemOf.{InnerItemOf}
 use Rattle.cbor_edn_core.specs.declared.tree.InnerItemOf.TheVariants as inner
 use Rattle.cbor_edn_core.specs.declared.tree.ItemListOf.{ItemListOf}
@@ -33,69 +33,69 @@ use Rattle.cbor_edn_core.specs.tree.View.{view_inner, view_list, view_items, vie
 use Rattle.cbor_edn_model.specs.text.ListHeads.{view_list_head}
 use Rattle.cbor_edn_model.specs.tree.TreeLeaves.{texts}
 
-head_valid : (h : Option (Indicator × Ms)) → IsTestedListHead (view_list_head texts h)
+head_valid : (h : Option (Indicator × MandatorySpace)) → IsTestedListHead (view_list_head texts h)
 head_valid None = tt
 head_valid (Some h) = h.1.spelled
 
 mutual
   unfolding Tested
 
-  inner_valid : (x : InnerItemOf S Ms Msc Soc Number Literal Dots) → Tested (view_inner texts x)
+  inner_valid : (x : InnerItemOf Space MandatorySpace Separator ListEnd Number Literal Ellipsis) → Tested (view_inner texts x)
   inner_valid (inner.Number i n) = n.spelled
   inner_valid (inner.NonFinite i f) = tt
   inner_valid (inner.Named b) = tt
-  inner_valid (inner.Enclosed' label p before item after) = (label.fits, (before.spelled, inner_valid item, after.spelled))
+  inner_valid (inner.Enclosed' opener p before item after) = (opener.fits, (before.spelled, inner_valid item, after.spelled))
   inner_valid (inner.Array' p list) = list_valid list
   inner_valid (inner.Map' p list) = pair_list_valid list
   inner_valid (inner.Literal i literal) = literal.spelled
   inner_valid (inner.String' p n row last) = pieces_valid row _ (piece_valid last)
   inner_valid (inner.Stream' p stream) = stream_valid stream
 
-  pieces_valid : {n : _} (row : Row_of-CborStringOf-row-3 S Ms Msc Soc Number Literal Dots n) (w : Tree OneString) → Tested w → Tested (view_pieces texts row w)
+  pieces_valid : {n : _} (row : Row_of-CborStringOf-row-3 Space MandatorySpace Separator ListEnd Number Literal Ellipsis n) (w : Tree OneString) → Tested w → Tested (view_pieces texts row w)
   pieces_valid end_of-CborStringOf-row-3 w v = v
   pieces_valid (more_of-CborStringOf-row-3 p before after row) w v = (piece_valid p, before.spelled, after.spelled, pieces_valid row w v)
 
-  piece_valid : (x : PieceOf S Ms Msc Soc Number Literal Dots) → Tested (view_piece texts x)
+  piece_valid : (x : PieceOf Space MandatorySpace Separator ListEnd Number Literal Ellipsis) → Tested (view_piece texts x)
   piece_valid (piece.Literal i literal) = literal.spelled
-  piece_valid (piece.Dots dots) = dots.spelled
+  piece_valid (piece.Ellipsis ellipsis) = ellipsis.spelled
   piece_valid (piece.Embedded' i p sequence) = sequence_valid sequence
 
   pub sequence_valid : (x : Sequence) → Tested (sequence_tree x)
   sequence_valid (SequenceOf' before items) = held_valid before items
 
-  held_valid : (s : S) (x : Held-SequenceOf-items S Ms Msc Soc Number Literal Dots) → Tested (view_held texts (s_bytes s) x)
+  held_valid : (s : Space) (x : Held-SequenceOf-items Space MandatorySpace Separator ListEnd Number Literal Ellipsis) → Tested (view_held texts (space_bytes s) x)
   held_valid s sequence.None' = s.spelled
   held_valid s (sequence.Some' items) = (s.spelled, items_valid items)
 
-  stream_valid : (x : StreamOf S Ms Msc Soc Number Literal Dots) → Tested (view_stream texts x)
+  stream_valid : (x : StreamOf Space MandatorySpace Separator ListEnd Number Literal Ellipsis) → Tested (view_stream texts x)
   stream_valid (StreamOf' ms strings) = (ms.spelled, strings_valid strings)
 
-  strings_valid : (x : StringsOf S Ms Msc Soc Number Literal Dots) → Tested (view_strings texts x)
-  strings_valid (StringsOf' n row m pieces last soc) = string_row_valid row _ (pieces_valid pieces _ (piece_valid last), soc.spelled)
+  strings_valid : (x : StringsOf Space MandatorySpace Separator ListEnd Number Literal Ellipsis) → Tested (view_strings texts x)
+  strings_valid (StringsOf' n row m pieces last list_end) = string_row_valid row _ (pieces_valid pieces _ (piece_valid last), list_end.spelled)
 
-  string_row_valid : {n : _} (row : Row_of-StringsOf-row-2 S Ms Msc Soc Number Literal Dots n) (m : Tree (Rest kind.Strings)) → Tested m → Tested (view_string_row texts row m)
+  string_row_valid : {n : _} (row : Row_of-StringsOf-row-2 Space MandatorySpace Separator ListEnd Number Literal Ellipsis n) (m : Tree (Rest kind.Strings)) → Tested m → Tested (view_string_row texts row m)
   string_row_valid end_of-StringsOf-row-2 m v = v
   string_row_valid (more_of-StringsOf-row-2 n pieces last separator row) m v = (pieces_valid pieces _ (piece_valid last), separator.spelled, string_row_valid row m v)
 
-  list_valid : (x : ItemListOf S Ms Msc Soc Number Literal Dots) → Tested (view_list texts x)
+  list_valid : (x : ItemListOf Space MandatorySpace Separator ListEnd Number Literal Ellipsis) → Tested (view_list texts x)
   list_valid (item_list.Present head s items) = (head_valid head, s.spelled, items_valid items)
   list_valid (item_list.Absent i s) = s.spelled
 
-  items_valid : (x : ItemsOf S Ms Msc Soc Number Literal Dots) → Tested (view_items texts x)
-  items_valid (ItemsOf' n row last soc) = row_valid row _ (inner_valid last, soc.spelled)
+  items_valid : (x : ItemsOf Space MandatorySpace Separator ListEnd Number Literal Ellipsis) → Tested (view_items texts x)
+  items_valid (ItemsOf' n row last list_end) = row_valid row _ (inner_valid last, list_end.spelled)
 
-  row_valid : {n : _} (row : Row_of-ItemsOf-row-2 S Ms Msc Soc Number Literal Dots n) (m : Tree (Rest kind.Elements)) → Tested m → Tested (view_row texts row m)
+  row_valid : {n : _} (row : Row_of-ItemsOf-row-2 Space MandatorySpace Separator ListEnd Number Literal Ellipsis n) (m : Tree (Rest kind.Elements)) → Tested m → Tested (view_row texts row m)
   row_valid end_of-ItemsOf-row-2 m v = v
   row_valid (more_of-ItemsOf-row-2 item separator row) m v = (inner_valid item, separator.spelled, row_valid row m v)
 
-  pair_list_valid : (x : PairListOf S Ms Msc Soc Number Literal Dots) → Tested (view_pair_list texts x)
+  pair_list_valid : (x : PairListOf Space MandatorySpace Separator ListEnd Number Literal Ellipsis) → Tested (view_pair_list texts x)
   pair_list_valid (pair_list.Present head s pairs) = (head_valid head, s.spelled, pairs_valid pairs)
   pair_list_valid (pair_list.Absent i s) = s.spelled
 
-  pairs_valid : (x : PairsOf S Ms Msc Soc Number Literal Dots) → Tested (view_pairs texts x)
-  pairs_valid (PairsOf' n row key before after value soc) = pair_row_valid row _ ((inner_valid key, before.spelled, after.spelled, inner_valid value), soc.spelled)
+  pairs_valid : (x : PairsOf Space MandatorySpace Separator ListEnd Number Literal Ellipsis) → Tested (view_pairs texts x)
+  pairs_valid (PairsOf' n row key before after value list_end) = pair_row_valid row _ ((inner_valid key, before.spelled, after.spelled, inner_valid value), list_end.spelled)
 
-  pair_row_valid : {n : _} (row : Row_of-PairsOf-row-2 S Ms Msc Soc Number Literal Dots n) (m : Tree (Rest kind.Pairs)) → Tested m → Tested (view_pair_row texts row m)
+  pair_row_valid : {n : _} (row : Row_of-PairsOf-row-2 Space MandatorySpace Separator ListEnd Number Literal Ellipsis n) (m : Tree (Rest kind.Pairs)) → Tested m → Tested (view_pair_row texts row m)
   pair_row_valid end_of-PairsOf-row-2 m v = v
   pair_row_valid (more_of-PairsOf-row-2 key before after value separator row) m v = ((inner_valid key, before.spelled, after.spelled, inner_valid value), separator.spelled, pair_row_valid row m v)
 

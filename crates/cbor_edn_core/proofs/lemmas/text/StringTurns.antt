@@ -11,11 +11,11 @@ use Rattle.cbor_edn_parts.specs.declared.indicator.Indicator.{Indicator}
 use Rattle.cbor_edn_parts.specs.Indicator.{indicator_at}
 use Rattle.cbor_edn_parts.specs.internal.Lex.{munch}
 use Rattle.cbor_edn_parts.specs.internal.SpaceTokens.{space}
-use Rattle.cbor_edn_parts.specs.internal.LiteralTokens.{literal, dots}
+use Rattle.cbor_edn_parts.specs.internal.LiteralTokens.{literal, ellipsis}
 use Rattle.cbor_edn_model.specs.tree.Items.{Strings}
-use Rattle.cbor_edn_model.specs.tree.Trees.{OnePiece, OneString, OneEntry, Rest, Seq, Tree, StreamTree, LiteralTree, DotsTree, EmbeddedTree, LastPieceTree, PlusTree, ChunkTree, joins}
+use Rattle.cbor_edn_model.specs.tree.Trees.{OnePiece, OneString, OneEntry, Rest, Seq, Tree, StreamTree, LiteralTree, EllipsisTree, EmbeddedTree, LastPieceTree, PlusTree, ChunkTree, joins}
 use Rattle.cbor_edn_model.specs.internal.Results.{◌>>=◌}
-use Rattle.cbor_edn_model.specs.internal.Reading.{Read, token, byte, not_empty, stream_item, literal_piece, dots_piece, embedded_piece, piece, plus_string, string, entry, reads}
+use Rattle.cbor_edn_model.specs.internal.Reading.{Read, token, byte, not_empty, stream_item, literal_piece, ellipsis_piece, embedded_piece, piece, plus_string, string, entry, reads}
 use Rattle.cbor_edn_core.specs.internal.ParserResults.{Fails, IsUnclosed}
 use Rattle.cbor_edn_model.specs.internal.BytesAt.{IsNotAt}
 use Rattle.cbor_edn_model.specs.tree.Rows.{pieces_onto}
@@ -24,7 +24,7 @@ use Rattle.cbor_edn_core.proofs.lemmas.text.Turns.{bind_fails, bind_ok, fails_at
 
 -- a refusal of which only the kind is of use
 abbrev invalid : Fault Refusal
-invalid = Told (record { kind = Invalid; at = 0 })
+invalid = Told (record { kind = Invalid; offset = 0 })
 
 -- streams, behind the parenthesis
 
@@ -78,17 +78,17 @@ chunk_read limit xs r w h = reads-rule limit (OneEntry Strings) xs ∙ bind_ok (
 
 -- pieces
 
-piece_dots_at : (limit : ℕ) (xs ys : List ℕ) → xs ≡ 46 ∷ ys → reads limit OnePiece xs ≡ dots_piece reads xs
+piece_ellipsis_at : (limit : ℕ) (xs ys : List ℕ) → xs ≡ 46 ∷ ys → reads limit OnePiece xs ≡ ellipsis_piece reads xs
 unfolding piece
-piece_dots_at limit xs ys e = reads-rule limit OnePiece xs ∙ rw e refl
+piece_ellipsis_at limit xs ys e = reads-rule limit OnePiece xs ∙ rw e refl
 
-pub dots_fail : (e : Fault Refusal) (limit : ℕ) (xs ys : List ℕ) → xs ≡ 46 ∷ ys → Fails e (token dots xs) → Fails e (reads limit OnePiece xs)
-unfolding dots_piece
-dots_fail e limit xs ys at h = fails_at e _ _ (piece_dots_at limit xs ys at) (bind_fails e (token dots xs) _ h)
+pub ellipsis_fail : (e : Fault Refusal) (limit : ℕ) (xs ys : List ℕ) → xs ≡ 46 ∷ ys → Fails e (token ellipsis xs) → Fails e (reads limit OnePiece xs)
+unfolding ellipsis_piece
+ellipsis_fail e limit xs ys at h = fails_at e _ _ (piece_ellipsis_at limit xs ys at) (bind_fails e (token ellipsis xs) _ h)
 
-pub dots_read : (limit : ℕ) (xs ys x r : List ℕ) → xs ≡ 46 ∷ ys → token dots xs ≡ Ok (x, r) → reads limit OnePiece xs ≡ Ok (DotsTree x, r)
-unfolding dots_piece
-dots_read limit xs ys x r at h = piece_dots_at limit xs ys at ∙ bind_ok (token dots xs) (x, r) _ h
+pub ellipsis_read : (limit : ℕ) (xs ys x r : List ℕ) → xs ≡ 46 ∷ ys → token ellipsis xs ≡ Ok (x, r) → reads limit OnePiece xs ≡ Ok (EllipsisTree x, r)
+unfolding ellipsis_piece
+ellipsis_read limit xs ys x r at h = piece_ellipsis_at limit xs ys at ∙ bind_ok (token ellipsis xs) (x, r) _ h
 
 no_literal : token literal [] ≡ Err Invalid
 unfolding munch

@@ -16,7 +16,7 @@ use Rattle.cbor_edn_parts.specs.internal.Lex.{Automaton, Accepts, munch}
 use Rattle.cbor_edn_parts.specs.internal.SpaceTokens.{space, separator}
 use Rattle.cbor_edn_parts.specs.internal.NumberTokens.{number}
 use Rattle.cbor_edn_model.specs.tree.Items.{Row, Elements, Pairs, Bracketed, Array, Map, entries_of}
-use Rattle.cbor_edn_model.specs.text.Spelling.{opening, ending}
+use Rattle.cbor_edn_model.specs.text.Spelling.{open_byte, close_byte}
 use Rattle.cbor_edn_model.specs.tree.Trees.{Rule, OneItem, OneString, OneEntry, Inside, Rest, Seq, Standalone, ListHead, Tree, ListTree, StringTree, ElementTree, PairTree, EmptyTree, FullTree, LastTree, MoreTree, NothingTree, SequenceTree, StandaloneTree}
 use Rattle.cbor_edn_model.specs.internal.Results.{◌>>=◌}
 use Rattle.cbor_edn_model.specs.internal.Reading.{Read, token, byte, not_empty, number_item, list_item, string_item, stream_item, starts_string, keyword_at, plain_item, item, entry, list_head_of, inside, inside_full, more, rest, sequence, standalone, reads, reads_all, at_end}
@@ -129,28 +129,28 @@ pub stream_at : (limit : ℕ) (xs ys : List ℕ) → xs ≡ 40 ∷ ys → reads 
 unfolding item
 stream_at limit xs ys e = reads-rule limit OneItem xs ∙ rw e
 
-list_at : (limit : ℕ) (k : Bracketed) (xs ys : List ℕ) → xs ≡ opening k ∷ ys → reads limit OneItem xs ≡ list_item reads limit k ys
+list_at : (limit : ℕ) (k : Bracketed) (xs ys : List ℕ) → xs ≡ open_byte k ∷ ys → reads limit OneItem xs ≡ list_item reads limit k ys
 unfolding item
 list_at limit Array xs ys e = reads-rule limit OneItem xs ∙ rw e
 list_at limit Map xs ys e = reads-rule limit OneItem xs ∙ rw e
 
-pub list_too_deep : (limit : ℕ) (k : Bracketed) (xs ys : List ℕ) → limit ≡ 0 → xs ≡ opening k ∷ ys → reads limit OneItem xs ≡ Err TooDeep
+pub list_too_deep : (limit : ℕ) (k : Bracketed) (xs ys : List ℕ) → limit ≡ 0 → xs ≡ open_byte k ∷ ys → reads limit OneItem xs ≡ Err TooDeep
 unfolding list_item
 list_too_deep limit k xs ys none e = list_at limit k xs ys e ∙ rw none
 
-inside_at : (limit : ℕ) (k : Bracketed) (xs ys : List ℕ) → 0 < limit → xs ≡ opening k ∷ ys → reads limit OneItem xs ≡ (reads (limit - 1) (Inside k) ys >>= λ w. byte (ending k) w.1 >>= λ r. Ok (ListTree k w.0, r))
+inside_at : (limit : ℕ) (k : Bracketed) (xs ys : List ℕ) → 0 < limit → xs ≡ open_byte k ∷ ys → reads limit OneItem xs ≡ (reads (limit - 1) (Inside k) ys >>= λ w. byte (close_byte k) w.1 >>= λ r. Ok (ListTree k w.0, r))
 unfolding list_item
 inside_at zero k xs ys some e = absurd (omega arith)
 inside_at (suc limit) k xs ys some e = let same : suc limit - 1 ≡ limit = omega arith in list_at (suc limit) k xs ys e ∙ rw same
 
-pub list_fails : (e : Fault Refusal) (limit : ℕ) (k : Bracketed) (xs ys : List ℕ) → 0 < limit → xs ≡ opening k ∷ ys → Fails e (reads (limit - 1) (Inside k) ys) → Fails e (reads limit OneItem xs)
+pub list_fails : (e : Fault Refusal) (limit : ℕ) (k : Bracketed) (xs ys : List ℕ) → 0 < limit → xs ≡ open_byte k ∷ ys → Fails e (reads (limit - 1) (Inside k) ys) → Fails e (reads limit OneItem xs)
 list_fails e limit k xs ys some at h = fails_at e _ _ (inside_at limit k xs ys some at) (bind_fails e (reads (limit - 1) (Inside k) ys) _ h)
 
-pub list_open : (limit : ℕ) (k : Bracketed) (xs ys r : List ℕ) (w : Tree (Inside k)) → 0 < limit → xs ≡ opening k ∷ ys → reads (limit - 1) (Inside k) ys ≡ Ok (w, r) → IsNotAt (ending k) r → reads limit OneItem xs ≡ Err Invalid
-list_open limit k xs ys r w some at h n = inside_at limit k xs ys some at ∙ bind_ok _ (w, r) _ h ∙ bind_fails (Told (record { kind = Invalid; at = 0 })) (byte (ending k) r) (λ q. Ok (ListTree k w, q)) (byte_other (ending k) r n)
+pub list_open : (limit : ℕ) (k : Bracketed) (xs ys r : List ℕ) (w : Tree (Inside k)) → 0 < limit → xs ≡ open_byte k ∷ ys → reads (limit - 1) (Inside k) ys ≡ Ok (w, r) → IsNotAt (close_byte k) r → reads limit OneItem xs ≡ Err Invalid
+list_open limit k xs ys r w some at h n = inside_at limit k xs ys some at ∙ bind_ok _ (w, r) _ h ∙ bind_fails (Told (record { kind = Invalid; offset = 0 })) (byte (close_byte k) r) (λ q. Ok (ListTree k w, q)) (byte_other (close_byte k) r n)
 
-pub list_read : (limit : ℕ) (k : Bracketed) (xs ys r q : List ℕ) (w : Tree (Inside k)) → 0 < limit → xs ≡ opening k ∷ ys → reads (limit - 1) (Inside k) ys ≡ Ok (w, r) → r ≡ ending k ∷ q → reads limit OneItem xs ≡ Ok (ListTree k w, q)
-list_read limit k xs ys r q w some at h close = inside_at limit k xs ys some at ∙ bind_ok _ (w, r) _ h ∙ bind_ok (byte (ending k) r) q (λ q. Ok (ListTree k w, q)) (byte_there (ending k) r q close)
+pub list_read : (limit : ℕ) (k : Bracketed) (xs ys r q : List ℕ) (w : Tree (Inside k)) → 0 < limit → xs ≡ open_byte k ∷ ys → reads (limit - 1) (Inside k) ys ≡ Ok (w, r) → r ≡ close_byte k ∷ q → reads limit OneItem xs ≡ Ok (ListTree k w, q)
+list_read limit k xs ys r q w some at h close = inside_at limit k xs ys some at ∙ bind_ok _ (w, r) _ h ∙ bind_ok (byte (close_byte k) r) q (λ q. Ok (ListTree k w, q)) (byte_there (close_byte k) r q close)
 
 -- what stands between brackets
 
@@ -171,7 +171,7 @@ inside_open limit k xs r s q i at h c = inside_behind limit k xs r s q i at h �
 
 -- an indicator without the space that it needs
 pub inside_unparted : (limit : ℕ) (k : Bracketed) (xs r s q : List ℕ) (i : Option Indicator) → indicator_at xs ≡ (i, r) → token space r ≡ Ok (s, q) → is_closed q ≡ false → list_head_of i s ≡ Err Invalid → reads limit (Inside k) xs ≡ Err Invalid
-inside_unparted limit k xs r s q i at h c n = inside_open limit k xs r s q i at h c ∙ bind_fails (Told (record { kind = Invalid; at = 0 })) (list_head_of i s) _ n
+inside_unparted limit k xs r s q i at h c n = inside_open limit k xs r s q i at h c ∙ bind_fails (Told (record { kind = Invalid; offset = 0 })) (list_head_of i s) _ n
 
 pub inside_rest_fails : (e : Fault Refusal) (limit : ℕ) (k : Bracketed) (xs r s q t : List ℕ) (i : Option Indicator) (head : ListHead) → indicator_at xs ≡ (i, r) → token space r ≡ Ok (s, q) → is_closed q ≡ false → list_head_of i s ≡ Ok (head, t) → Fails e (reads limit (Rest (entries_of k)) q) → Fails e (reads limit (Inside k) xs)
 inside_rest_fails e limit k xs r s q t i head at h c o f = fails_at e _ _ (inside_open limit k xs r s q i at h c ∙ bind_ok (list_head_of i s) (head, t) _ o) (bind_fails e (reads limit (Rest (entries_of k)) q) _ f)
@@ -208,7 +208,7 @@ before_colon : (limit : ℕ) (xs r s q : List ℕ) (v : Tree OneItem) → reads 
 before_colon limit xs r s q v h t = behind_key limit xs r v h ∙ bind_ok (token space r) (s, q) _ t
 
 pub pair_no_colon : (limit : ℕ) (xs r s q : List ℕ) (v : Tree OneItem) → reads limit OneItem xs ≡ Ok (v, r) → token space r ≡ Ok (s, q) → IsNotAt 58 q → reads limit (OneEntry Pairs) xs ≡ Err Invalid
-pair_no_colon limit xs r s q v h t n = before_colon limit xs r s q v h t ∙ bind_fails (Told (record { kind = Invalid; at = 0 })) (byte 58 q) _ (byte_other 58 q n)
+pair_no_colon limit xs r s q v h t n = before_colon limit xs r s q v h t ∙ bind_fails (Told (record { kind = Invalid; offset = 0 })) (byte 58 q) _ (byte_other 58 q n)
 
 pub pair_behind_colon : (limit : ℕ) (xs r s q p : List ℕ) (v : Tree OneItem) → reads limit OneItem xs ≡ Ok (v, r) → token space r ≡ Ok (s, q) → q ≡ 58 ∷ p → reads limit (OneEntry Pairs) xs ≡ behind_colon limit v s p
 pair_behind_colon limit xs r s q p v h t c = before_colon limit xs r s q v h t ∙ bind_ok (byte 58 q) p _ (byte_there 58 q p c)
@@ -366,7 +366,7 @@ module _ (limit : ℕ) (k : Row) (total : Read (Tree (Rest k))) (ps : List (Tree
     turn_unparted none c = so_far ∙ ap (with_row ps) (rest_unparted limit k xs s q w h none c)
 
     -- nothing between two entries, or no memory for one more
-    pub turn_refused : (e : Fault Refusal) (at : ℕ) → IfTold {X = Unit {0}} (Err e) (λ r. (s ≡ []) × (r ≡ record { kind = Invalid; at = at })) → is_closed q ≡ false → Fails e total
+    pub turn_refused : (e : Fault Refusal) (at : ℕ) → IfTold {X = Unit {0}} (Err e) (λ r. (s ≡ []) × (r ≡ record { kind = Invalid; offset = at })) → is_closed q ≡ false → Fails e total
     turn_refused (Memory m) at h c = tt
     turn_refused (Told r) at h c = turn_unparted h.0 c ∙ ap (λ (x : Refusal). Err x.kind) (sym h.1)
 

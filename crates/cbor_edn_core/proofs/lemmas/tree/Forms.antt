@@ -3,13 +3,13 @@ use Rattle.std.proofs.Common.{◌≡◌, ◌≢◌, ◌⊎◌, inl, inr, Bool, t
 use Rattle.std.specs.Global.{Box}
 use Rattle.cbor_edn_parts.specs.declared.indicator.Indicator.{Indicator}
 use Rattle.cbor_edn_core.specs.declared.tree.CborStringOf.{CborStringOf}
-use Rattle.cbor_edn_model.specs.declared.text.label.Label.{Label}
+use Rattle.cbor_edn_model.specs.declared.text.opener.Opener.{Opener}
 use Rattle.cbor_edn_core.specs.declared.tree.InnerItemOf.{InnerItemOf, roll-InnerItemOf, roll-out-InnerItemOf}
 use Rattle.cbor_edn_core.specs.declared.tree.InnerItemOf.TheBlock.{shown-the_row-CborStringOf-row-3-0}
 use Rattle.cbor_edn_core.specs.declared.tree.InnerItemOf.TheVariants as inner
 use Rattle.cbor_edn_core.specs.declared.tree.InnerItemOf.TheViews.{outs-String', rolls-String}
 use Rattle.cbor_edn_core.specs.declared.tree.ItemListOf.{ItemListOf}
-use Rattle.cbor_edn_model.specs.declared.text.label.LabelKind.TheVariants as label
+use Rattle.cbor_edn_model.specs.declared.text.opener.OpenerKind.TheVariants as opener
 use Rattle.cbor_edn_core.specs.declared.tree.PairListOf.{PairListOf}
 use Rattle.cbor_edn_core.specs.declared.tree.StandaloneItemOf.{StandaloneItemOf}
 use Rattle.cbor_edn_core.specs.declared.tree.StreamOf.{StreamOf, StreamOf'}
@@ -48,8 +48,8 @@ unfolding items
 no_simple (NumberTree x i) differs = absurd (differs refl)
 no_simple (FloatTree f i) differs = refl
 no_simple (NamedTree b) differs = refl
-no_simple (EnclosedTree (label.Tag i n) w) differs = refl
-no_simple (EnclosedTree label.Simple w) differs = refl
+no_simple (EnclosedTree (opener.Tag i n) w) differs = refl
+no_simple (EnclosedTree opener.Simple w) differs = refl
 no_simple (ListTree k w) differs = refl
 no_simple (StringTree w) differs = refl
 no_simple (StreamTree ms m) differs = refl
@@ -63,7 +63,7 @@ module _ {S P M O N T D : Type 0} where
   IsForm Number y = (i : Option Indicator) × (n : N) × (y ≡ inner.Number i n)
   IsForm NonFinite y = (i : Option Indicator) × (f : keyword.NonFinite) × (y ≡ inner.NonFinite i f)
   IsForm Named y = (b : NamedSimple) × (y ≡ inner.Named b)
-  IsForm Enclosed y = (l : Label) × (b : Box (StandaloneItemOf S P M O N T D)) × (y ≡ inner.Enclosed l b)
+  IsForm Enclosed y = (l : Opener) × (b : Box (StandaloneItemOf S P M O N T D)) × (y ≡ inner.Enclosed l b)
   IsForm Array y = (b : Box (ItemListOf S P M O N T D)) × (y ≡ inner.Array b)
   IsForm Map y = (b : Box (PairListOf S P M O N T D)) × (y ≡ inner.Map b)
   IsForm String y = ((i : Option Indicator) × (l : T) × (y ≡ inner.Literal i l)) ⊎ ((b : Box (CborStringOf S P M O N T D)) × (y ≡ inner.String b))

@@ -2,10 +2,10 @@
 use Rattle.std.proofs.Common.{ℕ, suc, max, ◌≡◌, List, [], ◌∷◌, refl, ap, arith}
 use Rattle.cbor_edn_core.specs.declared.tree.nesting.Levels.{Levels}
 use Rattle.cbor_edn_core.specs.declared.tree.nesting.Levels.TheVariants as levels
-use Rattle.cbor_edn_model.specs.declared.text.label.LabelKind.TheVariants as label
+use Rattle.cbor_edn_model.specs.declared.text.opener.OpenerKind.TheVariants as opener
 use Rattle.cbor_edn_model.specs.tree.Items.{Row}
 use Rattle.cbor_edn_model.specs.tree.Rows.{entries_onto, pieces_onto}
-use Rattle.cbor_edn_model.specs.tree.Trees.{Rule, Tree, OneEntry, OnePiece, OneString, Rest, NumberTree, FloatTree, NamedTree, EnclosedTree, ListTree, StringTree, StreamTree, LiteralTree, DotsTree, EmbeddedTree, LastPieceTree, PlusTree, ElementTree, PairTree, ChunkTree, EmptyTree, FullTree, LastTree, MoreTree, NothingTree, SequenceTree, StandaloneTree, tree_nesting}
+use Rattle.cbor_edn_model.specs.tree.Trees.{Rule, Tree, OneEntry, OnePiece, OneString, Rest, NumberTree, FloatTree, NamedTree, EnclosedTree, ListTree, StringTree, StreamTree, LiteralTree, EllipsisTree, EmbeddedTree, LastPieceTree, PlusTree, ElementTree, PairTree, ChunkTree, EmptyTree, FullTree, LastTree, MoreTree, NothingTree, SequenceTree, StandaloneTree, tree_nesting}
 use Rattle.cbor_edn_model.specs.visit.Depth.{depth}
 use Rattle.cbor_edn_core.specs.tree.Nestings.{nesting_by, entries_nesting, pieces_nesting}
 
@@ -13,13 +13,13 @@ pub nesting_read : {s : Rule} (w : Tree s) → nesting_by levels.Read w ≡ tree
 nesting_read (NumberTree x i) = refl
 nesting_read (FloatTree f i) = refl
 nesting_read (NamedTree b) = refl
-nesting_read (EnclosedTree (label.Tag i n) w) = ap suc (nesting_read w)
-nesting_read (EnclosedTree label.Simple w) = ap suc (nesting_read w)
+nesting_read (EnclosedTree (opener.Tag i n) w) = ap suc (nesting_read w)
+nesting_read (EnclosedTree opener.Simple w) = ap suc (nesting_read w)
 nesting_read (ListTree k w) = ap suc (nesting_read w)
 nesting_read (StringTree w) = nesting_read w
 nesting_read (StreamTree ms m) = nesting_read m
 nesting_read (LiteralTree x i) = refl
-nesting_read (DotsTree x) = refl
+nesting_read (EllipsisTree x) = refl
 nesting_read (EmbeddedTree w i) = ap suc (nesting_read w)
 nesting_read (LastPieceTree p) = nesting_read p
 nesting_read (PlusTree p s t w) = rw (nesting_read p, nesting_read w)
@@ -39,13 +39,13 @@ unfolding depth
 nesting_visited (NumberTree x i) = refl
 nesting_visited (FloatTree f i) = refl
 nesting_visited (NamedTree b) = refl
-nesting_visited (EnclosedTree (label.Tag i n) w) = ap suc (nesting_visited w)
-nesting_visited (EnclosedTree label.Simple w) = refl
+nesting_visited (EnclosedTree (opener.Tag i n) w) = ap suc (nesting_visited w)
+nesting_visited (EnclosedTree opener.Simple w) = refl
 nesting_visited (ListTree k w) = ap suc (nesting_visited w)
 nesting_visited (StringTree w) = nesting_visited w
 nesting_visited (StreamTree ms m) = nesting_visited m
 nesting_visited (LiteralTree x i) = refl
-nesting_visited (DotsTree x) = refl
+nesting_visited (EllipsisTree x) = refl
 nesting_visited (EmbeddedTree w i) = ap suc (nesting_visited w)
 nesting_visited (LastPieceTree p) = nesting_visited p
 nesting_visited (PlusTree p s t w) = rw (nesting_visited p, nesting_visited w)

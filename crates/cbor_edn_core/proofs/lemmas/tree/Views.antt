@@ -22,27 +22,27 @@ module _ {S P M O N T D : Type 0} (leaves : Ghosts S P M O N T D) where
   row_is end_of-ItemsOf-row-2 m = refl
   row_is (more_of-ItemsOf-row-2 item separator row) m = ap (λ r. MoreTree (ElementTree (view_inner leaves item)) (leaves.separator separator) r) (row_is row m)
 
-  pub view_items_is : (x : ItemsOf S P M O N T D) → view_items leaves x ≡ row_onto leaves (out-ItemsOf S P M O N T D x).row.items (LastTree (ElementTree (view_item leaves (out-ItemsOf S P M O N T D x).last)) (leaves.end (out-ItemsOf S P M O N T D x).soc))
-  view_items_is (ItemsOf' n row last soc) =
+  pub view_items_is : (x : ItemsOf S P M O N T D) → view_items leaves x ≡ row_onto leaves (out-ItemsOf S P M O N T D x).row.items (LastTree (ElementTree (view_item leaves (out-ItemsOf S P M O N T D x).last)) (leaves.end (out-ItemsOf S P M O N T D x).end))
+  view_items_is (ItemsOf' n row last list_end) =
       row_is row _
-      ∙ ap (λ ps. row_onto leaves ps (LastTree (ElementTree (view_inner leaves last)) (leaves.end soc))) (sym (items_shown-the_row-ItemsOf-row-2-1 S P M O N T D n row))
-      ∙ ap (λ f. row_onto leaves f.row.items (LastTree (ElementTree (view_item leaves f.last)) (leaves.end f.soc))) (sym (outs-ItemsOf' n row last soc))
+      ∙ ap (λ ps. row_onto leaves ps (LastTree (ElementTree (view_inner leaves last)) (leaves.end list_end))) (sym (items_shown-the_row-ItemsOf-row-2-1 S P M O N T D n row))
+      ∙ ap (λ f. row_onto leaves f.row.items (LastTree (ElementTree (view_item leaves f.last)) (leaves.end f.end))) (sym (outs-ItemsOf' n row last list_end))
 
-  pub view_items_made : (f : _) → view_items leaves (roll-ItemsOf S P M O N T D f) ≡ row_onto leaves f.row.items (LastTree (ElementTree (view_item leaves f.last)) (leaves.end f.soc))
-  view_items_made f = view_items_is (roll-ItemsOf S P M O N T D f) ∙ ap (λ f. row_onto leaves f.row.items (LastTree (ElementTree (view_item leaves f.last)) (leaves.end f.soc))) (out-roll-ItemsOf S P M O N T D f)
+  pub view_items_made : (f : _) → view_items leaves (roll-ItemsOf S P M O N T D f) ≡ row_onto leaves f.row.items (LastTree (ElementTree (view_item leaves f.last)) (leaves.end f.end))
+  view_items_made f = view_items_is (roll-ItemsOf S P M O N T D f) ∙ ap (λ f. row_onto leaves f.row.items (LastTree (ElementTree (view_item leaves f.last)) (leaves.end f.end))) (out-roll-ItemsOf S P M O N T D f)
 
   pair_row_is : {n : _} (row : Row_of-PairsOf-row-2 S P M O N T D n) (m : Tree (Rest kind.Pairs)) → view_pair_row leaves row m ≡ pair_row_onto leaves (items-the_row-PairsOf-row-2 S P M O N T D n row) m
   pair_row_is end_of-PairsOf-row-2 m = refl
   pair_row_is (more_of-PairsOf-row-2 key before after value separator row) m = ap (λ r. MoreTree (PairTree (view_inner leaves key) (leaves.space before) (leaves.space after) (view_inner leaves value)) (leaves.separator separator) r) (pair_row_is row m)
 
-  pub view_pairs_is : (x : PairsOf S P M O N T D) → view_pairs leaves x ≡ pair_row_onto leaves (out-PairsOf S P M O N T D x).row.items (LastTree (view_pair leaves (out-PairsOf S P M O N T D x).last) (leaves.end (out-PairsOf S P M O N T D x).soc))
-  view_pairs_is (PairsOf' n row key before after value soc) =
+  pub view_pairs_is : (x : PairsOf S P M O N T D) → view_pairs leaves x ≡ pair_row_onto leaves (out-PairsOf S P M O N T D x).row.items (LastTree (view_pair leaves (out-PairsOf S P M O N T D x).last) (leaves.end (out-PairsOf S P M O N T D x).end))
+  view_pairs_is (PairsOf' n row key before after value list_end) =
       pair_row_is row _
-      ∙ ap (λ ps. pair_row_onto leaves ps (LastTree (PairTree (view_inner leaves key) (leaves.space before) (leaves.space after) (view_inner leaves value)) (leaves.end soc))) (sym (items_shown-the_row-PairsOf-row-2-2 S P M O N T D n row))
-      ∙ ap (λ f. pair_row_onto leaves f.row.items (LastTree (view_pair leaves f.last) (leaves.end f.soc))) (sym (outs-PairsOf' n row key before after value soc))
+      ∙ ap (λ ps. pair_row_onto leaves ps (LastTree (PairTree (view_inner leaves key) (leaves.space before) (leaves.space after) (view_inner leaves value)) (leaves.end list_end))) (sym (items_shown-the_row-PairsOf-row-2-2 S P M O N T D n row))
+      ∙ ap (λ f. pair_row_onto leaves f.row.items (LastTree (view_pair leaves f.last) (leaves.end f.end))) (sym (outs-PairsOf' n row key before after value list_end))
 
-  pub view_pairs_made : (f : _) → view_pairs leaves (roll-PairsOf S P M O N T D f) ≡ pair_row_onto leaves f.row.items (LastTree (view_pair leaves f.last) (leaves.end f.soc))
-  view_pairs_made f = view_pairs_is (roll-PairsOf S P M O N T D f) ∙ ap (λ f. pair_row_onto leaves f.row.items (LastTree (view_pair leaves f.last) (leaves.end f.soc))) (out-roll-PairsOf S P M O N T D f)
+  pub view_pairs_made : (f : _) → view_pairs leaves (roll-PairsOf S P M O N T D f) ≡ pair_row_onto leaves f.row.items (LastTree (view_pair leaves f.last) (leaves.end f.end))
+  view_pairs_made f = view_pairs_is (roll-PairsOf S P M O N T D f) ∙ ap (λ f. pair_row_onto leaves f.row.items (LastTree (view_pair leaves f.last) (leaves.end f.end))) (out-roll-PairsOf S P M O N T D f)
 
   row_pieces : {n : _} (row : Row_of-CborStringOf-row-3 S P M O N T D n) (w : Tree OneString) → view_pieces leaves row w ≡ piece_row_onto leaves (items-the_row-CborStringOf-row-3 S P M O N T D n row) w
   row_pieces end_of-CborStringOf-row-3 w = refl
@@ -64,20 +64,20 @@ module _ {S P M O N T D : Type 0} (leaves : Ghosts S P M O N T D) where
   string_row_is (more_of-StringsOf-row-2 n pieces last separator row) m =
       λ i. MoreTree (ChunkTree (pieces_are pieces _ (LastPieceTree (view_piece leaves last)) (sym (items_shown-the_row-CborStringOf-row-3-0 S P M O N T D n pieces)) i)) (leaves.separator separator) (string_row_is row m i)
 
-  pub view_strings_is : (x : StringsOf S P M O N T D) → view_strings leaves x ≡ string_row_onto leaves (out-StringsOf S P M O N T D x).row.items (LastTree (ChunkTree (view_string leaves (out-StringsOf S P M O N T D x).last)) (leaves.end (out-StringsOf S P M O N T D x).soc))
-  view_strings_is (StringsOf' n row m pieces last soc) =
+  pub view_strings_is : (x : StringsOf S P M O N T D) → view_strings leaves x ≡ string_row_onto leaves (out-StringsOf S P M O N T D x).row.items (LastTree (ChunkTree (view_string leaves (out-StringsOf S P M O N T D x).last)) (leaves.end (out-StringsOf S P M O N T D x).end))
+  view_strings_is (StringsOf' n row m pieces last list_end) =
       string_row_is row _
-      ∙ (λ i. string_row_onto leaves (sym (items_shown-the_row-StringsOf-row-2-3 S P M O N T D n row) i) (LastTree (ChunkTree (pieces_are pieces _ (LastPieceTree (view_piece leaves last)) (sym (items_shown-the_row-CborStringOf-row-3-0 S P M O N T D m pieces)) i)) (leaves.end soc)))
-      ∙ ap (λ f. string_row_onto leaves f.row.items (LastTree (ChunkTree (view_string leaves f.last)) (leaves.end f.soc))) (sym (outs-StringsOf' n row m pieces last soc))
+      ∙ (λ i. string_row_onto leaves (sym (items_shown-the_row-StringsOf-row-2-3 S P M O N T D n row) i) (LastTree (ChunkTree (pieces_are pieces _ (LastPieceTree (view_piece leaves last)) (sym (items_shown-the_row-CborStringOf-row-3-0 S P M O N T D m pieces)) i)) (leaves.end list_end)))
+      ∙ ap (λ f. string_row_onto leaves f.row.items (LastTree (ChunkTree (view_string leaves f.last)) (leaves.end f.end))) (sym (outs-StringsOf' n row m pieces last list_end))
 
-  pub view_strings_made : (f : _) → view_strings leaves (roll-StringsOf S P M O N T D f) ≡ string_row_onto leaves f.row.items (LastTree (ChunkTree (view_string leaves f.last)) (leaves.end f.soc))
-  view_strings_made f = view_strings_is (roll-StringsOf S P M O N T D f) ∙ ap (λ f. string_row_onto leaves f.row.items (LastTree (ChunkTree (view_string leaves f.last)) (leaves.end f.soc))) (out-roll-StringsOf S P M O N T D f)
+  pub view_strings_made : (f : _) → view_strings leaves (roll-StringsOf S P M O N T D f) ≡ string_row_onto leaves f.row.items (LastTree (ChunkTree (view_string leaves f.last)) (leaves.end f.end))
+  view_strings_made f = view_strings_is (roll-StringsOf S P M O N T D f) ∙ ap (λ f. string_row_onto leaves f.row.items (LastTree (ChunkTree (view_string leaves f.last)) (leaves.end f.end))) (out-roll-StringsOf S P M O N T D f)
 
-  pub view_stream_is : (x : StreamOf S P M O N T D) → view_stream leaves x ≡ StreamTree (leaves.mandatory (out-StreamOf S P M O N T D x).ms) (view_strings leaves (out-StreamOf S P M O N T D x).strings)
-  view_stream_is (StreamOf' ms strings) = ap (λ f. StreamTree (leaves.mandatory f.ms) (view_strings leaves f.strings)) (sym (outs-StreamOf' ms strings))
+  pub view_stream_is : (x : StreamOf S P M O N T D) → view_stream leaves x ≡ StreamTree (leaves.mandatory (out-StreamOf S P M O N T D x).space) (view_strings leaves (out-StreamOf S P M O N T D x).strings)
+  view_stream_is (StreamOf' ms strings) = ap (λ f. StreamTree (leaves.mandatory f.space) (view_strings leaves f.strings)) (sym (outs-StreamOf' ms strings))
 
-  pub view_stream_made : (f : _) → view_stream leaves (roll-StreamOf S P M O N T D f) ≡ StreamTree (leaves.mandatory f.ms) (view_strings leaves f.strings)
-  view_stream_made f = view_stream_is (roll-StreamOf S P M O N T D f) ∙ ap (λ f. StreamTree (leaves.mandatory f.ms) (view_strings leaves f.strings)) (out-roll-StreamOf S P M O N T D f)
+  pub view_stream_made : (f : _) → view_stream leaves (roll-StreamOf S P M O N T D f) ≡ StreamTree (leaves.mandatory f.space) (view_strings leaves f.strings)
+  view_stream_made f = view_stream_is (roll-StreamOf S P M O N T D f) ∙ ap (λ f. StreamTree (leaves.mandatory f.space) (view_strings leaves f.strings)) (out-roll-StreamOf S P M O N T D f)
 
   held_is : (s : List ℕ) (x : Held-SequenceOf-items S P M O N T D) → view_held leaves s x ≡ view_some leaves s (view-SequenceOf-items S P M O N T D x)
   held_is s sequence.None' = refl

@@ -5,18 +5,18 @@ use Rattle.cbor_edn_model.specs.tree.Trees.{Tree, OneItem, ElementTree, LastTree
 use Rattle.cbor_edn_model.specs.visit.Visits.{Answer, fine, no_memory, answered, cut, Call, VisitElement, called, refused}
 use Rattle.cbor_edn_model.specs.visit.Visits.{Ending, whole, VisitEntries, VisitInside, VisitArray, elements, last, KeyCall, Handler, no_handler, dropped, spent, VisitPair, passed_over, handled, refused_at_key, refused_at_value, VisitMap, pairs}
 use Rattle.cbor_edn_model.specs.internal.Visiting.{VisitFront}
-use Rattle.cbor_edn_parts.specs.Leaves.{soc_bytes}
+use Rattle.cbor_edn_parts.specs.Leaves.{list_end_bytes}
 use Rattle.std.proofs.lemmas.List.Elements.{Contains-append_left, Contains-append_right}
 use Rattle.std.specs.List.{Contains}
 use Rattle.std.specs.Global.{Box}
 use Rattle.std.proofs.Common.{Option, None, Some, [], ◌∷◌, ◌++◌, map, ap, ◌∙◌, arith}
-use Rattle.cbor_edn_parts.specs.declared.space.S.{S}
-use Rattle.cbor_edn_parts.specs.declared.space.Ms.{Ms}
-use Rattle.cbor_edn_parts.specs.declared.space.Msc.{Msc}
-use Rattle.cbor_edn_parts.specs.declared.space.Soc.{Soc}
+use Rattle.cbor_edn_parts.specs.declared.space.Space.{Space}
+use Rattle.cbor_edn_parts.specs.declared.space.MandatorySpace.{MandatorySpace}
+use Rattle.cbor_edn_parts.specs.declared.space.Separator.{Separator}
+use Rattle.cbor_edn_parts.specs.declared.space.ListEnd.{ListEnd}
 use Rattle.cbor_edn_parts.specs.declared.number.Number.{Number}
 use Rattle.cbor_edn_parts.specs.declared.string.Literal.{Literal}
-use Rattle.cbor_edn_parts.specs.declared.string.Dots.{Dots}
+use Rattle.cbor_edn_parts.specs.declared.string.Ellipsis.{Ellipsis}
 use Rattle.cbor_edn_model.specs.access.Accessed.{array_items, map_items, element, key, entries}
 use Rattle.cbor_edn_model.specs.tree.TreeLeaves.{Ghosts, texts}
 use Rattle.cbor_edn_core.specs.declared.tree.InnerItemOf.{InnerItemOf}
@@ -26,7 +26,7 @@ use Rattle.cbor_edn_core.specs.declared.tree.ItemsOf.{ItemsOf, out-ItemsOf, roll
 use Rattle.cbor_edn_core.specs.declared.tree.PairListOf.{PairListOf}
 use Rattle.cbor_edn_core.specs.declared.tree.PairsOf.{PairsOf, out-PairsOf, roll-PairsOf}
 use Rattle.cbor_edn_core.specs.declared.tree.StreamOf.{StreamOf'}
-use Rattle.cbor_edn_core.specs.tree.View.{Item, Kp, item_tree, row_item, row_key, row_onto, pair_row_onto, seen, seen_pair, view_inner, view_items, view_list, view_pair, view_pairs, view_pair_list}
+use Rattle.cbor_edn_core.specs.tree.View.{Item, Pair, item_tree, row_item, row_key, row_onto, pair_row_onto, seen, seen_pair, view_inner, view_items, view_list, view_pair, view_pairs, view_pair_list}
 use Rattle.cbor_edn_core.proofs.lemmas.tree.Views.{view_items_is, view_items_made, view_pairs_is, view_pairs_made}
 use Rattle.cbor_edn_core.specs.visit.Callbacks.{Callback, MayVisit, ending, Handles, Spends, none, drops}
 
@@ -44,89 +44,89 @@ pub narrowed : {T R F C : Type 0} {look : T → Tree OneItem} {callback : Callba
     → MayVisit look callback Step before ws f → ((w : Tree OneItem) → Contains vs w → Contains ws w) → MayVisit look callback Step before vs f
 narrowed ws vs may inside = record { at = λ cs g chain all w here. may.at cs g chain (λ k d h. inside _ (all k d h)) w (inside w here) }
 
-elements_row : (ps : List (Item × Msc)) (w : Tree OneItem) (s : List ℕ) → map element (entries (row_onto texts ps (LastTree (ElementTree w) s))) ≡ map row_item ps ++ w ∷ []
+elements_row : (ps : List (Item × Separator)) (w : Tree OneItem) (s : List ℕ) → map element (entries (row_onto texts ps (LastTree (ElementTree w) s))) ≡ map row_item ps ++ w ∷ []
 elements_row [] w s = refl
 elements_row (p ∷ ps) w s = ap (λ ws. row_item p ∷ ws) (elements_row ps w s)
 
 -- the elements of a row and its last one
-pub elements_are : (x : ItemsOf S Ms Msc Soc Number Literal Dots) → map element (entries (view_items texts x)) ≡ map row_item (out-ItemsOf S Ms Msc Soc Number Literal Dots x).row.items ++ item_tree (out-ItemsOf S Ms Msc Soc Number Literal Dots x).last ∷ []
+pub elements_are : (x : ItemsOf Space MandatorySpace Separator ListEnd Number Literal Ellipsis) → map element (entries (view_items texts x)) ≡ map row_item (out-ItemsOf Space MandatorySpace Separator ListEnd Number Literal Ellipsis x).row.items ++ item_tree (out-ItemsOf Space MandatorySpace Separator ListEnd Number Literal Ellipsis x).last ∷ []
 elements_are x = ap (λ m. map element (entries m)) (view_items_is texts x) ∙ elements_row _ _ _
 
-pub row_inside : (x : ItemsOf S Ms Msc Soc Number Literal Dots) (w : Tree OneItem) → Contains (map row_item (out-ItemsOf S Ms Msc Soc Number Literal Dots x).row.items) w → Contains (map element (entries (view_items texts x))) w
+pub row_inside : (x : ItemsOf Space MandatorySpace Separator ListEnd Number Literal Ellipsis) (w : Tree OneItem) → Contains (map row_item (out-ItemsOf Space MandatorySpace Separator ListEnd Number Literal Ellipsis x).row.items) w → Contains (map element (entries (view_items texts x))) w
 row_inside x w h = subst (λ ws. Contains ws w) (sym (elements_are x)) (Contains-append_left _ _ w h)
 
-pub last_inside : (x : ItemsOf S Ms Msc Soc Number Literal Dots) → Contains (map element (entries (view_items texts x))) (item_tree (out-ItemsOf S Ms Msc Soc Number Literal Dots x).last)
+pub last_inside : (x : ItemsOf Space MandatorySpace Separator ListEnd Number Literal Ellipsis) → Contains (map element (entries (view_items texts x))) (item_tree (out-ItemsOf Space MandatorySpace Separator ListEnd Number Literal Ellipsis x).last)
 last_inside x =
-    let w = item_tree (out-ItemsOf S Ms Msc Soc Number Literal Dots x).last in
-    subst (λ ws. Contains ws w) (sym (elements_are x)) (Contains-append_right (map row_item (out-ItemsOf S Ms Msc Soc Number Literal Dots x).row.items) (w ∷ []) w (0, omega arith, refl))
+    let w = item_tree (out-ItemsOf Space MandatorySpace Separator ListEnd Number Literal Ellipsis x).last in
+    subst (λ ws. Contains ws w) (sym (elements_are x)) (Contains-append_right (map row_item (out-ItemsOf Space MandatorySpace Separator ListEnd Number Literal Ellipsis x).row.items) (w ∷ []) w (0, omega arith, refl))
 
 -- the visit stops in the row
-pub items_cut : (x y : ItemsOf S Ms Msc Soc Number Literal Dots) (f : _) (cs : List Call) → y ≡ roll-ItemsOf S Ms Msc Soc Number Literal Dots f → f.last ≡ (out-ItemsOf S Ms Msc Soc Number Literal Dots x).last → f.soc ≡ (out-ItemsOf S Ms Msc Soc Number Literal Dots x).soc
-    → VisitFront VisitElement (map (seen texts) (out-ItemsOf S Ms Msc Soc Number Literal Dots x).row.items) cs (map (seen texts) f.row.items) cut
+pub items_cut : (x y : ItemsOf Space MandatorySpace Separator ListEnd Number Literal Ellipsis) (f : _) (cs : List Call) → y ≡ roll-ItemsOf Space MandatorySpace Separator ListEnd Number Literal Ellipsis f → f.last ≡ (out-ItemsOf Space MandatorySpace Separator ListEnd Number Literal Ellipsis x).last → f.end ≡ (out-ItemsOf Space MandatorySpace Separator ListEnd Number Literal Ellipsis x).end
+    → VisitFront VisitElement (map (seen texts) (out-ItemsOf Space MandatorySpace Separator ListEnd Number Literal Ellipsis x).row.items) cs (map (seen texts) f.row.items) cut
     → VisitEntries VisitElement (view_items texts x) cs (view_items texts y) cut
-items_cut x y f cs is same_last same_soc v =
-    let left : view_items texts y ≡ row_onto texts f.row.items (LastTree (ElementTree (item_tree (out-ItemsOf S Ms Msc Soc Number Literal Dots x).last)) (soc_bytes (out-ItemsOf S Ms Msc Soc Number Literal Dots x).soc)) =
-    ap (view_items texts) is ∙ view_items_made texts f ∙ (λ i. row_onto texts f.row.items (LastTree (ElementTree (item_tree (same_last i))) (soc_bytes (same_soc i)))) in
+items_cut x y f cs is same_last same_list_end v =
+    let left : view_items texts y ≡ row_onto texts f.row.items (LastTree (ElementTree (item_tree (out-ItemsOf Space MandatorySpace Separator ListEnd Number Literal Ellipsis x).last)) (list_end_bytes (out-ItemsOf Space MandatorySpace Separator ListEnd Number Literal Ellipsis x).end)) =
+    ap (view_items texts) is ∙ view_items_made texts f ∙ (λ i. row_onto texts f.row.items (LastTree (ElementTree (item_tree (same_last i))) (list_end_bytes (same_list_end i)))) in
     rw (view_items_is texts x, left) (v _)
 
 -- it goes on to the last element
-pub items_visited : (x p y : ItemsOf S Ms Msc Soc Number Literal Dots) (item : Item) (soc : Soc) (cs : List Call) (c : Call) (r : Ending) → y ≡ roll-ItemsOf S Ms Msc Soc Number Literal Dots (record { row = (out-ItemsOf S Ms Msc Soc Number Literal Dots p).row; last = item; soc = soc })
-    → (out-ItemsOf S Ms Msc Soc Number Literal Dots p).last ≡ (out-ItemsOf S Ms Msc Soc Number Literal Dots x).last → (out-ItemsOf S Ms Msc Soc Number Literal Dots p).soc ≡ (out-ItemsOf S Ms Msc Soc Number Literal Dots x).soc
-    → VisitFront VisitElement (map (seen texts) (out-ItemsOf S Ms Msc Soc Number Literal Dots x).row.items) cs (map (seen texts) (out-ItemsOf S Ms Msc Soc Number Literal Dots p).row.items) whole
-    → VisitElement (ElementTree (item_tree (out-ItemsOf S Ms Msc Soc Number Literal Dots p).last)) (soc_bytes (out-ItemsOf S Ms Msc Soc Number Literal Dots p).soc) c (ElementTree (item_tree item)) (soc_bytes soc) r
+pub items_visited : (x p y : ItemsOf Space MandatorySpace Separator ListEnd Number Literal Ellipsis) (item : Item) (list_end : ListEnd) (cs : List Call) (c : Call) (r : Ending) → y ≡ roll-ItemsOf Space MandatorySpace Separator ListEnd Number Literal Ellipsis (record { row = (out-ItemsOf Space MandatorySpace Separator ListEnd Number Literal Ellipsis p).row; last = item; end = list_end })
+    → (out-ItemsOf Space MandatorySpace Separator ListEnd Number Literal Ellipsis p).last ≡ (out-ItemsOf Space MandatorySpace Separator ListEnd Number Literal Ellipsis x).last → (out-ItemsOf Space MandatorySpace Separator ListEnd Number Literal Ellipsis p).end ≡ (out-ItemsOf Space MandatorySpace Separator ListEnd Number Literal Ellipsis x).end
+    → VisitFront VisitElement (map (seen texts) (out-ItemsOf Space MandatorySpace Separator ListEnd Number Literal Ellipsis x).row.items) cs (map (seen texts) (out-ItemsOf Space MandatorySpace Separator ListEnd Number Literal Ellipsis p).row.items) whole
+    → VisitElement (ElementTree (item_tree (out-ItemsOf Space MandatorySpace Separator ListEnd Number Literal Ellipsis p).last)) (list_end_bytes (out-ItemsOf Space MandatorySpace Separator ListEnd Number Literal Ellipsis p).end) c (ElementTree (item_tree item)) (list_end_bytes list_end) r
     → VisitEntries VisitElement (view_items texts x) (cs ++ c ∷ []) (view_items texts y) r
-items_visited x p y item soc cs c r is same_last same_soc v w =
-    let o = out-ItemsOf S Ms Msc Soc Number Literal Dots x in
-    let left : view_items texts y ≡ row_onto texts (out-ItemsOf S Ms Msc Soc Number Literal Dots p).row.items (LastTree (ElementTree (item_tree item)) (soc_bytes soc)) = ap (view_items texts) is ∙ view_items_made texts (record { row = (out-ItemsOf S Ms Msc Soc Number Literal Dots p).row; last = item; soc = soc }) in
-    let there : VisitElement (ElementTree (item_tree o.last)) (soc_bytes o.soc) c (ElementTree (item_tree item)) (soc_bytes soc) r = rw (← same_last, ← same_soc) w in
+items_visited x p y item list_end cs c r is same_last same_list_end v w =
+    let o = out-ItemsOf Space MandatorySpace Separator ListEnd Number Literal Ellipsis x in
+    let left : view_items texts y ≡ row_onto texts (out-ItemsOf Space MandatorySpace Separator ListEnd Number Literal Ellipsis p).row.items (LastTree (ElementTree (item_tree item)) (list_end_bytes list_end)) = ap (view_items texts) is ∙ view_items_made texts (record { row = (out-ItemsOf Space MandatorySpace Separator ListEnd Number Literal Ellipsis p).row; last = item; end = list_end }) in
+    let there : VisitElement (ElementTree (item_tree o.last)) (list_end_bytes o.end) c (ElementTree (item_tree item)) (list_end_bytes list_end) r = rw (← same_last, ← same_list_end) w in
     rw (view_items_is texts x, left) (v _ _ (c ∷ []) r (last there))
 
 -- the array of a visited list
-pub array_visited : (x y : InnerItemOf S Ms Msc Soc Number Literal Dots) (b d : Box (ItemListOf S Ms Msc Soc Number Literal Dots)) (l : ItemListOf S Ms Msc Soc Number Literal Dots) (cs : List Call) (r : Ending) → x ≡ inner.Array b → l ≡ b.value → y ≡ inner.Array d
+pub array_visited : (x y : InnerItemOf Space MandatorySpace Separator ListEnd Number Literal Ellipsis) (b d : Box (ItemListOf Space MandatorySpace Separator ListEnd Number Literal Ellipsis)) (l : ItemListOf Space MandatorySpace Separator ListEnd Number Literal Ellipsis) (cs : List Call) (r : Ending) → x ≡ inner.Array b → l ≡ b.value → y ≡ inner.Array d
     → VisitInside VisitElement (view_list texts l) cs (view_list texts d.value) r → VisitArray (view_inner texts x) cs (view_inner texts y) r
 array_visited x y b d l cs r is read made v = rw (is, made, ← read) (elements v)
 
 -- ---- the same of pairs
 
-keys_row : (ps : List (Kp × Msc)) (w : Kp) (s : List ℕ) → map key (entries (pair_row_onto texts ps (LastTree (view_pair texts w) s))) ≡ map row_key ps ++ item_tree w.key ∷ []
+keys_row : (ps : List (Pair × Separator)) (w : Pair) (s : List ℕ) → map key (entries (pair_row_onto texts ps (LastTree (view_pair texts w) s))) ≡ map row_key ps ++ item_tree w.key ∷ []
 keys_row [] w s = refl
 keys_row (p ∷ ps) w s = ap (λ ws. row_key p ∷ ws) (keys_row ps w s)
 
 -- the keys of a row and its last one
-pub keys_are : (x : PairsOf S Ms Msc Soc Number Literal Dots) → map key (entries (view_pairs texts x)) ≡ map row_key (out-PairsOf S Ms Msc Soc Number Literal Dots x).row.items ++ item_tree (out-PairsOf S Ms Msc Soc Number Literal Dots x).last.key ∷ []
-keys_are x = let o = out-PairsOf S Ms Msc Soc Number Literal Dots x in ap (λ m. map key (entries m)) (view_pairs_is texts x) ∙ keys_row o.row.items o.last (soc_bytes o.soc)
+pub keys_are : (x : PairsOf Space MandatorySpace Separator ListEnd Number Literal Ellipsis) → map key (entries (view_pairs texts x)) ≡ map row_key (out-PairsOf Space MandatorySpace Separator ListEnd Number Literal Ellipsis x).row.items ++ item_tree (out-PairsOf Space MandatorySpace Separator ListEnd Number Literal Ellipsis x).last.key ∷ []
+keys_are x = let o = out-PairsOf Space MandatorySpace Separator ListEnd Number Literal Ellipsis x in ap (λ m. map key (entries m)) (view_pairs_is texts x) ∙ keys_row o.row.items o.last (list_end_bytes o.end)
 
-pub key_inside : (x : PairsOf S Ms Msc Soc Number Literal Dots) (w : Tree OneItem) → Contains (map row_key (out-PairsOf S Ms Msc Soc Number Literal Dots x).row.items) w → Contains (map key (entries (view_pairs texts x))) w
+pub key_inside : (x : PairsOf Space MandatorySpace Separator ListEnd Number Literal Ellipsis) (w : Tree OneItem) → Contains (map row_key (out-PairsOf Space MandatorySpace Separator ListEnd Number Literal Ellipsis x).row.items) w → Contains (map key (entries (view_pairs texts x))) w
 key_inside x w h = subst (λ ws. Contains ws w) (sym (keys_are x)) (Contains-append_left _ _ w h)
 
-pub last_key_inside : (x : PairsOf S Ms Msc Soc Number Literal Dots) → Contains (map key (entries (view_pairs texts x))) (item_tree (out-PairsOf S Ms Msc Soc Number Literal Dots x).last.key)
+pub last_key_inside : (x : PairsOf Space MandatorySpace Separator ListEnd Number Literal Ellipsis) → Contains (map key (entries (view_pairs texts x))) (item_tree (out-PairsOf Space MandatorySpace Separator ListEnd Number Literal Ellipsis x).last.key)
 last_key_inside x =
-    let w = item_tree (out-PairsOf S Ms Msc Soc Number Literal Dots x).last.key in
-    subst (λ ws. Contains ws w) (sym (keys_are x)) (Contains-append_right (map row_key (out-PairsOf S Ms Msc Soc Number Literal Dots x).row.items) (w ∷ []) w (0, omega arith, refl))
+    let w = item_tree (out-PairsOf Space MandatorySpace Separator ListEnd Number Literal Ellipsis x).last.key in
+    subst (λ ws. Contains ws w) (sym (keys_are x)) (Contains-append_right (map row_key (out-PairsOf Space MandatorySpace Separator ListEnd Number Literal Ellipsis x).row.items) (w ∷ []) w (0, omega arith, refl))
 
 -- the visit stops in the row
-pub pairs_cut : (x y : PairsOf S Ms Msc Soc Number Literal Dots) (f : _) (cs : List KeyCall) → y ≡ roll-PairsOf S Ms Msc Soc Number Literal Dots f → f.last ≡ (out-PairsOf S Ms Msc Soc Number Literal Dots x).last → f.soc ≡ (out-PairsOf S Ms Msc Soc Number Literal Dots x).soc
-    → VisitFront VisitPair (map (seen_pair texts) (out-PairsOf S Ms Msc Soc Number Literal Dots x).row.items) cs (map (seen_pair texts) f.row.items) cut
+pub pairs_cut : (x y : PairsOf Space MandatorySpace Separator ListEnd Number Literal Ellipsis) (f : _) (cs : List KeyCall) → y ≡ roll-PairsOf Space MandatorySpace Separator ListEnd Number Literal Ellipsis f → f.last ≡ (out-PairsOf Space MandatorySpace Separator ListEnd Number Literal Ellipsis x).last → f.end ≡ (out-PairsOf Space MandatorySpace Separator ListEnd Number Literal Ellipsis x).end
+    → VisitFront VisitPair (map (seen_pair texts) (out-PairsOf Space MandatorySpace Separator ListEnd Number Literal Ellipsis x).row.items) cs (map (seen_pair texts) f.row.items) cut
     → VisitEntries VisitPair (view_pairs texts x) cs (view_pairs texts y) cut
-pairs_cut x y f cs is same_last same_soc v =
-    let left : view_pairs texts y ≡ pair_row_onto texts f.row.items (LastTree (view_pair texts (out-PairsOf S Ms Msc Soc Number Literal Dots x).last) (soc_bytes (out-PairsOf S Ms Msc Soc Number Literal Dots x).soc)) =
-    ap (view_pairs texts) is ∙ view_pairs_made texts f ∙ (λ i. pair_row_onto texts f.row.items (LastTree (view_pair texts (same_last i)) (soc_bytes (same_soc i)))) in
+pairs_cut x y f cs is same_last same_list_end v =
+    let left : view_pairs texts y ≡ pair_row_onto texts f.row.items (LastTree (view_pair texts (out-PairsOf Space MandatorySpace Separator ListEnd Number Literal Ellipsis x).last) (list_end_bytes (out-PairsOf Space MandatorySpace Separator ListEnd Number Literal Ellipsis x).end)) =
+    ap (view_pairs texts) is ∙ view_pairs_made texts f ∙ (λ i. pair_row_onto texts f.row.items (LastTree (view_pair texts (same_last i)) (list_end_bytes (same_list_end i)))) in
     rw (view_pairs_is texts x, left) (v _)
 
 -- it goes on to the last pair
-pub pairs_visited : (x p y : PairsOf S Ms Msc Soc Number Literal Dots) (item : Kp) (soc : Soc) (cs : List KeyCall) (c : KeyCall) (r : Ending) → y ≡ roll-PairsOf S Ms Msc Soc Number Literal Dots (record { row = (out-PairsOf S Ms Msc Soc Number Literal Dots p).row; last = item; soc = soc })
-    → (out-PairsOf S Ms Msc Soc Number Literal Dots p).last ≡ (out-PairsOf S Ms Msc Soc Number Literal Dots x).last → (out-PairsOf S Ms Msc Soc Number Literal Dots p).soc ≡ (out-PairsOf S Ms Msc Soc Number Literal Dots x).soc
-    → VisitFront VisitPair (map (seen_pair texts) (out-PairsOf S Ms Msc Soc Number Literal Dots x).row.items) cs (map (seen_pair texts) (out-PairsOf S Ms Msc Soc Number Literal Dots p).row.items) whole
-    → VisitPair (view_pair texts (out-PairsOf S Ms Msc Soc Number Literal Dots p).last) (soc_bytes (out-PairsOf S Ms Msc Soc Number Literal Dots p).soc) c (view_pair texts item) (soc_bytes soc) r
+pub pairs_visited : (x p y : PairsOf Space MandatorySpace Separator ListEnd Number Literal Ellipsis) (item : Pair) (list_end : ListEnd) (cs : List KeyCall) (c : KeyCall) (r : Ending) → y ≡ roll-PairsOf Space MandatorySpace Separator ListEnd Number Literal Ellipsis (record { row = (out-PairsOf Space MandatorySpace Separator ListEnd Number Literal Ellipsis p).row; last = item; end = list_end })
+    → (out-PairsOf Space MandatorySpace Separator ListEnd Number Literal Ellipsis p).last ≡ (out-PairsOf Space MandatorySpace Separator ListEnd Number Literal Ellipsis x).last → (out-PairsOf Space MandatorySpace Separator ListEnd Number Literal Ellipsis p).end ≡ (out-PairsOf Space MandatorySpace Separator ListEnd Number Literal Ellipsis x).end
+    → VisitFront VisitPair (map (seen_pair texts) (out-PairsOf Space MandatorySpace Separator ListEnd Number Literal Ellipsis x).row.items) cs (map (seen_pair texts) (out-PairsOf Space MandatorySpace Separator ListEnd Number Literal Ellipsis p).row.items) whole
+    → VisitPair (view_pair texts (out-PairsOf Space MandatorySpace Separator ListEnd Number Literal Ellipsis p).last) (list_end_bytes (out-PairsOf Space MandatorySpace Separator ListEnd Number Literal Ellipsis p).end) c (view_pair texts item) (list_end_bytes list_end) r
     → VisitEntries VisitPair (view_pairs texts x) (cs ++ c ∷ []) (view_pairs texts y) r
-pairs_visited x p y item soc cs c r is same_last same_soc v w =
-    let o = out-PairsOf S Ms Msc Soc Number Literal Dots x in
-    let left : view_pairs texts y ≡ pair_row_onto texts (out-PairsOf S Ms Msc Soc Number Literal Dots p).row.items (LastTree (view_pair texts item) (soc_bytes soc)) = ap (view_pairs texts) is ∙ view_pairs_made texts (record { row = (out-PairsOf S Ms Msc Soc Number Literal Dots p).row; last = item; soc = soc }) in
-    let there : VisitPair (view_pair texts o.last) (soc_bytes o.soc) c (view_pair texts item) (soc_bytes soc) r = rw (← same_last, ← same_soc) w in
+pairs_visited x p y item list_end cs c r is same_last same_list_end v w =
+    let o = out-PairsOf Space MandatorySpace Separator ListEnd Number Literal Ellipsis x in
+    let left : view_pairs texts y ≡ pair_row_onto texts (out-PairsOf Space MandatorySpace Separator ListEnd Number Literal Ellipsis p).row.items (LastTree (view_pair texts item) (list_end_bytes list_end)) = ap (view_pairs texts) is ∙ view_pairs_made texts (record { row = (out-PairsOf Space MandatorySpace Separator ListEnd Number Literal Ellipsis p).row; last = item; end = list_end }) in
+    let there : VisitPair (view_pair texts o.last) (list_end_bytes o.end) c (view_pair texts item) (list_end_bytes list_end) r = rw (← same_last, ← same_list_end) w in
     rw (view_pairs_is texts x, left) (v _ _ (c ∷ []) r (last there))
 
 -- the map of a visited list
-pub map_visited : (x y : InnerItemOf S Ms Msc Soc Number Literal Dots) (b d : Box (PairListOf S Ms Msc Soc Number Literal Dots)) (l : PairListOf S Ms Msc Soc Number Literal Dots) (cs : List KeyCall) (r : Ending) → x ≡ inner.Map b → l ≡ b.value → y ≡ inner.Map d
+pub map_visited : (x y : InnerItemOf Space MandatorySpace Separator ListEnd Number Literal Ellipsis) (b d : Box (PairListOf Space MandatorySpace Separator ListEnd Number Literal Ellipsis)) (l : PairListOf Space MandatorySpace Separator ListEnd Number Literal Ellipsis) (cs : List KeyCall) (r : Ending) → x ≡ inner.Map b → l ≡ b.value → y ≡ inner.Map d
     → VisitInside VisitPair (view_pair_list texts l) cs (view_pair_list texts d.value) r → VisitMap (view_inner texts x) cs (view_inner texts y) r
 map_visited x y b d l cs r is read made v = rw (is, made, ← read) (pairs v)
 

@@ -10,12 +10,12 @@ use Rattle.cbor_edn_model.specs.tree.Items.{Row}
 use Rattle.cbor_edn_model.specs.tree.TreeLeaves.{Ghosts}
 use Rattle.cbor_edn_model.specs.text.ListHeads.{view_list_head}
 use Rattle.cbor_edn_model.specs.tree.Rows.{entries_onto, pieces_onto}
-use Rattle.cbor_edn_model.specs.visit.Seeking.{CallArguments, SoughtCall, VisitItem, VisitParts, of_number, of_float, of_name, of_tag, of_simple, of_list, of_string, of_stream, of_literal, of_last_piece, of_dots, of_embedded, of_pieces, of_pieces_cut, of_none_inside, of_all_inside, of_last, of_more, of_more_cut, of_nothing, of_sequence, VisitEntry, of_element, of_pair, of_pair_cut, of_chunk}
+use Rattle.cbor_edn_model.specs.visit.Seeking.{CallArguments, SoughtCall, VisitItem, VisitParts, of_number, of_float, of_name, of_tag, of_simple, of_list, of_string, of_stream, of_literal, of_last_piece, of_ellipsis, of_embedded, of_pieces, of_pieces_cut, of_none_inside, of_all_inside, of_last, of_more, of_more_cut, of_nothing, of_sequence, VisitEntry, of_element, of_pair, of_pair_cut, of_chunk}
 use Rattle.cbor_edn_model.specs.tree.Trees.{Rule, Tree, OneItem, OnePiece, OneString, OneEntry, Rest, Standalone, Seq, ListTree, EnclosedTree, EmbeddedTree, LastPieceTree, PlusTree, ElementTree, PairTree, ChunkTree, FullTree, LastTree, MoreTree}
 use Rattle.cbor_edn_model.specs.visit.Visits.{Ending, whole, cut}
-use Rattle.cbor_edn_model.specs.declared.text.label.Label.{Label}
-use Rattle.cbor_edn_model.specs.declared.text.label.LabelKind.{LabelKind}
-use Rattle.cbor_edn_model.specs.declared.text.label.LabelKind.TheVariants as label
+use Rattle.cbor_edn_model.specs.declared.text.opener.Opener.{Opener}
+use Rattle.cbor_edn_model.specs.declared.text.opener.OpenerKind.{OpenerKind}
+use Rattle.cbor_edn_model.specs.declared.text.opener.OpenerKind.TheVariants as opener
 use Rattle.cbor_edn_model.specs.internal.Depths.{entries_depth, pieces_depth}
 use Rattle.cbor_edn_model.specs.internal.Reaching.{Reaches, VisitIf, VisitKey, of_key, SoughtFront, SoughtPieces}
 use Rattle.cbor_edn_model.proofs.lemmas.visit.RowDepths.{depth_entries, depth_pieces}
@@ -26,7 +26,7 @@ use Rattle.cbor_edn_core.specs.declared.tree.ItemOf.{ItemOf}
 use Rattle.cbor_edn_core.specs.declared.tree.ItemListOf.{ItemListOf}
 use Rattle.cbor_edn_core.specs.declared.tree.ItemListOf.TheVariants as item_list
 use Rattle.cbor_edn_core.specs.declared.tree.ItemsOf.{ItemsOf, out-ItemsOf, roll-ItemsOf, out-roll-ItemsOf}
-use Rattle.cbor_edn_core.specs.declared.tree.KpOf.{KpOf}
+use Rattle.cbor_edn_core.specs.declared.tree.PairOf.{PairOf}
 use Rattle.cbor_edn_core.specs.declared.tree.PairListOf.{PairListOf}
 use Rattle.cbor_edn_core.specs.declared.tree.PairListOf.TheVariants as pair_list
 use Rattle.cbor_edn_core.specs.declared.tree.PairsOf.{PairsOf, out-PairsOf, roll-PairsOf, out-roll-PairsOf}
@@ -45,72 +45,72 @@ use Rattle.cbor_edn_core.proofs.lemmas.tree.Views.{view_items_is, view_items_mad
 module _ {O M C E N L D : Type 0} where
   module _ (x : ItemsOf O M C E N L D) (row : Vec (ItemOf O M C E N L D × C) Global) where
     abbrev pub items_rowed : ItemsOf O M C E N L D
-    items_rowed = roll-ItemsOf O M C E N L D (record { row = row; last = (out-ItemsOf O M C E N L D x).last; soc = (out-ItemsOf O M C E N L D x).soc })
+    items_rowed = roll-ItemsOf O M C E N L D (record { row = row; last = (out-ItemsOf O M C E N L D x).last; end = (out-ItemsOf O M C E N L D x).end })
 
-    items_rowed_out : out-ItemsOf O M C E N L D items_rowed ≡ record { row = row; last = (out-ItemsOf O M C E N L D x).last; soc = (out-ItemsOf O M C E N L D x).soc }
-    items_rowed_out = out-roll-ItemsOf O M C E N L D (record { row = row; last = (out-ItemsOf O M C E N L D x).last; soc = (out-ItemsOf O M C E N L D x).soc })
+    items_rowed_out : out-ItemsOf O M C E N L D items_rowed ≡ record { row = row; last = (out-ItemsOf O M C E N L D x).last; end = (out-ItemsOf O M C E N L D x).end }
+    items_rowed_out = out-roll-ItemsOf O M C E N L D (record { row = row; last = (out-ItemsOf O M C E N L D x).last; end = (out-ItemsOf O M C E N L D x).end })
 
     items_rowed_last : (out-ItemsOf O M C E N L D items_rowed).last ≡ (out-ItemsOf O M C E N L D x).last
     items_rowed_last = ap (λ f. f.last) items_rowed_out
 
-    items_rowed_soc : (out-ItemsOf O M C E N L D items_rowed).soc ≡ (out-ItemsOf O M C E N L D x).soc
-    items_rowed_soc = ap (λ f. f.soc) items_rowed_out
+    items_rowed_end : (out-ItemsOf O M C E N L D items_rowed).end ≡ (out-ItemsOf O M C E N L D x).end
+    items_rowed_end = ap (λ f. f.end) items_rowed_out
 
     module _ (i : ItemOf O M C E N L D) (e : E) where
       abbrev pub items_reached : ItemsOf O M C E N L D
-      items_reached = roll-ItemsOf O M C E N L D (record { row = (out-ItemsOf O M C E N L D items_rowed).row; last = i; soc = e })
+      items_reached = roll-ItemsOf O M C E N L D (record { row = (out-ItemsOf O M C E N L D items_rowed).row; last = i; end = e })
 
-      items_reached_out : out-ItemsOf O M C E N L D items_reached ≡ record { row = (out-ItemsOf O M C E N L D items_rowed).row; last = i; soc = e }
-      items_reached_out = out-roll-ItemsOf O M C E N L D (record { row = (out-ItemsOf O M C E N L D items_rowed).row; last = i; soc = e })
+      items_reached_out : out-ItemsOf O M C E N L D items_reached ≡ record { row = (out-ItemsOf O M C E N L D items_rowed).row; last = i; end = e }
+      items_reached_out = out-roll-ItemsOf O M C E N L D (record { row = (out-ItemsOf O M C E N L D items_rowed).row; last = i; end = e })
 
       items_reached_last : (out-ItemsOf O M C E N L D items_reached).last ≡ i
       items_reached_last = ap (λ f. f.last) items_reached_out
 
-      items_reached_is : items_reached ≡ roll-ItemsOf O M C E N L D (record { row = row; last = i; soc = e })
-      items_reached_is = ap (λ f. roll-ItemsOf O M C E N L D (record { row = f.row; last = i; soc = e })) items_rowed_out
+      items_reached_is : items_reached ≡ roll-ItemsOf O M C E N L D (record { row = row; last = i; end = e })
+      items_reached_is = ap (λ f. roll-ItemsOf O M C E N L D (record { row = f.row; last = i; end = e })) items_rowed_out
 
       abbrev pub items_done : ItemOf O M C E N L D → ItemsOf O M C E N L D
-      items_done j = roll-ItemsOf O M C E N L D (record { row = (out-ItemsOf O M C E N L D items_reached).row; last = j; soc = (out-ItemsOf O M C E N L D items_reached).soc })
+      items_done j = roll-ItemsOf O M C E N L D (record { row = (out-ItemsOf O M C E N L D items_reached).row; last = j; end = (out-ItemsOf O M C E N L D items_reached).end })
 
-      items_done_is : (j : ItemOf O M C E N L D) → items_done j ≡ roll-ItemsOf O M C E N L D (record { row = row; last = j; soc = e })
+      items_done_is : (j : ItemOf O M C E N L D) → items_done j ≡ roll-ItemsOf O M C E N L D (record { row = row; last = j; end = e })
       items_done_is j =
-          ap (λ f. roll-ItemsOf O M C E N L D (record { row = f.row; last = j; soc = f.soc })) items_reached_out
-          ∙ ap (λ f. roll-ItemsOf O M C E N L D (record { row = f.row; last = j; soc = e })) items_rowed_out
+          ap (λ f. roll-ItemsOf O M C E N L D (record { row = f.row; last = j; end = f.end })) items_reached_out
+          ∙ ap (λ f. roll-ItemsOf O M C E N L D (record { row = f.row; last = j; end = e })) items_rowed_out
 
-  module _ (x : PairsOf O M C E N L D) (row : Vec (KpOf O M C E N L D × C) Global) where
+  module _ (x : PairsOf O M C E N L D) (row : Vec (PairOf O M C E N L D × C) Global) where
     abbrev pub pairs_rowed : PairsOf O M C E N L D
-    pairs_rowed = roll-PairsOf O M C E N L D (record { row = row; last = (out-PairsOf O M C E N L D x).last; soc = (out-PairsOf O M C E N L D x).soc })
+    pairs_rowed = roll-PairsOf O M C E N L D (record { row = row; last = (out-PairsOf O M C E N L D x).last; end = (out-PairsOf O M C E N L D x).end })
 
-    pairs_rowed_out : out-PairsOf O M C E N L D pairs_rowed ≡ record { row = row; last = (out-PairsOf O M C E N L D x).last; soc = (out-PairsOf O M C E N L D x).soc }
-    pairs_rowed_out = out-roll-PairsOf O M C E N L D (record { row = row; last = (out-PairsOf O M C E N L D x).last; soc = (out-PairsOf O M C E N L D x).soc })
+    pairs_rowed_out : out-PairsOf O M C E N L D pairs_rowed ≡ record { row = row; last = (out-PairsOf O M C E N L D x).last; end = (out-PairsOf O M C E N L D x).end }
+    pairs_rowed_out = out-roll-PairsOf O M C E N L D (record { row = row; last = (out-PairsOf O M C E N L D x).last; end = (out-PairsOf O M C E N L D x).end })
 
     pairs_rowed_last : (out-PairsOf O M C E N L D pairs_rowed).last ≡ (out-PairsOf O M C E N L D x).last
     pairs_rowed_last = ap (λ f. f.last) pairs_rowed_out
 
-    pairs_rowed_soc : (out-PairsOf O M C E N L D pairs_rowed).soc ≡ (out-PairsOf O M C E N L D x).soc
-    pairs_rowed_soc = ap (λ f. f.soc) pairs_rowed_out
+    pairs_rowed_end : (out-PairsOf O M C E N L D pairs_rowed).end ≡ (out-PairsOf O M C E N L D x).end
+    pairs_rowed_end = ap (λ f. f.end) pairs_rowed_out
 
-    abbrev pub pairs_done : KpOf O M C E N L D → E → PairsOf O M C E N L D
-    pairs_done p e = roll-PairsOf O M C E N L D (record { row = (out-PairsOf O M C E N L D pairs_rowed).row; last = p; soc = e })
+    abbrev pub pairs_done : PairOf O M C E N L D → E → PairsOf O M C E N L D
+    pairs_done p e = roll-PairsOf O M C E N L D (record { row = (out-PairsOf O M C E N L D pairs_rowed).row; last = p; end = e })
 
-    pairs_done_is : (p : KpOf O M C E N L D) (e : E) → pairs_done p e ≡ roll-PairsOf O M C E N L D (record { row = row; last = p; soc = e })
-    pairs_done_is p e = ap (λ f. roll-PairsOf O M C E N L D (record { row = f.row; last = p; soc = e })) pairs_rowed_out
+    pairs_done_is : (p : PairOf O M C E N L D) (e : E) → pairs_done p e ≡ roll-PairsOf O M C E N L D (record { row = row; last = p; end = e })
+    pairs_done_is p e = ap (λ f. roll-PairsOf O M C E N L D (record { row = f.row; last = p; end = e })) pairs_rowed_out
 
   module _ (x : StringsOf O M C E N L D) (row : Vec (CborStringOf O M C E N L D × C) Global) where
     abbrev pub strings_rowed : StringsOf O M C E N L D
-    strings_rowed = roll-StringsOf O M C E N L D (record { row = row; last = (out-StringsOf O M C E N L D x).last; soc = (out-StringsOf O M C E N L D x).soc })
+    strings_rowed = roll-StringsOf O M C E N L D (record { row = row; last = (out-StringsOf O M C E N L D x).last; end = (out-StringsOf O M C E N L D x).end })
 
-    strings_rowed_out : out-StringsOf O M C E N L D strings_rowed ≡ record { row = row; last = (out-StringsOf O M C E N L D x).last; soc = (out-StringsOf O M C E N L D x).soc }
-    strings_rowed_out = out-roll-StringsOf O M C E N L D (record { row = row; last = (out-StringsOf O M C E N L D x).last; soc = (out-StringsOf O M C E N L D x).soc })
+    strings_rowed_out : out-StringsOf O M C E N L D strings_rowed ≡ record { row = row; last = (out-StringsOf O M C E N L D x).last; end = (out-StringsOf O M C E N L D x).end }
+    strings_rowed_out = out-roll-StringsOf O M C E N L D (record { row = row; last = (out-StringsOf O M C E N L D x).last; end = (out-StringsOf O M C E N L D x).end })
 
     strings_rowed_last : (out-StringsOf O M C E N L D strings_rowed).last ≡ (out-StringsOf O M C E N L D x).last
     strings_rowed_last = ap (λ f. f.last) strings_rowed_out
 
     abbrev pub strings_done : CborStringOf O M C E N L D → StringsOf O M C E N L D
-    strings_done s = roll-StringsOf O M C E N L D (record { row = (out-StringsOf O M C E N L D strings_rowed).row; last = s; soc = (out-StringsOf O M C E N L D strings_rowed).soc })
+    strings_done s = roll-StringsOf O M C E N L D (record { row = (out-StringsOf O M C E N L D strings_rowed).row; last = s; end = (out-StringsOf O M C E N L D strings_rowed).end })
 
-    strings_done_is : (s : CborStringOf O M C E N L D) → strings_done s ≡ roll-StringsOf O M C E N L D (record { row = row; last = s; soc = (out-StringsOf O M C E N L D x).soc })
-    strings_done_is s = ap (λ f. roll-StringsOf O M C E N L D (record { row = f.row; last = s; soc = f.soc })) strings_rowed_out
+    strings_done_is : (s : CborStringOf O M C E N L D) → strings_done s ≡ roll-StringsOf O M C E N L D (record { row = row; last = s; end = (out-StringsOf O M C E N L D x).end })
+    strings_done_is s = ap (λ f. roll-StringsOf O M C E N L D (record { row = f.row; last = s; end = f.end })) strings_rowed_out
 
 -- ---- how deep parts nest
 
@@ -125,7 +125,7 @@ pieces_at look (x ∷ xs) zero d h = omega arith
 pieces_at look (x ∷ xs) (suc i) d h = let a = pieces_at look xs i d (omega arith) in omega (arith, a)
 
 module _ {O M C E N L D : Type 0} (leaves : Ghosts O M C E N L D) where
-  tag_falls : (x : InnerItemOf O M C E N L D) (l : Label) (b : Box (StandaloneItemOf O M C E N L D)) (y : StandaloneItemOf O M C E N L D) (n : ℕ) (i : Option Indicator) → x ≡ inner.Enclosed l b → l.kind ≡ label.Tag i n → y ≡ b.value
+  tag_falls : (x : InnerItemOf O M C E N L D) (l : Opener) (b : Box (StandaloneItemOf O M C E N L D)) (y : StandaloneItemOf O M C E N L D) (n : ℕ) (i : Option Indicator) → x ≡ inner.Enclosed l b → l.kind ≡ opener.Tag i n → y ≡ b.value
       → depth (view_inner leaves x) ≡ suc (depth (view_standalone leaves y))
   unfolding depth
   tag_falls x l b y n i is tag read = ap (λ x. depth (view_inner leaves x)) is ∙ ap (λ k. depth (EnclosedTree k (view_standalone leaves b.value))) tag ∙ ap (λ y. suc (depth (view_standalone leaves y))) (sym read)
@@ -168,13 +168,13 @@ module _ {O M C E N L D : Type 0} (leaves : Ghosts O M C E N L D) where
 
   items_depth : (x : ItemsOf O M C E N L D) → depth (view_items leaves x) ≡ max (entries_depth (map (seen leaves) (out-ItemsOf O M C E N L D x).row.items)) (depth (view_item leaves (out-ItemsOf O M C E N L D x).last))
   unfolding depth
-  items_depth x = ap depth (view_items_is leaves x) ∙ depth_entries (map (seen leaves) (out-ItemsOf O M C E N L D x).row.items) (LastTree (ElementTree (view_item leaves (out-ItemsOf O M C E N L D x).last)) (leaves.end (out-ItemsOf O M C E N L D x).soc))
+  items_depth x = ap depth (view_items_is leaves x) ∙ depth_entries (map (seen leaves) (out-ItemsOf O M C E N L D x).row.items) (LastTree (ElementTree (view_item leaves (out-ItemsOf O M C E N L D x).last)) (leaves.end (out-ItemsOf O M C E N L D x).end))
 
   pairs_depth : (x : PairsOf O M C E N L D) → depth (view_pairs leaves x) ≡ max (entries_depth (map (seen_pair leaves) (out-PairsOf O M C E N L D x).row.items)) (depth (view_pair leaves (out-PairsOf O M C E N L D x).last))
   unfolding depth
-  pairs_depth x = ap depth (view_pairs_is leaves x) ∙ depth_entries (map (seen_pair leaves) (out-PairsOf O M C E N L D x).row.items) (LastTree (view_pair leaves (out-PairsOf O M C E N L D x).last) (leaves.end (out-PairsOf O M C E N L D x).soc))
+  pairs_depth x = ap depth (view_pairs_is leaves x) ∙ depth_entries (map (seen_pair leaves) (out-PairsOf O M C E N L D x).row.items) (LastTree (view_pair leaves (out-PairsOf O M C E N L D x).last) (leaves.end (out-PairsOf O M C E N L D x).end))
 
-  pair_depth : (x : KpOf O M C E N L D) → depth (view_pair leaves x) ≡ max (depth (view_item leaves x.key)) (depth (view_item leaves x.value))
+  pair_depth : (x : PairOf O M C E N L D) → depth (view_pair leaves x) ≡ max (depth (view_item leaves x.key)) (depth (view_item leaves x.value))
   unfolding depth
   pair_depth x = refl
 
@@ -192,7 +192,7 @@ module _ {O M C E N L D : Type 0} (leaves : Ghosts O M C E N L D) where
 
   strings_depth : (x : StringsOf O M C E N L D) → depth (view_strings leaves x) ≡ max (entries_depth (map (seen_string leaves) (out-StringsOf O M C E N L D x).row.items)) (depth (view_string leaves (out-StringsOf O M C E N L D x).last))
   unfolding depth
-  strings_depth x = ap depth (view_strings_is leaves x) ∙ depth_entries (map (seen_string leaves) (out-StringsOf O M C E N L D x).row.items) (LastTree (ChunkTree (view_string leaves (out-StringsOf O M C E N L D x).last)) (leaves.end (out-StringsOf O M C E N L D x).soc))
+  strings_depth x = ap depth (view_strings_is leaves x) ∙ depth_entries (map (seen_string leaves) (out-StringsOf O M C E N L D x).row.items) (LastTree (ChunkTree (view_string leaves (out-StringsOf O M C E N L D x).last)) (leaves.end (out-StringsOf O M C E N L D x).end))
 
 -- ---- rows
 
@@ -295,14 +295,14 @@ module _ {IsSought : Tree OneItem → CallArguments → Type 0} where
     pub name_walked : (x : InnerItemOf O M C E N L D) (b : _) → x ≡ inner.Named b → VisitParts IsSought _ (view_inner leaves x) [] (view_inner leaves x) whole
     name_walked x b is = walked (ap (view_inner leaves) is) (ap (view_inner leaves) is) of_name
 
-    pub tag_walked : (x : InnerItemOf O M C E N L D) (l : Label) (b : Box (StandaloneItemOf O M C E N L D)) (y : StandaloneItemOf O M C E N L D) (n : ℕ) (i : Option Indicator) (k : LabelKind) (v : Tree Standalone) (cs : List SoughtCall) (r : Ending)
-        → x ≡ inner.Enclosed l b → l.kind ≡ label.Tag i n → y ≡ b.value → k ≡ l.kind
+    pub tag_walked : (x : InnerItemOf O M C E N L D) (l : Opener) (b : Box (StandaloneItemOf O M C E N L D)) (y : StandaloneItemOf O M C E N L D) (n : ℕ) (i : Option Indicator) (k : OpenerKind) (v : Tree Standalone) (cs : List SoughtCall) (r : Ending)
+        → x ≡ inner.Enclosed l b → l.kind ≡ opener.Tag i n → y ≡ b.value → k ≡ l.kind
         → VisitParts IsSought _ (view_standalone leaves y) cs v r → VisitParts IsSought _ (view_inner leaves x) cs (EnclosedTree k v) r
-    tag_walked x l b y n i k v cs r is tag read same p = walked (ap (view_inner leaves) is ∙ ap (λ k. EnclosedTree k (view_standalone leaves b.value)) tag ∙ ap (λ y. EnclosedTree (label.Tag i n) (view_standalone leaves y)) (sym read)) (ap (λ k. EnclosedTree k v) (same ∙ tag)) (of_tag p)
+    tag_walked x l b y n i k v cs r is tag read same p = walked (ap (view_inner leaves) is ∙ ap (λ k. EnclosedTree k (view_standalone leaves b.value)) tag ∙ ap (λ y. EnclosedTree (opener.Tag i n) (view_standalone leaves y)) (sym read)) (ap (λ k. EnclosedTree k v) (same ∙ tag)) (of_tag p)
 
-    pub simple_walked : (x : InnerItemOf O M C E N L D) (l : Label) (b : Box (StandaloneItemOf O M C E N L D)) (k : LabelKind) (v : Tree Standalone) → x ≡ inner.Enclosed l b → l.kind ≡ label.Simple → k ≡ l.kind → v ≡ view_standalone leaves b.value
+    pub simple_walked : (x : InnerItemOf O M C E N L D) (l : Opener) (b : Box (StandaloneItemOf O M C E N L D)) (k : OpenerKind) (v : Tree Standalone) → x ≡ inner.Enclosed l b → l.kind ≡ opener.Simple → k ≡ l.kind → v ≡ view_standalone leaves b.value
         → VisitParts IsSought _ (view_inner leaves x) [] (EnclosedTree k v) whole
-    simple_walked x l b k v is simple same stays = walked (ap (view_inner leaves) is ∙ ap (λ k. EnclosedTree k (view_standalone leaves b.value)) simple) (ap (λ k. EnclosedTree k v) (same ∙ simple) ∙ ap (EnclosedTree label.Simple) stays) of_simple
+    simple_walked x l b k v is simple same stays = walked (ap (view_inner leaves) is ∙ ap (λ k. EnclosedTree k (view_standalone leaves b.value)) simple) (ap (λ k. EnclosedTree k v) (same ∙ simple) ∙ ap (EnclosedTree opener.Simple) stays) of_simple
 
     pub array_walked : (x z : InnerItemOf O M C E N L D) (b d : Box (ItemListOf O M C E N L D)) (y : ItemListOf O M C E N L D) (cs : List SoughtCall) (r : Ending) → x ≡ inner.Array b → y ≡ b.value → z ≡ inner.Array d
         → VisitParts IsSought _ (view_list leaves y) cs (view_list leaves d.value) r → VisitParts IsSought _ (view_inner leaves x) cs (view_inner leaves z) r
@@ -327,8 +327,8 @@ module _ {IsSought : Tree OneItem → CallArguments → Type 0} where
     pub literal_walked : (x : PieceOf O M C E N L D) (l : L) (i : Option Indicator) → x ≡ piece.Literal i l → VisitParts IsSought _ (view_piece leaves x) [] (view_piece leaves x) whole
     literal_walked x l i is = walked (ap (view_piece leaves) is) (ap (view_piece leaves) is) of_literal
 
-    pub dots_walked : (x : PieceOf O M C E N L D) (d : D) → x ≡ piece.Dots d → VisitParts IsSought _ (view_piece leaves x) [] (view_piece leaves x) whole
-    dots_walked x d is = walked (ap (view_piece leaves) is) (ap (view_piece leaves) is) of_dots
+    pub ellipsis_walked : (x : PieceOf O M C E N L D) (d : D) → x ≡ piece.Ellipsis d → VisitParts IsSought _ (view_piece leaves x) [] (view_piece leaves x) whole
+    ellipsis_walked x d is = walked (ap (view_piece leaves) is) (ap (view_piece leaves) is) of_ellipsis
 
     pub embedded_walked : (x : PieceOf O M C E N L D) (b : Box (SequenceOf O M C E N L D)) (i j : Option Indicator) (y : SequenceOf O M C E N L D) (v : Tree Seq) (cs : List SoughtCall) (r : Ending) → x ≡ piece.Embedded i b → y ≡ b.value → j ≡ i
         → VisitParts IsSought _ (view_sequence leaves y) cs v r → VisitParts IsSought _ (view_piece leaves x) cs (EmbeddedTree v j) r
@@ -360,111 +360,111 @@ module _ {IsSought : Tree OneItem → CallArguments → Type 0} where
     empty_pair_list_walked x i s is = walked (ap (view_pair_list leaves) is) (ap (view_pair_list leaves) is) of_none_inside
 
     -- the visit stops in the row
-    items_cut : (x y : ItemsOf O M C E N L D) (f : _) (cs : List SoughtCall) (r : Ending) → y ≡ roll-ItemsOf O M C E N L D f → f.last ≡ (out-ItemsOf O M C E N L D x).last → f.soc ≡ (out-ItemsOf O M C E N L D x).soc → r ≡ cut
+    items_cut : (x y : ItemsOf O M C E N L D) (f : _) (cs : List SoughtCall) (r : Ending) → y ≡ roll-ItemsOf O M C E N L D f → f.last ≡ (out-ItemsOf O M C E N L D x).last → f.end ≡ (out-ItemsOf O M C E N L D x).end → r ≡ cut
         → SoughtFront IsSought (map (seen leaves) (out-ItemsOf O M C E N L D x).row.items) cs (map (seen leaves) f.row.items) cut
         → VisitParts IsSought _ (view_items leaves x) cs (view_items leaves y) r
-    items_cut x y f cs r is same_last same_soc end v =
-        let rest = LastTree (ElementTree (view_item leaves (out-ItemsOf O M C E N L D x).last)) (leaves.end (out-ItemsOf O M C E N L D x).soc) in
-        let left : view_items leaves y ≡ entries_onto (map (seen leaves) f.row.items) rest = ap (view_items leaves) is ∙ view_items_made leaves f ∙ (λ i. entries_onto (map (seen leaves) f.row.items) (LastTree (ElementTree (view_item leaves (same_last i))) (leaves.end (same_soc i)))) in
+    items_cut x y f cs r is same_last same_list_end end v =
+        let rest = LastTree (ElementTree (view_item leaves (out-ItemsOf O M C E N L D x).last)) (leaves.end (out-ItemsOf O M C E N L D x).end) in
+        let left : view_items leaves y ≡ entries_onto (map (seen leaves) f.row.items) rest = ap (view_items leaves) is ∙ view_items_made leaves f ∙ (λ i. entries_onto (map (seen leaves) f.row.items) (LastTree (ElementTree (view_item leaves (same_last i))) (leaves.end (same_list_end i)))) in
         rw end (walked (view_items_is leaves x) left (v rest))
 
     -- it goes on to the last item
-    items_walked : (x y : ItemsOf O M C E N L D) (f : _) (l : ItemOf O M C E N L D) (s : E) (cs ds : List SoughtCall) (r : Ending) → y ≡ roll-ItemsOf O M C E N L D f → l ≡ (out-ItemsOf O M C E N L D x).last → s ≡ (out-ItemsOf O M C E N L D x).soc
+    items_walked : (x y : ItemsOf O M C E N L D) (f : _) (l : ItemOf O M C E N L D) (s : E) (cs ds : List SoughtCall) (r : Ending) → y ≡ roll-ItemsOf O M C E N L D f → l ≡ (out-ItemsOf O M C E N L D x).last → s ≡ (out-ItemsOf O M C E N L D x).end
         → SoughtFront IsSought (map (seen leaves) (out-ItemsOf O M C E N L D x).row.items) cs (map (seen leaves) f.row.items) whole
-        → VisitItem IsSought (view_item leaves l) (leaves.end s) ds (view_item leaves f.last) (leaves.end f.soc) r
+        → VisitItem IsSought (view_item leaves l) (leaves.end s) ds (view_item leaves f.last) (leaves.end f.end) r
         → VisitParts IsSought _ (view_items leaves x) (cs ++ ds) (view_items leaves y) r
-    items_walked x y f l s cs ds r is same_last same_soc v w =
+    items_walked x y f l s cs ds r is same_last same_list_end v w =
         let rest = λ (a : ItemOf O M C E N L D) (b : E). LastTree (ElementTree (view_item leaves a)) (leaves.end b) in
-        let old : view_items leaves x ≡ entries_onto (map (seen leaves) (out-ItemsOf O M C E N L D x).row.items) (LastTree (ElementTree (view_item leaves l)) (leaves.end s)) = view_items_is leaves x ∙ (λ i. entries_onto (map (seen leaves) (out-ItemsOf O M C E N L D x).row.items) (LastTree (ElementTree (view_item leaves (sym same_last i))) (leaves.end (sym same_soc i)))) in
+        let old : view_items leaves x ≡ entries_onto (map (seen leaves) (out-ItemsOf O M C E N L D x).row.items) (LastTree (ElementTree (view_item leaves l)) (leaves.end s)) = view_items_is leaves x ∙ (λ i. entries_onto (map (seen leaves) (out-ItemsOf O M C E N L D x).row.items) (LastTree (ElementTree (view_item leaves (sym same_last i))) (leaves.end (sym same_list_end i)))) in
         walked old (ap (view_items leaves) is ∙ view_items_made leaves f) (v _ _ ds r (of_last (of_element w)))
 
-    pairs_cut : (x y : PairsOf O M C E N L D) (f : _) (cs : List SoughtCall) (r : Ending) → y ≡ roll-PairsOf O M C E N L D f → f.last ≡ (out-PairsOf O M C E N L D x).last → f.soc ≡ (out-PairsOf O M C E N L D x).soc → r ≡ cut
+    pairs_cut : (x y : PairsOf O M C E N L D) (f : _) (cs : List SoughtCall) (r : Ending) → y ≡ roll-PairsOf O M C E N L D f → f.last ≡ (out-PairsOf O M C E N L D x).last → f.end ≡ (out-PairsOf O M C E N L D x).end → r ≡ cut
         → SoughtFront IsSought (map (seen_pair leaves) (out-PairsOf O M C E N L D x).row.items) cs (map (seen_pair leaves) f.row.items) cut
         → VisitParts IsSought _ (view_pairs leaves x) cs (view_pairs leaves y) r
-    pairs_cut x y f cs r is same_last same_soc end v =
-        let rest = LastTree (view_pair leaves (out-PairsOf O M C E N L D x).last) (leaves.end (out-PairsOf O M C E N L D x).soc) in
-        let left : view_pairs leaves y ≡ entries_onto (map (seen_pair leaves) f.row.items) rest = ap (view_pairs leaves) is ∙ view_pairs_made leaves f ∙ (λ i. entries_onto (map (seen_pair leaves) f.row.items) (LastTree (view_pair leaves (same_last i)) (leaves.end (same_soc i)))) in
+    pairs_cut x y f cs r is same_last same_list_end end v =
+        let rest = LastTree (view_pair leaves (out-PairsOf O M C E N L D x).last) (leaves.end (out-PairsOf O M C E N L D x).end) in
+        let left : view_pairs leaves y ≡ entries_onto (map (seen_pair leaves) f.row.items) rest = ap (view_pairs leaves) is ∙ view_pairs_made leaves f ∙ (λ i. entries_onto (map (seen_pair leaves) f.row.items) (LastTree (view_pair leaves (same_last i)) (leaves.end (same_list_end i)))) in
         rw end (walked (view_pairs_is leaves x) left (v rest))
 
-    pairs_walked : (x y : PairsOf O M C E N L D) (f : _) (l : KpOf O M C E N L D) (s : E) (cs ds : List SoughtCall) (r : Ending) → y ≡ roll-PairsOf O M C E N L D f → l ≡ (out-PairsOf O M C E N L D x).last → s ≡ (out-PairsOf O M C E N L D x).soc
+    pairs_walked : (x y : PairsOf O M C E N L D) (f : _) (l : PairOf O M C E N L D) (s : E) (cs ds : List SoughtCall) (r : Ending) → y ≡ roll-PairsOf O M C E N L D f → l ≡ (out-PairsOf O M C E N L D x).last → s ≡ (out-PairsOf O M C E N L D x).end
         → SoughtFront IsSought (map (seen_pair leaves) (out-PairsOf O M C E N L D x).row.items) cs (map (seen_pair leaves) f.row.items) whole
-        → VisitEntry IsSought _ (view_pair leaves l) (leaves.end s) ds (view_pair leaves f.last) (leaves.end f.soc) r
+        → VisitEntry IsSought _ (view_pair leaves l) (leaves.end s) ds (view_pair leaves f.last) (leaves.end f.end) r
         → VisitParts IsSought _ (view_pairs leaves x) (cs ++ ds) (view_pairs leaves y) r
-    pairs_walked x y f l s cs ds r is same_last same_soc v w =
-        let old : view_pairs leaves x ≡ entries_onto (map (seen_pair leaves) (out-PairsOf O M C E N L D x).row.items) (LastTree (view_pair leaves l) (leaves.end s)) = view_pairs_is leaves x ∙ (λ i. entries_onto (map (seen_pair leaves) (out-PairsOf O M C E N L D x).row.items) (LastTree (view_pair leaves (sym same_last i)) (leaves.end (sym same_soc i)))) in
+    pairs_walked x y f l s cs ds r is same_last same_list_end v w =
+        let old : view_pairs leaves x ≡ entries_onto (map (seen_pair leaves) (out-PairsOf O M C E N L D x).row.items) (LastTree (view_pair leaves l) (leaves.end s)) = view_pairs_is leaves x ∙ (λ i. entries_onto (map (seen_pair leaves) (out-PairsOf O M C E N L D x).row.items) (LastTree (view_pair leaves (sym same_last i)) (leaves.end (sym same_list_end i)))) in
         walked old (ap (view_pairs leaves) is ∙ view_pairs_made leaves f) (v _ _ ds r (of_last w))
 
-    strings_cut : (x y : StringsOf O M C E N L D) (f : _) (cs : List SoughtCall) (r : Ending) → y ≡ roll-StringsOf O M C E N L D f → f.last ≡ (out-StringsOf O M C E N L D x).last → f.soc ≡ (out-StringsOf O M C E N L D x).soc → r ≡ cut
+    strings_cut : (x y : StringsOf O M C E N L D) (f : _) (cs : List SoughtCall) (r : Ending) → y ≡ roll-StringsOf O M C E N L D f → f.last ≡ (out-StringsOf O M C E N L D x).last → f.end ≡ (out-StringsOf O M C E N L D x).end → r ≡ cut
         → SoughtFront IsSought (map (seen_string leaves) (out-StringsOf O M C E N L D x).row.items) cs (map (seen_string leaves) f.row.items) cut
         → VisitParts IsSought _ (view_strings leaves x) cs (view_strings leaves y) r
-    strings_cut x y f cs r is same_last same_soc end v =
-        let rest = LastTree (ChunkTree (view_string leaves (out-StringsOf O M C E N L D x).last)) (leaves.end (out-StringsOf O M C E N L D x).soc) in
-        let left : view_strings leaves y ≡ entries_onto (map (seen_string leaves) f.row.items) rest = ap (view_strings leaves) is ∙ view_strings_made leaves f ∙ (λ i. entries_onto (map (seen_string leaves) f.row.items) (LastTree (ChunkTree (view_string leaves (same_last i))) (leaves.end (same_soc i)))) in
+    strings_cut x y f cs r is same_last same_list_end end v =
+        let rest = LastTree (ChunkTree (view_string leaves (out-StringsOf O M C E N L D x).last)) (leaves.end (out-StringsOf O M C E N L D x).end) in
+        let left : view_strings leaves y ≡ entries_onto (map (seen_string leaves) f.row.items) rest = ap (view_strings leaves) is ∙ view_strings_made leaves f ∙ (λ i. entries_onto (map (seen_string leaves) f.row.items) (LastTree (ChunkTree (view_string leaves (same_last i))) (leaves.end (same_list_end i)))) in
         rw end (walked (view_strings_is leaves x) left (v rest))
 
-    strings_walked : (x y : StringsOf O M C E N L D) (f : _) (l : CborStringOf O M C E N L D) (cs ds : List SoughtCall) (r : Ending) → y ≡ roll-StringsOf O M C E N L D f → l ≡ (out-StringsOf O M C E N L D x).last → f.soc ≡ (out-StringsOf O M C E N L D x).soc
+    strings_walked : (x y : StringsOf O M C E N L D) (f : _) (l : CborStringOf O M C E N L D) (cs ds : List SoughtCall) (r : Ending) → y ≡ roll-StringsOf O M C E N L D f → l ≡ (out-StringsOf O M C E N L D x).last → f.end ≡ (out-StringsOf O M C E N L D x).end
         → SoughtFront IsSought (map (seen_string leaves) (out-StringsOf O M C E N L D x).row.items) cs (map (seen_string leaves) f.row.items) whole
         → VisitParts IsSought _ (view_string leaves l) ds (view_string leaves f.last) r
         → VisitParts IsSought _ (view_strings leaves x) (cs ++ ds) (view_strings leaves y) r
-    strings_walked x y f l cs ds r is same_last same_soc v w =
-        let old : view_strings leaves x ≡ entries_onto (map (seen_string leaves) (out-StringsOf O M C E N L D x).row.items) (LastTree (ChunkTree (view_string leaves l)) (leaves.end f.soc)) = view_strings_is leaves x ∙ (λ i. entries_onto (map (seen_string leaves) (out-StringsOf O M C E N L D x).row.items) (LastTree (ChunkTree (view_string leaves (sym same_last i))) (leaves.end (sym same_soc i)))) in
+    strings_walked x y f l cs ds r is same_last same_list_end v w =
+        let old : view_strings leaves x ≡ entries_onto (map (seen_string leaves) (out-StringsOf O M C E N L D x).row.items) (LastTree (ChunkTree (view_string leaves l)) (leaves.end f.end)) = view_strings_is leaves x ∙ (λ i. entries_onto (map (seen_string leaves) (out-StringsOf O M C E N L D x).row.items) (LastTree (ChunkTree (view_string leaves (sym same_last i))) (leaves.end (sym same_list_end i)))) in
         walked old (ap (view_strings leaves) is ∙ view_strings_made leaves f) (v _ _ ds r (of_last (of_chunk w)))
 
     -- the visit stops in the row, or goes on to the last one, as the code writes the fields
     pub items_row_cut : (x : ItemsOf O M C E N L D) (row : Vec (ItemOf O M C E N L D × C) Global) (cs : List SoughtCall) (r : Ending) → r ≡ cut
         → SoughtFront IsSought (map (seen leaves) (out-ItemsOf O M C E N L D x).row.items) cs (map (seen leaves) row.items) cut
         → VisitParts IsSought _ (view_items leaves x) cs (view_items leaves (items_rowed x row)) r
-    items_row_cut x row cs r end v = items_cut x (items_rowed x row) (record { row = row; last = (out-ItemsOf O M C E N L D x).last; soc = (out-ItemsOf O M C E N L D x).soc }) cs r refl refl refl end v
+    items_row_cut x row cs r end v = items_cut x (items_rowed x row) (record { row = row; last = (out-ItemsOf O M C E N L D x).last; end = (out-ItemsOf O M C E N L D x).end }) cs r refl refl refl end v
 
     pub items_last_walked : (x : ItemsOf O M C E N L D) (row : Vec (ItemOf O M C E N L D × C) Global) (i : ItemOf O M C E N L D) (e : E) (cs ds : List SoughtCall) (r : Ending)
         → SoughtFront IsSought (map (seen leaves) (out-ItemsOf O M C E N L D x).row.items) cs (map (seen leaves) row.items) whole
-        → VisitItem IsSought (view_item leaves (out-ItemsOf O M C E N L D (items_rowed x row)).last) (leaves.end (out-ItemsOf O M C E N L D (items_rowed x row)).soc) ds (view_item leaves i) (leaves.end e) r
+        → VisitItem IsSought (view_item leaves (out-ItemsOf O M C E N L D (items_rowed x row)).last) (leaves.end (out-ItemsOf O M C E N L D (items_rowed x row)).end) ds (view_item leaves i) (leaves.end e) r
         → VisitParts IsSought _ (view_items leaves x) (cs ++ ds) (view_items leaves (items_reached x row i e)) r
     items_last_walked x row i e cs ds r v w =
-        items_walked x (items_reached x row i e) (record { row = row; last = i; soc = e }) (out-ItemsOf O M C E N L D (items_rowed x row)).last (out-ItemsOf O M C E N L D (items_rowed x row)).soc cs ds r
-        (items_reached_is x row i e) (items_rowed_last x row) (items_rowed_soc x row) v w
+        items_walked x (items_reached x row i e) (record { row = row; last = i; end = e }) (out-ItemsOf O M C E N L D (items_rowed x row)).last (out-ItemsOf O M C E N L D (items_rowed x row)).end cs ds r
+        (items_reached_is x row i e) (items_rowed_last x row) (items_rowed_end x row) v w
 
     pub items_all_walked : {X : Type 0} (x : ItemsOf O M C E N L D) (row : Vec (ItemOf O M C E N L D × C) Global) (i j : ItemOf O M C E N L D) (e : E) (b : Bool) (cs ds es : List SoughtCall) (r : Ending)
         → SoughtFront IsSought (map (seen leaves) (out-ItemsOf O M C E N L D x).row.items) cs (map (seen leaves) row.items) whole
-        → Reaches {E = X} IsSought (view_item leaves (out-ItemsOf O M C E N L D (items_rowed x row)).last) (leaves.end (out-ItemsOf O M C E N L D (items_rowed x row)).soc) ds (view_item leaves i) (leaves.end e) (Ok b)
+        → Reaches {E = X} IsSought (view_item leaves (out-ItemsOf O M C E N L D (items_rowed x row)).last) (leaves.end (out-ItemsOf O M C E N L D (items_rowed x row)).end) ds (view_item leaves i) (leaves.end e) (Ok b)
         → VisitIf IsSought b (view_item leaves (out-ItemsOf O M C E N L D (items_reached x row i e)).last) es (view_item leaves j) r
         → VisitParts IsSought _ (view_items leaves x) (cs ++ (ds ++ es)) (view_items leaves (items_done x row i e j)) r
     items_all_walked x row i j e b cs ds es r v q w =
         let u = subst (λ l. VisitIf IsSought b (view_item leaves l) es (view_item leaves j) r) (items_reached_last x row i e) w in
-        items_walked x (items_done x row i e j) (record { row = row; last = j; soc = e }) (out-ItemsOf O M C E N L D (items_rowed x row)).last (out-ItemsOf O M C E N L D (items_rowed x row)).soc cs (ds ++ es) r
-        (items_done_is x row i e j) (items_rowed_last x row) (items_rowed_soc x row) v (then_if b (view_item leaves j) es r q u)
+        items_walked x (items_done x row i e j) (record { row = row; last = j; end = e }) (out-ItemsOf O M C E N L D (items_rowed x row)).last (out-ItemsOf O M C E N L D (items_rowed x row)).end cs (ds ++ es) r
+        (items_done_is x row i e j) (items_rowed_last x row) (items_rowed_end x row) v (then_if b (view_item leaves j) es r q u)
 
-    pub pairs_row_cut : (x : PairsOf O M C E N L D) (row : Vec (KpOf O M C E N L D × C) Global) (cs : List SoughtCall) (r : Ending) → r ≡ cut
+    pub pairs_row_cut : (x : PairsOf O M C E N L D) (row : Vec (PairOf O M C E N L D × C) Global) (cs : List SoughtCall) (r : Ending) → r ≡ cut
         → SoughtFront IsSought (map (seen_pair leaves) (out-PairsOf O M C E N L D x).row.items) cs (map (seen_pair leaves) row.items) cut
         → VisitParts IsSought _ (view_pairs leaves x) cs (view_pairs leaves (pairs_rowed x row)) r
-    pairs_row_cut x row cs r end v = pairs_cut x (pairs_rowed x row) (record { row = row; last = (out-PairsOf O M C E N L D x).last; soc = (out-PairsOf O M C E N L D x).soc }) cs r refl refl refl end v
+    pairs_row_cut x row cs r end v = pairs_cut x (pairs_rowed x row) (record { row = row; last = (out-PairsOf O M C E N L D x).last; end = (out-PairsOf O M C E N L D x).end }) cs r refl refl refl end v
 
-    pub pairs_all_walked : (x : PairsOf O M C E N L D) (row : Vec (KpOf O M C E N L D × C) Global) (p : KpOf O M C E N L D) (e : E) (cs ds : List SoughtCall) (r : Ending)
+    pub pairs_all_walked : (x : PairsOf O M C E N L D) (row : Vec (PairOf O M C E N L D × C) Global) (p : PairOf O M C E N L D) (e : E) (cs ds : List SoughtCall) (r : Ending)
         → SoughtFront IsSought (map (seen_pair leaves) (out-PairsOf O M C E N L D x).row.items) cs (map (seen_pair leaves) row.items) whole
-        → VisitEntry IsSought _ (view_pair leaves (out-PairsOf O M C E N L D (pairs_rowed x row)).last) (leaves.end (out-PairsOf O M C E N L D (pairs_rowed x row)).soc) ds (view_pair leaves p) (leaves.end e) r
+        → VisitEntry IsSought _ (view_pair leaves (out-PairsOf O M C E N L D (pairs_rowed x row)).last) (leaves.end (out-PairsOf O M C E N L D (pairs_rowed x row)).end) ds (view_pair leaves p) (leaves.end e) r
         → VisitParts IsSought _ (view_pairs leaves x) (cs ++ ds) (view_pairs leaves (pairs_done x row p e)) r
     pairs_all_walked x row p e cs ds r v w =
-        pairs_walked x (pairs_done x row p e) (record { row = row; last = p; soc = e }) (out-PairsOf O M C E N L D (pairs_rowed x row)).last (out-PairsOf O M C E N L D (pairs_rowed x row)).soc cs ds r
-        (pairs_done_is x row p e) (pairs_rowed_last x row) (pairs_rowed_soc x row) v w
+        pairs_walked x (pairs_done x row p e) (record { row = row; last = p; end = e }) (out-PairsOf O M C E N L D (pairs_rowed x row)).last (out-PairsOf O M C E N L D (pairs_rowed x row)).end cs ds r
+        (pairs_done_is x row p e) (pairs_rowed_last x row) (pairs_rowed_end x row) v w
 
     pub strings_row_cut : (x : StringsOf O M C E N L D) (row : Vec (CborStringOf O M C E N L D × C) Global) (cs : List SoughtCall) (r : Ending) → r ≡ cut
         → SoughtFront IsSought (map (seen_string leaves) (out-StringsOf O M C E N L D x).row.items) cs (map (seen_string leaves) row.items) cut
         → VisitParts IsSought _ (view_strings leaves x) cs (view_strings leaves (strings_rowed x row)) r
-    strings_row_cut x row cs r end v = strings_cut x (strings_rowed x row) (record { row = row; last = (out-StringsOf O M C E N L D x).last; soc = (out-StringsOf O M C E N L D x).soc }) cs r refl refl refl end v
+    strings_row_cut x row cs r end v = strings_cut x (strings_rowed x row) (record { row = row; last = (out-StringsOf O M C E N L D x).last; end = (out-StringsOf O M C E N L D x).end }) cs r refl refl refl end v
 
     pub strings_all_walked : (x : StringsOf O M C E N L D) (row : Vec (CborStringOf O M C E N L D × C) Global) (s : CborStringOf O M C E N L D) (cs ds : List SoughtCall) (r : Ending)
         → SoughtFront IsSought (map (seen_string leaves) (out-StringsOf O M C E N L D x).row.items) cs (map (seen_string leaves) row.items) whole
         → VisitParts IsSought _ (view_string leaves (out-StringsOf O M C E N L D (strings_rowed x row)).last) ds (view_string leaves s) r
         → VisitParts IsSought _ (view_strings leaves x) (cs ++ ds) (view_strings leaves (strings_done x row s)) r
     strings_all_walked x row s cs ds r v w =
-        strings_walked x (strings_done x row s) (record { row = row; last = s; soc = (out-StringsOf O M C E N L D x).soc }) (out-StringsOf O M C E N L D (strings_rowed x row)).last cs ds r
+        strings_walked x (strings_done x row s) (record { row = row; last = s; end = (out-StringsOf O M C E N L D x).end }) (out-StringsOf O M C E N L D (strings_rowed x row)).last cs ds r
         (strings_done_is x row s) (strings_rowed_last x row) refl v w
 
 -- ---- how far the measures of parts fall
 
 module _ {O M C E N L D : Type 0} (leaves : Ghosts O M C E N L D) where
   module _ (t : ℕ) where
-    pub tag_less : (x : InnerItemOf O M C E N L D) (l : Label) (b : Box (StandaloneItemOf O M C E N L D)) (y : StandaloneItemOf O M C E N L D) (n : ℕ) (i : Option Indicator) → x ≡ inner.Enclosed l b → l.kind ≡ label.Tag i n → y ≡ b.value
+    pub tag_less : (x : InnerItemOf O M C E N L D) (l : Opener) (b : Box (StandaloneItemOf O M C E N L D)) (y : StandaloneItemOf O M C E N L D) (n : ℕ) (i : Option Indicator) → x ≡ inner.Enclosed l b → l.kind ≡ opener.Tag i n → y ≡ b.value
         → 16 * depth (view_inner leaves x) + 5 ≡ t → 16 * depth (view_standalone leaves y) + 7 < t
     tag_less x l b y n i is tag read d = let f = tag_falls leaves x l b y n i is tag read in omega (arith, d, f)
 
@@ -495,13 +495,13 @@ module _ {O M C E N L D : Type 0} (leaves : Ghosts O M C E N L D) where
     pub standalone_less : (x : StandaloneItemOf O M C E N L D) (b : Bool) (w : Tree OneItem) → 16 * depth (view_standalone leaves x) + 7 ≡ t → measure_if b w ≤ 16 * depth (view_item leaves x.item) + 6 → measure_if b w < t
     standalone_less x b w d le = let f = standalone_depth leaves x in omega (arith, d, le, f)
 
-    pub key_less : (x : KpOf O M C E N L D) (b : Bool) (w : Tree OneItem) → 16 * depth (view_pair leaves x) + 7 ≡ t → measure_if b w ≤ 16 * depth (view_item leaves x.key) + 6 → measure_if b w < t
+    pub key_less : (x : PairOf O M C E N L D) (b : Bool) (w : Tree OneItem) → 16 * depth (view_pair leaves x) + 7 ≡ t → measure_if b w ≤ 16 * depth (view_item leaves x.key) + 6 → measure_if b w < t
     key_less x b w d le = let f = pair_depth leaves x in omega (arith, d, le, f)
 
-    pub value_less : (x : KpOf O M C E N L D) (b : Bool) (w : Tree OneItem) → 16 * depth (view_pair leaves x) + 8 ≡ t → measure_if b w ≤ 16 * depth (view_item leaves x.value) + 6 → measure_if b w < t
+    pub value_less : (x : PairOf O M C E N L D) (b : Bool) (w : Tree OneItem) → 16 * depth (view_pair leaves x) + 8 ≡ t → measure_if b w ≤ 16 * depth (view_item leaves x.value) + 6 → measure_if b w < t
     value_less x b w d le = let f = pair_depth leaves x in omega (arith, d, le, f)
 
-    pub last_key_less : (x : KpOf O M C E N L D) → 16 * depth (view_pair leaves x) + 8 ≡ t → 16 * depth (view_pair leaves x) + 7 < t
+    pub last_key_less : (x : PairOf O M C E N L D) → 16 * depth (view_pair leaves x) + 8 ≡ t → 16 * depth (view_pair leaves x) + 7 < t
     last_key_less x d = omega (arith, d)
 
     pub items_row_less : (x : ItemsOf O M C E N L D) → 16 * depth (view_items leaves x) + 8 ≡ t → 16 * entries_depth (map (seen leaves) (out-ItemsOf O M C E N L D x).row.items) + 7 < t
@@ -519,7 +519,7 @@ module _ {O M C E N L D : Type 0} (leaves : Ghosts O M C E N L D) where
     pub pairs_row_less : (x : PairsOf O M C E N L D) → 16 * depth (view_pairs leaves x) + 9 ≡ t → 16 * entries_depth (map (seen_pair leaves) (out-PairsOf O M C E N L D x).row.items) + 8 < t
     pairs_row_less x d = let f = pairs_depth leaves x in omega (arith, d, f)
 
-    pub pairs_last_less : (x : PairsOf O M C E N L D) (row : Vec (KpOf O M C E N L D × C) Global) → 16 * depth (view_pairs leaves x) + 9 ≡ t → 16 * depth (view_pair leaves (out-PairsOf O M C E N L D (pairs_rowed x row)).last) + 8 < t
+    pub pairs_last_less : (x : PairsOf O M C E N L D) (row : Vec (PairOf O M C E N L D × C) Global) → 16 * depth (view_pairs leaves x) + 9 ≡ t → 16 * depth (view_pair leaves (out-PairsOf O M C E N L D (pairs_rowed x row)).last) + 8 < t
     pairs_last_less x row d =
         let f = pairs_depth leaves x in
         let same : depth (view_pair leaves (out-PairsOf O M C E N L D (pairs_rowed x row)).last) ≡ depth (view_pair leaves (out-PairsOf O M C E N L D x).last) = ap (λ l. depth (view_pair leaves l)) (pairs_rowed_last x row) in
@@ -547,12 +547,12 @@ module _ {O M C E N L D : Type 0} (leaves : Ghosts O M C E N L D) where
         let e = element_depth leaves x in
         omega (arith, d, le, a, e)
 
-    pub row_key_less : (xs : List (KpOf O M C E N L D × C)) (i : ℕ) (x : KpOf O M C E N L D × C) → i < length xs → get_or xs i x ≡ x → 16 * entries_depth (map (seen_pair leaves) xs) + 8 ≡ t → 16 * depth (view_pair leaves x.0) + 7 < t
+    pub row_key_less : (xs : List (PairOf O M C E N L D × C)) (i : ℕ) (x : PairOf O M C E N L D × C) → i < length xs → get_or xs i x ≡ x → 16 * entries_depth (map (seen_pair leaves) xs) + 8 ≡ t → 16 * depth (view_pair leaves x.0) + 7 < t
     row_key_less xs i x h is d =
         let a : depth (view_pair leaves x.0) ≤ entries_depth (map (seen_pair leaves) xs) = subst (λ z. depth (seen_pair leaves z).0 ≤ entries_depth (map (seen_pair leaves) xs)) is (entries_at (seen_pair leaves) xs i x h) in
         omega (arith, d, a)
 
-    pub row_value_less : (xs : List (KpOf O M C E N L D × C)) (i : ℕ) (x : KpOf O M C E N L D × C) (b : Bool) (w : Tree OneItem) → i < length xs → get_or xs i x ≡ x → 16 * entries_depth (map (seen_pair leaves) xs) + 8 ≡ t
+    pub row_value_less : (xs : List (PairOf O M C E N L D × C)) (i : ℕ) (x : PairOf O M C E N L D × C) (b : Bool) (w : Tree OneItem) → i < length xs → get_or xs i x ≡ x → 16 * entries_depth (map (seen_pair leaves) xs) + 8 ≡ t
         → measure_if b w ≤ 16 * depth (view_item leaves x.0.value) + 6 → measure_if b w < t
     row_value_less xs i x b w h is d le =
         let a : depth (view_pair leaves x.0) ≤ entries_depth (map (seen_pair leaves) xs) = subst (λ z. depth (seen_pair leaves z).0 ≤ entries_depth (map (seen_pair leaves) xs)) is (entries_at (seen_pair leaves) xs i x h) in

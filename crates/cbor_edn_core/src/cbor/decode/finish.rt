@@ -6,8 +6,8 @@ ghost use Rattle.cbor_edn_model.specs.internal.CborReading.{row_of, element_row,
 ghost use Rattle.cbor_edn_core.specs.internal.RowBuilder.{grown};
 
 use super::row_builder::RowBuilder;
-use crate::tree::{CborString, Item, Items, Kp, Pairs, Strings};
-use cbor_edn_parts::space::Soc;
+use crate::tree::{CborString, Item, Items, Pair, Pairs, Strings};
+use cbor_edn_parts::space::ListEnd;
 
 pub(super) fn finish_items<'a>(found: RowBuilder<'a, Item<'a>>) -> Option<Items<'a>>
     ensures { option_map (view_items texts) result ≡ element_row (map item_tree (grown found.entry)) }
@@ -20,11 +20,11 @@ pub(super) fn finish_items<'a>(found: RowBuilder<'a, Item<'a>>) -> Option<Items<
     Some(Items {
         row,
         last,
-        soc: Soc::empty(),
+        end: ListEnd::empty(),
     })
 }
 
-pub(super) fn finish_pairs<'a>(found: RowBuilder<'a, Kp<'a>>) -> Option<Pairs<'a>>
+pub(super) fn finish_pairs<'a>(found: RowBuilder<'a, Pair<'a>>) -> Option<Pairs<'a>>
     ensures { option_map (view_pairs texts) result ≡ row_of (map (view_pair texts) (grown found.entry)) }
 {
     let row = found.row;
@@ -35,7 +35,7 @@ pub(super) fn finish_pairs<'a>(found: RowBuilder<'a, Kp<'a>>) -> Option<Pairs<'a
     Some(Pairs {
         row,
         last,
-        soc: Soc::empty(),
+        end: ListEnd::empty(),
     })
 }
 
@@ -50,6 +50,6 @@ pub(super) fn finish_strings<'a>(found: RowBuilder<'a, CborString<'a>>) -> Optio
     Some(Strings {
         row,
         last,
-        soc: Soc::empty(),
+        end: ListEnd::empty(),
     })
 }

@@ -15,14 +15,14 @@ use super::finish::{finish_items, finish_pairs};
 use super::row_builder::RowBuilder;
 use super::special::{enclosed_item, special_item};
 use super::strings::decode_string;
-use crate::tree::row::let_go;
-use crate::tree::{InnerItem, Item, ItemList, Items, Kp, Label, PairList, Pairs};
+use crate::tree::row::drop_out_of_line;
+use crate::tree::{InnerItem, Item, ItemList, Items, Opener, Pair, PairList, Pairs};
 use cbor_edn_model::cbor::decode::head::{Argument, Head, Stop, head_of, indicator_of, past_stop};
 use cbor_edn_model::text::list_head::head_space;
 use cbor_edn_parts::error::Fault;
 use cbor_edn_parts::indicator::Indicator;
 use cbor_edn_parts::number::{Number, SmallInteger};
-use cbor_edn_parts::space::S;
+use cbor_edn_parts::space::Space;
 use cbor_edn_parts::string::StringKind;
 use std::alloc::{AllocError, Global};
 
@@ -31,12 +31,12 @@ fn array_inside<'a>(argument: Argument, items: Option<Items<'a>>) -> ItemList<'a
     ensures { view_list texts result ≡ list_inside (argument_indicator argument) (option_map (view_items texts) items.entry) }
 {
     let indicator = indicator_of(argument);
-    let s = S::empty();
+    let space = Space::empty();
     match items {
-        None => ItemList::Absent { indicator, s },
+        None => ItemList::Absent { indicator, space },
         Some(items) => ItemList::Present {
             head: head_space(indicator),
-            s,
+            space,
             items,
         },
     }
@@ -47,12 +47,12 @@ fn map_inside<'a>(argument: Argument, pairs: Option<Pairs<'a>>) -> PairList<'a>
     ensures { view_pair_list texts result ≡ list_inside (argument_indicator argument) (option_map (view_pairs texts) pairs.entry) }
 {
     let indicator = indicator_of(argument);
-    let s = S::empty();
+    let space = Space::empty();
     match pairs {
-        None => PairList::Absent { indicator, s },
+        None => PairList::Absent { indicator, space },
         Some(pairs) => PairList::Present {
             head: head_space(indicator),
-            s,
+            space,
             pairs,
         },
     }
@@ -75,7 +75,7 @@ fn array_item<'a>(
 fn map_item<'a>(
     alloc: Global,
     argument: Argument,
-    found: RowBuilder<'a, Kp<'a>>,
+    found: RowBuilder<'a, Pair<'a>>,
 ) -> Result<Item<'a>, AllocError>
     ensures { IfOk result (λ t. item_tree t ≡ trees.cbor_map argument (map (view_pair texts) (grown found.entry))) }
 {
@@ -88,7 +88,7 @@ fn decode_unsigned<'a, 'b>(
     argument: Argument,
     bytes: &'b [u8],
 ) -> Result<(Item<'a>, &'b [u8]), Fault<CborError>>
-    ensures exact { DecoderGives (λ x. (item_tree x.0, x.1.now)) result (number_by trees.unsigned argument bytes.now) }
+    ensures value { DecoderGives (λ x. (item_tree x.0, x.1.now)) result (number_by trees.unsigned argument bytes.now) }
     ensures shorter { IfOk result (λ x. length x.1.now ≤ length bytes.now) }
 {
     let Some((_, n)) = argument else {
@@ -104,7 +104,7 @@ fn decode_negative<'a, 'b>(
     argument: Argument,
     bytes: &'b [u8],
 ) -> Result<(Item<'a>, &'b [u8]), Fault<CborError>>
-    ensures exact { DecoderGives (λ x. (item_tree x.0, x.1.now)) result (number_by trees.negative argument bytes.now) }
+    ensures value { DecoderGives (λ x. (item_tree x.0, x.1.now)) result (number_by trees.negative argument bytes.now) }
     ensures shorter { IfOk result (λ x. length x.1.now ≤ length bytes.now) }
 {
     let Some((_, n)) = argument else {
@@ -123,7 +123,7 @@ fn decode_special<'a, 'b>(
     bytes: &'b [u8],
     limit: usize,
 ) -> Result<(Item<'a>, &'b [u8]), Fault<CborError>>
-    ensures exact { DecoderGives (λ x. (item_tree x.0, x.1.now)) result (item_by trees (inner trees limit) 7 argument bytes.now) }
+    ensures value { DecoderGives (λ x. (item_tree x.0, x.1.now)) result (item_by trees (inner trees limit) 7 argument bytes.now) }
     ensures shorter { IfOk result (λ x. length x.1.now ≤ length bytes.now) }
 {
     let item = special_item(alloc, argument, limit)?;
@@ -146,7 +146,7 @@ fn decode_items<'a, 'b>(
     bytes: &'b [u8],
     limit: usize,
 ) -> Result<(RowBuilder<'a, Item<'a>>, &'b [u8]), Fault<CborError>>
-    ensures exact { DecoderGives (λ x. (map item_tree (grown x.0), x.1.now)) result (many (item_at trees limit) count bytes.now) }
+    ensures value { DecoderGives (λ x. (map item_tree (grown x.0), x.1.now)) result (many (item_at trees limit) count bytes.now) }
     ensures shorter { IfOk result (λ x. length x.1.now ≤ length bytes.now) }
 {
     let mut found: RowBuilder<'a, Item<'a>> = RowBuilder::new(alloc);
@@ -167,7 +167,7 @@ pub(super) fn decode_items_until<'a, 'b>(
     limit: usize,
     stop: Stop,
 ) -> Result<(RowBuilder<'a, Item<'a>>, &'b [u8]), Fault<CborError>>
-    ensures exact { DecoderGives (λ x. (map item_tree (grown x.0), x.1.now)) result (until stop (item_at trees limit) (suc (length bytes.now)) bytes.now) }
+    ensures value { DecoderGives (λ x. (map item_tree (grown x.0), x.1.now)) result (until stop (item_at trees limit) (suc (length bytes.now)) bytes.now) }
     ensures shorter { IfOk result (λ x. length x.1.now ≤ length bytes.now) }
 {
     let mut found: RowBuilder<'a, Item<'a>> = RowBuilder::new(alloc);
@@ -191,22 +191,22 @@ fn decode_pair<'a, 'b>(
     alloc: Global,
     bytes: &'b [u8],
     limit: usize,
-) -> Result<(Kp<'a>, &'b [u8]), Fault<CborError>>
-    ensures exact { DecoderGives (λ x. (view_pair texts x.0, x.1.now)) result (pair_at trees (item_at trees limit) bytes.now) }
+) -> Result<(Pair<'a>, &'b [u8]), Fault<CborError>>
+    ensures value { DecoderGives (λ x. (view_pair texts x.0, x.1.now)) result (pair_at trees (item_at trees limit) bytes.now) }
     ensures shorter { IfOk result (λ x. length x.1.now < length bytes.now) }
 {
     let (key, rest) = decode_item(alloc, bytes, limit)?;
     let (value, rest) = match decode_item(alloc, rest, limit) {
         Ok(read) => read,
         Err(fault) => {
-            let_go(key);
+            drop_out_of_line(key);
             return Err(fault);
         }
     };
-    let pair = Kp {
+    let pair = Pair {
         key,
-        before_colon: S::empty(),
-        after_colon: S::space(),
+        before_colon: Space::empty(),
+        after_colon: Space::single(),
         value,
     };
     Ok((pair, rest))
@@ -219,22 +219,22 @@ fn decode_pairs<'a, 'b>(
     count: u64,
     bytes: &'b [u8],
     limit: usize,
-) -> Result<(RowBuilder<'a, Kp<'a>>, &'b [u8]), Fault<CborError>>
-    ensures exact { DecoderGives (λ x. (map (view_pair texts) (grown x.0), x.1.now)) result (many (pair_at trees (item_at trees limit)) count bytes.now) }
+) -> Result<(RowBuilder<'a, Pair<'a>>, &'b [u8]), Fault<CborError>>
+    ensures value { DecoderGives (λ x. (map (view_pair texts) (grown x.0), x.1.now)) result (many (pair_at trees (item_at trees limit)) count bytes.now) }
     ensures shorter { IfOk result (λ x. length x.1.now ≤ length bytes.now) }
 {
-    let mut found: RowBuilder<'a, Kp<'a>> = RowBuilder::new(alloc);
+    let mut found: RowBuilder<'a, Pair<'a>> = RowBuilder::new(alloc);
     let mut rest = bytes;
     for _ in 0..count {
         let (pair, after) = match decode_pair(alloc, rest, limit) {
             Ok(read) => read,
             Err(fault) => {
-                let_go(found);
+                drop_out_of_line(found);
                 return Err(fault);
             }
         };
         if let Err(error) = found.push(pair) {
-            let_go(found);
+            drop_out_of_line(found);
             return Err(Fault::Memory(error));
         }
         rest = after;
@@ -248,11 +248,11 @@ fn decode_pairs_until<'a, 'b>(
     alloc: Global,
     bytes: &'b [u8],
     limit: usize,
-) -> Result<(RowBuilder<'a, Kp<'a>>, &'b [u8]), Fault<CborError>>
-    ensures exact { DecoderGives (λ x. (map (view_pair texts) (grown x.0), x.1.now)) result (until Stop.Break (pair_at trees (item_at trees limit)) (suc (length bytes.now)) bytes.now) }
+) -> Result<(RowBuilder<'a, Pair<'a>>, &'b [u8]), Fault<CborError>>
+    ensures value { DecoderGives (λ x. (map (view_pair texts) (grown x.0), x.1.now)) result (until Stop.Break (pair_at trees (item_at trees limit)) (suc (length bytes.now)) bytes.now) }
     ensures shorter { IfOk result (λ x. length x.1.now ≤ length bytes.now) }
 {
-    let mut found: RowBuilder<'a, Kp<'a>> = RowBuilder::new(alloc);
+    let mut found: RowBuilder<'a, Pair<'a>> = RowBuilder::new(alloc);
     let mut rest = bytes;
     'turns: loop {
         match past_stop(Stop::Break, rest) {
@@ -261,12 +261,12 @@ fn decode_pairs_until<'a, 'b>(
                 let (pair, after) = match decode_pair(alloc, rest, limit) {
                     Ok(read) => read,
                     Err(fault) => {
-                        let_go(found);
+                        drop_out_of_line(found);
                         return Err(fault);
                     }
                 };
                 if let Err(error) = found.push(pair) {
-                    let_go(found);
+                    drop_out_of_line(found);
                     return Err(Fault::Memory(error));
                 }
                 rest = after;
@@ -284,7 +284,7 @@ fn decode_array<'a, 'b>(
     bytes: &'b [u8],
     limit: usize,
 ) -> Result<(Item<'a>, &'b [u8]), Fault<CborError>>
-    ensures exact { DecoderGives (λ x. (item_tree x.0, x.1.now)) result (array_by trees (inner trees limit) argument bytes.now) }
+    ensures value { DecoderGives (λ x. (item_tree x.0, x.1.now)) result (array_by trees (inner trees limit) argument bytes.now) }
     ensures shorter { IfOk result (λ x. length x.1.now ≤ length bytes.now) }
 {
     if limit == 0 {
@@ -308,7 +308,7 @@ fn decode_map<'a, 'b>(
     bytes: &'b [u8],
     limit: usize,
 ) -> Result<(Item<'a>, &'b [u8]), Fault<CborError>>
-    ensures exact { DecoderGives (λ x. (item_tree x.0, x.1.now)) result (map_by trees (inner trees limit) argument bytes.now) }
+    ensures value { DecoderGives (λ x. (item_tree x.0, x.1.now)) result (map_by trees (inner trees limit) argument bytes.now) }
     ensures shorter { IfOk result (λ x. length x.1.now ≤ length bytes.now) }
 {
     if limit == 0 {
@@ -332,7 +332,7 @@ fn decode_tag<'a, 'b>(
     bytes: &'b [u8],
     limit: usize,
 ) -> Result<(Item<'a>, &'b [u8]), Fault<CborError>>
-    ensures exact { DecoderGives (λ x. (item_tree x.0, x.1.now)) result (tag_by trees (inner trees limit) argument bytes.now) }
+    ensures value { DecoderGives (λ x. (item_tree x.0, x.1.now)) result (tag_by trees (inner trees limit) argument bytes.now) }
     ensures shorter { IfOk result (λ x. length x.1.now ≤ length bytes.now) }
 {
     let Some((_, number)) = argument else {
@@ -342,8 +342,8 @@ fn decode_tag<'a, 'b>(
         return Err(Fault::Told(CborError::TooDeep));
     }
     let (content, rest) = decode_item(alloc, bytes, limit - 1)?;
-    let label = Label::tag(number, indicator_of(argument));
-    Ok((enclosed_item(alloc, label, content)?, rest))
+    let opener = Opener::tag(number, indicator_of(argument));
+    Ok((enclosed_item(alloc, opener, content)?, rest))
 }
 
 /// The item behind a head.
@@ -355,7 +355,7 @@ fn decode_behind_head<'a, 'b>(
     bytes: &'b [u8],
     limit: usize,
 ) -> Result<(Item<'a>, &'b [u8]), Fault<CborError>>
-    ensures exact { DecoderGives (λ x. (item_tree x.0, x.1.now)) result (item_by trees (inner trees limit) head.0 head.1 bytes.now) }
+    ensures value { DecoderGives (λ x. (item_tree x.0, x.1.now)) result (item_by trees (inner trees limit) head.0 head.1 bytes.now) }
     ensures shorter { IfOk result (λ x. length x.1.now ≤ length bytes.now) }
 {
     let (major, argument) = head;
@@ -378,7 +378,7 @@ pub fn decode_item<'a, 'b>(
     bytes: &'b [u8],
     limit: usize,
 ) -> Result<(Item<'a>, &'b [u8]), Fault<CborError>>
-    ensures exact { DecoderGives (λ x. (item_tree x.0, x.1.now)) result (item_at trees limit bytes.now) }
+    ensures value { DecoderGives (λ x. (item_tree x.0, x.1.now)) result (item_at trees limit bytes.now) }
     ensures shorter { IfOk result (λ x. length x.1.now < length bytes.now) }
 {
     let (head, rest) = head_of(bytes)?;

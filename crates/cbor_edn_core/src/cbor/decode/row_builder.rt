@@ -1,17 +1,17 @@
 //! Rows that grow at their end.
 ghost use Rattle.std.specs.Prelude.{◌≡◌, ◌++◌, ◌∷◌, [], map, OnOk, None};
-ghost use Rattle.cbor_edn_parts.specs.Leaves.{msc_bytes};
+ghost use Rattle.cbor_edn_parts.specs.Leaves.{separator_bytes};
 
 use crate::tree::row::append;
-use cbor_edn_parts::space::Msc;
+use cbor_edn_parts::space::Separator;
 use std::alloc::{AllocError, Global};
 
 /// Entries that are read one behind the other.
 #[derive(Drop)]
 pub(crate) struct RowBuilder<'a, T: Drop> {
-    pub(super) row: Vec<(T, Msc<'a>)>,
+    pub(super) row: Vec<(T, Separator<'a>)>,
     pub(super) last: Option<T>,
-    pub ghost commas: { map (λ p. msc_bytes p.1) row.items ≡ map (λ _. 44 ∷ 32 ∷ []) row.items },
+    pub ghost commas: { map (λ p. separator_bytes p.1) row.items ≡ map (λ _. 44 ∷ 32 ∷ []) row.items },
     pub ghost started: { last ≡ None → row.items ≡ [] },
 }
 
@@ -35,7 +35,7 @@ impl<'a, T: Drop> RowBuilder<'a, T> {
     {
         match std::mem::replace(&mut self.last, Some(entry)) {
             None => Ok(()),
-            Some(last) => append(&mut self.row, (last, Msc::comma_space())),
+            Some(last) => append(&mut self.row, (last, Separator::comma_space())),
         }
     }
 }

@@ -9,7 +9,7 @@ ghost use Rattle.std.specs.Fmt.{decimal};
 ghost use Rattle.cbor_edn_core.specs.tree.View.{item_tree};
 
 use super::CborError;
-use crate::tree::{InnerItem, Item, Label, StandaloneItem};
+use crate::tree::{InnerItem, Item, Opener, StandaloneItem};
 use cbor_edn_model::cbor::decode::float::{float_indicator, non_finite};
 use cbor_edn_model::cbor::decode::head::Argument;
 use cbor_edn_model::cbor::heads::Width;
@@ -46,7 +46,7 @@ fn simple_item<'a>(alloc: Global, number: u64, limit: usize) -> Result<Item<'a>,
         22 => InnerItem::Named(NamedSimple::Null),
         23 => InnerItem::Named(NamedSimple::Undefined),
         _ if limit == 0 => return Err(Fault::Told(CborError::TooDeep)),
-        _ => return Ok(enclosed_item(alloc, Label::simple(), numeral(number))?),
+        _ => return Ok(enclosed_item(alloc, Opener::simple(), numeral(number))?),
     };
     Ok(Item { inner })
 }
@@ -63,12 +63,12 @@ fn numeral<'a>(number: u64) -> Item<'a>
 /// The item between parentheses, with no space round it, behind a label.
 pub(super) fn enclosed_item<'a>(
     alloc: Global,
-    label: Label,
+    opener: Opener,
     item: Item<'a>,
 ) -> Result<Item<'a>, AllocError>
-    ensures { IfOk result (λ t. item_tree t ≡ EnclosedTree label.kind (alone (item_tree item.entry))) }
+    ensures { IfOk result (λ t. item_tree t ≡ EnclosedTree opener.kind (alone (item_tree item.entry))) }
 {
-    Item::enclosed(alloc, label, StandaloneItem::from(item))
+    Item::enclosed(alloc, opener, StandaloneItem::from(item))
 }
 
 /// The floating-point number of so many bytes with these bits: finite ones are refused.

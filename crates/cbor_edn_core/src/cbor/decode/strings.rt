@@ -15,7 +15,7 @@ use cbor_edn_model::cbor::decode::head::{Argument, Stop, head_of, indicator_of, 
 use cbor_edn_model::cbor::heads::{Width, string_major};
 use cbor_edn_parts::error::Fault;
 use cbor_edn_parts::indicator::Indicator;
-use cbor_edn_parts::space::Ms;
+use cbor_edn_parts::space::MandatorySpace;
 use cbor_edn_parts::string::{Literal, StringKind};
 use std::alloc::{AllocError, Global};
 
@@ -26,7 +26,7 @@ fn decode_literal<'a, 'b>(
     count: u64,
     bytes: &'b [u8],
 ) -> Result<(Literal<'a>, &'b [u8]), Fault<CborError>>
-    ensures exact { DecoderGives (λ x. (literal_bytes x.0, x.1.now)) result (shown (kind_literal kind) (string_at kind count bytes.now)) }
+    ensures value { DecoderGives (λ x. (literal_bytes x.0, x.1.now)) result (shown (kind_literal kind) (string_at kind count bytes.now)) }
     ensures shorter { IfOk result (λ x. length x.1.now ≤ length bytes.now) }
     ensures counted { IfOk result (λ x. count ≤ length bytes.now) }
 {
@@ -52,7 +52,7 @@ fn definite<'a, 'b>(
     count: u64,
     bytes: &'b [u8],
 ) -> Result<(CborString<'a>, &'b [u8]), Fault<CborError>>
-    ensures exact { DecoderGives (λ x. (view_string texts x.0, x.1.now)) result (shown (λ bs. definite_tree kind (width, bs)) (string_at kind count bytes.now)) }
+    ensures value { DecoderGives (λ x. (view_string texts x.0, x.1.now)) result (shown (λ bs. definite_tree kind (width, bs)) (string_at kind count bytes.now)) }
     ensures shorter { IfOk result (λ x. length x.1.now ≤ length bytes.now) }
 {
     let (literal, rest) = decode_literal(alloc, kind, count, bytes)?;
@@ -67,7 +67,7 @@ fn decode_chunk<'a, 'b>(
     kind: StringKind,
     bytes: &'b [u8],
 ) -> Result<(CborString<'a>, &'b [u8]), Fault<CborError>>
-    ensures exact { DecoderGives (λ x. (view_string texts x.0, x.1.now)) result (shown (definite_tree kind) (chunk_at kind bytes.now)) }
+    ensures value { DecoderGives (λ x. (view_string texts x.0, x.1.now)) result (shown (definite_tree kind) (chunk_at kind bytes.now)) }
     ensures shorter { IfOk result (λ x. length x.1.now < length bytes.now) }
 {
     let ((major, argument), rest) = head_of(bytes)?;
@@ -85,7 +85,7 @@ fn decode_chunks_until<'a, 'b>(
     kind: StringKind,
     bytes: &'b [u8],
 ) -> Result<(RowBuilder<'a, CborString<'a>>, &'b [u8]), Fault<CborError>>
-    ensures exact { DecoderGives (λ x. (map (view_string texts) (grown x.0), x.1.now)) result (until Stop.Break (λ bs. shown (definite_tree kind) (chunk_at kind bs)) (suc (length bytes.now)) bytes.now) }
+    ensures value { DecoderGives (λ x. (map (view_string texts) (grown x.0), x.1.now)) result (until Stop.Break (λ bs. shown (definite_tree kind) (chunk_at kind bs)) (suc (length bytes.now)) bytes.now) }
     ensures shorter { IfOk result (λ x. length x.1.now ≤ length bytes.now) }
 {
     let mut found: RowBuilder<'a, CborString<'a>> = RowBuilder::new(alloc);
@@ -114,7 +114,7 @@ fn indefinite_string<'a>(
         Some(strings) => Item::stream(
             alloc,
             Stream {
-                ms: Ms::space(),
+                space: MandatorySpace::single(),
                 strings,
             },
         ),
@@ -130,7 +130,7 @@ pub(super) fn decode_string<'a, 'b>(
     argument: Argument,
     bytes: &'b [u8],
 ) -> Result<(Item<'a>, &'b [u8]), Fault<CborError>>
-    ensures exact { DecoderGives (λ x. (item_tree x.0, x.1.now)) result (string_by trees kind argument bytes.now) }
+    ensures value { DecoderGives (λ x. (item_tree x.0, x.1.now)) result (string_by trees kind argument bytes.now) }
     ensures shorter { IfOk result (λ x. length x.1.now ≤ length bytes.now) }
 {
     match argument {

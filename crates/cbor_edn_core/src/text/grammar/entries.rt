@@ -1,33 +1,33 @@
 //! Entries of a row, of any kind, with the separators between them.
 ghost use Rattle.std.specs.Prelude.{◌≡◌, ◌<◌, [], OnOk, IfOk, vec_len, vec_capacity};
 ghost use Rattle.cbor_edn_parts.specs.internal.Ends.{IsEnd, reached};
-ghost use Rattle.cbor_edn_parts.specs.Leaves.{soc_bytes, BorrowsSoc};
+ghost use Rattle.cbor_edn_parts.specs.Leaves.{list_end_bytes, BorrowsListEnd};
 ghost use Rattle.cbor_edn_parts.specs.Refusals.{IfTold};
-ghost use Rattle.cbor_edn_parts.specs.internal.Text.{text_bytes};
+ghost use Rattle.cbor_edn_parts.specs.internal.Input.{text_bytes};
 ghost use Rattle.cbor_edn_core.specs.internal.ParserResults.{IsPushed, ReadsSeparator, LandsSeparator, CostsSeparator, ReadsBehind, LandsBehind, CostsBehind, BorrowsBehind, OnMore};
 
 use crate::tree::row::{append, make_room};
 use cbor_edn_model::text::lookahead::closes;
 use cbor_edn_parts::error::{Fault, ParseErrorKind, Refusal};
+use cbor_edn_parts::input::Input;
 use cbor_edn_parts::looks::Looks;
-use cbor_edn_parts::space::{ItemEnd, Msc, Soc, separator_behind};
-use cbor_edn_parts::text::Text;
+use cbor_edn_parts::space::{ItemEnd, ListEnd, Separator, separator_behind};
 
 /// What stands behind an entry, with the place behind that.
 #[derive(Drop)]
 pub(crate) enum Behind<'a> {
     /// The end of its row.
-    Last(Soc<'a>, usize),
+    Last(ListEnd<'a>, usize),
     /// The separator in front of another entry.
-    More(Msc<'a>, usize),
+    More(Separator<'a>, usize),
 }
 
 /// What stands behind an entry. Where that is another entry, the row has room for this one. So the entry is moved once, from where it was
 /// read to its place in the row.
 pub(super) fn behind_entry<'a, T: Drop>(
-    text: &Text<'a>,
+    text: &Input<'a>,
     end: ItemEnd,
-    row: &mut Vec<(T, Msc<'a>)>,
+    row: &mut Vec<(T, Separator<'a>)>,
     looks: &mut Looks,
 ) -> Result<Behind<'a>, Fault<Refusal>>
     requires { IsEnd (text_bytes text.now) end }
@@ -38,11 +38,11 @@ pub(super) fn behind_entry<'a, T: Drop>(
     ensures unchanged { row.new.items ≡ row.old.items }
     ensures room { IfOk result (λ b. OnMore b (vec_len row.new < vec_capacity row.new)) }
 {
-    let (soc, next) = separator_behind(text, end, looks)?;
+    let (list_end, next) = separator_behind(text, end, looks)?;
     if closes(text, next, looks) {
-        return Ok(Behind::Last(soc, next));
+        return Ok(Behind::Last(list_end, next));
     }
-    let Some(separator) = soc.into_msc() else {
+    let Some(separator) = list_end.into_separator() else {
         return Err(Fault::Told(Refusal::invalid(next)));
     };
     make_room(row)?;
@@ -52,34 +52,34 @@ pub(super) fn behind_entry<'a, T: Drop>(
 /// A string that was read, with the space and the comma behind it. It is handed on: kept where it was read, as the entries of other rows
 /// are, it takes more stack at each level of what nests in it.
 pub(super) fn with_separator<'a, T: Drop>(
-    text: &Text<'a>,
+    text: &Input<'a>,
     read: (T, ItemEnd),
     looks: &mut Looks,
-) -> Result<(T, Soc<'a>, usize), Fault<Refusal>>
+) -> Result<(T, ListEnd<'a>, usize), Fault<Refusal>>
     requires { IsEnd (text_bytes text.now) read.1 }
     ensures value { ReadsSeparator (text_bytes text.now) result read.1.at }
     ensures entry { IfOk result (λ p. p.0 ≡ read.0) }
-    ensures borrowed { IfOk result (λ p. BorrowsSoc p.1) }
+    ensures borrowed { IfOk result (λ p. BorrowsListEnd p.1) }
     ensures place { LandsSeparator (text_bytes text.now) read.1.at result }
     ensures cost { CostsSeparator (text_bytes text.now) (reached read.1) looks.old.count looks.new.count result }
 {
     let (entry, end) = read;
-    let (soc, next) = separator_behind(text, end, looks)?;
-    Ok((entry, soc, next))
+    let (list_end, next) = separator_behind(text, end, looks)?;
+    Ok((entry, list_end, next))
 }
 
 /// Sets a string behind the others, with the separator between it and the next. Where that is empty, the text is
 /// refused.
 pub(super) fn push_entry<'a, T: Drop>(
-    row: &mut Vec<(T, Msc<'a>)>,
+    row: &mut Vec<(T, Separator<'a>)>,
     entry: T,
-    soc: Soc<'a>,
+    list_end: ListEnd<'a>,
     at: usize,
 ) -> Result<(), Fault<Refusal>>
-    ensures pushed { OnOk result (IsPushed row.old.items row.new.items entry soc.entry) }
-    ensures unparted { IfTold result (λ r. (soc_bytes soc.entry ≡ []) × (r ≡ record { kind = ParseErrorKind.Invalid; at = at })) }
+    ensures pushed { OnOk result (IsPushed row.old.items row.new.items entry list_end.entry) }
+    ensures unparted { IfTold result (λ r. (list_end_bytes list_end.entry ≡ []) × (r ≡ record { kind = ParseErrorKind.Invalid; offset = at })) }
 {
-    let Some(separator) = soc.into_msc() else {
+    let Some(separator) = list_end.into_separator() else {
         return Err(Fault::Told(Refusal::invalid(at)));
     };
     append(row, (entry, separator))?;

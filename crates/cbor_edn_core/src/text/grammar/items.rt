@@ -2,7 +2,7 @@
 ghost use Rattle.std.specs.Prelude.{◌≡◌, ◌+◌, ℕ, None, drop, IfOk};
 ghost use Rattle.std.specs.Str.{IsCharBoundary};
 ghost use Rattle.cbor_edn_parts.specs.internal.NumberStarts.{IsStart};
-ghost use Rattle.cbor_edn_parts.specs.internal.Text.{text_bytes};
+ghost use Rattle.cbor_edn_parts.specs.internal.Input.{text_bytes};
 ghost use Rattle.cbor_edn_core.specs.tree.Borrowed.{BorrowsItem};
 ghost use Rattle.cbor_edn_model.specs.internal.LookCosts.{a_byte, extra, refused_extra, keyword_extra, enclosed_extra, refused_enclosed_extra};
 ghost use Rattle.cbor_edn_core.specs.internal.ParserResults.{ReadsEnd, LandsEnd, CostsEnd, CostsEndAhead};
@@ -14,22 +14,22 @@ use super::lists::array_item;
 use super::maps::map_item;
 use super::sequences::standalone;
 use super::strings::{stream_item, string_item};
-use crate::tree::{InnerItem, Item, Label};
+use crate::tree::{InnerItem, Item, Opener};
 use cbor_edn_model::text::keyword::Keyword;
-use cbor_edn_model::text::lookahead::{Opening, is_at, opening_at, tag_number};
+use cbor_edn_model::text::lookahead::{FormStart, form_start_at, is_at, tag_number};
 use cbor_edn_parts::error::{Fault, Refusal};
 use cbor_edn_parts::indicator::indicator_at;
+use cbor_edn_parts::input::Input;
 use cbor_edn_parts::looks::Looks;
 use cbor_edn_parts::number::{NumberStart, number_start};
 use cbor_edn_parts::space::ItemEnd;
-use cbor_edn_parts::text::Text;
 use std::alloc::Global;
 
 /// An item with what nests at most `limit` deep, and its end.
 #[cycle(item)]
 pub(super) fn item<'a>(
     alloc: Global,
-    text: &Text<'a>,
+    text: &Input<'a>,
     from: usize,
     limit: usize,
     looks: &mut Looks,
@@ -40,20 +40,20 @@ pub(super) fn item<'a>(
     ensures place { LandsEnd (text_bytes text.now) from result }
     ensures cost { CostsEnd a_byte (extra OneItem) (refused_extra OneItem) (text_bytes text.now) from looks.old.count looks.new.count result }
 {
-    match opening_at(text, from, looks) {
-        Opening::Array => array_item(alloc, text, from, limit, looks),
-        Opening::Map => map_item(alloc, text, from, limit, looks),
-        Opening::Stream => stream_item(alloc, text, from, limit, looks),
-        Opening::String => string_item(alloc, text, from, limit, looks),
-        Opening::Keyword(keyword, to) => keyword_item(alloc, text, keyword, to, limit, looks),
-        Opening::Number => {
+    match form_start_at(text, from, looks) {
+        FormStart::Array => array_item(alloc, text, from, limit, looks),
+        FormStart::Map => map_item(alloc, text, from, limit, looks),
+        FormStart::Stream => stream_item(alloc, text, from, limit, looks),
+        FormStart::String => string_item(alloc, text, from, limit, looks),
+        FormStart::Keyword(keyword, to) => keyword_item(alloc, text, keyword, to, limit, looks),
+        FormStart::Number => {
             let start = number_start(text, from, looks);
             if let Some(number) = start.plain(text, from) {
                 return Ok((
                     Item {
                         inner: InnerItem::Number(None, number),
                     },
-                    end_without_space(start.at),
+                    ItemEnd::bare(start.at),
                 ));
             }
             number_item(alloc, text, from, start, limit, looks)
@@ -66,7 +66,7 @@ pub(super) fn item<'a>(
 #[inline(never)]
 fn number_item<'a>(
     alloc: Global,
-    text: &Text<'a>,
+    text: &Input<'a>,
     from: usize,
     start: NumberStart,
     limit: usize,
@@ -85,13 +85,20 @@ fn number_item<'a>(
         let Some(number) = tag_number(text, from, at, looks) else {
             return Err(Fault::Told(Refusal::invalid(from)));
         };
-        return enclosed_item(alloc, text, Label::tag(number, indicator), to, limit, looks);
+        return enclosed_item(
+            alloc,
+            text,
+            Opener::tag(number, indicator),
+            to,
+            limit,
+            looks,
+        );
     }
     Ok((
         Item {
             inner: InnerItem::Number(indicator, number),
         },
-        end_without_space(to),
+        ItemEnd::bare(to),
     ))
 }
 
@@ -100,7 +107,7 @@ fn number_item<'a>(
 #[inline(never)]
 fn keyword_item<'a>(
     alloc: Global,
-    text: &Text<'a>,
+    text: &Input<'a>,
     keyword: Keyword,
     from: usize,
     limit: usize,
@@ -117,7 +124,7 @@ fn keyword_item<'a>(
             Item {
                 inner: InnerItem::Named(name),
             },
-            end_without_space(from),
+            ItemEnd::bare(from),
         )),
         Keyword::NonFinite(float) => {
             let (indicator, to) = indicator_at(text, from, looks);
@@ -125,10 +132,10 @@ fn keyword_item<'a>(
                 Item {
                     inner: InnerItem::NonFinite(indicator, float),
                 },
-                end_without_space(to),
+                ItemEnd::bare(to),
             ))
         }
-        Keyword::Simple => enclosed_item(alloc, text, Label::simple(), from, limit, looks),
+        Keyword::Simple => enclosed_item(alloc, text, Opener::simple(), from, limit, looks),
     }
 }
 
@@ -137,14 +144,14 @@ fn keyword_item<'a>(
 #[inline(never)]
 fn enclosed_item<'a>(
     alloc: Global,
-    text: &Text<'a>,
-    label: Label,
+    text: &Input<'a>,
+    opener: Opener,
     from: usize,
     limit: usize,
     looks: &mut Looks,
 ) -> Result<(Item<'a>, ItemEnd), Fault<Refusal>>
     requires { IsCharBoundary (text_bytes text.now) from }
-    ensures value { ReadsEnd item_tree (text_bytes text.now) result (enclosed_item reads limit label.kind (drop from (text_bytes text.now))) }
+    ensures value { ReadsEnd item_tree (text_bytes text.now) result (enclosed_item reads limit opener.kind (drop from (text_bytes text.now))) }
     ensures borrowed { IfOk result (λ p. BorrowsItem p.0) }
     ensures place { LandsEnd (text_bytes text.now) from result }
     ensures cost { CostsEnd a_byte enclosed_extra refused_enclosed_extra (text_bytes text.now) from looks.old.count looks.new.count result }
@@ -159,13 +166,6 @@ fn enclosed_item<'a>(
     if !is_at(text, to, b')', looks) {
         return Err(Fault::Told(Refusal::invalid(to)));
     }
-    let item = Item::enclosed(alloc, label, content)?;
-    Ok((item, end_without_space(to + 1)))
-}
-
-/// An end behind which no space is read.
-pub(super) fn end_without_space(at: usize) -> ItemEnd
-    ensures { result ≡ record { at = at; space = None } }
-{
-    ItemEnd { at, space: None }
+    let item = Item::enclosed(alloc, opener, content)?;
+    Ok((item, ItemEnd::bare(to + 1)))
 }

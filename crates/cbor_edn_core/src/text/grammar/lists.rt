@@ -2,7 +2,7 @@
 ghost use Rattle.std.specs.Prelude.{◌+◌, drop, IfOk};
 ghost use Rattle.std.specs.Str.{IsCharBoundary};
 ghost use Rattle.cbor_edn_parts.specs.internal.Scans.{Costs};
-ghost use Rattle.cbor_edn_parts.specs.internal.Text.{text_bytes};
+ghost use Rattle.cbor_edn_parts.specs.internal.Input.{text_bytes};
 ghost use Rattle.cbor_edn_core.specs.tree.Borrowed.{BorrowsItem, BorrowsList, BorrowsItems};
 ghost use Rattle.cbor_edn_model.specs.tree.Items.{Elements, Array as Bracket};
 ghost use Rattle.cbor_edn_model.specs.internal.LookCosts.{a_byte, extra, refused_extra, list_extra};
@@ -14,15 +14,15 @@ ghost use Rattle.cbor_edn_core.specs.tree.View.{item_tree, view_list, view_items
 ghost use Rattle.cbor_edn_model.specs.tree.TreeLeaves.{texts};
 
 use super::entries::{Behind, behind_entry};
-use super::items::{end_without_space, item};
-use crate::tree::row::let_go;
+use super::items::item;
+use crate::tree::row::drop_out_of_line;
 use crate::tree::{Item, ItemList, Items};
 use cbor_edn_model::text::lookahead::{closes, is_at, list_head_and_space};
 use cbor_edn_parts::error::{Fault, Refusal};
 use cbor_edn_parts::indicator::indicator_at;
+use cbor_edn_parts::input::Input;
 use cbor_edn_parts::looks::Looks;
-use cbor_edn_parts::space::{ItemEnd, space};
-use cbor_edn_parts::text::Text;
+use cbor_edn_parts::space::{ItemEnd, space_at};
 use std::alloc::Global;
 
 /// An array with its brackets.
@@ -30,7 +30,7 @@ use std::alloc::Global;
 #[inline(never)]
 pub(super) fn array_item<'a>(
     alloc: Global,
-    text: &Text<'a>,
+    text: &Input<'a>,
     from: usize,
     limit: usize,
     looks: &mut Looks,
@@ -50,14 +50,14 @@ pub(super) fn array_item<'a>(
         return Err(Fault::Told(Refusal::invalid(to)));
     }
     let item = Item::array(alloc, list)?;
-    Ok((item, end_without_space(to + 1)))
+    Ok((item, ItemEnd::bare(to + 1)))
 }
 
 /// What stands between the brackets of an array.
 #[cycle(item)]
 fn array<'a>(
     alloc: Global,
-    text: &Text<'a>,
+    text: &Input<'a>,
     from: usize,
     limit: usize,
     looks: &mut Looks,
@@ -69,15 +69,15 @@ fn array<'a>(
     ensures cost { Costs a_byte (extra (Inside Bracket)) (refused_extra (Inside Bracket)) (text_bytes text.now) from looks.old.count looks.new.count result }
 {
     let (indicator, at) = indicator_at(text, from, looks);
-    let (s, at) = space(text, at, looks)?;
+    let (space, at) = space_at(text, at, looks)?;
     if closes(text, at, looks) {
-        return Ok((ItemList::Absent { indicator, s }, at));
+        return Ok((ItemList::Absent { indicator, space }, at));
     }
-    let Some((head, s)) = list_head_and_space(indicator, s) else {
+    let Some((head, space)) = list_head_and_space(indicator, space) else {
         return Err(Fault::Told(Refusal::invalid(at)));
     };
     let (items, to) = items(alloc, text, at, limit, looks)?;
-    Ok((ItemList::Present { head, s, items }, to))
+    Ok((ItemList::Present { head, space, items }, to))
 }
 
 /// Items, one or more, each with the space behind it.
@@ -85,7 +85,7 @@ fn array<'a>(
 #[inline(always)]
 pub(super) fn items<'a>(
     alloc: Global,
-    text: &Text<'a>,
+    text: &Input<'a>,
     from: usize,
     limit: usize,
     looks: &mut Looks,
@@ -103,14 +103,21 @@ pub(super) fn items<'a>(
         let behind = match behind_entry(text, end, &mut row, looks) {
             Ok(behind) => behind,
             Err(fault) => {
-                let_go(item);
+                drop_out_of_line(item);
                 return Err(fault);
             }
         };
         match behind {
-            Behind::Last(soc, next) => {
+            Behind::Last(list_end, next) => {
                 let last = item;
-                return Ok((Items { row, last, soc }, next));
+                return Ok((
+                    Items {
+                        row,
+                        last,
+                        end: list_end,
+                    },
+                    next,
+                ));
             }
             Behind::More(separator, next) => {
                 row.push_reserved((item, separator));

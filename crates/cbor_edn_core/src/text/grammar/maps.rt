@@ -2,8 +2,8 @@
 ghost use Rattle.std.specs.Prelude.{◌+◌, drop, IfOk};
 ghost use Rattle.std.specs.Str.{IsCharBoundary};
 ghost use Rattle.cbor_edn_parts.specs.internal.Scans.{Costs};
-ghost use Rattle.cbor_edn_parts.specs.Leaves.{s_bytes, BorrowsS};
-ghost use Rattle.cbor_edn_parts.specs.internal.Text.{text_bytes};
+ghost use Rattle.cbor_edn_parts.specs.Leaves.{space_bytes, BorrowsSpace};
+ghost use Rattle.cbor_edn_parts.specs.internal.Input.{text_bytes};
 ghost use Rattle.cbor_edn_core.specs.tree.Borrowed.{BorrowsItem, BorrowsPair, BorrowsPairList, BorrowsPairs};
 ghost use Rattle.cbor_edn_model.specs.tree.Items.{Pairs as Keyed, Map as Brace};
 ghost use Rattle.cbor_edn_model.specs.internal.LookCosts.{a_byte, extra, refused_extra, list_extra, value_extra, refused_value_extra};
@@ -15,15 +15,15 @@ ghost use Rattle.cbor_edn_core.specs.tree.View.{item_tree, view_pair, view_pair_
 ghost use Rattle.cbor_edn_model.specs.tree.TreeLeaves.{texts};
 
 use super::entries::{Behind, behind_entry};
-use super::items::{end_without_space, item};
-use crate::tree::row::let_go;
-use crate::tree::{Item, Kp, PairList, Pairs};
+use super::items::item;
+use crate::tree::row::drop_out_of_line;
+use crate::tree::{Item, Pair, PairList, Pairs};
 use cbor_edn_model::text::lookahead::{closes, is_at, list_head_and_space};
 use cbor_edn_parts::error::{Fault, Refusal};
 use cbor_edn_parts::indicator::indicator_at;
+use cbor_edn_parts::input::Input;
 use cbor_edn_parts::looks::Looks;
-use cbor_edn_parts::space::{ItemEnd, S, space, space_behind};
-use cbor_edn_parts::text::Text;
+use cbor_edn_parts::space::{ItemEnd, Space, space_at, space_behind};
 use std::alloc::Global;
 
 /// A map with its braces.
@@ -31,7 +31,7 @@ use std::alloc::Global;
 #[inline(never)]
 pub(super) fn map_item<'a>(
     alloc: Global,
-    text: &Text<'a>,
+    text: &Input<'a>,
     from: usize,
     limit: usize,
     looks: &mut Looks,
@@ -51,14 +51,14 @@ pub(super) fn map_item<'a>(
         return Err(Fault::Told(Refusal::invalid(to)));
     }
     let item = Item::map(alloc, list)?;
-    Ok((item, end_without_space(to + 1)))
+    Ok((item, ItemEnd::bare(to + 1)))
 }
 
 /// What stands between the braces of a map.
 #[cycle(item)]
 fn map<'a>(
     alloc: Global,
-    text: &Text<'a>,
+    text: &Input<'a>,
     from: usize,
     limit: usize,
     looks: &mut Looks,
@@ -70,22 +70,22 @@ fn map<'a>(
     ensures cost { Costs a_byte (extra (Inside Brace)) (refused_extra (Inside Brace)) (text_bytes text.now) from looks.old.count looks.new.count result }
 {
     let (indicator, at) = indicator_at(text, from, looks);
-    let (s, at) = space(text, at, looks)?;
+    let (space, at) = space_at(text, at, looks)?;
     if closes(text, at, looks) {
-        return Ok((PairList::Absent { indicator, s }, at));
+        return Ok((PairList::Absent { indicator, space }, at));
     }
-    let Some((head, s)) = list_head_and_space(indicator, s) else {
+    let Some((head, space)) = list_head_and_space(indicator, space) else {
         return Err(Fault::Told(Refusal::invalid(at)));
     };
     let (pairs, to) = pairs(alloc, text, at, limit, looks)?;
-    Ok((PairList::Present { head, s, pairs }, to))
+    Ok((PairList::Present { head, space, pairs }, to))
 }
 
 /// Pairs, one or more, each with the space behind it.
 #[cycle(item)]
 fn pairs<'a>(
     alloc: Global,
-    text: &Text<'a>,
+    text: &Input<'a>,
     from: usize,
     limit: usize,
     looks: &mut Looks,
@@ -103,14 +103,21 @@ fn pairs<'a>(
         let behind = match behind_entry(text, end, &mut row, looks) {
             Ok(behind) => behind,
             Err(fault) => {
-                let_go(pair);
+                drop_out_of_line(pair);
                 return Err(fault);
             }
         };
         match behind {
-            Behind::Last(soc, next) => {
+            Behind::Last(list_end, next) => {
                 let last = pair;
-                return Ok((Pairs { row, last, soc }, next));
+                return Ok((
+                    Pairs {
+                        row,
+                        last,
+                        end: list_end,
+                    },
+                    next,
+                ));
             }
             Behind::More(separator, next) => {
                 row.push_reserved((pair, separator));
@@ -124,11 +131,11 @@ fn pairs<'a>(
 #[cycle(item)]
 fn pair<'a>(
     alloc: Global,
-    text: &Text<'a>,
+    text: &Input<'a>,
     from: usize,
     limit: usize,
     looks: &mut Looks,
-) -> Result<(Kp<'a>, ItemEnd), Fault<Refusal>>
+) -> Result<(Pair<'a>, ItemEnd), Fault<Refusal>>
     requires { IsCharBoundary (text_bytes text.now) from }
     ensures value { ReadsEnd (view_pair texts) (text_bytes text.now) result (reads limit (OneEntry Keyed) (drop from (text_bytes text.now))) }
     ensures borrowed { IfOk result (λ p. BorrowsPair p.0) }
@@ -147,23 +154,23 @@ fn pair<'a>(
 #[cycle(item)]
 fn pair_of_key<'a>(
     alloc: Global,
-    text: &Text<'a>,
+    text: &Input<'a>,
     from: usize,
     limit: usize,
     key: Item<'a>,
-    before_colon: S<'a>,
+    before_colon: Space<'a>,
     looks: &mut Looks,
-) -> Result<(Kp<'a>, ItemEnd), Fault<Refusal>>
+) -> Result<(Pair<'a>, ItemEnd), Fault<Refusal>>
     requires { IsCharBoundary (text_bytes text.now) from }
-    ensures value { ReadsEnd (view_pair texts) (text_bytes text.now) result (behind_colon limit (item_tree key.entry) (s_bytes before_colon.entry) (drop from (text_bytes text.now))) }
-    ensures borrowed { BorrowsItem key.entry → BorrowsS before_colon.entry → IfOk result (λ p. BorrowsPair p.0) }
+    ensures value { ReadsEnd (view_pair texts) (text_bytes text.now) result (behind_colon limit (item_tree key.entry) (space_bytes before_colon.entry) (drop from (text_bytes text.now))) }
+    ensures borrowed { BorrowsItem key.entry → BorrowsSpace before_colon.entry → IfOk result (λ p. BorrowsPair p.0) }
     ensures place { LandsEnd (text_bytes text.now) from result }
     ensures cost { CostsEnd a_byte value_extra refused_value_extra (text_bytes text.now) from looks.old.count looks.new.count result }
 {
-    let (after_colon, at) = space(text, from, looks)?;
+    let (after_colon, at) = space_at(text, from, looks)?;
     let (value, end) = item(alloc, text, at, limit, looks)?;
     Ok((
-        Kp {
+        Pair {
             key,
             before_colon,
             after_colon,

@@ -2,7 +2,7 @@
 ghost use Rattle.std.specs.Prelude.{drop, IfOk};
 ghost use Rattle.std.specs.Str.{IsCharBoundary};
 ghost use Rattle.cbor_edn_parts.specs.internal.Scans.{Costs};
-ghost use Rattle.cbor_edn_parts.specs.internal.Text.{text_bytes};
+ghost use Rattle.cbor_edn_parts.specs.internal.Input.{text_bytes};
 ghost use Rattle.cbor_edn_core.specs.tree.Borrowed.{BorrowsSequence, BorrowsStandalone};
 ghost use Rattle.cbor_edn_model.specs.internal.LookCosts.{a_byte, extra, refused_extra};
 ghost use Rattle.cbor_edn_core.specs.internal.ParserResults.{Reads, Lands};
@@ -15,9 +15,9 @@ use super::lists::items;
 use crate::tree::{Sequence, StandaloneItem};
 use cbor_edn_model::text::lookahead::closes;
 use cbor_edn_parts::error::{Fault, Refusal};
+use cbor_edn_parts::input::Input;
 use cbor_edn_parts::looks::Looks;
-use cbor_edn_parts::space::{space, space_behind};
-use cbor_edn_parts::text::Text;
+use cbor_edn_parts::space::{space_at, space_behind};
 use std::alloc::Global;
 
 /// Items, or none, and the spaces round them.
@@ -25,7 +25,7 @@ use std::alloc::Global;
 #[inline(always)]
 pub(crate) fn sequence<'a>(
     alloc: Global,
-    text: &Text<'a>,
+    text: &Input<'a>,
     from: usize,
     limit: usize,
     looks: &mut Looks,
@@ -36,7 +36,7 @@ pub(crate) fn sequence<'a>(
     ensures place { Lands (text_bytes text.now) from result }
     ensures cost { Costs a_byte (extra Seq) (refused_extra Seq) (text_bytes text.now) from looks.old.count looks.new.count result }
 {
-    let (before, at) = space(text, from, looks)?;
+    let (before, at) = space_at(text, from, looks)?;
     if closes(text, at, looks) {
         return Ok((
             Sequence {
@@ -60,7 +60,7 @@ pub(crate) fn sequence<'a>(
 #[cycle(item)]
 pub(crate) fn standalone<'a>(
     alloc: Global,
-    text: &Text<'a>,
+    text: &Input<'a>,
     from: usize,
     limit: usize,
     looks: &mut Looks,
@@ -71,7 +71,7 @@ pub(crate) fn standalone<'a>(
     ensures place { Lands (text_bytes text.now) from result }
     ensures cost { Costs a_byte (extra Standalone) (refused_extra Standalone) (text_bytes text.now) from looks.old.count looks.new.count result }
 {
-    let (before, at) = space(text, from, looks)?;
+    let (before, at) = space_at(text, from, looks)?;
     let (item, end) = item(alloc, text, at, limit, looks)?;
     let (after, to) = space_behind(text, end, looks)?;
     Ok((

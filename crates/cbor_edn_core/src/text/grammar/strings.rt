@@ -2,7 +2,7 @@
 ghost use Rattle.std.specs.Prelude.{◌≡◌, ◌≤◌, ◌+◌, ◌∷◌, ◌<◌, None, true, drop, OnOk, IfOk, IfErr};
 ghost use Rattle.std.specs.Str.{IsCharBoundary};
 ghost use Rattle.cbor_edn_parts.specs.internal.Scans.{Costs};
-ghost use Rattle.cbor_edn_parts.specs.internal.Text.{text_bytes};
+ghost use Rattle.cbor_edn_parts.specs.internal.Input.{text_bytes};
 ghost use Rattle.cbor_edn_core.specs.tree.Borrowed.{BorrowsItem, BorrowsPiece, BorrowsString, BorrowsStream, BorrowsStrings};
 ghost use Rattle.cbor_edn_model.specs.tree.Items.{Strings as Chunks};
 ghost use Rattle.cbor_edn_model.specs.internal.LookCosts.{a_byte, extra, refused_extra, list_extra, refused_stream_extra};
@@ -14,17 +14,16 @@ ghost use Rattle.cbor_edn_core.specs.tree.View.{item_tree, view_piece, view_stri
 ghost use Rattle.cbor_edn_model.specs.tree.TreeLeaves.{texts};
 
 use super::entries::{push_entry, with_separator};
-use super::items::end_without_space;
 use super::sequences::sequence;
 use crate::tree::row::append;
 use crate::tree::{CborString, Item, Piece, Stream, Strings};
 use cbor_edn_model::text::lookahead::{closes, is_at, joins};
 use cbor_edn_parts::error::{Fault, ParseErrorKind, Refusal};
 use cbor_edn_parts::indicator::indicator_at;
+use cbor_edn_parts::input::Input;
 use cbor_edn_parts::looks::Looks;
-use cbor_edn_parts::space::{ItemEnd, space};
-use cbor_edn_parts::string::{dots_at, literal_at};
-use cbor_edn_parts::text::Text;
+use cbor_edn_parts::space::{ItemEnd, space_at};
+use cbor_edn_parts::string::{ellipsis_at, literal_at};
 use std::alloc::Global;
 
 /// A string of indefinite length with its parentheses.
@@ -32,7 +31,7 @@ use std::alloc::Global;
 #[inline(never)]
 pub(super) fn stream_item<'a>(
     alloc: Global,
-    text: &Text<'a>,
+    text: &Input<'a>,
     from: usize,
     limit: usize,
     looks: &mut Looks,
@@ -46,7 +45,7 @@ pub(super) fn stream_item<'a>(
 {
     let (stream, to) = stream(alloc, text, from + 1, limit, looks)?;
     let item = Item::stream(alloc, stream)?;
-    Ok((item, end_without_space(to)))
+    Ok((item, ItemEnd::bare(to)))
 }
 
 /// A string.
@@ -54,7 +53,7 @@ pub(super) fn stream_item<'a>(
 #[inline(never)]
 pub(super) fn string_item<'a>(
     alloc: Global,
-    text: &Text<'a>,
+    text: &Input<'a>,
     from: usize,
     limit: usize,
     looks: &mut Looks,
@@ -75,7 +74,7 @@ pub(super) fn string_item<'a>(
 #[cycle(item)]
 fn strings<'a>(
     alloc: Global,
-    text: &Text<'a>,
+    text: &Input<'a>,
     from: usize,
     limit: usize,
     looks: &mut Looks,
@@ -90,12 +89,19 @@ fn strings<'a>(
     let mut at = from;
     'strings: loop {
         let read = string(alloc, text, at, limit, looks)?;
-        let (string, soc, next) = with_separator(text, read, looks)?;
+        let (string, list_end, next) = with_separator(text, read, looks)?;
         if closes(text, next, looks) {
             let last = string;
-            return Ok((Strings { row, last, soc }, next));
+            return Ok((
+                Strings {
+                    row,
+                    last,
+                    end: list_end,
+                },
+                next,
+            ));
         }
-        push_entry(&mut row, string, soc, next)?;
+        push_entry(&mut row, string, list_end, next)?;
         at = next;
     }
 }
@@ -104,7 +110,7 @@ fn strings<'a>(
 #[cycle(item)]
 fn stream<'a>(
     alloc: Global,
-    text: &Text<'a>,
+    text: &Input<'a>,
     from: usize,
     limit: usize,
     looks: &mut Looks,
@@ -118,15 +124,15 @@ fn stream<'a>(
     if !is_at(text, from, b'_', looks) {
         return Err(Fault::Told(Refusal::invalid(from)));
     }
-    let (s, at) = space(text, from + 1, looks)?;
-    let Some(ms) = s.into_ms() else {
+    let (space, at) = space_at(text, from + 1, looks)?;
+    let Some(space) = space.into_mandatory() else {
         return Err(Fault::Told(Refusal::invalid(at)));
     };
     let (strings, to) = strings(alloc, text, at, limit, looks)?;
     if !is_at(text, to, b')', looks) {
         return Err(Fault::Told(Refusal::invalid(to)));
     }
-    Ok((Stream { ms, strings }, to + 1))
+    Ok((Stream { space, strings }, to + 1))
 }
 
 /// Pieces, one or more, joined by plus signs. The space behind the last one is read.
@@ -134,7 +140,7 @@ fn stream<'a>(
 #[inline(always)]
 fn string<'a>(
     alloc: Global,
-    text: &Text<'a>,
+    text: &Input<'a>,
     from: usize,
     limit: usize,
     looks: &mut Looks,
@@ -149,7 +155,7 @@ fn string<'a>(
     let mut at = from;
     'pieces: loop {
         let (piece, behind) = piece(alloc, text, at, limit, looks)?;
-        let (before, to) = space(text, behind, looks)?;
+        let (before, to) = space_at(text, behind, looks)?;
         if !joins(text, to, looks) {
             let end = ItemEnd {
                 at: behind,
@@ -157,7 +163,7 @@ fn string<'a>(
             };
             return Ok((CborString { row, last: piece }, end));
         }
-        let (after, next) = space(text, to + 1, looks)?;
+        let (after, next) = space_at(text, to + 1, looks)?;
         append(&mut row, (piece, before, after))?;
         at = next;
     }
@@ -168,7 +174,7 @@ fn string<'a>(
 #[inline(always)]
 fn piece<'a>(
     alloc: Global,
-    text: &Text<'a>,
+    text: &Input<'a>,
     from: usize,
     limit: usize,
     looks: &mut Looks,
@@ -183,8 +189,8 @@ fn piece<'a>(
         return embedded_piece(alloc, text, from, limit, looks);
     }
     if is_at(text, from, b'.', looks) {
-        let (dots, to) = dots_at(text, from, looks)?;
-        return Ok((Piece::Dots(dots), to));
+        let (ellipsis, to) = ellipsis_at(text, from, looks)?;
+        return Ok((Piece::Ellipsis(ellipsis), to));
     }
     let (literal, at) = literal_at(text, from, looks)?;
     let (indicator, to) = indicator_at(text, at, looks);
@@ -196,7 +202,7 @@ fn piece<'a>(
 #[inline(never)]
 fn embedded_piece<'a>(
     alloc: Global,
-    text: &Text<'a>,
+    text: &Input<'a>,
     from: usize,
     limit: usize,
     looks: &mut Looks,
@@ -222,10 +228,10 @@ fn embedded_piece<'a>(
 }
 
 /// The place behind `>>`.
-fn embedded_end(text: &Text<'_>, at: usize, looks: &mut Looks) -> Result<usize, Refusal>
+fn embedded_end(text: &Input<'_>, at: usize, looks: &mut Looks) -> Result<usize, Refusal>
     requires { IsCharBoundary (text_bytes text.now) at }
     ensures yes { IfOk result (λ to. (to ≡ at + 2) × (drop at (text_bytes text.now) ≡ 62 ∷ 62 ∷ drop to (text_bytes text.now)) × IsCharBoundary (text_bytes text.now) to) }
-    ensures no { IfErr result (λ r. (r.kind ≡ ParseErrorKind.Invalid) × IsCharBoundary (text_bytes text.now) r.at × IsUnclosed (drop at (text_bytes text.now))) }
+    ensures no { IfErr result (λ r. (r.kind ≡ ParseErrorKind.Invalid) × IsCharBoundary (text_bytes text.now) r.offset × IsUnclosed (drop at (text_bytes text.now))) }
     ensures count { (looks.old.count < looks.new.count) × (looks.new.count ≤ looks.old.count + 2) }
     ensures least { OnOk result (looks.new.count ≡ looks.old.count + 2) }
 {

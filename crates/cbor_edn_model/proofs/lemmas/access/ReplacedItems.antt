@@ -4,11 +4,11 @@ use Rattle.std.proofs.lemmas.Bool.{false≢true, ltb-true, ltb-false}
 use Rattle.std.specs.List.{slice_index}
 use Rattle.std.specs.Option.{IsSome}
 use Rattle.std.specs.Prelude.{if◌then◌else◌, ltb, slice_get, option_map, option_and_then, unwrap_or}
-use Rattle.cbor_edn_model.specs.declared.text.label.LabelKind.TheVariants as label
+use Rattle.cbor_edn_model.specs.declared.text.opener.OpenerKind.TheVariants as opener
 use Rattle.cbor_edn_model.specs.access.Paths.{items_in, at, at_sequence, with_item, with_at, with_at_sequence}
-use Rattle.cbor_edn_model.specs.tree.Trees.{Rule, Tree, OneItem, Seq, NumberTree, FloatTree, NamedTree, EnclosedTree, ListTree, StringTree, StreamTree, LiteralTree, DotsTree, EmbeddedTree, LastPieceTree, PlusTree, ElementTree, PairTree, ChunkTree, EmptyTree, FullTree, LastTree, MoreTree, NothingTree, SequenceTree, Standalone, StandaloneTree}
+use Rattle.cbor_edn_model.specs.tree.Trees.{Rule, Tree, OneItem, Seq, NumberTree, FloatTree, NamedTree, EnclosedTree, ListTree, StringTree, StreamTree, LiteralTree, EllipsisTree, EmbeddedTree, LastPieceTree, PlusTree, ElementTree, PairTree, ChunkTree, EmptyTree, FullTree, LastTree, MoreTree, NothingTree, SequenceTree, Standalone, StandaloneTree}
 use Rattle.cbor_edn_model.specs.internal.Counted.{is_simple_item}
-use Rattle.cbor_edn_model.specs.declared.text.label.LabelKind.{LabelKind}
+use Rattle.cbor_edn_model.specs.declared.text.opener.OpenerKind.{OpenerKind}
 use Rattle.cbor_edn_model.proofs.lemmas.access.CountedItems.{get_left, get_right}
 
 -- what stands in two parts stands in the first or in the second
@@ -29,13 +29,13 @@ pub put_back : {s : Rule} (i : ℕ) (c : Tree OneItem) (t : Tree s) → slice_ge
 put_back i c (NumberTree x p) e = refl
 put_back i c (FloatTree f p) e = refl
 put_back i c (NamedTree b) e = refl
-put_back i c (EnclosedTree (label.Tag p n) w) e = ap (EnclosedTree (label.Tag p n)) (put_back i c w e)
-put_back i c (EnclosedTree label.Simple w) e = refl
+put_back i c (EnclosedTree (opener.Tag p n) w) e = ap (EnclosedTree (opener.Tag p n)) (put_back i c w e)
+put_back i c (EnclosedTree opener.Simple w) e = refl
 put_back i c (ListTree k w) e = ap (ListTree k) (put_back i c w e)
 put_back i c (StringTree w) e = ap StringTree (put_back i c w e)
 put_back i c (StreamTree ms m) e = ap (StreamTree ms) (put_back i c m e)
 put_back i c (LiteralTree x p) e = refl
-put_back i c (DotsTree x) e = refl
+put_back i c (EllipsisTree x) e = refl
 put_back i c (EmbeddedTree w p) e = ap (λ z. EmbeddedTree z p) (put_back i c w e)
 put_back i c (LastPieceTree p) e = ap LastPieceTree (put_back i c p e)
 put_back i c (PlusTree p s t w) e =
@@ -62,19 +62,19 @@ pub nothing_below : (t : Tree OneItem) (i : ℕ) → is_simple_item t ≡ true �
 nothing_below (NumberTree x p) i e = refl
 nothing_below (FloatTree f p) i e = refl
 nothing_below (NamedTree b) i e = refl
-nothing_below (EnclosedTree (label.Tag p n) w) i e = absurd (false≢true e)
-nothing_below (EnclosedTree label.Simple w) i e = refl
+nothing_below (EnclosedTree (opener.Tag p n) w) i e = absurd (false≢true e)
+nothing_below (EnclosedTree opener.Simple w) i e = refl
 nothing_below (ListTree k w) i e = absurd (false≢true e)
 nothing_below (StringTree w) i e = absurd (false≢true e)
 nothing_below (StreamTree ms m) i e = absurd (false≢true e)
 
-pub tag_items : (k : LabelKind) (w : Tree Standalone) → (is_simple_item (EnclosedTree k w) ≡ true → ⊥) → items_in (EnclosedTree k w) ≡ items_in w
-tag_items (label.Tag p n) w differs = refl
-tag_items label.Simple w differs = absurd (differs refl)
+pub tag_items : (k : OpenerKind) (w : Tree Standalone) → (is_simple_item (EnclosedTree k w) ≡ true → ⊥) → items_in (EnclosedTree k w) ≡ items_in w
+tag_items (opener.Tag p n) w differs = refl
+tag_items opener.Simple w differs = absurd (differs refl)
 
-pub tag_with : (k : LabelKind) (w : Tree Standalone) → (is_simple_item (EnclosedTree k w) ≡ true → ⊥) → (i : ℕ) (x : Tree OneItem) → with_item i x (EnclosedTree k w) ≡ EnclosedTree k (with_item i x w)
-tag_with (label.Tag p n) w differs i x = refl
-tag_with label.Simple w differs i x = absurd (differs refl)
+pub tag_with : (k : OpenerKind) (w : Tree Standalone) → (is_simple_item (EnclosedTree k w) ≡ true → ⊥) → (i : ℕ) (x : Tree OneItem) → with_item i x (EnclosedTree k w) ≡ EnclosedTree k (with_item i x w)
+tag_with (opener.Tag p n) w differs i x = refl
+tag_with opener.Simple w differs i x = absurd (differs refl)
 
 -- ---- paths
 

@@ -9,7 +9,7 @@ use Rattle.cbor_edn_model.specs.declared.cbor.decode.CborError.{CborError}
 use Rattle.cbor_edn_model.specs.declared.cbor.decode.CborError.TheVariants.{InvalidSimple, TooDeep}
 use Rattle.cbor_edn_model.specs.declared.cbor.decode.head.Stop.{Stop}
 use Rattle.cbor_edn_model.specs.declared.cbor.decode.head.Stop.TheVariants.{Break}
-use Rattle.cbor_edn_model.specs.declared.text.label.LabelKind.TheVariants.{Tag}
+use Rattle.cbor_edn_model.specs.declared.text.opener.OpenerKind.TheVariants.{Tag}
 use Rattle.cbor_edn_model.specs.declared.text.keyword.NonFinite.{NonFinite}
 use Rattle.cbor_edn_model.specs.tree.Items as kind
 use Rattle.cbor_edn_model.specs.tree.Items.{Elements, Array, Map}

@@ -13,7 +13,7 @@ use Rattle.cbor_edn_parts.specs.declared.string.StringKind.TheVariants.{Bytes, T
 use Rattle.cbor_edn_parts.specs.Contents.{Content}
 use Rattle.cbor_edn_model.specs.declared.cbor.heads.Width.{Width}
 use Rattle.cbor_edn_model.specs.declared.cbor.heads.Width.TheVariants.{Immediate, One, Two, Four, Eight}
-use Rattle.cbor_edn_model.specs.tree.Items.{Row, Elements, Pairs, Strings, Bracketed, Array, Map, entries_of, Sort, Item, Piece, Pieces, Entry, Entries, Node, Number, Float, Listed, Tagged, Named, Simple, String, Stream, Literal, Dots, Embedded, LastPiece, Plus, Element, Pair, Chunk, End, Then}
+use Rattle.cbor_edn_model.specs.tree.Items.{Row, Elements, Pairs, Strings, Bracketed, Array, Map, entries_of, Sort, Item, Piece, Pieces, Entry, Entries, Node, Number, Float, Listed, Tagged, Named, Simple, String, Stream, Literal, Ellipsis, Embedded, LastPiece, Plus, Element, Pair, Chunk, End, Then}
 use Rattle.cbor_edn_model.specs.declared.text.keyword.NamedSimple.{NamedSimple}
 use Rattle.cbor_edn_model.specs.declared.text.keyword.NamedSimple.TheVariants.{False, True, Null, Undefined}
 use Rattle.cbor_edn_model.specs.cbor.Value as values
@@ -268,7 +268,7 @@ meaning_fits (String w) v e =
     string_fits a.0 b.0 v b.2
 meaning_fits (Stream m) v e = let b = both_steps (means m) stream_of v e in stream_fits b.0 v (meaning_fits m b.0 b.1) b.2
 meaning_fits (Literal x i) v e = tt
-meaning_fits (Dots x) v e = tt
+meaning_fits (Ellipsis x) v e = tt
 meaning_fits (Embedded m i) v e = tt
 meaning_fits (LastPiece p) v e = tt
 meaning_fits (Plus p w) v e = tt

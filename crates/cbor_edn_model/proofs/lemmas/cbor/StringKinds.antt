@@ -8,7 +8,7 @@ use Rattle.cbor_edn_parts.specs.declared.string.StringKind.TheVariants.{Bytes, T
 use Rattle.cbor_edn_parts.specs.internal.LiteralTokens.{decoded, prefix_of, quoted_of}
 use Rattle.cbor_edn_parts.specs.Contents.{Content}
 use Rattle.cbor_edn_parts.specs.internal.ContentReading.{prefixed_bytes, literal_content, literal_kind}
-use Rattle.cbor_edn_model.specs.tree.Items.{Strings, Piece, Pieces, Entries, Node, Literal, Dots, Embedded, LastPiece, Plus, Chunk, End, Then}
+use Rattle.cbor_edn_model.specs.tree.Items.{Strings, Piece, Pieces, Entries, Node, Literal, Ellipsis, Embedded, LastPiece, Plus, Chunk, End, Then}
 use Rattle.cbor_edn_model.specs.cbor.Value as values
 use Rattle.cbor_edn_model.specs.cbor.Value.{is_content, encodings}
 use Rattle.cbor_edn_model.specs.cbor.Meaning.{◌>>=◌, width_of, joined, pieces_indicator, chunk_of, same_kind, chunks_of, means}
@@ -58,7 +58,7 @@ literal_of_kind (b ∷ x) c e =
 piece_of_kind : (p : Node Piece) (c : Content) → means p ≡ Some c → c.0 ≡ piece_kind p
 unfolding means
 piece_of_kind (Literal x i) c e = literal_of_kind x c e
-piece_of_kind (Dots x) c e = absurd cc
+piece_of_kind (Ellipsis x) c e = absurd cc
 piece_of_kind (Embedded m i) c e =
     let a = both_steps (means m) (λ vs. Some (Bytes, encodings vs)) c e in
     sym (ap (λ (p : Content). p.0) (some_is (Bytes, encodings a.0) c a.2))

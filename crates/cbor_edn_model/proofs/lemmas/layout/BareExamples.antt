@@ -11,7 +11,7 @@ use Rattle.cbor_edn_parts.specs.Notes.{hash_lines, noted}
 use Rattle.cbor_edn_model.specs.declared.cbor.heads.Width.TheVariants.{Immediate, One}
 use Rattle.cbor_edn_model.specs.tree.Trees.{Rule, Standalone, Tree, text, onto, joins}
 use Rattle.cbor_edn_model.specs.internal.Results.{◌>>=◌}
-use Rattle.cbor_edn_model.specs.internal.Reading.{reads_all, reads, read, byte, not_empty, list_head_of, starts_string, keyword_at, enclosed_item, tag_item, number_end, number_item, keyword_item, plain_item, list_item, stream_item, string_item, item, literal_piece, dots_piece, embedded_piece, piece, plus_string, string, entry, inside_full, inside, more, rest, sequence, standalone}
+use Rattle.cbor_edn_model.specs.internal.Reading.{reads_all, reads, read, byte, not_empty, list_head_of, starts_string, keyword_at, enclosed_item, tag_item, number_end, number_item, keyword_item, plain_item, list_item, stream_item, string_item, item, literal_piece, ellipsis_piece, embedded_piece, piece, plus_string, string, entry, inside_full, inside, more, rest, sequence, standalone}
 use Rattle.cbor_edn_model.specs.cbor.Value as value
 use Rattle.cbor_edn_model.specs.layout.Bare.{without_indicators}
 use Rattle.cbor_edn_model.specs.layout.Plain.{integer, string as text_or_bytes, array, no_plains, one_plain, plain}
@@ -19,7 +19,7 @@ use Rattle.cbor_edn_model.specs.layout.Commented.{commented}
 
 -- the text of what is read, after a change
 changed : (s : Rule) → (Tree s → Tree s) → List ℕ → Result (List ℕ) ParseErrorKind
-unfolding reads_all reads read byte not_empty list_head_of starts_string joins keyword_at enclosed_item tag_item number_end number_item keyword_item plain_item list_item stream_item string_item item literal_piece dots_piece embedded_piece piece plus_string string entry inside_full inside more rest sequence standalone indicator_at suffix_at kind munch push digits onto
+unfolding reads_all reads read byte not_empty list_head_of starts_string joins keyword_at enclosed_item tag_item number_end number_item keyword_item plain_item list_item stream_item string_item item literal_piece ellipsis_piece embedded_piece piece plus_string string entry inside_full inside more rest sequence standalone indicator_at suffix_at kind munch push digits onto
 changed s change xs = reads_all 9 s xs >>= λ w. Ok (text (change w))
 
 abbrev Bare : List ℕ → List ℕ → Type 0

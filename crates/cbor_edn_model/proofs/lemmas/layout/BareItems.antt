@@ -14,7 +14,7 @@ use Rattle.cbor_edn_model.specs.cbor.Value.{Value, chunks, array, cbor_map, tag,
 use Rattle.cbor_edn_model.specs.cbor.Meaning as meaning
 use Rattle.cbor_edn_model.specs.cbor.Meaning.{◌>>=◌, shortest, width_of, length_of, means_integer, means_float, named_number, means_simple, piece_indicator, have_no_indicators, pieces_indicator, chunk_of, string_of, same_kind, chunks_of, stream_of, MeaningOf, EntryOf, RowOf, row_len, listed, no_entries, one_more, means}
 use Rattle.cbor_edn_model.specs.layout.Fewer as fewer
-use Rattle.cbor_edn_model.specs.layout.Fewer.{IndicatorsBecome, number, float, named, simple, string, stream, literal, dots, embedded, last_piece, plus, element, pair, chunk, end, then, StaysOrGoes, FewerMean}
+use Rattle.cbor_edn_model.specs.layout.Fewer.{IndicatorsBecome, number, float, named, simple, string, stream, literal, ellipsis, embedded, last_piece, plus, element, pair, chunk, end, then, StaysOrGoes, FewerMean}
 use Rattle.cbor_edn_model.specs.layout.Plain.{concatenated, plain, plain_values, plain_pairs, ChunksAreShort, IsShort, AreShort, PairsAreShort}
 use Rattle.cbor_edn_model.specs.layout.Plain as plains
 use Rattle.cbor_edn_model.specs.layout.BareLaws.{BareMeans}
@@ -105,7 +105,7 @@ module _ (R : Option Indicator → Option Indicator → Type 0) (P : Type 0) (le
 
   piece_left : {p q : Node Piece} → IndicatorsBecome R Piece p q → Left (piece_indicator p) (piece_indicator q)
   piece_left (literal {i = i} {j = j} r) = left i j r
-  piece_left dots = inl refl
+  piece_left ellipsis = inl refl
   piece_left (embedded {i = i} {j = j} r) = left i j r
 
   no_indicators_left : {w v : Node Pieces} → IndicatorsBecome R Pieces w v → have_no_indicators w ≡ true → have_no_indicators v ≡ true
@@ -228,7 +228,7 @@ module _ (R : Option Indicator → Option Indicator → Type 0) (P : Type 0) (le
       let t : StillValue (stream_of ih.0) v = stream_left ih.0 b.0 v ih.2 b.2 in
       (t.0, ap (λ o. bind o stream_of) ih.1 ∙ t.1, t.2)
   still_means (literal r) v c e = (v, e, refl)
-  still_means dots v c e = absurd cc
+  still_means ellipsis v c e = absurd cc
   still_means (embedded r) v c e = (v, e, refl)
   still_means (last_piece s) v c e = still_means s v tt e
   still_means (plus {p = p} {q = q} {w = w} {v = u} r s) v c e =

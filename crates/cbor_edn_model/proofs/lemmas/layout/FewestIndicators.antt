@@ -1,9 +1,9 @@
 -- Items with fewer indicators, and bare items, which have fewest.
 use Rattle.std.proofs.Common.{◌≡◌, refl, Option, None, inl, inr}
 use Rattle.cbor_edn_parts.specs.declared.indicator.Indicator.{Indicator}
-use Rattle.cbor_edn_model.specs.tree.Items.{Sort, Node, Number, Float, Listed, Tagged, Named, Simple, String, Stream, Literal, Dots, Embedded, LastPiece, Plus, Element, Pair, Chunk, End, Then}
+use Rattle.cbor_edn_model.specs.tree.Items.{Sort, Node, Number, Float, Listed, Tagged, Named, Simple, String, Stream, Literal, Ellipsis, Embedded, LastPiece, Plus, Element, Pair, Chunk, End, Then}
 use Rattle.cbor_edn_model.specs.layout.Bare.{bare}
-use Rattle.cbor_edn_model.specs.layout.Fewer.{IndicatorsBecome, number, float, listed, tagged, named, simple, string, stream, literal, dots, embedded, last_piece, plus, element, pair, chunk, end, then, StaysOrGoes, Fewer}
+use Rattle.cbor_edn_model.specs.layout.Fewer.{IndicatorsBecome, number, float, listed, tagged, named, simple, string, stream, literal, ellipsis, embedded, last_piece, plus, element, pair, chunk, end, then, StaysOrGoes, Fewer}
 
 abbrev pub Goes : Option Indicator → Option Indicator → Type 0
 Goes i j = j ≡ None
@@ -19,7 +19,7 @@ bare_goes (Simple w) = simple (bare_goes w)
 bare_goes (String w) = string (bare_goes w)
 bare_goes (Stream m) = stream (bare_goes m)
 bare_goes (Literal x i) = literal refl
-bare_goes (Dots x) = dots
+bare_goes (Ellipsis x) = ellipsis
 bare_goes (Embedded m i) = embedded refl
 bare_goes (LastPiece p) = last_piece (bare_goes p)
 bare_goes (Plus p w) = plus (bare_goes p) (bare_goes w)
@@ -40,7 +40,7 @@ module _ (R Q : Option Indicator → Option Indicator → Type 0) (weaker : (i j
   weakened (string w) = string (weakened w)
   weakened (stream m) = stream (weakened m)
   weakened (literal {i = i} {j = j} r) = literal (weaker i j r)
-  weakened dots = dots
+  weakened ellipsis = ellipsis
   weakened (embedded {i = i} {j = j} r) = embedded (weaker i j r)
   weakened (last_piece p) = last_piece (weakened p)
   weakened (plus p w) = plus (weakened p) (weakened w)
@@ -61,7 +61,7 @@ same_fewer (Simple w) = simple (same_fewer w)
 same_fewer (String w) = string (same_fewer w)
 same_fewer (Stream m) = stream (same_fewer m)
 same_fewer (Literal x i) = literal (inl refl)
-same_fewer (Dots x) = dots
+same_fewer (Ellipsis x) = ellipsis
 same_fewer (Embedded m i) = embedded (inl refl)
 same_fewer (LastPiece p) = last_piece (same_fewer p)
 same_fewer (Plus p w) = plus (same_fewer p) (same_fewer w)

@@ -1,6 +1,6 @@
 -- A row laid out or without indicators is so entry by entry.
 use Rattle.std.proofs.Common.{ℕ, ◌≡◌, List, [], ◌∷◌, map, refl, ap, ◌∙◌}
-use Rattle.cbor_edn_parts.specs.Spacing.{S, MSC}
+use Rattle.cbor_edn_parts.specs.Spacing.{Optional, Separating}
 use Rattle.cbor_edn_model.specs.tree.Items.{Row, Plus, Then}
 use Rattle.cbor_edn_model.specs.tree.Trees.{OnePiece, OneString, OneEntry, Rest, Tree, PlusTree, MoreTree, items}
 use Rattle.cbor_edn_model.specs.tree.Rows.{entries_onto, pieces_onto}
@@ -11,12 +11,12 @@ use Rattle.cbor_edn_model.specs.internal.LayoutRows.{laid_entry, entry_without_i
 pub laid_entries : {k : Row} (l : Layout) (ps : List (Tree (OneEntry k) × List ℕ)) (m : Tree (Rest k)) → laid l (entries_onto ps m) ≡ entries_onto (map (laid_entry l) ps) (laid l m)
 unfolding laid
 laid_entries l [] m = refl
-laid_entries l (p ∷ ps) m = ap (MoreTree (laid l p.0) (respaced MSC Between l p.1)) (laid_entries l ps m)
+laid_entries l (p ∷ ps) m = ap (MoreTree (laid l p.0) (respaced Separating Between l p.1)) (laid_entries l ps m)
 
 pub laid_pieces : (l : Layout) (ps : List (Tree OnePiece × List ℕ × List ℕ)) (w : Tree OneString) → laid l (pieces_onto ps w) ≡ pieces_onto (map (laid_piece l) ps) (laid l w)
 unfolding laid
 laid_pieces l [] w = refl
-laid_pieces l (p ∷ ps) w = ap (PlusTree p.0 (respaced S BeforePlus l p.1) (respaced S AfterPlus l p.2)) (laid_pieces l ps w)
+laid_pieces l (p ∷ ps) w = ap (PlusTree p.0 (respaced Optional BeforePlus l p.1) (respaced Optional AfterPlus l p.2)) (laid_pieces l ps w)
 
 pub entries_without_indicators : {k : Row} (ps : List (Tree (OneEntry k) × List ℕ)) (m : Tree (Rest k)) → without_indicators (entries_onto ps m) ≡ entries_onto (map entry_without_indicators ps) (without_indicators m)
 unfolding without_indicators

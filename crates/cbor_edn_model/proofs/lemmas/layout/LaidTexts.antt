@@ -3,14 +3,14 @@ use Rattle.std.proofs.Common.{ℕ, ◌≡◌, List, [], ◌∷◌, ◌++◌, map
 use Rattle.cbor_edn_parts.specs.declared.indicator.Indicator.{Indicator}
 use Rattle.cbor_edn_parts.specs.Indicator.{indicator_text}
 use Rattle.cbor_edn_parts.specs.LayoutColumns.{of_parts}
-use Rattle.cbor_edn_parts.specs.Spacing.{S, SOC}
+use Rattle.cbor_edn_parts.specs.Spacing.{Optional, AtEnd}
 use Rattle.cbor_edn_model.specs.declared.text.keyword.NamedSimple.{NamedSimple}
 use Rattle.cbor_edn_model.specs.declared.text.keyword.NonFinite.{NonFinite}
-use Rattle.cbor_edn_model.specs.declared.text.label.LabelKind.{LabelKind}
-use Rattle.cbor_edn_model.specs.text.Spelling.{opening, ending}
+use Rattle.cbor_edn_model.specs.declared.text.opener.OpenerKind.{OpenerKind}
+use Rattle.cbor_edn_model.specs.text.Spelling.{open_byte, close_byte}
 use Rattle.cbor_edn_model.specs.tree.Items.{Row, Elements, Strings, Bracketed, entries_of}
 use Rattle.cbor_edn_model.specs.tree.Rows.{entries_onto, entries_text, pieces_onto, pieces_text}
-use Rattle.cbor_edn_model.specs.tree.Trees.{OneItem, OnePiece, OneString, OneEntry, Inside, Rest, Standalone, ListHead, Tree, NumberTree, FloatTree, NamedTree, EnclosedTree, ListTree, StringTree, StreamTree, LastPieceTree, ElementTree, PairTree, ChunkTree, EmptyTree, FullTree, LastTree, NothingTree, SequenceTree, StandaloneTree, label_text, list_head_text, text}
+use Rattle.cbor_edn_model.specs.tree.Trees.{OneItem, OnePiece, OneString, OneEntry, Inside, Rest, Standalone, ListHead, Tree, NumberTree, FloatTree, NamedTree, EnclosedTree, ListTree, StringTree, StreamTree, LastPieceTree, ElementTree, PairTree, ChunkTree, EmptyTree, FullTree, LastTree, NothingTree, SequenceTree, StandaloneTree, opener_text, list_head_text, text}
 use Rattle.cbor_edn_model.specs.layout.Layout.{Layout, First, Last, AfterColon, Elsewhere, respaced, in_chunk, laid_list_head, laid}
 use Rattle.cbor_edn_model.specs.internal.Laying.{laid_stream}
 use Rattle.cbor_edn_model.specs.internal.LayoutRows.{laid_entry, laid_piece}
@@ -33,10 +33,10 @@ pub text_laid_named : (l : Layout) (b : NamedSimple) → text (laid l (NamedTree
 unfolding laid
 text_laid_named l b = refl
 
-pub text_laid_enclosed : (l : Layout) (label : LabelKind) (w : Tree Standalone) → text (laid l (EnclosedTree label w)) ≡ label_text label ++ (40 ∷ (text (laid (of_parts l (measured (EnclosedTree label w))) w) ++ (41 ∷ [])))
-text_laid_enclosed l label w = ap text (laid_enclosed l label w) ∙ text_enclosed label _
+pub text_laid_enclosed : (l : Layout) (opener : OpenerKind) (w : Tree Standalone) → text (laid l (EnclosedTree opener w)) ≡ opener_text opener ++ (40 ∷ (text (laid (of_parts l (measured (EnclosedTree opener w))) w) ++ (41 ∷ [])))
+text_laid_enclosed l opener w = ap text (laid_enclosed l opener w) ∙ text_enclosed opener _
 
-pub text_laid_list : (l : Layout) (k : Bracketed) (w : Tree (Inside k)) → text (laid l (ListTree k w)) ≡ opening k ∷ (text (laid (of_parts l (measured (ListTree k w))) w) ++ (ending k ∷ []))
+pub text_laid_list : (l : Layout) (k : Bracketed) (w : Tree (Inside k)) → text (laid l (ListTree k w)) ≡ open_byte k ∷ (text (laid (of_parts l (measured (ListTree k w))) w) ++ (close_byte k ∷ []))
 text_laid_list l k w = ap text (laid_list l k w) ∙ text_list k _
 
 pub text_laid_string : (l : Layout) (w : Tree OneString) → text (laid l (StringTree w)) ≡ text (laid (of_parts l (measured (StringTree w))) w)
@@ -55,7 +55,7 @@ pub text_laid_element : (l : Layout) (w : Tree OneItem) → text (laid l (Elemen
 unfolding laid
 text_laid_element l w = text_element (laid l w)
 
-pub text_laid_pair : (l : Layout) (v : Tree OneItem) (s t : List ℕ) (w : Tree OneItem) → text (laid l (PairTree v s t w)) ≡ text (laid l v) ++ (respaced S Elsewhere l s ++ (58 ∷ (respaced S AfterColon l t ++ text (laid l w))))
+pub text_laid_pair : (l : Layout) (v : Tree OneItem) (s t : List ℕ) (w : Tree OneItem) → text (laid l (PairTree v s t w)) ≡ text (laid l v) ++ (respaced Optional Elsewhere l s ++ (58 ∷ (respaced Optional AfterColon l t ++ text (laid l w))))
 unfolding laid
 text_laid_pair l v s t w = text_pair (laid l v) _ _ (laid l w)
 
@@ -63,30 +63,30 @@ pub text_laid_chunk : (l : Layout) (w : Tree OneString) → text (laid l (ChunkT
 unfolding laid
 text_laid_chunk l w = text_chunk (laid (in_chunk l) w)
 
-pub text_laid_empty : (l : Layout) (k : Bracketed) (i : Option Indicator) (s : List ℕ) → text (laid l (EmptyTree {k = k} i s)) ≡ indicator_text i ++ respaced S Elsewhere l s
+pub text_laid_empty : (l : Layout) (k : Bracketed) (i : Option Indicator) (s : List ℕ) → text (laid l (EmptyTree {k = k} i s)) ≡ indicator_text i ++ respaced Optional Elsewhere l s
 unfolding laid
 text_laid_empty l k i s = text_empty k i _
 
-pub text_laid_full : (l : Layout) (k : Bracketed) (h : ListHead) (s : List ℕ) (m : Tree (Rest (entries_of k))) → text (laid l (FullTree {k = k} h s m)) ≡ list_head_text (laid_list_head l h) ++ (respaced S First l s ++ text (laid l m))
+pub text_laid_full : (l : Layout) (k : Bracketed) (h : ListHead) (s : List ℕ) (m : Tree (Rest (entries_of k))) → text (laid l (FullTree {k = k} h s m)) ≡ list_head_text (laid_list_head l h) ++ (respaced Optional First l s ++ text (laid l m))
 unfolding laid
 text_laid_full l k h s m = text_full k _ _ (laid l m)
 
 -- entries, each with the separator behind it, and the last with the end of its list
 pub text_laid_rest : {k : Row} (l : Layout) (ps : List (Tree (OneEntry k) × List ℕ)) (e : Tree (OneEntry k)) (s : List ℕ)
-    → text (laid l (entries_onto ps (LastTree e s))) ≡ entries_text (map (laid_entry l) ps) ++ (text (laid l e) ++ respaced SOC Last l s)
+    → text (laid l (entries_onto ps (LastTree e s))) ≡ entries_text (map (laid_entry l) ps) ++ (text (laid l e) ++ respaced AtEnd Last l s)
 unfolding laid
 text_laid_rest l ps e s =
     ap text (laid_entries l ps (LastTree e s))
-    ∙ (text_entries (map (laid_entry l) ps) (LastTree (laid l e) (respaced SOC Last l s)) ∙ ap (λ t. entries_text (map (laid_entry l) ps) ++ t) (text_last (laid l e) (respaced SOC Last l s)))
+    ∙ (text_entries (map (laid_entry l) ps) (LastTree (laid l e) (respaced AtEnd Last l s)) ∙ ap (λ t. entries_text (map (laid_entry l) ps) ++ t) (text_last (laid l e) (respaced AtEnd Last l s)))
 
-pub text_laid_nothing : (l : Layout) (s : List ℕ) → text (laid l (NothingTree s)) ≡ respaced S Elsewhere l s
+pub text_laid_nothing : (l : Layout) (s : List ℕ) → text (laid l (NothingTree s)) ≡ respaced Optional Elsewhere l s
 unfolding laid
 text_laid_nothing l s = text_nothing _
 
-pub text_laid_sequence : (l : Layout) (s : List ℕ) (m : Tree (Rest Elements)) → text (laid l (SequenceTree s m)) ≡ respaced S Elsewhere l s ++ text (laid l m)
+pub text_laid_sequence : (l : Layout) (s : List ℕ) (m : Tree (Rest Elements)) → text (laid l (SequenceTree s m)) ≡ respaced Optional Elsewhere l s ++ text (laid l m)
 unfolding laid
 text_laid_sequence l s m = text_sequence _ (laid l m)
 
-pub text_laid_standalone : (l : Layout) (s : List ℕ) (w : Tree OneItem) (t : List ℕ) → text (laid l (StandaloneTree s w t)) ≡ respaced S Elsewhere l s ++ (text (laid l w) ++ respaced S Elsewhere l t)
+pub text_laid_standalone : (l : Layout) (s : List ℕ) (w : Tree OneItem) (t : List ℕ) → text (laid l (StandaloneTree s w t)) ≡ respaced Optional Elsewhere l s ++ (text (laid l w) ++ respaced Optional Elsewhere l t)
 unfolding laid
 text_laid_standalone l s w t = text_standalone _ (laid l w) _

@@ -1,12 +1,12 @@
 -- An item is laid out by its measured width, and what is made of parts that are laid out is so too.
 use Rattle.std.proofs.Common.{ℕ, ◌≡◌, List, map, length, refl, sym, ap, ◌∙◌}
 use Rattle.std.specs.Prelude.{nat_lt, if◌then◌else◌}
-use Rattle.cbor_edn_parts.specs.Spacing.{MS, SOC}
+use Rattle.cbor_edn_parts.specs.Spacing.{Mandatory, AtEnd}
 use Rattle.cbor_edn_parts.specs.declared.policy.Spacing.TheVariants.{OneLine}
 use Rattle.cbor_edn_parts.specs.LayoutColumns.{of_parts}
-use Rattle.cbor_edn_model.specs.declared.text.label.LabelKind.{LabelKind}
+use Rattle.cbor_edn_model.specs.declared.text.opener.OpenerKind.{OpenerKind}
 use Rattle.cbor_edn_model.specs.tree.Items.{Strings, Bracketed, Chunk, End, Then}
-use Rattle.cbor_edn_model.specs.tree.Trees.{Rule, OneItem, OnePiece, OneString, OneEntry, Inside, Rest, Standalone, ListHead, NoIndicator, WithIndicator, Tree, NumberTree, FloatTree, NamedTree, EnclosedTree, ListTree, StringTree, StreamTree, LiteralTree, DotsTree, EmbeddedTree, LastPieceTree, PlusTree, ElementTree, PairTree, ChunkTree, EmptyTree, FullTree, LastTree, MoreTree, NothingTree, SequenceTree, StandaloneTree, items, text}
+use Rattle.cbor_edn_model.specs.tree.Trees.{Rule, OneItem, OnePiece, OneString, OneEntry, Inside, Rest, Standalone, ListHead, NoIndicator, WithIndicator, Tree, NumberTree, FloatTree, NamedTree, EnclosedTree, ListTree, StringTree, StreamTree, LiteralTree, EllipsisTree, EmbeddedTree, LastPieceTree, PlusTree, ElementTree, PairTree, ChunkTree, EmptyTree, FullTree, LastTree, MoreTree, NothingTree, SequenceTree, StandaloneTree, items, text}
 use Rattle.cbor_edn_model.specs.tree.Rows.{entries_onto, pieces_onto}
 use Rattle.cbor_edn_model.specs.layout.Layout.{Layout, Kept, Inline, Lines, First, Last, respaced, saturating_add, fitted, in_chunk, laid_list_head, laid}
 use Rattle.cbor_edn_model.specs.internal.Laying.{laid_stream}
@@ -21,12 +21,12 @@ unfolding laid
 laid_kept (NumberTree x i) = refl
 laid_kept (FloatTree f i) = refl
 laid_kept (NamedTree b) = refl
-laid_kept (EnclosedTree label w) = ap (EnclosedTree label) (laid_kept w)
+laid_kept (EnclosedTree opener w) = ap (EnclosedTree opener) (laid_kept w)
 laid_kept (ListTree k w) = ap (ListTree k) (laid_kept w)
 laid_kept (StringTree w) = ap StringTree (laid_kept w)
 laid_kept (StreamTree ms m) = ap (StreamTree ms) (laid_kept m)
 laid_kept (LiteralTree x i) = refl
-laid_kept (DotsTree x) = refl
+laid_kept (EllipsisTree x) = refl
 laid_kept (EmbeddedTree w i) = refl
 laid_kept (LastPieceTree p) = refl
 laid_kept (PlusTree p a b w) = ap (PlusTree p a b) (laid_kept w)
@@ -51,9 +51,9 @@ fitted_by (Inline c) w part e = refl
 fitted_by (Lines base end level width) w part e =
     sym (ap (λ b. part (if b then Inline OneLine else Lines (saturating_add base level) base level width)) (test_is w base width ∙ ap (λ v. nat_lt (saturating_add (length (text v)) base) width) e))
 
-pub laid_enclosed : (l : Layout) (label : LabelKind) (w : Tree Standalone) → laid l (EnclosedTree label w) ≡ EnclosedTree label (laid (of_parts l (measured (EnclosedTree label w))) w)
+pub laid_enclosed : (l : Layout) (opener : OpenerKind) (w : Tree Standalone) → laid l (EnclosedTree opener w) ≡ EnclosedTree opener (laid (of_parts l (measured (EnclosedTree opener w))) w)
 unfolding laid
-laid_enclosed l label w = fitted_by l (EnclosedTree label w) (λ l. EnclosedTree label (laid l w)) refl
+laid_enclosed l opener w = fitted_by l (EnclosedTree opener w) (λ l. EnclosedTree opener (laid l w)) refl
 
 pub laid_list : (l : Layout) (k : Bracketed) (w : Tree (Inside k)) → laid l (ListTree k w) ≡ ListTree k (laid (of_parts l (measured (ListTree k w))) w)
 unfolding laid
@@ -65,7 +65,7 @@ laid_string l w = fitted_by l (StringTree w) (λ l. StringTree (laid l w)) refl
 
 pub stream_laid : (l : Layout) (ms : List ℕ) (m : Tree (Rest Strings)) → laid l (StreamTree ms m) ≡ laid_stream (of_parts l (measured (StreamTree ms m))) (StreamTree ms m)
 unfolding laid
-stream_laid l ms m = fitted_by l (StreamTree ms m) (λ l. StreamTree (respaced MS First l ms) (laid l m)) refl
+stream_laid l ms m = fitted_by l (StreamTree ms m) (λ l. StreamTree (respaced Mandatory First l ms) (laid l m)) refl
 
 -- ---- what is made of parts that are laid out
 
@@ -76,7 +76,7 @@ string_laid l ps qs p e = ap (λ qs. pieces_onto qs (LastPieceTree p)) e ∙ sym
 pub string_same : (ps qs : List (Tree OnePiece × List ℕ × List ℕ)) (p : Tree OnePiece) → map piece_items qs ≡ map piece_items ps → items (pieces_onto qs (LastPieceTree p)) ≡ items (pieces_onto ps (LastPieceTree p))
 string_same ps qs p e = same_pieces qs ps (LastPieceTree p) (LastPieceTree p) e refl
 
-pub strings_laid : (l : Layout) (ps qs : List (Tree (OneEntry Strings) × List ℕ)) (v w : Tree OneString) (a b : List ℕ) → qs ≡ map (laid_entry l) ps → w ≡ laid (in_chunk l) v → b ≡ respaced SOC Last l a
+pub strings_laid : (l : Layout) (ps qs : List (Tree (OneEntry Strings) × List ℕ)) (v w : Tree OneString) (a b : List ℕ) → qs ≡ map (laid_entry l) ps → w ≡ laid (in_chunk l) v → b ≡ respaced AtEnd Last l a
     → entries_onto qs (LastTree (ChunkTree w) b) ≡ laid l (entries_onto ps (LastTree (ChunkTree v) a))
 unfolding laid
 strings_laid l ps qs v w a b e f g =

@@ -13,7 +13,7 @@ use Rattle.cbor_edn_parts.specs.declared.policy.DelimiterPolicy.TheVariants.{Dis
 use Rattle.cbor_edn_model.specs.tree.Items.{Array}
 use Rattle.cbor_edn_model.specs.tree.Trees.{Rule, Standalone, OneItem, Seq, NoIndicator, Tree, NumberTree, ElementTree, ListTree, FullTree, LastTree, MoreTree, SequenceTree, StandaloneTree, text, onto, joins}
 use Rattle.cbor_edn_model.specs.internal.Results.{◌>>=◌}
-use Rattle.cbor_edn_model.specs.internal.Reading.{reads_all, reads, read, byte, not_empty, list_head_of, starts_string, keyword_at, enclosed_item, tag_item, number_end, number_item, keyword_item, plain_item, list_item, stream_item, string_item, item, literal_piece, dots_piece, embedded_piece, piece, plus_string, string, entry, inside_full, inside, more, rest, sequence, standalone}
+use Rattle.cbor_edn_model.specs.internal.Reading.{reads_all, reads, read, byte, not_empty, list_head_of, starts_string, keyword_at, enclosed_item, tag_item, number_end, number_item, keyword_item, plain_item, list_item, stream_item, string_item, item, literal_piece, ellipsis_piece, embedded_piece, piece, plus_string, string, entry, inside_full, inside, more, rest, sequence, standalone}
 use Rattle.cbor_edn_model.specs.layout.Layout.{laid, laid_out}
 
 -- an item without the space round it
@@ -22,7 +22,7 @@ inner (StandaloneTree s w t) = w
 
 -- The text after a policy: of a sequence or of an item with the space round it, and of an item alone.
 laid_text : (s : Rule) → DelimiterPolicy → List ℕ → Result (List ℕ) ParseErrorKind
-unfolding reads_all reads read byte not_empty list_head_of starts_string joins keyword_at enclosed_item tag_item number_end number_item keyword_item plain_item list_item stream_item string_item item literal_piece dots_piece embedded_piece piece plus_string string entry inside_full inside more rest sequence standalone indicator_at suffix_at kind munch push digits laid onto from_first to_last up_to_comma past_comma line
+unfolding reads_all reads read byte not_empty list_head_of starts_string joins keyword_at enclosed_item tag_item number_end number_item keyword_item plain_item list_item stream_item string_item item literal_piece ellipsis_piece embedded_piece piece plus_string string entry inside_full inside more rest sequence standalone indicator_at suffix_at kind munch push digits laid onto from_first to_last up_to_comma past_comma line
 laid_text s policy xs = reads_all 9 s xs >>= λ w. Ok (text (laid_out policy w))
 
 laid_item : DelimiterPolicy → List ℕ → Result (List ℕ) ParseErrorKind

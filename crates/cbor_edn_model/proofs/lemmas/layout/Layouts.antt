@@ -3,7 +3,7 @@ use Rattle.std.proofs.Common.{ℕ, ◌≡◌, ◌⊎◌, inl, inr, List, Option,
 use Rattle.std.specs.Prelude.{nat_lt, length}
 use mathlib.Core.Logic.{⊎_elim}
 use Rattle.std.proofs.lemmas.Bool.{cond_both}
-use Rattle.cbor_edn_parts.specs.Spacing.{SpaceKind, S, MS, MSC, SOC}
+use Rattle.cbor_edn_parts.specs.Spacing.{SpaceKind, Optional, Mandatory, Separating, AtEnd}
 use Rattle.cbor_edn_parts.specs.declared.policy.DelimiterPolicy.{DelimiterPolicy}
 use Rattle.cbor_edn_parts.specs.declared.policy.DelimiterPolicy.TheVariants.{DiscardAll}
 use Rattle.cbor_edn_parts.specs.declared.policy.Spacing.{Spacing}
@@ -12,7 +12,7 @@ use Rattle.cbor_edn_parts.specs.SpacingLaws.{is_of, KeepsComments}
 use Rattle.cbor_edn_parts.proofs.lemmas.layout.Spacings.{spaced_stays, spaced_forgets, least_forgets}
 use Rattle.cbor_edn_model.specs.tree.Items.{Listed, String, Stream, Plus, Element, Pair, Chunk, End, Then}
 use Rattle.cbor_edn_model.specs.text.Spelling.{SpellsOne, SpellsSequence}
-use Rattle.cbor_edn_model.specs.tree.Trees.{Rule, OneItem, Seq, Standalone, Tree, ListHead, NoIndicator, WithIndicator, head_indicator, NumberTree, FloatTree, NamedTree, EnclosedTree, ListTree, StringTree, StreamTree, LiteralTree, DotsTree, EmbeddedTree, LastPieceTree, PlusTree, ElementTree, PairTree, ChunkTree, EmptyTree, FullTree, LastTree, MoreTree, NothingTree, SequenceTree, StandaloneTree, labelled, items, text}
+use Rattle.cbor_edn_model.specs.tree.Trees.{Rule, OneItem, Seq, Standalone, Tree, ListHead, NoIndicator, WithIndicator, head_indicator, NumberTree, FloatTree, NamedTree, EnclosedTree, ListTree, StringTree, StreamTree, LiteralTree, EllipsisTree, EmbeddedTree, LastPieceTree, PlusTree, ElementTree, PairTree, ChunkTree, EmptyTree, FullTree, LastTree, MoreTree, NothingTree, SequenceTree, StandaloneTree, labelled, items, text}
 use Rattle.cbor_edn_model.proofs.lemmas.text.Tested.{IsTestedListHead, Tested, tested, valid}
 use Rattle.cbor_edn_model.specs.layout.Layout.{Layout, Kept, Inline, Lines, layout, Slot, First, Between, Last, BeforePlus, AfterPlus, AfterColon, Elsewhere, spacing, spaced_or_kept, respaced, saturating_add, of_parts, fitted, in_chunk, laid_list_head, laid, laid_out}
 use Rattle.cbor_edn_model.specs.layout.LayoutLaws.{KeepsItems, StaysValid, SpellsTheSame, KeepsAllComments, ForgetsLayout, SameTwice}
@@ -33,12 +33,12 @@ unfolding items laid
 items_kept l (NumberTree x i) = refl
 items_kept l (FloatTree f i) = refl
 items_kept l (NamedTree b) = refl
-items_kept l (EnclosedTree label w) = fitted_any (λ v. items v ≡ labelled label (items w)) l (λ l. EnclosedTree label (laid l w)) (λ m. ap (labelled label) (items_kept m w))
+items_kept l (EnclosedTree opener w) = fitted_any (λ v. items v ≡ labelled opener (items w)) l (λ l. EnclosedTree opener (laid l w)) (λ m. ap (labelled opener) (items_kept m w))
 items_kept l (ListTree k w) = fitted_any (λ v. items v ≡ Listed k (items w).0 (items w).1) l (λ l. ListTree k (laid l w)) (λ m. ap (λ p. Listed k p.0 p.1) (items_kept m w))
 items_kept l (StringTree w) = fitted_any (λ v. items v ≡ String (items w)) l (λ l. StringTree (laid l w)) (λ m. ap String (items_kept m w))
-items_kept l (StreamTree ms m) = fitted_any (λ v. items v ≡ Stream (items m)) l (λ l. StreamTree (respaced MS First l ms) (laid l m)) (λ l. ap Stream (items_kept l m))
+items_kept l (StreamTree ms m) = fitted_any (λ v. items v ≡ Stream (items m)) l (λ l. StreamTree (respaced Mandatory First l ms) (laid l m)) (λ l. ap Stream (items_kept l m))
 items_kept l (LiteralTree x i) = refl
-items_kept l (DotsTree x) = refl
+items_kept l (EllipsisTree x) = refl
 items_kept l (EmbeddedTree w i) = refl
 items_kept l (LastPieceTree p) = refl
 items_kept l (PlusTree p s t w) = ap (Plus (items p)) (items_kept l w)
@@ -66,32 +66,32 @@ space_stays k p l x e = column_stays (spacing l p) where
 
 head_stays : (l : Layout) (h : ListHead) → IsTestedListHead h → IsTestedListHead (laid_list_head l h)
 head_stays l NoIndicator v = tt
-head_stays l (WithIndicator i ms) v = space_stays MS Elsewhere l ms v
+head_stays l (WithIndicator i ms) v = space_stays Mandatory Elsewhere l ms v
 
 pub stays : {s : Rule} (l : Layout) (w : Tree s) → Tested w → Tested (laid l w)
 unfolding Tested laid
 stays l (NumberTree x i) v = v
 stays l (FloatTree f i) v = v
 stays l (NamedTree b) v = v
-stays l (EnclosedTree label w) v = fitted_any Tested l (λ l. EnclosedTree label (laid l w)) (λ m. (v.0, stays m w v.1))
+stays l (EnclosedTree opener w) v = fitted_any Tested l (λ l. EnclosedTree opener (laid l w)) (λ m. (v.0, stays m w v.1))
 stays l (ListTree k w) v = fitted_any Tested l (λ l. ListTree k (laid l w)) (λ m. stays m w v)
 stays l (StringTree w) v = fitted_any Tested l (λ l. StringTree (laid l w)) (λ m. stays m w v)
-stays l (StreamTree ms m) v = fitted_any Tested l (λ l. StreamTree (respaced MS First l ms) (laid l m)) (λ l. (space_stays MS First l ms v.0, stays l m v.1))
+stays l (StreamTree ms m) v = fitted_any Tested l (λ l. StreamTree (respaced Mandatory First l ms) (laid l m)) (λ l. (space_stays Mandatory First l ms v.0, stays l m v.1))
 stays l (LiteralTree x i) v = v
-stays l (DotsTree x) v = v
+stays l (EllipsisTree x) v = v
 stays l (EmbeddedTree w i) v = v
 stays l (LastPieceTree p) v = v
-stays l (PlusTree p s t w) v = (v.0, space_stays S BeforePlus l s v.1, space_stays S AfterPlus l t v.2, stays l w v.3)
+stays l (PlusTree p s t w) v = (v.0, space_stays Optional BeforePlus l s v.1, space_stays Optional AfterPlus l t v.2, stays l w v.3)
 stays l (ElementTree w) v = stays l w v
-stays l (PairTree k s t w) v = (stays l k v.0, space_stays S Elsewhere l s v.1, space_stays S AfterColon l t v.2, stays l w v.3)
+stays l (PairTree k s t w) v = (stays l k v.0, space_stays Optional Elsewhere l s v.1, space_stays Optional AfterColon l t v.2, stays l w v.3)
 stays l (ChunkTree w) v = stays (in_chunk l) w v
-stays l (EmptyTree i s) v = space_stays S Elsewhere l s v
-stays l (FullTree h s m) v = (head_stays l h v.0, space_stays S First l s v.1, stays l m v.2)
-stays l (LastTree e s) v = (stays l e v.0, space_stays SOC Last l s v.1)
-stays l (MoreTree e s m) v = (stays l e v.0, space_stays MSC Between l s v.1, stays l m v.2)
-stays l (NothingTree s) v = space_stays S Elsewhere l s v
-stays l (SequenceTree s m) v = (space_stays S Elsewhere l s v.0, stays l m v.1)
-stays l (StandaloneTree s w t) v = (space_stays S Elsewhere l s v.0, stays l w v.1, space_stays S Elsewhere l t v.2)
+stays l (EmptyTree i s) v = space_stays Optional Elsewhere l s v
+stays l (FullTree h s m) v = (head_stays l h v.0, space_stays Optional First l s v.1, stays l m v.2)
+stays l (LastTree e s) v = (stays l e v.0, space_stays AtEnd Last l s v.1)
+stays l (MoreTree e s m) v = (stays l e v.0, space_stays Separating Between l s v.1, stays l m v.2)
+stays l (NothingTree s) v = space_stays Optional Elsewhere l s v
+stays l (SequenceTree s m) v = (space_stays Optional Elsewhere l s v.0, stays l m v.1)
+stays l (StandaloneTree s w t) v = (space_stays Optional Elsewhere l s v.0, stays l w v.1, space_stays Optional Elsewhere l t v.2)
 
 pub stays_valid : StaysValid
 stays_valid s policy w v = valid (laid_out policy w) (stays (layout policy) w (tested w v))
@@ -218,49 +218,49 @@ fitted_now (Lines base end level width) m f g forgets h =
 
 head_forgotten : (l m : Layout) (h : ListHead) → Forgets l m → IsTestedListHead h → laid_list_head l (laid_list_head m h) ≡ laid_list_head l h
 head_forgotten l m NoIndicator f v = refl
-head_forgotten l m (WithIndicator i ms) f v = ap (WithIndicator i) (space_forgotten MS Elsewhere l m ms f v)
+head_forgotten l m (WithIndicator i ms) f v = ap (WithIndicator i) (space_forgotten Mandatory Elsewhere l m ms f v)
 
 forgotten : {s : Rule} (l m : Layout) (w : Tree s) → Forgets l m → Tested w → laid l (laid m w) ≡ laid l w
 unfolding Tested laid
 forgotten l m (NumberTree x i) f v = refl
 forgotten l m (FloatTree x i) f v = refl
 forgotten l m (NamedTree b) f v = refl
-forgotten l m (EnclosedTree label w) f v =
-    fitted_earlier (λ x. laid l x ≡ fitted l (λ l. EnclosedTree label (laid l w))) l m (λ l. EnclosedTree label (laid l w)) f (λ n k. fitted_now l n (λ l. EnclosedTree label (laid l (laid n w))) (λ l. EnclosedTree label (laid l w)) k (λ o g. ap (EnclosedTree label) (forgotten o n w g v.1)))
+forgotten l m (EnclosedTree opener w) f v =
+    fitted_earlier (λ x. laid l x ≡ fitted l (λ l. EnclosedTree opener (laid l w))) l m (λ l. EnclosedTree opener (laid l w)) f (λ n k. fitted_now l n (λ l. EnclosedTree opener (laid l (laid n w))) (λ l. EnclosedTree opener (laid l w)) k (λ o g. ap (EnclosedTree opener) (forgotten o n w g v.1)))
 forgotten l m (ListTree kind w) f v =
     fitted_earlier (λ x. laid l x ≡ fitted l (λ l. ListTree kind (laid l w))) l m (λ l. ListTree kind (laid l w)) f (λ n k. fitted_now l n (λ l. ListTree kind (laid l (laid n w))) (λ l. ListTree kind (laid l w)) k (λ o g. ap (ListTree kind) (forgotten o n w g v)))
 forgotten l m (StringTree w) f v =
     fitted_earlier (λ x. laid l x ≡ fitted l (λ l. StringTree (laid l w))) l m (λ l. StringTree (laid l w)) f (λ n k. fitted_now l n (λ l. StringTree (laid l (laid n w))) (λ l. StringTree (laid l w)) k (λ o g. ap StringTree (forgotten o n w g v)))
 forgotten l m (StreamTree ms w) f v =
-    fitted_earlier (λ x. laid l x ≡ fitted l (λ l. StreamTree (respaced MS First l ms) (laid l w))) l m (λ l. StreamTree (respaced MS First l ms) (laid l w)) f
-    (λ n k. fitted_now l n (λ l. StreamTree (respaced MS First l (respaced MS First n ms)) (laid l (laid n w))) (λ l. StreamTree (respaced MS First l ms) (laid l w)) k
-    (λ o g. ap (λ t. StreamTree t (laid o (laid n w))) (space_forgotten MS First o n ms g v.0) ∙ ap (StreamTree (respaced MS First o ms)) (forgotten o n w g v.1)))
+    fitted_earlier (λ x. laid l x ≡ fitted l (λ l. StreamTree (respaced Mandatory First l ms) (laid l w))) l m (λ l. StreamTree (respaced Mandatory First l ms) (laid l w)) f
+    (λ n k. fitted_now l n (λ l. StreamTree (respaced Mandatory First l (respaced Mandatory First n ms)) (laid l (laid n w))) (λ l. StreamTree (respaced Mandatory First l ms) (laid l w)) k
+    (λ o g. ap (λ t. StreamTree t (laid o (laid n w))) (space_forgotten Mandatory First o n ms g v.0) ∙ ap (StreamTree (respaced Mandatory First o ms)) (forgotten o n w g v.1)))
 forgotten l m (LiteralTree x i) f v = refl
-forgotten l m (DotsTree x) f v = refl
+forgotten l m (EllipsisTree x) f v = refl
 forgotten l m (EmbeddedTree w i) f v = refl
 forgotten l m (LastPieceTree p) f v = refl
 forgotten l m (PlusTree p s t w) f v =
-    ap (λ a. PlusTree p a (respaced S AfterPlus l (respaced S AfterPlus m t)) (laid l (laid m w))) (space_forgotten S BeforePlus l m s f v.1)
-    ∙ (ap (λ a. PlusTree p (respaced S BeforePlus l s) a (laid l (laid m w))) (space_forgotten S AfterPlus l m t f v.2) ∙ ap (PlusTree p (respaced S BeforePlus l s) (respaced S AfterPlus l t)) (forgotten l m w f v.3))
+    ap (λ a. PlusTree p a (respaced Optional AfterPlus l (respaced Optional AfterPlus m t)) (laid l (laid m w))) (space_forgotten Optional BeforePlus l m s f v.1)
+    ∙ (ap (λ a. PlusTree p (respaced Optional BeforePlus l s) a (laid l (laid m w))) (space_forgotten Optional AfterPlus l m t f v.2) ∙ ap (PlusTree p (respaced Optional BeforePlus l s) (respaced Optional AfterPlus l t)) (forgotten l m w f v.3))
 forgotten l m (ElementTree w) f v = ap ElementTree (forgotten l m w f v)
 forgotten l m (PairTree k s t w) f v =
-    ap (λ a. PairTree a (respaced S Elsewhere l (respaced S Elsewhere m s)) (respaced S AfterColon l (respaced S AfterColon m t)) (laid l (laid m w))) (forgotten l m k f v.0)
-    ∙ (ap (λ a. PairTree (laid l k) a (respaced S AfterColon l (respaced S AfterColon m t)) (laid l (laid m w))) (space_forgotten S Elsewhere l m s f v.1)
-    ∙ (ap (λ a. PairTree (laid l k) (respaced S Elsewhere l s) a (laid l (laid m w))) (space_forgotten S AfterColon l m t f v.2) ∙ ap (PairTree (laid l k) (respaced S Elsewhere l s) (respaced S AfterColon l t)) (forgotten l m w f v.3)))
+    ap (λ a. PairTree a (respaced Optional Elsewhere l (respaced Optional Elsewhere m s)) (respaced Optional AfterColon l (respaced Optional AfterColon m t)) (laid l (laid m w))) (forgotten l m k f v.0)
+    ∙ (ap (λ a. PairTree (laid l k) a (respaced Optional AfterColon l (respaced Optional AfterColon m t)) (laid l (laid m w))) (space_forgotten Optional Elsewhere l m s f v.1)
+    ∙ (ap (λ a. PairTree (laid l k) (respaced Optional Elsewhere l s) a (laid l (laid m w))) (space_forgotten Optional AfterColon l m t f v.2) ∙ ap (PairTree (laid l k) (respaced Optional Elsewhere l s) (respaced Optional AfterColon l t)) (forgotten l m w f v.3)))
 forgotten l m (ChunkTree w) f v = ap ChunkTree (forgotten (in_chunk l) (in_chunk m) w (chunk_forgets l m f) v)
-forgotten l m (EmptyTree i s) f v = ap (EmptyTree i) (space_forgotten S Elsewhere l m s f v)
+forgotten l m (EmptyTree i s) f v = ap (EmptyTree i) (space_forgotten Optional Elsewhere l m s f v)
 forgotten l m (FullTree h s w) f v =
-    ap (λ a. FullTree a (respaced S First l (respaced S First m s)) (laid l (laid m w))) (head_forgotten l m h f v.0)
-    ∙ (ap (λ a. FullTree (laid_list_head l h) a (laid l (laid m w))) (space_forgotten S First l m s f v.1) ∙ ap (FullTree (laid_list_head l h) (respaced S First l s)) (forgotten l m w f v.2))
-forgotten l m (LastTree e s) f v = ap (λ a. LastTree a (respaced SOC Last l (respaced SOC Last m s))) (forgotten l m e f v.0) ∙ ap (LastTree (laid l e)) (space_forgotten SOC Last l m s f v.1)
+    ap (λ a. FullTree a (respaced Optional First l (respaced Optional First m s)) (laid l (laid m w))) (head_forgotten l m h f v.0)
+    ∙ (ap (λ a. FullTree (laid_list_head l h) a (laid l (laid m w))) (space_forgotten Optional First l m s f v.1) ∙ ap (FullTree (laid_list_head l h) (respaced Optional First l s)) (forgotten l m w f v.2))
+forgotten l m (LastTree e s) f v = ap (λ a. LastTree a (respaced AtEnd Last l (respaced AtEnd Last m s))) (forgotten l m e f v.0) ∙ ap (LastTree (laid l e)) (space_forgotten AtEnd Last l m s f v.1)
 forgotten l m (MoreTree e s w) f v =
-    ap (λ a. MoreTree a (respaced MSC Between l (respaced MSC Between m s)) (laid l (laid m w))) (forgotten l m e f v.0)
-    ∙ (ap (λ a. MoreTree (laid l e) a (laid l (laid m w))) (space_forgotten MSC Between l m s f v.1) ∙ ap (MoreTree (laid l e) (respaced MSC Between l s)) (forgotten l m w f v.2))
-forgotten l m (NothingTree s) f v = ap NothingTree (space_forgotten S Elsewhere l m s f v)
-forgotten l m (SequenceTree s w) f v = ap (λ a. SequenceTree a (laid l (laid m w))) (space_forgotten S Elsewhere l m s f v.0) ∙ ap (SequenceTree (respaced S Elsewhere l s)) (forgotten l m w f v.1)
+    ap (λ a. MoreTree a (respaced Separating Between l (respaced Separating Between m s)) (laid l (laid m w))) (forgotten l m e f v.0)
+    ∙ (ap (λ a. MoreTree (laid l e) a (laid l (laid m w))) (space_forgotten Separating Between l m s f v.1) ∙ ap (MoreTree (laid l e) (respaced Separating Between l s)) (forgotten l m w f v.2))
+forgotten l m (NothingTree s) f v = ap NothingTree (space_forgotten Optional Elsewhere l m s f v)
+forgotten l m (SequenceTree s w) f v = ap (λ a. SequenceTree a (laid l (laid m w))) (space_forgotten Optional Elsewhere l m s f v.0) ∙ ap (SequenceTree (respaced Optional Elsewhere l s)) (forgotten l m w f v.1)
 forgotten l m (StandaloneTree s w t) f v =
-    ap (λ a. StandaloneTree a (laid l (laid m w)) (respaced S Elsewhere l (respaced S Elsewhere m t))) (space_forgotten S Elsewhere l m s f v.0)
-    ∙ (ap (λ a. StandaloneTree (respaced S Elsewhere l s) a (respaced S Elsewhere l (respaced S Elsewhere m t))) (forgotten l m w f v.1) ∙ ap (StandaloneTree (respaced S Elsewhere l s) (laid l w)) (space_forgotten S Elsewhere l m t f v.2))
+    ap (λ a. StandaloneTree a (laid l (laid m w)) (respaced Optional Elsewhere l (respaced Optional Elsewhere m t))) (space_forgotten Optional Elsewhere l m s f v.0)
+    ∙ (ap (λ a. StandaloneTree (respaced Optional Elsewhere l s) a (respaced Optional Elsewhere l (respaced Optional Elsewhere m t))) (forgotten l m w f v.1) ∙ ap (StandaloneTree (respaced Optional Elsewhere l s) (laid l w)) (space_forgotten Optional Elsewhere l m t f v.2))
 
 policy_keeps : (q : DelimiterPolicy) → KeepsAllComments q → Keeps (layout q)
 policy_keeps DiscardAll k = absurd k

@@ -2,14 +2,14 @@
 use Rattle.std.proofs.Common.{ℕ, ◌+◌, ◌-◌, ◌^◌, ◌≡◌, List, [], ◌∷◌, ◌++◌, length, refl, sym, ap, ◌∙◌, length-append, arith}
 use Rattle.std.specs.Prelude.{min, nat_lt}
 use Rattle.cbor_edn_parts.specs.Indicator.{indicator_text}
-use Rattle.cbor_edn_parts.specs.Spacing.{SpaceKind, S, MS, MSC, SOC}
+use Rattle.cbor_edn_parts.specs.Spacing.{SpaceKind, Optional, Mandatory, Separating, AtEnd}
 use Rattle.cbor_edn_parts.specs.declared.policy.Spacing.{Spacing}
 use Rattle.cbor_edn_parts.specs.declared.policy.Spacing.TheVariants.{Least, Comments, OneLine, NewLine, OneSpace}
 use Rattle.cbor_edn_model.specs.declared.layout.width.Spaces.{Spaces}
 use Rattle.cbor_edn_model.specs.declared.layout.width.Spaces.TheVariants.{Kept, By}
 use Rattle.cbor_edn_model.specs.tree.Items.{Row}
-use Rattle.cbor_edn_model.specs.text.Spelling.{ending}
-use Rattle.cbor_edn_model.specs.tree.Trees.{Rule, OneItem, OnePiece, OneString, OneEntry, Rest, ListHead, NoIndicator, WithIndicator, Tree, NumberTree, FloatTree, NamedTree, EnclosedTree, ListTree, StringTree, StreamTree, LiteralTree, DotsTree, EmbeddedTree, LastPieceTree, PlusTree, ElementTree, PairTree, ChunkTree, EmptyTree, FullTree, LastTree, MoreTree, NothingTree, SequenceTree, StandaloneTree, list_head_text, onto, text}
+use Rattle.cbor_edn_model.specs.text.Spelling.{close_byte}
+use Rattle.cbor_edn_model.specs.tree.Trees.{Rule, OneItem, OnePiece, OneString, OneEntry, Rest, ListHead, NoIndicator, WithIndicator, Tree, NumberTree, FloatTree, NamedTree, EnclosedTree, ListTree, StringTree, StreamTree, LiteralTree, EllipsisTree, EmbeddedTree, LastPieceTree, PlusTree, ElementTree, PairTree, ChunkTree, EmptyTree, FullTree, LastTree, MoreTree, NothingTree, SequenceTree, StandaloneTree, list_head_text, onto, text}
 use Rattle.cbor_edn_model.specs.tree.Rows.{entries_onto, pieces_onto}
 use Rattle.cbor_edn_model.specs.layout.Layout.{Inline, First, Between, Last, BeforePlus, AfterPlus, AfterColon, Elsewhere, respaced, in_chunk, saturating_add, laid_list_head, laid}
 use Rattle.cbor_edn_model.specs.internal.Widths.{space_width, wide, in_stream, head_width, width, measured, entries_width, pieces_width}
@@ -23,7 +23,7 @@ at_slot kind (NewLine n) x = (refl, refl, refl, refl)
 at_slot kind OneSpace x = (refl, refl, refl, refl)
 
 -- and there
-at_wide : (c : Spacing) (x : List ℕ) → (length (respaced S BeforePlus (Inline c) x) ≡ space_width S (wide (By c)) x) × (length (respaced S AfterPlus (Inline c) x) ≡ space_width S (wide (By c)) x) × (length (respaced S AfterColon (Inline c) x) ≡ space_width S (wide (By c)) x)
+at_wide : (c : Spacing) (x : List ℕ) → (length (respaced Optional BeforePlus (Inline c) x) ≡ space_width Optional (wide (By c)) x) × (length (respaced Optional AfterPlus (Inline c) x) ≡ space_width Optional (wide (By c)) x) × (length (respaced Optional AfterColon (Inline c) x) ≡ space_width Optional (wide (By c)) x)
 at_wide Least x = (refl, refl, refl)
 at_wide Comments x = (refl, refl, refl)
 at_wide OneLine x = (refl, refl, refl)
@@ -37,11 +37,11 @@ flat_onto (NumberTree x i) r = simp length-append (omega arith)
 flat_onto (FloatTree f i) r = simp length-append (omega arith)
 flat_onto (NamedTree b) r = simp length-append (omega arith)
 flat_onto (EnclosedTree l w) r = let h = flat_onto w (41 ∷ r) in simp length-append (omega (arith, h))
-flat_onto (ListTree k w) r = let h = flat_onto w (ending k ∷ r) in omega (arith, h)
+flat_onto (ListTree k w) r = let h = flat_onto w (close_byte k ∷ r) in omega (arith, h)
 flat_onto (StringTree w) r = flat_onto w r
 flat_onto (StreamTree ms m) r = let h = flat_onto m (41 ∷ r) in simp length-append (omega (arith, h))
 flat_onto (LiteralTree x i) r = simp length-append (omega arith)
-flat_onto (DotsTree x) r = simp length-append (omega arith)
+flat_onto (EllipsisTree x) r = simp length-append (omega arith)
 flat_onto (EmbeddedTree w i) r =
     let h : length (onto w (62 ∷ 62 ∷ (indicator_text i ++ r))) ≡ width Kept w + (length (indicator_text i) + length r + 2) = flat_onto w (62 ∷ 62 ∷ (indicator_text i ++ r)) ∙ simp length-append (omega arith) in
     omega (arith, h)
@@ -65,12 +65,12 @@ flat_onto (StandaloneTree s w t) r = let ih = flat_onto w (t ++ r) in simp lengt
 piece_width : (c : Spacing) (p : Tree OnePiece) (r : List ℕ) → length (onto p r) ≡ width (By c) p + length r
 unfolding width
 piece_width c (LiteralTree x i) r = flat_onto (LiteralTree x i) r
-piece_width c (DotsTree x) r = flat_onto (DotsTree x) r
+piece_width c (EllipsisTree x) r = flat_onto (EllipsisTree x) r
 piece_width c (EmbeddedTree w i) r = flat_onto (EmbeddedTree w i) r
 
 head_is : (c : Spacing) (h : ListHead) → length (list_head_text (laid_list_head (Inline c) h)) ≡ head_width (By c) h
 head_is c NoIndicator = refl
-head_is c (WithIndicator i ms) = let s = (at_slot MS c ms).3 in simp length-append (omega (arith, s))
+head_is c (WithIndicator i ms) = let s = (at_slot Mandatory c ms).3 in simp length-append (omega (arith, s))
 
 -- the column in the strings of a stream
 abbrev chunk_column : Spacing → Spacing
@@ -90,41 +90,41 @@ width_onto c (NumberTree x i) r = simp length-append (omega arith)
 width_onto c (FloatTree f i) r = simp length-append (omega arith)
 width_onto c (NamedTree b) r = simp length-append (omega arith)
 width_onto c (EnclosedTree l w) r = let h = width_onto c w (41 ∷ r) in simp length-append (omega (arith, h))
-width_onto c (ListTree k w) r = let h = width_onto c w (ending k ∷ r) in omega (arith, h)
+width_onto c (ListTree k w) r = let h = width_onto c w (close_byte k ∷ r) in omega (arith, h)
 width_onto c (StringTree w) r = width_onto c w r
-width_onto c (StreamTree ms m) r = let h = width_onto c m (41 ∷ r) in let a = (at_slot MS c ms).0 in simp length-append (omega (arith, h, a))
+width_onto c (StreamTree ms m) r = let h = width_onto c m (41 ∷ r) in let a = (at_slot Mandatory c ms).0 in simp length-append (omega (arith, h, a))
 width_onto c (LiteralTree x i) r = piece_width c (LiteralTree x i) r
-width_onto c (DotsTree x) r = piece_width c (DotsTree x) r
+width_onto c (EllipsisTree x) r = piece_width c (EllipsisTree x) r
 width_onto c (EmbeddedTree w i) r = piece_width c (EmbeddedTree w i) r
 width_onto c (LastPieceTree p) r = piece_width c p r
 width_onto c (PlusTree p s t w) r =
     let ih = width_onto c w r in
     let a = (at_wide c s).0 in
     let b = (at_wide c t).1 in
-    piece_width c p (respaced S BeforePlus (Inline c) s ++ (43 ∷ (respaced S AfterPlus (Inline c) t ++ onto (laid (Inline c) w) r))) ∙ simp length-append (omega (arith, ih, a, b))
+    piece_width c p (respaced Optional BeforePlus (Inline c) s ++ (43 ∷ (respaced Optional AfterPlus (Inline c) t ++ onto (laid (Inline c) w) r))) ∙ simp length-append (omega (arith, ih, a, b))
 width_onto c (ElementTree w) r = width_onto c w r
 width_onto c (PairTree v s t w) r =
     let ih = width_onto c w r in
-    let a = (at_slot S c s).3 in
+    let a = (at_slot Optional c s).3 in
     let b = (at_wide c t).2 in
-    width_onto c v (respaced S Elsewhere (Inline c) s ++ (58 ∷ (respaced S AfterColon (Inline c) t ++ onto (laid (Inline c) w) r))) ∙ simp length-append (omega (arith, ih, a, b))
+    width_onto c v (respaced Optional Elsewhere (Inline c) s ++ (58 ∷ (respaced Optional AfterColon (Inline c) t ++ onto (laid (Inline c) w) r))) ∙ simp length-append (omega (arith, ih, a, b))
 width_onto c (ChunkTree w) r =
     ap (λ l. length (onto (laid l w) r)) (chunk_is c).0
     ∙ width_onto (chunk_column c) w r
     ∙ ap (λ k. width k w + length r) (sym (chunk_is c).1)
-width_onto c (EmptyTree i s) r = let a = (at_slot S c s).3 in simp length-append (omega (arith, a))
-width_onto c (FullTree h s m) r = let ih = width_onto c m r in let a = (at_slot S c s).0 in let head = head_is c h in simp length-append (omega (arith, ih, a, head))
-width_onto c (LastTree e s) r = let a = (at_slot SOC c s).2 in width_onto c e (respaced SOC Last (Inline c) s ++ r) ∙ simp length-append (omega (arith, a))
+width_onto c (EmptyTree i s) r = let a = (at_slot Optional c s).3 in simp length-append (omega (arith, a))
+width_onto c (FullTree h s m) r = let ih = width_onto c m r in let a = (at_slot Optional c s).0 in let head = head_is c h in simp length-append (omega (arith, ih, a, head))
+width_onto c (LastTree e s) r = let a = (at_slot AtEnd c s).2 in width_onto c e (respaced AtEnd Last (Inline c) s ++ r) ∙ simp length-append (omega (arith, a))
 width_onto c (MoreTree e s m) r =
     let ih = width_onto c m r in
-    let a = (at_slot MSC c s).1 in
-    width_onto c e (respaced MSC Between (Inline c) s ++ onto (laid (Inline c) m) r) ∙ simp length-append (omega (arith, ih, a))
-width_onto c (NothingTree s) r = let a = (at_slot S c s).3 in simp length-append (omega (arith, a))
-width_onto c (SequenceTree s m) r = let ih = width_onto c m r in let a = (at_slot S c s).3 in simp length-append (omega (arith, ih, a))
+    let a = (at_slot Separating c s).1 in
+    width_onto c e (respaced Separating Between (Inline c) s ++ onto (laid (Inline c) m) r) ∙ simp length-append (omega (arith, ih, a))
+width_onto c (NothingTree s) r = let a = (at_slot Optional c s).3 in simp length-append (omega (arith, a))
+width_onto c (SequenceTree s m) r = let ih = width_onto c m r in let a = (at_slot Optional c s).3 in simp length-append (omega (arith, ih, a))
 width_onto c (StandaloneTree s w t) r =
-    let ih = width_onto c w (respaced S Elsewhere (Inline c) t ++ r) in
-    let a = (at_slot S c s).3 in
-    let b = (at_slot S c t).3 in
+    let ih = width_onto c w (respaced Optional Elsewhere (Inline c) t ++ r) in
+    let a = (at_slot Optional c s).3 in
+    let b = (at_slot Optional c t).3 in
     simp length-append (rw ih (simp length-append (omega (arith, a, b))))
 
 pub width_is : {s : Rule} (c : Spacing) (w : Tree s) → width (By c) w ≡ length (text (laid (Inline c) w))

@@ -11,8 +11,8 @@ use Rattle.cbor_edn_model.specs.declared.text.keyword.NamedSimple.TheVariants.{F
 use Rattle.cbor_edn_model.specs.tree.Items as kind
 use Rattle.cbor_edn_model.specs.tree.Items.{Row, Bracketed, entries_of, Item, Node, Number, Named, Simple}
 use Rattle.cbor_edn_model.specs.tree.Trees.{OneItem, OneEntry, Rest, Tree, EnclosedTree, ListTree, ElementTree}
-use Rattle.cbor_edn_model.specs.declared.text.label.LabelKind.{LabelKind}
-use Rattle.cbor_edn_model.specs.declared.text.label.LabelKind.TheVariants as label
+use Rattle.cbor_edn_model.specs.declared.text.opener.OpenerKind.{OpenerKind}
+use Rattle.cbor_edn_model.specs.declared.text.opener.OpenerKind.TheVariants as opener
 use Rattle.cbor_edn_model.specs.cbor.Value as values
 use Rattle.cbor_edn_model.specs.cbor.Value.{Value, unsigned, negative, string, chunks, array, cbor_map, tag, simple, float, Values, no_values, value, Pairs, no_pairs, pair}
 use Rattle.cbor_edn_model.specs.cbor.Decoded as decoded
@@ -39,7 +39,7 @@ inside_fixed i None f = refl
 inside_fixed None (Some m) f = ap (λ m. list_inside None (Some m)) f
 inside_fixed (Some i) (Some m) f = ap (λ m. list_inside (Some i) (Some m)) f
 
-enclosed_fixed : (l : LabelKind) (w : Tree OneItem) → laid line w ≡ w → laid line (EnclosedTree l (alone w)) ≡ EnclosedTree l (alone w)
+enclosed_fixed : (l : OpenerKind) (w : Tree OneItem) → laid line w ≡ w → laid line (EnclosedTree l (alone w)) ≡ EnclosedTree l (alone w)
 unfolding laid from_first to_last up_to_comma past_comma
 enclosed_fixed l w h = ap (λ w. EnclosedTree l (alone w)) h
 
@@ -74,7 +74,7 @@ mutual
   item_fixed (chunks k cs) = chunked_fixed k cs
   item_fixed (array w vs) = ap (ListTree kind.Array) (inside_fixed (decoded.list_indicator w (values.values_len vs)) (regular (items_of vs)) (items_fixed vs))
   item_fixed (cbor_map w ps) = ap (ListTree kind.Map) (inside_fixed (decoded.list_indicator w (values.pairs_len ps)) (regular (pairs_of ps)) (pairs_fixed ps))
-  item_fixed (tag w n v) = enclosed_fixed (label.Tag (indicator_of w n) n) (regular (item_of v)) (item_fixed v)
+  item_fixed (tag w n v) = enclosed_fixed (opener.Tag (indicator_of w n) n) (regular (item_of v)) (item_fixed v)
   item_fixed (simple n) = simple_fixed n
   item_fixed (float w f) = refl
 

@@ -7,10 +7,10 @@ use Rattle.cbor_edn_parts.specs.declared.string.StringKind.{StringKind}
 use Rattle.cbor_edn_parts.specs.internal.CommentReading.{from_first, to_last, up_to_comma as front, past_comma}
 use Rattle.cbor_edn_parts.specs.declared.policy.Spacing.TheVariants.{Least, OneLine}
 use Rattle.cbor_edn_model.specs.declared.text.keyword.NamedSimple.TheVariants.{False, True, Null, Undefined}
-use Rattle.cbor_edn_model.specs.declared.text.label.LabelKind.{LabelKind}
-use Rattle.cbor_edn_model.specs.declared.text.label.LabelKind.TheVariants as label
-use Rattle.cbor_edn_model.specs.tree.Items.{Sort, Item, Node, Number, Float, Listed, Tagged, Named, Simple, String, Stream, Literal, Dots, Embedded, LastPiece, Plus, Element, Pair, Chunk, End, Then}
-use Rattle.cbor_edn_model.specs.tree.Trees.{Rule, OneItem, OnePiece, OneString, OneEntry, Inside, Rest, Seq, Standalone, Tree, ListHead, NoIndicator, WithIndicator, head_indicator, NumberTree, FloatTree, NamedTree, EnclosedTree, ListTree, StringTree, StreamTree, LiteralTree, DotsTree, EmbeddedTree, LastPieceTree, PlusTree, ElementTree, PairTree, ChunkTree, EmptyTree, FullTree, LastTree, MoreTree, NothingTree, SequenceTree, StandaloneTree, labelled, Of, items}
+use Rattle.cbor_edn_model.specs.declared.text.opener.OpenerKind.{OpenerKind}
+use Rattle.cbor_edn_model.specs.declared.text.opener.OpenerKind.TheVariants as opener
+use Rattle.cbor_edn_model.specs.tree.Items.{Sort, Item, Node, Number, Float, Listed, Tagged, Named, Simple, String, Stream, Literal, Ellipsis, Embedded, LastPiece, Plus, Element, Pair, Chunk, End, Then}
+use Rattle.cbor_edn_model.specs.tree.Trees.{Rule, OneItem, OnePiece, OneString, OneEntry, Inside, Rest, Seq, Standalone, Tree, ListHead, NoIndicator, WithIndicator, head_indicator, NumberTree, FloatTree, NamedTree, EnclosedTree, ListTree, StringTree, StreamTree, LiteralTree, EllipsisTree, EmbeddedTree, LastPieceTree, PlusTree, ElementTree, PairTree, ChunkTree, EmptyTree, FullTree, LastTree, MoreTree, NothingTree, SequenceTree, StandaloneTree, labelled, Of, items}
 use Rattle.cbor_edn_model.specs.cbor.Value as values
 use Rattle.cbor_edn_model.specs.cbor.Value.{Value, unsigned, negative, string, chunks, array, cbor_map, tag, simple, float, Values, no_values, value, Pairs, no_pairs, pair}
 use Rattle.cbor_edn_model.specs.cbor.Decoded.{item_of, items_of, pairs_of, chunk_items, chunked_item, simple_item, alone}
@@ -31,7 +31,7 @@ Single (Simple w) = Single w
 Single (String w) = Single w
 Single (Stream m) = Single m
 Single (Literal x i) = Unit {0}
-Single (Dots x) = Unit {0}
+Single (Ellipsis x) = Unit {0}
 Single (Embedded m i) = ⊥
 Single (LastPiece p) = Single p
 Single (Plus p w) = ⊥
@@ -105,19 +105,19 @@ line = Inline OneLine
 abbrev least : Layout
 least = Inline Least
 
-label_regular : (l : LabelKind) (x : Node Item) → regular (labelled l x) ≡ EnclosedTree l (alone (regular x))
+opener_regular : (l : OpenerKind) (x : Node Item) → regular (labelled l x) ≡ EnclosedTree l (alone (regular x))
 unfolding regular
-label_regular (label.Tag i n) x = refl
-label_regular label.Simple x = refl
+opener_regular (opener.Tag i n) x = refl
+opener_regular opener.Simple x = refl
 
-label_single : (l : LabelKind) (x : Node Item) → Single (labelled l x) → Single x
-label_single (label.Tag i n) x s = s
-label_single label.Simple x s = s
+opener_single : (l : OpenerKind) (x : Node Item) → Single (labelled l x) → Single x
+opener_single (opener.Tag i n) x s = s
+opener_single opener.Simple x s = s
 
 piece_regular : (p : Tree OnePiece) → Single (items p) → p ≡ regular (items p)
 unfolding items regular
 piece_regular (LiteralTree x i) s = refl
-piece_regular (DotsTree x) s = refl
+piece_regular (EllipsisTree x) s = refl
 piece_regular (EmbeddedTree w i) s = absurd s
 
 -- a string has no space then, under any layout
@@ -136,12 +136,12 @@ unfolding items regular laid from_first to_last front past_comma
 is_regular (NumberTree x i) s = refl
 is_regular (FloatTree f i) s = refl
 is_regular (NamedTree b) s = refl
-is_regular (EnclosedTree l w) s = ap (EnclosedTree l) (is_regular w (label_single l (items w) s)) ∙ sym (label_regular l (items w))
+is_regular (EnclosedTree l w) s = ap (EnclosedTree l) (is_regular w (opener_single l (items w) s)) ∙ sym (opener_regular l (items w))
 is_regular (ListTree k w) s = ap (ListTree k) (is_regular w s)
 is_regular (StringTree w) s = ap StringTree (string_regular line least w s)
 is_regular (StreamTree ms m) s = ap stream_tree (is_regular m s)
 is_regular (LiteralTree x i) s = refl
-is_regular (DotsTree x) s = refl
+is_regular (EllipsisTree x) s = refl
 is_regular (EmbeddedTree w i) s = absurd s
 is_regular (LastPieceTree p) s = ap LastPieceTree (piece_regular p s)
 is_regular (PlusTree p t u w) s = absurd s

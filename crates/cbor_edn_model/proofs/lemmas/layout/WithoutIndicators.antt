@@ -1,16 +1,16 @@
 -- The tree that removal of indicators leaves.
 use Rattle.std.proofs.Common.{ℕ, ◌≡◌, List, ◌++◌, true, None, refl, ap, ◌∙◌}
 use Rattle.std.proofs.lemmas.Bool.{cond_both}
-use Rattle.cbor_edn_parts.specs.internal.SpaceTokens.{is_s}
-use Rattle.cbor_edn_parts.proofs.lemmas.space.SpaceTexts.{s_texts, ms_texts}
+use Rattle.cbor_edn_parts.specs.internal.SpaceTokens.{is_space}
+use Rattle.cbor_edn_parts.proofs.lemmas.space.SpaceTexts.{optional_texts, mandatory_texts}
 use Rattle.cbor_edn_parts.proofs.lemmas.space.CommentTexts.{spaces_append}
-use Rattle.cbor_edn_model.specs.declared.text.label.LabelKind.{LabelKind}
-use Rattle.cbor_edn_model.specs.declared.text.label.LabelKind.TheVariants as label
+use Rattle.cbor_edn_model.specs.declared.text.opener.OpenerKind.{OpenerKind}
+use Rattle.cbor_edn_model.specs.declared.text.opener.OpenerKind.TheVariants as opener
 use Rattle.cbor_edn_model.specs.tree.Items.{Row, Listed, String, Stream, LastPiece, Plus, Element, Pair, Chunk, End, Then, Node, Item}
-use Rattle.cbor_edn_model.specs.text.Labels.{IsLabel}
-use Rattle.cbor_edn_model.specs.tree.Trees.{Rule, OneItem, OnePiece, OneString, OneEntry, Inside, Rest, Seq, Standalone, Tree, ListHead, NoIndicator, WithIndicator, NumberTree, FloatTree, NamedTree, EnclosedTree, ListTree, StringTree, StreamTree, LiteralTree, DotsTree, EmbeddedTree, LastPieceTree, PlusTree, ElementTree, PairTree, ChunkTree, EmptyTree, FullTree, LastTree, MoreTree, NothingTree, SequenceTree, StandaloneTree, Merged, labelled, Of, items}
+use Rattle.cbor_edn_model.specs.text.Openers.{IsOpener}
+use Rattle.cbor_edn_model.specs.tree.Trees.{Rule, OneItem, OnePiece, OneString, OneEntry, Inside, Rest, Seq, Standalone, Tree, ListHead, NoIndicator, WithIndicator, NumberTree, FloatTree, NamedTree, EnclosedTree, ListTree, StringTree, StreamTree, LiteralTree, EllipsisTree, EmbeddedTree, LastPieceTree, PlusTree, ElementTree, PairTree, ChunkTree, EmptyTree, FullTree, LastTree, MoreTree, NothingTree, SequenceTree, StandaloneTree, Merged, labelled, Of, items}
 use Rattle.cbor_edn_model.proofs.lemmas.text.Tested.{IsTestedListHead, Tested, tested, valid}
-use Rattle.cbor_edn_model.specs.layout.Bare.{bare, is_one_space, first_space, bare_label, without_indicators}
+use Rattle.cbor_edn_model.specs.layout.Bare.{bare, is_one_space, first_space, bare_opener, without_indicators}
 use Rattle.cbor_edn_model.specs.layout.BareLaws.{WithoutIndicatorsIsBare, WithoutIndicatorsStaysValid}
 
 -- the bare items of a use of a rule
@@ -24,22 +24,22 @@ bare_of (Rest k) x = bare x
 bare_of Seq x = bare x
 bare_of Standalone x = bare x
 
-label_bare : (l : LabelKind) (x : Node Item) → labelled (bare_label l) (bare x) ≡ bare (labelled l x)
+opener_bare : (l : OpenerKind) (x : Node Item) → labelled (bare_opener l) (bare x) ≡ bare (labelled l x)
 unfolding bare
-label_bare (label.Tag i n) x = refl
-label_bare label.Simple x = refl
+opener_bare (opener.Tag i n) x = refl
+opener_bare opener.Simple x = refl
 
 is_bare : {s : Rule} (w : Tree s) → items (without_indicators w) ≡ bare_of s (items w)
 unfolding items bare without_indicators
 is_bare (NumberTree x i) = refl
 is_bare (FloatTree f i) = refl
 is_bare (NamedTree b) = refl
-is_bare (EnclosedTree l w) = ap (labelled (bare_label l)) (is_bare w) ∙ label_bare l (items w)
+is_bare (EnclosedTree l w) = ap (labelled (bare_opener l)) (is_bare w) ∙ opener_bare l (items w)
 is_bare (ListTree k w) = ap (λ p. Listed k p.0 p.1) (is_bare w)
 is_bare (StringTree w) = ap String (is_bare w)
 is_bare (StreamTree ms m) = ap Stream (is_bare m)
 is_bare (LiteralTree x i) = refl
-is_bare (DotsTree x) = refl
+is_bare (EllipsisTree x) = refl
 is_bare (EmbeddedTree w i) = refl
 is_bare (LastPieceTree p) = ap LastPiece (is_bare p)
 is_bare (PlusTree p s t w) = ap (λ p. Plus p (items (without_indicators w))) (is_bare p) ∙ ap (Plus (bare (items p))) (is_bare w)
@@ -60,26 +60,26 @@ entry_is_bare w = is_bare w
 pub without_indicators_is_bare : WithoutIndicatorsIsBare
 without_indicators_is_bare = (λ w. is_bare w, λ w. is_bare w, λ w. is_bare w)
 
-label_fits : (l : LabelKind) → IsLabel l → IsLabel (bare_label l)
-label_fits (label.Tag i n) v = v
-label_fits label.Simple v = tt
+opener_fits : (l : OpenerKind) → IsOpener l → IsOpener (bare_opener l)
+opener_fits (opener.Tag i n) v = v
+opener_fits opener.Simple v = tt
 
-first_is_space : (h : ListHead) (s : List ℕ) → IsTestedListHead h → is_s s ≡ true → is_s (first_space h s) ≡ true
+first_is_space : (h : ListHead) (s : List ℕ) → IsTestedListHead h → is_space s ≡ true → is_space (first_space h s) ≡ true
 first_is_space NoIndicator s v e = e
 first_is_space (WithIndicator i ms) s v e =
-    cond_both (is_one_space ms) s (ms ++ s) (λ x. is_s x ≡ true) (λ one. e) (λ other. (s_texts (ms ++ s)).0 (spaces_append ((ms_texts ms).1 v).0 ((s_texts s).1 e)))
+    cond_both (is_one_space ms) s (ms ++ s) (λ x. is_space x ≡ true) (λ one. e) (λ other. (optional_texts (ms ++ s)).0 (spaces_append ((mandatory_texts ms).1 v).0 ((optional_texts s).1 e)))
 
 stays : {s : Rule} (w : Tree s) → Tested w → Tested (without_indicators w)
 unfolding Tested without_indicators
 stays (NumberTree x i) v = v
 stays (FloatTree f i) v = v
 stays (NamedTree b) v = v
-stays (EnclosedTree l w) v = (label_fits l v.0, stays w v.1)
+stays (EnclosedTree l w) v = (opener_fits l v.0, stays w v.1)
 stays (ListTree k w) v = stays w v
 stays (StringTree w) v = stays w v
 stays (StreamTree ms m) v = (v.0, stays m v.1)
 stays (LiteralTree x i) v = v
-stays (DotsTree x) v = v
+stays (EllipsisTree x) v = v
 stays (EmbeddedTree w i) v = v
 stays (LastPieceTree p) v = stays p v
 stays (PlusTree p s t w) v = (stays p v.0, v.1, v.2, stays w v.3)
@@ -104,7 +104,7 @@ merged (ListTree k w) j = merged w j
 merged (StringTree w) j = merged w j
 merged (StreamTree ms m) j = merged m j
 merged (LiteralTree x i) j = tt
-merged (DotsTree x) j = tt
+merged (EllipsisTree x) j = tt
 merged (EmbeddedTree w i) j = j
 merged (LastPieceTree p) j = merged p j
 merged (PlusTree p s t w) j = (merged p j.0, merged w j.1)

@@ -10,29 +10,29 @@ use Rattle.cbor_edn_parts.specs.declared.bytes.Kind.TheVariants.{Control, Open, 
 use Rattle.std.specs.Fmt.{decimal}
 use Rattle.cbor_edn_parts.specs.Indicator.{indicator_text}
 use Rattle.cbor_edn_parts.specs.internal.Lex.{Accepts, Is, munch}
-use Rattle.cbor_edn_parts.specs.Space.{IsSoc, space as space_alone, comma}
-use Rattle.cbor_edn_parts.specs.internal.SpaceTokens.{space, is_s, is_soc, is_msc}
+use Rattle.cbor_edn_parts.specs.Space.{IsListEnd, space as space_alone, comma}
+use Rattle.cbor_edn_parts.specs.internal.SpaceTokens.{space, is_space, is_list_end, is_separator}
 use Rattle.cbor_edn_parts.specs.Number.{Decimal}
 use Rattle.cbor_edn_parts.specs.internal.NumberTokens.{number, number_step, is_number}
-use Rattle.cbor_edn_parts.specs.internal.LiteralTokens.{literal, dots, literal_step, dots_step, next_dot, is_lower, is_upper, is_literal, are_dots}
+use Rattle.cbor_edn_parts.specs.internal.LiteralTokens.{literal, ellipsis, literal_step, ellipsis_step, next_dot, is_lower, is_upper, is_literal, is_ellipsis}
 use Rattle.cbor_edn_parts.specs.internal.LiteralTokens as tokens
 use Rattle.cbor_edn_parts.specs.declared.number.NumberState.{NumberState}
 use Rattle.cbor_edn_parts.specs.declared.number.NumberState.TheVariants.{Start, Signed, Point}
 use Rattle.cbor_edn_parts.specs.declared.string.LiteralState.TheVariants as in_literal
-use Rattle.cbor_edn_parts.specs.declared.string.DotsState.{DotsState}
-use Rattle.cbor_edn_parts.specs.declared.string.DotsState.TheVariants as in_dots
+use Rattle.cbor_edn_parts.specs.declared.string.EllipsisState.{EllipsisState}
+use Rattle.cbor_edn_parts.specs.declared.string.EllipsisState.TheVariants as in_ellipsis
 use Rattle.cbor_edn_model.specs.tree.Items.{Row, Array, Map}
-use Rattle.cbor_edn_model.specs.tree.Trees.{OneItem, OnePiece, OneString, OneEntry, Rest, Tree, NumberTree, FloatTree, NamedTree, EnclosedTree, ListTree, StringTree, StreamTree, LiteralTree, DotsTree, EmbeddedTree, LastPieceTree, PlusTree, ElementTree, PairTree, ChunkTree, LastTree, MoreTree, onto, starts_digits, starts_number, joins, NoPlus, Next}
+use Rattle.cbor_edn_model.specs.tree.Trees.{OneItem, OnePiece, OneString, OneEntry, Rest, Tree, NumberTree, FloatTree, NamedTree, EnclosedTree, ListTree, StringTree, StreamTree, LiteralTree, EllipsisTree, EmbeddedTree, LastPieceTree, PlusTree, ElementTree, PairTree, ChunkTree, LastTree, MoreTree, onto, starts_digits, starts_number, joins, NoPlus, Next}
 use Rattle.cbor_edn_model.proofs.lemmas.text.Tested.{Tested}
-use Rattle.cbor_edn_model.specs.declared.text.label.LabelKind.TheVariants as label
+use Rattle.cbor_edn_model.specs.declared.text.opener.OpenerKind.TheVariants as opener
 use Rattle.cbor_edn_model.specs.declared.text.keyword.NamedSimple.TheVariants.{False}
 use Rattle.cbor_edn_model.specs.declared.text.keyword.NonFinite.TheVariants.{Infinity}
 use Rattle.cbor_edn_model.specs.internal.Reading.{starts_with, starts_string}
 use Rattle.cbor_edn_parts.proofs.lemmas.bytes.ByteKinds.{is_digit, at_each, differs}
 use Rattle.cbor_edn_parts.proofs.lemmas.scan.Tokens.{munch-again, token_texts}
-use Rattle.cbor_edn_parts.proofs.lemmas.space.SpaceTexts.{s_texts, soc_texts}
+use Rattle.cbor_edn_parts.proofs.lemmas.space.SpaceTexts.{optional_texts, at_end_texts}
 use Rattle.cbor_edn_model.proofs.lemmas.text.TagNumbers.{tag_digits}
-use Rattle.cbor_edn_model.proofs.lemmas.text.Follows.{numeric, quoted, numeric-begins, numeric_start, number_some, Solid, Spaceless, solid_spaceless, halts_space, closes_solid, closes_follow, begins_solid, space_before, space_follow, separator_follow, msc_follow, colon_solid, colon_follow}
+use Rattle.cbor_edn_model.proofs.lemmas.text.Follows.{numeric, quoted, numeric-begins, numeric_start, number_some, Solid, Spaceless, solid_spaceless, halts_space, closes_solid, closes_follow, begins_solid, space_before, space_follow, separator_follow, separating_follow, colon_solid, colon_follow}
 
 -- Tests of bytes as tests of their kinds.
 by_kind : (f : Kind → Bool) (g : ℕ → Bool) → agree_below (λ c. f (kind c)) g 256 ≡ true → f Control ≡ false → ((c : ℕ) → 256 ≤ c → g c ≡ false) → (c : ℕ) → f (kind c) ≡ g c
@@ -152,7 +152,7 @@ literal_differs b c x n v = let a = (token_texts literal (c ∷ x)).1 v in false
     none_some : {A : Type 0} {x : A} → ◌≡◌ {A = Option A} None (Some x) → ⊥
     none_some e = absurd (cc)
 
-dot_step : (c : ℕ) (m n : DotsState) → dots_step c m ≡ Some n → (c ≡ 46) × (n ≡ next_dot m)
+dot_step : (c : ℕ) (m n : EllipsisState) → ellipsis_step c m ≡ Some n → (c ≡ 46) × (n ≡ next_dot m)
 dot_step c m n e = by (eqb c 46) refl e
   where
     by : (b : Bool) → eqb c 46 ≡ b → cond b (Some (next_dot m)) None ≡ Some n → (c ≡ 46) × (n ≡ next_dot m)
@@ -160,13 +160,13 @@ dot_step c m n e = by (eqb c 46) refl e
     by false t e = absurd (cc)
 
 -- Dots are two at least.
-pub dots_begin : (x : List ℕ) → are_dots x ≡ true → (y : List ℕ) × (x ≡ 46 ∷ 46 ∷ y)
-dots_begin x v = go x ((token_texts dots x).1 v)
+pub ellipsis_begin : (x : List ℕ) → is_ellipsis x ≡ true → (y : List ℕ) × (x ≡ 46 ∷ 46 ∷ y)
+ellipsis_begin x v = go x ((token_texts ellipsis x).1 v)
   where
-    go : (x : List ℕ) → Is dots x → (y : List ℕ) × (x ≡ 46 ∷ 46 ∷ y)
+    go : (x : List ℕ) → Is ellipsis x → (y : List ℕ) × (x ≡ 46 ∷ 46 ∷ y)
     go [] a = absurd (cc)
-    go (c ∷ []) a = let s = dot_step c in_dots.None a.0 a.1 in absurd (cc)
-    go (c ∷ d ∷ y) a = let s = dot_step c in_dots.None a.0 a.1 in let t = dot_step d a.0 a.2.0 a.2.1 in (y, cc)
+    go (c ∷ []) a = let s = dot_step c in_ellipsis.None a.0 a.1 in absurd (cc)
+    go (c ∷ d ∷ y) a = let s = dot_step c in_ellipsis.None a.0 a.1 in let t = dot_step d a.0 a.2.0 a.2.1 in (y, cc)
 
 abbrev strung : Kind → Bool
 strung k = quoted k || dot k
@@ -228,7 +228,7 @@ pub string_unopened : (c : ℕ) (r : List ℕ) → starts_string (c ∷ r) ≡ t
 string_unopened c r h = unopened strung c (first_strung c r h) refl
 
 -- A plus sign in front of a string joins it.
-pub joins_string : (t r : List ℕ) → is_s t ≡ true → starts_string r ≡ true → joins (43 ∷ (t ++ r)) ≡ true
+pub joins_string : (t r : List ℕ) → is_space t ≡ true → starts_string r ≡ true → joins (43 ∷ (t ++ r)) ≡ true
 unfolding joins starts_string
 joins_string [] [] v h = absurd (cc)
 joins_string [] (c ∷ r) v h = ap not (starts_number_at c r ∙ string-numberless (kind c) r (sym (starts_string_at c r) ∙ h))
@@ -253,7 +253,7 @@ pub piece_begins : (p : Tree OnePiece) (r : List ℕ) → Tested p → starts_st
 unfolding onto Tested starts_string
 piece_begins (LiteralTree [] i) r v = absurd (literal_some v)
 piece_begins (LiteralTree (c ∷ x) i) r v = literal_begins c x (x ++ (indicator_text i ++ r)) v
-piece_begins (DotsTree x) r v = rw (dots_begin x v).1
+piece_begins (EllipsisTree x) r v = rw (ellipsis_begin x v).1
 piece_begins (EmbeddedTree w i) r v = refl
 
 pub string_begins : (w : Tree OneString) (r : List ℕ) → Tested w → starts_string (onto w r) ≡ true
@@ -268,8 +268,8 @@ item_starts (FloatTree Infinity i) r v = (refl, refl)
 item_starts (FloatTree _ i) r v = (refl, refl)
 item_starts (NamedTree False) r v = (refl, refl)
 item_starts (NamedTree _) r v = (refl, refl)
-item_starts (EnclosedTree (label.Tag i n) w) r v = rw append_assoc (number_starts (decimal n) _ (tag_digits n v.0))
-item_starts (EnclosedTree label.Simple w) r v = (refl, refl)
+item_starts (EnclosedTree (opener.Tag i n) w) r v = rw append_assoc (number_starts (decimal n) _ (tag_digits n v.0))
+item_starts (EnclosedTree opener.Simple w) r v = (refl, refl)
 item_starts (ListTree Array w) r v = (refl, refl)
 item_starts (ListTree Map w) r v = (refl, refl)
 item_starts (StringTree w) r v = string_starts (onto w r) (string_begins w r v)
@@ -288,18 +288,18 @@ rest_starts (MoreTree e s m) r v = entry_starts e _ v.0
 
 -- ---- what follows an item
 
-no_plus_at : (s r : List ℕ) → is_s s ≡ true → Spaceless r → joins r ≡ false → NoPlus (s ++ r)
+no_plus_at : (s r : List ℕ) → is_space s ≡ true → Spaceless r → joins r ≡ false → NoPlus (s ++ r)
 no_plus_at s r v h j = ((s, r), munch-again space space.start s r ((token_texts space s).1 v) (halts_space r h), j)
 
-comma_no_plus : (x r : List ℕ) → is_s x ≡ true → NoPlus (x ++ (44 ∷ r))
+comma_no_plus : (x r : List ℕ) → is_space x ≡ true → NoPlus (x ++ (44 ∷ r))
 unfolding joins kind
 comma_no_plus x r v = no_plus_at x (44 ∷ r) v refl refl
 
-separator_no_plus : (s r : List ℕ) → IsSoc s → Solid r → joins r ≡ false → NoPlus (s ++ r)
-separator_no_plus s r (space_alone h) o j = no_plus_at s r ((s_texts s).0 h) (solid_spaceless r o) j
-separator_no_plus _ r (comma {x = x} {y = y} h k) o j = rw (append_assoc x (44 ∷ y) r) (comma_no_plus x (y ++ r) ((s_texts x).0 h))
+separator_no_plus : (s r : List ℕ) → IsListEnd s → Solid r → joins r ≡ false → NoPlus (s ++ r)
+separator_no_plus s r (space_alone h) o j = no_plus_at s r ((optional_texts s).0 h) (solid_spaceless r o) j
+separator_no_plus _ r (comma {x = x} {y = y} h k) o j = rw (append_assoc x (44 ∷ y) r) (comma_no_plus x (y ++ r) ((optional_texts x).0 h))
 
-pub space_next : (s r : List ℕ) → is_s s ≡ true → Solid r → Follow r → joins r ≡ false → Next (s ++ r)
+pub space_next : (s r : List ℕ) → is_space s ≡ true → Solid r → Follow r → joins r ≡ false → Next (s ++ r)
 space_next s r v o f j = (space_follow s r v f, no_plus_at s r v (solid_spaceless r o) j)
 
 pub closes_joins : (r : List ℕ) → Closes r → joins r ≡ false
@@ -307,15 +307,15 @@ unfolding joins kind
 closes_joins [] h = refl
 closes_joins (c ∷ r) h = and_left (eqb c 43) _ (differs closing c 43 h refl)
 
-pub end_next : (s r : List ℕ) → is_soc s ≡ true → Closes r → Next (s ++ r)
-end_next s r v h = (separator_follow s r v (closes_follow r h), separator_no_plus s r ((soc_texts s).1 v) (closes_solid r h) (closes_joins r h))
+pub end_next : (s r : List ℕ) → is_list_end s ≡ true → Closes r → Next (s ++ r)
+end_next s r v h = (separator_follow s r v (closes_follow r h), separator_no_plus s r ((at_end_texts s).1 v) (closes_solid r h) (closes_joins r h))
 
-pub more_next : {k : Row} (s : List ℕ) (m : Tree (Rest k)) (r : List ℕ) → is_msc s ≡ true → Tested m → Next (s ++ onto m r)
-more_next s m r v vm = let b = rest_starts m r vm in (msc_follow s _ v, separator_no_plus s _ ((soc_texts s).1 (and_parts _ _ v).1) (begins_solid _ b.0) b.1)
+pub more_next : {k : Row} (s : List ℕ) (m : Tree (Rest k)) (r : List ℕ) → is_separator s ≡ true → Tested m → Next (s ++ onto m r)
+more_next s m r v vm = let b = rest_starts m r vm in (separating_follow s _ v, separator_no_plus s _ ((at_end_texts s).1 (and_parts _ _ v).1) (begins_solid _ b.0) b.1)
 
-pub colon_next : (s r : List ℕ) → is_s s ≡ true → Next (s ++ (58 ∷ r))
+pub colon_next : (s r : List ℕ) → is_space s ≡ true → Next (s ++ (58 ∷ r))
 unfolding joins
 colon_next s r v = space_next s (58 ∷ r) v (colon_solid r) (colon_follow r) refl
 
-pub last_next : (t r : List ℕ) → is_s t ≡ true → Closes r → Next (t ++ r)
+pub last_next : (t r : List ℕ) → is_space t ≡ true → Closes r → Next (t ++ r)
 last_next t r v h = space_next t r v (closes_solid r h) (closes_follow r h) (closes_joins r h)

@@ -7,13 +7,13 @@ use Rattle.cbor_edn_parts.specs.Bytes.{kind}
 use Rattle.cbor_edn_parts.specs.Indicator.{indicator_at, suffix_at}
 use Rattle.cbor_edn_parts.specs.internal.Lex.{munch, push}
 use Rattle.cbor_edn_model.specs.tree.Items.{Array, Map, Number, Listed, Element, Pair, End, Then}
-use Rattle.cbor_edn_model.specs.tree.Trees.{OneItem, Seq, NoIndicator, WithIndicator, Tree, NumberTree, FloatTree, NamedTree, EnclosedTree, ListTree, StringTree, StreamTree, LiteralTree, DotsTree, EmbeddedTree, LastPieceTree, PlusTree, ElementTree, PairTree, ChunkTree, EmptyTree, FullTree, LastTree, MoreTree, NothingTree, SequenceTree, StandaloneTree, items, text, onto, joins}
+use Rattle.cbor_edn_model.specs.tree.Trees.{OneItem, Seq, NoIndicator, WithIndicator, Tree, NumberTree, FloatTree, NamedTree, EnclosedTree, ListTree, StringTree, StreamTree, LiteralTree, EllipsisTree, EmbeddedTree, LastPieceTree, PlusTree, ElementTree, PairTree, ChunkTree, EmptyTree, FullTree, LastTree, MoreTree, NothingTree, SequenceTree, StandaloneTree, items, text, onto, joins}
 use Rattle.std.specs.Fmt.{digits}
-use Rattle.cbor_edn_model.specs.declared.text.label.LabelKind.TheVariants as label
+use Rattle.cbor_edn_model.specs.declared.text.opener.OpenerKind.TheVariants as opener
 use Rattle.cbor_edn_model.specs.declared.text.keyword.NamedSimple.TheVariants.{True}
 use Rattle.cbor_edn_model.specs.declared.text.keyword.NonFinite.TheVariants.{NegativeInfinity}
 use Rattle.cbor_edn_model.specs.text.Openings.{openings}
-use Rattle.cbor_edn_model.specs.internal.Reading.{reads_all, reads, read, byte, not_empty, list_head_of, starts_string, keyword_at, tag_number, enclosed_item, tag_item, number_end, number_item, keyword_item, plain_item, list_item, stream_item, string_item, item, literal_piece, dots_piece, embedded_piece, piece, plus_string, string, entry, inside_full, inside, more, rest, sequence, standalone}
+use Rattle.cbor_edn_model.specs.internal.Reading.{reads_all, reads, read, byte, not_empty, list_head_of, starts_string, keyword_at, tag_number, enclosed_item, tag_item, number_end, number_item, keyword_item, plain_item, list_item, stream_item, string_item, item, literal_piece, ellipsis_piece, embedded_piece, piece, plus_string, string, entry, inside_full, inside, more, rest, sequence, standalone}
 
 abbrev Reads : ℕ → List ℕ → Tree Seq → Type 0
 Reads limit xs w = reads_all limit Seq xs ≡ Ok w
@@ -40,7 +40,7 @@ lists :
     × Reads 1 (91 ∷ 95 ∷ 49 ∷ 32 ∷ 49 ∷ 93 ∷ []) (alone (ListTree Array (FullTree (WithIndicator Two (32 ∷ [])) [] (LastTree (ElementTree (NumberTree (49 ∷ []) None)) []))))
     -- {_1}
     × Reads 1 (123 ∷ 95 ∷ 49 ∷ 125 ∷ []) (alone (ListTree Map (EmptyTree (Some Two) [])))
-unfolding reads_all reads read byte not_empty list_head_of starts_string joins keyword_at enclosed_item tag_item number_end number_item keyword_item plain_item list_item stream_item string_item item literal_piece dots_piece embedded_piece piece plus_string string entry inside_full inside more rest sequence standalone indicator_at suffix_at kind munch push
+unfolding reads_all reads read byte not_empty list_head_of starts_string joins keyword_at enclosed_item tag_item number_end number_item keyword_item plain_item list_item stream_item string_item item literal_piece ellipsis_piece embedded_piece piece plus_string string entry inside_full inside more rest sequence standalone indicator_at suffix_at kind munch push
 lists = (refl, refl, refl, refl, refl)
 
 -- Strings.
@@ -48,7 +48,7 @@ strings :
     -- h'00'_1: a prefix and an indicator
     Reads 0 (104 ∷ 39 ∷ 48 ∷ 48 ∷ 39 ∷ 95 ∷ 49 ∷ []) (alone (StringTree (LastPieceTree (LiteralTree (104 ∷ 39 ∷ 48 ∷ 48 ∷ 39 ∷ []) (Some Two)))))
     -- "a" + 'b'+...
-    × Reads 0 (34 ∷ 97 ∷ 34 ∷ 32 ∷ 43 ∷ 32 ∷ 39 ∷ 98 ∷ 39 ∷ 43 ∷ 46 ∷ 46 ∷ 46 ∷ []) (alone (StringTree (PlusTree (LiteralTree (34 ∷ 97 ∷ 34 ∷ []) None) (32 ∷ []) (32 ∷ []) (PlusTree (LiteralTree (39 ∷ 98 ∷ 39 ∷ []) None) [] [] (LastPieceTree (DotsTree (46 ∷ 46 ∷ 46 ∷ [])))))))
+    × Reads 0 (34 ∷ 97 ∷ 34 ∷ 32 ∷ 43 ∷ 32 ∷ 39 ∷ 98 ∷ 39 ∷ 43 ∷ 46 ∷ 46 ∷ 46 ∷ []) (alone (StringTree (PlusTree (LiteralTree (34 ∷ 97 ∷ 34 ∷ []) None) (32 ∷ []) (32 ∷ []) (PlusTree (LiteralTree (39 ∷ 98 ∷ 39 ∷ []) None) [] [] (LastPieceTree (EllipsisTree (46 ∷ 46 ∷ 46 ∷ [])))))))
     -- (_ "a" + "b", "c")
     × Reads 0 (40 ∷ 95 ∷ 32 ∷ 34 ∷ 97 ∷ 34 ∷ 32 ∷ 43 ∷ 32 ∷ 34 ∷ 98 ∷ 34 ∷ 44 ∷ 32 ∷ 34 ∷ 99 ∷ 34 ∷ 41 ∷ []) (alone (StreamTree (32 ∷ []) (MoreTree (ChunkTree (PlusTree (LiteralTree (34 ∷ 97 ∷ 34 ∷ []) None) (32 ∷ []) (32 ∷ []) (LastPieceTree (LiteralTree (34 ∷ 98 ∷ 34 ∷ []) None)))) (44 ∷ 32 ∷ []) (LastTree (ChunkTree (LastPieceTree (LiteralTree (34 ∷ 99 ∷ 34 ∷ []) None))) []))))
     -- <<1 ,>>_1
@@ -58,8 +58,8 @@ strings :
     -- "a" +1: a plus sign in front of a digit begins a number
     × Reads 0 (34 ∷ 97 ∷ 34 ∷ 32 ∷ 43 ∷ 49 ∷ []) (SequenceTree [] (MoreTree (ElementTree (StringTree (LastPieceTree (LiteralTree (34 ∷ 97 ∷ 34 ∷ []) None)))) (32 ∷ []) (LastTree (ElementTree (NumberTree (43 ∷ 49 ∷ []) None)) [])))
     -- ... .5
-    × Reads 0 (46 ∷ 46 ∷ 46 ∷ 32 ∷ 46 ∷ 53 ∷ []) (SequenceTree [] (MoreTree (ElementTree (StringTree (LastPieceTree (DotsTree (46 ∷ 46 ∷ 46 ∷ []))))) (32 ∷ []) (LastTree (ElementTree (NumberTree (46 ∷ 53 ∷ []) None)) [])))
-unfolding reads_all reads read byte not_empty list_head_of starts_string joins keyword_at enclosed_item tag_item number_end number_item keyword_item plain_item list_item stream_item string_item item literal_piece dots_piece embedded_piece piece plus_string string entry inside_full inside more rest sequence standalone indicator_at suffix_at kind munch push
+    × Reads 0 (46 ∷ 46 ∷ 46 ∷ 32 ∷ 46 ∷ 53 ∷ []) (SequenceTree [] (MoreTree (ElementTree (StringTree (LastPieceTree (EllipsisTree (46 ∷ 46 ∷ 46 ∷ []))))) (32 ∷ []) (LastTree (ElementTree (NumberTree (46 ∷ 53 ∷ []) None)) [])))
+unfolding reads_all reads read byte not_empty list_head_of starts_string joins keyword_at enclosed_item tag_item number_end number_item keyword_item plain_item list_item stream_item string_item item literal_piece ellipsis_piece embedded_piece piece plus_string string entry inside_full inside more rest sequence standalone indicator_at suffix_at kind munch push
 strings = (refl, refl, refl, refl, refl, refl, refl)
 
 -- Keywords and tags.
@@ -71,10 +71,10 @@ keywords :
     -- true'': a prefix is no keyword
     × Reads 0 (116 ∷ 114 ∷ 117 ∷ 101 ∷ 39 ∷ 39 ∷ []) (alone (StringTree (LastPieceTree (LiteralTree (116 ∷ 114 ∷ 117 ∷ 101 ∷ 39 ∷ 39 ∷ []) None))))
     -- simple( 20)
-    × Reads 1 (115 ∷ 105 ∷ 109 ∷ 112 ∷ 108 ∷ 101 ∷ 40 ∷ 32 ∷ 50 ∷ 48 ∷ 41 ∷ []) (alone (EnclosedTree label.Simple (StandaloneTree (32 ∷ []) (NumberTree (50 ∷ 48 ∷ []) None) [])))
+    × Reads 1 (115 ∷ 105 ∷ 109 ∷ 112 ∷ 108 ∷ 101 ∷ 40 ∷ 32 ∷ 50 ∷ 48 ∷ 41 ∷ []) (alone (EnclosedTree opener.Simple (StandaloneTree (32 ∷ []) (NumberTree (50 ∷ 48 ∷ []) None) [])))
     -- 0_i(12(3))
-    × Reads 2 (48 ∷ 95 ∷ 105 ∷ 40 ∷ 49 ∷ 50 ∷ 40 ∷ 51 ∷ 41 ∷ 41 ∷ []) (alone (EnclosedTree (label.Tag (Some Immediate) 0) (StandaloneTree [] (EnclosedTree (label.Tag None 12) (StandaloneTree [] (NumberTree (51 ∷ []) None) [])) [])))
-unfolding reads_all reads read byte not_empty list_head_of starts_string joins keyword_at enclosed_item tag_item number_end number_item keyword_item plain_item list_item stream_item string_item item literal_piece dots_piece embedded_piece piece plus_string string entry inside_full inside more rest sequence standalone indicator_at suffix_at kind munch push digits
+    × Reads 2 (48 ∷ 95 ∷ 105 ∷ 40 ∷ 49 ∷ 50 ∷ 40 ∷ 51 ∷ 41 ∷ 41 ∷ []) (alone (EnclosedTree (opener.Tag (Some Immediate) 0) (StandaloneTree [] (EnclosedTree (opener.Tag None 12) (StandaloneTree [] (NumberTree (51 ∷ []) None) [])) [])))
+unfolding reads_all reads read byte not_empty list_head_of starts_string joins keyword_at enclosed_item tag_item number_end number_item keyword_item plain_item list_item stream_item string_item item literal_piece ellipsis_piece embedded_piece piece plus_string string entry inside_full inside more rest sequence standalone indicator_at suffix_at kind munch push digits
 keywords = (refl, refl, refl, refl, refl)
 
 -- What is refused.
@@ -99,7 +99,7 @@ refused :
     × Refused (40 ∷ 95 ∷ 32 ∷ 49 ∷ 41 ∷ [])
     -- <<1>: an embedded sequence has two brackets at its end
     × Refused (60 ∷ 60 ∷ 49 ∷ 62 ∷ [])
-unfolding reads_all reads read byte not_empty list_head_of starts_string joins keyword_at enclosed_item tag_item number_end number_item keyword_item plain_item list_item stream_item string_item item literal_piece dots_piece embedded_piece piece plus_string string entry inside_full inside more rest sequence standalone indicator_at suffix_at kind munch push
+unfolding reads_all reads read byte not_empty list_head_of starts_string joins keyword_at enclosed_item tag_item number_end number_item keyword_item plain_item list_item stream_item string_item item literal_piece ellipsis_piece embedded_piece piece plus_string string entry inside_full inside more rest sequence standalone indicator_at suffix_at kind munch push
 refused = (refl, refl, refl, refl, refl, refl, refl, refl, refl, refl)
 
 -- What is refused of keywords and tags.
@@ -118,7 +118,7 @@ keywords_refused :
     × Refused (49 ∷ 32 ∷ 40 ∷ 50 ∷ 41 ∷ [])
     -- 1(2,): one item
     × Refused (49 ∷ 40 ∷ 50 ∷ 44 ∷ 41 ∷ [])
-unfolding reads_all reads read byte not_empty list_head_of starts_string joins keyword_at enclosed_item tag_item number_end number_item keyword_item plain_item list_item stream_item string_item item literal_piece dots_piece embedded_piece piece plus_string string entry inside_full inside more rest sequence standalone indicator_at suffix_at kind munch push digits
+unfolding reads_all reads read byte not_empty list_head_of starts_string joins keyword_at enclosed_item tag_item number_end number_item keyword_item plain_item list_item stream_item string_item item literal_piece ellipsis_piece embedded_piece piece plus_string string entry inside_full inside more rest sequence standalone indicator_at suffix_at kind munch push digits
 keywords_refused = (refl, refl, refl, refl, refl, refl, refl)
 
 -- 18446744073709551616 is 2^64: no number of a tag
@@ -140,7 +140,7 @@ too_deep :
     × Deep 1 (49 ∷ 40 ∷ 50 ∷ 40 ∷ 51 ∷ 41 ∷ 41 ∷ [])
     -- simple(1)
     × Deep 0 (115 ∷ 105 ∷ 109 ∷ 112 ∷ 108 ∷ 101 ∷ 40 ∷ 49 ∷ 41 ∷ [])
-unfolding reads_all reads read byte not_empty list_head_of starts_string joins keyword_at enclosed_item tag_item number_end number_item keyword_item plain_item list_item stream_item string_item item literal_piece dots_piece embedded_piece piece plus_string string entry inside_full inside more rest sequence standalone indicator_at suffix_at kind munch push digits
+unfolding reads_all reads read byte not_empty list_head_of starts_string joins keyword_at enclosed_item tag_item number_end number_item keyword_item plain_item list_item stream_item string_item item literal_piece ellipsis_piece embedded_piece piece plus_string string entry inside_full inside more rest sequence standalone indicator_at suffix_at kind munch push digits
 too_deep = (refl, refl, refl, refl, refl, refl)
 
 -- What stands first decides: `[[` is too deep before it is unfinished, and `1][` is refused before anything is too deep.
@@ -149,7 +149,7 @@ first_decides :
     Deep 1 (91 ∷ 91 ∷ [])
     -- 1][
     × reads_all 0 Seq (49 ∷ 93 ∷ 91 ∷ []) ≡ Err Invalid
-unfolding reads_all reads read byte not_empty list_head_of starts_string joins keyword_at enclosed_item tag_item number_end number_item keyword_item plain_item list_item stream_item string_item item literal_piece dots_piece embedded_piece piece plus_string string entry inside_full inside more rest sequence standalone indicator_at suffix_at kind munch push
+unfolding reads_all reads read byte not_empty list_head_of starts_string joins keyword_at enclosed_item tag_item number_end number_item keyword_item plain_item list_item stream_item string_item item literal_piece ellipsis_piece embedded_piece piece plus_string string entry inside_full inside more rest sequence standalone indicator_at suffix_at kind munch push
 first_decides = (refl, refl)
 
 -- the items of `1_i {1 : 2}`

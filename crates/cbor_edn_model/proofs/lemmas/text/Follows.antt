@@ -9,7 +9,7 @@ use Rattle.cbor_edn_parts.specs.Bytes.{kind, follows, closing, begins, Follow, C
 use Rattle.cbor_edn_parts.specs.declared.indicator.Indicator.TheVariants.{Indefinite}
 use Rattle.cbor_edn_parts.specs.Indicator.{indicator_text, indicator_at, suffix_at}
 use Rattle.cbor_edn_parts.specs.internal.Lex.{munch, is_token}
-use Rattle.cbor_edn_parts.specs.internal.SpaceTokens.{space, separator, space_step, space_final, separator_step, separator_final, before, after, is_msc}
+use Rattle.cbor_edn_parts.specs.internal.SpaceTokens.{space, separator, space_step, space_final, separator_step, separator_final, before, after, is_separator}
 use Rattle.cbor_edn_parts.specs.internal.NumberTokens.{number, number_step}
 use Rattle.cbor_edn_parts.proofs.lemmas.number.NumberEnds.{number_stop}
 use Rattle.cbor_edn_parts.specs.declared.space.SpaceState.{SpaceState}
@@ -18,11 +18,11 @@ use Rattle.cbor_edn_parts.specs.internal.SpaceTokens.{SeparatorState}
 use Rattle.cbor_edn_parts.specs.internal.SpaceTokens.{Before, After}
 use Rattle.cbor_edn_parts.specs.declared.number.NumberState.{NumberState}
 use Rattle.cbor_edn_parts.specs.declared.number.NumberState.TheVariants.{Start}
-use Rattle.cbor_edn_parts.specs.internal.LiteralTokens.{literal, dots, literal_step, literal_final}
+use Rattle.cbor_edn_parts.specs.internal.LiteralTokens.{literal, ellipsis, literal_step, literal_final}
 use Rattle.cbor_edn_parts.specs.declared.string.LiteralState.{LiteralState}
 use Rattle.cbor_edn_parts.specs.declared.string.LiteralState.TheVariants.{Closed}
 use Rattle.cbor_edn_model.specs.tree.Items.{Bracketed, Array, Map}
-use Rattle.cbor_edn_model.specs.text.Spelling.{ending}
+use Rattle.cbor_edn_model.specs.text.Spelling.{close_byte}
 use Rattle.cbor_edn_model.specs.internal.Reading.{starts_with}
 use Rattle.cbor_edn_parts.proofs.lemmas.bytes.ByteKinds.{differs}
 use Rattle.cbor_edn_parts.proofs.lemmas.scan.Indicators.{Plain, begins-plain, Follow-plain}
@@ -177,10 +177,10 @@ pub halts_literal : (r : List ℕ) → Halts literal r
 halts_literal [] = tt
 halts_literal (c ∷ r) = λ m e. literal_stop c m e
 
-pub halts_dots : (r : List ℕ) → Follow r → Halts dots r
+pub halts_ellipsis : (r : List ℕ) → Follow r → Halts ellipsis r
 unfolding kind
-halts_dots [] h = tt
-halts_dots (c ∷ r) h = λ m e. rw (differs follows c 46 h refl)
+halts_ellipsis [] h = tt
+halts_ellipsis (c ∷ r) h = λ m e. rw (differs follows c 46 h refl)
 
 pub closes_solid : (r : List ℕ) → Closes r → Solid r
 closes_solid [] h = tt
@@ -213,9 +213,9 @@ pub separator_follow : (s r : List ℕ) → is_token separator s ≡ true → Fo
 separator_follow [] r v h = h
 separator_follow (c ∷ s) r v h = let a = (token_texts separator (c ∷ s)).1 v in separator_first (kind c) a.0 a.1
 
-pub msc_follow : (s r : List ℕ) → is_msc s ≡ true → Follow (s ++ r)
-msc_follow [] r v = absurd (cc)
-msc_follow (c ∷ s) r v = let a = (token_texts separator (c ∷ s)).1 v in separator_first (kind c) a.0 a.1
+pub separating_follow : (s r : List ℕ) → is_separator s ≡ true → Follow (s ++ r)
+separating_follow [] r v = absurd (cc)
+separating_follow (c ∷ s) r v = let a = (token_texts separator (c ∷ s)).1 v in separator_first (kind c) a.0 a.1
 
 pub numeric_start : (c : ℕ) (x : List ℕ) → is_token number (c ∷ x) ≡ true → numeric (kind c) ≡ true
 numeric_start c x v = let a = (token_texts number (c ∷ x)).1 v in number_first (kind c) a.0 a.1
@@ -272,7 +272,7 @@ unfolding kind
 plus_follow r = refl
 
 -- The bytes that end lists.
-pub ending_closes : (k : Bracketed) (r : List ℕ) → Closes (ending k ∷ r)
+pub ending_closes : (k : Bracketed) (r : List ℕ) → Closes (close_byte k ∷ r)
 unfolding kind
 ending_closes Array r = refl
 ending_closes Map r = refl

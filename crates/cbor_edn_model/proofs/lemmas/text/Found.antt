@@ -10,22 +10,22 @@ use Rattle.cbor_edn_parts.specs.Bytes.{is_closed}
 use Rattle.cbor_edn_parts.specs.Indicator.{indicator_text, indicator_at}
 use Rattle.cbor_edn_parts.specs.internal.Lex as lex
 use Rattle.cbor_edn_parts.specs.internal.Lex.{Automaton, is_token, munch}
-use Rattle.cbor_edn_parts.specs.internal.SpaceTokens.{space, separator, is_empty, is_s}
+use Rattle.cbor_edn_parts.specs.internal.SpaceTokens.{space, separator, is_empty, is_space}
 use Rattle.std.specs.Fmt.{decimal}
 use Rattle.cbor_edn_parts.specs.internal.NumberTokens.{number, is_number}
-use Rattle.cbor_edn_parts.specs.internal.LiteralTokens.{literal, dots}
+use Rattle.cbor_edn_parts.specs.internal.LiteralTokens.{literal, ellipsis}
 use Rattle.cbor_edn_model.specs.tree.Items.{Row, Elements, Pairs, Strings, Bracketed, Array, Map, entries_of}
-use Rattle.cbor_edn_model.specs.text.Spelling.{opening, ending}
-use Rattle.cbor_edn_model.specs.text.Labels.{IsLabel}
-use Rattle.cbor_edn_model.specs.tree.Trees.{Rule, OneItem, OnePiece, OneString, OneEntry, Inside, Rest, Seq, Standalone, ListHead, list_head_text, label_text, Tree, onto, IsMerged, Merged, tree_nesting, joins}
+use Rattle.cbor_edn_model.specs.text.Spelling.{open_byte, close_byte}
+use Rattle.cbor_edn_model.specs.text.Openers.{IsOpener}
+use Rattle.cbor_edn_model.specs.tree.Trees.{Rule, OneItem, OnePiece, OneString, OneEntry, Inside, Rest, Seq, Standalone, ListHead, list_head_text, opener_text, Tree, onto, IsMerged, Merged, tree_nesting, joins}
 use Rattle.cbor_edn_model.proofs.lemmas.text.Tested.{IsTestedListHead, Tested}
-use Rattle.cbor_edn_model.specs.declared.text.label.LabelKind.{LabelKind}
-use Rattle.cbor_edn_model.specs.declared.text.label.LabelKind.TheVariants as label
+use Rattle.cbor_edn_model.specs.declared.text.opener.OpenerKind.{OpenerKind}
+use Rattle.cbor_edn_model.specs.declared.text.opener.OpenerKind.TheVariants as opener
 use Rattle.cbor_edn_model.specs.declared.text.keyword.Keyword.{Keyword}
 use Rattle.cbor_edn_model.specs.declared.text.keyword.Keyword.TheVariants.{Named, Simple, NonFinite}
 use Rattle.cbor_edn_model.specs.text.Keywords.{non_finite_text, keyword_text}
 use Rattle.cbor_edn_model.specs.internal.Results.{◌>>=◌}
-use Rattle.cbor_edn_model.specs.internal.Reading.{Reader, or_invalid, token, byte, not_empty, list_head_of, starts_with, starts_string, keyword_at, tag_number, enclosed_item, tag_item, number_end, number_item, keyword_item, plain_item, list_item, stream_item, string_item, item, literal_piece, dots_piece, embedded_piece, piece, plus_string, string, entry, inside_full, inside, more, rest, sequence, standalone, rule, read}
+use Rattle.cbor_edn_model.specs.internal.Reading.{Reader, or_invalid, token, byte, not_empty, list_head_of, starts_with, starts_string, keyword_at, tag_number, enclosed_item, tag_item, number_end, number_item, keyword_item, plain_item, list_item, stream_item, string_item, item, literal_piece, ellipsis_piece, embedded_piece, piece, plus_string, string, entry, inside_full, inside, more, rest, sequence, standalone, rule, read}
 use Rattle.cbor_edn_model.specs.text.Openings.{openings}
 use Rattle.cbor_edn_parts.proofs.lemmas.scan.Indicators.{spec-found}
 use Rattle.cbor_edn_parts.proofs.lemmas.scan.Tokens.{Holds, nothing, just, munch-found, token_texts}
@@ -73,15 +73,15 @@ unfolding not_empty
 not_empty-found [] = invalid
 not_empty-found (c ∷ s) = fine (refl, refl)
 
-pub no_space : is_s [] ≡ true
+pub no_space : is_space [] ≡ true
 unfolding munch
 no_space = refl
 
 -- An indicator and a space, told apart as a head and the space behind it.
 abbrev Opened : Option Indicator → List ℕ → ListHead × List ℕ → Type 0
-Opened i s h = IsTestedListHead h.0 × (is_s h.1 ≡ true) × IsMerged h.0 h.1 × ((r : List ℕ) → indicator_text i ++ (s ++ r) ≡ list_head_text h.0 ++ (h.1 ++ r))
+Opened i s h = IsTestedListHead h.0 × (is_space h.1 ≡ true) × IsMerged h.0 h.1 × ((r : List ℕ) → indicator_text i ++ (s ++ r) ≡ list_head_text h.0 ++ (h.1 ++ r))
 
-head-found : {Deep : Type 0} (i : Option Indicator) (s : List ℕ) → is_s s ≡ true → Meets (Opened i s) Deep (list_head_of i s)
+head-found : {Deep : Type 0} (i : Option Indicator) (s : List ℕ) → is_space s ≡ true → Meets (Opened i s) Deep (list_head_of i s)
 unfolding list_head_of
 head-found None s v = fine (tt, v, tt, λ r. refl)
 head-found (Some i) [] v = invalid
@@ -99,14 +99,14 @@ module _ (g : ℕ → (s : Rule) → Reader s) (gs : (limit : ℕ) (s : Rule) (x
   later : (limit : ℕ) (s : Rule) (xs ys : List ℕ) → openings ys ≤ openings xs → Meets (Sound limit s ys) (limit < openings xs) (g limit s ys)
   later limit s xs ys h = weaker (λ p v. v) (λ d. omega arith) (gs limit s ys)
 
-  enclosed-found : (limit : ℕ) (l : LabelKind) (xs ys : List ℕ) → IsLabel l → xs ≡ label_text l ++ ys → IsSound limit OneItem xs (enclosed_item g limit l ys)
+  enclosed-found : (limit : ℕ) (l : OpenerKind) (xs ys : List ℕ) → IsOpener l → xs ≡ opener_text l ++ ys → IsSound limit OneItem xs (enclosed_item g limit l ys)
   unfolding enclosed_item onto Tested Merged
-  enclosed-found zero l xs ys v e = bound _ (byte-found 40 ys) (λ r h. deep (rw (e, h) (omega (arith, openings_end (label_text l) (40 ∷ r)))))
-  enclosed-found (suc limit) l xs ys v e = bound _ (byte-found 40 ys) (λ r h. bound _ (weaker (λ p s. s) (λ (d : limit < openings r). rw (e, h) (omega (arith, openings_end (label_text l) (40 ∷ r)))) (gs limit Standalone r)) (λ w vw. bound _ (byte-found 41 w.1) (λ q d. fine ((v, vw.0), vw.1, cc, omega (arith, vw.3)))))
+  enclosed-found zero l xs ys v e = bound _ (byte-found 40 ys) (λ r h. deep (rw (e, h) (omega (arith, openings_end (opener_text l) (40 ∷ r)))))
+  enclosed-found (suc limit) l xs ys v e = bound _ (byte-found 40 ys) (λ r h. bound _ (weaker (λ p s. s) (λ (d : limit < openings r). rw (e, h) (omega (arith, openings_end (opener_text l) (40 ∷ r)))) (gs limit Standalone r)) (λ w vw. bound _ (byte-found 41 w.1) (λ q d. fine ((v, vw.0), vw.1, cc, omega (arith, vw.3)))))
 
   number_end-found : (limit : ℕ) (x : List ℕ) (i : Option Indicator) (xs ys : List ℕ) → is_number x ≡ true → xs ≡ x ++ (indicator_text i ++ ys) → IsSound limit OneItem xs (number_end g limit x i ys)
   unfolding number_end tag_item onto Tested Merged
-  number_end-found limit x i xs ys v e = chosen (starts_with 40 ys) _ _ (λ t. bound _ (told (tag_number x) (λ n h. h) (tag_number-found x)) (λ n h. enclosed-found limit (label.Tag i n) xs ys h.1 (rw (e, h.0) (sym (append_assoc (decimal n) (indicator_text i) ys))))) (λ t. fine (v, tt, e, omega arith))
+  number_end-found limit x i xs ys v e = chosen (starts_with 40 ys) _ _ (λ t. bound _ (told (tag_number x) (λ n h. h) (tag_number-found x)) (λ n h. enclosed-found limit (opener.Tag i n) xs ys h.1 (rw (e, h.0) (sym (append_assoc (decimal n) (indicator_text i) ys))))) (λ t. fine (v, tt, e, omega arith))
 
   number-found : (limit : ℕ) (xs : List ℕ) → IsSound limit OneItem xs (number_item g limit xs)
   unfolding number_item
@@ -115,7 +115,7 @@ module _ (g : ℕ → (s : Rule) → Reader s) (gs : (limit : ℕ) (s : Rule) (x
   keyword_item-found : (limit : ℕ) (w : Keyword) (xs ys : List ℕ) → xs ≡ keyword_text w ++ ys → IsSound limit OneItem xs (keyword_item g limit w ys)
   unfolding keyword_item onto Tested Merged
   keyword_item-found limit (Named b) xs ys e = fine (tt, tt, e, omega arith)
-  keyword_item-found limit Simple xs ys e = enclosed-found limit label.Simple xs ys tt e
+  keyword_item-found limit Simple xs ys e = enclosed-found limit opener.Simple xs ys tt e
   keyword_item-found limit (NonFinite f) xs ys e = fine (tt, tt, e ∙ ap (non_finite_text f ++◌) (spec-found ys), omega arith)
 
   plain-found : (limit : ℕ) (xs : List ℕ) (o : Option (Keyword × List ℕ)) → Holds (IsFront xs) o → IsSound limit OneItem xs (plain_item g limit o xs)
@@ -123,13 +123,13 @@ module _ (g : ℕ → (s : Rule) → Reader s) (gs : (limit : ℕ) (s : Rule) (x
   plain-found limit xs _ nothing = chosen (starts_string xs) _ _ (λ e. bound _ (gs limit OneString xs) (λ w v. fine v)) (λ n. number-found limit xs)
   plain-found limit xs _ (just {x = p} h) = keyword_item-found limit p.0 xs p.1 h.0
 
-  list-found : (limit : ℕ) (k : Bracketed) (xs : List ℕ) → IsSound limit OneItem (opening k ∷ xs) (list_item g limit k xs)
+  list-found : (limit : ℕ) (k : Bracketed) (xs : List ℕ) → IsSound limit OneItem (open_byte k ∷ xs) (list_item g limit k xs)
   unfolding list_item onto Tested Merged
   list-found zero Array xs = deep (omega arith)
   list-found zero Map xs = deep (omega arith)
-  list-found (suc limit) k xs = bound _ (weaker (λ p v. v) (opened limit k xs) (gs limit (Inside k) xs)) (λ w v. bound _ (byte-found (ending k) w.1) (λ r e. fine (v.0, v.1, cc, omega (arith, v.3))))
+  list-found (suc limit) k xs = bound _ (weaker (λ p v. v) (opened limit k xs) (gs limit (Inside k) xs)) (λ w v. bound _ (byte-found (close_byte k) w.1) (λ r e. fine (v.0, v.1, cc, omega (arith, v.3))))
     where
-      opened : (limit : ℕ) (k : Bracketed) (xs : List ℕ) → limit < openings xs → suc limit < openings (opening k ∷ xs)
+      opened : (limit : ℕ) (k : Bracketed) (xs : List ℕ) → limit < openings xs → suc limit < openings (open_byte k ∷ xs)
       opened limit Array xs d = omega arith
       opened limit Map xs d = omega arith
 
@@ -150,9 +150,9 @@ module _ (g : ℕ → (s : Rule) → Reader s) (gs : (limit : ℕ) (s : Rule) (x
   unfolding literal_piece onto Tested Merged
   literal-found limit xs = bound _ (taken literal xs) (λ x v. fine (v.0, tt, v.1 ∙ ap (x.0 ++◌) (spec-found x.1), omega arith))
 
-  dots-found : (limit : ℕ) (xs : List ℕ) → IsSound limit OnePiece xs (dots_piece g xs)
-  unfolding dots_piece onto Tested Merged
-  dots-found limit xs = bound _ (taken dots xs) (λ x v. fine (v.0, tt, v.1, omega arith))
+  ellipsis-found : (limit : ℕ) (xs : List ℕ) → IsSound limit OnePiece xs (ellipsis_piece g xs)
+  unfolding ellipsis_piece onto Tested Merged
+  ellipsis-found limit xs = bound _ (taken ellipsis xs) (λ x v. fine (v.0, tt, v.1, omega arith))
 
   embedded-found : (limit : ℕ) (xs : List ℕ) → IsSound limit OnePiece (60 ∷ 60 ∷ xs) (embedded_piece g limit xs)
   unfolding embedded_piece onto Tested Merged
@@ -164,7 +164,7 @@ module _ (g : ℕ → (s : Rule) → Reader s) (gs : (limit : ℕ) (s : Rule) (x
   piece-found limit [] = invalid
   piece-found limit (c ∷ xs) =
       chosen (eqb c 60) _ _ (λ e. rw (eqb-true c 60 e) (bound _ (byte-found 60 xs) (λ r d. rw d (embedded-found limit r)))) (λ n.
-      chosen (eqb c 46) _ _ (λ e. dots-found limit (c ∷ xs)) (λ n. literal-found limit (c ∷ xs)))
+      chosen (eqb c 46) _ _ (λ e. ellipsis-found limit (c ∷ xs)) (λ n. literal-found limit (c ∷ xs)))
 
   -- what stands behind a plus sign or a colon between spaces
   behind-openings : {o : Rule} (v : Tree o) (c : ℕ) (s r t xs ys : List ℕ) → xs ≡ onto v (s ++ (c ∷ r)) → r ≡ t ++ ys → openings ys ≤ openings xs
@@ -184,7 +184,7 @@ module _ (g : ℕ → (s : Rule) → Reader s) (gs : (limit : ℕ) (s : Rule) (x
   entry-found limit Strings xs = bound _ (gs limit OneString xs) (λ w v. fine v)
   entry-found limit Pairs xs = bound _ (gs limit OneItem xs) (λ v vv. bound _ (taken space v.1) (λ s vs. bound _ (byte-found 58 s.1) (λ r e. bound _ (taken space r) (λ t vt. bound _ (later limit OneItem xs t.1 (behind-openings v.0 58 s.0 r t.0 xs t.1 (cc) vt.1)) (λ w vw. fine ((vv.0, vs.0, vt.0, vw.0), (vv.1, vw.1), cc, omega (arith, vv.3, vw.3)))))))
 
-  inside_full-found : (limit : ℕ) (k : Bracketed) (i : Option Indicator) (s xs ys : List ℕ) → is_s s ≡ true → xs ≡ indicator_text i ++ (s ++ ys) → IsSound limit (Inside k) xs (inside_full g limit k i s ys)
+  inside_full-found : (limit : ℕ) (k : Bracketed) (i : Option Indicator) (s xs ys : List ℕ) → is_space s ≡ true → xs ≡ indicator_text i ++ (s ++ ys) → IsSound limit (Inside k) xs (inside_full g limit k i s ys)
   unfolding inside_full onto Tested Merged
   inside_full-found limit k i s xs ys v e = bound _ (head-found i s v) (λ h vh. bound _ (later limit (Rest (entries_of k)) xs ys (rw e (omega (arith, openings_end s ys, openings_end (indicator_text i) (s ++ ys))))) (λ m vm. fine ((vh.0, vh.1, vm.0), (vh.2, vm.1), e ∙ vh.3 ys ∙ ap (λ (r : List ℕ). list_head_text h.0 ++ (h.1 ++ r)) vm.2, vm.3)))
 

@@ -1,9 +1,9 @@
 -- A tree is made again of its items and its spaces, so two trees with the same of both are the same.
 use Rattle.std.proofs.Common.{ℕ, List, [], ◌∷◌, ◌≡◌, Option, Some, None, refl, ap, sym, ◌∙◌}
 use Rattle.cbor_edn_parts.specs.declared.indicator.Indicator.{Indicator}
-use Rattle.cbor_edn_model.specs.declared.text.label.LabelKind.TheVariants as label
-use Rattle.cbor_edn_model.specs.tree.Items.{Row, Elements, Strings, Bracketed, entries_of, Sort, Node, Number, Float, Listed, Tagged, Named, Simple, String, Stream, Literal, Dots, Embedded, LastPiece, Plus, Element, Pair, Chunk, End, Then}
-use Rattle.cbor_edn_model.specs.tree.Trees.{Rule, OneItem, OnePiece, OneString, OneEntry, Inside, Rest, Seq, Standalone, NoIndicator, WithIndicator, Tree, NumberTree, FloatTree, NamedTree, EnclosedTree, ListTree, StringTree, StreamTree, LiteralTree, DotsTree, EmbeddedTree, LastPieceTree, PlusTree, ElementTree, PairTree, ChunkTree, EmptyTree, FullTree, LastTree, MoreTree, NothingTree, SequenceTree, StandaloneTree, spaces_onto, spaces, Of, items}
+use Rattle.cbor_edn_model.specs.declared.text.opener.OpenerKind.TheVariants as opener
+use Rattle.cbor_edn_model.specs.tree.Items.{Row, Elements, Strings, Bracketed, entries_of, Sort, Node, Number, Float, Listed, Tagged, Named, Simple, String, Stream, Literal, Ellipsis, Embedded, LastPiece, Plus, Element, Pair, Chunk, End, Then}
+use Rattle.cbor_edn_model.specs.tree.Trees.{Rule, OneItem, OnePiece, OneString, OneEntry, Inside, Rest, Seq, Standalone, NoIndicator, WithIndicator, Tree, NumberTree, FloatTree, NamedTree, EnclosedTree, ListTree, StringTree, StreamTree, LiteralTree, EllipsisTree, EmbeddedTree, LastPieceTree, PlusTree, ElementTree, PairTree, ChunkTree, EmptyTree, FullTree, LastTree, MoreTree, NothingTree, SequenceTree, StandaloneTree, spaces_onto, spaces, Of, items}
 use Rattle.cbor_edn_model.specs.internal.Regular.{Regular}
 use Rattle.cbor_edn_model.specs.text.TextLaws.{ItemsAndSpaces}
 use Rattle.cbor_edn_model.proofs.lemmas.cbor.MeaningSteps.{some_is}
@@ -48,7 +48,7 @@ inside (Some i) f ss = with_indicator i (f (others (others ss))).0 (f (others (o
 
 -- of a stream without strings, which no tree has, no tree is told
 abbrev stream : List ℕ → Option (Tree (Rest Strings)) → Tree OneItem
-stream s None = StringTree (LastPieceTree (DotsTree []))
+stream s None = StringTree (LastPieceTree (EllipsisTree []))
 stream s (Some m) = StreamTree s m
 
 abbrev row : {k : Row} → Tree (OneEntry k) → List ℕ → Option (Tree (Rest k)) → Tree (Rest k)
@@ -60,13 +60,13 @@ fill : {s : Sort} → Node s → Spaces → Filled (Regular s)
 fill (Number x i) ss = (NumberTree x i, ss)
 fill (Float f i) ss = (FloatTree f i, ss)
 fill (Listed k i m) ss = changed (ListTree k) (inside i (fill m) ss)
-fill (Tagged n i w) ss = changed (EnclosedTree (label.Tag i n)) (standalone (fill w) ss)
+fill (Tagged n i w) ss = changed (EnclosedTree (opener.Tag i n)) (standalone (fill w) ss)
 fill (Named b) ss = (NamedTree b, ss)
-fill (Simple w) ss = changed (EnclosedTree label.Simple) (standalone (fill w) ss)
+fill (Simple w) ss = changed (EnclosedTree opener.Simple) (standalone (fill w) ss)
 fill (String w) ss = changed StringTree (fill w ss)
 fill (Stream m) ss = changed (stream (first ss)) (fill m (others ss))
 fill (Literal x i) ss = (LiteralTree x i, ss)
-fill (Dots x) ss = (DotsTree x, ss)
+fill (Ellipsis x) ss = (EllipsisTree x, ss)
 fill (Embedded m i) ss = changed (λ w. EmbeddedTree w i) (sequence (fill m (others ss)) (first ss))
 fill (LastPiece p) ss = changed LastPieceTree (fill p ss)
 fill (Plus p w) ss =
@@ -95,13 +95,13 @@ unfolding items spaces_onto fill IsFilled
 filled (NumberTree x i) r = refl
 filled (FloatTree f i) r = refl
 filled (NamedTree b) r = refl
-filled (EnclosedTree (label.Tag i n) w) r = ap (changed (EnclosedTree (label.Tag i n))) (filled w r)
-filled (EnclosedTree label.Simple w) r = ap (changed (EnclosedTree label.Simple)) (filled w r)
+filled (EnclosedTree (opener.Tag i n) w) r = ap (changed (EnclosedTree (opener.Tag i n))) (filled w r)
+filled (EnclosedTree opener.Simple w) r = ap (changed (EnclosedTree opener.Simple)) (filled w r)
 filled (ListTree k w) r = ap (changed (ListTree k)) (filled w r)
 filled (StringTree w) r = ap (changed StringTree) (filled w r)
 filled (StreamTree ms m) r = ap (changed (stream ms)) (filled m r)
 filled (LiteralTree x i) r = refl
-filled (DotsTree x) r = refl
+filled (EllipsisTree x) r = refl
 filled (EmbeddedTree w i) r = ap (changed (λ (v : Tree Seq). EmbeddedTree v i)) (filled w r)
 filled (LastPieceTree p) r = ap (changed LastPieceTree) (filled p r)
 filled (PlusTree p s t w) r = rw (filled p (s ∷ t ∷ spaces_onto w r), filled w r)

@@ -24,11 +24,11 @@ use Rattle.cbor_edn_model.specs.declared.text.keyword.NonFinite.TheVariants.{Inf
 use Rattle.cbor_edn_model.specs.declared.text.keyword.Keyword.{Keyword}
 use Rattle.cbor_edn_model.specs.declared.text.keyword.Keyword.TheVariants.{Named, Simple, NonFinite}
 use Rattle.cbor_edn_model.specs.text.Keywords.{keyword_text}
-use Rattle.cbor_edn_model.specs.tree.Trees.{OnePiece, OneString, Tree, LiteralTree, DotsTree, EmbeddedTree, LastPieceTree, PlusTree, onto, starts_number}
+use Rattle.cbor_edn_model.specs.tree.Trees.{OnePiece, OneString, Tree, LiteralTree, EllipsisTree, EmbeddedTree, LastPieceTree, PlusTree, onto, starts_number}
 use Rattle.cbor_edn_model.proofs.lemmas.text.Tested.{Tested}
 use Rattle.cbor_edn_model.specs.internal.Reading.{keyword_of, behind_bytes, prefix_goes_on, ended, if_keyword, keyword_at}
 use Rattle.cbor_edn_model.proofs.lemmas.text.Follows.{quoted}
-use Rattle.cbor_edn_model.proofs.lemmas.text.Begins.{quoted_byte, digit_byte, signed_digit, literal_some, dots_begin}
+use Rattle.cbor_edn_model.proofs.lemmas.text.Begins.{quoted_byte, digit_byte, signed_digit, literal_some, ellipsis_begin}
 
 -- ---- what is read as a keyword
 
@@ -143,7 +143,7 @@ piece_no_keyword : (p : Tree OnePiece) (r : List ℕ) → Tested p → keyword_a
 unfolding onto Tested keyword_at
 piece_no_keyword (LiteralTree [] i) r v = absurd (literal_some v)
 piece_no_keyword (LiteralTree (c ∷ x) i) r v = literal_no_keyword c x (indicator_text i ++ r) v
-piece_no_keyword (DotsTree x) r v = rw (dots_begin x v).1
+piece_no_keyword (EllipsisTree x) r v = rw (ellipsis_begin x v).1
 piece_no_keyword (EmbeddedTree w i) r v = refl
 
 pub string_no_keyword : (w : Tree OneString) (r : List ℕ) → Tested w → keyword_at (onto w r) ≡ None

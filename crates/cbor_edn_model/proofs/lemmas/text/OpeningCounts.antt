@@ -3,8 +3,8 @@ use Rattle.std.proofs.Common.{ℕ, suc, List, [], ◌∷◌, ◌++◌, ◌≤◌
 use Rattle.std.specs.Prelude.{cond, eqb}
 use Rattle.std.proofs.lemmas.Bool.{cond_both}
 use Rattle.cbor_edn_parts.specs.Indicator.{indicator_text}
-use Rattle.cbor_edn_model.specs.text.Spelling.{opening, ending}
-use Rattle.cbor_edn_model.specs.tree.Trees.{Rule, list_head_text, label_text, Tree, NumberTree, FloatTree, NamedTree, EnclosedTree, ListTree, StringTree, StreamTree, LiteralTree, DotsTree, EmbeddedTree, LastPieceTree, PlusTree, ElementTree, PairTree, ChunkTree, EmptyTree, FullTree, LastTree, MoreTree, NothingTree, SequenceTree, StandaloneTree, onto}
+use Rattle.cbor_edn_model.specs.text.Spelling.{open_byte, close_byte}
+use Rattle.cbor_edn_model.specs.tree.Trees.{Rule, list_head_text, opener_text, Tree, NumberTree, FloatTree, NamedTree, EnclosedTree, ListTree, StringTree, StreamTree, LiteralTree, EllipsisTree, EmbeddedTree, LastPieceTree, PlusTree, ElementTree, PairTree, ChunkTree, EmptyTree, FullTree, LastTree, MoreTree, NothingTree, SequenceTree, StandaloneTree, onto}
 use Rattle.cbor_edn_model.specs.text.Keywords.{named_text, non_finite_text}
 use Rattle.cbor_edn_model.specs.text.Openings.{is_opening, openings, openings_behind}
 
@@ -35,12 +35,12 @@ unfolding onto
 openings_onto (NumberTree x i) r = openings_text x (indicator_text i) r
 openings_onto (FloatTree f i) r = openings_text (non_finite_text f) (indicator_text i) r
 openings_onto (NamedTree b) r = openings_end (named_text b) r
-openings_onto (EnclosedTree l w) r = omega (arith, openings_next 41 r, openings_onto w (41 ∷ r), openings_next 40 (onto w (41 ∷ r)), openings_end (label_text l) (40 ∷ onto w (41 ∷ r)))
-openings_onto (ListTree k w) r = omega (arith, openings_next (ending k) r, openings_onto w (ending k ∷ r), openings_next (opening k) (onto w (ending k ∷ r)))
+openings_onto (EnclosedTree l w) r = omega (arith, openings_next 41 r, openings_onto w (41 ∷ r), openings_next 40 (onto w (41 ∷ r)), openings_end (opener_text l) (40 ∷ onto w (41 ∷ r)))
+openings_onto (ListTree k w) r = omega (arith, openings_next (close_byte k) r, openings_onto w (close_byte k ∷ r), openings_next (open_byte k) (onto w (close_byte k ∷ r)))
 openings_onto (StringTree w) r = openings_onto w r
 openings_onto (StreamTree ms m) r = omega (arith, openings_next 41 r, openings_onto m (41 ∷ r), openings_end ms (onto m (41 ∷ r)), openings_next 95 (ms ++ onto m (41 ∷ r)), openings_next 40 (95 ∷ (ms ++ onto m (41 ∷ r))))
 openings_onto (LiteralTree x i) r = openings_text x (indicator_text i) r
-openings_onto (DotsTree x) r = openings_end x r
+openings_onto (EllipsisTree x) r = openings_end x r
 openings_onto (EmbeddedTree w i) r = omega (arith, openings_text (62 ∷ 62 ∷ []) (indicator_text i) r, openings_onto w (62 ∷ 62 ∷ (indicator_text i ++ r)), openings_end (60 ∷ 60 ∷ []) (onto w (62 ∷ 62 ∷ (indicator_text i ++ r))))
 openings_onto (LastPieceTree p) r = openings_onto p r
 openings_onto (PlusTree p s t w) r = omega (arith, openings_onto w r, openings_between s 43 t (onto w r), openings_onto p (s ++ (43 ∷ (t ++ onto w r))))

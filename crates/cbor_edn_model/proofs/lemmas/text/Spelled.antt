@@ -5,21 +5,21 @@ use Rattle.std.specs.Prelude.{true, Option, Some, None, ◌≢◌}
 use Rattle.cbor_edn_parts.specs.declared.indicator.Indicator.{Indicator}
 use Rattle.std.specs.Fmt.{decimal}
 use Rattle.cbor_edn_parts.specs.Indicator.{indicator_text}
-use Rattle.cbor_edn_parts.specs.Space.{IsS, empty, blank, comment, IsMs, IsMsc, IsSoc}
-use Rattle.cbor_edn_parts.specs.internal.SpaceTokens.{is_s}
-use Rattle.cbor_edn_model.specs.tree.Items.{Row, Elements, Strings, Bracketed, entries_of, Sort, Item, Piece, Pieces, Entry, Entries, Node, Number, Float, Listed, Tagged, Named, Simple, String, Stream, Literal, Dots, Embedded, LastPiece, Plus, Element, Pair, Chunk, End, Then, Items, nesting}
-use Rattle.cbor_edn_model.specs.text.Spelling.{opening, ending, IsSpecms, Spells, SpellsSequence, SpellsOne}
-use Rattle.cbor_edn_model.specs.text.Labels.{IsLabel}
-use Rattle.cbor_edn_model.specs.tree.Trees.{Rule, OneItem, OnePiece, OneString, OneEntry, Inside, Rest, Seq, Standalone, ListHead, NoIndicator, WithIndicator, head_indicator, list_head_text, label_text, labelled, Tree, NumberTree, FloatTree, NamedTree, EnclosedTree, ListTree, StringTree, StreamTree, LiteralTree, DotsTree, EmbeddedTree, LastPieceTree, PlusTree, ElementTree, PairTree, ChunkTree, EmptyTree, FullTree, LastTree, MoreTree, NothingTree, SequenceTree, StandaloneTree, onto, text, Of, items, tree_nesting, IsMerged, Merged}
+use Rattle.cbor_edn_parts.specs.Space.{IsSpace, empty, blank, comment, IsMandatorySpace, IsSeparator, IsListEnd}
+use Rattle.cbor_edn_parts.specs.internal.SpaceTokens.{is_space}
+use Rattle.cbor_edn_model.specs.tree.Items.{Row, Elements, Strings, Bracketed, entries_of, Sort, Item, Piece, Pieces, Entry, Entries, Node, Number, Float, Listed, Tagged, Named, Simple, String, Stream, Literal, Ellipsis, Embedded, LastPiece, Plus, Element, Pair, Chunk, End, Then, Items, nesting}
+use Rattle.cbor_edn_model.specs.text.Spelling.{open_byte, close_byte, IsSpecms, Spells, SpellsSequence, SpellsOne}
+use Rattle.cbor_edn_model.specs.text.Openers.{IsOpener}
+use Rattle.cbor_edn_model.specs.tree.Trees.{Rule, OneItem, OnePiece, OneString, OneEntry, Inside, Rest, Seq, Standalone, ListHead, NoIndicator, WithIndicator, head_indicator, list_head_text, opener_text, labelled, Tree, NumberTree, FloatTree, NamedTree, EnclosedTree, ListTree, StringTree, StreamTree, LiteralTree, EllipsisTree, EmbeddedTree, LastPieceTree, PlusTree, ElementTree, PairTree, ChunkTree, EmptyTree, FullTree, LastTree, MoreTree, NothingTree, SequenceTree, StandaloneTree, onto, text, Of, items, tree_nesting, IsMerged, Merged}
 use Rattle.cbor_edn_model.proofs.lemmas.text.Tested.{IsTestedListHead, Tested}
-use Rattle.cbor_edn_model.specs.declared.text.label.LabelKind.{LabelKind}
-use Rattle.cbor_edn_model.specs.declared.text.label.LabelKind.TheVariants as label
+use Rattle.cbor_edn_model.specs.declared.text.opener.OpenerKind.{OpenerKind}
+use Rattle.cbor_edn_model.specs.declared.text.opener.OpenerKind.TheVariants as opener
 use Rattle.cbor_edn_model.specs.text.Keywords.{named_text}
-use Rattle.cbor_edn_parts.proofs.lemmas.space.SpaceTexts.{s_texts, soc_texts, ms_texts, msc_texts}
+use Rattle.cbor_edn_parts.proofs.lemmas.space.SpaceTexts.{optional_texts, at_end_texts, mandatory_texts, separating_texts}
 use Rattle.cbor_edn_parts.proofs.lemmas.number.NumberTexts.{number_texts}
 use Rattle.cbor_edn_model.proofs.lemmas.text.Found.{no_space}
 use Rattle.cbor_edn_parts.proofs.lemmas.literal.LiteralTexts.{literal_test}
-use Rattle.cbor_edn_parts.proofs.lemmas.literal.DotTexts.{dots_test}
+use Rattle.cbor_edn_parts.proofs.lemmas.literal.EllipsisTexts.{ellipsis_test}
 
 -- How deep the items of a use of a rule nest.
 abbrev pub nesting_of : (s : Rule) → Of s → ℕ
@@ -37,13 +37,13 @@ unfolding items
 nested (NumberTree x i) = refl
 nested (FloatTree f i) = refl
 nested (NamedTree b) = refl
-nested (EnclosedTree (label.Tag i n) w) = ap suc (nested w)
-nested (EnclosedTree label.Simple w) = ap suc (nested w)
+nested (EnclosedTree (opener.Tag i n) w) = ap suc (nested w)
+nested (EnclosedTree opener.Simple w) = ap suc (nested w)
 nested (ListTree k w) = ap suc (nested w)
 nested (StringTree w) = nested w
 nested (StreamTree ms m) = nested m
 nested (LiteralTree x i) = refl
-nested (DotsTree x) = refl
+nested (EllipsisTree x) = refl
 nested (EmbeddedTree w i) = ap suc (nested w)
 nested (LastPieceTree p) = nested p
 nested (PlusTree p s t w) = rw (nested p, nested w)
@@ -71,12 +71,12 @@ unfolding onto
 onto-append (NumberTree x i) q r = simp append_assoc
 onto-append (FloatTree f i) q r = simp append_assoc
 onto-append (NamedTree b) q r = simp append_assoc
-onto-append (EnclosedTree l w) q r = ap (λ (x : List ℕ). label_text l ++ (40 ∷ x)) (onto-append w (41 ∷ q) r) ∙ sym (append_assoc (label_text l) (40 ∷ onto w (41 ∷ q)) r)
-onto-append (ListTree k w) q r = ap (opening k ∷◌) (onto-append w (ending k ∷ q) r)
+onto-append (EnclosedTree l w) q r = ap (λ (x : List ℕ). opener_text l ++ (40 ∷ x)) (onto-append w (41 ∷ q) r) ∙ sym (append_assoc (opener_text l) (40 ∷ onto w (41 ∷ q)) r)
+onto-append (ListTree k w) q r = ap (open_byte k ∷◌) (onto-append w (close_byte k ∷ q) r)
 onto-append (StringTree w) q r = onto-append w q r
 onto-append (StreamTree ms m) q r = ap (λ (x : List ℕ). 40 ∷ 95 ∷ x) (ap (ms ++◌) (onto-append m (41 ∷ q) r) ∙ sym (append_assoc ms (onto m (41 ∷ q)) r))
 onto-append (LiteralTree x i) q r = simp append_assoc
-onto-append (DotsTree x) q r = simp append_assoc
+onto-append (EllipsisTree x) q r = simp append_assoc
 onto-append (EmbeddedTree w i) q r = ap (λ (x : List ℕ). 60 ∷ 60 ∷ x) (ap (λ (x : List ℕ). onto w (62 ∷ 62 ∷ x)) (sym (append_assoc (indicator_text i) q r)) ∙ onto-append w (62 ∷ 62 ∷ (indicator_text i ++ q)) r)
 onto-append (LastPieceTree p) q r = onto-append p q r
 onto-append (PlusTree p s t w) q r = between-append p 43 w s t q r (onto-append w q r) (λ x. onto-append p x r)
@@ -119,19 +119,19 @@ Given (Entries k) x t = (e : Tree (OneEntry k)) → Tested e → Merged e → Co
 
 end_given : {k : Row} (t : List ℕ) (e : Tree (OneEntry k)) → Tested e → Merged e → Spells (End {k = k}) t → Continues e End t
 unfolding Spells onto Tested Merged items
-end_given t e v j h = record { tree = LastTree e t; valid = (v, (soc_texts t).0 h); merged = j; same = refl; text_is = λ r. refl }
+end_given t e v j h = record { tree = LastTree e t; valid = (v, (at_end_texts t).0 h); merged = j; same = refl; text_is = λ r. refl }
 
-s-append : {x y : List ℕ} → IsS x → IsS y → IsS (x ++ y)
+s-append : {x y : List ℕ} → IsSpace x → IsSpace y → IsSpace (x ++ y)
 s-append empty k = k
 s-append (blank b h) k = blank b (s-append h k)
-s-append {y = y} (comment {b = b} {x = x} c h) k = subst IsS (sym (append_assoc b x y)) (comment c (s-append h k))
+s-append {y = y} (comment {b = b} {x = x} c h) k = subst IsSpace (sym (append_assoc b x y)) (comment c (s-append h k))
 
 not_empty-append : (x y : List ℕ) → x ≢ [] → (x ++ y) ≢ []
 not_empty-append [] y n e = n refl
 not_empty-append (c ∷ x) y n e = cc
 
-ms_append : {x y : List ℕ} → IsMs x → IsS y → IsMs (x ++ y)
-ms_append {x = x} {y = y} h k = (s-append h.0 k, not_empty-append x y h.1)
+mandatory_append : {x y : List ℕ} → IsMandatorySpace x → IsSpace y → IsMandatorySpace (x ++ y)
+mandatory_append {x = x} {y = y} h k = (s-append h.0 k, not_empty-append x y h.1)
 
 -- An indicator with its space, and the space behind it: the mandatory space takes all of both.
 pub record HasListHead (i : Option Indicator) (h s : List ℕ) : Type 0 where
@@ -139,62 +139,62 @@ pub record HasListHead (i : Option Indicator) (h s : List ℕ) : Type 0 where
   pub space : List ℕ
   pub same : head_indicator head ≡ i
   pub head_valid : IsTestedListHead head
-  pub space_valid : is_s space ≡ true
+  pub space_valid : is_space space ≡ true
   pub merged : IsMerged head space
   pub text_is : (r : List ℕ) → list_head_text head ++ (space ++ r) ≡ h ++ (s ++ r)
 
-head_given : (i : Option Indicator) (h s : List ℕ) → IsSpecms i h → IsS s → HasListHead i h s
-head_given None h s vh vs = record { head = NoIndicator; space = s; same = refl; head_valid = tt; space_valid = (s_texts s).0 vs; merged = tt; text_is = λ r. ap (λ (x : List ℕ). x ++ (s ++ r)) (sym vh) }
+head_given : (i : Option Indicator) (h s : List ℕ) → IsSpecms i h → IsSpace s → HasListHead i h s
+head_given None h s vh vs = record { head = NoIndicator; space = s; same = refl; head_valid = tt; space_valid = (optional_texts s).0 vs; merged = tt; text_is = λ r. ap (λ (x : List ℕ). x ++ (s ++ r)) (sym vh) }
 head_given (Some i) h s vh vs = record {
   head = WithIndicator i (vh.0 ++ s);
   space = [];
   same = refl;
-  head_valid = (ms_texts (vh.0 ++ s)).0 (ms_append vh.1 vs);
+  head_valid = (mandatory_texts (vh.0 ++ s)).0 (mandatory_append vh.1 vs);
   space_valid = no_space;
   merged = refl;
   text_is = λ r. rw vh.2 (simp append_assoc);
 }
 
-full_given : (k : Bracketed) (i : Option Indicator) (e : Node (Entry (entries_of k))) (m : Node (Entries (entries_of k))) (h s a b : List ℕ) → HasListHead i h s → (v : HasTree (OneEntry (entries_of k)) e a) → Continues v.tree m b → HasTree OneItem (Listed k i (Then e m)) (opening k ∷ (h ++ (s ++ (a ++ (b ++ (ending k ∷ []))))))
+full_given : (k : Bracketed) (i : Option Indicator) (e : Node (Entry (entries_of k))) (m : Node (Entries (entries_of k))) (h s a b : List ℕ) → HasListHead i h s → (v : HasTree (OneEntry (entries_of k)) e a) → Continues v.tree m b → HasTree OneItem (Listed k i (Then e m)) (open_byte k ∷ (h ++ (s ++ (a ++ (b ++ (close_byte k ∷ []))))))
 unfolding onto Tested Merged items
 full_given k i e m h s a b u v w = record {
   tree = ListTree k (FullTree u.head u.space w.tree);
   valid = (u.head_valid, u.space_valid, w.valid);
   merged = (u.merged, w.merged);
   same = rw (u.same, w.same, v.same);
-  text_is = λ r. rw (w.text_is (ending k ∷ r), v.text_is (b ++ (ending k ∷ r)), u.text_is (a ++ (b ++ (ending k ∷ r)))) (simp append_assoc);
+  text_is = λ r. rw (w.text_is (close_byte k ∷ r), v.text_is (b ++ (close_byte k ∷ r)), u.text_is (a ++ (b ++ (close_byte k ∷ r)))) (simp append_assoc);
 }
 
-more_given : {k : Row} (e : Node (Entry k)) (m : Node (Entries k)) (c a b : List ℕ) (u : Tree (OneEntry k)) → Tested u → Merged u → IsMsc c → (v : HasTree (OneEntry k) e a) → Continues v.tree m b → Continues u (Then e m) (c ++ (a ++ b))
+more_given : {k : Row} (e : Node (Entry k)) (m : Node (Entries k)) (c a b : List ℕ) (u : Tree (OneEntry k)) → Tested u → Merged u → IsSeparator c → (v : HasTree (OneEntry k) e a) → Continues v.tree m b → Continues u (Then e m) (c ++ (a ++ b))
 unfolding onto Tested Merged items
 more_given {k} e m c a b u vu ju h v w = record {
   tree = MoreTree u c w.tree;
-  valid = (vu, (msc_texts c).0 h, w.valid);
+  valid = (vu, (separating_texts c).0 h, w.valid);
   merged = (ju, w.merged);
   same = ap (Then (items u)) (w.same ∙ ap (λ (x : Node (Entry k)). Then x m) v.same);
   text_is = λ r. rw (w.text_is r, v.text_is (b ++ r)) (ap (onto u) (simp append_assoc));
 }
 
-stream_given : (e : Node (Entry Strings)) (m : Node (Entries Strings)) (ms a b : List ℕ) → IsMs ms → (v : HasTree (OneEntry Strings) e a) → Continues v.tree m b → HasTree OneItem (Stream (Then e m)) (40 ∷ 95 ∷ (ms ++ (a ++ (b ++ (41 ∷ [])))))
+stream_given : (e : Node (Entry Strings)) (m : Node (Entries Strings)) (ms a b : List ℕ) → IsMandatorySpace ms → (v : HasTree (OneEntry Strings) e a) → Continues v.tree m b → HasTree OneItem (Stream (Then e m)) (40 ∷ 95 ∷ (ms ++ (a ++ (b ++ (41 ∷ [])))))
 unfolding onto Tested Merged items
 stream_given e m ms a b h v w = record {
   tree = StreamTree ms w.tree;
-  valid = ((ms_texts ms).0 h, w.valid);
+  valid = ((mandatory_texts ms).0 h, w.valid);
   merged = w.merged;
   same = rw (w.same, v.same);
   text_is = λ r. rw (w.text_is (41 ∷ r), v.text_is (b ++ (41 ∷ r))) (simp append_assoc);
 }
 
 -- A sequence without items, and one with a first item and others.
-nothing_given : (t : List ℕ) → IsS t → HasTree Seq End t
+nothing_given : (t : List ℕ) → IsSpace t → HasTree Seq End t
 unfolding onto Tested Merged items
-nothing_given t h = record { tree = NothingTree t; valid = (s_texts t).0 h; merged = tt; same = refl; text_is = λ r. refl }
+nothing_given t h = record { tree = NothingTree t; valid = (optional_texts t).0 h; merged = tt; same = refl; text_is = λ r. refl }
 
-sequence_given : (e : Node (Entry Elements)) (m : Items) (s a b : List ℕ) → IsS s → (v : HasTree (OneEntry Elements) e a) → Continues v.tree m b → HasTree Seq (Then e m) (s ++ (a ++ b))
+sequence_given : (e : Node (Entry Elements)) (m : Items) (s a b : List ℕ) → IsSpace s → (v : HasTree (OneEntry Elements) e a) → Continues v.tree m b → HasTree Seq (Then e m) (s ++ (a ++ b))
 unfolding onto Tested Merged items
 sequence_given e m s a b h v w = record {
   tree = SequenceTree s w.tree;
-  valid = ((s_texts s).0 h, w.valid);
+  valid = ((optional_texts s).0 h, w.valid);
   merged = w.merged;
   same = rw (w.same, v.same);
   text_is = λ r. rw (w.text_is r, v.text_is (b ++ r)) (simp append_assoc);
@@ -210,11 +210,11 @@ embedded_given m i a v = record {
   text_is = λ r. rw (v.text_is (62 ∷ 62 ∷ (indicator_text i ++ r))) (simp append_assoc);
 }
 
-enclosed_given : (l : LabelKind) (x : Node Item) (s a u : List ℕ) → IsLabel l → IsS s → HasTree OneItem x a → IsS u → HasTree OneItem (labelled l x) (label_text l ++ (40 ∷ (s ++ (a ++ (u ++ (41 ∷ []))))))
+enclosed_given : (l : OpenerKind) (x : Node Item) (s a u : List ℕ) → IsOpener l → IsSpace s → HasTree OneItem x a → IsSpace u → HasTree OneItem (labelled l x) (opener_text l ++ (40 ∷ (s ++ (a ++ (u ++ (41 ∷ []))))))
 unfolding onto Tested Merged items
 enclosed_given l x s a u vl vs v vu = record {
   tree = EnclosedTree l (StandaloneTree s v.tree u);
-  valid = (vl, ((s_texts s).0 vs, v.valid, (s_texts u).0 vu));
+  valid = (vl, ((optional_texts s).0 vs, v.valid, (optional_texts u).0 vu));
   merged = v.merged;
   same = ap (labelled l) v.same;
   text_is = λ r. rw (v.text_is (u ++ (41 ∷ r))) (simp append_assoc);
@@ -224,22 +224,22 @@ pub spelled : {s : Sort} (x : Node s) (t : List ℕ) → Spells x t → Given s 
 unfolding Spells SpellsSequence onto Tested Merged items
 spelled (Number x i) t h = record { tree = NumberTree x i; valid = (number_texts x).0 h.0; merged = tt; same = refl; text_is = λ r. rw h.1 (simp append_assoc) }
 spelled (Float f i) t h = record { tree = FloatTree f i; valid = tt; merged = tt; same = refl; text_is = λ r. rw h (simp append_assoc) }
-spelled (Tagged n i w) t h = rw (h.7 ∙ sym (append_assoc (decimal n) (indicator_text i) _)) (enclosed_given (label.Tag i n) w h.0 h.1 h.2 h.3 h.4 (spelled w h.1 h.5) h.6)
+spelled (Tagged n i w) t h = rw (h.7 ∙ sym (append_assoc (decimal n) (indicator_text i) _)) (enclosed_given (opener.Tag i n) w h.0 h.1 h.2 h.3 h.4 (spelled w h.1 h.5) h.6)
 spelled (Named b) t h = record { tree = NamedTree b; valid = tt; merged = tt; same = refl; text_is = λ r. rw h refl }
-spelled (Simple w) t h = rw h.6 (enclosed_given label.Simple w h.0 h.1 h.2 tt h.3 (spelled w h.1 h.4) h.5)
-spelled (Listed k i End) t h = record { tree = ListTree k (EmptyTree i h.0); valid = (s_texts h.0).0 h.1; merged = tt; same = refl; text_is = λ r. rw h.2 (simp append_assoc) }
+spelled (Simple w) t h = rw h.6 (enclosed_given opener.Simple w h.0 h.1 h.2 tt h.3 (spelled w h.1 h.4) h.5)
+spelled (Listed k i End) t h = record { tree = ListTree k (EmptyTree i h.0); valid = (optional_texts h.0).0 h.1; merged = tt; same = refl; text_is = λ r. rw h.2 (simp append_assoc) }
 spelled (Listed k i (Then e m)) t h = let v = spelled e h.2 h.6 in rw h.8 (full_given k i e m h.0 h.1 h.2 h.3 (head_given i h.0 h.1 h.4 h.5) v (spelled m h.3 h.7 v.tree v.valid v.merged))
 spelled (String w) t h = let v = spelled w t h in record { tree = StringTree v.tree; valid = v.valid; merged = v.merged; same = ap String v.same; text_is = v.text_is }
 spelled (Stream End) t h = absurd h
 spelled (Stream (Then e m)) t h = let v = spelled e h.1 h.4 in rw h.6 (stream_given e m h.0 h.1 h.2 h.3 v (spelled m h.2 h.5 v.tree v.valid v.merged))
 spelled (Literal x i) t h = record { tree = LiteralTree x i; valid = (literal_test x).0 h.0; merged = tt; same = refl; text_is = λ r. rw h.1 (simp append_assoc) }
-spelled (Dots x) t h = record { tree = DotsTree x; valid = (dots_test x).0 h.0; merged = tt; same = refl; text_is = λ r. rw h.1 refl }
+spelled (Ellipsis x) t h = record { tree = EllipsisTree x; valid = (ellipsis_test x).0 h.0; merged = tt; same = refl; text_is = λ r. rw h.1 refl }
 spelled (Embedded End i) t h = rw h.2 (embedded_given End i h.0 (nothing_given h.0 h.1))
 spelled (Embedded (Then e m) i) t h = let q = h.1 in let v = spelled e q.1 q.4 in rw h.2 (embedded_given (Then e m) i h.0 (rw q.6 (sequence_given e m q.0 q.1 q.2 q.3 v (spelled m q.2 q.5 v.tree v.valid v.merged))))
 spelled (LastPiece p) t h = let v = spelled p t h in record { tree = LastPieceTree v.tree; valid = v.valid; merged = v.merged; same = ap LastPiece v.same; text_is = v.text_is }
-spelled (Plus p w) t h = let a = spelled p h.0 h.4 in let b = spelled w h.3 h.7 in record { tree = PlusTree a.tree h.1 h.2 b.tree; valid = (a.valid, (s_texts h.1).0 h.5, (s_texts h.2).0 h.6, b.valid); merged = (a.merged, b.merged); same = rw (a.same, b.same); text_is = λ r. rw h.8 (simp (a.text_is, b.text_is, append_assoc)) }
+spelled (Plus p w) t h = let a = spelled p h.0 h.4 in let b = spelled w h.3 h.7 in record { tree = PlusTree a.tree h.1 h.2 b.tree; valid = (a.valid, (optional_texts h.1).0 h.5, (optional_texts h.2).0 h.6, b.valid); merged = (a.merged, b.merged); same = rw (a.same, b.same); text_is = λ r. rw h.8 (simp (a.text_is, b.text_is, append_assoc)) }
 spelled (Element w) t h = let v = spelled w t h in record { tree = ElementTree v.tree; valid = v.valid; merged = v.merged; same = ap Element v.same; text_is = v.text_is }
-spelled (Pair v w) t h = let a = spelled v h.0 h.4 in let b = spelled w h.3 h.7 in record { tree = PairTree a.tree h.1 h.2 b.tree; valid = (a.valid, (s_texts h.1).0 h.5, (s_texts h.2).0 h.6, b.valid); merged = (a.merged, b.merged); same = rw (a.same, b.same); text_is = λ r. rw h.8 (simp (a.text_is, b.text_is, append_assoc)) }
+spelled (Pair v w) t h = let a = spelled v h.0 h.4 in let b = spelled w h.3 h.7 in record { tree = PairTree a.tree h.1 h.2 b.tree; valid = (a.valid, (optional_texts h.1).0 h.5, (optional_texts h.2).0 h.6, b.valid); merged = (a.merged, b.merged); same = rw (a.same, b.same); text_is = λ r. rw h.8 (simp (a.text_is, b.text_is, append_assoc)) }
 spelled (Chunk w) t h = let v = spelled w t h in record { tree = ChunkTree v.tree; valid = v.valid; merged = v.merged; same = ap Chunk v.same; text_is = v.text_is }
 spelled End t h = λ e v j. end_given t e v j h
 spelled (Then e m) t h = λ u vu ju. let v = spelled e h.1 h.4 in rw h.6 (more_given e m h.0 h.1 h.2 u vu ju h.3 v (spelled m h.2 h.5 v.tree v.valid v.merged))
@@ -253,7 +253,7 @@ pub spelled_one : (x : Node Item) (t : List ℕ) → SpellsOne x t → HasTree S
 unfolding SpellsOne onto Tested Merged items
 spelled_one x t h = let a = spelled x h.1 h.4 in record {
   tree = StandaloneTree h.0 a.tree h.2;
-  valid = ((s_texts h.0).0 h.3, a.valid, (s_texts h.2).0 h.5);
+  valid = ((optional_texts h.0).0 h.3, a.valid, (optional_texts h.2).0 h.5);
   merged = a.merged;
   same = a.same;
   text_is = λ r. rw h.6 (simp (a.text_is, append_assoc));
@@ -276,41 +276,41 @@ Tells OneItem w = Spells (items w) (text w)
 Tells OnePiece w = Spells (items w) (text w)
 Tells OneString w = Spells (items w) (text w)
 Tells (OneEntry k) w = Spells (items w) (text w)
-Tells (Inside k) w = Spells (Listed k (items w).0 (items w).1) (opening k ∷ onto w (ending k ∷ []))
+Tells (Inside k) w = Spells (Listed k (items w).0 (items w).1) (open_byte k ∷ onto w (close_byte k ∷ []))
 Tells (Rest k) w = Told w
 Tells Seq w = SpellsSequence (items w) (text w)
 Tells Standalone w = SpellsOne (items w) (text w)
 
 head_told : (h : ListHead) → IsTestedListHead h → IsSpecms (head_indicator h) (list_head_text h)
 head_told NoIndicator v = refl
-head_told (WithIndicator i ms) v = (ms, (ms_texts ms).1 v, refl)
+head_told (WithIndicator i ms) v = (ms, (mandatory_texts ms).1 v, refl)
 
-tells_full : (k : Bracketed) (h : ListHead) (s : List ℕ) (m : Tree (Rest (entries_of k))) → IsTestedListHead h → IsS s → Told m → Spells (Listed k (head_indicator h) (items m)) (opening k ∷ (list_head_text h ++ (s ++ onto m (ending k ∷ []))))
+tells_full : (k : Bracketed) (h : ListHead) (s : List ℕ) (m : Tree (Rest (entries_of k))) → IsTestedListHead h → IsSpace s → Told m → Spells (Listed k (head_indicator h) (items m)) (open_byte k ∷ (list_head_text h ++ (s ++ onto m (close_byte k ∷ []))))
 unfolding Spells
-tells_full k h s m vh v t = rw t.same (list_head_text h, s, t.front, t.back, head_told h vh, v, t.first_spelled, t.others_spelled, rw (t.text_is (ending k ∷ [])) refl)
+tells_full k h s m vh v t = rw t.same (list_head_text h, s, t.front, t.back, head_told h vh, v, t.first_spelled, t.others_spelled, rw (t.text_is (close_byte k ∷ [])) refl)
 
-tells_stream : (ms : List ℕ) (m : Tree (Rest Strings)) → IsMs ms → Told m → Spells (Stream (items m)) (40 ∷ 95 ∷ (ms ++ onto m (41 ∷ [])))
+tells_stream : (ms : List ℕ) (m : Tree (Rest Strings)) → IsMandatorySpace ms → Told m → Spells (Stream (items m)) (40 ∷ 95 ∷ (ms ++ onto m (41 ∷ [])))
 unfolding Spells
 tells_stream ms m v t = rw t.same (ms, t.front, t.back, v, t.first_spelled, t.others_spelled, rw (t.text_is (41 ∷ [])) refl)
 
-tells_enclosed : (l : LabelKind) (w : Tree Standalone) → IsLabel l → SpellsOne (items w) (text w) → Spells (labelled l (items w)) (label_text l ++ (40 ∷ onto w (41 ∷ [])))
+tells_enclosed : (l : OpenerKind) (w : Tree Standalone) → IsOpener l → SpellsOne (items w) (text w) → Spells (labelled l (items w)) (opener_text l ++ (40 ∷ onto w (41 ∷ [])))
 unfolding Spells SpellsOne
-tells_enclosed (label.Tag i n) w v h = (h.0, h.1, h.2, v, h.3, h.4, h.5, rw (onto-text w (41 ∷ []), h.6) (simp append_assoc))
-tells_enclosed label.Simple w v h = (h.0, h.1, h.2, h.3, h.4, h.5, rw (onto-text w (41 ∷ []), h.6) (simp append_assoc))
+tells_enclosed (opener.Tag i n) w v h = (h.0, h.1, h.2, v, h.3, h.4, h.5, rw (onto-text w (41 ∷ []), h.6) (simp append_assoc))
+tells_enclosed opener.Simple w v h = (h.0, h.1, h.2, h.3, h.4, h.5, rw (onto-text w (41 ∷ []), h.6) (simp append_assoc))
 
 tells_embedded : (w : Tree Seq) (i : Option Indicator) → SpellsSequence (items w) (text w) → Spells (Embedded (items w) i) (60 ∷ 60 ∷ onto w (62 ∷ 62 ∷ (indicator_text i ++ [])))
 unfolding Spells
 tells_embedded w i h = (text w, h, ap (λ (x : List ℕ). 60 ∷ 60 ∷ x) (ap (λ (x : List ℕ). onto w (62 ∷ 62 ∷ x)) (append-nil (indicator_text i)) ∙ onto-text w (62 ∷ 62 ∷ indicator_text i)))
 
-tells_last : (k : Row) (e : Tree (OneEntry k)) (s : List ℕ) → IsSoc s → Spells (items e) (text e) → Told (LastTree e s)
+tells_last : (k : Row) (e : Tree (OneEntry k)) (s : List ℕ) → IsListEnd s → Spells (items e) (text e) → Told (LastTree e s)
 unfolding Spells onto items
 tells_last k e s v h = record { first = items e; others = End; front = text e; back = s; same = refl; first_spelled = h; others_spelled = v; text_is = λ r. onto-text e (s ++ r) }
 
-others_told : {k : Row} (c : List ℕ) (e : Node (Entry k)) (m : Node (Entries k)) (a b : List ℕ) → IsMsc c → Spells e a → Spells m b → Spells (Then e m) (c ++ (a ++ b))
+others_told : {k : Row} (c : List ℕ) (e : Node (Entry k)) (m : Node (Entries k)) (a b : List ℕ) → IsSeparator c → Spells e a → Spells m b → Spells (Then e m) (c ++ (a ++ b))
 unfolding Spells
 others_told c e m a b v h t = (c, a, b, v, h, t, refl)
 
-tells_more : (k : Row) (e : Tree (OneEntry k)) (s : List ℕ) (m : Tree (Rest k)) → IsMsc s → Spells (items e) (text e) → Told m → Told (MoreTree e s m)
+tells_more : (k : Row) (e : Tree (OneEntry k)) (s : List ℕ) (m : Tree (Rest k)) → IsSeparator s → Spells (items e) (text e) → Told m → Told (MoreTree e s m)
 unfolding onto items
 tells_more k e s m v h t = record {
   first = items e;
@@ -323,7 +323,7 @@ tells_more k e s m v h t = record {
   text_is = λ r. rw (t.text_is r, onto-text e (s ++ (t.front ++ (t.back ++ r)))) (simp append_assoc);
 }
 
-tells_sequence : (s : List ℕ) (m : Tree (Rest Elements)) → IsS s → Told m → SpellsSequence (items m) (s ++ text m)
+tells_sequence : (s : List ℕ) (m : Tree (Rest Elements)) → IsSpace s → Told m → SpellsSequence (items m) (s ++ text m)
 unfolding SpellsSequence
 tells_sequence s m v h = rw h.same (s, h.front, h.back, v, h.first_spelled, h.others_spelled, rw (h.text_is []) (simp append-nil))
 
@@ -335,19 +335,19 @@ tells (NamedTree b) v = append-nil (named_text b)
 tells (EnclosedTree l w) v = tells_enclosed l w v.0 (tells w v.1)
 tells (ListTree k w) v = tells w v
 tells (StringTree w) v = tells w v
-tells (StreamTree ms m) v = tells_stream ms m ((ms_texts ms).1 v.0) (tells m v.1)
+tells (StreamTree ms m) v = tells_stream ms m ((mandatory_texts ms).1 v.0) (tells m v.1)
 tells (LiteralTree x i) v = ((literal_test x).1 v, simp append-nil)
-tells (DotsTree x) v = ((dots_test x).1 v, simp append-nil)
+tells (EllipsisTree x) v = ((ellipsis_test x).1 v, simp append-nil)
 tells (EmbeddedTree w i) v = tells_embedded w i (tells w v)
 tells (LastPieceTree p) v = tells p v
-tells (PlusTree p s t w) v = (text p, s, t, text w, tells p v.0, (s_texts s).1 v.1, (s_texts t).1 v.2, tells w v.3, onto-text p _)
+tells (PlusTree p s t w) v = (text p, s, t, text w, tells p v.0, (optional_texts s).1 v.1, (optional_texts t).1 v.2, tells w v.3, onto-text p _)
 tells (ElementTree w) v = tells w v
-tells (PairTree a s t b) v = (text a, s, t, text b, tells a v.0, (s_texts s).1 v.1, (s_texts t).1 v.2, tells b v.3, onto-text a _)
+tells (PairTree a s t b) v = (text a, s, t, text b, tells a v.0, (optional_texts s).1 v.1, (optional_texts t).1 v.2, tells b v.3, onto-text a _)
 tells (ChunkTree w) v = tells w v
-tells (EmptyTree i s) v = (s, (s_texts s).1 v, refl)
-tells (FullTree {k = k} h s m) v = tells_full k h s m v.0 ((s_texts s).1 v.1) (tells m v.2)
-tells (LastTree {k = k} e s) v = tells_last k e s ((soc_texts s).1 v.1) (tells e v.0)
-tells (MoreTree {k = k} e s m) v = tells_more k e s m ((msc_texts s).1 v.1) (tells e v.0) (tells m v.2)
-tells (NothingTree s) v = rw append-nil ((s_texts s).1 v)
-tells (SequenceTree s m) v = tells_sequence s m ((s_texts s).1 v.0) (tells m v.1)
-tells (StandaloneTree s w t) v = (s, text w, t, (s_texts s).1 v.0, tells w v.1, (s_texts t).1 v.2, ap (s ++◌) (onto-text w _ ∙ ap (text w ++◌) (append-nil t)))
+tells (EmptyTree i s) v = (s, (optional_texts s).1 v, refl)
+tells (FullTree {k = k} h s m) v = tells_full k h s m v.0 ((optional_texts s).1 v.1) (tells m v.2)
+tells (LastTree {k = k} e s) v = tells_last k e s ((at_end_texts s).1 v.1) (tells e v.0)
+tells (MoreTree {k = k} e s m) v = tells_more k e s m ((separating_texts s).1 v.1) (tells e v.0) (tells m v.2)
+tells (NothingTree s) v = rw append-nil ((optional_texts s).1 v)
+tells (SequenceTree s m) v = tells_sequence s m ((optional_texts s).1 v.0) (tells m v.1)
+tells (StandaloneTree s w t) v = (s, text w, t, (optional_texts s).1 v.0, tells w v.1, (optional_texts t).1 v.2, ap (s ++◌) (onto-text w _ ∙ ap (text w ++◌) (append-nil t)))

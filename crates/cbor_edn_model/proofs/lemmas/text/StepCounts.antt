@@ -9,22 +9,22 @@ use Rattle.cbor_edn_parts.specs.Indicator.{indicator_text, indicator_at}
 use Rattle.cbor_edn_parts.specs.internal.Lex.{Automaton}
 use Rattle.cbor_edn_parts.specs.internal.SpaceTokens.{space, separator}
 use Rattle.cbor_edn_parts.specs.internal.NumberTokens.{number, is_number}
-use Rattle.cbor_edn_parts.specs.internal.LiteralTokens.{is_literal, are_dots}
+use Rattle.cbor_edn_parts.specs.internal.LiteralTokens.{is_literal, is_ellipsis}
 use Rattle.cbor_edn_model.specs.tree.Items.{Row, Elements, Pairs, Strings, Bracketed, Array, Map, entries_of}
-use Rattle.cbor_edn_model.specs.text.Spelling.{ending}
-use Rattle.cbor_edn_model.specs.tree.Trees.{Rule, OneItem, OnePiece, OneString, OneEntry, Inside, Rest, Seq, Standalone, list_head_text, label_text, Tree, NumberTree, FloatTree, NamedTree, EnclosedTree, ListTree, StringTree, StreamTree, LiteralTree, DotsTree, EmbeddedTree, LastPieceTree, PlusTree, ElementTree, PairTree, ChunkTree, EmptyTree, FullTree, LastTree, MoreTree, NothingTree, SequenceTree, StandaloneTree, onto, Merged, FollowOf, tree_nesting, joins}
+use Rattle.cbor_edn_model.specs.text.Spelling.{close_byte}
+use Rattle.cbor_edn_model.specs.tree.Trees.{Rule, OneItem, OnePiece, OneString, OneEntry, Inside, Rest, Seq, Standalone, list_head_text, opener_text, Tree, NumberTree, FloatTree, NamedTree, EnclosedTree, ListTree, StringTree, StreamTree, LiteralTree, EllipsisTree, EmbeddedTree, LastPieceTree, PlusTree, ElementTree, PairTree, ChunkTree, EmptyTree, FullTree, LastTree, MoreTree, NothingTree, SequenceTree, StandaloneTree, onto, Merged, FollowOf, tree_nesting, joins}
 use Rattle.cbor_edn_model.proofs.lemmas.text.Tested.{Tested}
-use Rattle.cbor_edn_model.specs.declared.text.label.LabelKind.{LabelKind}
-use Rattle.cbor_edn_model.specs.declared.text.label.LabelKind.TheVariants as label
+use Rattle.cbor_edn_model.specs.declared.text.opener.OpenerKind.{OpenerKind}
+use Rattle.cbor_edn_model.specs.declared.text.opener.OpenerKind.TheVariants as opener
 use Rattle.cbor_edn_model.specs.declared.text.keyword.Keyword.{Keyword}
 use Rattle.cbor_edn_model.specs.declared.text.keyword.Keyword.TheVariants.{Named, Simple, NonFinite}
 use Rattle.cbor_edn_model.specs.text.Keywords.{keyword_text}
 use Rattle.cbor_edn_model.specs.internal.Results.{◌>>=◌}
-use Rattle.cbor_edn_model.specs.internal.Reading.{Reader, or_invalid, token, byte, not_empty, list_head_of, starts_with, keyword_at, tag_number, enclosed_item, tag_item, number_end, number_item, keyword_item, plain_item, list_item, stream_item, string_item, item, literal_piece, dots_piece, embedded_piece, piece, plus_string, string, entry, inside_full, inside, more, rest, sequence, standalone, rule, read, reads, outcome}
+use Rattle.cbor_edn_model.specs.internal.Reading.{Reader, or_invalid, token, byte, not_empty, list_head_of, starts_with, keyword_at, tag_number, enclosed_item, tag_item, number_end, number_item, keyword_item, plain_item, list_item, stream_item, string_item, item, literal_piece, ellipsis_piece, embedded_piece, piece, plus_string, string, entry, inside_full, inside, more, rest, sequence, standalone, rule, read, reads, outcome}
 use Rattle.cbor_edn_parts.proofs.lemmas.scan.Indicators.{spec-found}
 use Rattle.cbor_edn_parts.proofs.lemmas.scan.Tokens.{Holds, nothing, just}
 use Rattle.cbor_edn_model.proofs.lemmas.text.Follows.{number_some}
-use Rattle.cbor_edn_model.proofs.lemmas.text.Begins.{literal_some, dots_begin}
+use Rattle.cbor_edn_model.proofs.lemmas.text.Begins.{literal_some, ellipsis_begin}
 use Rattle.cbor_edn_model.proofs.lemmas.text.KeywordTexts.{IsFront, keyword-found, keyword_length}
 use Rattle.cbor_edn_model.proofs.lemmas.text.Again.{size, positive, again}
 use Rattle.cbor_edn_model.proofs.lemmas.text.Found.{Meets, invalid, deep, fine, weaker, taken, Sound, IsSound, found, byte-found, not_empty-found}
@@ -46,20 +46,20 @@ literal_length : (x : List ℕ) → is_literal x ≡ true → 0 < length x
 literal_length [] v = absurd (literal_some v)
 literal_length (c ∷ x) v = omega arith
 
-dots_length : (x : List ℕ) → are_dots x ≡ true → 0 < length x
-dots_length x v = rw (dots_begin x v).1 (omega arith)
+ellipsis_length : (x : List ℕ) → is_ellipsis x ≡ true → 0 < length x
+ellipsis_length x v = rw (ellipsis_begin x v).1 (omega arith)
 
 pub size_fits : {s : Rule} (w : Tree s) (r : List ℕ) → Tested w → size w + extra s + 8 * length r ≤ 8 * length (onto w r) + 1
 unfolding size onto Tested
 size_fits (NumberTree x i) r v = omega (arith, number_length x v, length-append x (indicator_text i ++ r), length-append (indicator_text i) r)
 size_fits (FloatTree f i) r v = omega (arith, keyword_length (NonFinite f), length-append (keyword_text (NonFinite f)) (indicator_text i ++ r), length-append (indicator_text i) r)
 size_fits (NamedTree b) r v = omega (arith, keyword_length (Named b), length-append (keyword_text (Named b)) r)
-size_fits (EnclosedTree l w) r v = omega (arith, size_fits w (41 ∷ r) v.1, length-append (label_text l) (40 ∷ onto w (41 ∷ r)))
-size_fits (ListTree k w) r v = omega (arith, size_fits w (ending k ∷ r) v)
+size_fits (EnclosedTree l w) r v = omega (arith, size_fits w (41 ∷ r) v.1, length-append (opener_text l) (40 ∷ onto w (41 ∷ r)))
+size_fits (ListTree k w) r v = omega (arith, size_fits w (close_byte k ∷ r) v)
 size_fits (StringTree w) r v = omega (arith, size_fits w r v)
 size_fits (StreamTree ms m) r v = omega (arith, length-append ms (onto m (41 ∷ r)), size_fits m (41 ∷ r) v.1)
 size_fits (LiteralTree x i) r v = omega (arith, literal_length x v, length-append x (indicator_text i ++ r), length-append (indicator_text i) r)
-size_fits (DotsTree x) r v = omega (arith, dots_length x v, length-append x r)
+size_fits (EllipsisTree x) r v = omega (arith, ellipsis_length x v, length-append x r)
 size_fits (EmbeddedTree w i) r v = omega (arith, size_fits w (62 ∷ 62 ∷ (indicator_text i ++ r)) v, length-append (indicator_text i) r)
 size_fits (LastPieceTree p) r v = omega (arith, size_fits p r v)
 size_fits (PlusTree p s t w) r h = omega (arith, size_fits p (s ++ (43 ∷ (t ++ onto w r))) h.0, size_fits w r h.3, length-append s (43 ∷ (t ++ onto w r)), length-append t (onto w r))
@@ -164,19 +164,19 @@ module _ (g h : ℕ → (s : Rule) → Reader s) (gs : (limit : ℕ) (s : Rule) 
   unfolding string_item
   string_item-same limit xs a = alike limit OneString xs _ (a limit OneString xs (omega arith))
 
-  enclosed-same : (limit : ℕ) (l : LabelKind) (xs : List ℕ) → Agree (8 * length xs + 2) → enclosed_item g limit l xs ≡ enclosed_item h limit l xs
+  enclosed-same : (limit : ℕ) (l : OpenerKind) (xs : List ℕ) → Agree (8 * length xs + 2) → enclosed_item g limit l xs ≡ enclosed_item h limit l xs
   unfolding enclosed_item
   enclosed-same zero l xs a = refl
   enclosed-same (suc limit) l xs a = same_then _ _ refl (byte-shorter 40 xs) (λ r lr. alike limit Standalone r _ (a limit Standalone r (omega arith)))
 
   number-same : (limit : ℕ) (xs : List ℕ) → Agree (8 * length xs + 2) → number_item g limit xs ≡ number_item h limit xs
   unfolding number_item number_end tag_item
-  number-same limit xs a = same_then _ _ refl (token-shorter number xs) (λ x lx. let i = (indicator_at x.1).0 in let ys = (indicator_at x.1).1 in ap (λ r. cond (starts_with 40 ys) r (Ok (NumberTree x.0 i, ys))) (same_then _ _ refl (any (or_invalid (tag_number x.0))) (λ n u. enclosed-same limit (label.Tag i n) ys (fewer _ _ (omega (arith, indicator-shorter x.1)) a))))
+  number-same limit xs a = same_then _ _ refl (token-shorter number xs) (λ x lx. let i = (indicator_at x.1).0 in let ys = (indicator_at x.1).1 in ap (λ r. cond (starts_with 40 ys) r (Ok (NumberTree x.0 i, ys))) (same_then _ _ refl (any (or_invalid (tag_number x.0))) (λ n u. enclosed-same limit (opener.Tag i n) ys (fewer _ _ (omega (arith, indicator-shorter x.1)) a))))
 
   keyword-same : (limit : ℕ) (w : Keyword) (xs : List ℕ) → Agree (8 * length xs + 2) → keyword_item g limit w xs ≡ keyword_item h limit w xs
   unfolding keyword_item
   keyword-same limit (Named b) xs a = refl
-  keyword-same limit Simple xs a = enclosed-same limit label.Simple xs a
+  keyword-same limit Simple xs a = enclosed-same limit opener.Simple xs a
   keyword-same limit (NonFinite f) xs a = refl
 
   plain-same : (limit : ℕ) (xs : List ℕ) (o : Option (Keyword × List ℕ)) → Holds (IsFront xs) o → Agree (8 * length xs + 2) → plain_item g limit o xs ≡ plain_item h limit o xs
@@ -195,7 +195,7 @@ module _ (g h : ℕ → (s : Rule) → Reader s) (gs : (limit : ℕ) (s : Rule) 
   embedded-same (suc limit) xs a = alike limit Seq xs _ (a limit Seq xs (omega arith))
 
   piece-same : (limit : ℕ) (xs : List ℕ) → Agree (8 * length xs) → piece g limit xs ≡ piece h limit xs
-  unfolding piece literal_piece dots_piece
+  unfolding piece literal_piece ellipsis_piece
   piece-same limit [] a = refl
   piece-same limit (c ∷ xs) a = rw (same_then (embedded_piece g limit) (embedded_piece h limit) refl (byte-shorter 60 xs) (λ r lr. embedded-same limit r (fewer _ _ (omega arith) a)))
 

@@ -4,9 +4,9 @@ use Rattle.std.proofs.lemmas.List.{append-nil}
 use Rattle.cbor_edn_parts.specs.declared.indicator.Indicator.{Indicator}
 use Rattle.cbor_edn_parts.specs.Indicator.{indicator_text}
 use Rattle.cbor_edn_model.specs.tree.Items.{Row, Elements, Strings, Bracketed, entries_of}
-use Rattle.cbor_edn_model.specs.text.Spelling.{opening, ending}
-use Rattle.cbor_edn_model.specs.tree.Trees.{OneItem, OnePiece, OneString, OneEntry, Inside, Rest, Seq, Standalone, ListHead, Tree, NumberTree, FloatTree, NamedTree, EnclosedTree, ListTree, StringTree, StreamTree, LiteralTree, DotsTree, EmbeddedTree, LastPieceTree, PlusTree, ElementTree, ChunkTree, PairTree, EmptyTree, FullTree, LastTree, MoreTree, NothingTree, SequenceTree, StandaloneTree, list_head_text, label_text, onto, text}
-use Rattle.cbor_edn_model.specs.declared.text.label.LabelKind.{LabelKind}
+use Rattle.cbor_edn_model.specs.text.Spelling.{open_byte, close_byte}
+use Rattle.cbor_edn_model.specs.tree.Trees.{OneItem, OnePiece, OneString, OneEntry, Inside, Rest, Seq, Standalone, ListHead, Tree, NumberTree, FloatTree, NamedTree, EnclosedTree, ListTree, StringTree, StreamTree, LiteralTree, EllipsisTree, EmbeddedTree, LastPieceTree, PlusTree, ElementTree, ChunkTree, PairTree, EmptyTree, FullTree, LastTree, MoreTree, NothingTree, SequenceTree, StandaloneTree, list_head_text, opener_text, onto, text}
+use Rattle.cbor_edn_model.specs.declared.text.opener.OpenerKind.{OpenerKind}
 use Rattle.cbor_edn_model.specs.declared.text.keyword.NamedSimple.{NamedSimple}
 use Rattle.cbor_edn_model.specs.declared.text.keyword.NonFinite.{NonFinite}
 use Rattle.cbor_edn_model.specs.text.Keywords.{named_text, non_finite_text}
@@ -25,13 +25,13 @@ pub text_named : (b : NamedSimple) → text (NamedTree b) ≡ named_text b
 unfolding onto
 text_named b = append-nil (named_text b)
 
-pub text_enclosed : (l : LabelKind) (w : Tree Standalone) → text (EnclosedTree l w) ≡ label_text l ++ (40 ∷ (text w ++ (41 ∷ [])))
+pub text_enclosed : (l : OpenerKind) (w : Tree Standalone) → text (EnclosedTree l w) ≡ opener_text l ++ (40 ∷ (text w ++ (41 ∷ [])))
 unfolding onto
-text_enclosed l w = ap (λ t. label_text l ++ (40 ∷ t)) (onto-text w (41 ∷ []))
+text_enclosed l w = ap (λ t. opener_text l ++ (40 ∷ t)) (onto-text w (41 ∷ []))
 
-pub text_list : (k : Bracketed) (w : Tree (Inside k)) → text (ListTree k w) ≡ opening k ∷ (text w ++ (ending k ∷ []))
+pub text_list : (k : Bracketed) (w : Tree (Inside k)) → text (ListTree k w) ≡ open_byte k ∷ (text w ++ (close_byte k ∷ []))
 unfolding onto
-text_list k w = ap (λ t. opening k ∷ t) (onto-text w (ending k ∷ []))
+text_list k w = ap (λ t. open_byte k ∷ t) (onto-text w (close_byte k ∷ []))
 
 pub text_string : (w : Tree OneString) → text (StringTree w) ≡ text w
 unfolding onto
@@ -45,9 +45,9 @@ pub text_literal : (x : List ℕ) (i : Option Indicator) → text (LiteralTree x
 unfolding onto
 text_literal x i = ap (λ t. x ++ t) (append-nil (indicator_text i))
 
-pub text_dots : (x : List ℕ) → text (DotsTree x) ≡ x
+pub text_ellipsis : (x : List ℕ) → text (EllipsisTree x) ≡ x
 unfolding onto
-text_dots x = append-nil x
+text_ellipsis x = append-nil x
 
 pub text_embedded : (w : Tree Seq) (i : Option Indicator) → text (EmbeddedTree w i) ≡ 60 ∷ 60 ∷ (text w ++ (62 ∷ 62 ∷ indicator_text i))
 unfolding onto

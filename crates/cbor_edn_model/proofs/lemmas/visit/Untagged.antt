@@ -2,11 +2,11 @@
 use Rattle.std.proofs.Common.{ℕ, Bool, true, false, ◌||◌, ◌≡◌, List, [], ◌∷◌, refl, ap, ◌∙◌}
 use Rattle.std.proofs.lemmas.Bool.{or_parts}
 use Rattle.cbor_edn_model.specs.visit.Tagged.{has_tag}
-use Rattle.cbor_edn_model.specs.visit.Seeking.{CallArguments, IsTag, number, prefix_and_text, passed, VisitParts, of_number, of_float, of_name, of_simple, of_list, of_string, of_stream, of_literal, of_dots, of_embedded, of_last_piece, of_pieces, of_none_inside, of_all_inside, of_last, of_more, of_nothing, of_sequence, VisitEntry, of_element, of_pair, of_chunk}
-use Rattle.cbor_edn_model.specs.declared.text.label.LabelKind.TheVariants as label
+use Rattle.cbor_edn_model.specs.visit.Seeking.{CallArguments, IsTag, number, prefix_and_text, passed, VisitParts, of_number, of_float, of_name, of_simple, of_list, of_string, of_stream, of_literal, of_ellipsis, of_embedded, of_last_piece, of_pieces, of_none_inside, of_all_inside, of_last, of_more, of_nothing, of_sequence, VisitEntry, of_element, of_pair, of_chunk}
+use Rattle.cbor_edn_model.specs.declared.text.opener.OpenerKind.TheVariants as opener
 use Rattle.cbor_edn_model.specs.tree.Items.{Row, Bracketed}
 use Rattle.cbor_edn_model.specs.tree.Rows.{entries_onto, pieces_onto}
-use Rattle.cbor_edn_model.specs.tree.Trees.{Tree, OneItem, OneEntry, OnePiece, OneString, Inside, Rest, Seq, NumberTree, FloatTree, NamedTree, EnclosedTree, ListTree, StringTree, StreamTree, LiteralTree, DotsTree, EmbeddedTree, LastPieceTree, PlusTree, ElementTree, PairTree, ChunkTree, EmptyTree, FullTree, LastTree, MoreTree, NothingTree, SequenceTree}
+use Rattle.cbor_edn_model.specs.tree.Trees.{Tree, OneItem, OneEntry, OnePiece, OneString, Inside, Rest, Seq, NumberTree, FloatTree, NamedTree, EnclosedTree, ListTree, StringTree, StreamTree, LiteralTree, EllipsisTree, EmbeddedTree, LastPieceTree, PlusTree, ElementTree, PairTree, ChunkTree, EmptyTree, FullTree, LastTree, MoreTree, NothingTree, SequenceTree}
 use Rattle.cbor_edn_model.specs.visit.Visits.{whole}
 use Rattle.cbor_edn_model.specs.internal.TaggedRows.{entries_have_tag, pieces_have_tag}
 
@@ -27,11 +27,11 @@ has_tag_pieces (p ∷ ps) w = ap (λ b. has_tag p.0 || b) (has_tag_pieces ps w) 
 -- an item in which no tag stands is none
 no_tag : (w : Tree OneItem) → has_tag w ≡ false → (a : CallArguments) → IsTag w a → ⊥
 unfolding has_tag
-no_tag (EnclosedTree (label.Tag i n) w) h a is = absurd cc
+no_tag (EnclosedTree (opener.Tag i n) w) h a is = absurd cc
 no_tag (NumberTree x i) h (number n) is = cc
 no_tag (FloatTree f i) h (number n) is = cc
 no_tag (NamedTree b) h (number n) is = cc
-no_tag (EnclosedTree label.Simple w) h (number n) is = cc
+no_tag (EnclosedTree opener.Simple w) h (number n) is = cc
 no_tag (ListTree k w) h (number n) is = cc
 no_tag (StringTree w) h (number n) is = cc
 no_tag (StreamTree ms m) h (number n) is = cc
@@ -45,15 +45,15 @@ mutual
   item_untagged (NumberTree x i) h = of_number
   item_untagged (FloatTree f i) h = of_float
   item_untagged (NamedTree b) h = of_name
-  item_untagged (EnclosedTree (label.Tag i n) w) h = absurd cc
-  item_untagged (EnclosedTree label.Simple w) h = of_simple
+  item_untagged (EnclosedTree (opener.Tag i n) w) h = absurd cc
+  item_untagged (EnclosedTree opener.Simple w) h = of_simple
   item_untagged (ListTree k w) h = of_list (inside_untagged w h)
   item_untagged (StringTree w) h = of_string (string_untagged w h)
   item_untagged (StreamTree ms m) h = of_stream (rest_untagged m h)
 
   piece_untagged : (p : Tree OnePiece) → has_tag p ≡ false → VisitParts IsTag _ p [] p whole
   piece_untagged (LiteralTree x i) h = of_literal
-  piece_untagged (DotsTree x) h = of_dots
+  piece_untagged (EllipsisTree x) h = of_ellipsis
   piece_untagged (EmbeddedTree w i) h = of_embedded (sequence_untagged w h)
 
   string_untagged : (w : Tree OneString) → has_tag w ≡ false → VisitParts IsTag _ w [] w whole

@@ -21,7 +21,7 @@ pub type Head = (u8, Argument);
 /// inside the argument, and with `Reserved`.
 #[tactic(auto, unfolding(crate::specs::internal::CborReading::head_at))]
 pub fn head_of(bytes: &[u8]) -> Result<(Head, &[u8]), Fault<CborError>>
-    ensures exact { DecoderGives (λ x. (x.0, x.1.now)) result (head_at bytes.now) }
+    ensures value { DecoderGives (λ x. (x.0, x.1.now)) result (head_at bytes.now) }
     ensures shorter { IfOk result (λ x. length x.1.now < length bytes.now) }
 {
     let [first, rest @ ..] = bytes else {

@@ -1,5 +1,5 @@
 use Rattle.cbor_edn_parts.proofs.lemmas.literal.ContentTexts.{content_texts, kind_is, supported_texts}
-use Rattle.cbor_edn_parts.proofs.lemmas.literal.DotTexts.{dots_test, dots_automaton}
+use Rattle.cbor_edn_parts.proofs.lemmas.literal.EllipsisTexts.{ellipsis_test, ellipsis_automaton}
 use Rattle.cbor_edn_parts.proofs.lemmas.literal.LiteralTexts.{literal_test, literal_automaton}
 use Rattle.cbor_edn_parts.proofs.laws.literal_texts.Goals as goal
 
@@ -7,8 +7,8 @@ pub returns : goal.returns
 returns c = λ text. record {
   test = literal_test text;
   automaton = literal_automaton text;
-  dots_test = dots_test text;
-  dots_automaton = dots_automaton text;
+  ellipsis_test = ellipsis_test text;
+  ellipsis_automaton = ellipsis_automaton text;
   content = content_texts text;
   kind = kind_is text;
   supported = supported_texts text;

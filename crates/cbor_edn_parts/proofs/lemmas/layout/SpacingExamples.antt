@@ -2,7 +2,7 @@
 use Rattle.std.proofs.Common.{[], ◌≡◌, refl}
 use Rattle.std.specs.Prelude.{codes}
 use Rattle.cbor_edn_parts.specs.internal.CommentReading.{from_first, to_last, comments_of, up_to_comma, past_comma, before_comma, after_comma}
-use Rattle.cbor_edn_parts.specs.Spacing.{S, MS, MSC, SOC, Least, Comments, OneLine, NewLine, OneSpace, line, spaced}
+use Rattle.cbor_edn_parts.specs.Spacing.{Optional, Mandatory, Separating, AtEnd, Least, Comments, OneLine, NewLine, OneSpace, line, spaced}
 
 -- From the first comment to the end of the last, with the line feed behind `#`, and without the blanks round them.
 comments :
@@ -29,65 +29,65 @@ commas = (refl, refl, refl, refl, refl, refl)
 
 -- S
 optional :
-    spaced S Least (codes " /a/ # b\n\n ") ≡ []
-    × spaced S Comments (codes " /a/ # b\n\n ") ≡ codes "/a/ # b\n"
-    × spaced S OneLine (codes " /a/ # b\n\n ") ≡ codes "/a/ # b\n"
-    × spaced S (NewLine 2) (codes " /a/ # b\n\n ") ≡ codes "\n  /a/ # b\n"
-    × spaced S OneSpace (codes " /a/ # b\n\n ") ≡ codes " /a/ # b\n"
-    × spaced S Least (codes " \t") ≡ []
-    × spaced S Comments (codes " \t") ≡ []
-    × spaced S OneLine (codes " \t") ≡ []
-    × spaced S (NewLine 2) (codes " \t") ≡ codes "\n  "
-    × spaced S OneSpace (codes " \t") ≡ codes " "
+    spaced Optional Least (codes " /a/ # b\n\n ") ≡ []
+    × spaced Optional Comments (codes " /a/ # b\n\n ") ≡ codes "/a/ # b\n"
+    × spaced Optional OneLine (codes " /a/ # b\n\n ") ≡ codes "/a/ # b\n"
+    × spaced Optional (NewLine 2) (codes " /a/ # b\n\n ") ≡ codes "\n  /a/ # b\n"
+    × spaced Optional OneSpace (codes " /a/ # b\n\n ") ≡ codes " /a/ # b\n"
+    × spaced Optional Least (codes " \t") ≡ []
+    × spaced Optional Comments (codes " \t") ≡ []
+    × spaced Optional OneLine (codes " \t") ≡ []
+    × spaced Optional (NewLine 2) (codes " \t") ≡ codes "\n  "
+    × spaced Optional OneSpace (codes " \t") ≡ codes " "
 unfolding from_first to_last up_to_comma past_comma line
 optional = (refl, refl, refl, refl, refl, refl, refl, refl, refl, refl)
 
 -- MS: never empty
 mandatory :
-    spaced MS Least (codes " /a/ # b\n\n ") ≡ codes " "
-    × spaced MS Comments (codes " /a/ # b\n\n ") ≡ codes "/a/ # b\n"
-    × spaced MS OneLine (codes " /a/ # b\n\n ") ≡ codes "/a/ # b\n"
-    × spaced MS (NewLine 2) (codes " /a/ # b\n\n ") ≡ codes "\n  /a/ # b\n"
-    × spaced MS OneSpace (codes " /a/ # b\n\n ") ≡ codes " /a/ # b\n"
-    × spaced MS Least (codes "\t") ≡ codes " "
-    × spaced MS Comments (codes "\t") ≡ codes " "
-    × spaced MS OneLine (codes "\t") ≡ codes " "
-    × spaced MS (NewLine 2) (codes "\t") ≡ codes "\n  "
-    × spaced MS OneSpace (codes "\t") ≡ codes " "
+    spaced Mandatory Least (codes " /a/ # b\n\n ") ≡ codes " "
+    × spaced Mandatory Comments (codes " /a/ # b\n\n ") ≡ codes "/a/ # b\n"
+    × spaced Mandatory OneLine (codes " /a/ # b\n\n ") ≡ codes "/a/ # b\n"
+    × spaced Mandatory (NewLine 2) (codes " /a/ # b\n\n ") ≡ codes "\n  /a/ # b\n"
+    × spaced Mandatory OneSpace (codes " /a/ # b\n\n ") ≡ codes " /a/ # b\n"
+    × spaced Mandatory Least (codes "\t") ≡ codes " "
+    × spaced Mandatory Comments (codes "\t") ≡ codes " "
+    × spaced Mandatory OneLine (codes "\t") ≡ codes " "
+    × spaced Mandatory (NewLine 2) (codes "\t") ≡ codes "\n  "
+    × spaced Mandatory OneSpace (codes "\t") ≡ codes " "
 unfolding from_first to_last up_to_comma past_comma line
 mandatory = (refl, refl, refl, refl, refl, refl, refl, refl, refl, refl)
 
 -- MSC: with a comma always, and the comments on its two sides; without a comma all of them stand in front of it
 separators :
-    spaced MSC Least (codes " /a/ , # b\n ") ≡ codes ","
-    × spaced MSC Comments (codes " /a/ , # b\n ") ≡ codes "/a/,# b\n"
-    × spaced MSC OneLine (codes " /a/ , # b\n ") ≡ codes "/a/, # b\n"
-    × spaced MSC (NewLine 2) (codes " /a/ , # b\n ") ≡ codes "/a/,\n  # b\n"
-    × spaced MSC OneSpace (codes " /a/ , # b\n ") ≡ codes " /a/,# b\n"
-    × spaced MSC Least (codes " /a/ ") ≡ codes ","
-    × spaced MSC Comments (codes " /a/ ") ≡ codes "/a/,"
-    × spaced MSC OneLine (codes " /a/ ") ≡ codes "/a/, "
-    × spaced MSC (NewLine 2) (codes " /a/ ") ≡ codes "/a/,\n  "
-    × spaced MSC OneSpace (codes " /a/ ") ≡ codes " /a/,"
-    × spaced MSC Least (codes " , ") ≡ codes ","
-    × spaced MSC Comments (codes " , ") ≡ codes ","
-    × spaced MSC OneLine (codes " , ") ≡ codes ", "
-    × spaced MSC (NewLine 2) (codes " , ") ≡ codes ",\n  "
-    × spaced MSC OneSpace (codes " , ") ≡ codes " ,"
+    spaced Separating Least (codes " /a/ , # b\n ") ≡ codes ","
+    × spaced Separating Comments (codes " /a/ , # b\n ") ≡ codes "/a/,# b\n"
+    × spaced Separating OneLine (codes " /a/ , # b\n ") ≡ codes "/a/, # b\n"
+    × spaced Separating (NewLine 2) (codes " /a/ , # b\n ") ≡ codes "/a/,\n  # b\n"
+    × spaced Separating OneSpace (codes " /a/ , # b\n ") ≡ codes " /a/,# b\n"
+    × spaced Separating Least (codes " /a/ ") ≡ codes ","
+    × spaced Separating Comments (codes " /a/ ") ≡ codes "/a/,"
+    × spaced Separating OneLine (codes " /a/ ") ≡ codes "/a/, "
+    × spaced Separating (NewLine 2) (codes " /a/ ") ≡ codes "/a/,\n  "
+    × spaced Separating OneSpace (codes " /a/ ") ≡ codes " /a/,"
+    × spaced Separating Least (codes " , ") ≡ codes ","
+    × spaced Separating Comments (codes " , ") ≡ codes ","
+    × spaced Separating OneLine (codes " , ") ≡ codes ", "
+    × spaced Separating (NewLine 2) (codes " , ") ≡ codes ",\n  "
+    × spaced Separating OneSpace (codes " , ") ≡ codes " ,"
 unfolding from_first to_last up_to_comma past_comma line
 separators = (refl, refl, refl, refl, refl, refl, refl, refl, refl, refl, refl, refl, refl, refl, refl)
 
 -- SOC: without a comma always
 ends :
-    spaced SOC Least (codes " /a/ , # b\n ") ≡ []
-    × spaced SOC Comments (codes " /a/ , # b\n ") ≡ codes "/a/# b\n"
-    × spaced SOC OneLine (codes " /a/ , # b\n ") ≡ codes "/a/# b\n"
-    × spaced SOC (NewLine 2) (codes " /a/ , # b\n ") ≡ codes "\n  /a/# b\n"
-    × spaced SOC OneSpace (codes " /a/ , # b\n ") ≡ codes " /a/# b\n"
-    × spaced SOC Least (codes " , ") ≡ []
-    × spaced SOC Comments (codes " , ") ≡ []
-    × spaced SOC OneLine (codes " , ") ≡ []
-    × spaced SOC (NewLine 2) (codes " , ") ≡ codes "\n  "
-    × spaced SOC OneSpace (codes " , ") ≡ codes " "
+    spaced AtEnd Least (codes " /a/ , # b\n ") ≡ []
+    × spaced AtEnd Comments (codes " /a/ , # b\n ") ≡ codes "/a/# b\n"
+    × spaced AtEnd OneLine (codes " /a/ , # b\n ") ≡ codes "/a/# b\n"
+    × spaced AtEnd (NewLine 2) (codes " /a/ , # b\n ") ≡ codes "\n  /a/# b\n"
+    × spaced AtEnd OneSpace (codes " /a/ , # b\n ") ≡ codes " /a/# b\n"
+    × spaced AtEnd Least (codes " , ") ≡ []
+    × spaced AtEnd Comments (codes " , ") ≡ []
+    × spaced AtEnd OneLine (codes " , ") ≡ []
+    × spaced AtEnd (NewLine 2) (codes " , ") ≡ codes "\n  "
+    × spaced AtEnd OneSpace (codes " , ") ≡ codes " "
 unfolding from_first to_last up_to_comma past_comma line
 ends = (refl, refl, refl, refl, refl, refl, refl, refl, refl, refl)

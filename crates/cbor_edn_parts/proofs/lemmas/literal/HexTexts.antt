@@ -6,7 +6,7 @@ use Rattle.std.proofs.lemmas.Bool.{lt-ltb}
 use Rattle.cbor_edn_parts.specs.Bytes.{kind}
 use Rattle.cbor_edn_parts.specs.Number.{Hexadecimal, IsDigitOf}
 use Rattle.cbor_edn_parts.specs.Space as set
-use Rattle.cbor_edn_parts.specs.Space.{IsBlank, Each, end, next, slashes, hash, IsS, empty, blank, comment}
+use Rattle.cbor_edn_parts.specs.Space.{IsBlank, Each, end, next, slashes, hash, IsSpace, empty, blank, comment}
 use Rattle.cbor_edn_parts.specs.internal.SpaceTokens.{space_step}
 use Rattle.cbor_edn_parts.specs.Contents.{IsHexPairs, unended, pair, IsHex}
 use Rattle.cbor_edn_parts.specs.internal.ContentReading.{hex_bytes, hex_digit_at, if_scanned}
@@ -40,7 +40,7 @@ over_hash : {x : List ℕ} (h : Option ℕ) (t : List ℕ) → Each set.InHash x
 over_hash h t end = stepped InHash Between h 10 t refl refl
 over_hash h t (next {c} {x} is more) = stepped InHash InHash h c ((x ++ (10 ∷ [])) ++ t) refl is ∙ over_hash h t more
 
-over_space : {s : List ℕ} (h : Option ℕ) (t : List ℕ) → IsS s → hex_bytes Between h (s ++ t) ≡ hex_bytes Between h t
+over_space : {s : List ℕ} (h : Option ℕ) (t : List ℕ) → IsSpace s → hex_bytes Between h (s ++ t) ≡ hex_bytes Between h t
 over_space h t empty = refl
 over_space h t (blank {c} {x} is s) = stepped Between Between h c (x ++ t) (no_digit c is) is ∙ over_space h t s
 over_space h t (comment {x = x} (slashes {x = y} e) s) =
@@ -71,25 +71,25 @@ hex_to t bs (s, x, is, pairs, e) = ap (hex_bytes Between None) e ∙ over_space 
 -- the rest of a text, where a digit may wait for its second
 abbrev Waits : Option ℕ → List ℕ → List ℕ → Type 0
 Waits None t bs = IsHex t bs
-Waits (Some d) t bs = (s : List ℕ) × (b : ℕ) × (u : List ℕ) × (cs : List ℕ) × IsS s × IsDigitOf Hexadecimal b × IsHex u cs × (t ≡ s ++ (b ∷ u)) × ((16 * d + digit_value b) ∷ cs ≡ bs)
+Waits (Some d) t bs = (s : List ℕ) × (b : ℕ) × (u : List ℕ) × (cs : List ℕ) × IsSpace s × IsDigitOf Hexadecimal b × IsHex u cs × (t ≡ s ++ (b ∷ u)) × ((16 * d + digit_value b) ∷ cs ≡ bs)
 
 abbrev Rest : SpaceState → Option ℕ → List ℕ → List ℕ → Type 0
 Rest Between h t bs = Waits h t bs
 Rest InSlashes h t bs = (x : List ℕ) × (y : List ℕ) × Each set.InSlashes x × Waits h y bs × (t ≡ (x ++ (47 ∷ [])) ++ y)
 Rest InHash h t bs = ((x : List ℕ) × (y : List ℕ) × Each set.InHash x × Waits h y bs × (t ≡ (x ++ (10 ∷ [])) ++ y)) ⊎ ((h ≡ None) × Each set.InHash t × ([] ≡ bs))
 
-spaced : (h : Option ℕ) (x t bs : List ℕ) → ((s : List ℕ) → IsS s → IsS (x ++ s)) → Waits h t bs → Waits h (x ++ t) bs
+spaced : (h : Option ℕ) (x t bs : List ℕ) → ((s : List ℕ) → IsSpace s → IsSpace (x ++ s)) → Waits h t bs → Waits h (x ++ t) bs
 spaced None x t bs front (s, y, is, pairs, e) = (x ++ s, y, front s is, pairs, ap (λ z. x ++ z) e ∙ sym (append_assoc x s y))
 spaced (Some d) x t bs front (s, b, u, cs, is, digit, more, e, q) = (x ++ s, b, u, cs, front s is, digit, more, ap (λ z. x ++ z) e ∙ sym (append_assoc x s (b ∷ u)), q)
 
 moved : (m n : SpaceState) (h : Option ℕ) (c : ℕ) (t bs : List ℕ) → Moves m n c → Rest n h t bs → Rest m h (c ∷ t) bs
-moved Between Between h c t bs is w = spaced h (c ∷ []) t bs (λ s s_is. blank is s_is) w
+moved Between Between h c t bs is w = spaced h (c ∷ []) t bs (λ s optional_is. blank is optional_is) w
 moved Between InSlashes h c t bs e (x, y, each, w, q) =
     let all : (47 ∷ (x ++ (47 ∷ []))) ++ y ≡ c ∷ t = cc (e, q) in
-    subst (λ z. Waits h z bs) all (spaced h (47 ∷ (x ++ (47 ∷ []))) y bs (λ s s_is. comment (slashes each) s_is) w)
+    subst (λ z. Waits h z bs) all (spaced h (47 ∷ (x ++ (47 ∷ []))) y bs (λ s optional_is. comment (slashes each) optional_is) w)
 moved Between InHash h c t bs e (inl (x, y, each, w, q)) =
     let all : (35 ∷ (x ++ (10 ∷ []))) ++ y ≡ c ∷ t = cc (e, q) in
-    subst (λ z. Waits h z bs) all (spaced h (35 ∷ (x ++ (10 ∷ []))) y bs (λ s s_is. comment (hash each) s_is) w)
+    subst (λ z. Waits h z bs) all (spaced h (35 ∷ (x ++ (10 ∷ []))) y bs (λ s optional_is. comment (hash each) optional_is) w)
 moved Between InHash h c t bs e (inr (none, each, q)) = rw (none, e, ← q) ([], 35 ∷ t, empty, unended each, refl)
 moved InSlashes InSlashes h c t bs is (x, y, each, w, q) = (c ∷ x, y, next is each, w, ap (c ∷◌) q)
 moved InSlashes Between h c t bs e w = ([], t, end, w, ap (◌∷ t) e)

@@ -4,7 +4,7 @@ use Rattle.std.specs.Prelude.{eqb}
 use mathlib.Core.Logic.{⊎_elim}
 use Rattle.std.proofs.lemmas.Bool.Decides.{nat_tests, Decides-or, Decides-eqb}
 use Rattle.std.proofs.lemmas.List.{append-nil}
-use Rattle.cbor_edn_parts.specs.Space.{IsBlank, InSlashes, InHash, Each, end, next, IsComment, slashes, hash, IsS, empty, blank, comment}
+use Rattle.cbor_edn_parts.specs.Space.{IsBlank, InSlashes, InHash, Each, end, next, IsComment, slashes, hash, IsSpace, empty, blank, comment}
 use Rattle.cbor_edn_parts.specs.Comments.{BeginsWithComment, EndsWithComment, IsCommentsOf, OneCommentsOf, CutAtComma}
 use Rattle.cbor_edn_parts.specs.internal.CommentReading.{is_blank, past, from_first, unless_last, to_last, comments_of, is_comma, up_to_comma, past_comma, before_comma, after_comma}
 use Rattle.cbor_edn_parts.specs.declared.space.SpaceState.TheVariants as within
@@ -34,15 +34,15 @@ hash_past c h = hash_stays c (⊎_elim (λ e. omega arith) (⊎_elim (λ e. omeg
 
 -- ---- lists of blanks, and space in a row
 
-pub spaces_append : {x y : List ℕ} → IsS x → IsS y → IsS (x ++ y)
+pub spaces_append : {x y : List ℕ} → IsSpace x → IsSpace y → IsSpace (x ++ y)
 spaces_append empty t = t
 spaces_append (blank b s) t = blank b (spaces_append s t)
-spaces_append (comment {b = c} {x = x} k s) t = subst IsS (sym (append_assoc c x _)) (comment k (spaces_append s t))
+spaces_append (comment {b = c} {x = x} k s) t = subst IsSpace (sym (append_assoc c x _)) (comment k (spaces_append s t))
 
-pub comment_space : {c : List ℕ} → IsComment c → IsS c
-comment_space {c} k = subst IsS (append-nil c) (comment k empty)
+pub comment_space : {c : List ℕ} → IsComment c → IsSpace c
+comment_space {c} k = subst IsSpace (append-nil c) (comment k empty)
 
-pub blanks_space : {x : List ℕ} → Each IsBlank x → IsS x
+pub blanks_space : {x : List ℕ} → Each IsBlank x → IsSpace x
 blanks_space end = empty
 blanks_space (next b more) = blank b (blanks_space more)
 
@@ -81,7 +81,7 @@ behind_some [] t some = some
 behind_some (c ∷ x) t some = λ e. cc
 
 -- space in front of what is left
-to_last-space : {x : List ℕ} (y t : List ℕ) → IsS x → t ≢ [] → to_last within.Between y ≡ t → to_last within.Between (x ++ y) ≡ x ++ t
+to_last-space : {x : List ℕ} (y t : List ℕ) → IsSpace x → t ≢ [] → to_last within.Between y ≡ t → to_last within.Between (x ++ y) ≡ x ++ t
 to_last-space y t empty some e = e
 to_last-space y t (blank {c = c} {x = x} b s) some e = to_last-blank c (x ++ y) b ∙ (ap (unless_last true c) (to_last-space y t s some e) ∙ not_last c (x ++ t) (behind_some x t some))
 to_last-space y t (comment {b = c} {x = x} k s) some e = ap (to_last within.Between) (append_assoc c x y) ∙ (to_last-comment (x ++ y) k ∙ (ap (c ++◌) (to_last-space y t s some e) ∙ sym (append_assoc c x t)))
@@ -110,17 +110,17 @@ comment_ended {c} x t k e = record {
   ends = inr (⊎_elim (λ q. ([], c, empty, k, ap (c ++◌) q ∙ append-nil c)) (λ (s, d, is, j, q). (c ++ s, d, comment k is, j, ap (c ++◌) q ∙ sym (append_assoc c s d))) e.ends);
 }
 
-ended : {x : List ℕ} → IsS x → Ended x (to_last within.Between x)
+ended : {x : List ℕ} → IsSpace x → Ended x (to_last within.Between x)
 unfolding to_last
 ended empty = record { back = []; blanks = end; whole = refl; ends = inl refl }
 ended (blank {c = c} {x = x} b s) = subst (Ended (c ∷ x)) (sym (to_last-blank c x b)) (blank_ended c x (to_last within.Between x) b (ended s))
 ended (comment {b = c} {x = x} k s) = subst (Ended (c ++ x)) (sym (to_last-comment x k)) (comment_ended x (to_last within.Between x) k (ended s))
 
-ends_space : {t : List ℕ} → EndsWithComment t → IsS t
-ends_space (s, d, is, k, q) = subst IsS (sym q) (spaces_append is (comment_space k))
+ends_space : {t : List ℕ} → EndsWithComment t → IsSpace t
+ends_space (s, d, is, k, q) = subst IsSpace (sym q) (spaces_append is (comment_space k))
 
-ended_space : (x t : List ℕ) → Ended x t → IsS t
-ended_space x t e = ⊎_elim (λ q. subst IsS (sym q) empty) ends_space e.ends
+ended_space : (x t : List ℕ) → Ended x t → IsSpace t
+ended_space x t e = ⊎_elim (λ q. subst IsSpace (sym q) empty) ends_space e.ends
 
 -- ---- from the first comment
 
@@ -143,7 +143,7 @@ record Begun (x t : List ℕ) : Type 0 where
   whole : x ≡ front ++ t
   begins : (t ≡ []) ⊎ BeginsWithComment t
 
-begun : {x : List ℕ} → IsS x → Begun x (from_first x)
+begun : {x : List ℕ} → IsSpace x → Begun x (from_first x)
 unfolding from_first
 begun empty = record { front = []; blanks = end; whole = refl; begins = inl refl }
 begun (blank {c = c} {x = x} b s) =
@@ -157,7 +157,7 @@ some_comment : {c : List ℕ} (x : List ℕ) → IsComment c → c ++ x ≢ []
 some_comment x (slashes h) = λ e. cc
 some_comment x (hash h) = λ e. cc
 
-with_comment : (x c s t : List ℕ) → IsComment c → IsS s → from_first x ≡ c ++ s → Begun x (from_first x) → IsCommentsOf x (c ++ to_last within.Between s)
+with_comment : (x c s t : List ℕ) → IsComment c → IsSpace s → from_first x ≡ c ++ s → Begun x (from_first x) → IsCommentsOf x (c ++ to_last within.Between s)
 with_comment x c s t k is q b =
     let r : List ℕ = to_last within.Between s in
     let e : Ended (c ++ s) (c ++ r) = comment_ended s r k (ended is) in
@@ -170,7 +170,7 @@ with_comment x c s t k is q b =
       whole = b.whole ∙ ap (b.front ++◌) (q ∙ e.whole);
     }
 
-pub comments_is : {x : List ℕ} → IsS x → IsCommentsOf x (comments_of x)
+pub comments_is : {x : List ℕ} → IsSpace x → IsCommentsOf x (comments_of x)
 unfolding to_last
 comments_is {x} s =
     let b : Begun x (from_first x) = begun s in
@@ -214,7 +214,7 @@ unfolding up_to_comma
 in_front-in_hash y end = refl
 in_front-in_hash y (next {c = c} h more) = rw (hash_past c h) (ap (c ∷◌) (in_front-in_hash y more))
 
-in_front-space : {x : List ℕ} (y : List ℕ) → IsS x → up_to_comma within.Between (x ++ y) ≡ x ++ up_to_comma within.Between y
+in_front-space : {x : List ℕ} (y : List ℕ) → IsSpace x → up_to_comma within.Between (x ++ y) ≡ x ++ up_to_comma within.Between y
 unfolding up_to_comma
 in_front-space y empty = refl
 in_front-space y (blank {c = c} {x = x} b s) = rw (blank_comma c (blank_is c b), blank_past c b) (ap (c ∷◌) (in_front-space y s))
@@ -231,7 +231,7 @@ unfolding past_comma
 behind-in_hash y end = refl
 behind-in_hash y (next {c = c} h more) = rw (hash_past c h) (behind-in_hash y more)
 
-behind-space : {x : List ℕ} (y : List ℕ) → IsS x → past_comma within.Between (x ++ y) ≡ past_comma within.Between y
+behind-space : {x : List ℕ} (y : List ℕ) → IsSpace x → past_comma within.Between (x ++ y) ≡ past_comma within.Between y
 unfolding past_comma
 behind-space y empty = refl
 behind-space y (blank {c = c} {x = x} b s) = rw (blank_comma c (blank_is c b), blank_past c b) (behind-space y s)

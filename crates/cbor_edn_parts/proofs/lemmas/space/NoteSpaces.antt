@@ -5,11 +5,11 @@ use mathlib.Core.Logic.{⊎_elim}
 use Rattle.std.proofs.lemmas.Bool.{cond_both, cases_eq}
 use Rattle.std.proofs.lemmas.Bool.Decides.{nat_tests}
 use Rattle.std.proofs.lemmas.List.Elements.{All-head, All-tail}
-use Rattle.cbor_edn_parts.specs.Space.{IsBlank, IsPrintable, InSlashes, InHash, Each, end, next, slashes, hash, IsS, empty, comment, IsMs, IsSoc, IsMsc, space, comma, comma_first, space_alone, space_comma}
+use Rattle.cbor_edn_parts.specs.Space.{IsBlank, IsPrintable, InSlashes, InHash, Each, end, next, slashes, hash, IsSpace, empty, comment, IsMandatorySpace, IsListEnd, IsSeparator, space, comma, comma_first, space_alone, space_comma}
 use Rattle.cbor_edn_parts.specs.Notes.{cleaned, has_slash, hash_lines, noted}
-use Rattle.cbor_edn_parts.specs.Spacing.{S, MS, MSC, SOC}
+use Rattle.cbor_edn_parts.specs.Spacing.{Optional, Mandatory, Separating, AtEnd}
 use Rattle.cbor_edn_parts.specs.SpacingLaws.{NotesAreSpace, NotesInFront}
-use Rattle.cbor_edn_parts.proofs.lemmas.space.SpaceTexts.{s_texts, ms_texts, soc_texts, msc_texts}
+use Rattle.cbor_edn_parts.proofs.lemmas.space.SpaceTexts.{optional_texts, mandatory_texts, at_end_texts, separating_texts}
 use Rattle.cbor_edn_parts.proofs.lemmas.space.CommentTexts.{spaces_append, comment_space}
 
 -- some notes
@@ -63,9 +63,9 @@ slash_free (b ∷ c) small none =
     let h = both_false (eqb b 47) (has_slash c) none in
     next (cleaned_slash b h.0, cleaned_byte b (All-head (λ b. b < 256) b c small)) (slash_free c (All-tail (λ b. b < 256) b c small) h.1)
 
-between_slashes : (c : List ℕ) → All (λ b. b < 256) c → has_slash c ≡ false → IsS (47 ∷ 32 ∷ (map cleaned c ++ (32 ∷ 47 ∷ [])))
+between_slashes : (c : List ℕ) → All (λ b. b < 256) c → has_slash c ≡ false → IsSpace (47 ∷ 32 ∷ (map cleaned c ++ (32 ∷ 47 ∷ [])))
 between_slashes c small none =
-    subst (λ t. IsS (47 ∷ 32 ∷ t)) (append_assoc (map cleaned c) (32 ∷ []) (47 ∷ []))
+    subst (λ t. IsSpace (47 ∷ 32 ∷ t)) (append_assoc (map cleaned c) (32 ∷ []) (47 ∷ []))
     (comment_space (slashes (next (λ q. omega arith, inl (inr (inr (inr refl)))) (slash_free c small none))))
 
 -- ---- behind hashes
@@ -79,13 +79,13 @@ record Lines (t : List ℕ) : Type 0 where
   front : List ℕ
   back : List ℕ
   within : Each InHash front
-  space : IsS back
+  space : IsSpace back
   whole : t ≡ front ++ (10 ∷ back)
 
 -- behind `# ` they are space
-lines_space : (t : List ℕ) → Lines t → IsS (35 ∷ 32 ∷ t)
+lines_space : (t : List ℕ) → Lines t → IsSpace (35 ∷ 32 ∷ t)
 lines_space t l =
-    subst IsS (ap (λ t. 35 ∷ 32 ∷ t) (append_assoc l.front (10 ∷ []) l.back ∙ sym l.whole)) (comment (hash (next (inr (inr (omega arith, omega arith))) l.within)) l.space)
+    subst IsSpace (ap (λ t. 35 ∷ 32 ∷ t) (append_assoc l.front (10 ∷ []) l.back ∙ sym l.whole)) (comment (hash (next (inr (inr (omega arith, omega arith))) l.within)) l.space)
 
 lines : (c : List ℕ) → Each InNote c → Lines (hash_lines c ++ (10 ∷ []))
 unfolding hash_lines
@@ -97,10 +97,10 @@ lines (b ∷ c) (next h more) =
     (λ no_lf. let is : eqb b 10 ≡ false = grind (arith, nat_tests) in rw is (record { front = b ∷ l.front; back = l.back; within = next (in_hash b h no_lf) l.within; space = l.space; whole = ap (b ∷◌) l.whole }))
     (cases_eq b 10)
 
-note_space : (c : List ℕ) → All (λ b. b < 256) c → IsS (noted c)
+note_space : (c : List ℕ) → All (λ b. b < 256) c → IsSpace (noted c)
 unfolding noted
 note_space c small =
-    cond_both (has_slash c) (35 ∷ 32 ∷ (hash_lines (map cleaned c) ++ (10 ∷ []))) (47 ∷ 32 ∷ (map cleaned c ++ (32 ∷ 47 ∷ []))) IsS
+    cond_both (has_slash c) (35 ∷ 32 ∷ (hash_lines (map cleaned c) ++ (10 ∷ []))) (47 ∷ 32 ∷ (map cleaned c ++ (32 ∷ 47 ∷ []))) IsSpace
     (λ e. lines_space (hash_lines (map cleaned c) ++ (10 ∷ [])) (lines (map cleaned c) (cleaned_bytes c small)))
     (between_slashes c small)
 
@@ -117,17 +117,17 @@ some_front : (x y : List ℕ) → x ≢ [] → x ++ y ≢ []
 some_front [] y some = absurd (some refl)
 some_front (c ∷ x) y some = λ e. cc
 
-soc_front : (x : List ℕ) {y : List ℕ} → IsS x → IsSoc y → IsSoc (x ++ y)
-soc_front x s (space t) = space (spaces_append s t)
-soc_front x s (comma {x = y} {y = z} t r) = subst IsSoc (append_assoc x y (44 ∷ z)) (comma (spaces_append s t) r)
+at_end_front : (x : List ℕ) {y : List ℕ} → IsSpace x → IsListEnd y → IsListEnd (x ++ y)
+at_end_front x s (space t) = space (spaces_append s t)
+at_end_front x s (comma {x = y} {y = z} t r) = subst IsListEnd (append_assoc x y (44 ∷ z)) (comma (spaces_append s t) r)
 
-msc_front : (x : List ℕ) {y : List ℕ} → IsMs x → IsMsc y → IsMsc (x ++ y)
-msc_front x s (comma_first r) = space_comma s r
-msc_front x s (space_alone {x = y} t) = space_alone (spaces_append s.0 t.0, some_front x y s.1)
-msc_front x s (space_comma {x = y} {y = z} t r) = subst IsMsc (append_assoc x y (44 ∷ z)) (space_comma (spaces_append s.0 t.0, some_front x y s.1) r)
+separating_front : (x : List ℕ) {y : List ℕ} → IsMandatorySpace x → IsSeparator y → IsSeparator (x ++ y)
+separating_front x s (comma_first r) = space_comma s r
+separating_front x s (space_alone {x = y} t) = space_alone (spaces_append s.0 t.0, some_front x y s.1)
+separating_front x s (space_comma {x = y} {y = z} t r) = subst IsSeparator (append_assoc x y (44 ∷ z)) (space_comma (spaces_append s.0 t.0, some_front x y s.1) r)
 
 pub notes_in_front : NotesInFront
-notes_in_front S c x small e = (s_texts (noted c ++ x)).0 (spaces_append (note_space c small) ((s_texts x).1 e))
-notes_in_front MS c x small e = (ms_texts (noted c ++ x)).0 (spaces_append (note_space c small) ((ms_texts x).1 e).0, some_front (noted c) x (note_some c))
-notes_in_front MSC c x small e = (msc_texts (noted c ++ x)).0 (msc_front (noted c) (notes_are_space c small) ((msc_texts x).1 e))
-notes_in_front SOC c x small e = (soc_texts (noted c ++ x)).0 (soc_front (noted c) (note_space c small) ((soc_texts x).1 e))
+notes_in_front Optional c x small e = (optional_texts (noted c ++ x)).0 (spaces_append (note_space c small) ((optional_texts x).1 e))
+notes_in_front Mandatory c x small e = (mandatory_texts (noted c ++ x)).0 (spaces_append (note_space c small) ((mandatory_texts x).1 e).0, some_front (noted c) x (note_some c))
+notes_in_front Separating c x small e = (separating_texts (noted c ++ x)).0 (separating_front (noted c) (notes_are_space c small) ((separating_texts x).1 e))
+notes_in_front AtEnd c x small e = (at_end_texts (noted c ++ x)).0 (at_end_front (noted c) (note_space c small) ((at_end_texts x).1 e))

@@ -9,9 +9,9 @@ use Rattle.cbor_edn_parts.specs.Bytes.{Kind, Control, Comma, kind}
 use Rattle.cbor_edn_parts.specs.internal.CommentReading.{is_blank}
 use Rattle.cbor_edn_parts.specs.internal.Lex.{Accepts, Is}
 use Rattle.cbor_edn_parts.specs.Space as set
-use Rattle.cbor_edn_parts.specs.Space.{IsBlank, IsPrintable, Each, end, next, slashes, hash, IsS, empty, blank, comment, IsMs, IsSoc, IsMsc, space, comma, comma_first, space_alone, space_comma}
+use Rattle.cbor_edn_parts.specs.Space.{IsBlank, IsPrintable, Each, end, next, slashes, hash, IsSpace, empty, blank, comment, IsMandatorySpace, IsListEnd, IsSeparator, space, comma, comma_first, space_alone, space_comma}
 use Rattle.cbor_edn_parts.specs.internal.SpaceTokens as tokens
-use Rattle.cbor_edn_parts.specs.internal.SpaceTokens.{space_step, separator_step, before, after, is_empty, is_s, is_ms, is_soc, is_msc}
+use Rattle.cbor_edn_parts.specs.internal.SpaceTokens.{space_step, separator_step, before, after, is_empty, is_space, is_mandatory_space, is_list_end, is_separator}
 use Rattle.cbor_edn_parts.specs.declared.space.SpaceState.{SpaceState}
 use Rattle.cbor_edn_parts.specs.declared.space.SpaceState.TheVariants.{Between, InSlashes, InHash}
 use Rattle.cbor_edn_parts.specs.internal.SpaceTokens.{SeparatorState}
@@ -147,7 +147,7 @@ in_hash : {x : List ℕ} (t : List ℕ) → Each set.InHash x → Accepts tokens
 in_hash t end a = (Between, step-to InHash Between 10 refl, a)
 in_hash t (next {c = c} h more) a = (InHash, step-to InHash InHash c h, in_hash t more a)
 
-pub s-is : {t : List ℕ} → IsS t → Is tokens.space t
+pub s-is : {t : List ℕ} → IsSpace t → Is tokens.space t
 s-is empty = refl
 s-is (blank {c = c} b s) = (Between, step-to Between Between c b, s-is s)
 s-is (comment {x = x} (slashes e) s) = (InSlashes, step-to Between InSlashes 47 refl, in_slashes x e (s-is s))
@@ -155,14 +155,14 @@ s-is (comment {x = x} (hash e) s) = (InHash, step-to Between InHash 35 refl, in_
 
 -- What is left of a text in a state.
 abbrev Left : SpaceState → List ℕ → Type 0
-Left Between t = IsS t
-Left InSlashes t = (x : List ℕ) × (y : List ℕ) × Each set.InSlashes x × IsS y × (t ≡ (x ++ (47 ∷ [])) ++ y)
-Left InHash t = (x : List ℕ) × (y : List ℕ) × Each set.InHash x × IsS y × (t ≡ (x ++ (10 ∷ [])) ++ y)
+Left Between t = IsSpace t
+Left InSlashes t = (x : List ℕ) × (y : List ℕ) × Each set.InSlashes x × IsSpace y × (t ≡ (x ++ (47 ∷ [])) ++ y)
+Left InHash t = (x : List ℕ) × (y : List ℕ) × Each set.InHash x × IsSpace y × (t ≡ (x ++ (10 ∷ [])) ++ y)
 
 left : (m n : SpaceState) (c : ℕ) (t : List ℕ) → Moves m n c → Left n t → Left m (c ∷ t)
 left Between Between c t b s = blank b s
-left Between InSlashes c t e (x, y, h, s, q) = subst IsS (cc (e, q)) (comment (slashes h) s)
-left Between InHash c t e (x, y, h, s, q) = subst IsS (cc (e, q)) (comment (hash h) s)
+left Between InSlashes c t e (x, y, h, s, q) = subst IsSpace (cc (e, q)) (comment (slashes h) s)
+left Between InHash c t e (x, y, h, s, q) = subst IsSpace (cc (e, q)) (comment (hash h) s)
 left InSlashes InSlashes c t b (x, y, h, s, q) = (c ∷ x, y, next b h, s, ap (c ∷◌) q)
 left InSlashes Between c t e s = ([], t, end, s, ap (◌∷ t) e)
 left InSlashes InHash c t e l = absurd e
@@ -176,7 +176,7 @@ from InSlashes [] a = absurd (false≢true a)
 from InHash [] a = absurd (false≢true a)
 from m (c ∷ t) a = left m a.0 c t (step-from m a.0 c a.1) (from a.0 t a.2)
 
-pub s-from : (t : List ℕ) → Is tokens.space t → IsS t
+pub s-from : (t : List ℕ) → Is tokens.space t → IsSpace t
 s-from t a = from Between t a
 
 -- A separator before its comma, and behind it.
@@ -228,9 +228,9 @@ before-comma InSlashes [] y a b = absurd (false≢true a)
 before-comma InHash [] y a b = absurd (false≢true a)
 before-comma m (c ∷ x) y a b = (Before a.0, front_space (kind c) m a.0 a.1, before-comma a.0 x y a.2 b)
 
-pub soc-is : {t : List ℕ} → IsSoc t → Is tokens.separator t
-soc-is (space {x = x} s) = before-space Between x (s-is s)
-soc-is (comma {x = x} {y = y} s r) = before-comma Between x y (s-is s) (s-is r)
+pub list_end-is : {t : List ℕ} → IsListEnd t → Is tokens.separator t
+list_end-is (space {x = x} s) = before-space Between x (s-is s)
+list_end-is (comma {x = x} {y = y} s r) = before-comma Between x y (s-is s) (s-is r)
 
 -- space alone, or space, a comma and space
 abbrev Split : SpaceState → List ℕ → Type 0
@@ -251,11 +251,11 @@ before-from m (c ∷ t) a =
     (λ (i, to, e). split_space m i c t e (before-from i t (subst (λ n. Accepts tokens.separator n t) to a.2)))
     (front_step (kind c) m a.0 a.1)
 
-pub soc-from : (t : List ℕ) → Is tokens.separator t → IsSoc t
-soc-from t a =
+pub list_end-from : (t : List ℕ) → Is tokens.separator t → IsListEnd t
+list_end-from t a =
     ⊎_elim
     (λ s. space (s-from t s))
-    (λ (x, y, s, r, q). subst IsSoc (sym q) (comma (s-from x s) (s-from y r)))
+    (λ (x, y, s, r, q). subst IsListEnd (sym q) (comma (s-from x s) (s-from y r)))
     (before-from Between t a)
 
 -- A separator is the end of a list that is not empty.
@@ -263,25 +263,25 @@ behind : (x y : List ℕ) → x ++ (44 ∷ y) ≢ []
 behind [] y = λ e. cc
 behind (c ∷ x) y = λ e. cc
 
-msc-soc : {t : List ℕ} → IsMsc t → IsSoc t × (t ≢ [])
-msc-soc (comma_first {y = y} s) = (comma empty s, behind [] y)
-msc-soc (space_alone s) = (space s.0, s.1)
-msc-soc (space_comma {x = x} {y = y} s r) = (comma s.0 r, behind x y)
+separator-list_end : {t : List ℕ} → IsSeparator t → IsListEnd t × (t ≢ [])
+separator-list_end (comma_first {y = y} s) = (comma empty s, behind [] y)
+separator-list_end (space_alone s) = (space s.0, s.1)
+separator-list_end (space_comma {x = x} {y = y} s r) = (comma s.0 r, behind x y)
 
-msc_comma : (x y : List ℕ) → IsS x → IsS y → IsMsc (x ++ (44 ∷ y))
-msc_comma [] y s r = comma_first r
-msc_comma (c ∷ x) y s r = space_comma (s, λ e. cc) r
+separating_comma : (x y : List ℕ) → IsSpace x → IsSpace y → IsSeparator (x ++ (44 ∷ y))
+separating_comma [] y s r = comma_first r
+separating_comma (c ∷ x) y s r = space_comma (s, λ e. cc) r
 
-soc-msc : {t : List ℕ} → IsSoc t → t ≢ [] → IsMsc t
-soc-msc (space s) some = space_alone (s, some)
-soc-msc (comma {x = x} {y = y} s r) some = msc_comma x y s r
+list_end-separator : {t : List ℕ} → IsListEnd t → t ≢ [] → IsSeparator t
+list_end-separator (space s) some = space_alone (s, some)
+list_end-separator (comma {x = x} {y = y} s r) some = separating_comma x y s r
 
 -- The tests say the same.
-pub s_texts : (t : List ℕ) → (IsS t → is_s t ≡ true) × (is_s t ≡ true → IsS t)
-s_texts t = (λ s. (token_texts tokens.space t).0 (s-is s), λ e. s-from t ((token_texts tokens.space t).1 e))
+pub optional_texts : (t : List ℕ) → (IsSpace t → is_space t ≡ true) × (is_space t ≡ true → IsSpace t)
+optional_texts t = (λ s. (token_texts tokens.space t).0 (s-is s), λ e. s-from t ((token_texts tokens.space t).1 e))
 
-pub soc_texts : (t : List ℕ) → (IsSoc t → is_soc t ≡ true) × (is_soc t ≡ true → IsSoc t)
-soc_texts t = (λ s. (token_texts tokens.separator t).0 (soc-is s), λ e. soc-from t ((token_texts tokens.separator t).1 e))
+pub at_end_texts : (t : List ℕ) → (IsListEnd t → is_list_end t ≡ true) × (is_list_end t ≡ true → IsListEnd t)
+at_end_texts t = (λ s. (token_texts tokens.separator t).0 (list_end-is s), λ e. list_end-from t ((token_texts tokens.separator t).1 e))
 
 is_some : (t : List ℕ) → t ≢ [] → not (is_empty t) ≡ true
 is_some [] some = absurd (some refl)
@@ -291,14 +291,14 @@ some_is : (t : List ℕ) → not (is_empty t) ≡ true → t ≢ []
 some_is [] e = absurd (false≢true e)
 some_is (c ∷ t) e = λ q. cc
 
-pub ms_texts : (t : List ℕ) → (IsMs t → is_ms t ≡ true) × (is_ms t ≡ true → IsMs t)
-ms_texts t = (
-  λ s. and_from (not (is_empty t)) (is_s t) (is_some t s.1) ((s_texts t).0 s.0),
-  λ e. let h = and_parts (not (is_empty t)) (is_s t) e in ((s_texts t).1 h.1, some_is t h.0),
+pub mandatory_texts : (t : List ℕ) → (IsMandatorySpace t → is_mandatory_space t ≡ true) × (is_mandatory_space t ≡ true → IsMandatorySpace t)
+mandatory_texts t = (
+  λ s. and_from (not (is_empty t)) (is_space t) (is_some t s.1) ((optional_texts t).0 s.0),
+  λ e. let h = and_parts (not (is_empty t)) (is_space t) e in ((optional_texts t).1 h.1, some_is t h.0),
 )
 
-pub msc_texts : (t : List ℕ) → (IsMsc t → is_msc t ≡ true) × (is_msc t ≡ true → IsMsc t)
-msc_texts t = (
-  λ s. let h = msc-soc s in and_from (not (is_empty t)) (is_soc t) (is_some t h.1) ((soc_texts t).0 h.0),
-  λ e. let h = and_parts (not (is_empty t)) (is_soc t) e in soc-msc ((soc_texts t).1 h.1) (some_is t h.0),
+pub separating_texts : (t : List ℕ) → (IsSeparator t → is_separator t ≡ true) × (is_separator t ≡ true → IsSeparator t)
+separating_texts t = (
+  λ s. let h = separator-list_end s in and_from (not (is_empty t)) (is_list_end t) (is_some t h.1) ((at_end_texts t).0 h.0),
+  λ e. let h = and_parts (not (is_empty t)) (is_list_end t) e in list_end-separator ((at_end_texts t).1 h.1) (some_is t h.0),
 )

@@ -1,6 +1,6 @@
 use Rattle.std.proofs.Common.{◌≡◌, ◌<◌, true, Some, None, subst, arith}
 use Rattle.cbor_edn_parts.specs.internal.Scans.{IsRead}
-use Rattle.cbor_edn_parts.specs.internal.Text.{text_bytes}
+use Rattle.cbor_edn_parts.specs.internal.Input.{text_bytes}
 use Rattle.cbor_edn_parts.proofs.lemmas.scan.ScanLoops.{begun, onward, over, over_read}
 use Rattle.cbor_edn_parts.proofs.scan.run.Goals as goal
 

@@ -8,16 +8,16 @@ use Rattle.cbor_edn_model.proofs.lemmas.cbor.CborStrings.{missing, invalid, lite
 use Rattle.cbor_edn_stream.proofs.print.read_literal.Goals as goal
 use Rattle.cbor_edn_stream.proofs.print.read_literal.Goals.{in-Bytes+in_ok-literal-in-Bytes, in-Text+in-Ok+in_ok-literal-in-Ok}
 
-pub returns-then-bytes-count-clause-exact : goal.returns-then-bytes-count-clause-exact
-returns-then-bytes-count-clause-exact c = ap (shown (kind_literal c.args.kind)) (missing c.args.kind c.args.count c.args.bytes.now c.if-bytes-count.true)
+pub returns-then-bytes-count-clause-value : goal.returns-then-bytes-count-clause-value
+returns-then-bytes-count-clause-value c = ap (shown (kind_literal c.args.kind)) (missing c.args.kind c.args.count c.args.bytes.now c.if-bytes-count.true)
 
-pub returns-in-Err-clause-exact : goal.returns-in-Err-clause-exact
-returns-in-Err-clause-exact c =
+pub returns-in-Err-clause-value : goal.returns-in-Err-clause-value
+returns-in-Err-clause-value c =
     let none : is_utf8 (take c.args.count c.args.bytes.now) ≡ false = ap is_utf8 (sym c.split_at.ensures.front) ∙ not_utf8 c.split_at.result.0.now c.in-Err.ensures.cases.0 in
     rw c.in-Text.is (ap (shown (kind_literal Text)) (invalid Text c.args.count c.args.bytes.now c.if-bytes-count.false none))
 
-pub returns-clause-exact : goal.returns-clause-exact
-returns-clause-exact c =
+pub returns-clause-value : goal.returns-clause-value
+returns-clause-value c =
     elim c.match-kind.branch [
       | in-Bytes+in_ok-literal-in-Bytes w ↦ rw (w.literal-is, w.in-Bytes.is) (literal_read Bytes c.args.count c.args.bytes.now c.split_at.result.0.now c.split_at.result.1.now _ c.if-bytes-count.false c.split_at.ensures.front c.split_at.ensures.back refl w.in_ok-literal-in-Bytes.ensures)
       | in-Text+in-Ok+in_ok-literal-in-Ok w ↦ rw (w.literal-is, w.in-Text.is) (literal_read Text c.args.count c.args.bytes.now c.split_at.result.0.now c.split_at.result.1.now _ c.if-bytes-count.false c.split_at.ensures.front c.split_at.ensures.back

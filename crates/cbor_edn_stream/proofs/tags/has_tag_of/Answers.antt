@@ -15,9 +15,9 @@ pub returns-in-Err-Told : goal.returns-in-Err-Told
 returns-in-Err-Told c = λ vs enc.
     sym (met_at_end c.args.numbers.now c.heads.rest.now (values_have_tag c.args.numbers.now vs) c.in-Err-Told.field-0-0
     (c.heads.invariant.met (values_have_tag c.args.numbers.now vs) (sequence_met c.args.numbers.now c.args.bytes.now vs enc))
-    (fault_told c.in-Err-Told.field-0 c.in-Err-Told.field-0-0 (head_at c.heads.rest.now) c.in-Err-Told.field-0-is c.in-Err-Told.ensures.exact))
+    (fault_told c.in-Err-Told.field-0 c.in-Err-Told.field-0-0 (head_at c.heads.rest.now) c.in-Err-Told.field-0-is c.in-Err-Told.ensures.value))
 
 pub returns-then-is_head_of : goal.returns-then-is_head_of
 returns-then-is_head_of c = λ vs enc.
-    sym (met_here c.args.numbers.now c.heads.rest.now c.in-Ok.read.1.now (values_have_tag c.args.numbers.now vs) c.in-Ok.read.0.0 c.in-Ok.read.0.1 c.in-Ok.ensures.exact (sym c.is_head_of.ensures ∙ c.if-is_head_of.true)
+    sym (met_here c.args.numbers.now c.heads.rest.now c.in-Ok.read.1.now (values_have_tag c.args.numbers.now vs) c.in-Ok.read.0.0 c.in-Ok.read.0.1 c.in-Ok.ensures.value (sym c.is_head_of.ensures ∙ c.if-is_head_of.true)
     (c.heads.invariant.met (values_have_tag c.args.numbers.now vs) (sequence_met c.args.numbers.now c.args.bytes.now vs enc)))

@@ -7,8 +7,8 @@ use Rattle.cbor_edn_conversions.specs.CoseKeys.{value_of}
 use Rattle.cbor_edn_application.proofs.cose.keys.type_item.Given as goal
 
 -- what is looked for stands in what is left
-abbrev pub invariant-loop-label : goal.invariant-loop-label
-invariant-loop-label l =
-    (goal.iterator-loop-label).can_next l.label-iterator
-    × (goal.iterator-loop-label).is_finite l.label-iterator
-    × (value_of (pos 1) (map both_trees (pairs_left l.label-iterator)) ≡ option_and_then (value_of (pos 1)) (map_items (item_tree l.fn.key)))
+abbrev pub invariant-loop-opener : goal.invariant-loop-opener
+invariant-loop-opener l =
+    (goal.iterator-loop-opener).can_next l.opener-iterator
+    × (goal.iterator-loop-opener).is_finite l.opener-iterator
+    × (value_of (pos 1) (map both_trees (pairs_left l.opener-iterator)) ≡ option_and_then (value_of (pos 1)) (map_items (item_tree l.fn.key)))

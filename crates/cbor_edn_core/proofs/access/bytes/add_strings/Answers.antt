@@ -1,7 +1,7 @@
 use Rattle.std.proofs.Common.{ℕ, ◌+◌, List, Option, map, drop, subst, arith}
 use Rattle.std.proofs.lemmas.List.{drop_all}
 use Rattle.std.proofs.lemmas.Result.{err_from_is_err_and}
-use Rattle.cbor_edn_parts.specs.Leaves.{soc_bytes}
+use Rattle.cbor_edn_parts.specs.Leaves.{list_end_bytes}
 use Rattle.cbor_edn_core.specs.tree.View.{seen_string, view_string}
 use Rattle.cbor_edn_core.specs.declared.access.TypeMismatch.TheVariants.{Bytes}
 use Rattle.cbor_edn_core.specs.declared.tree.StringsOf.{out-StringsOf}
@@ -28,7 +28,7 @@ returns-in_err-add_string c =
     let strings = out-StringsOf _ _ _ _ _ _ _ c.args.strings.now in
     let last = pieces_bytes (view_string texts strings.last) in
     let p = err_from_is_err_and c.from_residual.result c.from_residual.ensures.1 in
-    rw (p.1, p.2, view_strings_is texts c.args.strings.now, strings_made (map (seen_string texts) strings.row.items) (ChunkTree (view_string texts strings.last)) (soc_bytes strings.soc), ← c.deref-string-items.ensures.value)
+    rw (p.1, p.2, view_strings_is texts c.args.strings.now, strings_made (map (seen_string texts) strings.row.items) (ChunkTree (view_string texts strings.last)) (list_end_bytes strings.end), ← c.deref-string-items.ensures.value)
     (next_stops Bytes bytes last (seen_string texts x) (map (seen_string texts) (drop (i + 1) row)) (map (seen_string texts) row) c.args.out.now.items c.loop-string.out.items c.add_string.new.out.items c.in_err-add_string.field-0.0 c.in_err-add_string.ensures
     (subst (λ left. AddsLeft Bytes bytes last left (map (seen_string texts) row) c.loop-string.out.items c.args.out.now.items) (rest_at (seen_string texts) row i x c.loop-string-test.true c.loop-string-item.is) c.loop-string.invariant))
 
@@ -46,6 +46,6 @@ returns c =
     let row = c.deref-string-items.result.now in
     let strings = out-StringsOf _ _ _ _ _ _ _ c.args.strings.now in
     let last = pieces_bytes (view_string texts strings.last) in
-    rw (view_strings_is texts c.args.strings.now, strings_made (map (seen_string texts) strings.row.items) (ChunkTree (view_string texts strings.last)) (soc_bytes strings.soc), ← c.deref-string-items.ensures.value)
+    rw (view_strings_is texts c.args.strings.now, strings_made (map (seen_string texts) strings.row.items) (ChunkTree (view_string texts strings.last)) (list_end_bytes strings.end), ← c.deref-string-items.ensures.value)
     (last_added Bytes bytes last (map (seen_string texts) row) c.args.out.now.items c.loop-string.out.items c.add_string-2.new.out.items c.add_string-2.result c.add_string-2.ensures
     (subst (λ left. AddsLeft Bytes bytes last (map (seen_string texts) left) (map (seen_string texts) row) c.loop-string.out.items c.args.out.now.items) (drop_all c.loop-string.string-index row (omega arith)) c.loop-string.invariant))

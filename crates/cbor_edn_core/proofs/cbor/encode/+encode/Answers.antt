@@ -9,7 +9,7 @@ use Rattle.cbor_edn_model.specs.tree.TreeLeaves.{texts}
 use Rattle.cbor_edn_model.proofs.lemmas.cbor.CborEncodes.{empty_encoded, full_encoded, full_stops, full_unfit, row_then_last, row_stops, element_encoded, pair_encoded, pair_stops, next_pushed, next_stops, all_pushed, rest_at, tag_pushed, tag_stops, PushesRest}
 use Rattle.std.proofs.lemmas.Result.{err_from_is_err_and}
 use Rattle.std.proofs.lemmas.List.{drop_all, length-map}
-use Rattle.cbor_edn_parts.specs.Leaves.{s_bytes, soc_bytes}
+use Rattle.cbor_edn_parts.specs.Leaves.{space_bytes, list_end_bytes}
 use Rattle.cbor_edn_core.specs.declared.tree.ItemsOf.{out-ItemsOf}
 use Rattle.cbor_edn_core.specs.declared.tree.PairsOf.{out-PairsOf}
 use Rattle.cbor_edn_core.specs.declared.tree.SequenceOf.{out-SequenceOf}
@@ -29,7 +29,7 @@ pub encode_items-returns : goal.encode_items-returns
 encode_items-returns t c =
     let items = out-ItemsOf _ _ _ _ _ _ _ c.args.items.now in
     rw (view_items_is texts c.args.items.now)
-    (row_then_last Elements (map (seen texts) items.row.items) (ElementTree (item_tree items.last)) (soc_bytes items.soc) c.args.out.now.items c.encode_row.new.out.items c.encode_item.new.out.items c.encode_item.result
+    (row_then_last Elements (map (seen texts) items.row.items) (ElementTree (item_tree items.last)) (list_end_bytes items.end) c.args.out.now.items c.encode_row.new.out.items c.encode_item.new.out.items c.encode_item.result
     (rw (← c.deref.ensures.value) c.in_ok-encode_row.ensures) (element_encoded (item_tree items.last) _ _ _ c.encode_item.ensures))
 
 pub encode_pairs-returns-in_err-encode_pair_row : goal.encode_pairs-returns-in_err-encode_pair_row
@@ -42,7 +42,7 @@ pub encode_pairs-returns : goal.encode_pairs-returns
 encode_pairs-returns t c =
     let pairs = out-PairsOf _ _ _ _ _ _ _ c.args.pairs.now in
     rw (view_pairs_is texts c.args.pairs.now)
-    (row_then_last Pairs (map (seen_pair texts) pairs.row.items) (view_pair texts pairs.last) (soc_bytes pairs.soc) c.args.out.now.items c.encode_pair_row.new.out.items c.encode_pair.new.out.items c.encode_pair.result
+    (row_then_last Pairs (map (seen_pair texts) pairs.row.items) (view_pair texts pairs.last) (list_end_bytes pairs.end) c.args.out.now.items c.encode_pair_row.new.out.items c.encode_pair.new.out.items c.encode_pair.result
     (rw (← c.deref.ensures.value) c.in_ok-encode_pair_row.ensures) c.encode_pair.ensures)
 
 pub encode_row-returns-in_err-encode_item : goal.encode_row-returns-in_err-encode_item
@@ -92,91 +92,91 @@ encode_pair_row-returns t c =
     (subst (λ left. PushesRest (map (seen_pair texts) left) (map (seen_pair texts) row) c.loop-pair.out.items c.args.out.now.items) (drop_all c.loop-pair.pair-index row (omega arith)) c.loop-pair.invariant)
 
 pub encode_array-returns-in-Absent : goal.encode_array-returns-in-Absent
-encode_array-returns-in-Absent t c = rw c.in-Absent.is (empty_encoded Array c.in-Absent.indicator (s_bytes c.in-Absent.s) c.args.out.now.items c.encode_empty.new.out.items c.encode_empty.result c.encode_empty.ensures)
+encode_array-returns-in-Absent t c = rw c.in-Absent.is (empty_encoded Array c.in-Absent.indicator (space_bytes c.in-Absent.space) c.args.out.now.items c.encode_empty.new.out.items c.encode_empty.result c.encode_empty.ensures)
 
 pub encode_array-returns-in_err-width-in-Present : goal.encode_array-returns-in_err-width-in-Present
 encode_array-returns-in_err-width-in-Present t c =
     let row = (out-ItemsOf _ _ _ _ _ _ _ c.in-Present.items).row in
     let last = (out-ItemsOf _ _ _ _ _ _ _ c.in-Present.items).last in
-    let soc = (out-ItemsOf _ _ _ _ _ _ _ c.in-Present.items).soc in
+    let list_end = (out-ItemsOf _ _ _ _ _ _ _ c.in-Present.items).end in
     let n = c.len.result + 1 in
     let count : n ≡ length (map (seen texts) row.items) + 1 = simp length-map (ap (λ k. k + 1) (c.len.ensures ∙ row.ok.0)) in
     let f = c.in_err-width-in-Present.field-0.0 in
     let p = err_from_is_err_and c.from_residual.result c.from_residual.ensures.1 in
     let found : Finds (length_of (head_indicator (view_list_head texts c.in-Present.head)) n) (Err f) = subst (λ i. Finds (length_of i n) (Err f)) c.indicator_of_head.ensures c.in_err-width-in-Present.ensures in
-    rw (c.in-Present.is, p.1, p.2) (full_unfit Array (view_list_head texts c.in-Present.head) (s_bytes c.in-Present.s) (view_items texts c.in-Present.items) (map (seen texts) row.items) (ElementTree (item_tree last)) (soc_bytes soc) (view_items_is texts c.in-Present.items) n count c.args.out.now.items c.args.out.now.items f found)
+    rw (c.in-Present.is, p.1, p.2) (full_unfit Array (view_list_head texts c.in-Present.head) (space_bytes c.in-Present.space) (view_items texts c.in-Present.items) (map (seen texts) row.items) (ElementTree (item_tree last)) (list_end_bytes list_end) (view_items_is texts c.in-Present.items) n count c.args.out.now.items c.args.out.now.items f found)
 
 pub encode_array-returns-in_err-encode_items-in-Present : goal.encode_array-returns-in_err-encode_items-in-Present
 encode_array-returns-in_err-encode_items-in-Present t c =
     let row = (out-ItemsOf _ _ _ _ _ _ _ c.in-Present.items).row in
     let last = (out-ItemsOf _ _ _ _ _ _ _ c.in-Present.items).last in
-    let soc = (out-ItemsOf _ _ _ _ _ _ _ c.in-Present.items).soc in
+    let list_end = (out-ItemsOf _ _ _ _ _ _ _ c.in-Present.items).end in
     let n = c.len.result + 1 in
     let count : n ≡ length (map (seen texts) row.items) + 1 = simp length-map (ap (λ k. k + 1) (c.len.ensures ∙ row.ok.0)) in
     let p = err_from_is_err_and c.from_residual-in_err-encode_items-in-Present.result c.from_residual-in_err-encode_items-in-Present.ensures.1 in
     rw (c.in-Present.is, p.1, p.2)
-    (full_stops Array (view_list_head texts c.in-Present.head) (s_bytes c.in-Present.s) (view_items texts c.in-Present.items) (map (seen texts) row.items) (ElementTree (item_tree last)) (soc_bytes soc) (view_items_is texts c.in-Present.items) n count c.args.out.now.items c.encode_list_head.new.out.items c.encode_items.new.out.items c.encode_items.new.out.items c.in_err-encode_items-in-Present.field-0.0 c.in_err-encode_items-in-Present.ensures)
+    (full_stops Array (view_list_head texts c.in-Present.head) (space_bytes c.in-Present.space) (view_items texts c.in-Present.items) (map (seen texts) row.items) (ElementTree (item_tree last)) (list_end_bytes list_end) (view_items_is texts c.in-Present.items) n count c.args.out.now.items c.encode_list_head.new.out.items c.encode_items.new.out.items c.encode_items.new.out.items c.in_err-encode_items-in-Present.field-0.0 c.in_err-encode_items-in-Present.ensures)
 
 pub encode_array-returns-in_ok-encode_list_end-in-Present : goal.encode_array-returns-in_ok-encode_list_end-in-Present
 encode_array-returns-in_ok-encode_list_end-in-Present t c =
     let row = (out-ItemsOf _ _ _ _ _ _ _ c.in-Present.items).row in
     let last = (out-ItemsOf _ _ _ _ _ _ _ c.in-Present.items).last in
-    let soc = (out-ItemsOf _ _ _ _ _ _ _ c.in-Present.items).soc in
+    let list_end = (out-ItemsOf _ _ _ _ _ _ _ c.in-Present.items).end in
     let n = c.len.result + 1 in
     let count : n ≡ length (map (seen texts) row.items) + 1 = simp length-map (ap (λ k. k + 1) (c.len.ensures ∙ row.ok.0)) in
     let v = c.in_ok-width-in-Present.width in
     let width : length_of (head_indicator (view_list_head texts c.in-Present.head)) n ≡ Some v = subst (λ i. length_of i n ≡ Some v) c.indicator_of_head.ensures c.in_ok-width-in-Present.ensures in
     rw c.in-Present.is
-    (full_encoded Array (view_list_head texts c.in-Present.head) (s_bytes c.in-Present.s) (view_items texts c.in-Present.items) (map (seen texts) row.items) (ElementTree (item_tree last)) (soc_bytes soc) (view_items_is texts c.in-Present.items) n count v c.args.out.now.items c.encode_list_head.new.out.items c.encode_items.new.out.items c.encode_list_end.new.out.items width c.in_ok-encode_list_head-in-Present.ensures c.in_ok-encode_items-in-Present.ensures c.in_ok-encode_list_end-in-Present.ensures)
+    (full_encoded Array (view_list_head texts c.in-Present.head) (space_bytes c.in-Present.space) (view_items texts c.in-Present.items) (map (seen texts) row.items) (ElementTree (item_tree last)) (list_end_bytes list_end) (view_items_is texts c.in-Present.items) n count v c.args.out.now.items c.encode_list_head.new.out.items c.encode_items.new.out.items c.encode_list_end.new.out.items width c.in_ok-encode_list_head-in-Present.ensures c.in_ok-encode_items-in-Present.ensures c.in_ok-encode_list_end-in-Present.ensures)
 
 pub encode_map-returns-in-Absent : goal.encode_map-returns-in-Absent
-encode_map-returns-in-Absent t c = rw c.in-Absent.is (empty_encoded Map c.in-Absent.indicator (s_bytes c.in-Absent.s) c.args.out.now.items c.encode_empty.new.out.items c.encode_empty.result c.encode_empty.ensures)
+encode_map-returns-in-Absent t c = rw c.in-Absent.is (empty_encoded Map c.in-Absent.indicator (space_bytes c.in-Absent.space) c.args.out.now.items c.encode_empty.new.out.items c.encode_empty.result c.encode_empty.ensures)
 
 pub encode_map-returns-in_err-width-in-Present : goal.encode_map-returns-in_err-width-in-Present
 encode_map-returns-in_err-width-in-Present t c =
     let row = (out-PairsOf _ _ _ _ _ _ _ c.in-Present.pairs).row in
     let last = (out-PairsOf _ _ _ _ _ _ _ c.in-Present.pairs).last in
-    let soc = (out-PairsOf _ _ _ _ _ _ _ c.in-Present.pairs).soc in
+    let list_end = (out-PairsOf _ _ _ _ _ _ _ c.in-Present.pairs).end in
     let n = c.len.result + 1 in
     let count : n ≡ length (map (seen_pair texts) row.items) + 1 = simp length-map (ap (λ k. k + 1) (c.len.ensures ∙ row.ok.0)) in
     let f = c.in_err-width-in-Present.field-0.0 in
     let p = err_from_is_err_and c.from_residual.result c.from_residual.ensures.1 in
     let found : Finds (length_of (head_indicator (view_list_head texts c.in-Present.head)) n) (Err f) = subst (λ i. Finds (length_of i n) (Err f)) c.indicator_of_head.ensures c.in_err-width-in-Present.ensures in
-    rw (c.in-Present.is, p.1, p.2) (full_unfit Map (view_list_head texts c.in-Present.head) (s_bytes c.in-Present.s) (view_pairs texts c.in-Present.pairs) (map (seen_pair texts) row.items) (view_pair texts last) (soc_bytes soc) (view_pairs_is texts c.in-Present.pairs) n count c.args.out.now.items c.args.out.now.items f found)
+    rw (c.in-Present.is, p.1, p.2) (full_unfit Map (view_list_head texts c.in-Present.head) (space_bytes c.in-Present.space) (view_pairs texts c.in-Present.pairs) (map (seen_pair texts) row.items) (view_pair texts last) (list_end_bytes list_end) (view_pairs_is texts c.in-Present.pairs) n count c.args.out.now.items c.args.out.now.items f found)
 
 pub encode_map-returns-in_err-encode_pairs-in-Present : goal.encode_map-returns-in_err-encode_pairs-in-Present
 encode_map-returns-in_err-encode_pairs-in-Present t c =
     let row = (out-PairsOf _ _ _ _ _ _ _ c.in-Present.pairs).row in
     let last = (out-PairsOf _ _ _ _ _ _ _ c.in-Present.pairs).last in
-    let soc = (out-PairsOf _ _ _ _ _ _ _ c.in-Present.pairs).soc in
+    let list_end = (out-PairsOf _ _ _ _ _ _ _ c.in-Present.pairs).end in
     let n = c.len.result + 1 in
     let count : n ≡ length (map (seen_pair texts) row.items) + 1 = simp length-map (ap (λ k. k + 1) (c.len.ensures ∙ row.ok.0)) in
     let p = err_from_is_err_and c.from_residual-in_err-encode_pairs-in-Present.result c.from_residual-in_err-encode_pairs-in-Present.ensures.1 in
     rw (c.in-Present.is, p.1, p.2)
-    (full_stops Map (view_list_head texts c.in-Present.head) (s_bytes c.in-Present.s) (view_pairs texts c.in-Present.pairs) (map (seen_pair texts) row.items) (view_pair texts last) (soc_bytes soc) (view_pairs_is texts c.in-Present.pairs) n count c.args.out.now.items c.encode_list_head.new.out.items c.encode_pairs.new.out.items c.encode_pairs.new.out.items c.in_err-encode_pairs-in-Present.field-0.0 c.in_err-encode_pairs-in-Present.ensures)
+    (full_stops Map (view_list_head texts c.in-Present.head) (space_bytes c.in-Present.space) (view_pairs texts c.in-Present.pairs) (map (seen_pair texts) row.items) (view_pair texts last) (list_end_bytes list_end) (view_pairs_is texts c.in-Present.pairs) n count c.args.out.now.items c.encode_list_head.new.out.items c.encode_pairs.new.out.items c.encode_pairs.new.out.items c.in_err-encode_pairs-in-Present.field-0.0 c.in_err-encode_pairs-in-Present.ensures)
 
 pub encode_map-returns-in_ok-encode_list_end-in-Present : goal.encode_map-returns-in_ok-encode_list_end-in-Present
 encode_map-returns-in_ok-encode_list_end-in-Present t c =
     let row = (out-PairsOf _ _ _ _ _ _ _ c.in-Present.pairs).row in
     let last = (out-PairsOf _ _ _ _ _ _ _ c.in-Present.pairs).last in
-    let soc = (out-PairsOf _ _ _ _ _ _ _ c.in-Present.pairs).soc in
+    let list_end = (out-PairsOf _ _ _ _ _ _ _ c.in-Present.pairs).end in
     let n = c.len.result + 1 in
     let count : n ≡ length (map (seen_pair texts) row.items) + 1 = simp length-map (ap (λ k. k + 1) (c.len.ensures ∙ row.ok.0)) in
     let v = c.in_ok-width-in-Present.width in
     let width : length_of (head_indicator (view_list_head texts c.in-Present.head)) n ≡ Some v = subst (λ i. length_of i n ≡ Some v) c.indicator_of_head.ensures c.in_ok-width-in-Present.ensures in
     rw c.in-Present.is
-    (full_encoded Map (view_list_head texts c.in-Present.head) (s_bytes c.in-Present.s) (view_pairs texts c.in-Present.pairs) (map (seen_pair texts) row.items) (view_pair texts last) (soc_bytes soc) (view_pairs_is texts c.in-Present.pairs) n count v c.args.out.now.items c.encode_list_head.new.out.items c.encode_pairs.new.out.items c.encode_list_end.new.out.items width c.in_ok-encode_list_head-in-Present.ensures c.in_ok-encode_pairs-in-Present.ensures c.in_ok-encode_list_end-in-Present.ensures)
+    (full_encoded Map (view_list_head texts c.in-Present.head) (space_bytes c.in-Present.space) (view_pairs texts c.in-Present.pairs) (map (seen_pair texts) row.items) (view_pair texts last) (list_end_bytes list_end) (view_pairs_is texts c.in-Present.pairs) n count v c.args.out.now.items c.encode_list_head.new.out.items c.encode_pairs.new.out.items c.encode_list_end.new.out.items width c.in_ok-encode_list_head-in-Present.ensures c.in_ok-encode_pairs-in-Present.ensures c.in_ok-encode_list_end-in-Present.ensures)
 
 pub encode_pair-returns-in_err-encode_item : goal.encode_pair-returns-in_err-encode_item
 encode_pair-returns-in_err-encode_item t c =
-    let kp = c.args.pair.now in
+    let pair = c.args.pair.now in
     let p = err_from_is_err_and c.from_residual.result c.from_residual.ensures.1 in
-    rw (p.1, p.2) (pair_stops (item_tree kp.key) (item_tree kp.value) (s_bytes kp.before_colon) (s_bytes kp.after_colon) c.args.out.now.items c.encode_item.new.out.items c.encode_item.new.out.items c.in_err-encode_item.field-0.0 c.in_err-encode_item.ensures)
+    rw (p.1, p.2) (pair_stops (item_tree pair.key) (item_tree pair.value) (space_bytes pair.before_colon) (space_bytes pair.after_colon) c.args.out.now.items c.encode_item.new.out.items c.encode_item.new.out.items c.in_err-encode_item.field-0.0 c.in_err-encode_item.ensures)
 
 pub encode_pair-returns : goal.encode_pair-returns
 encode_pair-returns t c =
-    let kp = c.args.pair.now in
-    pair_encoded (item_tree kp.key) (item_tree kp.value) (s_bytes kp.before_colon) (s_bytes kp.after_colon) c.args.out.now.items c.encode_item.new.out.items c.encode_item-2.new.out.items c.encode_item-2.result c.in_ok-encode_item.ensures c.encode_item-2.ensures
+    let pair = c.args.pair.now in
+    pair_encoded (item_tree pair.key) (item_tree pair.value) (space_bytes pair.before_colon) (space_bytes pair.after_colon) c.args.out.now.items c.encode_item.new.out.items c.encode_item-2.new.out.items c.encode_item-2.result c.in_ok-encode_item.ensures c.encode_item-2.ensures
 
 -- ---- strings
 
@@ -193,12 +193,12 @@ encode_item-returns-in-Stream t c = rw (c.in-Stream.is, ← c.deref-in-Stream.en
 pub encode_sequence-returns-in-Some : goal.encode_sequence-returns-in-Some
 encode_sequence-returns-in-Some t c =
     let f = out-SequenceOf _ _ _ _ _ _ _ c.args.sequence.now in
-    rw (view_sequence_is texts c.args.sequence.now, c.in-Some.is) (sequence_pushed (s_bytes f.before) (view_items texts c.in-Some.items) c.args.out.now.items c.encode_items.new.out.items c.encode_items.result c.encode_items.ensures)
+    rw (view_sequence_is texts c.args.sequence.now, c.in-Some.is) (sequence_pushed (space_bytes f.before) (view_items texts c.in-Some.items) c.args.out.now.items c.encode_items.new.out.items c.encode_items.result c.encode_items.ensures)
 
 pub encode_sequence-returns-in-None : goal.encode_sequence-returns-in-None
 encode_sequence-returns-in-None t c =
     let f = out-SequenceOf _ _ _ _ _ _ _ c.args.sequence.now in
-    rw (view_sequence_is texts c.args.sequence.now, c.in-None.is) (nothing_pushed (s_bytes f.before) c.args.out.now.items)
+    rw (view_sequence_is texts c.args.sequence.now, c.in-None.is) (nothing_pushed (space_bytes f.before) c.args.out.now.items)
 
 pub encode_pieces-returns-in_err-indicator : goal.encode_pieces-returns-in_err-indicator
 encode_pieces-returns-in_err-indicator t c =
@@ -271,9 +271,9 @@ pub encode_piece-returns-in-Literal : goal.encode_piece-returns-in-Literal
 unfolding items means
 encode_piece-returns-in-Literal t c = rw c.in-Literal.is c.encode_literal.ensures
 
-pub encode_piece-returns-in-Dots : goal.encode_piece-returns-in-Dots
+pub encode_piece-returns-in-Ellipsis : goal.encode_piece-returns-in-Ellipsis
 unfolding items means
-encode_piece-returns-in-Dots t c = rw c.in-Dots.is refl
+encode_piece-returns-in-Ellipsis t c = rw c.in-Ellipsis.is refl
 
 pub encode_piece-returns-in_err-encode_sequence-in-Embedded : goal.encode_piece-returns-in_err-encode_sequence-in-Embedded
 unfolding items
@@ -290,7 +290,7 @@ pub encode_chunks-returns-in_err-stream_kind : goal.encode_chunks-returns-in_err
 encode_chunks-returns-in_err-stream_kind t c =
     let f = out-StringsOf _ _ _ _ _ _ _ c.args.strings.now in
     let p = err_from_is_err_and c.from_residual.result c.from_residual.ensures.1 in
-    let first = has_first (map (seen_string texts) f.row.items) (view_string texts f.last) (soc_bytes f.soc) in
+    let first = has_first (map (seen_string texts) f.row.items) (view_string texts f.last) (list_end_bytes f.end) in
     rw (p.1, p.2) (stream_mixed (items (view_strings texts c.args.strings.now)) c.args.out.now.items c.args.out.now.items c.in_err-stream_kind.field-0.0 (rw (view_strings_is texts c.args.strings.now) first) c.in_err-stream_kind.ensures)
 
 pub encode_chunks-returns-in_err-encode_stream_chunks : goal.encode_chunks-returns-in_err-encode_stream_chunks
@@ -301,7 +301,7 @@ encode_chunks-returns-in_err-encode_stream_chunks t c =
 pub encode_chunks-returns : goal.encode_chunks-returns
 encode_chunks-returns t c =
     let f = out-StringsOf _ _ _ _ _ _ _ c.args.strings.now in
-    let first = has_first (map (seen_string texts) f.row.items) (view_string texts f.last) (soc_bytes f.soc) in
+    let first = has_first (map (seen_string texts) f.row.items) (view_string texts f.last) (list_end_bytes f.end) in
     stream_pushed (items (view_strings texts c.args.strings.now)) _ c.args.out.now.items c.encode_list_head.new.out.items c.encode_stream_chunks.new.out.items c.encode_list_end.new.out.items (rw (view_strings_is texts c.args.strings.now) first) c.in_ok-stream_kind.ensures
     (c.in_ok-encode_list_head.ensures ∙ ap (λ m. c.args.out.now.items ++ list_head m None 0) c.string_major-major.ensures.major) c.in_ok-encode_stream_chunks.ensures c.in_ok-encode_list_end.ensures
 
@@ -315,7 +315,7 @@ pub encode_stream_chunks-returns : goal.encode_stream_chunks-returns
 encode_stream_chunks-returns t c =
     let strings = out-StringsOf _ _ _ _ _ _ _ c.args.strings.now in
     rw (view_strings_is texts c.args.strings.now)
-    (row_then_last Strings (map (seen_string texts) strings.row.items) (ChunkTree (view_string texts strings.last)) (soc_bytes strings.soc) c.args.out.now.items c.encode_stream_chunk_row.new.out.items c.encode_stream_chunk.new.out.items c.encode_stream_chunk.result
+    (row_then_last Strings (map (seen_string texts) strings.row.items) (ChunkTree (view_string texts strings.last)) (list_end_bytes strings.end) c.args.out.now.items c.encode_stream_chunk_row.new.out.items c.encode_stream_chunk.new.out.items c.encode_stream_chunk.result
     (rw (← c.deref.ensures.value) c.in_ok-encode_stream_chunk_row.ensures) (part_is (view_string texts strings.last) _ _ _ c.encode_stream_chunk.ensures))
 
 pub encode_stream_chunk_row-returns-in_err-encode_stream_chunk : goal.encode_stream_chunk_row-returns-in_err-encode_stream_chunk

@@ -1,6 +1,6 @@
 use Rattle.std.proofs.Common.{◌≡◌, ◌<◌, ◌≤◌, length, map, get_or, subst, ap, ◌∙◌, sym}
 use Rattle.std.proofs.lemmas.List.{length-map}
-use Rattle.cbor_edn_parts.specs.Leaves.{s_bytes}
+use Rattle.cbor_edn_parts.specs.Leaves.{space_bytes}
 use Rattle.cbor_edn_core.specs.tree.View.{view_piece, seen_piece}
 use Rattle.cbor_edn_model.specs.tree.TreeLeaves.{texts}
 use Rattle.cbor_edn_model.specs.tree.Trees.{items, LastPieceTree}
@@ -21,4 +21,4 @@ returns-in-len1-up c =
     let x = c.index-piece-0.result in
     let first : x ≡ get_or row 0 x = subst (λ xs. x ≡ get_or xs 0 x) c.as_slice.ensures.value c.index-piece-0.is in
     let some : 1 ≤ length row = subst (λ xs. 1 ≤ length xs) c.as_slice.ensures.value c.in-len1-up.len_at_least in
-    c.piece_kind-in-len1-up.ensures ∙ ap (λ x. piece_kind (items (view_piece texts x.0))) (sym c.index-piece-0.is) ∙ sym (form_of_some (λ p. view_piece texts p.0) (λ p. s_bytes p.1) (λ p. s_bytes p.2) row x (LastPieceTree (view_piece texts c.args.string.now.last)) some first)
+    c.piece_kind-in-len1-up.ensures ∙ ap (λ x. piece_kind (items (view_piece texts x.0))) (sym c.index-piece-0.is) ∙ sym (form_of_some (λ p. view_piece texts p.0) (λ p. space_bytes p.1) (λ p. space_bytes p.2) row x (LastPieceTree (view_piece texts c.args.string.now.last)) some first)

@@ -1,5 +1,5 @@
 use Rattle.std.proofs.Common.{◌≡◌, ◌&&◌, true, false, map, sym, ap, ◌∙◌}
-use Rattle.cbor_edn_parts.specs.Leaves.{soc_bytes}
+use Rattle.cbor_edn_parts.specs.Leaves.{list_end_bytes}
 use Rattle.cbor_edn_core.specs.declared.tree.StringsOf.{out-StringsOf}
 use Rattle.cbor_edn_model.specs.tree.Trees.{items}
 use Rattle.cbor_edn_core.specs.tree.View.{view_string, seen_string}
@@ -20,7 +20,7 @@ returns-then-same_kind c =
     let last = same_kind k (form_kind (items (view_string texts f.last))) in
     let a : row ≡ true = ap (λ xs. kinds_are k (row_items (map (seen_string texts) xs))) (sym c.deref.ensures.value) ∙ sym c.are_of_kind.ensures ∙ c.if-are_of_kind.true in
     let b : last ≡ true = ap (same_kind k) (sym c.form_kind.ensures) ∙ sym c.same_kind.ensures ∙ c.if-same_kind.true in
-    rw is (kind_told (map (seen_string texts) f.row.items) (view_string texts f.last) (soc_bytes f.soc) k true (c.first_kind-kind.ensures ∙ ap (λ w. first_kind (items w)) is) (both_are row last true true a b))
+    rw is (kind_told (map (seen_string texts) f.row.items) (view_string texts f.last) (list_end_bytes f.end) k true (c.first_kind-kind.ensures ∙ ap (λ w. first_kind (items w)) is) (both_are row last true true a b))
 
 pub returns-else-are_of_kind : goal.returns-else-are_of_kind
 returns-else-are_of_kind c =
@@ -36,4 +36,4 @@ returns-else-are_of_kind c =
           both_are row last true false (a ∙ w.if-are_of_kind.true) b)
       | else-are_of_kind-via-else-are_of_kind w ↦ ap (λ b. b && last) (a ∙ w.if-are_of_kind.false)
     ] in
-    rw is (kind_told (map (seen_string texts) f.row.items) (view_string texts f.last) (soc_bytes f.soc) k false (c.first_kind-kind.ensures ∙ ap (λ w. first_kind (items w)) is) mixed)
+    rw is (kind_told (map (seen_string texts) f.row.items) (view_string texts f.last) (list_end_bytes f.end) k false (c.first_kind-kind.ensures ∙ ap (λ w. first_kind (items w)) is) mixed)

@@ -1,12 +1,12 @@
 use Rattle.std.proofs.Common.{refl, ap, ◌∙◌}
 use Rattle.cbor_edn_core.specs.declared.tree.StringsOf.{out-StringsOf, roll-StringsOf, out-roll-StringsOf}
-use Rattle.cbor_edn_parts.specs.declared.space.S.{S}
-use Rattle.cbor_edn_parts.specs.declared.space.Ms.{Ms}
-use Rattle.cbor_edn_parts.specs.declared.space.Msc.{Msc}
-use Rattle.cbor_edn_parts.specs.declared.space.Soc.{Soc}
+use Rattle.cbor_edn_parts.specs.declared.space.Space.{Space}
+use Rattle.cbor_edn_parts.specs.declared.space.MandatorySpace.{MandatorySpace}
+use Rattle.cbor_edn_parts.specs.declared.space.Separator.{Separator}
+use Rattle.cbor_edn_parts.specs.declared.space.ListEnd.{ListEnd}
 use Rattle.cbor_edn_parts.specs.declared.number.Number.{Number}
 use Rattle.cbor_edn_parts.specs.declared.string.Literal.{Literal}
-use Rattle.cbor_edn_parts.specs.declared.string.Dots.{Dots}
+use Rattle.cbor_edn_parts.specs.declared.string.Ellipsis.{Ellipsis}
 use Rattle.cbor_edn_model.specs.layout.Bare.{without_indicators}
 use Rattle.cbor_edn_core.specs.tree.View.{view_string}
 use Rattle.cbor_edn_model.specs.tree.TreeLeaves.{texts}
@@ -16,12 +16,12 @@ use Rattle.cbor_edn_core.proofs.layout.indicators.remove_strings_indicators.Goal
 
 pub returns : goal.returns
 returns c =
-    let roll = roll-StringsOf S Ms Msc Soc Number Literal Dots in
-    let out = out-StringsOf S Ms Msc Soc Number Literal Dots in
-    let back = out-roll-StringsOf S Ms Msc Soc Number Literal Dots in
+    let roll = roll-StringsOf Space MandatorySpace Separator ListEnd Number Literal Ellipsis in
+    let out = out-StringsOf Space MandatorySpace Separator ListEnd Number Literal Ellipsis in
+    let back = out-roll-StringsOf Space MandatorySpace Separator ListEnd Number Literal Ellipsis in
     let x = c.args.strings.now in
     let row = c.remove_string_row_indicators.new.row in
     let last = c.remove_string_indicators.new.string in
-    let written = two_written roll out back (λ f. record { row = row; last = f.last; soc = f.soc }) (λ f. record { row = f.row; last = last; soc = f.soc }) (out x) in
-    let kept_last = ap (λ f. without_indicators (view_string texts f.last)) (back (record { row = row; last = (out x).last; soc = (out x).soc })) in
-    strings_without_indicators texts x _ (record { row = row; last = last; soc = (out x).soc }) written c.remove_string_row_indicators.ensures (c.remove_string_indicators.ensures ∙ kept_last) refl
+    let written = two_written roll out back (λ f. record { row = row; last = f.last; end = f.end }) (λ f. record { row = f.row; last = last; end = f.end }) (out x) in
+    let kept_last = ap (λ f. without_indicators (view_string texts f.last)) (back (record { row = row; last = (out x).last; end = (out x).end })) in
+    strings_without_indicators texts x _ (record { row = row; last = last; end = (out x).end }) written c.remove_string_row_indicators.ensures (c.remove_string_indicators.ensures ∙ kept_last) refl

@@ -2,18 +2,18 @@ use Rattle.std.proofs.Common.{rules, ◌≡◌, ◌<◌, length, map, set, get_o
 use Rattle.std.proofs.lemmas.List.{drop-set-lt}
 use Rattle.std.proofs.lemmas.Grind.{drop_more_same}
 use denote.Param.Weighed.{at_most}
-use Rattle.cbor_edn_parts.specs.declared.space.S.{S}
-use Rattle.cbor_edn_parts.specs.declared.space.Ms.{Ms}
-use Rattle.cbor_edn_parts.specs.declared.space.Msc.{Msc}
-use Rattle.cbor_edn_parts.specs.declared.space.Soc.{Soc}
+use Rattle.cbor_edn_parts.specs.declared.space.Space.{Space}
+use Rattle.cbor_edn_parts.specs.declared.space.MandatorySpace.{MandatorySpace}
+use Rattle.cbor_edn_parts.specs.declared.space.Separator.{Separator}
+use Rattle.cbor_edn_parts.specs.declared.space.ListEnd.{ListEnd}
 use Rattle.cbor_edn_parts.specs.declared.number.Number.{Number}
 use Rattle.cbor_edn_parts.specs.declared.string.Literal.{Literal}
-use Rattle.cbor_edn_parts.specs.declared.string.Dots.{Dots}
+use Rattle.cbor_edn_parts.specs.declared.string.Ellipsis.{Ellipsis}
 use Rattle.cbor_edn_parts.specs.LayoutColumns.{of_parts}
-use Rattle.cbor_edn_parts.specs.Leaves.{soc_bytes}
-use Rattle.cbor_edn_parts.specs.Spacing.{SOC}
+use Rattle.cbor_edn_parts.specs.Leaves.{list_end_bytes}
+use Rattle.cbor_edn_parts.specs.Spacing.{AtEnd}
 use Rattle.cbor_edn_core.specs.declared.tree.ItemOf.{ItemOf}
-use Rattle.cbor_edn_core.specs.declared.tree.KpOf.{KpOf}
+use Rattle.cbor_edn_core.specs.declared.tree.PairOf.{PairOf}
 use Rattle.cbor_edn_core.specs.declared.tree.InnerItemOf.TheViews.{out-InnerItemOf}
 use Rattle.cbor_edn_core.specs.declared.tree.ItemsOf.{out-ItemsOf, roll-ItemsOf, out-roll-ItemsOf}
 use Rattle.cbor_edn_core.specs.declared.tree.PairsOf.{out-PairsOf, roll-PairsOf, out-roll-PairsOf}
@@ -45,36 +45,36 @@ lay_item-returns-in-Stream-clause-laid t c = search (rules, view_stream_is texts
 
 pub lay_items-returns-in_err-lay_row-clause-items : goal.lay_items-returns-in_err-lay_row-clause-items
 lay_items-returns-in_err-lay_row-clause-items t c =
-    let o = out-ItemsOf S Ms Msc Soc Number Literal Dots c.args.items.now in
-    items_same texts c.args.items.now _ (record { row = c.lay_row.new.row; last = o.last; soc = o.soc }) refl c.lay_row.ensures.items refl
+    let o = out-ItemsOf Space MandatorySpace Separator ListEnd Number Literal Ellipsis c.args.items.now in
+    items_same texts c.args.items.now _ (record { row = c.lay_row.new.row; last = o.last; end = o.end }) refl c.lay_row.ensures.items refl
 
 pub lay_items-returns-in_err-lay_item-clause-items : goal.lay_items-returns-in_err-lay_item-clause-items
 lay_items-returns-in_err-lay_item-clause-items t c =
-    let o = out-ItemsOf S Ms Msc Soc Number Literal Dots c.args.items.now in
-    let written = two_written (roll-ItemsOf S Ms Msc Soc Number Literal Dots) (out-ItemsOf S Ms Msc Soc Number Literal Dots) (out-roll-ItemsOf S Ms Msc Soc Number Literal Dots) (λ f. record { row = c.lay_row.new.row; last = f.last; soc = f.soc }) (λ f. record { row = f.row; last = c.lay_item.new.item; soc = f.soc }) o in
-    let last = ap (λ f. items (item_tree f.last)) (out-roll-ItemsOf S Ms Msc Soc Number Literal Dots (record { row = c.lay_row.new.row; last = o.last; soc = o.soc })) in
-    items_same texts c.args.items.now _ (record { row = c.lay_row.new.row; last = c.lay_item.new.item; soc = o.soc }) written c.lay_row.ensures.items (c.lay_item.ensures.items ∙ last)
+    let o = out-ItemsOf Space MandatorySpace Separator ListEnd Number Literal Ellipsis c.args.items.now in
+    let written = two_written (roll-ItemsOf Space MandatorySpace Separator ListEnd Number Literal Ellipsis) (out-ItemsOf Space MandatorySpace Separator ListEnd Number Literal Ellipsis) (out-roll-ItemsOf Space MandatorySpace Separator ListEnd Number Literal Ellipsis) (λ f. record { row = c.lay_row.new.row; last = f.last; end = f.end }) (λ f. record { row = f.row; last = c.lay_item.new.item; end = f.end }) o in
+    let last = ap (λ f. items (item_tree f.last)) (out-roll-ItemsOf Space MandatorySpace Separator ListEnd Number Literal Ellipsis (record { row = c.lay_row.new.row; last = o.last; end = o.end })) in
+    items_same texts c.args.items.now _ (record { row = c.lay_row.new.row; last = c.lay_item.new.item; end = o.end }) written c.lay_row.ensures.items (c.lay_item.ensures.items ∙ last)
 
 pub lay_items-returns-clause-laid : goal.lay_items-returns-clause-laid
 lay_items-returns-clause-laid t c =
-    let o = out-ItemsOf S Ms Msc Soc Number Literal Dots c.args.items.now in
-    let roll = roll-ItemsOf S Ms Msc Soc Number Literal Dots in
-    let out = out-ItemsOf S Ms Msc Soc Number Literal Dots in
-    let back = out-roll-ItemsOf S Ms Msc Soc Number Literal Dots in
-    let written = three_written roll out back (λ f. record { row = c.lay_row.new.row; last = f.last; soc = f.soc }) (λ f. record { row = f.row; last = c.lay_item.new.item; soc = f.soc }) (λ f. record { row = f.row; last = f.last; soc = c.lay_end.new.end }) o in
-    let two = after_two roll out back (λ f. record { row = c.lay_row.new.row; last = f.last; soc = f.soc }) (λ f. record { row = f.row; last = c.lay_item.new.item; soc = f.soc }) o in
-    let last = ap (λ f. laid c.args.layout (item_tree f.last)) (back (record { row = c.lay_row.new.row; last = o.last; soc = o.soc })) in
-    on_ok c.lay_end.result (λ e. items_laid texts c.args.layout c.args.items.now _ (record { row = c.lay_row.new.row; last = c.lay_item.new.item; soc = c.lay_end.new.end }) written c.in_ok-lay_row.ensures.laid (c.in_ok-lay_item.ensures.laid ∙ last) (e ∙ ap (λ f. respaced SOC Last c.args.layout (soc_bytes f.soc)) two)) c.lay_end.ensures.laid
+    let o = out-ItemsOf Space MandatorySpace Separator ListEnd Number Literal Ellipsis c.args.items.now in
+    let roll = roll-ItemsOf Space MandatorySpace Separator ListEnd Number Literal Ellipsis in
+    let out = out-ItemsOf Space MandatorySpace Separator ListEnd Number Literal Ellipsis in
+    let back = out-roll-ItemsOf Space MandatorySpace Separator ListEnd Number Literal Ellipsis in
+    let written = three_written roll out back (λ f. record { row = c.lay_row.new.row; last = f.last; end = f.end }) (λ f. record { row = f.row; last = c.lay_item.new.item; end = f.end }) (λ f. record { row = f.row; last = f.last; end = c.lay_end.new.end }) o in
+    let two = after_two roll out back (λ f. record { row = c.lay_row.new.row; last = f.last; end = f.end }) (λ f. record { row = f.row; last = c.lay_item.new.item; end = f.end }) o in
+    let last = ap (λ f. laid c.args.layout (item_tree f.last)) (back (record { row = c.lay_row.new.row; last = o.last; end = o.end })) in
+    on_ok c.lay_end.result (λ e. items_laid texts c.args.layout c.args.items.now _ (record { row = c.lay_row.new.row; last = c.lay_item.new.item; end = c.lay_end.new.end }) written c.in_ok-lay_row.ensures.laid (c.in_ok-lay_item.ensures.laid ∙ last) (e ∙ ap (λ f. respaced AtEnd Last c.args.layout (list_end_bytes f.end)) two)) c.lay_end.ensures.laid
 
 pub lay_items-returns-clause-items : goal.lay_items-returns-clause-items
 lay_items-returns-clause-items t c =
-    let o = out-ItemsOf S Ms Msc Soc Number Literal Dots c.args.items.now in
-    let roll = roll-ItemsOf S Ms Msc Soc Number Literal Dots in
-    let out = out-ItemsOf S Ms Msc Soc Number Literal Dots in
-    let back = out-roll-ItemsOf S Ms Msc Soc Number Literal Dots in
-    let written = three_written roll out back (λ f. record { row = c.lay_row.new.row; last = f.last; soc = f.soc }) (λ f. record { row = f.row; last = c.lay_item.new.item; soc = f.soc }) (λ f. record { row = f.row; last = f.last; soc = c.lay_end.new.end }) o in
-    let last = ap (λ f. items (item_tree f.last)) (back (record { row = c.lay_row.new.row; last = o.last; soc = o.soc })) in
-    items_same texts c.args.items.now _ (record { row = c.lay_row.new.row; last = c.lay_item.new.item; soc = c.lay_end.new.end }) written c.lay_row.ensures.items (c.lay_item.ensures.items ∙ last)
+    let o = out-ItemsOf Space MandatorySpace Separator ListEnd Number Literal Ellipsis c.args.items.now in
+    let roll = roll-ItemsOf Space MandatorySpace Separator ListEnd Number Literal Ellipsis in
+    let out = out-ItemsOf Space MandatorySpace Separator ListEnd Number Literal Ellipsis in
+    let back = out-roll-ItemsOf Space MandatorySpace Separator ListEnd Number Literal Ellipsis in
+    let written = three_written roll out back (λ f. record { row = c.lay_row.new.row; last = f.last; end = f.end }) (λ f. record { row = f.row; last = c.lay_item.new.item; end = f.end }) (λ f. record { row = f.row; last = f.last; end = c.lay_end.new.end }) o in
+    let last = ap (λ f. items (item_tree f.last)) (back (record { row = c.lay_row.new.row; last = o.last; end = o.end })) in
+    items_same texts c.args.items.now _ (record { row = c.lay_row.new.row; last = c.lay_item.new.item; end = c.lay_end.new.end }) written c.lay_row.ensures.items (c.lay_item.ensures.items ∙ last)
 
 pub lay_row-lay_item-requires : goal.lay_row-lay_item-requires
 lay_row-lay_item-requires t c =
@@ -91,7 +91,7 @@ lay_row-returns-in_err-lay_item-clause-items t c =
     let x = get_or l.entry-items l.entry-index c.entry-item.result in
     let here : x ≡ get_or l.entry-items l.entry-index x = ap (λ a. get_or l.entry-items l.entry-index a) c.entry-item.is in
     let inside : l.entry-index < length l.entry-items = omega arith in
-    let y : ItemOf S Ms Msc Soc Number Literal Dots × Msc = (c.lay_item.new.item, x.1) in
+    let y : ItemOf Space MandatorySpace Separator ListEnd Number Literal Ellipsis × Separator = (c.lay_item.new.item, x.1) in
     ap (λ ys. map entry_items (map (seen texts) ys)) (kept (set l.entry-items l.entry-index y) _ c.args.row.now.len (search (rules)))
     ∙ one_same (seen texts) entry_items l.entry-items l.entry-index x y _ l.invariant.1 inside here (ap Element c.lay_item.ensures.items)
 
@@ -102,7 +102,7 @@ lay_row-returns-in_err-lay_separator-clause-items t c =
     let x = get_or l.entry-items l.entry-index c.entry-item.result in
     let here : x ≡ get_or l.entry-items l.entry-index x = ap (λ a. get_or l.entry-items l.entry-index a) c.entry-item.is in
     let inside : l.entry-index < length l.entry-items = omega arith in
-    let y : ItemOf S Ms Msc Soc Number Literal Dots × Msc = (c.lay_item.new.item, c.lay_separator.new.separator) in
+    let y : ItemOf Space MandatorySpace Separator ListEnd Number Literal Ellipsis × Separator = (c.lay_item.new.item, c.lay_separator.new.separator) in
     ap (λ ys. map entry_items (map (seen texts) ys)) (kept (set l.entry-items l.entry-index y) _ c.args.row.now.len (search (rules)))
     ∙ one_same (seen texts) entry_items l.entry-items l.entry-index x y _ l.invariant.1 inside here (ap Element c.lay_item.ensures.items)
 
@@ -113,7 +113,7 @@ lay_row-loop-entry-preserved t c =
     let x = get_or l.entry-items l.entry-index c.entry-item.result in
     let here : x ≡ get_or l.entry-items l.entry-index x = ap (λ a. get_or l.entry-items l.entry-index a) c.entry-item.is in
     let inside : l.entry-index < length l.entry-items = omega arith in
-    let y : ItemOf S Ms Msc Soc Number Literal Dots × Msc = (c.lay_item.new.item, c.lay_separator.new.separator) in
+    let y : ItemOf Space MandatorySpace Separator ListEnd Number Literal Ellipsis × Separator = (c.lay_item.new.item, c.lay_separator.new.separator) in
     let os = c.args.row.now.items in (
       one_more (seen texts) (laid_entry c.args.layout) l.entry-items l.entry-index x y _ l.invariant.0 inside here (λ i. (ElementTree (c.in_ok-lay_item.ensures.laid i), c.in_ok-lay_separator.ensures.laid i)),
       one_same (seen texts) entry_items l.entry-items l.entry-index x y _ l.invariant.1 inside here (ap Element c.lay_item.ensures.items),
@@ -128,36 +128,36 @@ lay_row-returns-clause-laid t c =
 
 pub lay_pairs-returns-in_err-lay_pair_row-clause-items : goal.lay_pairs-returns-in_err-lay_pair_row-clause-items
 lay_pairs-returns-in_err-lay_pair_row-clause-items t c =
-    let o = out-PairsOf S Ms Msc Soc Number Literal Dots c.args.pairs.now in
-    pairs_same texts c.args.pairs.now _ (record { row = c.lay_pair_row.new.row; last = o.last; soc = o.soc }) refl c.lay_pair_row.ensures.items refl
+    let o = out-PairsOf Space MandatorySpace Separator ListEnd Number Literal Ellipsis c.args.pairs.now in
+    pairs_same texts c.args.pairs.now _ (record { row = c.lay_pair_row.new.row; last = o.last; end = o.end }) refl c.lay_pair_row.ensures.items refl
 
 pub lay_pairs-returns-in_err-lay_pair-clause-items : goal.lay_pairs-returns-in_err-lay_pair-clause-items
 lay_pairs-returns-in_err-lay_pair-clause-items t c =
-    let o = out-PairsOf S Ms Msc Soc Number Literal Dots c.args.pairs.now in
-    let written = two_written (roll-PairsOf S Ms Msc Soc Number Literal Dots) (out-PairsOf S Ms Msc Soc Number Literal Dots) (out-roll-PairsOf S Ms Msc Soc Number Literal Dots) (λ f. record { row = c.lay_pair_row.new.row; last = f.last; soc = f.soc }) (λ f. record { row = f.row; last = c.lay_pair.new.pair; soc = f.soc }) o in
-    let last = ap (λ f. items (view_pair texts f.last)) (out-roll-PairsOf S Ms Msc Soc Number Literal Dots (record { row = c.lay_pair_row.new.row; last = o.last; soc = o.soc })) in
-    pairs_same texts c.args.pairs.now _ (record { row = c.lay_pair_row.new.row; last = c.lay_pair.new.pair; soc = o.soc }) written c.lay_pair_row.ensures.items (c.lay_pair.ensures.items ∙ last)
+    let o = out-PairsOf Space MandatorySpace Separator ListEnd Number Literal Ellipsis c.args.pairs.now in
+    let written = two_written (roll-PairsOf Space MandatorySpace Separator ListEnd Number Literal Ellipsis) (out-PairsOf Space MandatorySpace Separator ListEnd Number Literal Ellipsis) (out-roll-PairsOf Space MandatorySpace Separator ListEnd Number Literal Ellipsis) (λ f. record { row = c.lay_pair_row.new.row; last = f.last; end = f.end }) (λ f. record { row = f.row; last = c.lay_pair.new.pair; end = f.end }) o in
+    let last = ap (λ f. items (view_pair texts f.last)) (out-roll-PairsOf Space MandatorySpace Separator ListEnd Number Literal Ellipsis (record { row = c.lay_pair_row.new.row; last = o.last; end = o.end })) in
+    pairs_same texts c.args.pairs.now _ (record { row = c.lay_pair_row.new.row; last = c.lay_pair.new.pair; end = o.end }) written c.lay_pair_row.ensures.items (c.lay_pair.ensures.items ∙ last)
 
 pub lay_pairs-returns-clause-laid : goal.lay_pairs-returns-clause-laid
 lay_pairs-returns-clause-laid t c =
-    let o = out-PairsOf S Ms Msc Soc Number Literal Dots c.args.pairs.now in
-    let roll = roll-PairsOf S Ms Msc Soc Number Literal Dots in
-    let out = out-PairsOf S Ms Msc Soc Number Literal Dots in
-    let back = out-roll-PairsOf S Ms Msc Soc Number Literal Dots in
-    let written = three_written roll out back (λ f. record { row = c.lay_pair_row.new.row; last = f.last; soc = f.soc }) (λ f. record { row = f.row; last = c.lay_pair.new.pair; soc = f.soc }) (λ f. record { row = f.row; last = f.last; soc = c.lay_end.new.end }) o in
-    let two = after_two roll out back (λ f. record { row = c.lay_pair_row.new.row; last = f.last; soc = f.soc }) (λ f. record { row = f.row; last = c.lay_pair.new.pair; soc = f.soc }) o in
-    let last = ap (λ f. laid c.args.layout (view_pair texts f.last)) (back (record { row = c.lay_pair_row.new.row; last = o.last; soc = o.soc })) in
-    on_ok c.lay_end.result (λ e. pairs_laid texts c.args.layout c.args.pairs.now _ (record { row = c.lay_pair_row.new.row; last = c.lay_pair.new.pair; soc = c.lay_end.new.end }) written c.in_ok-lay_pair_row.ensures.laid (c.in_ok-lay_pair.ensures.laid ∙ last) (e ∙ ap (λ f. respaced SOC Last c.args.layout (soc_bytes f.soc)) two)) c.lay_end.ensures.laid
+    let o = out-PairsOf Space MandatorySpace Separator ListEnd Number Literal Ellipsis c.args.pairs.now in
+    let roll = roll-PairsOf Space MandatorySpace Separator ListEnd Number Literal Ellipsis in
+    let out = out-PairsOf Space MandatorySpace Separator ListEnd Number Literal Ellipsis in
+    let back = out-roll-PairsOf Space MandatorySpace Separator ListEnd Number Literal Ellipsis in
+    let written = three_written roll out back (λ f. record { row = c.lay_pair_row.new.row; last = f.last; end = f.end }) (λ f. record { row = f.row; last = c.lay_pair.new.pair; end = f.end }) (λ f. record { row = f.row; last = f.last; end = c.lay_end.new.end }) o in
+    let two = after_two roll out back (λ f. record { row = c.lay_pair_row.new.row; last = f.last; end = f.end }) (λ f. record { row = f.row; last = c.lay_pair.new.pair; end = f.end }) o in
+    let last = ap (λ f. laid c.args.layout (view_pair texts f.last)) (back (record { row = c.lay_pair_row.new.row; last = o.last; end = o.end })) in
+    on_ok c.lay_end.result (λ e. pairs_laid texts c.args.layout c.args.pairs.now _ (record { row = c.lay_pair_row.new.row; last = c.lay_pair.new.pair; end = c.lay_end.new.end }) written c.in_ok-lay_pair_row.ensures.laid (c.in_ok-lay_pair.ensures.laid ∙ last) (e ∙ ap (λ f. respaced AtEnd Last c.args.layout (list_end_bytes f.end)) two)) c.lay_end.ensures.laid
 
 pub lay_pairs-returns-clause-items : goal.lay_pairs-returns-clause-items
 lay_pairs-returns-clause-items t c =
-    let o = out-PairsOf S Ms Msc Soc Number Literal Dots c.args.pairs.now in
-    let roll = roll-PairsOf S Ms Msc Soc Number Literal Dots in
-    let out = out-PairsOf S Ms Msc Soc Number Literal Dots in
-    let back = out-roll-PairsOf S Ms Msc Soc Number Literal Dots in
-    let written = three_written roll out back (λ f. record { row = c.lay_pair_row.new.row; last = f.last; soc = f.soc }) (λ f. record { row = f.row; last = c.lay_pair.new.pair; soc = f.soc }) (λ f. record { row = f.row; last = f.last; soc = c.lay_end.new.end }) o in
-    let last = ap (λ f. items (view_pair texts f.last)) (back (record { row = c.lay_pair_row.new.row; last = o.last; soc = o.soc })) in
-    pairs_same texts c.args.pairs.now _ (record { row = c.lay_pair_row.new.row; last = c.lay_pair.new.pair; soc = c.lay_end.new.end }) written c.lay_pair_row.ensures.items (c.lay_pair.ensures.items ∙ last)
+    let o = out-PairsOf Space MandatorySpace Separator ListEnd Number Literal Ellipsis c.args.pairs.now in
+    let roll = roll-PairsOf Space MandatorySpace Separator ListEnd Number Literal Ellipsis in
+    let out = out-PairsOf Space MandatorySpace Separator ListEnd Number Literal Ellipsis in
+    let back = out-roll-PairsOf Space MandatorySpace Separator ListEnd Number Literal Ellipsis in
+    let written = three_written roll out back (λ f. record { row = c.lay_pair_row.new.row; last = f.last; end = f.end }) (λ f. record { row = f.row; last = c.lay_pair.new.pair; end = f.end }) (λ f. record { row = f.row; last = f.last; end = c.lay_end.new.end }) o in
+    let last = ap (λ f. items (view_pair texts f.last)) (back (record { row = c.lay_pair_row.new.row; last = o.last; end = o.end })) in
+    pairs_same texts c.args.pairs.now _ (record { row = c.lay_pair_row.new.row; last = c.lay_pair.new.pair; end = c.lay_end.new.end }) written c.lay_pair_row.ensures.items (c.lay_pair.ensures.items ∙ last)
 
 pub lay_pair_row-lay_pair-requires : goal.lay_pair_row-lay_pair-requires
 lay_pair_row-lay_pair-requires t c =
@@ -174,7 +174,7 @@ lay_pair_row-returns-in_err-lay_pair-clause-items t c =
     let x = get_or l.entry-items l.entry-index c.entry-item.result in
     let here : x ≡ get_or l.entry-items l.entry-index x = ap (λ a. get_or l.entry-items l.entry-index a) c.entry-item.is in
     let inside : l.entry-index < length l.entry-items = omega arith in
-    let y : KpOf S Ms Msc Soc Number Literal Dots × Msc = (c.lay_pair.new.pair, x.1) in
+    let y : PairOf Space MandatorySpace Separator ListEnd Number Literal Ellipsis × Separator = (c.lay_pair.new.pair, x.1) in
     ap (λ ys. map entry_items (map (seen_pair texts) ys)) (kept (set l.entry-items l.entry-index y) _ c.args.row.now.len (search (rules)))
     ∙ one_same (seen_pair texts) entry_items l.entry-items l.entry-index x y _ l.invariant.1 inside here c.lay_pair.ensures.items
 
@@ -185,7 +185,7 @@ lay_pair_row-returns-in_err-lay_separator-clause-items t c =
     let x = get_or l.entry-items l.entry-index c.entry-item.result in
     let here : x ≡ get_or l.entry-items l.entry-index x = ap (λ a. get_or l.entry-items l.entry-index a) c.entry-item.is in
     let inside : l.entry-index < length l.entry-items = omega arith in
-    let y : KpOf S Ms Msc Soc Number Literal Dots × Msc = (c.lay_pair.new.pair, c.lay_separator.new.separator) in
+    let y : PairOf Space MandatorySpace Separator ListEnd Number Literal Ellipsis × Separator = (c.lay_pair.new.pair, c.lay_separator.new.separator) in
     ap (λ ys. map entry_items (map (seen_pair texts) ys)) (kept (set l.entry-items l.entry-index y) _ c.args.row.now.len (search (rules)))
     ∙ one_same (seen_pair texts) entry_items l.entry-items l.entry-index x y _ l.invariant.1 inside here c.lay_pair.ensures.items
 
@@ -196,7 +196,7 @@ lay_pair_row-loop-entry-preserved t c =
     let x = get_or l.entry-items l.entry-index c.entry-item.result in
     let here : x ≡ get_or l.entry-items l.entry-index x = ap (λ a. get_or l.entry-items l.entry-index a) c.entry-item.is in
     let inside : l.entry-index < length l.entry-items = omega arith in
-    let y : KpOf S Ms Msc Soc Number Literal Dots × Msc = (c.lay_pair.new.pair, c.lay_separator.new.separator) in
+    let y : PairOf Space MandatorySpace Separator ListEnd Number Literal Ellipsis × Separator = (c.lay_pair.new.pair, c.lay_separator.new.separator) in
     let os = c.args.row.now.items in (
       one_more (seen_pair texts) (laid_entry c.args.layout) l.entry-items l.entry-index x y _ l.invariant.0 inside here (λ i. (c.in_ok-lay_pair.ensures.laid i, c.in_ok-lay_separator.ensures.laid i)),
       one_same (seen_pair texts) entry_items l.entry-items l.entry-index x y _ l.invariant.1 inside here c.lay_pair.ensures.items,

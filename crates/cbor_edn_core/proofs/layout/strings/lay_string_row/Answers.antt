@@ -1,11 +1,11 @@
 use Rattle.std.proofs.Common.{◌≡◌, ◌<◌, length, get_or, ◌∙◌, ap, map, set, arith, rules}
-use Rattle.cbor_edn_parts.specs.declared.space.S.{S}
-use Rattle.cbor_edn_parts.specs.declared.space.Ms.{Ms}
-use Rattle.cbor_edn_parts.specs.declared.space.Msc.{Msc}
-use Rattle.cbor_edn_parts.specs.declared.space.Soc.{Soc}
+use Rattle.cbor_edn_parts.specs.declared.space.Space.{Space}
+use Rattle.cbor_edn_parts.specs.declared.space.MandatorySpace.{MandatorySpace}
+use Rattle.cbor_edn_parts.specs.declared.space.Separator.{Separator}
+use Rattle.cbor_edn_parts.specs.declared.space.ListEnd.{ListEnd}
 use Rattle.cbor_edn_parts.specs.declared.number.Number.{Number}
 use Rattle.cbor_edn_parts.specs.declared.string.Literal.{Literal}
-use Rattle.cbor_edn_parts.specs.declared.string.Dots.{Dots}
+use Rattle.cbor_edn_parts.specs.declared.string.Ellipsis.{Ellipsis}
 use Rattle.cbor_edn_core.specs.declared.tree.CborStringOf.{CborStringOf}
 use Rattle.cbor_edn_model.specs.tree.Items.{Chunk}
 use Rattle.cbor_edn_model.specs.layout.Layout.{laid}
@@ -23,7 +23,7 @@ returns-in_err-lay_string-clause-items c =
     let x = get_or l.entry-items l.entry-index c.entry-item.result in
     let here : x ≡ get_or l.entry-items l.entry-index x = ap (λ a. get_or l.entry-items l.entry-index a) c.entry-item.is in
     let inside : l.entry-index < length l.entry-items = omega arith in
-    let y : CborStringOf S Ms Msc Soc Number Literal Dots × Msc = (c.lay_string.new.string, x.1) in
+    let y : CborStringOf Space MandatorySpace Separator ListEnd Number Literal Ellipsis × Separator = (c.lay_string.new.string, x.1) in
     ap (λ ys. map entry_items (map (seen_string texts) ys)) (kept (set l.entry-items l.entry-index y) _ c.args.row.now.len (search (rules)))
     ∙ one_same (seen_string texts) entry_items l.entry-items l.entry-index x y _ l.invariant.1 inside here (ap Chunk c.lay_string.ensures.items)
 
@@ -34,7 +34,7 @@ returns-in_err-lay_separator-clause-items c =
     let x = get_or l.entry-items l.entry-index c.entry-item.result in
     let here : x ≡ get_or l.entry-items l.entry-index x = ap (λ a. get_or l.entry-items l.entry-index a) c.entry-item.is in
     let inside : l.entry-index < length l.entry-items = omega arith in
-    let y : CborStringOf S Ms Msc Soc Number Literal Dots × Msc = (c.lay_string.new.string, c.lay_separator.new.separator) in
+    let y : CborStringOf Space MandatorySpace Separator ListEnd Number Literal Ellipsis × Separator = (c.lay_string.new.string, c.lay_separator.new.separator) in
     ap (λ ys. map entry_items (map (seen_string texts) ys)) (kept (set l.entry-items l.entry-index y) _ c.args.row.now.len (search (rules)))
     ∙ one_same (seen_string texts) entry_items l.entry-items l.entry-index x y _ l.invariant.1 inside here (ap Chunk c.lay_string.ensures.items)
 
@@ -45,7 +45,7 @@ loop-entry-preserved c =
     let x = get_or l.entry-items l.entry-index c.entry-item.result in
     let here : x ≡ get_or l.entry-items l.entry-index x = ap (λ a. get_or l.entry-items l.entry-index a) c.entry-item.is in
     let inside : l.entry-index < length l.entry-items = omega arith in
-    let y : CborStringOf S Ms Msc Soc Number Literal Dots × Msc = (c.lay_string.new.string, c.lay_separator.new.separator) in
+    let y : CborStringOf Space MandatorySpace Separator ListEnd Number Literal Ellipsis × Separator = (c.lay_string.new.string, c.lay_separator.new.separator) in
     (one_more (seen_string texts) (laid_entry c.args.layout) l.entry-items l.entry-index x y _ l.invariant.0 inside here (λ i. (ChunkTree ((c.in_ok-lay_string.ensures.laid ∙ ap (λ m. laid m (view_string texts x.0)) c.in_chunk.ensures) i), c.in_ok-lay_separator.ensures.laid i)), one_same (seen_string texts) entry_items l.entry-items l.entry-index x y _ l.invariant.1 inside here (ap Chunk c.lay_string.ensures.items))
 
 pub returns-clause-laid : goal.returns-clause-laid

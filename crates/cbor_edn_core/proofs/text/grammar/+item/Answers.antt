@@ -3,10 +3,10 @@ use Rattle.std.proofs.lemmas.Bool.{false≢true}
 use Rattle.std.proofs.lemmas.Result.{err_from_is_err_and}
 use Rattle.cbor_edn_parts.specs.declared.error.Fault.TheVariants.{Told}
 use Rattle.cbor_edn_parts.specs.internal.SpaceTokens.{space}
-use Rattle.cbor_edn_parts.specs.internal.LiteralTokens.{literal, dots}
+use Rattle.cbor_edn_parts.specs.internal.LiteralTokens.{literal, ellipsis}
 use Rattle.cbor_edn_parts.specs.internal.NumberTokens.{number}
-use Rattle.cbor_edn_parts.specs.Leaves.{soc_bytes}
-use Rattle.cbor_edn_parts.specs.internal.Text.{text_bytes}
+use Rattle.cbor_edn_parts.specs.Leaves.{list_end_bytes}
+use Rattle.cbor_edn_parts.specs.internal.Input.{text_bytes}
 use Rattle.cbor_edn_parts.proofs.lemmas.space.SeparatorTokens.{spaced_of}
 use Rattle.cbor_edn_core.specs.tree.Borrowed.{BorrowsEach, BorrowsEachPair, BorrowsString}
 use Rattle.cbor_edn_model.specs.tree.Items.{Elements, Pairs, Strings, Array, Map}
@@ -15,8 +15,8 @@ use Rattle.cbor_edn_core.specs.tree.View.{seen, seen_pair, seen_string, seen_pie
 use Rattle.cbor_edn_model.specs.tree.TreeLeaves.{texts}
 use Rattle.cbor_edn_core.proofs.lemmas.text.Turns.{ends_same, fails_at, scan_fails, scan_read, number_at, number_fails, string_item_fails, string_item_read, stream_at, list_too_deep, list_fails, list_open, list_read, standalone_fails, standalone_fails_item, standalone_fails_after, standalone_read, inside_fails, inside_empty, inside_unparted, inside_rest_fails, inside_read, element_read, element_fails, with_separator_fails, with_separator_fails_behind, with_separator_read, with_separator_entry, pair_fails, pair_fails_before, pair_no_colon, pair_behind_colon, value_fails_before, value_fails, value_read, turn_fails, turn_stops, turn_last, turn_refused, turn_more, with_more, some_length, token_behind, sequence_fails, sequence_empty, sequence_rest_fails, sequence_full}
 use Rattle.cbor_edn_core.proofs.lemmas.text.EnclosedTurns.{enclosed_shut, enclosed_too_deep, enclosed_fails, enclosed_open, enclosed_read, number_read, plain_read, no_tag, tag_at, keyword_here, named_read, float_read, simple_at}
-use Rattle.cbor_edn_core.proofs.lemmas.text.Looks.{ahead_small, opened_costs, token_two, literal_open, dots_open, spared_push, pushed_some, spared_first, costs_ahead}
-use Rattle.cbor_edn_core.proofs.lemmas.text.StringTurns.{stream_no_underscore, stream_fails, stream_unspaced, stream_rest_fails, stream_open, stream_read, chunk_fails, chunk_read, dots_fail, dots_read, literal_fails, literal_read, embedded_single, embedded_too_deep, embedded_fails, embedded_unclosed, embedded_read, with_more_pieces, pieces_turn_fails, pieces_turn_fails_before, pieces_turn_last, pieces_turn_fails_after, pieces_turn_more}
+use Rattle.cbor_edn_core.proofs.lemmas.text.Looks.{ahead_small, opened_costs, token_two, literal_open, ellipsis_open, spared_push, pushed_some, spared_first, costs_ahead}
+use Rattle.cbor_edn_core.proofs.lemmas.text.StringTurns.{stream_no_underscore, stream_fails, stream_unspaced, stream_rest_fails, stream_open, stream_read, chunk_fails, chunk_read, ellipsis_fail, ellipsis_read, literal_fails, literal_read, embedded_single, embedded_too_deep, embedded_fails, embedded_unclosed, embedded_read, with_more_pieces, pieces_turn_fails, pieces_turn_fails_before, pieces_turn_last, pieces_turn_fails_after, pieces_turn_more}
 use Rattle.cbor_edn_core.proofs.lemmas.tree.Views.{view_items_made, view_pairs_made, view_strings_made, view_stream_made, view_sequence_made}
 use Rattle.cbor_edn_core.proofs.lemmas.text.Borrows.{borrows_made, borrows_pairs_made, borrows_strings_made, borrows_push, borrows_pair_push, borrows_string_push, borrows_piece_push}
 use Rattle.cbor_edn_core.proofs.text.grammar.+item.Goals as goal
@@ -24,14 +24,14 @@ use Rattle.cbor_edn_core.proofs.text.grammar.+item.Goals as goal
 pub items::item-returns-in-Some-clause-value : goal.items::item-returns-in-Some-clause-value
 items::item-returns-in-Some-clause-value t c =
     let opens = c.in-Number.ensures.opens in
-    rw c.end_without_space.ensures (number_at c.args.limit _ opens.0 opens.1 opens.2 opens.3 opens.4 ∙ plain_read c.args.limit _ _ _ (scan_read number _ _ _ c.in-Some.ensures.some) c.in-Some.ensures.follow)
+    rw c.bare.ensures (number_at c.args.limit _ opens.0 opens.1 opens.2 opens.3 opens.4 ∙ plain_read c.args.limit _ _ _ (scan_read number _ _ _ c.in-Some.ensures.some) c.in-Some.ensures.follow)
 
 pub items::item-returns-in-Some-clause-cost : goal.items::item-returns-in-Some-clause-cost
 items::item-returns-in-Some-clause-cost t c =
     let text = text_bytes c.args.text.now in
     let start = c.number_start-start.ensures in
     let some = token_behind number text _ c.args.from c.number_start-start.result.at refl c.in-Some.ensures.some c.requires.0 start.start.read.place.0 in
-    rw c.end_without_space.ensures (omega (arith, some, ahead_small text c.args.from, c.in-Number.ensures.count.1, start.cost), omega (arith, c.in-Number.ensures.count.0, start.cost))
+    rw c.bare.ensures (omega (arith, some, ahead_small text c.args.from, c.in-Number.ensures.count.1, start.cost), omega (arith, c.in-Number.ensures.count.0, start.cost))
 
 pub items::item-returns-in_default-clause-value : goal.items::item-returns-in_default-clause-value
 items::item-returns-in_default-clause-value t c =
@@ -53,7 +53,7 @@ pub lists::array_item-returns-then-not-is_at-clause-value : goal.lists::array_it
 lists::array_item-returns-then-not-is_at-clause-value t c = rw c.invalid.ensures (list_open c.args.limit Array _ _ _ _ (omega arith) c.requires.opens.0 c.in_ok-list.ensures.value (c.if-not-is_at.ensures.no refl))
 
 pub lists::array_item-returns-clause-value : goal.lists::array_item-returns-clause-value
-lists::array_item-returns-clause-value t c = rw (c.end_without_space.ensures, c.in_ok-item.ensures.view) (list_read c.args.limit Array _ _ _ _ _ (omega arith) c.requires.opens.0 c.in_ok-list.ensures.value (c.if-not-is_at.ensures.yes refl).0)
+lists::array_item-returns-clause-value t c = rw (c.bare.ensures, c.in_ok-item.ensures.view) (list_read c.args.limit Array _ _ _ _ _ (omega arith) c.requires.opens.0 c.in_ok-list.ensures.value (c.if-not-is_at.ensures.yes refl).0)
 
 pub maps::map_item-returns-then-limit-eq0-clause-value : goal.maps::map_item-returns-then-limit-eq0-clause-value
 maps::map_item-returns-then-limit-eq0-clause-value t c = rw c.too_deep.ensures (list_too_deep c.args.limit Map _ _ c.if-limit-eq0.true c.requires.opens.0)
@@ -67,7 +67,7 @@ pub maps::map_item-returns-then-not-is_at-clause-value : goal.maps::map_item-ret
 maps::map_item-returns-then-not-is_at-clause-value t c = rw c.invalid.ensures (list_open c.args.limit Map _ _ _ _ (omega arith) c.requires.opens.0 c.in_ok-list.ensures.value (c.if-not-is_at.ensures.no refl))
 
 pub maps::map_item-returns-clause-value : goal.maps::map_item-returns-clause-value
-maps::map_item-returns-clause-value t c = rw (c.end_without_space.ensures, c.in_ok-item.ensures.view) (list_read c.args.limit Map _ _ _ _ _ (omega arith) c.requires.opens.0 c.in_ok-list.ensures.value (c.if-not-is_at.ensures.yes refl).0)
+maps::map_item-returns-clause-value t c = rw (c.bare.ensures, c.in_ok-item.ensures.view) (list_read c.args.limit Map _ _ _ _ _ (omega arith) c.requires.opens.0 c.in_ok-list.ensures.value (c.if-not-is_at.ensures.yes refl).0)
 
 pub strings::stream_item-returns-in_err-stream-clause-value : goal.strings::stream_item-returns-in_err-stream-clause-value
 strings::stream_item-returns-in_err-stream-clause-value t c =
@@ -75,7 +75,7 @@ strings::stream_item-returns-in_err-stream-clause-value t c =
     rw (p.1, p.2) (fails_at c.in_err-stream.field-0.0 _ _ (stream_at c.args.limit _ _ c.requires.opens.0) c.in_err-stream.ensures.value)
 
 pub strings::stream_item-returns-clause-value : goal.strings::stream_item-returns-clause-value
-strings::stream_item-returns-clause-value t c = rw (c.end_without_space.ensures, c.in_ok-item.ensures.view) (stream_at c.args.limit _ _ c.requires.opens.0 ∙ c.in_ok-stream.ensures.value)
+strings::stream_item-returns-clause-value t c = rw (c.bare.ensures, c.in_ok-item.ensures.view) (stream_at c.args.limit _ _ c.requires.opens.0 ∙ c.in_ok-stream.ensures.value)
 
 pub strings::string_item-returns-in_err-string-clause-value : goal.strings::string_item-returns-in_err-string-clause-value
 strings::string_item-returns-in_err-string-clause-value t c =
@@ -88,43 +88,43 @@ strings::string_item-returns-clause-value t c = rw c.in_ok-item.ensures.view (st
 pub strings::string_item-returns-clause-borrowed : goal.strings::string_item-returns-clause-borrowed
 strings::string_item-returns-clause-borrowed t c = c.in_ok-item.ensures.borrowed c.in_ok-string.ensures.borrowed
 
-pub lists::array-returns-in_err-s-clause-value : goal.lists::array-returns-in_err-s-clause-value
-lists::array-returns-in_err-s-clause-value t c =
+pub lists::array-returns-in_err-space-clause-value : goal.lists::array-returns-in_err-space-clause-value
+lists::array-returns-in_err-space-clause-value t c =
     let p = err_from_is_err_and c.from_residual.result c.from_residual.ensures.1 in
-    rw (p.1, p.2) (inside_fails (Told c.in_err-s.field-0.0) c.args.limit Array _ _ _ c.indicator_at-indicator.ensures.value (scan_fails space _ c.in_err-s.field-0.0 c.in_err-s.ensures.value))
+    rw (p.1, p.2) (inside_fails (Told c.in_err-space.field-0.0) c.args.limit Array _ _ _ c.indicator_at-indicator.ensures.value (scan_fails space _ c.in_err-space.field-0.0 c.in_err-space.ensures.value))
 
 pub lists::array-returns-then-closes-clause-value : goal.lists::array-returns-then-closes-clause-value
-lists::array-returns-then-closes-clause-value t c = inside_empty c.args.limit Array _ _ _ _ _ c.indicator_at-indicator.ensures.value (scan_read space _ _ _ c.in_ok-s.ensures.value) (sym c.if-closes.ensures.closed)
+lists::array-returns-then-closes-clause-value t c = inside_empty c.args.limit Array _ _ _ _ _ c.indicator_at-indicator.ensures.value (scan_read space _ _ _ c.in_ok-space.ensures.value) (sym c.if-closes.ensures.closed)
 
 pub lists::array-returns-in_default-clause-value : goal.lists::array-returns-in_default-clause-value
-lists::array-returns-in_default-clause-value t c = rw c.invalid.ensures (inside_unparted c.args.limit Array _ _ _ _ _ c.indicator_at-indicator.ensures.value (scan_read space _ _ _ c.in_ok-s.ensures.value) (sym c.if-closes.ensures.closed) c.in_default.ensures.none)
+lists::array-returns-in_default-clause-value t c = rw c.invalid.ensures (inside_unparted c.args.limit Array _ _ _ _ _ c.indicator_at-indicator.ensures.value (scan_read space _ _ _ c.in_ok-space.ensures.value) (sym c.if-closes.ensures.closed) c.in_default.ensures.none)
 
 pub lists::array-returns-in_err-items-clause-value : goal.lists::array-returns-in_err-items-clause-value
 lists::array-returns-in_err-items-clause-value t c =
     let p = err_from_is_err_and c.from_residual-in_err-items.result c.from_residual-in_err-items.ensures.1 in
-    rw (p.1, p.2) (inside_rest_fails c.in_err-items.field-0.0 c.args.limit Array _ _ _ _ _ _ _ c.indicator_at-indicator.ensures.value (scan_read space _ _ _ c.in_ok-s.ensures.value) (sym c.if-closes.ensures.closed) c.in-Some.ensures.some c.in_err-items.ensures.value)
+    rw (p.1, p.2) (inside_rest_fails c.in_err-items.field-0.0 c.args.limit Array _ _ _ _ _ _ _ c.indicator_at-indicator.ensures.value (scan_read space _ _ _ c.in_ok-space.ensures.value) (sym c.if-closes.ensures.closed) c.in-Some.ensures.some c.in_err-items.ensures.value)
 
 pub lists::array-returns-clause-value : goal.lists::array-returns-clause-value
-lists::array-returns-clause-value t c = inside_read c.args.limit Array _ _ _ _ _ _ _ _ _ c.indicator_at-indicator.ensures.value (scan_read space _ _ _ c.in_ok-s.ensures.value) (sym c.if-closes.ensures.closed) c.in-Some.ensures.some c.in_ok-items.ensures.value
+lists::array-returns-clause-value t c = inside_read c.args.limit Array _ _ _ _ _ _ _ _ _ c.indicator_at-indicator.ensures.value (scan_read space _ _ _ c.in_ok-space.ensures.value) (sym c.if-closes.ensures.closed) c.in-Some.ensures.some c.in_ok-items.ensures.value
 
-pub maps::map-returns-in_err-s-clause-value : goal.maps::map-returns-in_err-s-clause-value
-maps::map-returns-in_err-s-clause-value t c =
+pub maps::map-returns-in_err-space-clause-value : goal.maps::map-returns-in_err-space-clause-value
+maps::map-returns-in_err-space-clause-value t c =
     let p = err_from_is_err_and c.from_residual.result c.from_residual.ensures.1 in
-    rw (p.1, p.2) (inside_fails (Told c.in_err-s.field-0.0) c.args.limit Map _ _ _ c.indicator_at-indicator.ensures.value (scan_fails space _ c.in_err-s.field-0.0 c.in_err-s.ensures.value))
+    rw (p.1, p.2) (inside_fails (Told c.in_err-space.field-0.0) c.args.limit Map _ _ _ c.indicator_at-indicator.ensures.value (scan_fails space _ c.in_err-space.field-0.0 c.in_err-space.ensures.value))
 
 pub maps::map-returns-then-closes-clause-value : goal.maps::map-returns-then-closes-clause-value
-maps::map-returns-then-closes-clause-value t c = inside_empty c.args.limit Map _ _ _ _ _ c.indicator_at-indicator.ensures.value (scan_read space _ _ _ c.in_ok-s.ensures.value) (sym c.if-closes.ensures.closed)
+maps::map-returns-then-closes-clause-value t c = inside_empty c.args.limit Map _ _ _ _ _ c.indicator_at-indicator.ensures.value (scan_read space _ _ _ c.in_ok-space.ensures.value) (sym c.if-closes.ensures.closed)
 
 pub maps::map-returns-in_default-clause-value : goal.maps::map-returns-in_default-clause-value
-maps::map-returns-in_default-clause-value t c = rw c.invalid.ensures (inside_unparted c.args.limit Map _ _ _ _ _ c.indicator_at-indicator.ensures.value (scan_read space _ _ _ c.in_ok-s.ensures.value) (sym c.if-closes.ensures.closed) c.in_default.ensures.none)
+maps::map-returns-in_default-clause-value t c = rw c.invalid.ensures (inside_unparted c.args.limit Map _ _ _ _ _ c.indicator_at-indicator.ensures.value (scan_read space _ _ _ c.in_ok-space.ensures.value) (sym c.if-closes.ensures.closed) c.in_default.ensures.none)
 
 pub maps::map-returns-in_err-pairs-clause-value : goal.maps::map-returns-in_err-pairs-clause-value
 maps::map-returns-in_err-pairs-clause-value t c =
     let p = err_from_is_err_and c.from_residual-in_err-pairs.result c.from_residual-in_err-pairs.ensures.1 in
-    rw (p.1, p.2) (inside_rest_fails c.in_err-pairs.field-0.0 c.args.limit Map _ _ _ _ _ _ _ c.indicator_at-indicator.ensures.value (scan_read space _ _ _ c.in_ok-s.ensures.value) (sym c.if-closes.ensures.closed) c.in-Some.ensures.some c.in_err-pairs.ensures.value)
+    rw (p.1, p.2) (inside_rest_fails c.in_err-pairs.field-0.0 c.args.limit Map _ _ _ _ _ _ _ c.indicator_at-indicator.ensures.value (scan_read space _ _ _ c.in_ok-space.ensures.value) (sym c.if-closes.ensures.closed) c.in-Some.ensures.some c.in_err-pairs.ensures.value)
 
 pub maps::map-returns-clause-value : goal.maps::map-returns-clause-value
-maps::map-returns-clause-value t c = inside_read c.args.limit Map _ _ _ _ _ _ _ _ _ c.indicator_at-indicator.ensures.value (scan_read space _ _ _ c.in_ok-s.ensures.value) (sym c.if-closes.ensures.closed) c.in-Some.ensures.some c.in_ok-pairs.ensures.value
+maps::map-returns-clause-value t c = inside_read c.args.limit Map _ _ _ _ _ _ _ _ _ c.indicator_at-indicator.ensures.value (scan_read space _ _ _ c.in_ok-space.ensures.value) (sym c.if-closes.ensures.closed) c.in-Some.ensures.some c.in_ok-pairs.ensures.value
 
 pub lists::items-returns-in_err-item-clause-value : goal.lists::items-returns-in_err-item-clause-value
 lists::items-returns-in_err-item-clause-value t c =
@@ -141,8 +141,8 @@ lists::items-returns-in-Last-clause-value t c =
 
 pub lists::items-returns-in-Last-clause-borrowed : goal.lists::items-returns-in-Last-clause-borrowed
 lists::items-returns-in-Last-clause-borrowed t c =
-    let soc = rw c.in-Last.is at c.in-Ok.ensures.borrowed in
-    borrows_made _ _ refl (subst BorrowsEach (sym c.behind_entry.ensures.unchanged) c.items.invariant.borrowed) c.in_ok-item.ensures.borrowed soc
+    let list_end = rw c.in-Last.is at c.in-Ok.ensures.borrowed in
+    borrows_made _ _ refl (subst BorrowsEach (sym c.behind_entry.ensures.unchanged) c.items.invariant.borrowed) c.in_ok-item.ensures.borrowed list_end
 
 pub lists::items-returns-in-Last-clause-place : goal.lists::items-returns-in-Last-clause-place
 lists::items-returns-in-Last-clause-place t c =
@@ -194,8 +194,8 @@ maps::pairs-returns-in-Last-clause-value t c =
 
 pub maps::pairs-returns-in-Last-clause-borrowed : goal.maps::pairs-returns-in-Last-clause-borrowed
 maps::pairs-returns-in-Last-clause-borrowed t c =
-    let soc = rw c.in-Last.is at c.in-Ok.ensures.borrowed in
-    borrows_pairs_made _ _ refl (subst BorrowsEachPair (sym c.behind_entry.ensures.unchanged) c.pairs.invariant.borrowed) c.in_ok-pair.ensures.borrowed soc
+    let list_end = rw c.in-Last.is at c.in-Ok.ensures.borrowed in
+    borrows_pairs_made _ _ refl (subst BorrowsEachPair (sym c.behind_entry.ensures.unchanged) c.pairs.invariant.borrowed) c.in_ok-pair.ensures.borrowed list_end
 
 pub maps::pairs-returns-in-Last-clause-place : goal.maps::pairs-returns-in-Last-clause-place
 maps::pairs-returns-in-Last-clause-place t c =
@@ -255,13 +255,13 @@ strings::strings-returns-in_err-push_entry-clause-value t c =
 
 pub strings::strings-strings-smaller : goal.strings::strings-strings-smaller
 strings::strings-strings-smaller t c =
-    let some : 0 < length (soc_bytes c.in_ok-string.soc) = some_length _ c.in_ok-push_entry.ensures.pushed.not_empty in
+    let some : 0 < length (list_end_bytes c.in_ok-string.list_end) = some_length _ c.in_ok-push_entry.ensures.pushed.not_empty in
     omega (arith, c.in_ok-read.ensures.place.0, c.in_ok-string.ensures.place.0, c.in_ok-string.ensures.place.1.0)
 
 pub strings::strings-strings-preserved : goal.strings::strings-strings-preserved
 strings::strings-strings-preserved t c =
     let pushed = c.in_ok-push_entry.ensures.pushed in
-    let some : 0 < length (soc_bytes c.in_ok-string.soc) = some_length _ pushed.not_empty in
+    let some : 0 < length (list_end_bytes c.in_ok-string.list_end) = some_length _ pushed.not_empty in
     record {
       order = omega (arith, c.in_ok-read.ensures.place.0, c.in_ok-string.ensures.place.0);
       place = c.in_ok-string.ensures.place.1;
@@ -307,24 +307,24 @@ maps::pair_of_key-returns-clause-value t c = value_read c.args.limit _ _ _ _ _ _
 pub strings::stream-returns-then-not-is_at-clause-value : goal.strings::stream-returns-then-not-is_at-clause-value
 strings::stream-returns-then-not-is_at-clause-value t c = rw c.invalid.ensures (stream_no_underscore c.args.limit _ (c.if-not-is_at.ensures.no refl))
 
-pub strings::stream-returns-in_err-s-clause-value : goal.strings::stream-returns-in_err-s-clause-value
-strings::stream-returns-in_err-s-clause-value t c =
+pub strings::stream-returns-in_err-space-clause-value : goal.strings::stream-returns-in_err-space-clause-value
+strings::stream-returns-in_err-space-clause-value t c =
     let p = err_from_is_err_and c.from_residual.result c.from_residual.ensures.1 in
-    rw (p.1, p.2) (stream_fails (Told c.in_err-s.field-0.0) c.args.limit _ _ (c.if-not-is_at.ensures.yes refl).0 (scan_fails space _ c.in_err-s.field-0.0 c.in_err-s.ensures.value))
+    rw (p.1, p.2) (stream_fails (Told c.in_err-space.field-0.0) c.args.limit _ _ (c.if-not-is_at.ensures.yes refl).0 (scan_fails space _ c.in_err-space.field-0.0 c.in_err-space.ensures.value))
 
 pub strings::stream-returns-in_default-clause-value : goal.strings::stream-returns-in_default-clause-value
-strings::stream-returns-in_default-clause-value t c = rw c.invalid-in_default.ensures (stream_unspaced c.args.limit _ _ _ _ (c.if-not-is_at.ensures.yes refl).0 (scan_read space _ _ _ c.in_ok-s.ensures.value) (c.in_default.ensures.none.0 refl))
+strings::stream-returns-in_default-clause-value t c = rw c.invalid-in_default.ensures (stream_unspaced c.args.limit _ _ _ _ (c.if-not-is_at.ensures.yes refl).0 (scan_read space _ _ _ c.in_ok-space.ensures.value) (c.in_default.ensures.none.0 refl))
 
 pub strings::stream-returns-in_err-strings-clause-value : goal.strings::stream-returns-in_err-strings-clause-value
 strings::stream-returns-in_err-strings-clause-value t c =
     let p = err_from_is_err_and c.from_residual-in_err-strings.result c.from_residual-in_err-strings.ensures.1 in
-    rw (p.1, p.2) (stream_rest_fails c.in_err-strings.field-0.0 c.args.limit _ _ _ _ (c.if-not-is_at.ensures.yes refl).0 (scan_read space _ _ _ c.in_ok-s.ensures.value) (λ e. false≢true (sym (c.in-Some.ensures.none.1 e))) c.in_err-strings.ensures.value)
+    rw (p.1, p.2) (stream_rest_fails c.in_err-strings.field-0.0 c.args.limit _ _ _ _ (c.if-not-is_at.ensures.yes refl).0 (scan_read space _ _ _ c.in_ok-space.ensures.value) (λ e. false≢true (sym (c.in-Some.ensures.none.1 e))) c.in_err-strings.ensures.value)
 
 pub strings::stream-returns-then-not-is_at-2-clause-value : goal.strings::stream-returns-then-not-is_at-2-clause-value
-strings::stream-returns-then-not-is_at-2-clause-value t c = rw c.invalid-then-not-is_at-2.ensures (stream_open c.args.limit _ _ _ _ _ _ (c.if-not-is_at.ensures.yes refl).0 (scan_read space _ _ _ c.in_ok-s.ensures.value) (λ e. false≢true (sym (c.in-Some.ensures.none.1 e))) c.in_ok-strings.ensures.value (c.if-not-is_at-2.ensures.no refl))
+strings::stream-returns-then-not-is_at-2-clause-value t c = rw c.invalid-then-not-is_at-2.ensures (stream_open c.args.limit _ _ _ _ _ _ (c.if-not-is_at.ensures.yes refl).0 (scan_read space _ _ _ c.in_ok-space.ensures.value) (λ e. false≢true (sym (c.in-Some.ensures.none.1 e))) c.in_ok-strings.ensures.value (c.if-not-is_at-2.ensures.no refl))
 
 pub strings::stream-returns-clause-value : goal.strings::stream-returns-clause-value
-strings::stream-returns-clause-value t c = rw (view_stream_made texts, c.in-Some.ensures.same) (stream_read c.args.limit _ _ _ _ _ _ _ (c.if-not-is_at.ensures.yes refl).0 (scan_read space _ _ _ c.in_ok-s.ensures.value) (λ e. false≢true (sym (c.in-Some.ensures.none.1 e))) c.in_ok-strings.ensures.value (c.if-not-is_at-2.ensures.yes refl).0)
+strings::stream-returns-clause-value t c = rw (view_stream_made texts, c.in-Some.ensures.same) (stream_read c.args.limit _ _ _ _ _ _ _ (c.if-not-is_at.ensures.yes refl).0 (scan_read space _ _ _ c.in_ok-space.ensures.value) (λ e. false≢true (sym (c.in-Some.ensures.none.1 e))) c.in_ok-strings.ensures.value (c.if-not-is_at-2.ensures.yes refl).0)
 
 pub strings::string-returns-in_err-piece-clause-value : goal.strings::string-returns-in_err-piece-clause-value
 strings::string-returns-in_err-piece-clause-value t c =
@@ -356,13 +356,13 @@ strings::string-pieces-preserved t c = record {
       ∙ with_more_pieces (seen_piece texts) c.pieces.row.items (c.in_ok-piece.piece, c.in_ok-before.before, c.in_ok-after.after) _ _ refl);
 }
 
-pub strings::piece-returns-in_err-dots-clause-value : goal.strings::piece-returns-in_err-dots-clause-value
-strings::piece-returns-in_err-dots-clause-value t c =
+pub strings::piece-returns-in_err-ellipsis-clause-value : goal.strings::piece-returns-in_err-ellipsis-clause-value
+strings::piece-returns-in_err-ellipsis-clause-value t c =
     let p = err_from_is_err_and c.from_residual.result c.from_residual.ensures.1 in
-    rw (p.1, p.2) (dots_fail (Told c.in_err-dots.field-0.0) c.args.limit _ _ (c.if-is_at-2.ensures.yes refl).0 (scan_fails dots _ c.in_err-dots.field-0.0 c.in_err-dots.ensures.value))
+    rw (p.1, p.2) (ellipsis_fail (Told c.in_err-ellipsis.field-0.0) c.args.limit _ _ (c.if-is_at-2.ensures.yes refl).0 (scan_fails ellipsis _ c.in_err-ellipsis.field-0.0 c.in_err-ellipsis.ensures.value))
 
 pub strings::piece-returns-then-is_at-2-clause-value : goal.strings::piece-returns-then-is_at-2-clause-value
-strings::piece-returns-then-is_at-2-clause-value t c = dots_read c.args.limit _ _ _ _ (c.if-is_at-2.ensures.yes refl).0 (scan_read dots _ _ _ c.in_ok-dots.ensures.value)
+strings::piece-returns-then-is_at-2-clause-value t c = ellipsis_read c.args.limit _ _ _ _ (c.if-is_at-2.ensures.yes refl).0 (scan_read ellipsis _ _ _ c.in_ok-ellipsis.ensures.value)
 
 pub strings::piece-returns-in_err-literal-clause-value : goal.strings::piece-returns-in_err-literal-clause-value
 strings::piece-returns-in_err-literal-clause-value t c =
@@ -416,8 +416,8 @@ strings::string-returns-then-not-joins-clause-place t c = (omega (arith, c.in_ok
 
 pub strings::piece-returns-then-is_at-2-clause-cost : goal.strings::piece-returns-then-is_at-2-clause-cost
 strings::piece-returns-then-is_at-2-clause-cost t c =
-    let some = token_two dots _ _ c.args.from c.in_ok-dots.to refl dots_open c.in_ok-dots.ensures.value c.requires.0 c.in_ok-dots.ensures.place.1.0 in
-    (omega (arith, some, ahead_small (text_bytes c.args.text.now) c.args.from, c.in_ok-dots.ensures.cost.0, c.is_at.ensures.count, c.is_at-2.ensures.count), omega (arith, c.in_ok-dots.ensures.cost.1, c.is_at.ensures.count, c.is_at-2.ensures.count))
+    let some = token_two ellipsis _ _ c.args.from c.in_ok-ellipsis.to refl ellipsis_open c.in_ok-ellipsis.ensures.value c.requires.0 c.in_ok-ellipsis.ensures.place.1.0 in
+    (omega (arith, some, ahead_small (text_bytes c.args.text.now) c.args.from, c.in_ok-ellipsis.ensures.cost.0, c.is_at.ensures.count, c.is_at-2.ensures.count), omega (arith, c.in_ok-ellipsis.ensures.cost.1, c.is_at.ensures.count, c.is_at-2.ensures.count))
 
 pub strings::piece-returns-clause-cost : goal.strings::piece-returns-clause-cost
 strings::piece-returns-clause-cost t c =
@@ -444,21 +444,21 @@ sequences::standalone-returns-clause-value t c =
     standalone_read c.args.limit _ _ _ _ _ _ _ (scan_read space _ _ _ c.in_ok-before.ensures.value) c.in_ok-item.ensures.value (scan_read space _ _ _ c.in_ok-after.ensures.value)
 
 pub items::enclosed_item-returns-then-not-is_at-clause-value : goal.items::enclosed_item-returns-then-not-is_at-clause-value
-items::enclosed_item-returns-then-not-is_at-clause-value t c = rw c.invalid.ensures (enclosed_shut c.args.limit c.args.label.kind _ (c.if-not-is_at.ensures.no refl))
+items::enclosed_item-returns-then-not-is_at-clause-value t c = rw c.invalid.ensures (enclosed_shut c.args.limit c.args.opener.kind _ (c.if-not-is_at.ensures.no refl))
 
 pub items::enclosed_item-returns-then-limit-eq0-clause-value : goal.items::enclosed_item-returns-then-limit-eq0-clause-value
-items::enclosed_item-returns-then-limit-eq0-clause-value t c = rw c.too_deep.ensures (enclosed_too_deep c.args.limit c.args.label.kind _ _ c.if-limit-eq0.true (c.if-not-is_at.ensures.yes refl).0)
+items::enclosed_item-returns-then-limit-eq0-clause-value t c = rw c.too_deep.ensures (enclosed_too_deep c.args.limit c.args.opener.kind _ _ c.if-limit-eq0.true (c.if-not-is_at.ensures.yes refl).0)
 
 pub items::enclosed_item-returns-in_err-content-clause-value : goal.items::enclosed_item-returns-in_err-content-clause-value
 items::enclosed_item-returns-in_err-content-clause-value t c =
     let p = err_from_is_err_and c.from_residual.result c.from_residual.ensures.1 in
-    rw (p.1, p.2) (enclosed_fails c.in_err-content.field-0.0 c.args.limit c.args.label.kind _ _ (omega arith) (c.if-not-is_at.ensures.yes refl).0 c.in_err-content.ensures.value)
+    rw (p.1, p.2) (enclosed_fails c.in_err-content.field-0.0 c.args.limit c.args.opener.kind _ _ (omega arith) (c.if-not-is_at.ensures.yes refl).0 c.in_err-content.ensures.value)
 
 pub items::enclosed_item-returns-then-not-is_at-2-clause-value : goal.items::enclosed_item-returns-then-not-is_at-2-clause-value
-items::enclosed_item-returns-then-not-is_at-2-clause-value t c = rw c.invalid-then-not-is_at-2.ensures (enclosed_open c.args.limit c.args.label.kind _ _ _ _ (omega arith) (c.if-not-is_at.ensures.yes refl).0 c.in_ok-content.ensures.value (c.if-not-is_at-2.ensures.no refl))
+items::enclosed_item-returns-then-not-is_at-2-clause-value t c = rw c.invalid-then-not-is_at-2.ensures (enclosed_open c.args.limit c.args.opener.kind _ _ _ _ (omega arith) (c.if-not-is_at.ensures.yes refl).0 c.in_ok-content.ensures.value (c.if-not-is_at-2.ensures.no refl))
 
 pub items::enclosed_item-returns-clause-value : goal.items::enclosed_item-returns-clause-value
-items::enclosed_item-returns-clause-value t c = rw (c.end_without_space.ensures, c.in_ok-item.ensures.view) (enclosed_read c.args.limit c.args.label.kind _ _ _ _ _ (omega arith) (c.if-not-is_at.ensures.yes refl).0 c.in_ok-content.ensures.value (c.if-not-is_at-2.ensures.yes refl).0)
+items::enclosed_item-returns-clause-value t c = rw (c.bare.ensures, c.in_ok-item.ensures.view) (enclosed_read c.args.limit c.args.opener.kind _ _ _ _ _ (omega arith) (c.if-not-is_at.ensures.yes refl).0 c.in_ok-content.ensures.value (c.if-not-is_at-2.ensures.yes refl).0)
 
 pub items::item-returns-in-Keyword-clause-value : goal.items::item-returns-in-Keyword-clause-value
 items::item-returns-in-Keyword-clause-value t c = ends_same _ _ _ _ _ (keyword_here c.args.limit _ _ _ c.in-Keyword.ensures.opens.0) c.keyword_item.ensures.value
@@ -495,18 +495,18 @@ items::number_item-returns-then-is_at-clause-cost t c = λ before looked.
     c.enclosed_item.ensures.cost
 
 pub items::number_item-returns-clause-value : goal.items::number_item-returns-clause-value
-items::number_item-returns-clause-value t c = rw c.end_without_space.ensures (number_read c.args.limit _ _ _ _ _ (scan_read number _ _ _ c.in_ok-number.ensures.value) c.indicator_at-indicator.ensures.value (c.if-is_at.ensures.no refl))
+items::number_item-returns-clause-value t c = rw c.bare.ensures (number_read c.args.limit _ _ _ _ _ (scan_read number _ _ _ c.in_ok-number.ensures.value) c.indicator_at-indicator.ensures.value (c.if-is_at.ensures.no refl))
 
 pub items::number_item-returns-clause-cost : goal.items::number_item-returns-clause-cost
 items::number_item-returns-clause-cost t c = λ before looked.
     let some = token_behind number _ _ c.args.from c.in_ok-number.at refl c.in_ok-number.ensures.value c.requires.begins.0 c.in_ok-number.ensures.place.1.0 in
-    rw c.end_without_space.ensures (omega (arith, looked, some, ahead_small (text_bytes c.args.text.now) c.args.from, c.requires.start.comes.order, c.in_ok-number.ensures.cost.0, c.indicator_at-indicator.ensures.cost, c.indicator_at-indicator.ensures.place.0, c.is_at.ensures.count), omega (arith, looked, c.requires.start.comes.order, c.in_ok-number.ensures.cost.1, c.indicator_at-indicator.ensures.cost, c.is_at.ensures.count))
+    rw c.bare.ensures (omega (arith, looked, some, ahead_small (text_bytes c.args.text.now) c.args.from, c.requires.start.comes.order, c.in_ok-number.ensures.cost.0, c.indicator_at-indicator.ensures.cost, c.indicator_at-indicator.ensures.place.0, c.is_at.ensures.count), omega (arith, looked, c.requires.start.comes.order, c.in_ok-number.ensures.cost.1, c.indicator_at-indicator.ensures.cost, c.is_at.ensures.count))
 
 pub items::keyword_item-returns-in-Named-clause-value : goal.items::keyword_item-returns-in-Named-clause-value
-items::keyword_item-returns-in-Named-clause-value t c = rw (c.end_without_space.ensures, c.in-Named.is) (named_read c.args.limit _ _)
+items::keyword_item-returns-in-Named-clause-value t c = rw (c.bare.ensures, c.in-Named.is) (named_read c.args.limit _ _)
 
 pub items::keyword_item-returns-in-NonFinite-clause-value : goal.items::keyword_item-returns-in-NonFinite-clause-value
-items::keyword_item-returns-in-NonFinite-clause-value t c = rw (c.end_without_space-in-NonFinite.ensures, c.in-NonFinite.is) (float_read c.args.limit _ _ _ _ c.indicator_at-indicator.ensures.value)
+items::keyword_item-returns-in-NonFinite-clause-value t c = rw (c.bare-in-NonFinite.ensures, c.in-NonFinite.is) (float_read c.args.limit _ _ _ _ c.indicator_at-indicator.ensures.value)
 
 pub items::keyword_item-returns-in-Simple-clause-value : goal.items::keyword_item-returns-in-Simple-clause-value
 items::keyword_item-returns-in-Simple-clause-value t c = rw c.in-Simple.is (ends_same _ _ _ _ _ (simple_at c.args.limit _) (rw c.simple.ensures at c.enclosed_item.ensures.value))

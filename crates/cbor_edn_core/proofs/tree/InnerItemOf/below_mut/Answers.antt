@@ -9,8 +9,8 @@ returns-then-leads g c =
     let path = drop c.args.at c.args.path.now in (
       (
         refl,
-        λ w. on_some c.reach.result (λ h leaves. h leaves ∙ ap (λ t. with_at path (view_item leaves w) t) (c.leads.ensures.same leaves)) (c.reach.follows.holds w),
-        λ leaves. c.reach.follows.holds-at-none leaves ∙ c.leads.ensures.same leaves,
+        λ w. on_some c.descend.result (λ h leaves. h leaves ∙ ap (λ t. with_at path (view_item leaves w) t) (c.leads.ensures.same leaves)) (c.descend.follows.holds w),
+        λ leaves. c.descend.follows.holds-at-none leaves ∙ c.leads.ensures.same leaves,
       ),
-      record { lent = tt; value = λ leaves. c.reach.ensures.value leaves ∙ ap (at_path path) (c.leads.ensures.same leaves) },
+      record { lent = tt; value = λ leaves. c.descend.ensures.value leaves ∙ ap (at_path path) (c.leads.ensures.same leaves) },
     )

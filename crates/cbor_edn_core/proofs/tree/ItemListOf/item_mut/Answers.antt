@@ -10,7 +10,7 @@ use Rattle.cbor_edn_core.proofs.tree.ItemListOf.item_mut.Goals as goal
 pub returns-in-Present : goal.returns-in-Present
 returns-in-Present g c =
     let head = c.in-Present.head in
-    let s = c.in-Present.s in (
+    let s = c.in-Present.space in (
       (
         refl,
         λ w. then_some c.item_mut.result (c.item_mut.follows.holds w) (λ h leaves. viewed (view_list leaves) (Present head s (c.item_mut.follows.lender w)) (rw c.in-Present.is refl)

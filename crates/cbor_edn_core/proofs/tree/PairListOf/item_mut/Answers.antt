@@ -13,7 +13,7 @@ use Rattle.cbor_edn_core.proofs.tree.PairListOf.item_mut.Goals as goal
 pub returns-in-Present : goal.returns-in-Present
 returns-in-Present g c =
     let head = c.in-Present.head in
-    let s = c.in-Present.s in
+    let s = c.in-Present.space in
     let read = values_o (pair_list.enum (param 0 g.row.O) (param 1 g.row.M) (param 2 g.row.C) (param 3 g.row.E) (param 4 g.row.N) (param 5 g.row.L) (param 6 g.row.D)) 0 in (
       (
         refl,

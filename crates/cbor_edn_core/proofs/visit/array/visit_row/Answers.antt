@@ -4,7 +4,7 @@ use Rattle.std.proofs.Math.ListN.{length-set}
 use Rattle.std.proofs.lemmas.List.{drop-set-lt}
 use Rattle.std.proofs.lemmas.List.Elements.{All-push}
 use Rattle.std.proofs.lemmas.Grind.{drop_more_same}
-use Rattle.cbor_edn_parts.specs.declared.space.Msc.{Msc}
+use Rattle.cbor_edn_parts.specs.declared.space.Separator.{Separator}
 use Rattle.cbor_edn_model.specs.tree.TreeLeaves.{texts}
 use Rattle.cbor_edn_model.specs.visit.Visits.{VisitElement, cut, no_calls, one_call}
 use Rattle.cbor_edn_model.specs.internal.Visiting.{VisitFront}
@@ -35,7 +35,7 @@ returns-in_err-visit_element g c =
     let i = l.item-index in
     let so_far = l.invariant.so_far in
     let x = get_or ys i c.loop-item-item.result in
-    let y : Item × Msc = (c.visit_element.new.item, c.visit_element.new.space) in
+    let y : Item × Separator = (c.visit_element.new.item, c.visit_element.new.space) in
     let here : get_or xs i x ≡ x = sym (same_here ys xs i x l.invariant.rest) ∙ sym (ap (λ a. get_or ys i a) c.loop-item-item.is) in
     let inside : i < length xs = omega (arith, l.invariant.same_length) in
     let v = c.in_err-visit_element.ensures.visited in
@@ -58,7 +58,7 @@ loop-item-preserved g c =
     let i = l.item-index in
     let so_far = l.invariant.so_far in
     let x = get_or ys i c.loop-item-item.result in
-    let y : Item × Msc = (c.visit_element.new.item, c.visit_element.new.space) in
+    let y : Item × Separator = (c.visit_element.new.item, c.visit_element.new.space) in
     let here : get_or xs i x ≡ x = sym (same_here ys xs i x l.invariant.rest) ∙ sym (ap (λ a. get_or ys i a) c.loop-item-item.is) in
     let inside : i < length xs = omega (arith, l.invariant.same_length) in
     let v = c.in_ok-visit_element.ensures.visited in

@@ -4,14 +4,14 @@ use Rattle.std.proofs.Math.ListN.{length-set}
 use Rattle.std.proofs.lemmas.List.{drop-set-lt}
 use Rattle.std.proofs.lemmas.List.Elements.{All-push}
 use Rattle.std.proofs.lemmas.Grind.{drop_more_same}
-use Rattle.cbor_edn_parts.specs.declared.space.Msc.{Msc}
+use Rattle.cbor_edn_parts.specs.declared.space.Separator.{Separator}
 use Rattle.cbor_edn_model.specs.tree.TreeLeaves.{texts}
 use Rattle.cbor_edn_model.specs.visit.Visits.{VisitPair, cut, no_calls, one_call}
 use Rattle.cbor_edn_model.specs.internal.Visiting.{VisitFront}
 use Rattle.cbor_edn_model.proofs.lemmas.visit.VisitedRows.{Chain-append, seen_here, key_called_at, nothing_visited, one_visited, one_cut}
 use Rattle.cbor_edn_model.proofs.lemmas.layout.Begun.{kept, same_here}
 use Rattle.cbor_edn_core.proofs.lemmas.visit.ElementVisits.{cut_short}
-use Rattle.cbor_edn_core.specs.tree.View.{Kp, row_key, seen_pair}
+use Rattle.cbor_edn_core.specs.tree.View.{Pair, row_key, seen_pair}
 use Rattle.cbor_edn_core.proofs.visit.map.visit_row.Goals as goal
 
 pub loop-pair-init : goal.loop-pair-init
@@ -35,7 +35,7 @@ returns-in_err-visit_pair g c =
     let i = l.pair-index in
     let so_far = l.invariant.so_far in
     let x = get_or ys i c.loop-pair-item.result in
-    let y : Kp × Msc = (c.visit_pair.new.pair, c.visit_pair.new.space) in
+    let y : Pair × Separator = (c.visit_pair.new.pair, c.visit_pair.new.space) in
     let here : get_or xs i x ≡ x = sym (same_here ys xs i x l.invariant.rest) ∙ sym (ap (λ a. get_or ys i a) c.loop-pair-item.is) in
     let inside : i < length xs = omega (arith, l.invariant.same_length) in
     let v = c.in_err-visit_pair.ensures.visited in
@@ -58,7 +58,7 @@ loop-pair-preserved g c =
     let i = l.pair-index in
     let so_far = l.invariant.so_far in
     let x = get_or ys i c.loop-pair-item.result in
-    let y : Kp × Msc = (c.visit_pair.new.pair, c.visit_pair.new.space) in
+    let y : Pair × Separator = (c.visit_pair.new.pair, c.visit_pair.new.space) in
     let here : get_or xs i x ≡ x = sym (same_here ys xs i x l.invariant.rest) ∙ sym (ap (λ a. get_or ys i a) c.loop-pair-item.is) in
     let inside : i < length xs = omega (arith, l.invariant.same_length) in
     let v = c.in_ok-visit_pair.ensures.visited in

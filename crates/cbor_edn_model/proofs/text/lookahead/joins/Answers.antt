@@ -1,7 +1,7 @@
 use Rattle.std.proofs.Common.{ℕ, List, [], ◌∷◌, ◌≡◌, drop, false, Bool, refl, ◌∙◌}
 use Rattle.std.specs.Prelude.{not}
 use Rattle.std.proofs.lemmas.Bool.{ne_eqb}
-use Rattle.cbor_edn_parts.specs.internal.Text.{text_bytes}
+use Rattle.cbor_edn_parts.specs.internal.Input.{text_bytes}
 use Rattle.cbor_edn_model.specs.internal.BytesAt.{IsNotAt}
 use Rattle.cbor_edn_model.specs.tree.Trees.{joins, starts_number}
 use Rattle.cbor_edn_model.proofs.text.lookahead.joins.Goals as goal

@@ -19,9 +19,9 @@ pub returns-in-None-clause-some : goal.returns-in-None-clause-some
 unfolding list_head_of
 returns-in-None-clause-some c = rw c.in-None.is
 
-pub returns-in-None-into_ms-clause-none : goal.returns-in-None-into_ms-clause-none
-returns-in-None-into_ms-clause-none c = rw c.in-Some.is (no_space _ _ (c.in-None-into_ms.ensures.none.0 refl))
+pub returns-in-None-into_mandatory-clause-none : goal.returns-in-None-into_mandatory-clause-none
+returns-in-None-into_mandatory-clause-none c = rw c.in-Some.is (no_space _ _ (c.in-None-into_mandatory.ensures.none.0 refl))
 
-pub returns-in-Some-into_ms-clause-some : goal.returns-in-Some-into_ms-clause-some
-returns-in-Some-into_ms-clause-some c =
-    rw (c.in-Some.is, c.empty.ensures.bytes, c.in-Some-into_ms.ensures.same) (own_space c.in-Some.indicator _ (λ e. false≢true (sym (c.in-Some-into_ms.ensures.none.1 e))))
+pub returns-in-Some-into_mandatory-clause-some : goal.returns-in-Some-into_mandatory-clause-some
+returns-in-Some-into_mandatory-clause-some c =
+    rw (c.in-Some.is, c.empty.ensures.bytes, c.in-Some-into_mandatory.ensures.same) (own_space c.in-Some.indicator _ (λ e. false≢true (sym (c.in-Some-into_mandatory.ensures.none.1 e))))

@@ -1,6 +1,6 @@
 use Rattle.std.proofs.Common.{ℕ, suc, ◌≡◌, ◌+◌, ◌-◌, ◌*◌, ◌^◌, ◌<◌, ◌≤◌, List, [], ◌∷◌, length, get_or, take, drop, drop-cons, add-one, Some, None, sym, ap, ◌∙◌, arith}
 use Rattle.std.proofs.lemmas.List.{length-take, length-drop}
-use Rattle.cbor_edn_parts.specs.internal.Text.{text_bytes}
+use Rattle.cbor_edn_parts.specs.internal.Input.{text_bytes}
 use Rattle.cbor_edn_model.specs.internal.Lookahead.{digit_in_front}
 use Rattle.cbor_edn_model.specs.internal.Reading.{tag_number}
 use Rattle.cbor_edn_model.proofs.lemmas.text.TagDigits.{tag_after, first_none, first_zero, first_next, after_none, after_wide, after_next}

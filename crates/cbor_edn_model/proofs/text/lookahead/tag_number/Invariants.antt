@@ -1,6 +1,6 @@
 -- What is read so far goes on as the whole.
 use Rattle.std.proofs.Common.{◌≡◌, ◌+◌, ◌-◌, take, drop}
-use Rattle.cbor_edn_parts.specs.internal.Text.{text_bytes}
+use Rattle.cbor_edn_parts.specs.internal.Input.{text_bytes}
 use Rattle.cbor_edn_model.specs.internal.Reading.{tag_number}
 use Rattle.cbor_edn_model.proofs.lemmas.text.TagDigits.{tag_after}
 use Rattle.cbor_edn_model.proofs.text.lookahead.tag_number.Given as goal

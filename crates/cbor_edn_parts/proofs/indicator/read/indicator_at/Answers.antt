@@ -4,7 +4,7 @@ use Rattle.cbor_edn_parts.specs.Indicator.{suffix_at, indicator_at}
 use Rattle.cbor_edn_parts.specs.declared.indicator.Indicator.{Indicator}
 use Rattle.cbor_edn_parts.specs.declared.indicator.Indicator.TheVariants.{Indefinite, Immediate, One, Two, Four, Eight}
 use Rattle.cbor_edn_parts.specs.internal.Scans.{IsAt}
-use Rattle.cbor_edn_parts.specs.internal.Text.{text_bytes}
+use Rattle.cbor_edn_parts.specs.internal.Input.{text_bytes}
 use Rattle.cbor_edn_parts.proofs.indicator.read.indicator_at.Goals as goal
 
 none_here : (text : List ℕ) (at : ℕ) (r : Option ℕ) → IsAt text at r → r ≡ None → drop at text ≡ []

@@ -1,7 +1,7 @@
 use Rattle.std.proofs.Common.{arith}
 use Rattle.cbor_edn_parts.specs.declared.number.NumberState.TheVariants.{Start, Signed}
 use Rattle.cbor_edn_parts.specs.internal.NumberTokens as tokens
-use Rattle.cbor_edn_parts.specs.internal.Text.{text_bytes}
+use Rattle.cbor_edn_parts.specs.internal.Input.{text_bytes}
 use Rattle.cbor_edn_parts.proofs.lemmas.number.FirstDigits.{sign_from_start, zero_from_start, zero_from_sign, digits_from_start, digits_from_sign}
 use Rattle.cbor_edn_parts.proofs.lemmas.scan.ScanEnds.{comes_byte, comes_on}
 use Rattle.cbor_edn_parts.proofs.number.start.number_start.Goals as goal

@@ -4,7 +4,7 @@ use Rattle.cbor_edn_parts.specs.internal.Ends.{IsSpaced}
 use Rattle.cbor_edn_parts.specs.internal.Lex.{token}
 use Rattle.cbor_edn_parts.specs.internal.Scans.{IsAt}
 use Rattle.cbor_edn_parts.specs.internal.SpaceTokens as tokens
-use Rattle.cbor_edn_parts.specs.internal.Text.{text_bytes}
+use Rattle.cbor_edn_parts.specs.internal.Input.{text_bytes}
 use Rattle.cbor_edn_parts.proofs.lemmas.space.SeparatorTokens.{Read, end, other, comma, separator_read, separator_refused, separator_unread}
 use Rattle.cbor_edn_parts.proofs.lemmas.scan.Tokens.{taken}
 use Rattle.cbor_edn_parts.proofs.space.read.separator_behind.Goals as goal

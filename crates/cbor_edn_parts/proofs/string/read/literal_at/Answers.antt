@@ -1,5 +1,5 @@
 use Rattle.cbor_edn_parts.specs.internal.LiteralTokens as tokens
-use Rattle.cbor_edn_parts.specs.internal.Text.{text_bytes}
+use Rattle.cbor_edn_parts.specs.internal.Input.{text_bytes}
 use Rattle.cbor_edn_parts.proofs.lemmas.literal.PlainTexts.{quote_there, opened, whole_text}
 use Rattle.cbor_edn_parts.proofs.lemmas.scan.ScanEnds.{comes_on, comes_nowhere}
 use Rattle.cbor_edn_parts.proofs.lemmas.scan.Tokens.{taken}

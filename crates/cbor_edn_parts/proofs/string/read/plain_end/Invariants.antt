@@ -1,7 +1,7 @@
 use Rattle.std.proofs.Common.{◌+◌, ◌-◌, length}
 use Rattle.cbor_edn_parts.specs.internal.LiteralTokens as tokens
 use Rattle.cbor_edn_parts.specs.internal.PlainTexts.{in_text}
-use Rattle.cbor_edn_parts.specs.internal.Text.{text_bytes}
+use Rattle.cbor_edn_parts.specs.internal.Input.{text_bytes}
 use Rattle.cbor_edn_parts.proofs.lemmas.scan.ScanLoops.{Stands}
 use Rattle.cbor_edn_parts.proofs.string.read.plain_end.Given as goal
 

@@ -8,7 +8,7 @@ use Rattle.cbor_edn_core.proofs.cbor.decode.strings.indefinite_string.Goals as g
 
 pub returns-in-Some : goal.returns-in-Some
 returns-in-Some c =
-    rw c.in-Some.is (subst (λ (w : Tree OneItem). IfOk c.stream.result (λ t. item_tree t ≡ w)) (view_stream_made texts _ ∙ rw c.space.ensures.bytes refl) c.stream.ensures.view)
+    rw c.in-Some.is (subst (λ (w : Tree OneItem). IfOk c.stream.result (λ t. item_tree t ≡ w)) (view_stream_made texts _ ∙ rw c.single.ensures.bytes refl) c.stream.ensures.view)
 
 pub returns-in-None : goal.returns-in-None
 returns-in-None c =

@@ -12,7 +12,7 @@ use Rattle.cbor_edn_model.proofs.lemmas.layout.Begun.{kept, same_here}
 use Rattle.cbor_edn_core.specs.tree.View.{seen, seen_pair, seen_piece, seen_string, view_item, view_standalone}
 use Rattle.cbor_edn_core.specs.declared.tree.StreamOf.{out-StreamOf, roll-StreamOf}
 use Rattle.cbor_edn_core.proofs.lemmas.visit.ElementVisits.{cut_short}
-use Rattle.cbor_edn_core.proofs.lemmas.visit.Walks.{entry_more, entry_cut, entries_all, piece_more, piece_cut, key_cut, key_then, key_value, number_walked, float_walked, name_walked, literal_alone_walked, tag_walked, simple_walked, array_walked, map_walked, string_walked, stream_walked, literal_walked, dots_walked, embedded_walked, nothing_walked, sequence_walked, list_walked, empty_list_walked, pair_list_walked, empty_pair_list_walked, items_row_cut, items_last_walked, items_all_walked, pairs_row_cut, pairs_all_walked, strings_row_cut, strings_all_walked, tag_less, array_less, map_less, string_less, stream_less, embedded_less, sequence_less, list_less, pair_list_less, standalone_less, key_less, value_less, last_key_less, items_row_less, items_last_less, pairs_row_less, pairs_last_less, string_row_less, string_last_less, strings_row_less, strings_last_less, element_less, row_key_less, row_value_less, chunk_less, piece_less}
+use Rattle.cbor_edn_core.proofs.lemmas.visit.Walks.{entry_more, entry_cut, entries_all, piece_more, piece_cut, key_cut, key_then, key_value, number_walked, float_walked, name_walked, literal_alone_walked, tag_walked, simple_walked, array_walked, map_walked, string_walked, stream_walked, literal_walked, ellipsis_walked, embedded_walked, nothing_walked, sequence_walked, list_walked, empty_list_walked, pair_list_walked, empty_pair_list_walked, items_row_cut, items_last_walked, items_all_walked, pairs_row_cut, pairs_all_walked, strings_row_cut, strings_all_walked, tag_less, array_less, map_less, string_less, stream_less, embedded_less, sequence_less, list_less, pair_list_less, standalone_less, key_less, value_less, last_key_less, items_row_less, items_last_less, pairs_row_less, pairs_last_less, string_row_less, string_last_less, strings_row_less, strings_last_less, element_less, row_key_less, row_value_less, chunk_less, piece_less}
 use Rattle.cbor_edn_core.proofs.visit.walk.Walk.+visit.Goals as goal
 
 pub visit_if-returns-then-not-enters-clause-visited : goal.visit_if-returns-then-not-enters-clause-visited
@@ -26,19 +26,19 @@ visit_if-returns-then-is_leaf-clause-visited g t c =
 pub visit_inner-visit_standalone-requires : goal.visit_inner-visit_standalone-requires
 visit_inner-visit_standalone-requires g t c κs within =
     let read : c.deref_mut.result.now ≡ c.in-Enclosed.content.value = c.deref_mut.ensures.value ∙ ap (λ b. b.value) c.in-Enclosed.content-is in
-    let tag = ap (λ l. l.kind) (sym c.in-Enclosed.label-is) ∙ c.in-Tag.is in
-    (tag_less g.K.Seek.leaves t c.args.inner.now c.in-Enclosed.label c.in-Enclosed.content c.deref_mut.result.now c.in-Tag.field-1 c.in-Tag.field-0 c.in-Enclosed.is tag read c.decreases, (within.0, (within.1.0, (within.1.1.0, (within.1.1.1.0, (within.1.1.1.1.0, (within.1.1.1.1.1.0, (within.1.1.1.1.1.1.0, (within.1.1.1.1.1.1.1.0, (within.1.1.1.1.1.1.1.1, c.requires.callable))))))))))
+    let tag = ap (λ l. l.kind) (sym c.in-Enclosed.opener-is) ∙ c.in-Tag.is in
+    (tag_less g.K.Seek.leaves t c.args.inner.now c.in-Enclosed.opener c.in-Enclosed.content c.deref_mut.result.now c.in-Tag.field-1 c.in-Tag.field-0 c.in-Enclosed.is tag read c.decreases, (within.0, (within.1.0, (within.1.1.0, (within.1.1.1.0, (within.1.1.1.1.0, (within.1.1.1.1.1.0, (within.1.1.1.1.1.1.0, (within.1.1.1.1.1.1.1.0, (within.1.1.1.1.1.1.1.1, c.requires.callable))))))))))
 
 pub visit_inner-returns-in-Tag-clause-visited : goal.visit_inner-returns-in-Tag-clause-visited
 visit_inner-returns-in-Tag-clause-visited g t c =
     let read : c.deref_mut.result.now ≡ c.in-Enclosed.content.value = c.deref_mut.ensures.value ∙ ap (λ b. b.value) c.in-Enclosed.content-is in
-    let tag = ap (λ l. l.kind) (sym c.in-Enclosed.label-is) ∙ c.in-Tag.is in
+    let tag = ap (λ l. l.kind) (sym c.in-Enclosed.opener-is) ∙ c.in-Tag.is in
     let v = c.visit_standalone.ensures.visited in
-    (v.0, v.1, tag_walked g.K.Seek.leaves c.args.inner.now c.in-Enclosed.label c.in-Enclosed.content c.deref_mut.result.now c.in-Tag.field-1 c.in-Tag.field-0 _ _ v.0 _ c.in-Enclosed.is tag read (ap (λ l. l.kind) c.in-Enclosed.label-is) v.2)
+    (v.0, v.1, tag_walked g.K.Seek.leaves c.args.inner.now c.in-Enclosed.opener c.in-Enclosed.content c.deref_mut.result.now c.in-Tag.field-1 c.in-Tag.field-0 _ _ v.0 _ c.in-Enclosed.is tag read (ap (λ l. l.kind) c.in-Enclosed.opener-is) v.2)
 
 pub visit_inner-returns-in-Simple-clause-visited : goal.visit_inner-returns-in-Simple-clause-visited
 visit_inner-returns-in-Simple-clause-visited g t c =
-    ([], no_calls, simple_walked g.K.Seek.leaves c.args.inner.now c.in-Enclosed.label c.in-Enclosed.content _ _ c.in-Enclosed.is (ap (λ l. l.kind) (sym c.in-Enclosed.label-is) ∙ c.in-Simple.is) (ap (λ l. l.kind) c.in-Enclosed.label-is) (ap (λ b. view_standalone g.K.Seek.leaves b.value) c.in-Enclosed.content-is))
+    ([], no_calls, simple_walked g.K.Seek.leaves c.args.inner.now c.in-Enclosed.opener c.in-Enclosed.content _ _ c.in-Enclosed.is (ap (λ l. l.kind) (sym c.in-Enclosed.opener-is) ∙ c.in-Simple.is) (ap (λ l. l.kind) c.in-Enclosed.opener-is) (ap (λ b. view_standalone g.K.Seek.leaves b.value) c.in-Enclosed.content-is))
 
 pub visit_inner-visit_list-requires : goal.visit_inner-visit_list-requires
 visit_inner-visit_list-requires g t c κs within =
@@ -110,7 +110,7 @@ visit_inner-returns-in-Literal-clause-visited g t c =
 
 pub visit_standalone-visit_if-requires : goal.visit_standalone-visit_if-requires
 visit_standalone-visit_if-requires g t c κs within =
-    (standalone_less g.K.Seek.leaves t c.args.content.now c.in_ok-enters.enters _ c.decreases (measure_if-le c.in_ok-enters.enters c.in_ok-enters.ensures.reached.2), (within.0, (within.1.0, (within.1.1.0, (within.1.1.1.0, (within.1.1.1.1.0, (within.1.1.1.1.1.0, (within.1.1.1.1.1.1.0, (within.1.1.1.1.1.1.1.0, (within.1.1.1.1.1.1.1.1, c.reach_spaced.ensures.callable_after))))))))))
+    (standalone_less g.K.Seek.leaves t c.args.content.now c.in_ok-enters.enters _ c.decreases (measure_if-le c.in_ok-enters.enters c.in_ok-enters.ensures.reached.2), (within.0, (within.1.0, (within.1.1.0, (within.1.1.1.0, (within.1.1.1.1.0, (within.1.1.1.1.1.0, (within.1.1.1.1.1.1.0, (within.1.1.1.1.1.1.1.0, (within.1.1.1.1.1.1.1.1, c.call_at_spaced.ensures.callable_after))))))))))
 
 pub visit_standalone-returns-in_err-enters-clause-visited : goal.visit_standalone-returns-in_err-enters-clause-visited
 visit_standalone-returns-in_err-enters-clause-visited g t c =
@@ -125,7 +125,7 @@ visit_standalone-returns-clause-visited g t c =
 
 pub visit_key-visit_if-requires : goal.visit_key-visit_if-requires
 visit_key-visit_if-requires g t c κs within =
-    (key_less g.K.Seek.leaves t c.args.pair.now c.in_ok-enters.enters _ c.decreases (measure_if-le c.in_ok-enters.enters c.in_ok-enters.ensures.reached.2), (within.0, (within.1.0, (within.1.1.0, (within.1.1.1.0, (within.1.1.1.1.0, (within.1.1.1.1.1.0, (within.1.1.1.1.1.1.0, (within.1.1.1.1.1.1.1.0, (within.1.1.1.1.1.1.1.1, c.reach_spaced.ensures.callable_after))))))))))
+    (key_less g.K.Seek.leaves t c.args.pair.now c.in_ok-enters.enters _ c.decreases (measure_if-le c.in_ok-enters.enters c.in_ok-enters.ensures.reached.2), (within.0, (within.1.0, (within.1.1.0, (within.1.1.1.0, (within.1.1.1.1.0, (within.1.1.1.1.1.0, (within.1.1.1.1.1.1.0, (within.1.1.1.1.1.1.1.0, (within.1.1.1.1.1.1.1.1, c.call_at_spaced.ensures.callable_after))))))))))
 
 pub visit_key-returns-in_err-enters-clause-visited : goal.visit_key-returns-in_err-enters-clause-visited
 visit_key-returns-in_err-enters-clause-visited g t c =
@@ -153,29 +153,29 @@ visit_sequence-returns-in-Some-clause-visited g t c =
 
 pub visit_list-visit_items-requires : goal.visit_list-visit_items-requires
 visit_list-visit_items-requires g t c κs within =
-    (list_less g.K.Seek.leaves t c.args.list.now c.in-Present.head c.in-Present.s c.in-Present.items c.in-Present.is c.decreases, (within.0, (within.1.0, (within.1.1.0, (within.1.1.1.0, (within.1.1.1.1.0, (within.1.1.1.1.1.0, (within.1.1.1.1.1.1.0, (within.1.1.1.1.1.1.1.0, (within.1.1.1.1.1.1.1.1, c.requires.callable))))))))))
+    (list_less g.K.Seek.leaves t c.args.list.now c.in-Present.head c.in-Present.space c.in-Present.items c.in-Present.is c.decreases, (within.0, (within.1.0, (within.1.1.0, (within.1.1.1.0, (within.1.1.1.1.0, (within.1.1.1.1.1.0, (within.1.1.1.1.1.1.0, (within.1.1.1.1.1.1.1.0, (within.1.1.1.1.1.1.1.1, c.requires.callable))))))))))
 
 pub visit_list-returns-in-Present-clause-visited : goal.visit_list-returns-in-Present-clause-visited
 visit_list-returns-in-Present-clause-visited g t c =
     let v = c.visit_items.ensures.visited in
-    (v.0, v.1, list_walked g.K.Seek.leaves c.args.list.now c.in-Present.head c.in-Present.s c.in-Present.items _ v.0 _ c.in-Present.is v.2)
+    (v.0, v.1, list_walked g.K.Seek.leaves c.args.list.now c.in-Present.head c.in-Present.space c.in-Present.items _ v.0 _ c.in-Present.is v.2)
 
 pub visit_list-returns-in-Absent-clause-visited : goal.visit_list-returns-in-Absent-clause-visited
 visit_list-returns-in-Absent-clause-visited g t c =
-    ([], no_calls, empty_list_walked g.K.Seek.leaves c.args.list.now c.in-Absent.indicator c.in-Absent.s c.in-Absent.is)
+    ([], no_calls, empty_list_walked g.K.Seek.leaves c.args.list.now c.in-Absent.indicator c.in-Absent.space c.in-Absent.is)
 
 pub visit_pair_list-visit_pairs-requires : goal.visit_pair_list-visit_pairs-requires
 visit_pair_list-visit_pairs-requires g t c κs within =
-    (pair_list_less g.K.Seek.leaves t c.args.list.now c.in-Present.head c.in-Present.s c.in-Present.pairs c.in-Present.is c.decreases, (within.0, (within.1.0, (within.1.1.0, (within.1.1.1.0, (within.1.1.1.1.0, (within.1.1.1.1.1.0, (within.1.1.1.1.1.1.0, (within.1.1.1.1.1.1.1.0, (within.1.1.1.1.1.1.1.1, c.requires.callable))))))))))
+    (pair_list_less g.K.Seek.leaves t c.args.list.now c.in-Present.head c.in-Present.space c.in-Present.pairs c.in-Present.is c.decreases, (within.0, (within.1.0, (within.1.1.0, (within.1.1.1.0, (within.1.1.1.1.0, (within.1.1.1.1.1.0, (within.1.1.1.1.1.1.0, (within.1.1.1.1.1.1.1.0, (within.1.1.1.1.1.1.1.1, c.requires.callable))))))))))
 
 pub visit_pair_list-returns-in-Present-clause-visited : goal.visit_pair_list-returns-in-Present-clause-visited
 visit_pair_list-returns-in-Present-clause-visited g t c =
     let v = c.visit_pairs.ensures.visited in
-    (v.0, v.1, pair_list_walked g.K.Seek.leaves c.args.list.now c.in-Present.head c.in-Present.s c.in-Present.pairs _ v.0 _ c.in-Present.is v.2)
+    (v.0, v.1, pair_list_walked g.K.Seek.leaves c.args.list.now c.in-Present.head c.in-Present.space c.in-Present.pairs _ v.0 _ c.in-Present.is v.2)
 
 pub visit_pair_list-returns-in-Absent-clause-visited : goal.visit_pair_list-returns-in-Absent-clause-visited
 visit_pair_list-returns-in-Absent-clause-visited g t c =
-    ([], no_calls, empty_pair_list_walked g.K.Seek.leaves c.args.list.now c.in-Absent.indicator c.in-Absent.s c.in-Absent.is)
+    ([], no_calls, empty_pair_list_walked g.K.Seek.leaves c.args.list.now c.in-Absent.indicator c.in-Absent.space c.in-Absent.is)
 
 pub visit_items-visit_row-requires : goal.visit_items-visit_row-requires
 visit_items-visit_row-requires g t c κs within =
@@ -190,18 +190,18 @@ pub visit_items-returns-in_err-enters-clause-visited : goal.visit_items-returns-
 visit_items-returns-in_err-enters-clause-visited g t c =
     let v = c.in_ok-visit_row.ensures.visited in
     let r = c.in_err-enters.ensures.reached in
-    (v.0 ++ r.0, Chain-append v.1 r.1, rw (cut_short c.from_residual-in_err-enters.result c.from_residual-in_err-enters.ensures.0) (items_last_walked g.K.Seek.leaves c.args.items.now c.visit_row.new.row c.reach_last.new.item c.reach_last.new.end v.0 r.0 cut v.2 (failed r.2)))
+    (v.0 ++ r.0, Chain-append v.1 r.1, rw (cut_short c.from_residual-in_err-enters.result c.from_residual-in_err-enters.ensures.0) (items_last_walked g.K.Seek.leaves c.args.items.now c.visit_row.new.row c.call_at_last.new.item c.call_at_last.new.end v.0 r.0 cut v.2 (failed r.2)))
 
 pub visit_items-visit_if-requires : goal.visit_items-visit_if-requires
 visit_items-visit_if-requires g t c κs within =
-    (items_last_less g.K.Seek.leaves t c.args.items.now c.visit_row.new.row c.reach_last.new.item c.reach_last.new.end c.in_ok-enters.enters c.decreases (measure_if-le c.in_ok-enters.enters c.in_ok-enters.ensures.reached.2), (within.0, (within.1.0, (within.1.1.0, (within.1.1.1.0, (within.1.1.1.1.0, (within.1.1.1.1.1.0, (within.1.1.1.1.1.1.0, (within.1.1.1.1.1.1.1.0, (within.1.1.1.1.1.1.1.1, c.reach_last.ensures.callable_after))))))))))
+    (items_last_less g.K.Seek.leaves t c.args.items.now c.visit_row.new.row c.call_at_last.new.item c.call_at_last.new.end c.in_ok-enters.enters c.decreases (measure_if-le c.in_ok-enters.enters c.in_ok-enters.ensures.reached.2), (within.0, (within.1.0, (within.1.1.0, (within.1.1.1.0, (within.1.1.1.1.0, (within.1.1.1.1.1.0, (within.1.1.1.1.1.1.0, (within.1.1.1.1.1.1.1.0, (within.1.1.1.1.1.1.1.1, c.call_at_last.ensures.callable_after))))))))))
 
 pub visit_items-returns-clause-visited : goal.visit_items-returns-clause-visited
 visit_items-returns-clause-visited g t c =
     let v = c.in_ok-visit_row.ensures.visited in
     let r = c.in_ok-enters.ensures.reached in
     let w = c.visit_if.ensures.visited in
-    (v.0 ++ (r.0 ++ w.0), Chain-append v.1 (Chain-append r.1 w.1), items_all_walked g.K.Seek.leaves c.args.items.now c.visit_row.new.row c.reach_last.new.item c.visit_if.new.item c.reach_last.new.end c.in_ok-enters.enters v.0 r.0 w.0 _ v.2 r.2 w.2)
+    (v.0 ++ (r.0 ++ w.0), Chain-append v.1 (Chain-append r.1 w.1), items_all_walked g.K.Seek.leaves c.args.items.now c.visit_row.new.row c.call_at_last.new.item c.visit_if.new.item c.call_at_last.new.end c.in_ok-enters.enters v.0 r.0 w.0 _ v.2 r.2 w.2)
 
 pub visit_pairs-visit_pair_row-requires : goal.visit_pairs-visit_pair_row-requires
 visit_pairs-visit_pair_row-requires g t c κs within =
@@ -241,8 +241,8 @@ pub visit_last_pair-visit_if-requires : goal.visit_last_pair-visit_if-requires
 visit_last_pair-visit_if-requires g t c κs within =
     let b = c.in_ok-enters.enters in
     let v = c.in_ok-visit_key.ensures.visited in
-    let le = subst (λ z. measure_if b (view_item g.K.Seek.leaves c.reach_last.new.item) ≤ 16 * depth z + 6) (key_value v.2) (measure_if-le b c.in_ok-enters.ensures.reached.2) in
-    (value_less g.K.Seek.leaves t c.args.pair.now c.in_ok-enters.enters _ c.decreases le, (within.0, (within.1.0, (within.1.1.0, (within.1.1.1.0, (within.1.1.1.1.0, (within.1.1.1.1.1.0, (within.1.1.1.1.1.1.0, (within.1.1.1.1.1.1.1.0, (within.1.1.1.1.1.1.1.1, c.reach_last.ensures.callable_after))))))))))
+    let le = subst (λ z. measure_if b (view_item g.K.Seek.leaves c.call_at_last.new.item) ≤ 16 * depth z + 6) (key_value v.2) (measure_if-le b c.in_ok-enters.ensures.reached.2) in
+    (value_less g.K.Seek.leaves t c.args.pair.now c.in_ok-enters.enters _ c.decreases le, (within.0, (within.1.0, (within.1.1.0, (within.1.1.1.0, (within.1.1.1.1.0, (within.1.1.1.1.1.0, (within.1.1.1.1.1.1.0, (within.1.1.1.1.1.1.1.0, (within.1.1.1.1.1.1.1.1, c.call_at_last.ensures.callable_after))))))))))
 
 pub visit_last_pair-returns-clause-visited : goal.visit_last_pair-returns-clause-visited
 visit_last_pair-returns-clause-visited g t c =
@@ -301,9 +301,9 @@ pub visit_piece-returns-in-Literal-clause-visited : goal.visit_piece-returns-in-
 visit_piece-returns-in-Literal-clause-visited g t c =
     ([], no_calls, literal_walked g.K.Seek.leaves c.args.piece.now _ _ c.in-Literal.is)
 
-pub visit_piece-returns-in-Dots-clause-visited : goal.visit_piece-returns-in-Dots-clause-visited
-visit_piece-returns-in-Dots-clause-visited g t c =
-    ([], no_calls, dots_walked g.K.Seek.leaves c.args.piece.now _ c.in-Dots.is)
+pub visit_piece-returns-in-Ellipsis-clause-visited : goal.visit_piece-returns-in-Ellipsis-clause-visited
+visit_piece-returns-in-Ellipsis-clause-visited g t c =
+    ([], no_calls, ellipsis_walked g.K.Seek.leaves c.args.piece.now _ c.in-Ellipsis.is)
 
 pub visit_row-loop-item-init : goal.visit_row-loop-item-init
 visit_row-loop-item-init g t c =
@@ -319,7 +319,7 @@ visit_row-visit_if-requires g t c κs within =
     let here : get_or xs i x ≡ x = sym (same_here ys xs i x c.loop-item.invariant.rest) ∙ sym (ap (λ a. get_or ys i a) c.loop-item-item.is) in
     let inside : i < length xs = omega (arith, c.loop-item.invariant.same_length) in
     let r = c.in_ok-enters.ensures.reached in
-    (element_less g.K.Seek.leaves t xs i x c.in_ok-enters.enters _ inside here c.decreases (measure_if-le c.in_ok-enters.enters r.2), (within.0, (within.1.0, (within.1.1.0, (within.1.1.1.0, (within.1.1.1.1.0, (within.1.1.1.1.1.0, (within.1.1.1.1.1.1.0, (within.1.1.1.1.1.1.1.0, (within.1.1.1.1.1.1.1.1, c.reach_separated.ensures.callable_after))))))))))
+    (element_less g.K.Seek.leaves t xs i x c.in_ok-enters.enters _ inside here c.decreases (measure_if-le c.in_ok-enters.enters r.2), (within.0, (within.1.0, (within.1.1.0, (within.1.1.1.0, (within.1.1.1.1.0, (within.1.1.1.1.1.0, (within.1.1.1.1.1.1.0, (within.1.1.1.1.1.1.1.0, (within.1.1.1.1.1.1.1.1, c.call_at_separated.ensures.callable_after))))))))))
 
 pub visit_row-returns-in_err-enters-clause-visited : goal.visit_row-returns-in_err-enters-clause-visited
 visit_row-returns-in_err-enters-clause-visited g t c =
@@ -331,7 +331,7 @@ visit_row-returns-in_err-enters-clause-visited g t c =
     let here : get_or xs i x ≡ x = sym (same_here ys xs i x c.loop-item.invariant.rest) ∙ sym (ap (λ a. get_or ys i a) c.loop-item-item.is) in
     let inside : i < length xs = omega (arith, c.loop-item.invariant.same_length) in
     let r = c.in_err-enters.ensures.reached in
-    (so_far.0 ++ r.0, Chain-append so_far.1 r.1, rw (cut_short c.from_residual.result c.from_residual.ensures.0) (subst (λ zs. SoughtFront g.K.Seek.sought (map (seen g.K.Seek.leaves) xs) (so_far.0 ++ r.0) (map (seen g.K.Seek.leaves) zs) cut) (sym (kept (set ys i (c.reach_separated.new.item, c.reach_separated.new.separator)) _ c.args.row.now.len (search (rules)))) (entry_cut (seen g.K.Seek.leaves) xs ys x (c.reach_separated.new.item, c.reach_separated.new.separator) i so_far.0 r.0 inside c.loop-item.invariant.same_length here c.loop-item.invariant.rest so_far.2 (of_element (failed r.2)))))
+    (so_far.0 ++ r.0, Chain-append so_far.1 r.1, rw (cut_short c.from_residual.result c.from_residual.ensures.0) (subst (λ zs. SoughtFront g.K.Seek.sought (map (seen g.K.Seek.leaves) xs) (so_far.0 ++ r.0) (map (seen g.K.Seek.leaves) zs) cut) (sym (kept (set ys i (c.call_at_separated.new.item, c.call_at_separated.new.separator)) _ c.args.row.now.len (search (rules)))) (entry_cut (seen g.K.Seek.leaves) xs ys x (c.call_at_separated.new.item, c.call_at_separated.new.separator) i so_far.0 r.0 inside c.loop-item.invariant.same_length here c.loop-item.invariant.rest so_far.2 (of_element (failed r.2)))))
 
 pub visit_row-returns-in_err-visit_if-clause-visited : goal.visit_row-returns-in_err-visit_if-clause-visited
 visit_row-returns-in_err-visit_if-clause-visited g t c =
@@ -344,7 +344,7 @@ visit_row-returns-in_err-visit_if-clause-visited g t c =
     let inside : i < length xs = omega (arith, c.loop-item.invariant.same_length) in
     let r = c.in_ok-enters.ensures.reached in
     let w = c.in_err-visit_if.ensures.visited in
-    (so_far.0 ++ (r.0 ++ w.0), Chain-append so_far.1 (Chain-append r.1 w.1), rw (cut_short c.from_residual-in_err-visit_if.result c.from_residual-in_err-visit_if.ensures.0) (subst (λ zs. SoughtFront g.K.Seek.sought (map (seen g.K.Seek.leaves) xs) (so_far.0 ++ (r.0 ++ w.0)) (map (seen g.K.Seek.leaves) zs) cut) (sym (kept (set ys i (c.visit_if.new.item, c.reach_separated.new.separator)) _ c.args.row.now.len (search (rules)))) (entry_cut (seen g.K.Seek.leaves) xs ys x (c.visit_if.new.item, c.reach_separated.new.separator) i so_far.0 (r.0 ++ w.0) inside c.loop-item.invariant.same_length here c.loop-item.invariant.rest so_far.2 (of_element (then_if c.in_ok-enters.enters _ w.0 _ r.2 w.2)))))
+    (so_far.0 ++ (r.0 ++ w.0), Chain-append so_far.1 (Chain-append r.1 w.1), rw (cut_short c.from_residual-in_err-visit_if.result c.from_residual-in_err-visit_if.ensures.0) (subst (λ zs. SoughtFront g.K.Seek.sought (map (seen g.K.Seek.leaves) xs) (so_far.0 ++ (r.0 ++ w.0)) (map (seen g.K.Seek.leaves) zs) cut) (sym (kept (set ys i (c.visit_if.new.item, c.call_at_separated.new.separator)) _ c.args.row.now.len (search (rules)))) (entry_cut (seen g.K.Seek.leaves) xs ys x (c.visit_if.new.item, c.call_at_separated.new.separator) i so_far.0 (r.0 ++ w.0) inside c.loop-item.invariant.same_length here c.loop-item.invariant.rest so_far.2 (of_element (then_if c.in_ok-enters.enters _ w.0 _ r.2 w.2)))))
 
 pub visit_row-returns-clause-visited : goal.visit_row-returns-clause-visited
 visit_row-returns-clause-visited g t c =
@@ -364,7 +364,7 @@ visit_row-loop-item-preserved g t c =
     let inside : i < length xs = omega (arith, c.loop-item.invariant.same_length) in
     let r = c.in_ok-enters.ensures.reached in
     let w = c.in_ok-visit_if.ensures.visited in
-    record { callable = c.visit_if.ensures.callable_after; so_far = (so_far.0 ++ (r.0 ++ w.0), Chain-append so_far.1 (Chain-append r.1 w.1), entry_more (seen g.K.Seek.leaves) xs ys x (c.visit_if.new.item, c.reach_separated.new.separator) i so_far.0 (r.0 ++ w.0) inside c.loop-item.invariant.same_length here so_far.2 (of_element (then_if c.in_ok-enters.enters _ w.0 _ r.2 w.2))); same_length = length-set _ i _ ∙ c.loop-item.invariant.same_length; rest = drop-set-lt (i + 1) ys i (c.visit_if.new.item, c.reach_separated.new.separator) (omega arith) ∙ drop_more_same ys xs i c.loop-item.invariant.rest }
+    record { callable = c.visit_if.ensures.callable_after; so_far = (so_far.0 ++ (r.0 ++ w.0), Chain-append so_far.1 (Chain-append r.1 w.1), entry_more (seen g.K.Seek.leaves) xs ys x (c.visit_if.new.item, c.call_at_separated.new.separator) i so_far.0 (r.0 ++ w.0) inside c.loop-item.invariant.same_length here so_far.2 (of_element (then_if c.in_ok-enters.enters _ w.0 _ r.2 w.2))); same_length = length-set _ i _ ∙ c.loop-item.invariant.same_length; rest = drop-set-lt (i + 1) ys i (c.visit_if.new.item, c.call_at_separated.new.separator) (omega arith) ∙ drop_more_same ys xs i c.loop-item.invariant.rest }
 
 pub visit_pair_row-loop-pair-init : goal.visit_pair_row-loop-pair-init
 visit_pair_row-loop-pair-init g t c =
@@ -404,7 +404,7 @@ visit_pair_row-returns-in_err-enters-clause-visited g t c =
     let inside : i < length xs = omega (arith, c.loop-pair.invariant.same_length) in
     let k = c.in_ok-visit_key.ensures.visited in
     let r = c.in_err-enters.ensures.reached in
-    (so_far.0 ++ (k.0 ++ r.0), Chain-append so_far.1 (Chain-append k.1 r.1), rw (cut_short c.from_residual-in_err-enters.result c.from_residual-in_err-enters.ensures.0) (subst (λ zs. SoughtFront g.K.Seek.sought (map (seen_pair g.K.Seek.leaves) xs) (so_far.0 ++ (k.0 ++ r.0)) (map (seen_pair g.K.Seek.leaves) zs) cut) (sym (kept (set ys i (record c.visit_key.new.pair { value = c.reach_separated.new.item }, c.reach_separated.new.separator)) _ c.args.row.now.len (search (rules)))) (entry_cut (seen_pair g.K.Seek.leaves) xs ys x (record c.visit_key.new.pair { value = c.reach_separated.new.item }, c.reach_separated.new.separator) i so_far.0 (k.0 ++ r.0) inside c.loop-pair.invariant.same_length here c.loop-pair.invariant.rest so_far.2 (key_then k.2 (failed r.2)))))
+    (so_far.0 ++ (k.0 ++ r.0), Chain-append so_far.1 (Chain-append k.1 r.1), rw (cut_short c.from_residual-in_err-enters.result c.from_residual-in_err-enters.ensures.0) (subst (λ zs. SoughtFront g.K.Seek.sought (map (seen_pair g.K.Seek.leaves) xs) (so_far.0 ++ (k.0 ++ r.0)) (map (seen_pair g.K.Seek.leaves) zs) cut) (sym (kept (set ys i (record c.visit_key.new.pair { value = c.call_at_separated.new.item }, c.call_at_separated.new.separator)) _ c.args.row.now.len (search (rules)))) (entry_cut (seen_pair g.K.Seek.leaves) xs ys x (record c.visit_key.new.pair { value = c.call_at_separated.new.item }, c.call_at_separated.new.separator) i so_far.0 (k.0 ++ r.0) inside c.loop-pair.invariant.same_length here c.loop-pair.invariant.rest so_far.2 (key_then k.2 (failed r.2)))))
 
 pub visit_pair_row-visit_if-requires : goal.visit_pair_row-visit_if-requires
 visit_pair_row-visit_if-requires g t c κs within =
@@ -417,8 +417,8 @@ visit_pair_row-visit_if-requires g t c κs within =
     let inside : i < length xs = omega (arith, c.loop-pair.invariant.same_length) in
     let k = c.in_ok-visit_key.ensures.visited in
     let r = c.in_ok-enters.ensures.reached in
-    let le = subst (λ z. measure_if c.in_ok-enters.enters (view_item g.K.Seek.leaves c.reach_separated.new.item) ≤ 16 * depth z + 6) (key_value k.2) (measure_if-le c.in_ok-enters.enters r.2) in
-    (row_value_less g.K.Seek.leaves t xs i x c.in_ok-enters.enters _ inside here c.decreases le, (within.0, (within.1.0, (within.1.1.0, (within.1.1.1.0, (within.1.1.1.1.0, (within.1.1.1.1.1.0, (within.1.1.1.1.1.1.0, (within.1.1.1.1.1.1.1.0, (within.1.1.1.1.1.1.1.1, c.reach_separated.ensures.callable_after))))))))))
+    let le = subst (λ z. measure_if c.in_ok-enters.enters (view_item g.K.Seek.leaves c.call_at_separated.new.item) ≤ 16 * depth z + 6) (key_value k.2) (measure_if-le c.in_ok-enters.enters r.2) in
+    (row_value_less g.K.Seek.leaves t xs i x c.in_ok-enters.enters _ inside here c.decreases le, (within.0, (within.1.0, (within.1.1.0, (within.1.1.1.0, (within.1.1.1.1.0, (within.1.1.1.1.1.0, (within.1.1.1.1.1.1.0, (within.1.1.1.1.1.1.1.0, (within.1.1.1.1.1.1.1.1, c.call_at_separated.ensures.callable_after))))))))))
 
 pub visit_pair_row-returns-in_err-visit_if-clause-visited : goal.visit_pair_row-returns-in_err-visit_if-clause-visited
 visit_pair_row-returns-in_err-visit_if-clause-visited g t c =
@@ -432,7 +432,7 @@ visit_pair_row-returns-in_err-visit_if-clause-visited g t c =
     let k = c.in_ok-visit_key.ensures.visited in
     let r = c.in_ok-enters.ensures.reached in
     let w = c.in_err-visit_if.ensures.visited in
-    (so_far.0 ++ (k.0 ++ (r.0 ++ w.0)), Chain-append so_far.1 (Chain-append k.1 (Chain-append r.1 w.1)), rw (cut_short c.from_residual-in_err-visit_if.result c.from_residual-in_err-visit_if.ensures.0) (subst (λ zs. SoughtFront g.K.Seek.sought (map (seen_pair g.K.Seek.leaves) xs) (so_far.0 ++ (k.0 ++ (r.0 ++ w.0))) (map (seen_pair g.K.Seek.leaves) zs) cut) (sym (kept (set ys i (record c.visit_key.new.pair { value = c.visit_if.new.item }, c.reach_separated.new.separator)) _ c.args.row.now.len (search (rules)))) (entry_cut (seen_pair g.K.Seek.leaves) xs ys x (record c.visit_key.new.pair { value = c.visit_if.new.item }, c.reach_separated.new.separator) i so_far.0 (k.0 ++ (r.0 ++ w.0)) inside c.loop-pair.invariant.same_length here c.loop-pair.invariant.rest so_far.2 (key_then k.2 (then_if c.in_ok-enters.enters _ w.0 _ r.2 w.2)))))
+    (so_far.0 ++ (k.0 ++ (r.0 ++ w.0)), Chain-append so_far.1 (Chain-append k.1 (Chain-append r.1 w.1)), rw (cut_short c.from_residual-in_err-visit_if.result c.from_residual-in_err-visit_if.ensures.0) (subst (λ zs. SoughtFront g.K.Seek.sought (map (seen_pair g.K.Seek.leaves) xs) (so_far.0 ++ (k.0 ++ (r.0 ++ w.0))) (map (seen_pair g.K.Seek.leaves) zs) cut) (sym (kept (set ys i (record c.visit_key.new.pair { value = c.visit_if.new.item }, c.call_at_separated.new.separator)) _ c.args.row.now.len (search (rules)))) (entry_cut (seen_pair g.K.Seek.leaves) xs ys x (record c.visit_key.new.pair { value = c.visit_if.new.item }, c.call_at_separated.new.separator) i so_far.0 (k.0 ++ (r.0 ++ w.0)) inside c.loop-pair.invariant.same_length here c.loop-pair.invariant.rest so_far.2 (key_then k.2 (then_if c.in_ok-enters.enters _ w.0 _ r.2 w.2)))))
 
 pub visit_pair_row-loop-pair-preserved : goal.visit_pair_row-loop-pair-preserved
 visit_pair_row-loop-pair-preserved g t c =
@@ -446,7 +446,7 @@ visit_pair_row-loop-pair-preserved g t c =
     let k = c.in_ok-visit_key.ensures.visited in
     let r = c.in_ok-enters.ensures.reached in
     let w = c.in_ok-visit_if.ensures.visited in
-    record { callable = c.visit_if.ensures.callable_after; so_far = (so_far.0 ++ (k.0 ++ (r.0 ++ w.0)), Chain-append so_far.1 (Chain-append k.1 (Chain-append r.1 w.1)), entry_more (seen_pair g.K.Seek.leaves) xs ys x (record c.visit_key.new.pair { value = c.visit_if.new.item }, c.reach_separated.new.separator) i so_far.0 (k.0 ++ (r.0 ++ w.0)) inside c.loop-pair.invariant.same_length here so_far.2 (key_then k.2 (then_if c.in_ok-enters.enters _ w.0 _ r.2 w.2))); same_length = length-set _ i _ ∙ c.loop-pair.invariant.same_length; rest = drop-set-lt (i + 1) ys i (record c.visit_key.new.pair { value = c.visit_if.new.item }, c.reach_separated.new.separator) (omega arith) ∙ drop_more_same ys xs i c.loop-pair.invariant.rest }
+    record { callable = c.visit_if.ensures.callable_after; so_far = (so_far.0 ++ (k.0 ++ (r.0 ++ w.0)), Chain-append so_far.1 (Chain-append k.1 (Chain-append r.1 w.1)), entry_more (seen_pair g.K.Seek.leaves) xs ys x (record c.visit_key.new.pair { value = c.visit_if.new.item }, c.call_at_separated.new.separator) i so_far.0 (k.0 ++ (r.0 ++ w.0)) inside c.loop-pair.invariant.same_length here so_far.2 (key_then k.2 (then_if c.in_ok-enters.enters _ w.0 _ r.2 w.2))); same_length = length-set _ i _ ∙ c.loop-pair.invariant.same_length; rest = drop-set-lt (i + 1) ys i (record c.visit_key.new.pair { value = c.visit_if.new.item }, c.call_at_separated.new.separator) (omega arith) ∙ drop_more_same ys xs i c.loop-pair.invariant.rest }
 
 pub visit_pair_row-returns-clause-visited : goal.visit_pair_row-returns-clause-visited
 visit_pair_row-returns-clause-visited g t c =

@@ -6,7 +6,7 @@ use Rattle.cbor_edn_parts.specs.declared.number.start.NumberStart.{NumberStart}
 use Rattle.cbor_edn_parts.specs.internal.Lex.{token}
 use Rattle.cbor_edn_parts.specs.internal.NumberStarts.{IsStart, follows_at}
 use Rattle.cbor_edn_parts.specs.internal.NumberTokens as tokens
-use Rattle.cbor_edn_parts.specs.internal.Text.{text_bytes}
+use Rattle.cbor_edn_parts.specs.internal.Input.{text_bytes}
 use Rattle.cbor_edn_parts.proofs.lemmas.number.NumberEnds.{follow_there, there_follows, stopped_there}
 use Rattle.cbor_edn_parts.proofs.lemmas.scan.ScanEnds.{comes_done}
 use Rattle.cbor_edn_parts.proofs.lemmas.scan.Tokens.{taken}

@@ -1,0 +1,12 @@
+use Rattle.std.proofs.Common.{length, ap, ◌∙◌, ◌-◌, ◌^◌}
+use Rattle.std.specs.Prelude.{min}
+use Rattle.cbor_edn_parts.specs.internal.CommentReading.{comments_of}
+use Rattle.cbor_edn_parts.specs.Leaves.{space_bytes}
+use Rattle.cbor_edn_parts.specs.internal.Columns.{column_length}
+use Rattle.cbor_edn_parts.proofs.lemmas.layout.ColumnLengths.{optional_length}
+use Rattle.cbor_edn_parts.proofs.space.Space.spaced_len.Goals as goal
+
+pub returns : goal.returns
+returns c =
+    let comments = c.comments-comments.ensures ∙ ap comments_of c.as_str.ensures in
+    c.column_len.ensures ∙ ap (λ t. min (column_length c.args.spacing (length t)) (2 ^ 64 - 1)) comments ∙ optional_length c.args.spacing (space_bytes c.args.self.now)

@@ -1,0 +1,14 @@
+use Rattle.std.proofs.Common.{◌≡◌, ◌++◌, true, sym, ap, ◌∙◌, subst}
+use Rattle.cbor_edn_parts.specs.Leaves.{space_bytes}
+use Rattle.cbor_edn_parts.specs.Notes.{noted}
+use Rattle.cbor_edn_parts.specs.Spacing.{Optional}
+use Rattle.cbor_edn_parts.specs.internal.SpaceTokens.{is_space}
+use Rattle.cbor_edn_parts.proofs.lemmas.literal.StringLiterals.{bytes_all}
+use Rattle.cbor_edn_parts.proofs.lemmas.space.NoteSpaces.{notes_in_front}
+use Rattle.cbor_edn_parts.proofs.space.note.SpaceTakesComment.put_comment.Goals as goal
+
+pub invariant_of-self : goal.invariant_of-self
+invariant_of-self c =
+    let x = space_bytes c.args.self.now in
+    let bytes : is_space (noted c.args.comment.now ++ x) ≡ true = notes_in_front Optional c.args.comment.now x (bytes_all c.args.comment.now c.type_inv.comment) c.args.self.now.spelled in
+    record { spelled = subst (λ t. is_space t ≡ true) (sym (c.in_ok-text.ensures ∙ ap (λ y. noted c.args.comment.now ++ y) c.as_str.ensures)) bytes }

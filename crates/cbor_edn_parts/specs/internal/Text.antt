@@ -1,6 +1,0 @@
--- The bytes of the text that is read.
-use Rattle.std.specs.Prelude.{ℕ, List}
-use Rattle.cbor_edn_parts.specs.declared.text.Text.{Text}
-
-abbrev pub text_bytes : Text → List ℕ
-text_bytes t = t.all.now
