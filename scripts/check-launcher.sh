@@ -191,7 +191,7 @@ call diag2cbor 'in edn' < /dev/null
 count 'a fault of the program' ended 1 '' "$fault"
 call --build < /dev/null
 count 'nothing to build' grep -q 'is built from these sources' "$work/said"
-touch "$tree/crates/cbor_edn_tree_tests/src/lib.rt" "$tree/README.md"
+touch "$tree/crates/cbor_edn_core_tree_tests/src/lib.rt" "$tree/README.md"
 call --version < /dev/null
 count 'what the program is not made of' ended 0 'cbor-edn 0.1.0\n' ''
 

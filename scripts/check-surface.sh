@@ -103,7 +103,7 @@ def is_law(text):
     return re.search(r"(^|\s)\{(\s*let _ = \w+;)*\s*\}$", text) is not None
 
 
-PARTS = ("", "_parts", "_model", "_core", "_literals", "_conversions", "_application", "_script", "_command")
+PARTS = ("", "_parts", "_model", "_core", "_times_and_addresses", "_conversions", "_application", "_script", "_command")
 LIBRARIES = [f"cbor_edn{part}" for part in PARTS]
 files = {path: list(functions(path)) for crate in LIBRARIES for path in glob.glob(f"{crate}/src/**/*.rt", recursive=True)}
 texts = {path: "\n".join(lines_of(path)) for path in files}
@@ -321,7 +321,7 @@ def calls(pattern):
 
 # What takes no memory but what a caller's reader, writer or formatter takes.
 DEVICES_AND_WORDS = r"(Debug|Display|Source|Sink) for |(Source|Sink|StdSource|StdSink|Count)::"
-tested, refused, free = calls("cbor_edn_*_tests/src/*.rt"), calls("cbor_edn_*memory/src/*.rt"), calls("cbor_edn_*memory/src/free.rt")
+tested, refused, free = calls("cbor_edn_*tests/src/*.rt"), calls("cbor_edn_*memory/src/*.rt"), calls("cbor_edn_*memory/src/free.rt")
 passed, failed = 0, len(problems)
 for problem in problems:
     print(f"check-surface: {problem}")

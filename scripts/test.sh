@@ -168,7 +168,7 @@ add scripts/check-faults.sh "$program"
 add scripts/check-devices.sh "$program"
 add scripts/check-limits.sh "$program"
 add scripts/fuzz.sh 8949 30000 "$program"
-add scripts/check-stack.sh "$program" crates/cbor_edn_{text,tree,loan}_tests/out/*_tests_tests
+add scripts/check-stack.sh "$program" crates/cbor_edn_core_{text,tree,loan}_tests/out/*_tests_tests
 add scripts/check-bindings.sh --after-ci
 add scripts/check-packages.sh --after-ci
 finish check-launcher

@@ -4,16 +4,16 @@ use Rattle.std.specs.Prelude.{option_map, is_some}
 use Rattle.cbor_edn_model.specs.access.Accessed.{item_bytes, array_items}
 use Rattle.cbor_edn_model.specs.tree.Trees.{Tree, OneItem}
 use Rattle.cbor_edn_model.specs.visit.Visits.{Answer}
-use Rattle.cbor_edn_literals.specs.declared.address.IpVersion.{IpVersion}
+use Rattle.cbor_edn_times_and_addresses.specs.declared.address.IpVersion.{IpVersion}
 use Rattle.cbor_edn_conversions.specs.Integers.{item_integer}
 use Rattle.cbor_edn_conversions.specs.Conversions.{Message, Conversion, reply, converted, changed_encoding, item_encoding, mean_the_same, literal_tree}
 use Rattle.cbor_edn_conversions.specs.Addresses.{whole_text, prefix_text, address_prefix, if_same, as_literal, with_first, as_first, by_length, by_others, by_first, by_elements}
 use Rattle.cbor_edn_conversions.proofs.conversions.FirstElements.{first_literal_is}
 use Rattle.std.specs.declared.net.ip_addr.IpAddr.{IpAddr}
 use Rattle.cbor_edn_parts.specs.internal.ContentReading.{same}
-use Rattle.cbor_edn_literals.specs.declared.address.AddressError.{AddressError}
-use Rattle.cbor_edn_literals.specs.Address.{Reads}
-use Rattle.cbor_edn_literals.proofs.ReadAddresses.{computed}
+use Rattle.cbor_edn_times_and_addresses.specs.declared.address.AddressError.{AddressError}
+use Rattle.cbor_edn_times_and_addresses.specs.Address.{Reads}
+use Rattle.cbor_edn_times_and_addresses.proofs.ReadAddresses.{computed}
 use Rattle.cbor_edn_conversions.specs.Addresses.{address_item, read_item, address_of_literal}
 use Rattle.cbor_edn_application.specs.Acts.{ActsSo}
 

@@ -6,8 +6,8 @@ use Rattle.cbor_edn_model.specs.declared.text.opener.OpenerKind.TheVariants as o
 use Rattle.cbor_edn_model.specs.access.Accessed.{inner_item}
 use Rattle.cbor_edn_model.specs.visit.Seeking.{number}
 use Rattle.cbor_edn_model.specs.tree.Trees.{Tree, OneItem, NumberTree, FloatTree, NamedTree, EnclosedTree, ListTree, StringTree, StreamTree}
-use Rattle.cbor_edn_literals.specs.declared.address.IpVersion.{IpVersion}
-use Rattle.cbor_edn_literals.specs.declared.address.IpVersion.TheVariants.{V4, V6}
+use Rattle.cbor_edn_times_and_addresses.specs.declared.address.IpVersion.{IpVersion}
+use Rattle.cbor_edn_times_and_addresses.specs.declared.address.IpVersion.TheVariants.{V4, V6}
 use Rattle.cbor_edn_conversions.specs.Conversions.{called_tag, without_tag}
 use Rattle.cbor_edn_conversions.specs.Addresses.{address_tag, address_literal, address_of_tag}
 use Rattle.cbor_edn_application.proofs.TagParts.{parts}

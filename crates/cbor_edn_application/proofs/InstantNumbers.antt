@@ -4,13 +4,13 @@ use Rattle.std.proofs.lemmas.Bool.{cases_eq}
 use Rattle.std.specs.Fmt.{decimal}
 use Rattle.cbor_edn_parts.specs.Number.{IsNumber}
 use Rattle.cbor_edn_parts.specs.Number as numbers
-use Rattle.cbor_edn_literals.specs.TimeDecimal.{IsNumberOf, integer, pointed}
-use Rattle.cbor_edn_literals.specs.internal.TimeWriting.{AreShortest}
-use Rattle.cbor_edn_literals.specs.internal.TimeComputing.{shortest_digits, pointed_text, instant_number}
-use Rattle.cbor_edn_literals.proofs.TimeComputedNumbers.{shortest_are}
-use Rattle.cbor_edn_literals.proofs.TimeDecimals.{positive_by, negative_by}
-use Rattle.cbor_edn_literals.proofs.TimeGrammar.{decimal_is_number, whole_number}
-use Rattle.cbor_edn_literals.proofs.TimeWritten.{written_as}
+use Rattle.cbor_edn_times_and_addresses.specs.TimeDecimal.{IsNumberOf, integer, pointed}
+use Rattle.cbor_edn_times_and_addresses.specs.internal.TimeWriting.{AreShortest}
+use Rattle.cbor_edn_times_and_addresses.specs.internal.TimeComputing.{shortest_digits, pointed_text, instant_number}
+use Rattle.cbor_edn_times_and_addresses.proofs.TimeComputedNumbers.{shortest_are}
+use Rattle.cbor_edn_times_and_addresses.proofs.TimeDecimals.{positive_by, negative_by}
+use Rattle.cbor_edn_times_and_addresses.proofs.TimeGrammar.{decimal_is_number, whole_number}
+use Rattle.cbor_edn_times_and_addresses.proofs.TimeWritten.{written_as}
 
 pub is_number : (t : List ℕ) (s : ℤ) (n : ℕ) → IsNumberOf t s n → unsigned_abs s < 2 ^ 64 → IsNumber t
 is_number t s n (integer none e) small = numbers.integer (whole_number t s n (integer none e) none small).literal

@@ -8,7 +8,7 @@ use Rattle.cbor_edn_model.specs.tree.Trees.{Rule, Tree, OneItem, Rest, NumberTre
 use Rattle.cbor_edn_model.specs.visit.Depth.{depth}
 use Rattle.cbor_edn_model.specs.visit.Seeking.{CallArguments}
 use Rattle.cbor_edn_model.proofs.lemmas.access.ReplacedItems.{put_back}
-use Rattle.cbor_edn_literals.specs.internal.TimeComputing.{time_text}
+use Rattle.cbor_edn_times_and_addresses.specs.internal.TimeComputing.{time_text}
 use Rattle.cbor_edn_parts.specs.internal.NumberReading.{integer_of}
 use Rattle.cbor_edn_conversions.specs.Annotations.{turned}
 use Rattle.cbor_edn_conversions.specs.Claims.{KeyReply, value_turn, key_turn, with_keys, named, confirmation_key, claim_value, claim_key, with_claims}

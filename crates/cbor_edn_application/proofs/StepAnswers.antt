@@ -12,12 +12,12 @@ use Rattle.cbor_edn_model.proofs.lemmas.cbor.MeaningSteps.{some_is}
 use Rattle.cbor_edn_core.specs.access.Mismatch.{IsIntegerMismatch}
 use Rattle.cbor_edn_core.specs.declared.access.TypeMismatch.{TypeMismatch}
 use Rattle.cbor_edn_core.specs.declared.access.TypeMismatch.TheVariants.{Integer, IntegerInRange}
-use Rattle.cbor_edn_literals.specs.Time.{IsTimeStamp}
-use Rattle.cbor_edn_literals.specs.TimeDecimal.{HasDecimal, IsOutOfRange}
-use Rattle.cbor_edn_literals.specs.internal.TimeComputing.{time_text}
-use Rattle.cbor_edn_literals.specs.declared.time.number.NotTime.{NotTime}
-use Rattle.cbor_edn_literals.specs.declared.time.number.NotTime.TheVariants.{Unreadable, OutOfRange}
-use Rattle.cbor_edn_literals.proofs.TimeComputedNumbers.{decimal_computed, decimal_answered}
+use Rattle.cbor_edn_times_and_addresses.specs.Time.{IsTimeStamp}
+use Rattle.cbor_edn_times_and_addresses.specs.TimeDecimal.{HasDecimal, IsOutOfRange}
+use Rattle.cbor_edn_times_and_addresses.specs.internal.TimeComputing.{time_text}
+use Rattle.cbor_edn_times_and_addresses.specs.declared.time.number.NotTime.{NotTime}
+use Rattle.cbor_edn_times_and_addresses.specs.declared.time.number.NotTime.TheVariants.{Unreadable, OutOfRange}
+use Rattle.cbor_edn_times_and_addresses.proofs.TimeComputedNumbers.{decimal_computed, decimal_answered}
 use Rattle.cbor_edn_conversions.specs.Conversions.{Conversion, Message, changed_encoding, literal_tree}
 use Rattle.cbor_edn_conversions.specs.Times.{time_prefix, is_plain, is_time_stamp, instant_by, instant_literal, time_literal}
 use Rattle.cbor_edn_conversions.proofs.conversions.TimesKept.{stamps_tested}

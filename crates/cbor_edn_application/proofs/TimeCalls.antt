@@ -7,9 +7,9 @@ use Rattle.cbor_edn_parts.proofs.lemmas.literal.LiteralPrefixes.{differ}
 use Rattle.cbor_edn_model.specs.declared.text.opener.OpenerKind.TheVariants as opener
 use Rattle.cbor_edn_model.specs.visit.Seeking.{number}
 use Rattle.cbor_edn_model.specs.tree.Trees.{Tree, OneItem, NumberTree, FloatTree, NamedTree, EnclosedTree, ListTree, StringTree, StreamTree}
-use Rattle.cbor_edn_literals.specs.Time.{HasInstant}
-use Rattle.cbor_edn_literals.specs.internal.TimeComputing.{instant_of, instant_number}
-use Rattle.cbor_edn_literals.proofs.TimeComputed.{instant_computed, instant_answered}
+use Rattle.cbor_edn_times_and_addresses.specs.Time.{HasInstant}
+use Rattle.cbor_edn_times_and_addresses.specs.internal.TimeComputing.{instant_of, instant_number}
+use Rattle.cbor_edn_times_and_addresses.proofs.TimeComputed.{instant_computed, instant_answered}
 use Rattle.cbor_edn_conversions.specs.Conversions.{Conversion, in_tag, called_tag, without_tag}
 use Rattle.cbor_edn_conversions.specs.Times.{instant_item, time_item, time_of_literal, time_literal, time_of_tag}
 

@@ -1,7 +1,7 @@
 -- Where address literals are put.
 use Rattle.std.specs.Prelude.{Bool}
 use Rattle.cbor_edn_model.specs.tree.Trees.{Tree, OneItem}
-use Rattle.cbor_edn_literals.specs.declared.address.IpVersion.{IpVersion}
+use Rattle.cbor_edn_times_and_addresses.specs.declared.address.IpVersion.{IpVersion}
 use Rattle.cbor_edn_core.specs.tree.View.{item_tree}
 use Rattle.cbor_edn_conversions.specs.Addresses.{with_first}
 use Rattle.cbor_edn_application.specs.declared.address.placing.Placed.{Placed}

@@ -1,10 +1,10 @@
 -- What the steps of a time's conversion answer.
 use Rattle.std.specs.Prelude.{◌≡◌, ℕ, ℤ, Bool, true, List, Option, Some, Ok, Err, codes}
 use Rattle.cbor_edn_parts.specs.declared.indicator.Indicator.{Indicator}
-use Rattle.cbor_edn_literals.specs.Time.{IsTimeStamp}
-use Rattle.cbor_edn_literals.specs.internal.TimeComputing.{time_text}
-use Rattle.cbor_edn_literals.specs.declared.time.number.NotTime.{NotTime}
-use Rattle.cbor_edn_literals.specs.declared.time.number.NotTime.TheVariants.{Unreadable, OutOfRange}
+use Rattle.cbor_edn_times_and_addresses.specs.Time.{IsTimeStamp}
+use Rattle.cbor_edn_times_and_addresses.specs.internal.TimeComputing.{time_text}
+use Rattle.cbor_edn_times_and_addresses.specs.declared.time.number.NotTime.{NotTime}
+use Rattle.cbor_edn_times_and_addresses.specs.declared.time.number.NotTime.TheVariants.{Unreadable, OutOfRange}
 use Rattle.cbor_edn_conversions.specs.Conversions.{Conversion, Message, is_shortest, argument, literal_tree}
 use Rattle.cbor_edn_conversions.specs.Times.{time_prefix, decimal_instant, instant_literal}
 

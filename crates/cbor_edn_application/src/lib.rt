@@ -25,7 +25,7 @@ pub mod visits;
 pub use address::{ip_aol_to_item, ip_item_to_aol, ip_tag_to_aol};
 pub use all::{all_aol_to_item, all_tag_prettify};
 pub use bignum::tag23_to_edn_integer;
-pub use cbor_edn_literals::address::IpVersion;
+pub use cbor_edn_times_and_addresses::address::IpVersion;
 pub use claims::{CcsHandler, comment_ccs};
 pub use confirmation::CnfHandler;
 pub use cose::{annotate_message, comment_cose};

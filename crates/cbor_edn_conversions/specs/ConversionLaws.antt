@@ -11,8 +11,8 @@ use Rattle.cbor_edn_model.specs.visit.Seeking.{CallArguments, number, prefix_and
 use Rattle.cbor_edn_model.specs.tree.Trees.{Tree, OneItem, NumberTree, items}
 use Rattle.cbor_edn_model.specs.cbor.Value.{Value, AreBytes, Enc}
 use Rattle.cbor_edn_model.specs.visit.Visits.{Ending}
-use Rattle.cbor_edn_literals.specs.declared.address.IpVersion.{IpVersion}
-use Rattle.cbor_edn_literals.specs.Time.{HasInstant, IsTimeStamp}
+use Rattle.cbor_edn_times_and_addresses.specs.declared.address.IpVersion.{IpVersion}
+use Rattle.cbor_edn_times_and_addresses.specs.Time.{HasInstant, IsTimeStamp}
 use Rattle.cbor_edn_conversions.specs.Resolving.{Resolver, ResolvesApplications, ResolvesNoContent, Turns, AnswersBy}
 use Rattle.cbor_edn_conversions.specs.ResolvingLaws.{ComesBack, ComesBackInTurn, ItemsComeBack}
 use Rattle.cbor_edn_conversions.specs.Conversions.{Reply, item_encoding, literal_tree, in_tag}

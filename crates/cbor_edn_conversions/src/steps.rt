@@ -5,11 +5,11 @@ ghost use Rattle.cbor_edn_parts.specs.Refusals.{IfTold};
 ghost use Rattle.cbor_edn_conversions.specs.Conversions.{is_shortest};
 ghost use Rattle.cbor_edn_conversions.specs.Addresses.{address_tag, refusal_message, whole_text, prefix_text};
 ghost use Rattle.cbor_edn_conversions.specs.Bignums.{bignum_integer};
-ghost use Rattle.cbor_edn_literals.specs.Address.{size_of};
+ghost use Rattle.cbor_edn_times_and_addresses.specs.Address.{size_of};
 
-use cbor_edn_literals::address::{IpVersion, filled_address, print_address};
 use cbor_edn_parts::error::Fault;
 use cbor_edn_parts::indicator::Indicator;
+use cbor_edn_times_and_addresses::address::{IpVersion, filled_address, print_address};
 use std::alloc::{AllocError, Global};
 
 /// Whether there is no indicator, or the one of the shortest head of this argument, as `_0` of 52. Such a one may go: the encoding stays

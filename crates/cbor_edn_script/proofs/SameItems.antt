@@ -4,8 +4,8 @@ use Rattle.std.specs.Prelude.{codes, option_map, option_and_then}
 use Rattle.cbor_edn_parts.specs.declared.indicator.Indicator.{Indicator}
 use Rattle.cbor_edn_parts.specs.internal.ContentReading.{literal_content}
 use Rattle.cbor_edn_parts.specs.internal.NumberReading.{integer_of}
-use Rattle.cbor_edn_literals.specs.declared.address.IpVersion.{IpVersion}
-use Rattle.cbor_edn_literals.specs.declared.address.IpVersion.TheVariants.{V4, V6}
+use Rattle.cbor_edn_times_and_addresses.specs.declared.address.IpVersion.{IpVersion}
+use Rattle.cbor_edn_times_and_addresses.specs.declared.address.IpVersion.TheVariants.{V4, V6}
 use Rattle.cbor_edn_model.specs.access.Accessed.{both_joined, only_bytes, piece_bytes, pieces_bytes, strings_bytes, item_bytes, array_items, entries_inside, entries, element, number_text}
 use Rattle.cbor_edn_model.specs.declared.text.opener.OpenerKind.TheVariants as opener
 use Rattle.cbor_edn_model.specs.tree.Items as kind

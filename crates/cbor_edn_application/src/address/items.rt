@@ -2,7 +2,7 @@
 ghost use Rattle.std.specs.Prelude.{◌≡◌, ◌∷◌, [], ℕ, false, pos, map, List, Ok, Err, Some, None, IfOk, IfSome, IfNone, string_bytes};
 ghost use Rattle.cbor_edn_parts.specs.Refusals.{IfTold};
 ghost use Rattle.cbor_edn_model.specs.visit.Seeking.{prefix_and_text};
-ghost use Rattle.cbor_edn_literals.specs.Address.{version_of};
+ghost use Rattle.cbor_edn_times_and_addresses.specs.Address.{version_of};
 ghost use Rattle.cbor_edn_model.specs.tree.Constructed.{comma_inside};
 ghost use Rattle.cbor_edn_core.specs.tree.Constructed.{element_tree};
 ghost use Rattle.cbor_edn_core.specs.visit.Sought.{sought_answer};
@@ -16,9 +16,9 @@ ghost use Rattle.cbor_edn_application.specs.Acts.{ActsBy};
 use crate::reply::reply;
 use cbor_edn_conversions::steps::address_tag;
 use cbor_edn_core::tree::Item;
-use cbor_edn_literals::address::{IpVersion, read_address, shown_bytes};
 use cbor_edn_parts::error::{CallbackError, Fault};
 use cbor_edn_parts::policy::DelimiterPolicy;
+use cbor_edn_times_and_addresses::address::{IpVersion, read_address, shown_bytes};
 use std::alloc::{AllocError, Global};
 use std::net::IpAddr;
 

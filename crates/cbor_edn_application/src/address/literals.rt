@@ -15,8 +15,8 @@ use crate::integers::integer_of;
 use cbor_edn_conversions::steps::{NoAddress, prefix_text, whole_text};
 use cbor_edn_core::access::ArrayItems;
 use cbor_edn_core::tree::Item;
-use cbor_edn_literals::address::IpVersion;
 use cbor_edn_parts::error::Fault;
+use cbor_edn_times_and_addresses::address::IpVersion;
 use std::alloc::{AllocError, Global};
 
 /// The address literal for bytes, or for an array of a prefix length and bytes: `ip'192.0.2.0/24'` for `[24, h'c00002']`. Of an array

@@ -15,8 +15,8 @@ use super::items::{address_item, in_tag};
 use crate::same::{encoding, mean_the_same};
 use cbor_edn_conversions::steps::address_tag;
 use cbor_edn_core::tree::{Item, StandaloneItem};
-use cbor_edn_literals::address::IpVersion;
 use cbor_edn_parts::error::Fault;
+use cbor_edn_times_and_addresses::address::IpVersion;
 use std::alloc::{AllocError, Global};
 use std::mem;
 

@@ -17,8 +17,8 @@ use crate::reply::refusal;
 use crate::tags::tag_indicator_and_content;
 use cbor_edn_conversions::steps::{address_tag, is_shortest};
 use cbor_edn_core::tree::{Indicator, Item};
-use cbor_edn_literals::address::IpVersion;
 use cbor_edn_parts::error::{CallbackError, Fault};
+use cbor_edn_times_and_addresses::address::IpVersion;
 use std::alloc::Global;
 
 /// Puts `IP'192.0.2.1'` in the place of `52(h'c0000201')`, and so on for tags 52 and 54 (RFC 9164), as `ip_item_to_aol` gives it for the

@@ -2,8 +2,8 @@
 ghost use Rattle.std.specs.Prelude.{◌≡◌, IfOk, IfErr};
 ghost use Rattle.cbor_edn_parts.specs.Literal.{IsPrefix};
 ghost use Rattle.cbor_edn_core.specs.tree.View.{item_tree};
-ghost use Rattle.cbor_edn_literals.specs.Time.{IsTimeStamp};
-ghost use Rattle.cbor_edn_literals.specs.internal.TimeComputing.{time_text};
+ghost use Rattle.cbor_edn_times_and_addresses.specs.Time.{IsTimeStamp};
+ghost use Rattle.cbor_edn_times_and_addresses.specs.internal.TimeComputing.{time_text};
 ghost use Rattle.cbor_edn_conversions.specs.Conversions.{argument, literal_tree};
 ghost use Rattle.cbor_edn_conversions.specs.Times.{time_prefix, time_literal};
 ghost use Rattle.cbor_edn_application.specs.TimeSteps.{BecomesTime, StaysFor, integer_literal, decimal_literal, not_time_message};
@@ -11,8 +11,10 @@ ghost use Rattle.cbor_edn_application.specs.TimeSteps.{BecomesTime, StaysFor, in
 use cbor_edn_conversions::steps::is_shortest;
 use cbor_edn_core::access::TypeMismatch;
 use cbor_edn_core::tree::{Indicator, Item};
-use cbor_edn_literals::time::{Instant, NotTime, printed_time, read_decimal, read_integer};
 use cbor_edn_parts::error::Fault;
+use cbor_edn_times_and_addresses::time::{
+    Instant, NotTime, printed_time, read_decimal, read_integer,
+};
 use std::alloc::{AllocError, Global};
 
 /// The instant of a number, or why no literal stands for it.

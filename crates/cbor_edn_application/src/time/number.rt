@@ -3,13 +3,13 @@ ghost use Rattle.std.specs.Prelude.{◌≡◌, Ok, Err, IfOk, None};
 ghost use Rattle.cbor_edn_parts.specs.Refusals.{IfTold};
 ghost use Rattle.cbor_edn_model.specs.tree.Trees.{NumberTree};
 ghost use Rattle.cbor_edn_core.specs.tree.View.{item_tree};
-ghost use Rattle.cbor_edn_literals.specs.internal.TimeComputing.{instant_number};
+ghost use Rattle.cbor_edn_times_and_addresses.specs.internal.TimeComputing.{instant_number};
 ghost use Rattle.cbor_edn_conversions.specs.Conversions.{in_tag};
 ghost use Rattle.cbor_edn_conversions.specs.Times.{time_item};
 
 use cbor_edn_core::tree::Item;
-use cbor_edn_literals::time::{Instant, number_text, read_time};
 use cbor_edn_parts::error::Fault;
+use cbor_edn_times_and_addresses::time::{Instant, number_text, read_time};
 use std::alloc::{AllocError, Global};
 
 /// The number of a time, in tag 1 where it is to be wrapped.

@@ -10,10 +10,10 @@ use Rattle.cbor_edn_model.specs.visit.Seeking.{CallArguments}
 use Rattle.cbor_edn_model.specs.tree.Trees.{Tree, OneItem, Inside, Rest, head_indicator, NumberTree, FloatTree, NamedTree, EnclosedTree, ListTree, StringTree, StreamTree, ElementTree, EmptyTree, FullTree, LastTree, MoreTree, items}
 use Rattle.cbor_edn_model.specs.cbor.Value.{Value, Values, no_values, value, tag, AreBytes, Fits}
 use Rattle.cbor_edn_model.proofs.lemmas.cbor.MeaningSteps.{bind, both_steps, some_is}
-use Rattle.cbor_edn_literals.specs.declared.address.IpVersion.{IpVersion}
-use Rattle.cbor_edn_literals.specs.declared.address.IpVersion.TheVariants.{V4, V6}
-use Rattle.cbor_edn_literals.specs.Address.{size_of}
-use Rattle.cbor_edn_literals.proofs.PrintedBytes.{printed_text_bytes}
+use Rattle.cbor_edn_times_and_addresses.specs.declared.address.IpVersion.{IpVersion}
+use Rattle.cbor_edn_times_and_addresses.specs.declared.address.IpVersion.TheVariants.{V4, V6}
+use Rattle.cbor_edn_times_and_addresses.specs.Address.{size_of}
+use Rattle.cbor_edn_times_and_addresses.proofs.PrintedBytes.{printed_text_bytes}
 use Rattle.cbor_edn_conversions.specs.Resolving.{Resolver, means_by, ResolvesNoContent}
 use Rattle.cbor_edn_conversions.proofs.resolving.Resolved.{more_means}
 use Rattle.cbor_edn_conversions.specs.Conversions.{Message, Conversion, converted, called_tag, is_shortest, changed_encoding, without_tag, mean_the_same, literal_tree, tag_tree, in_tag}

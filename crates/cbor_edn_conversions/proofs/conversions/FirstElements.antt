@@ -17,8 +17,8 @@ use Rattle.cbor_edn_model.specs.access.Paths.{with_item}
 use Rattle.cbor_edn_model.specs.tree.Trees.{Tree, OneItem, Inside, head_indicator, NumberTree, FloatTree, NamedTree, EnclosedTree, ListTree, StringTree, StreamTree, ElementTree, EmptyTree, FullTree, LastTree, MoreTree, items}
 use Rattle.cbor_edn_model.specs.cbor.Value.{Value, Values, no_values, value, values_len, array, tag, encoding, encodings, head, open_head, break}
 use Rattle.cbor_edn_model.proofs.lemmas.cbor.MeaningSteps.{bind, some_is}
-use Rattle.cbor_edn_literals.specs.declared.address.IpVersion.{IpVersion}
-use Rattle.cbor_edn_literals.specs.declared.address.IpVersion.TheVariants.{V4, V6}
+use Rattle.cbor_edn_times_and_addresses.specs.declared.address.IpVersion.{IpVersion}
+use Rattle.cbor_edn_times_and_addresses.specs.declared.address.IpVersion.TheVariants.{V4, V6}
 use Rattle.cbor_edn_conversions.specs.Conversions.{Conversion, are_same, changed_encoding, converted, encoded, item_encoding, mean_the_same, literal_tree, tag_tree, in_tag}
 use Rattle.cbor_edn_conversions.specs.Addresses.{address_prefix, address_tag, address_item, if_same, as_literal, with_first, as_first}
 

@@ -12,12 +12,12 @@ use Rattle.cbor_edn_model.specs.visit.Seeking.{CallArguments}
 use Rattle.cbor_edn_model.specs.tree.Trees.{Tree, OneItem, NumberTree, FloatTree, NamedTree, EnclosedTree, ListTree, StringTree, StreamTree, items}
 use Rattle.cbor_edn_model.specs.cbor.Value.{Value, tag}
 use Rattle.cbor_edn_model.proofs.lemmas.cbor.MeaningSteps.{some_is}
-use Rattle.cbor_edn_literals.specs.Time.{IsTimeStamp}
-use Rattle.cbor_edn_literals.specs.internal.TimeWriting.{padded, date_text, hour_minute_text, clock_text, fraction_text}
-use Rattle.cbor_edn_literals.specs.internal.TimeComputing.{time_text, time_text_from, march_date_text, instant_number}
-use Rattle.cbor_edn_literals.proofs.TimeComputed.{instant_computed}
-use Rattle.cbor_edn_literals.proofs.TimeComputedText.{time_text_is}
-use Rattle.cbor_edn_literals.proofs.TimeComputedNumbers.{decimal_computed}
+use Rattle.cbor_edn_times_and_addresses.specs.Time.{IsTimeStamp}
+use Rattle.cbor_edn_times_and_addresses.specs.internal.TimeWriting.{padded, date_text, hour_minute_text, clock_text, fraction_text}
+use Rattle.cbor_edn_times_and_addresses.specs.internal.TimeComputing.{time_text, time_text_from, march_date_text, instant_number}
+use Rattle.cbor_edn_times_and_addresses.proofs.TimeComputed.{instant_computed}
+use Rattle.cbor_edn_times_and_addresses.proofs.TimeComputedText.{time_text_is}
+use Rattle.cbor_edn_times_and_addresses.proofs.TimeComputedNumbers.{decimal_computed}
 use Rattle.cbor_edn_conversions.specs.ConversionLaws.{StampsTested, TimesReadBack}
 use Rattle.cbor_edn_conversions.specs.Resolving.{Resolver, means_by}
 use Rattle.cbor_edn_conversions.specs.Conversions.{Conversion, called_tag, is_shortest, argument, changed_encoding, without_tag, literal_tree, tag_tree, in_tag}

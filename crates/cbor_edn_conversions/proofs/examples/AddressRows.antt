@@ -16,8 +16,8 @@ use Rattle.cbor_edn_model.specs.cbor.Value.{head}
 use Rattle.cbor_edn_model.specs.visit.Seeking.{number, prefix_and_text}
 use Rattle.cbor_edn_model.specs.tree.Trees.{Tree, OneItem, ListHead, NoIndicator, WithIndicator, NumberTree, EnclosedTree, ListTree, StringTree, EmbeddedTree, LastPieceTree, LiteralTree, ElementTree, EmptyTree, FullTree, LastTree, MoreTree, SequenceTree, onto, items}
 use Rattle.cbor_edn_model.specs.visit.Visits.{fine, comment}
-use Rattle.cbor_edn_literals.specs.declared.address.IpVersion.TheVariants.{V4}
-use Rattle.cbor_edn_literals.specs.internal.AddressReading.{address_of}
+use Rattle.cbor_edn_times_and_addresses.specs.declared.address.IpVersion.TheVariants.{V4}
+use Rattle.cbor_edn_times_and_addresses.specs.internal.AddressReading.{address_of}
 use Rattle.cbor_edn_conversions.specs.Conversions.{tag_tree, changed_encoding}
 use Rattle.cbor_edn_conversions.specs.Addresses.{resolve_address, pretty_address, address_literal}
 use Rattle.cbor_edn_conversions.specs.Bignums.{pretty_bignum}

@@ -8,8 +8,8 @@ use Rattle.cbor_edn_model.specs.tree.Items.{Elements, Pairs, Array, Map}
 use Rattle.cbor_edn_model.specs.visit.Seeking.{number, prefix_and_text}
 use Rattle.cbor_edn_model.specs.tree.Trees.{Tree, OneItem, OneEntry, Rest, NoIndicator, NumberTree, NamedTree, ListTree, StringTree, LastPieceTree, LiteralTree, ElementTree, PairTree, EmptyTree, FullTree, LastTree, MoreTree, text, onto}
 use Rattle.cbor_edn_model.specs.visit.Visits.{Answer, fine, comment}
-use Rattle.cbor_edn_literals.specs.internal.TimeComputing.{march_year, march_day, time_text_from, decimal_of}
-use Rattle.cbor_edn_literals.specs.internal.TimeWriting.{padded}
+use Rattle.cbor_edn_times_and_addresses.specs.internal.TimeComputing.{march_year, march_day, time_text_from, decimal_of}
+use Rattle.cbor_edn_times_and_addresses.specs.internal.TimeWriting.{padded}
 use Rattle.cbor_edn_conversions.specs.Annotations.{comment_lang, commenting}
 use Rattle.cbor_edn_conversions.specs.Claims.{with_claims}
 use Rattle.cbor_edn_conversions.specs.Conversions.{Reply, tag_tree}

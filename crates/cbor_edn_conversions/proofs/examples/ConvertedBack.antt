@@ -18,10 +18,10 @@ use Rattle.cbor_edn_model.specs.visit.Seeking.{number, prefix_and_text, IsTag, I
 use Rattle.cbor_edn_model.specs.tree.Trees.{Tree, OneItem, Standalone, LiteralTree, items}
 use Rattle.cbor_edn_model.specs.cbor.Value.{Value, value, no_values, array, tag, unsigned, string, head, Fits}
 use Rattle.cbor_edn_model.specs.visit.Visits.{fine, whole}
-use Rattle.cbor_edn_literals.specs.internal.AddressReading.{address_of}
-use Rattle.cbor_edn_literals.specs.internal.TimeReading.{offset_length}
-use Rattle.cbor_edn_literals.specs.internal.TimeWriting.{padded}
-use Rattle.cbor_edn_literals.specs.internal.TimeComputing.{day_number_of, day_of, date_of, minutes_of, clock_of, fraction_of, offset_of, tail_of, instant_of, march_year, march_day, time_text_from, instant_number}
+use Rattle.cbor_edn_times_and_addresses.specs.internal.AddressReading.{address_of}
+use Rattle.cbor_edn_times_and_addresses.specs.internal.TimeReading.{offset_length}
+use Rattle.cbor_edn_times_and_addresses.specs.internal.TimeWriting.{padded}
+use Rattle.cbor_edn_times_and_addresses.specs.internal.TimeComputing.{day_number_of, day_of, date_of, minutes_of, clock_of, fraction_of, offset_of, tail_of, instant_of, march_year, march_day, time_text_from, instant_number}
 use Rattle.cbor_edn_conversions.specs.Resolving.{AnswersBy}
 use Rattle.cbor_edn_conversions.specs.Conversions.{tag_tree, integer_tree, bytes_tree, pair_tree, literal_tree}
 use Rattle.cbor_edn_conversions.specs.Times.{pretty_time, time_literal, resolve_time}

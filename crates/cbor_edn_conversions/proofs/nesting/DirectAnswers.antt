@@ -11,11 +11,11 @@ use Rattle.cbor_edn_model.specs.access.Paths.{with_item}
 use Rattle.cbor_edn_model.specs.visit.Seeking.{CallArguments, number, prefix_and_text}
 use Rattle.cbor_edn_model.specs.tree.Trees.{Tree, OneItem, Inside, Rest, head_indicator, NumberTree, FloatTree, NamedTree, EnclosedTree, ListTree, StringTree, StreamTree, ElementTree, EmptyTree, FullTree, LastTree, MoreTree, StandaloneTree, items}
 use Rattle.cbor_edn_model.specs.visit.Visits.{fine, comment, no_memory}
-use Rattle.cbor_edn_literals.specs.declared.address.IpVersion.{IpVersion}
-use Rattle.cbor_edn_literals.specs.declared.address.IpVersion.TheVariants.{V4, V6}
-use Rattle.cbor_edn_literals.specs.declared.address.AddressError.{AddressError}
-use Rattle.cbor_edn_literals.specs.internal.AddressReading.{address_of}
-use Rattle.cbor_edn_literals.specs.internal.TimeComputing.{instant_of, time_text}
+use Rattle.cbor_edn_times_and_addresses.specs.declared.address.IpVersion.{IpVersion}
+use Rattle.cbor_edn_times_and_addresses.specs.declared.address.IpVersion.TheVariants.{V4, V6}
+use Rattle.cbor_edn_times_and_addresses.specs.declared.address.AddressError.{AddressError}
+use Rattle.cbor_edn_times_and_addresses.specs.internal.AddressReading.{address_of}
+use Rattle.cbor_edn_times_and_addresses.specs.internal.TimeComputing.{instant_of, time_text}
 use Rattle.cbor_edn_conversions.specs.Conversions.{Message, Conversion, Reply, reply, and_then, of_prefixes, of_literal, called_tag, is_shortest, changed_encoding, without_tag, mean_the_same, literal_tree, integer_tree, tag_tree, in_tag}
 use Rattle.cbor_edn_conversions.specs.Integers.{item_integer}
 use Rattle.cbor_edn_conversions.specs.Times.{time_prefix, instant_item, time_item, resolve_time, is_plain, instant_by, is_time_stamp, instant_literal, time_literal, time_of_tag, pretty_time}

@@ -1,7 +1,7 @@
 use Rattle.std.proofs.Common.{◌≡◌, string_bytes, ap, ◌∙◌}
 use Rattle.std.proofs.lemmas.Result.{IfOk-weaker}
-use Rattle.cbor_edn_literals.specs.internal.TimeComputing.{time_text}
-use Rattle.cbor_edn_literals.proofs.TimeComputedText.{printed_computed}
+use Rattle.cbor_edn_times_and_addresses.specs.internal.TimeComputing.{time_text}
+use Rattle.cbor_edn_times_and_addresses.proofs.TimeComputedText.{printed_computed}
 use Rattle.cbor_edn_conversions.specs.Conversions.{literal_tree}
 use Rattle.cbor_edn_conversions.specs.Times.{time_prefix}
 use Rattle.cbor_edn_application.proofs.time.literal.time_literal.Goals as goal

@@ -1,6 +1,0 @@
-use Rattle.cbor_edn_literals.proofs.TimeGrammar.{decimal_is_number}
-use Rattle.cbor_edn_literals.proofs.TimeNumbers.{one_decimal}
-use Rattle.cbor_edn_literals.proofs.laws.one_decimal.Goals as goal
-
-pub returns : goal.returns
-returns c = record { one = one_decimal; number = decimal_is_number }
