@@ -21,17 +21,17 @@ stands_in() {
 
 # A parse begins its own count, and makes the text that is read. The line of an offset is counted with another one.
 stands_in 'Looks::new(' crates/cbor_edn_core/src/text/parse.rt crates/cbor_edn_findings/src/places.rt
-stands_in 'Text::new(' crates/cbor_edn_core/src/text/parse.rt crates/cbor_edn_findings/src/places.rt
+stands_in 'Input::new(' crates/cbor_edn_core/src/text/parse.rt crates/cbor_edn_findings/src/places.rt
 # Pieces of a text are cut where scans and spaces have seen them byte by byte, for leaves.
-stands_in '.slice(' crates/cbor_edn_parts/src/number/start.rt crates/cbor_edn_parts/src/scan.rt crates/cbor_edn_parts/src/space/read.rt crates/cbor_edn_parts/src/string/read.rt
+stands_in '.slice(' crates/cbor_edn_parts/src/base/scan.rt crates/cbor_edn_parts/src/number/start.rt crates/cbor_edn_parts/src/space/read.rt crates/cbor_edn_parts/src/string/read.rt
 
 by_hand=$(find crates -path '*/out' -prune -o -name Proof.antt -print | sort)
 wanted='crates/cbor_edn_command/proofs/count/Count/after/Proof.antt
 crates/cbor_edn_command/proofs/count/Count/new/Proof.antt
 crates/cbor_edn_core/proofs/tree/InnerItemOf/+descend/Proof.antt
 crates/cbor_edn_core/proofs/tree/ItemOf/at_mut/Proof.antt
-crates/cbor_edn_parts/proofs/looks/Looks/new/Proof.antt
-crates/cbor_edn_parts/proofs/looks/Looks/next/Proof.antt'
+crates/cbor_edn_parts/proofs/base/looks/Looks/new/Proof.antt
+crates/cbor_edn_parts/proofs/base/looks/Looks/next/Proof.antt'
 count "proofs by hand: ${by_hand//$'\n'/ }" test "$by_hand" = "$wanted"
 
 end

@@ -10,9 +10,9 @@ use Rattle.std.specs.Str.{IsUtf8}
 use Rattle.std.proofs.lemmas.Str.{IsUtf8-append, IsUtf8-take, IsUtf8-from_ascii, IsCharBoundary-at_seam}
 use Rattle.std.proofs.lemmas.List.{length-append, length-map}
 use Rattle.std.proofs.lemmas.List.Elements.{All-nil, All-cons, All-head, All-tail, All-push}
-use Rattle.cbor_edn_parts.specs.declared.error.Fault.{Fault}
-use Rattle.cbor_edn_parts.specs.declared.error.Fault.TheVariants.{Memory, Told}
-use Rattle.cbor_edn_parts.specs.declared.policy.DelimiterPolicy.TheVariants.{SingleLineRegularSpacing}
+use Rattle.cbor_edn_parts.specs.declared.base.error.Fault.{Fault}
+use Rattle.cbor_edn_parts.specs.declared.base.error.Fault.TheVariants.{Memory, Told}
+use Rattle.cbor_edn_parts.specs.declared.space.policy.DelimiterPolicy.TheVariants.{SingleLineRegularSpacing}
 use Rattle.cbor_edn_parts.specs.internal.CommentReading.{from_first, to_last, up_to_comma, past_comma}
 use Rattle.cbor_edn_model.specs.declared.cbor.decode.CborError.{CborError}
 use Rattle.cbor_edn_model.specs.declared.cbor.decode.head.Stop.TheVariants.{EndOfData}
@@ -34,7 +34,7 @@ use Rattle.cbor_edn.specs.Elements.{IsLine, AreRead, IsFault, Fronts, elements, 
 use Rattle.cbor_edn_command.specs.declared.options.Options.{Options}
 use Rattle.cbor_edn.specs.Runs.{IsPrintedAs}
 use Rattle.cbor_edn.specs.RunSteps.{Where, IsLaidOut, StepsGive}
-use Rattle.cbor_edn.specs.Steps.{IsDiagnosed}
+use Rattle.cbor_edn.specs.OptionSteps.{IsDiagnosed}
 use Rattle.cbor_edn_core.proofs.lemmas.cbor.Decodes.{sequence_decoded}
 use Rattle.cbor_edn_stream.proofs.lemmas.Tested.{decoded_valid}
 use Rattle.cbor_edn.proofs.SplitSteps.{split_steps, zero_alone, zero_printed}

@@ -2,10 +2,10 @@
 use Rattle.std.proofs.Common.{◌≡◌, ℕ, ◌≤◌, List, Some, refl, sym, ap, subst, ◌∙◌, arith}
 use Rattle.std.specs.Prelude.{Option, None, Result, Ok, Err, IsErr}
 use Rattle.std.specs.Str.{IsUtf8}
-use Rattle.cbor_edn_parts.specs.declared.error.ParseError.{ParseError}
-use Rattle.cbor_edn_parts.specs.declared.error.ParseErrorKind.{ParseErrorKind}
-use Rattle.cbor_edn_parts.specs.declared.error.ParseErrorKind.TheVariants as parse
-use Rattle.cbor_edn_parts.specs.Errors.{error_kind}
+use Rattle.cbor_edn_parts.specs.declared.base.error.ParseError.{ParseError}
+use Rattle.cbor_edn_parts.specs.declared.base.error.ParseErrorKind.{ParseErrorKind}
+use Rattle.cbor_edn_parts.specs.declared.base.error.ParseErrorKind.TheVariants as parse
+use Rattle.cbor_edn_parts.specs.base.Errors.{error_kind}
 use Rattle.cbor_edn_model.specs.declared.cbor.decode.CborError.{CborError}
 use Rattle.cbor_edn_model.specs.declared.cbor.decode.CborError.TheVariants as cbor
 use Rattle.cbor_edn_model.specs.tree.Items.{nesting}

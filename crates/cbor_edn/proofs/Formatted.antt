@@ -1,8 +1,8 @@
 -- What is formatted has the same items.
 use Rattle.std.proofs.Common.{◌≡◌, ◌≤◌, sym, ap, subst, ◌∙◌}
 use Rattle.std.specs.Str.{IsUtf8}
-use Rattle.cbor_edn_parts.specs.Spacing.{indented}
-use Rattle.cbor_edn_parts.specs.declared.policy.DelimiterPolicy.TheVariants.{DiscardAll}
+use Rattle.cbor_edn_parts.specs.space.Spacing.{indented}
+use Rattle.cbor_edn_parts.specs.declared.space.policy.DelimiterPolicy.TheVariants.{DiscardAll}
 use Rattle.cbor_edn_model.specs.text.Spelling.{SpellsSequence}
 use Rattle.cbor_edn_model.specs.tree.Items.{Items, nesting}
 use Rattle.cbor_edn_model.specs.tree.Trees.{Tree, Seq, items}

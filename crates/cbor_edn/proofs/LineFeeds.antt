@@ -4,7 +4,7 @@ use Rattle.std.specs.Prelude.{if◌then◌else◌}
 use Rattle.std.specs.Str.{IsUtf8}
 use Rattle.std.specs.Char.{encode_utf8}
 use Rattle.std.proofs.lemmas.Str.{IsUtf8-append, IsUtf8-encode}
-use Rattle.cbor_edn_parts.specs.Space.{IsSpace, blank, empty, IsListEnd, space, comma}
+use Rattle.cbor_edn_parts.specs.space.Space.{IsSpace, blank, empty, IsListEnd, space, comma}
 use Rattle.cbor_edn_parts.proofs.lemmas.space.CommentTexts.{spaces_append}
 use Rattle.cbor_edn_model.specs.text.Spelling.{Spells, SpellsSequence}
 use Rattle.cbor_edn_model.specs.tree.Items.{Items, End, Then}

@@ -10,7 +10,7 @@ use Rattle.cbor_edn_model.specs.cbor.Value.{Values, EncAll}
 use Rattle.cbor_edn_core.specs.tree.View.{Sequence, sequence_tree}
 use Rattle.cbor_edn_core.proofs.lemmas.text.Printable.{sequence_valid}
 use Rattle.cbor_edn_model.proofs.lemmas.layout.Layouts.{keeps_items, stays_valid}
-use Rattle.cbor_edn_parts.specs.Spacing.{indented}
+use Rattle.cbor_edn_parts.specs.space.Spacing.{indented}
 use Rattle.cbor_edn_model.proofs.lemmas.text.Tested.{valid}
 use Rattle.std.specs.Prelude.{Result, Ok, Err, IfOk, ◌||◌}
 use Rattle.std.specs.declared.alloc.AllocError.{AllocError}
@@ -19,15 +19,15 @@ use Rattle.std.specs.declared.vec.Vec.{Vec}
 use Rattle.cbor_edn_stream.specs.Tags.{values_have_tag}
 use Rattle.cbor_edn.specs.ChangedTags.{tags_changed}
 use Rattle.cbor_edn_stream.proofs.lemmas.Tested.{decoded_tree, decoded_valid}
-use Rattle.cbor_edn_parts.specs.Refusals.{IfTold}
-use Rattle.cbor_edn_parts.specs.declared.error.Fault.{Fault}
-use Rattle.cbor_edn_parts.specs.declared.error.Fault.TheVariants.{Memory, Told}
-use Rattle.cbor_edn_parts.specs.declared.error.InconsistentEdn.{InconsistentEdn}
+use Rattle.cbor_edn_parts.specs.base.Refusals.{IfTold}
+use Rattle.cbor_edn_parts.specs.declared.base.error.Fault.{Fault}
+use Rattle.cbor_edn_parts.specs.declared.base.error.Fault.TheVariants.{Memory, Told}
+use Rattle.cbor_edn_parts.specs.declared.base.error.InconsistentEdn.{InconsistentEdn}
 use Rattle.cbor_edn_model.specs.cbor.Meaning.{NoEncoding}
 use Rattle.cbor_edn_command.specs.Hexadecimal.{input_bytes}
 use Rattle.cbor_edn.specs.Runs.{IsReadAs, IsPrintedAs, IsRefused, told_as}
 use Rattle.cbor_edn.specs.RunSteps.{Where, IsLaidOut, StepsGive}
-use Rattle.cbor_edn.specs.Steps.{IsEncoded, IsUnencoded, IsDiagnosed, IsUndiagnosed}
+use Rattle.cbor_edn.specs.OptionSteps.{IsEncoded, IsUnencoded, IsDiagnosed, IsUndiagnosed}
 use Rattle.cbor_edn.proofs.UntaggedSteps.{kept_steps_give}
 use Rattle.cbor_edn_command.specs.declared.options.Command.TheVariants.{Cbor2Diag}
 use Rattle.cbor_edn.specs.declared.engine.RunError.{RunError}

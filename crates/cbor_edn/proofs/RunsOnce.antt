@@ -1,8 +1,8 @@
 -- The steps of a run have one result, and an input has one output.
 use Rattle.std.proofs.Common.{◌≡◌, ℕ, List, [], ◌∷◌, ◌++◌, Bool, true, false, refl, sym, ap, subst, ◌∙◌}
 use Rattle.std.specs.Prelude.{not, if◌then◌else◌, None, Result, Ok}
-use Rattle.cbor_edn_parts.specs.declared.policy.DelimiterPolicy.TheVariants.{DiscardAll}
-use Rattle.cbor_edn_parts.specs.Spacing.{indented}
+use Rattle.cbor_edn_parts.specs.declared.space.policy.DelimiterPolicy.TheVariants.{DiscardAll}
+use Rattle.cbor_edn_parts.specs.space.Spacing.{indented}
 use Rattle.cbor_edn_model.specs.cbor.Decoded.{items_of}
 use Rattle.cbor_edn_model.specs.tree.Trees.{Tree, Seq}
 use Rattle.cbor_edn_model.specs.cbor.Value.{Value, array, Values, encodings, break, open_head, EncAll}

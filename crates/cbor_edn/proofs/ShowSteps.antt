@@ -3,7 +3,7 @@ use Rattle.std.proofs.Common.{◌≡◌, Bool, true, false, refl, sym, ap, ◌�
 use Rattle.std.specs.Prelude.{◌&&◌, ◌||◌}
 use Rattle.std.proofs.Math.Bool.{and-false}
 use Rattle.std.proofs.lemmas.Bool.{or_parts}
-use Rattle.cbor_edn_parts.specs.Spacing.{indented}
+use Rattle.cbor_edn_parts.specs.space.Spacing.{indented}
 use Rattle.cbor_edn_model.specs.tree.Items.{Elements, Items, Element, Then, End}
 use Rattle.cbor_edn_model.specs.tree.Trees.{Tree, Rest, Seq, ElementTree, LastTree, MoreTree, NothingTree, SequenceTree, items}
 use Rattle.cbor_edn_model.specs.visit.Seeking.{IsTag}

@@ -8,7 +8,7 @@ use Rattle.std.specs.declared.vec.Vec.{Vec}
 use Rattle.cbor_edn_core.specs.tree.View.{Sequence, sequence_tree}
 use Rattle.cbor_edn_core.specs.visit.Callbacks.{ending}
 use Rattle.cbor_edn_core.proofs.lemmas.text.Printable.{sequence_valid}
-use Rattle.cbor_edn_parts.specs.Spacing.{indented}
+use Rattle.cbor_edn_parts.specs.space.Spacing.{indented}
 use Rattle.cbor_edn_model.specs.cbor.Value.{Values}
 use Rattle.cbor_edn_model.specs.tree.Items.{nesting}
 use Rattle.cbor_edn_model.specs.text.Spelling.{SpellsSequence}

@@ -4,8 +4,8 @@ use Rattle.std.specs.Prelude.{◌&&◌, ◌||◌, not}
 use Rattle.std.proofs.Math.Bool.{and-false}
 use Rattle.std.proofs.lemmas.Bool.{or_parts, or_left, or_right}
 use Rattle.std.proofs.lemmas.List.Elements.{All-nil}
-use Rattle.cbor_edn_parts.specs.Spacing.{indented}
-use Rattle.cbor_edn_parts.specs.declared.policy.DelimiterPolicy.TheVariants.{DiscardAll}
+use Rattle.cbor_edn_parts.specs.space.Spacing.{indented}
+use Rattle.cbor_edn_parts.specs.declared.space.policy.DelimiterPolicy.TheVariants.{DiscardAll}
 use Rattle.cbor_edn_model.specs.layout.Layout.{laid_out}
 use Rattle.cbor_edn_model.specs.tree.Trees.{Tree, Seq}
 use Rattle.cbor_edn_model.specs.visit.Tagged.{has_tag}

@@ -1,8 +1,8 @@
 -- What only clauses of private functions cite: elements of a sequence that are read, changed and printed before those behind them.
 use Rattle.std.specs.Prelude.{ℕ, ◌<◌, ◌≡◌, Bool, if◌then◌else◌, List, [], ◌∷◌, map, length, None, Ok}
 use Rattle.std.specs.Str.{IsUtf8}
-use Rattle.cbor_edn_parts.specs.declared.error.Fault.{Fault}
-use Rattle.cbor_edn_parts.specs.declared.policy.DelimiterPolicy.TheVariants.{SingleLineRegularSpacing}
+use Rattle.cbor_edn_parts.specs.declared.base.error.Fault.{Fault}
+use Rattle.cbor_edn_parts.specs.declared.space.policy.DelimiterPolicy.TheVariants.{SingleLineRegularSpacing}
 use Rattle.cbor_edn_model.specs.declared.cbor.decode.CborError.{CborError}
 use Rattle.cbor_edn_model.specs.layout.Layout.{laid_out}
 use Rattle.cbor_edn_model.specs.tree.Items.{Elements}

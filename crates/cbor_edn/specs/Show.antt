@@ -1,6 +1,6 @@
 -- What `show` writes of some CBOR.
 use Rattle.std.specs.Prelude.{◌≡◌, ℕ, ◌-◌, List, Ok}
-use Rattle.cbor_edn_parts.specs.Spacing.{indented}
+use Rattle.cbor_edn_parts.specs.space.Spacing.{indented}
 use Rattle.cbor_edn_model.specs.tree.Items.{nesting}
 use Rattle.cbor_edn_model.specs.tree.Trees.{Tree, Seq, items}
 use Rattle.cbor_edn_conversions.specs.Addresses.{pretty_address}

@@ -1,9 +1,9 @@
 //! Trees in boxes: a proof writes out what a function holds, and of a box only that it is one.
 ghost use Rattle.std.specs.Prelude.{◌≡◌, IfOk, Ok, Err};
-ghost use Rattle.cbor_edn_parts.specs.Refusals.{IfTold};
-ghost use Rattle.cbor_edn_parts.specs.declared.error.Fault.TheVariants.{Told};
+ghost use Rattle.cbor_edn_parts.specs.base.Refusals.{IfTold};
+ghost use Rattle.cbor_edn_parts.specs.declared.base.error.Fault.TheVariants.{Told};
 
-use cbor_edn_parts::error::Fault;
+use cbor_edn_parts::base::error::Fault;
 use std::alloc::Global;
 
 /// The value of an answer in a box. Fails as the answer does, and where memory runs out.

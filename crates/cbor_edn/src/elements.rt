@@ -3,22 +3,22 @@
 //! A step does to elements of a sequence what it does to them by themselves. So some are decoded, changed, printed and dropped, and then the
 //! next. What stands between the last of these and the next is printed with an integer in the place of that one, which no step changes.
 ghost use Rattle.std.specs.Prelude.{◌≡◌, ◌≢◌, ◌<◌, ◌++◌, ◌∷◌, [], length, map, All, IfOk, IfErr, OnOk};
-ghost use Rattle.cbor_edn_parts.specs.Refusals.{IfTold};
-ghost use Rattle.cbor_edn_parts.specs.declared.policy.DelimiterPolicy.TheVariants.{SingleLineRegularSpacing};
+ghost use Rattle.cbor_edn_parts.specs.base.Refusals.{IfTold};
+ghost use Rattle.cbor_edn_parts.specs.declared.space.policy.DelimiterPolicy.TheVariants.{SingleLineRegularSpacing};
 ghost use Rattle.cbor_edn_core.specs.tree.Constructed.{element_tree};
 ghost use Rattle.cbor_edn_core.specs.tree.View.{item_tree, sequence_tree};
 ghost use Rattle.cbor_edn_model.specs.cbor.Decoded.{NoSequence, IsTooDeepSequence};
 ghost use Rattle.cbor_edn_model.specs.tree.Constructed.{comma_sequence};
 ghost use Rattle.cbor_edn.specs.RunSteps.{Where, IsLaidOut};
 ghost use Rattle.cbor_edn.specs.Elements.{IsLine, AreRead, IsFault, zero_item, zero_text, IsTextInFront, IsTextOf};
-ghost use Rattle.cbor_edn.specs.Steps.{IsDiagnosed};
+ghost use Rattle.cbor_edn.specs.OptionSteps.{IsDiagnosed};
 
 use crate::engine::printed;
 use cbor_edn_command::options::Options;
 use cbor_edn_core::cbor::decode::{CborError, decode_item};
 use cbor_edn_core::tree::{Item, Sequence};
-use cbor_edn_parts::error::Fault;
-use cbor_edn_parts::policy::DelimiterPolicy;
+use cbor_edn_parts::base::error::Fault;
+use cbor_edn_parts::space::policy::DelimiterPolicy;
 use std::alloc::{AllocError, Global};
 
 /// How many bytes the elements that are changed together have: all but the last of them have fewer.

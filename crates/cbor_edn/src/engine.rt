@@ -7,7 +7,7 @@ ghost use Rattle.cbor_edn_command.specs.Devices.{FailsAtMostOnce};
 ghost use Rattle.cbor_edn.specs.Runs.{IsOutput, IsRefused, Wrote, HasReadAll, EndsReading, EndsWriting, IsFaultLine, IsReported, IsReportedWhole, read_faults, write_faults, status, told_as};
 ghost use Rattle.cbor_edn.specs.Runs.{IsReadAs, IsUnread, IsPrintedAs};
 ghost use Rattle.cbor_edn.specs.RunSteps.{StepsGive};
-ghost use Rattle.cbor_edn.specs.Steps.{IsEncoded, IsUnencoded, IsDiagnosed, IsUndiagnosed, IsReprinted};
+ghost use Rattle.cbor_edn.specs.OptionSteps.{IsEncoded, IsUnencoded, IsDiagnosed, IsUndiagnosed, IsReprinted};
 ghost use Rattle.cbor_edn.specs.declared.engine.RunError.{RunError};
 ghost use Rattle.cbor_edn.specs.declared.engine.RunError.TheVariants.{Memory, Parse, Cbor, Inconsistent, Hex, Read};
 
@@ -20,8 +20,8 @@ pub use cbor_edn_command::options::{Command, Options};
 use cbor_edn_command::transfer::{read_all, write_all};
 use cbor_edn_core::cbor::decode::CborError;
 use cbor_edn_core::tree::Sequence;
-use cbor_edn_parts::buffer::TextBuffer;
-use cbor_edn_parts::error::{Fault, InconsistentEdn, ParseError};
+use cbor_edn_parts::base::buffer::TextBuffer;
+use cbor_edn_parts::base::error::{Fault, InconsistentEdn, ParseError};
 use cbor_edn_stream::{has_tag_of, print_cbor};
 use simdutf8::basic::from_utf8;
 use std::alloc::{AllocError, Global};
@@ -137,7 +137,7 @@ fn to_cbor(alloc: Global, options: &Options, input: &[u8]) -> Result<Vec<u8>, Ru
     ensures err { IfErr result (IsUnencoded options.now input.now) }
 {
     let mut sequence = parsed(alloc, options.limit, input)?;
-    steps::take(alloc, options, &mut sequence)?;
+    option_steps::take(alloc, options, &mut sequence)?;
     match sequence.to_cbor(alloc) {
         Ok(bytes) => Ok(bytes),
         Err(fault) => Err(RunError::from(fault)),
@@ -152,8 +152,8 @@ pub(crate) fn printed(
 ) -> Result<Vec<u8>, AllocError>
     ensures { IfOk result (λ out. (v : Tree Seq) × StepsGive options.now (sequence_tree sequence.old) v × IsPrintedAs v out.items) }
 {
-    steps::take(alloc, options, sequence)?;
-    steps::spaced_text(alloc, options, sequence)
+    option_steps::take(alloc, options, sequence)?;
+    option_steps::spaced_text(alloc, options, sequence)
 }
 
 // The text of the items that bytes encode, printed while they are read. None where a step is asked for that may change other items than tags, or
@@ -162,10 +162,10 @@ fn streamed(alloc: Global, options: &Options, bytes: &[u8]) -> Result<Option<Vec
     ensures ok { IfOk result (λ text. IfSome text (λ out. IsDiagnosed options.now bytes.now out.items)) }
     ensures err { IfErr result (IsUndiagnosed options.now bytes.now) }
 {
-    if steps::change_untagged(options) {
+    if option_steps::change_untagged(options) {
         return Ok(None);
     }
-    let changed = has_tag_of(steps::changed_tags(options), bytes)?;
+    let changed = has_tag_of(option_steps::changed_tags(options), bytes)?;
     if changed {
         return Ok(None);
     }

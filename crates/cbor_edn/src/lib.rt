@@ -8,9 +8,9 @@ pub mod engine;
 pub mod format;
 pub mod laws;
 mod line_feed;
+mod option_steps;
 pub mod script;
 pub mod show;
-mod steps;
 
 pub use cbor_edn_command::{file_options, file_words, words};
 pub use cbor_edn_core::access::{
@@ -20,8 +20,8 @@ pub use cbor_edn_core::cbor::decode::CborError;
 pub use cbor_edn_core::tree::{Item, NESTING_LIMIT, Sequence, StandaloneItem};
 pub use cbor_edn_core::visit::MapValueHandler;
 pub use cbor_edn_model::text::keyword::NamedSimple;
-pub use cbor_edn_parts::buffer::TextBuffer;
-pub use cbor_edn_parts::error::{CallbackError, Fault, InconsistentEdn, ParseError};
-pub use cbor_edn_parts::indicator::Indicator;
-pub use cbor_edn_parts::looks::Looks;
-pub use cbor_edn_parts::policy::DelimiterPolicy;
+pub use cbor_edn_parts::base::buffer::TextBuffer;
+pub use cbor_edn_parts::base::error::{CallbackError, Fault, InconsistentEdn, ParseError};
+pub use cbor_edn_parts::base::indicator::Indicator;
+pub use cbor_edn_parts::base::looks::Looks;
+pub use cbor_edn_parts::space::policy::DelimiterPolicy;

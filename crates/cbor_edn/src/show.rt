@@ -1,7 +1,7 @@
 //! CBOR as it is shown, with the CBOR in its byte strings and with the names of COSE.
 ghost use Rattle.std.specs.Prelude.{◌≡◌, ◌++◌, ◌&&◌, ◌||◌, IfOk, IfErr, OnOk};
-ghost use Rattle.cbor_edn_parts.specs.Notes.{noted};
-ghost use Rattle.cbor_edn_parts.specs.Spacing.{indented};
+ghost use Rattle.cbor_edn_parts.specs.space.Notes.{noted};
+ghost use Rattle.cbor_edn_parts.specs.space.Spacing.{indented};
 ghost use Rattle.cbor_edn_core.specs.tree.View.{sequence_tree};
 ghost use Rattle.cbor_edn_model.specs.tree.Trees.{Tree, Seq};
 ghost use Rattle.cbor_edn_conversions.specs.Cose.{comment_cose};
@@ -10,12 +10,12 @@ ghost use Rattle.cbor_edn.specs.Format.{ended};
 ghost use Rattle.cbor_edn.specs.RunSteps.{Where, IsLaidOut, TagsVisited};
 ghost use Rattle.cbor_edn.specs.Runs.{IsPrintedAs};
 ghost use Rattle.cbor_edn.specs.Show.{AreShown, ClaimsAnnotated, EmbeddedShown, IsShown, IsUnshown, IsWritten, ShowGives};
-ghost use Rattle.cbor_edn.specs.Steps.{IsUndiagnosed};
+ghost use Rattle.cbor_edn.specs.OptionSteps.{IsUndiagnosed};
 
 use crate::boxed::boxed;
 use crate::engine::RunError;
 use crate::line_feed::end_line;
-use crate::steps::{annotate_tags, show_bignums, spaced_text};
+use crate::option_steps::{annotate_tags, show_bignums, spaced_text};
 use cbor_edn_application::visits::{
     annotate_claims_sets, annotate_messages, comment_claims_keys, comment_cose, show_embedded,
 };

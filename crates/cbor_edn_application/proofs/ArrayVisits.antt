@@ -3,7 +3,7 @@ use Rattle.std.proofs.Common.{ℕ, zero, suc, ◌<◌, List, ◌≡◌, ◌≢�
 use Rattle.std.specs.Fn.{Called}
 use Rattle.std.specs.declared.string.String.{String}
 use Rattle.std.specs.declared.alloc.Global.{Global}
-use Rattle.cbor_edn_parts.specs.declared.error.CallbackError.{CallbackError}
+use Rattle.cbor_edn_parts.specs.declared.base.error.CallbackError.{CallbackError}
 use Rattle.cbor_edn_core.specs.visit.Callbacks.{Callback, IsCall, answer_of}
 use Rattle.cbor_edn_core.specs.tree.View.{Item, item_tree}
 use Rattle.cbor_edn_model.specs.access.Accessed.{array_items, element}

@@ -5,7 +5,7 @@ use Rattle.std.proofs.lemmas.Bool.{eqb-true, eqb-false}
 use Rattle.std.specs.Fmt.{signed_decimal}
 use Rattle.std.specs.Int.{bytes_high_first}
 use Rattle.std.specs.List.{list_all}
-use Rattle.cbor_edn_parts.specs.declared.indicator.Indicator.{Indicator}
+use Rattle.cbor_edn_parts.specs.declared.base.indicator.Indicator.{Indicator}
 use Rattle.cbor_edn_parts.specs.declared.string.StringKind.{StringKind}
 use Rattle.cbor_edn_parts.specs.declared.string.StringKind.TheVariants.{Bytes}
 use Rattle.cbor_edn_parts.specs.internal.ContentReading.{literal_content}

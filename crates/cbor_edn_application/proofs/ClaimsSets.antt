@@ -4,9 +4,9 @@ use Rattle.std.proofs.lemmas.Bool.{ltb-true}
 use Rattle.std.proofs.lemmas.Result.{on_ok_weaker}
 use Rattle.std.specs.Prelude.{if◌then◌else◌, ltb, slice_get, option_map, option_and_then, unwrap_or, Result, Ok, Err, IfErr, OnOk}
 use Rattle.std.specs.declared.alloc.AllocError.{AllocError}
-use Rattle.cbor_edn_parts.specs.declared.error.Fault.{Fault}
-use Rattle.cbor_edn_parts.specs.declared.error.Fault.TheVariants.{Memory, Told}
-use Rattle.cbor_edn_parts.specs.Refusals.{IfTold}
+use Rattle.cbor_edn_parts.specs.declared.base.error.Fault.{Fault}
+use Rattle.cbor_edn_parts.specs.declared.base.error.Fault.TheVariants.{Memory, Told}
+use Rattle.cbor_edn_parts.specs.base.Refusals.{IfTold}
 use Rattle.cbor_edn_core.specs.declared.access.TypeMismatch.{TypeMismatch}
 use Rattle.cbor_edn_core.specs.declared.access.TypeMismatch.TheVariants.{Map}
 use Rattle.cbor_edn_core.specs.visit.Callbacks.{IfVisited}

@@ -1,7 +1,7 @@
 -- What functions make of COSE messages at their tags.
 use Rattle.std.proofs.Common.{ℕ, pos, List, [], ◌==◌, ◌≡◌, ◌≢◌, true, false, cond, None, Some, Option, refl, sym, ap, subst, ◌∙◌, arith}
 use Rattle.std.proofs.lemmas.Bool.Decides.{nat_tests}
-use Rattle.cbor_edn_parts.specs.declared.indicator.Indicator.{Indicator}
+use Rattle.cbor_edn_parts.specs.declared.base.indicator.Indicator.{Indicator}
 use Rattle.cbor_edn_model.specs.declared.text.opener.OpenerKind.TheVariants as opener
 use Rattle.cbor_edn_model.specs.access.Accessed.{tag_content, tag_head}
 use Rattle.cbor_edn_model.specs.access.Paths.{at_standalone, with_at_standalone}

@@ -3,9 +3,9 @@ use Rattle.std.proofs.Common.{◌≡◌, None, Result, Ok, Err, sym, ap, ◌∙�
 use Rattle.std.specs.Prelude.{OnOk}
 use Rattle.cbor_edn_core.specs.declared.access.TypeMismatch.{TypeMismatch}
 use Rattle.cbor_edn_core.specs.declared.access.TypeMismatch.TheVariants.{Map}
-use Rattle.cbor_edn_parts.specs.Refusals.{IfTold}
-use Rattle.cbor_edn_parts.specs.declared.error.Fault.{Fault}
-use Rattle.cbor_edn_parts.specs.declared.error.Fault.TheVariants.{Memory, Told}
+use Rattle.cbor_edn_parts.specs.base.Refusals.{IfTold}
+use Rattle.cbor_edn_parts.specs.declared.base.error.Fault.{Fault}
+use Rattle.cbor_edn_parts.specs.declared.base.error.Fault.TheVariants.{Memory, Told}
 use Rattle.cbor_edn_model.specs.access.Accessed.{map_items}
 use Rattle.cbor_edn_model.specs.tree.Trees.{Tree, OneItem}
 use Rattle.cbor_edn_conversions.specs.Claims.{claim_key, with_claims}

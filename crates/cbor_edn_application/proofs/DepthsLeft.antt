@@ -1,7 +1,7 @@
 -- What is called at a tag leaves no item that nests deeper.
 use Rattle.std.proofs.Common.{ℕ, ◌≤◌, Result, MutBor, sym, subst, arith}
 use Rattle.std.specs.Fn.{Called}
-use Rattle.cbor_edn_parts.specs.declared.error.CallbackError.{CallbackError}
+use Rattle.cbor_edn_parts.specs.declared.base.error.CallbackError.{CallbackError}
 use Rattle.cbor_edn_model.specs.visit.Depth.{depth}
 use Rattle.cbor_edn_model.specs.visit.Seeking.{CallArguments, number}
 use Rattle.cbor_edn_model.specs.tree.Trees.{Tree, OneItem}

@@ -2,8 +2,8 @@
 use Rattle.std.proofs.Common.{ℕ, ℤ, pos, negsuc, unsigned_abs, ◌^◌, ◌<◌, ◌-◌, ◌≡◌, ◌≢◌, inl, inr, List, ◌∷◌, ◌++◌, [], append_assoc, Option, Some, None, IsSome, IfSome, refl, sym, ap, subst, arith, rules, eq-eqb, ne_eqb}
 use Rattle.std.proofs.lemmas.Bool.{cases_eq}
 use Rattle.std.specs.Fmt.{decimal}
-use Rattle.cbor_edn_parts.specs.Number.{IsNumber}
-use Rattle.cbor_edn_parts.specs.Number as numbers
+use Rattle.cbor_edn_parts.specs.number.Number.{IsNumber}
+use Rattle.cbor_edn_parts.specs.number.Number as numbers
 use Rattle.cbor_edn_times_and_addresses.specs.TimeDecimal.{IsNumberOf, integer, pointed}
 use Rattle.cbor_edn_times_and_addresses.specs.internal.TimeWriting.{AreShortest}
 use Rattle.cbor_edn_times_and_addresses.specs.internal.TimeComputing.{shortest_digits, pointed_text, instant_number}

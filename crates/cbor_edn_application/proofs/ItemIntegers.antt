@@ -2,7 +2,7 @@
 use Rattle.std.proofs.Common.{inl, inr, ℕ, ℤ, pos, negsuc, ◌<◌, nat_lt, Bool, true, false, List, Option, Some, None, option_and_then, ◌≡◌, refl, sym, ap, ◌∙◌, FitsSigned, arith, if◌then◌else◌}
 use Rattle.std.proofs.lemmas.Bool.Decides.{nat_tests}
 use Rattle.std.specs.Int.{w128}
-use Rattle.cbor_edn_parts.specs.Number.{signed, number_of, radix}
+use Rattle.cbor_edn_parts.specs.number.Number.{signed, number_of, radix}
 use Rattle.cbor_edn_parts.specs.internal.NumberReading.{integer_of}
 use Rattle.cbor_edn_parts.proofs.lemmas.number.NumberParts.{integer_reads, integer_read}
 use Rattle.cbor_edn_model.specs.access.Accessed.{number_text, IsIntegerItem, IsIntegerLiteral}

@@ -1,8 +1,8 @@
 -- What holds of a result that is known.
 use Rattle.std.proofs.Common.{rules, Option, Some, Result, Ok, Err, ◌≡◌, subst, sym}
 use Rattle.std.specs.Result.{IsOk, OnOk, OnErr}
-use Rattle.cbor_edn_parts.specs.declared.error.Fault.{Fault}
-use Rattle.cbor_edn_parts.specs.declared.error.Fault.TheVariants as fault
+use Rattle.cbor_edn_parts.specs.declared.base.error.Fault.{Fault}
+use Rattle.cbor_edn_parts.specs.declared.base.error.Fault.TheVariants as fault
 use Rattle.cbor_edn_core.specs.visit.Callbacks.{IfVisited}
 use Rattle.cbor_edn_model.specs.visit.Visits.{Ending, whole, cut}
 use Rattle.std.specs.Option.{OnSome}

@@ -4,10 +4,10 @@ use Rattle.std.specs.Prelude.{option_map}
 use Rattle.std.specs.Fmt.{signed_decimal}
 use Rattle.std.proofs.Math.Nat.{one-le-pow, pow-le-pow_right, pow-suc, mul-le-mul_left, mul-le-mul_right}
 use Rattle.std.proofs.lemmas.List.{at_drop_more}
-use Rattle.cbor_edn_parts.specs.Refusals.{IfTold}
-use Rattle.cbor_edn_parts.specs.declared.error.Fault.{Fault}
-use Rattle.cbor_edn_parts.specs.declared.error.Fault.TheVariants.{Told}
-use Rattle.cbor_edn_parts.specs.Number.{IsNumber, integer}
+use Rattle.cbor_edn_parts.specs.base.Refusals.{IfTold}
+use Rattle.cbor_edn_parts.specs.declared.base.error.Fault.{Fault}
+use Rattle.cbor_edn_parts.specs.declared.base.error.Fault.TheVariants.{Told}
+use Rattle.cbor_edn_parts.specs.number.Number.{IsNumber, integer}
 use Rattle.cbor_edn_parts.proofs.lemmas.number.Decimals.{signed_literal}
 use Rattle.cbor_edn_model.proofs.lemmas.cbor.MeaningSteps.{some_is}
 use Rattle.cbor_edn_conversions.specs.Bignums.{magnitude, bignum_integer}

@@ -4,7 +4,7 @@ use Rattle.std.proofs.lemmas.List.Elements.{All-head, All-tail}
 use Rattle.std.specs.Fn.{Called}
 use Rattle.std.specs.declared.string.String.{String}
 use Rattle.std.specs.declared.alloc.Global.{Global}
-use Rattle.cbor_edn_parts.specs.declared.error.CallbackError.{CallbackError}
+use Rattle.cbor_edn_parts.specs.declared.base.error.CallbackError.{CallbackError}
 use Rattle.cbor_edn_core.specs.visit.Callbacks.{Callback, Handles, IsKeyCall, Spends, none, drops, spends, answer_of, key_answer, handler_of}
 use Rattle.cbor_edn_core.specs.tree.View.{Item, item_tree}
 use Rattle.cbor_edn_model.specs.access.Accessed.{map_items}

@@ -2,7 +2,7 @@
 use Rattle.std.proofs.Common.{ℕ, ◌≡◌, ◌≢◌, ◌==◌, ◌||◌, Bool, false, cond, codes, List, refl, sym, ap, ◌∙◌, inl, inr}
 use Rattle.std.specs.Prelude.{◌⊎◌}
 use Rattle.cbor_edn_parts.specs.internal.ContentReading.{same}
-use Rattle.cbor_edn_parts.proofs.lemmas.literal.LiteralPrefixes.{differ}
+use Rattle.cbor_edn_parts.proofs.lemmas.string.LiteralPrefixes.{differ}
 use Rattle.cbor_edn_model.specs.visit.Seeking.{CallArguments, number, prefix_and_text}
 use Rattle.cbor_edn_model.specs.tree.Trees.{Tree, OneItem}
 use Rattle.cbor_edn_model.specs.visit.Visits.{Answer, fine, comment, no_memory}

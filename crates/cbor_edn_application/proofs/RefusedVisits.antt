@@ -1,8 +1,8 @@
 -- What is answered after a visit that was refused.
 use Rattle.std.proofs.Common.{ℕ, List, ◌≡◌, Result, Err, sym, ap, subst, ◌∙◌}
-use Rattle.cbor_edn_parts.specs.declared.error.Fault.{Fault}
-use Rattle.cbor_edn_parts.specs.declared.error.Fault.TheVariants as fault
-use Rattle.cbor_edn_parts.specs.Refusals.{IfTold}
+use Rattle.cbor_edn_parts.specs.declared.base.error.Fault.{Fault}
+use Rattle.cbor_edn_parts.specs.declared.base.error.Fault.TheVariants as fault
+use Rattle.cbor_edn_parts.specs.base.Refusals.{IfTold}
 use Rattle.cbor_edn_core.specs.visit.Callbacks.{IfVisited}
 use Rattle.cbor_edn_model.specs.tree.Trees.{Tree, OneItem, items}
 use Rattle.cbor_edn_model.specs.visit.Visits.{Answer, fine, comment, no_memory, Ending, cut}

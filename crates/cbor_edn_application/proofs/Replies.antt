@@ -1,8 +1,8 @@
 -- What is answered and left by a conversion.
 use Rattle.std.proofs.Common.{ℕ, List, Option, Some, None, Ok, Err, ◌≡◌, ◌∙◌, refl, sym, ap, subst}
-use Rattle.cbor_edn_parts.specs.declared.error.Fault.{Fault}
-use Rattle.cbor_edn_parts.specs.declared.error.Fault.TheVariants as fault
-use Rattle.cbor_edn_parts.specs.Refusals.{IfTold}
+use Rattle.cbor_edn_parts.specs.declared.base.error.Fault.{Fault}
+use Rattle.cbor_edn_parts.specs.declared.base.error.Fault.TheVariants as fault
+use Rattle.cbor_edn_parts.specs.base.Refusals.{IfTold}
 use Rattle.cbor_edn_model.specs.tree.Trees.{Tree, OneItem}
 use Rattle.cbor_edn_model.specs.visit.Visits.{Answer, fine, comment, no_memory}
 use Rattle.cbor_edn_conversions.specs.Conversions.{Conversion, Reply, reply}

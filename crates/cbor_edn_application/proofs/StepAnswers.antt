@@ -2,8 +2,8 @@
 use Rattle.std.proofs.Common.{ℕ, ℤ, pos, negsuc, ◌≡◌, ◌≢◌, inl, inr, Bool, true, false, not, List, Option, Some, None, Ok, Err, is_some, codes, if◌then◌else◌, FitsSigned, refl, sym, ap, ◌∙◌, arith}
 use Rattle.std.specs.Int.{w128}
 use Rattle.std.proofs.lemmas.Int.{ints}
-use Rattle.cbor_edn_parts.specs.declared.indicator.Indicator.{Indicator}
-use Rattle.cbor_edn_parts.specs.Number.{signed, number_of, radix}
+use Rattle.cbor_edn_parts.specs.declared.base.indicator.Indicator.{Indicator}
+use Rattle.cbor_edn_parts.specs.number.Number.{signed, number_of, radix}
 use Rattle.cbor_edn_parts.specs.internal.NumberReading.{integer_of}
 use Rattle.cbor_edn_parts.proofs.lemmas.number.NumberParts.{integer_reads, integer_read}
 use Rattle.cbor_edn_model.specs.access.Accessed.{number_and_indicator, number_text, IsIntegerItem, IsIntegerLiteral}

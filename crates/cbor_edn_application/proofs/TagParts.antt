@@ -1,6 +1,6 @@
 -- The parts of the tag of a call.
 use Rattle.std.proofs.Common.{ℕ, ◌≡◌, ◌≢◌, Option, Some, None, refl, sym, ap, ◌∙◌, ne_eqb, eq-eqb}
-use Rattle.cbor_edn_parts.specs.declared.indicator.Indicator.{Indicator}
+use Rattle.cbor_edn_parts.specs.declared.base.indicator.Indicator.{Indicator}
 use Rattle.cbor_edn_model.specs.declared.text.opener.OpenerKind.TheVariants as opener
 use Rattle.cbor_edn_model.specs.access.Accessed.{tag_head, tag_content, inner_item}
 use Rattle.cbor_edn_model.specs.visit.Seeking.{number}

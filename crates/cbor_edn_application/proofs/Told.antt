@@ -1,8 +1,8 @@
 -- What holds where a call refuses by an answer of its own.
 use Rattle.std.proofs.Common.{◌≡◌, Result, Ok, Err, subst}
-use Rattle.cbor_edn_parts.specs.declared.error.Fault.{Fault}
-use Rattle.cbor_edn_parts.specs.declared.error.Fault.TheVariants.{Memory, Told}
-use Rattle.cbor_edn_parts.specs.Refusals.{IfTold}
+use Rattle.cbor_edn_parts.specs.declared.base.error.Fault.{Fault}
+use Rattle.cbor_edn_parts.specs.declared.base.error.Fault.TheVariants.{Memory, Told}
+use Rattle.cbor_edn_parts.specs.base.Refusals.{IfTold}
 
 pub told_holds : {E : Type 0} (P : E → Type 0) (f : Fault E) (e : E) → f ≡ Told e → IfTold {X = Unit {0}} (Err f) P → P e
 told_holds P f e is h = subst (λ f. IfTold {X = Unit {0}} (Err f) P) is h

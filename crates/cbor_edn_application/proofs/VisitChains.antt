@@ -8,7 +8,7 @@ use Rattle.cbor_edn_model.specs.visit.Visits.{Answer, fine, comment, no_memory, 
 use Rattle.std.specs.Fn.{Called}
 use Rattle.std.specs.declared.alloc.Global.{Global}
 use Rattle.std.specs.declared.string.String.{String}
-use Rattle.cbor_edn_parts.specs.declared.error.CallbackError.{CallbackError}
+use Rattle.cbor_edn_parts.specs.declared.base.error.CallbackError.{CallbackError}
 use Rattle.cbor_edn_core.specs.visit.Sought.{IsTagCall, IsLiteralCall, IsItemCall, TagCallback, LiteralCallback, ItemCallback, sought_answer}
 use Rattle.cbor_edn_core.specs.tree.View.{Item, item_tree}
 use Rattle.cbor_edn_application.specs.Acts.{Act, ActsBy, EndsBy, IsVisited}

@@ -2,8 +2,8 @@
 use Rattle.std.specs.Prelude.{List, Option, Some, None, Result, Ok, Err, All, ℕ, ◌≡◌, ◌≢◌, codes, string_bytes}
 use Rattle.std.specs.declared.alloc.Global.{Global}
 use Rattle.std.specs.declared.string.String.{String}
-use Rattle.cbor_edn_parts.specs.declared.error.CallbackError.{CallbackError}
-use Rattle.cbor_edn_parts.specs.declared.error.CallbackError.TheVariants as error
+use Rattle.cbor_edn_parts.specs.declared.base.error.CallbackError.{CallbackError}
+use Rattle.cbor_edn_parts.specs.declared.base.error.CallbackError.TheVariants as error
 use Rattle.cbor_edn_core.specs.visit.Callbacks.{error_answer}
 use Rattle.cbor_edn_core.specs.declared.access.TypeMismatch.{TypeMismatch}
 use Rattle.cbor_edn_core.specs.declared.access.TypeMismatch.TheVariants.{IntegerInRange}

@@ -1,7 +1,7 @@
 -- Visits that pass over items of another type.
 use Rattle.std.specs.Prelude.{Result, Ok, Err}
-use Rattle.cbor_edn_parts.specs.declared.error.Fault.{Fault}
-use Rattle.cbor_edn_parts.specs.declared.error.Fault.TheVariants.{Memory, Told}
+use Rattle.cbor_edn_parts.specs.declared.base.error.Fault.{Fault}
+use Rattle.cbor_edn_parts.specs.declared.base.error.Fault.TheVariants.{Memory, Told}
 
 -- Memory was not refused: the visit went through, or there was nothing to visit.
 abbrev pub IsPassed : {E : Type 0} → Result (Unit {0}) (Fault E) → Type 0

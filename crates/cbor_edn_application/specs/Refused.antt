@@ -1,7 +1,7 @@
 -- What is answered for a refusal.
 use Rattle.std.specs.Prelude.{◌≡◌, List, ℕ}
-use Rattle.cbor_edn_parts.specs.declared.error.Fault.{Fault}
-use Rattle.cbor_edn_parts.specs.declared.error.Fault.TheVariants.{Memory, Told}
+use Rattle.cbor_edn_parts.specs.declared.base.error.Fault.{Fault}
+use Rattle.cbor_edn_parts.specs.declared.base.error.Fault.TheVariants.{Memory, Told}
 use Rattle.cbor_edn_model.specs.visit.Visits.{Answer, comment, no_memory}
 use Rattle.cbor_edn_application.specs.Acts.{AnswersSo}
 

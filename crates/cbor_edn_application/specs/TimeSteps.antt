@@ -1,6 +1,6 @@
 -- What the steps of a time's conversion answer.
 use Rattle.std.specs.Prelude.{◌≡◌, ℕ, ℤ, Bool, true, List, Option, Some, Ok, Err, codes}
-use Rattle.cbor_edn_parts.specs.declared.indicator.Indicator.{Indicator}
+use Rattle.cbor_edn_parts.specs.declared.base.indicator.Indicator.{Indicator}
 use Rattle.cbor_edn_times_and_addresses.specs.Time.{IsTimeStamp}
 use Rattle.cbor_edn_times_and_addresses.specs.internal.TimeComputing.{time_text}
 use Rattle.cbor_edn_times_and_addresses.specs.declared.time.number.NotTime.{NotTime}

@@ -10,7 +10,7 @@ use crate::address::{ip_aol_to_item, ip_tag_to_aol};
 use crate::bignum::tag23_to_edn_integer;
 use crate::time::{dt_aol_to_item, dt_tag_to_aol};
 use cbor_edn_core::tree::Item;
-use cbor_edn_parts::error::CallbackError;
+use cbor_edn_parts::base::error::CallbackError;
 use std::alloc::Global;
 
 /// Puts what they stand for in the place of the time and address literals `dt'..'`, `DT'..'`, `ip'..'` and `IP'..'`. Literals of other

@@ -7,7 +7,7 @@ ghost use Rattle.cbor_edn_application.specs.Refused.{AnswersFault};
 
 use crate::reply::comment;
 use cbor_edn_core::access::TypeMismatch;
-use cbor_edn_parts::error::{CallbackError, Fault};
+use cbor_edn_parts::base::error::{CallbackError, Fault};
 use std::alloc::Global;
 
 /// The comment of a name, if there is one.

@@ -9,9 +9,9 @@ ghost use Rattle.cbor_edn_conversions.specs.Bignums.{quoted_item_bytes, magnitud
 ghost use Rattle.cbor_edn_application.specs.Acts.{ActsBy};
 
 use crate::same::mean_the_same;
-use cbor_edn_conversions::steps::bignum_text;
+use cbor_edn_conversions::bignums::bignum_text;
 use cbor_edn_core::tree::Item;
-use cbor_edn_parts::error::{CallbackError, Fault};
+use cbor_edn_parts::base::error::{CallbackError, Fault};
 use std::alloc::{AllocError, Global};
 
 /// Puts the integer in the place of a bignum, tag 2 or 3 (RFC 8949, section 3.4.3), where both mean the same bytes:

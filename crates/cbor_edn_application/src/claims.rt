@@ -14,7 +14,7 @@ use crate::time::dt_item_to_aol;
 use cbor_edn_conversions::tables::{ClaimValue, claim};
 use cbor_edn_core::tree::Item;
 use cbor_edn_core::visit::MapValueHandler;
-use cbor_edn_parts::error::CallbackError;
+use cbor_edn_parts::base::error::CallbackError;
 use std::alloc::Global;
 
 /// What is done with the value of a claim, as [`comment_ccs`] answers it.

@@ -1,7 +1,7 @@
 //! Claims sets among the items of a sequence.
 ghost use Rattle.std.specs.Prelude.{◌≡◌, IfOk, IfErr, OnOk};
 ghost use Rattle.cbor_edn_core.specs.tree.View.{item_tree, sequence_tree};
-ghost use Rattle.cbor_edn_parts.specs.declared.error.Fault.TheVariants.{Memory, Told};
+ghost use Rattle.cbor_edn_parts.specs.declared.base.error.Fault.TheVariants.{Memory, Told};
 ghost use Rattle.cbor_edn_core.specs.declared.access.TypeMismatch.{TypeMismatch};
 ghost use Rattle.cbor_edn_model.specs.visit.Visits.{cut};
 ghost use Rattle.cbor_edn_conversions.specs.Claims.{claim_key, with_claims};
@@ -11,7 +11,7 @@ ghost use Rattle.cbor_edn_application.specs.Sequences.{with_claims_sets, AreClai
 use crate::visits::annotate_claims;
 use cbor_edn_core::access::TypeMismatch;
 use cbor_edn_core::tree::{Item, Sequence};
-use cbor_edn_parts::error::Fault;
+use cbor_edn_parts::base::error::Fault;
 use std::alloc::{AllocError, Global};
 
 /// Puts the comments of a claims set (RFC 8392) into each item of a sequence that is a map, and literals in the place of its times. Other

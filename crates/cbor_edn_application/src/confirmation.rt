@@ -11,7 +11,7 @@ use crate::oscore::comment_parameter;
 use cbor_edn_conversions::tables::{ConfirmationValue, confirmation};
 use cbor_edn_core::tree::Item;
 use cbor_edn_core::visit::MapValueHandler;
-use cbor_edn_parts::error::CallbackError;
+use cbor_edn_parts::base::error::CallbackError;
 use std::alloc::Global;
 
 /// What is done with the value of a confirmation method (RFC 8747).

@@ -9,7 +9,7 @@ ghost use Rattle.cbor_edn_application.specs.Comments.{CommentsBy, CommentsInside
 use crate::reply::comment;
 use cbor_edn_conversions::tables::{Structure, message};
 use cbor_edn_core::tree::{Item, StandaloneItem};
-use cbor_edn_parts::error::CallbackError;
+use cbor_edn_parts::base::error::CallbackError;
 use parts::comment_parts;
 use std::alloc::Global;
 

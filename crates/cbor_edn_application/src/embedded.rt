@@ -11,7 +11,7 @@ ghost use Rattle.cbor_edn_application.specs.Acts.{ActsBy, IsVisited};
 
 use crate::same::are_bytes;
 use cbor_edn_core::tree::{Item, Sequence};
-use cbor_edn_parts::error::{CallbackError, Fault};
+use cbor_edn_parts::base::error::{CallbackError, Fault};
 use std::alloc::{AllocError, Global};
 
 /// Puts an embedded sequence in the place of a literal with a prefix whose bytes encode exactly one array, map or tag:

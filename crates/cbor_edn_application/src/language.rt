@@ -14,7 +14,7 @@ ghost use Rattle.cbor_edn_application.specs.Ordinals.{next_ordinal, direction_in
 use crate::answers::{noted, refusal};
 use cbor_edn_core::tree::{Item, StandaloneItem};
 use cbor_edn_model::text::keyword::NamedSimple;
-use cbor_edn_parts::error::CallbackError;
+use cbor_edn_parts::base::error::CallbackError;
 use std::alloc::Global;
 
 /// Which element of an array one is.

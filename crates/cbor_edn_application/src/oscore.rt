@@ -16,7 +16,7 @@ use cbor_edn_conversions::tables::{ParameterValue, algorithm, parameter};
 use cbor_edn_core::access::TypeMismatch;
 use cbor_edn_core::tree::Item;
 use cbor_edn_core::visit::MapValueHandler;
-use cbor_edn_parts::error::CallbackError;
+use cbor_edn_parts::base::error::CallbackError;
 use std::alloc::Global;
 
 /// What is done with the value of an OSCORE parameter (RFC 9203).

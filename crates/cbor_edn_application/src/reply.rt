@@ -1,6 +1,6 @@
 //! What callbacks answer where an item is to become another.
 ghost use Rattle.std.specs.Prelude.{◌≡◌, Some, Ok, Err, IfOk};
-ghost use Rattle.cbor_edn_parts.specs.Refusals.{IfTold};
+ghost use Rattle.cbor_edn_parts.specs.base.Refusals.{IfTold};
 ghost use Rattle.cbor_edn_model.specs.visit.Visits.{comment as comment_answer};
 ghost use Rattle.cbor_edn_core.specs.visit.Callbacks.{error_answer};
 ghost use Rattle.cbor_edn_core.specs.visit.Sought.{sought_answer};
@@ -10,7 +10,7 @@ ghost use Rattle.cbor_edn_application.specs.Acts.{ActsSo, AnswersSo};
 ghost use Rattle.cbor_edn_application.specs.Refused.{AnswersFault};
 
 use cbor_edn_core::tree::Item;
-use cbor_edn_parts::error::{CallbackError, Fault};
+use cbor_edn_parts::base::error::{CallbackError, Fault};
 use std::alloc::Global;
 
 /// Puts the new item in the place of the old one, or answers the message of a refusal as a comment.

@@ -5,7 +5,7 @@ ghost use Rattle.cbor_edn_model.specs.cbor.Value.{AreBytes};
 ghost use Rattle.cbor_edn_core.specs.tree.View.{item_tree};
 
 use cbor_edn_core::tree::Item;
-use cbor_edn_parts::error::Fault;
+use cbor_edn_parts::base::error::Fault;
 use std::alloc::{AllocError, Global};
 
 /// Whether both items mean something, and have the same encoding. Fails where memory runs out.

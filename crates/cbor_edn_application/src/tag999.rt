@@ -12,8 +12,8 @@ ghost use Rattle.cbor_edn_conversions.specs.Tag999.{to_tag999, tag999_tree, text
 ghost use Rattle.cbor_edn_application.specs.Acts.{ActsBy};
 
 use cbor_edn_core::tree::{Item, StandaloneItem};
-use cbor_edn_parts::error::CallbackError;
-use cbor_edn_parts::policy::DelimiterPolicy;
+use cbor_edn_parts::base::error::CallbackError;
+use cbor_edn_parts::space::policy::DelimiterPolicy;
 use std::alloc::{AllocError, Global};
 
 /// Puts `999(["foo", "bar"])` in the place of the literal `foo'bar'`, whose encoding indicator is dropped (tag 999 of

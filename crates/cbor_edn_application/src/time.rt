@@ -1,6 +1,6 @@
 //! Times: literals as `dt'1970-01-01T00:00:42+00:00'`, and the numbers that they stand for.
 ghost use Rattle.std.specs.Prelude.{◌≡◌, true, false, ℕ, List, Some, None, Ok, Err, IfOk, IfSome, IfNone, string_bytes};
-ghost use Rattle.cbor_edn_parts.specs.Refusals.{IfTold};
+ghost use Rattle.cbor_edn_parts.specs.base.Refusals.{IfTold};
 ghost use Rattle.cbor_edn_model.specs.visit.Seeking.{number, prefix_and_text};
 ghost use Rattle.cbor_edn_core.specs.visit.Sought.{sought_answer};
 ghost use Rattle.cbor_edn_core.specs.tree.View.{item_tree};
@@ -10,9 +10,9 @@ ghost use Rattle.cbor_edn_application.specs.Acts.{ActsBy};
 
 use crate::reply::reply;
 use crate::tags::tag_indicator_and_content;
-use cbor_edn_conversions::steps::is_shortest;
+use cbor_edn_conversions::indicators::is_shortest;
 use cbor_edn_core::tree::{Indicator, Item};
-use cbor_edn_parts::error::{CallbackError, Fault};
+use cbor_edn_parts::base::error::{CallbackError, Fault};
 use std::alloc::Global;
 
 mod literal;

@@ -1,7 +1,7 @@
 //! Whole visits with the functions of the crate.
 ghost use Rattle.std.specs.Prelude.{◌≡◌, ◌-◌, ℕ, List, false, None, OnOk};
 ghost use Rattle.std.specs.String.{string_bytes};
-ghost use Rattle.cbor_edn_parts.specs.Refusals.{IfTold};
+ghost use Rattle.cbor_edn_parts.specs.base.Refusals.{IfTold};
 ghost use Rattle.cbor_edn_core.specs.declared.access.TypeMismatch.TheVariants.{Map};
 ghost use Rattle.cbor_edn_core.specs.visit.Callbacks.{ending, IfVisited};
 ghost use Rattle.cbor_edn_core.specs.visit.Sought.{sought_answer};
@@ -39,7 +39,7 @@ use crate::tag999::{any_aol_to_tag999, is_built_in};
 use crate::time::{dt_aol_to_item, dt_tag_to_aol, is_time};
 use cbor_edn_core::access::TypeMismatch;
 use cbor_edn_core::tree::{Item, Sequence};
-use cbor_edn_parts::error::{CallbackError, Fault};
+use cbor_edn_parts::base::error::{CallbackError, Fault};
 use std::alloc::{AllocError, Global};
 
 /// What is called at each tag. A visit has one closure for all of these: a proof of one more costs half a minute.

@@ -2,7 +2,7 @@
 use cbor_edn_application::visits::annotate_claims;
 use cbor_edn_core::tree::{Item, StandaloneItem};
 use cbor_edn_expect::failures::Failures;
-use cbor_edn_parts::error::Fault;
+use cbor_edn_parts::base::error::Fault;
 use std::alloc::Global;
 use std::test::Fail;
 

@@ -5,7 +5,7 @@ use cbor_edn_application::{
 };
 use cbor_edn_core::tree::{Item, StandaloneItem};
 use cbor_edn_expect::failures::Failures;
-use cbor_edn_parts::error::CallbackError;
+use cbor_edn_parts::base::error::CallbackError;
 use std::alloc::{AllocError, Global};
 use std::test::Fail;
 

@@ -4,7 +4,7 @@
 
 ghost use Rattle.std.specs.Prelude.{◌≡◌, ◌-◌, None, Ok, Err, IfOk, IfErr, OnOk, option_map};
 ghost use Rattle.std.specs.String.{string_bytes};
-ghost use Rattle.cbor_edn_parts.specs.Refusals.{IfTold};
+ghost use Rattle.cbor_edn_parts.specs.base.Refusals.{IfTold};
 ghost use Rattle.cbor_edn_model.specs.access.Accessed.{map_items};
 ghost use Rattle.cbor_edn_model.specs.tree.Items.{nesting};
 ghost use Rattle.cbor_edn_model.specs.tree.Trees.{items};
@@ -34,7 +34,7 @@ use cbor_edn_application::{CcsHandler, CnfHandler, IpVersion, OscHandler};
 use cbor_edn_core::access::TypeMismatch;
 use cbor_edn_core::tree::{Item, Sequence};
 use cbor_edn_core::visit::MapValueHandler;
-use cbor_edn_parts::error::{CallbackError, Fault};
+use cbor_edn_parts::base::error::{CallbackError, Fault};
 use std::alloc::{AllocError, Global};
 
 /// `ip_aol_to_item`.

@@ -1,6 +1,6 @@
 -- What a caller that is not Rattle asks for, by numbers.
 use Rattle.std.specs.Prelude.{◌≡◌, ◌≢◌, ◌||◌, ℕ, ◌<◌, ◌≤◌, ◌+◌, ◌*◌, ◌⊎◌, Bool, true, false, List, [], ◌∷◌}
-use Rattle.cbor_edn_parts.specs.declared.nesting.TheConstants.{NESTING_LIMIT}
+use Rattle.cbor_edn_parts.specs.declared.base.nesting.TheConstants.{NESTING_LIMIT}
 use Rattle.cbor_edn_command.specs.declared.options.Command.{Command}
 use Rattle.cbor_edn_command.specs.declared.options.Command.TheVariants.{Diag2Cbor, Cbor2Diag, Diag2Diag}
 use Rattle.cbor_edn_command.specs.declared.options.Options.{Options}

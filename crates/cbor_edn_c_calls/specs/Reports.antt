@@ -1,7 +1,7 @@
 -- What a call tells beside its status.
 use Rattle.std.specs.Prelude.{◌≡◌, ℕ}
-use Rattle.cbor_edn_parts.specs.Errors.{error_offset, error_line, error_column}
-use Rattle.cbor_edn_parts.specs.declared.error.ParseError.{ParseError}
+use Rattle.cbor_edn_parts.specs.base.Errors.{error_offset, error_line, error_column}
+use Rattle.cbor_edn_parts.specs.declared.base.error.ParseError.{ParseError}
 use Rattle.cbor_edn_c_calls.specs.declared.report.Report.{Report}
 use Rattle.cbor_edn_c_calls.specs.declared.status.CallFault.{CallFault}
 use Rattle.cbor_edn_c_calls.specs.declared.status.CallFault.TheVariants.{NotUtf8, InvalidText, InvalidCbor, InvalidHex, NoEncoding, OutOfMemory, TooDeepText, TooDeepCbor}

@@ -1,9 +1,9 @@
 -- The numbers that say how a call ended.
 use Rattle.std.specs.Prelude.{ℕ}
-use Rattle.cbor_edn_parts.specs.Errors.{error_kind}
-use Rattle.cbor_edn_parts.specs.declared.error.ParseError.{ParseError}
-use Rattle.cbor_edn_parts.specs.declared.error.ParseErrorKind.{ParseErrorKind}
-use Rattle.cbor_edn_parts.specs.declared.error.ParseErrorKind.TheVariants.{Invalid, TooDeep}
+use Rattle.cbor_edn_parts.specs.base.Errors.{error_kind}
+use Rattle.cbor_edn_parts.specs.declared.base.error.ParseError.{ParseError}
+use Rattle.cbor_edn_parts.specs.declared.base.error.ParseErrorKind.{ParseErrorKind}
+use Rattle.cbor_edn_parts.specs.declared.base.error.ParseErrorKind.TheVariants.{Invalid, TooDeep}
 use Rattle.cbor_edn_c_calls.specs.declared.status.CallFault.{CallFault}
 use Rattle.cbor_edn_c_calls.specs.declared.status.CallFault.TheVariants.{NotUtf8, InvalidText, InvalidCbor, InvalidHex, NoEncoding, OutOfMemory, TooDeepText, TooDeepCbor}
 use Rattle.cbor_edn_c_calls.specs.declared.status.Status.{Status}

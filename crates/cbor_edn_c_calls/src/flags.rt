@@ -4,7 +4,7 @@ ghost use Rattle.cbor_edn_c_calls.specs.Flags.{IsAsked, IsBadCall, IsCallOf, IsN
 
 use cbor_edn_command::file_options::{MOST_LEVELS, ShowOptions};
 use cbor_edn_command::options::{Command, Options};
-use cbor_edn_parts::nesting::NESTING_LIMIT;
+use cbor_edn_parts::base::nesting::NESTING_LIMIT;
 
 /// The number of `show`.
 const SHOW: u32 = 3;

@@ -2,7 +2,7 @@
 ghost use Rattle.std.specs.Prelude.{◌≡◌};
 ghost use Rattle.cbor_edn_c_calls.specs.Statuses.{fault_number, status_number, text_fault};
 
-use cbor_edn_parts::error::ParseError;
+use cbor_edn_parts::base::error::ParseError;
 
 /// Why an input has no output.
 #[derive(Clone, Copy)]

@@ -1,9 +1,9 @@
 //! Streams of hexadecimal digits.
 ghost use Rattle.std.specs.Prelude.{◌≡◌, IfOk, IsErr, Ok, not, filter};
-ghost use Rattle.cbor_edn_parts.specs.Refusals.{IfTold};
+ghost use Rattle.cbor_edn_parts.specs.base.Refusals.{IfTold};
 ghost use Rattle.cbor_edn_command.specs.Hexadecimal.{hex_bytes, hex_lines, is_blank as is_blank_of};
 
-use cbor_edn_parts::error::Fault;
+use cbor_edn_parts::base::error::Fault;
 use hex::FromHexError;
 use std::alloc::{AllocError, Global};
 

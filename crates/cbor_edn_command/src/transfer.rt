@@ -1,11 +1,11 @@
 //! All the bytes of a source, and bytes that a sink takes all, in turns. A call that failed is not repeated.
 ghost use Rattle.std.specs.Prelude.{◌≡◌, ◌+◌, IfOk, IfErr, OnOk, is_err, if◌then◌else◌};
 ghost use Rattle.std.specs.Io.KnownBytes.{IsAtEnd, Appends, Consumes};
-ghost use Rattle.cbor_edn_parts.specs.Refusals.{IfTold};
+ghost use Rattle.cbor_edn_parts.specs.base.Refusals.{IfTold};
 ghost use Rattle.cbor_edn_command.specs.Devices.{AppendsBeginning, told_faults};
 
 use crate::devices::{DeviceFault, Sink, Source};
-use cbor_edn_parts::error::Fault;
+use cbor_edn_parts::base::error::Fault;
 use std::alloc::Global;
 
 /// All that the source has left, up to its end, in turns of at most 4,096 bytes. Fails at the first call that fails, and where memory

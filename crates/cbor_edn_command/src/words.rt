@@ -5,7 +5,7 @@ ghost use Rattle.cbor_edn_command.specs.CommandLine as line;
 ghost use Rattle.cbor_edn_command.specs.CommandLineSteps.{GrowsBy, IsArgOf, IsCommandOf, IsProgram};
 
 use crate::options::{Command, Options};
-use cbor_edn_parts::nesting::NESTING_LIMIT;
+use cbor_edn_parts::base::nesting::NESTING_LIMIT;
 use clap::builder::ValueParser;
 use clap::error::ErrorKind;
 use clap::{Arg, ArgAction, ArgMatches, Error};

@@ -1,7 +1,7 @@
 -- The laws of conversions, as contracts name them.
 use Rattle.std.specs.Prelude.{ℕ, ℤ, ◌≡◌, ◌↔◌, ◌==◌, ◌||◌, if◌then◌else◌, codes, Bool, true, List, Option, Some, Ok, All}
-use Rattle.cbor_edn_parts.specs.declared.indicator.Indicator.{Indicator}
-use Rattle.cbor_edn_parts.specs.Literal.{Prefixed, IsLiteral}
+use Rattle.cbor_edn_parts.specs.declared.base.indicator.Indicator.{Indicator}
+use Rattle.cbor_edn_parts.specs.string.Literal.{Prefixed, IsLiteral}
 use Rattle.cbor_edn_parts.specs.internal.NumberReading.{integer_of}
 use Rattle.cbor_edn_parts.specs.internal.ContentReading.{same}
 use Rattle.cbor_edn_model.specs.cbor.Decoded.{IsSingleLine}

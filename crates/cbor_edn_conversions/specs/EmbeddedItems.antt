@@ -1,6 +1,6 @@
 -- Byte strings that hold CBOR as embedded sequences: `<<{1: -7}>>` of `h'a10126'`, as headers and payloads of COSE (RFC 9052) are.
 use Rattle.std.specs.Prelude.{ℕ, zero, suc, ◌-◌, nat_le, nat_lt, ◌&&◌, Bool, true, false, if◌then◌else◌, List, [], ◌∷◌, Option, Some, None, option_and_then, Ok}
-use Rattle.cbor_edn_parts.specs.declared.indicator.Indicator.{Indicator}
+use Rattle.cbor_edn_parts.specs.declared.base.indicator.Indicator.{Indicator}
 use Rattle.cbor_edn_parts.specs.declared.string.Quote.TheVariants as quotes
 use Rattle.cbor_edn_parts.specs.declared.string.QuotedState.TheVariants as part
 use Rattle.cbor_edn_parts.specs.internal.ContentReading.{prefixed_bytes, behind_quote}

@@ -1,8 +1,8 @@
 -- The laws of byte strings that are shown, as contracts name them.
 use Rattle.std.specs.Prelude.{ℕ, ◌+◌, ◌-◌, ◌≤◌, ◌≡◌, ◌↔◌, List, Some, All}
 use Rattle.cbor_edn_parts.specs.declared.string.StringKind.TheVariants.{Bytes}
-use Rattle.cbor_edn_parts.specs.Contents.{HasContent}
-use Rattle.cbor_edn_parts.specs.Literal.{Prefixed, IsLiteral}
+use Rattle.cbor_edn_parts.specs.string.Contents.{HasContent}
+use Rattle.cbor_edn_parts.specs.string.Literal.{Prefixed, IsLiteral}
 use Rattle.cbor_edn_model.specs.cbor.Decoded.{IsDecoded, item_of, items_of}
 use Rattle.cbor_edn_model.specs.cbor.Meaning.{means}
 use Rattle.cbor_edn_model.specs.cbor.Value.{Value, Values, Fits, ValuesFit, AreBytes, Enc}

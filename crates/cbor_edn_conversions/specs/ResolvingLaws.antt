@@ -1,7 +1,7 @@
 -- The laws of visits that keep what items mean, as contracts name them.
 use Rattle.std.specs.Prelude.{◌≡◌, ◌≢◌, ℕ, false, List, Option, Some, All}
-use Rattle.cbor_edn_parts.specs.declared.indicator.Indicator.{Indicator}
-use Rattle.cbor_edn_parts.specs.Literal.{Prefixed, IsLiteral}
+use Rattle.cbor_edn_parts.specs.declared.base.indicator.Indicator.{Indicator}
+use Rattle.cbor_edn_parts.specs.string.Literal.{Prefixed, IsLiteral}
 use Rattle.cbor_edn_parts.specs.internal.ContentReading.{is_supported_prefix}
 use Rattle.cbor_edn_model.specs.cbor.Decoded.{item_of, items_of}
 use Rattle.cbor_edn_model.specs.tree.Items.{Sort, Item, Items, Node}

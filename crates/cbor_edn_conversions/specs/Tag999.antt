@@ -1,6 +1,6 @@
 -- Literals as tags of their prefix and their text: `foo'bar'` and `999(["foo", "bar"])`.
 use Rattle.std.specs.Prelude.{ℕ, Bool, codes, ◌||◌, if◌then◌else◌, List, Option, None, Some, Ok}
-use Rattle.cbor_edn_parts.specs.Contents.{text_literal}
+use Rattle.cbor_edn_parts.specs.string.Contents.{text_literal}
 use Rattle.cbor_edn_parts.specs.internal.ContentReading.{same}
 use Rattle.cbor_edn_model.specs.visit.Seeking.{CallArguments}
 use Rattle.cbor_edn_model.specs.tree.Trees.{Tree, OneItem, StringTree, LastPieceTree, LiteralTree}

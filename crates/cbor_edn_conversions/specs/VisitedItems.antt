@@ -1,7 +1,7 @@
 -- What a whole visit of tags or of literals does to items, whatever the spaces between them.
 use Rattle.std.specs.Prelude.{ℕ, suc, max, List, ◌≡◌, ◌≤◌, ◌<◌, Option, Some}
-use Rattle.cbor_edn_parts.specs.declared.indicator.Indicator.{Indicator}
-use Rattle.cbor_edn_parts.specs.Literal.{Prefixed, IsLiteral}
+use Rattle.cbor_edn_parts.specs.declared.base.indicator.Indicator.{Indicator}
+use Rattle.cbor_edn_parts.specs.string.Literal.{Prefixed, IsLiteral}
 use Rattle.cbor_edn_model.specs.declared.text.keyword.NamedSimple.{NamedSimple}
 use Rattle.cbor_edn_model.specs.declared.text.keyword.NonFinite.{NonFinite}
 use Rattle.cbor_edn_model.specs.visit.Depth.{embedded_depth}

@@ -2,7 +2,7 @@
 ghost use Rattle.std.specs.Prelude.{◌≡◌, ℤ, FitsSigned, IfOk, IfErr, Some, None, map, option_map};
 ghost use Rattle.std.specs.Int.{w128};
 ghost use Rattle.cbor_edn_parts.specs.Leaves.{number_bytes};
-ghost use Rattle.cbor_edn_parts.specs.Number.{IsInteger};
+ghost use Rattle.cbor_edn_parts.specs.number.Number.{IsInteger};
 ghost use Rattle.cbor_edn_model.specs.access.Accessed.{tag_number, tag_head, tag_content, named_keyword, number_and_indicator, inner_item, number_text, IsIntegerItem, IsIntegerLiteral, array_items, map_items, element, key_and_value, entries_inside};
 ghost use Rattle.cbor_edn_model.specs.tree.TreeLeaves.{texts};
 ghost use Rattle.cbor_edn_core.specs.access.Mismatch.{IsIntegerMismatch};

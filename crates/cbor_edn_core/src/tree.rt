@@ -11,12 +11,11 @@ mod debug;
 mod embed;
 mod equal;
 pub(crate) mod nesting;
-pub(crate) mod row;
 
 use cbor_edn_model::text::keyword::{NamedSimple, NonFinite};
 pub use cbor_edn_model::text::opener::{Opener, OpenerKind};
-pub use cbor_edn_parts::indicator::Indicator;
-pub use cbor_edn_parts::nesting::NESTING_LIMIT;
+pub use cbor_edn_parts::base::indicator::Indicator;
+pub use cbor_edn_parts::base::nesting::NESTING_LIMIT;
 use cbor_edn_parts::number::Number;
 use cbor_edn_parts::space::{ListEnd, MandatorySpace, Separator, Space};
 use cbor_edn_parts::string::{Ellipsis, Literal};

@@ -14,7 +14,7 @@ mod tagged;
 mod walk;
 
 use crate::tree::{Item, Sequence, StandaloneItem};
-use cbor_edn_parts::error::CallbackError;
+use cbor_edn_parts::base::error::CallbackError;
 use cbor_edn_parts::number::Number;
 use cbor_edn_parts::space::{ListEnd, MandatorySpace, Separator, Space, TakesComment};
 use cbor_edn_parts::string::{Ellipsis, Literal};

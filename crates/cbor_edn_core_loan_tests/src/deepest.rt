@@ -2,7 +2,7 @@
 use crate::common::standalone_of;
 use cbor_edn_core::tree::{NESTING_LIMIT, StandaloneItem};
 use cbor_edn_expect::failures::Failures;
-use cbor_edn_parts::error::CallbackError;
+use cbor_edn_parts::base::error::CallbackError;
 use std::alloc::Global;
 use std::test::Fail;
 

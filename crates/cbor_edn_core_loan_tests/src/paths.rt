@@ -3,7 +3,7 @@ use crate::common::{sequence_of, standalone_of};
 use cbor_edn_core::access::TypeMismatch;
 use cbor_edn_core::tree::{Item, Sequence};
 use cbor_edn_expect::failures::Failures;
-use cbor_edn_parts::error::Fault;
+use cbor_edn_parts::base::error::Fault;
 use std::alloc::Global;
 use std::test::Fail;
 

@@ -5,7 +5,7 @@ ghost use Rattle.cbor_edn_core.specs.tree.View.{item_tree};
 use crate::common::{sequence_of, standalone_of};
 use cbor_edn_core::tree::{Item, Sequence, StandaloneItem};
 use cbor_edn_expect::failures::Failures;
-use cbor_edn_parts::error::CallbackError;
+use cbor_edn_parts::base::error::CallbackError;
 use std::alloc::Global;
 use std::test::Fail;
 

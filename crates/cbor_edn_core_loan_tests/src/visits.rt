@@ -7,7 +7,7 @@ use cbor_edn_core::tree::{Item, StandaloneItem};
 use cbor_edn_core::visit::MapValueHandler;
 use cbor_edn_expect::failures::Failures;
 use cbor_edn_expect::{expect, expect_text};
-use cbor_edn_parts::error::{CallbackError, Fault};
+use cbor_edn_parts::base::error::{CallbackError, Fault};
 use std::alloc::{AllocError, Global};
 use std::test::Fail;
 

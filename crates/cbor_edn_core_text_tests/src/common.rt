@@ -3,7 +3,7 @@ use cbor_edn_core::cbor::decode::CborError;
 use cbor_edn_core::tree::{Item, Sequence, StandaloneItem};
 use cbor_edn_expect::failures::Failures;
 use cbor_edn_expect::{digits_of, expect_row, name_of};
-use cbor_edn_parts::error::{Fault, ParseError};
+use cbor_edn_parts::base::error::{Fault, ParseError};
 use std::alloc::Global;
 use std::test::Fail;
 

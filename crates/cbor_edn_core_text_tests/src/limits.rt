@@ -3,7 +3,7 @@ use crate::common::{encoded, expect_itself, refusal, repeated};
 use cbor_edn_core::tree::{NESTING_LIMIT, Sequence, StandaloneItem};
 use cbor_edn_expect::expect;
 use cbor_edn_expect::failures::Failures;
-use cbor_edn_parts::looks::Looks;
+use cbor_edn_parts::base::looks::Looks;
 use std::alloc::Global;
 use std::mem::size_of;
 use std::test::Fail;

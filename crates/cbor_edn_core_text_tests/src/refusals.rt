@@ -3,7 +3,7 @@ use crate::common::{cbor_error, encoded, refusal};
 use cbor_edn_core::cbor::decode::CborError;
 use cbor_edn_expect::failures::Failures;
 use cbor_edn_expect::{expect, expect_row};
-use cbor_edn_parts::error::{InconsistentEdn, ParseError, ParseErrorKind};
+use cbor_edn_parts::base::error::{InconsistentEdn, ParseError, ParseErrorKind};
 use std::alloc::Global;
 use std::test::Fail;
 

@@ -14,13 +14,13 @@ ghost use Rattle.cbor_edn_model.specs.layout.Fewer.{Fewer};
 ghost use Rattle.cbor_edn_model.specs.layout.Layout.{laid_out};
 ghost use Rattle.cbor_edn_model.specs.text.Spelling.{SpellsSequence};
 ghost use Rattle.cbor_edn_model.specs.tree.Trees.{items, text};
-ghost use Rattle.cbor_edn_parts.specs.Refusals.{IfTold};
+ghost use Rattle.cbor_edn_parts.specs.base.Refusals.{IfTold};
 
 use cbor_edn_core::cbor::decode::CborError;
 use cbor_edn_core::tree::{Item, NESTING_LIMIT, Sequence, StandaloneItem};
-use cbor_edn_parts::error::{Fault, ParseError};
-use cbor_edn_parts::looks::Looks;
-use cbor_edn_parts::policy::DelimiterPolicy;
+use cbor_edn_parts::base::error::{Fault, ParseError};
+use cbor_edn_parts::base::looks::Looks;
+use cbor_edn_parts::space::policy::DelimiterPolicy;
 use std::alloc::{AllocError, Global};
 
 /// `Sequence::parse_within`.

@@ -4,7 +4,7 @@ use cbor_edn_core::access::TypeMismatch;
 use cbor_edn_core::tree::Item;
 use cbor_edn_expect::failures::Failures;
 use cbor_edn_expect::{expect, expect_text, expect_told};
-use cbor_edn_parts::error::Fault;
+use cbor_edn_parts::base::error::Fault;
 use std::alloc::Global;
 use std::test::Fail;
 

@@ -3,7 +3,7 @@ use crate::common::{Made, all_written, list, make, tag_of};
 use cbor_edn_core::tree::{Item, Sequence};
 use cbor_edn_expect::failures::Failures;
 use cbor_edn_expect::{boxed, expect_told};
-use cbor_edn_parts::error::{Fault, InconsistentEdn};
+use cbor_edn_parts::base::error::{Fault, InconsistentEdn};
 use std::alloc::Global;
 use std::test::Fail;
 

@@ -7,8 +7,8 @@ use crate::trees::is_own_copy;
 use cbor_edn_core::tree::{Item, NESTING_LIMIT, Sequence};
 use cbor_edn_core::visit::MapValueHandler;
 use cbor_edn_expect::failures::Failures;
-use cbor_edn_parts::error::{CallbackError, Fault};
-use cbor_edn_parts::policy::DelimiterPolicy;
+use cbor_edn_parts::base::error::{CallbackError, Fault};
+use cbor_edn_parts::space::policy::DelimiterPolicy;
 use std::alloc::Global;
 use std::test::Fail;
 

@@ -2,7 +2,7 @@
 use crate::common::{Edit, Made, POLICIES, bare, edited, edited_item, edited_sequence};
 use cbor_edn_expect::expect_told;
 use cbor_edn_expect::failures::Failures;
-use cbor_edn_parts::policy::DelimiterPolicy;
+use cbor_edn_parts::space::policy::DelimiterPolicy;
 use std::alloc::Global;
 use std::test::Fail;
 

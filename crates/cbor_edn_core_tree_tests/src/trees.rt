@@ -3,8 +3,8 @@ use crate::common::{Made, make, sequence_of, standalone_of};
 use cbor_edn_core::tree::{Item, Sequence, StandaloneItem};
 use cbor_edn_expect::failures::Failures;
 use cbor_edn_expect::{boxed, expect, expect_text, expect_told};
-use cbor_edn_parts::buffer::TextBuffer;
-use cbor_edn_parts::policy::DelimiterPolicy;
+use cbor_edn_parts::base::buffer::TextBuffer;
+use cbor_edn_parts::space::policy::DelimiterPolicy;
 use std::alloc::Global;
 use std::test::Fail;
 

@@ -25,8 +25,8 @@ ghost use Rattle.cbor_edn_model.specs.internal.Widths.{capped};
 ghost use Rattle.cbor_edn_core.specs.tree.Embedding.{embedded_tree, literal_indicator};
 ghost use Rattle.cbor_edn_model.specs.tree.Trees.{ElementTree, LastTree, ListTree, NumberTree, SequenceTree, text, tree_nesting};
 ghost use Rattle.cbor_edn_model.specs.visit.Visits.{Call, KeyCall, Chain, VisitArray, VisitMap};
-ghost use Rattle.cbor_edn_parts.specs.Number.{IsNumber};
-ghost use Rattle.cbor_edn_parts.specs.Refusals.{IfTold, OnMemory};
+ghost use Rattle.cbor_edn_parts.specs.number.Number.{IsNumber};
+ghost use Rattle.cbor_edn_parts.specs.base.Refusals.{IfTold, OnMemory};
 ghost use Rattle.cbor_edn_core_tree_wrong_bodies.specs.Callable.{AlwaysCallable};
 
 use cbor_edn_core::access::{
@@ -34,7 +34,7 @@ use cbor_edn_core::access::{
 };
 use cbor_edn_core::tree::{Indicator, Item, Sequence, StandaloneItem};
 use cbor_edn_core::visit::MapValueHandler;
-use cbor_edn_parts::error::{CallbackError, Fault};
+use cbor_edn_parts::base::error::{CallbackError, Fault};
 use std::alloc::{AllocError, Global};
 
 /// `Item::get_tag`.

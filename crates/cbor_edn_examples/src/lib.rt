@@ -14,7 +14,7 @@ ghost use Rattle.cbor_edn_model.specs.text.Spelling.{SpellsSequence};
 ghost use Rattle.cbor_edn_model.specs.tree.Trees.{Tree, Seq, items, text};
 ghost use Rattle.cbor_edn_model.specs.cbor.Value.{Value, Values, ValuesFit, Enc, EncAll};
 ghost use Rattle.cbor_edn_model.specs.visit.Visits.{whole};
-ghost use Rattle.cbor_edn_parts.specs.Refusals.{IfTold};
+ghost use Rattle.cbor_edn_parts.specs.base.Refusals.{IfTold};
 ghost use Rattle.cbor_edn_core.specs.visit.Callbacks.{ending};
 ghost use Rattle.cbor_edn_core.specs.tree.View.{item_tree, sequence_tree, standalone_tree};
 ghost use Rattle.cbor_edn_conversions.specs.All.{resolve_all, pretty_all};

@@ -6,7 +6,7 @@ pub mod memory;
 
 ghost use Rattle.std.specs.Prelude.{◌≡◌, IsTrue, OnOk};
 
-use cbor_edn_parts::error::Fault;
+use cbor_edn_parts::base::error::Fault;
 use std::alloc::Global;
 use std::fmt::Debug;
 use std::test::Fail;

@@ -1,7 +1,7 @@
 //! What calls answer where each of their allocations is refused in turn.
 ghost use Rattle.std.specs.Prelude.{◌≡◌};
 
-use cbor_edn_parts::error::{CallbackError, Fault};
+use cbor_edn_parts::base::error::{CallbackError, Fault};
 use std::alloc::{AllocError, AllocFailed, Global};
 
 /// Why a call is not done: memory was refused, and it left what it must, or it answered otherwise than it must.

@@ -10,7 +10,7 @@ use crate::shown::valid_part;
 use cbor_edn::engine::{Options, RunError, converted};
 use cbor_edn_command::hexadecimal;
 use cbor_edn_core::cbor::decode::CborError;
-use cbor_edn_parts::error::{Fault, InconsistentEdn, ParseError};
+use cbor_edn_parts::base::error::{Fault, InconsistentEdn, ParseError};
 use std::alloc::{AllocError, Global};
 use std::fmt::Display;
 

@@ -1,15 +1,15 @@
 //! Where in a text an item has no encoding.
 ghost use Rattle.std.specs.Prelude.{IfSome};
-ghost use Rattle.cbor_edn_parts.specs.Errors.{error_offset, error_line, error_column};
-ghost use Rattle.cbor_edn_parts.specs.Location.{IsLocation};
+ghost use Rattle.cbor_edn_parts.specs.base.Errors.{error_offset, error_line, error_column};
+ghost use Rattle.cbor_edn_parts.specs.base.Location.{IsLocation};
 
 use cbor_edn::engine::Options;
 use cbor_edn_application::visits::{resolve_addresses, resolve_times, to_999};
 use cbor_edn_core::tree::Sequence;
-use cbor_edn_parts::error::{Fault, InconsistentEdn, ParseError, Refusal};
-use cbor_edn_parts::input::Input;
-use cbor_edn_parts::location::with_location;
-use cbor_edn_parts::looks::Looks;
+use cbor_edn_parts::base::error::{Fault, InconsistentEdn, ParseError, Refusal};
+use cbor_edn_parts::base::input::Input;
+use cbor_edn_parts::base::location::with_location;
+use cbor_edn_parts::base::looks::Looks;
 use cbor_edn_places::offset::offset_of;
 use cbor_edn_places::path::{cut_to_item, first_valueless};
 use std::alloc::{AllocError, Global};

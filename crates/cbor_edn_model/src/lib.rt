@@ -6,5 +6,4 @@ pub mod cbor;
 pub mod laws;
 pub mod layout;
 pub mod text;
-pub mod tree;
 pub mod visit;

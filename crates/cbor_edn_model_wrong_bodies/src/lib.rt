@@ -7,18 +7,18 @@ ghost use Rattle.std.specs.Prelude.{◌≡◌, ◌+◌, ◌<◌, ◌++◌, IfOk,
 ghost use Rattle.std.specs.Str.{IsCharBoundary};
 ghost use Rattle.cbor_edn_conversions.specs.Addresses as addresses;
 ghost use Rattle.cbor_edn_conversions.specs.Addresses.{refusal_message};
-ghost use Rattle.cbor_edn_parts.specs.Buffer.{buffer_bytes};
-ghost use Rattle.cbor_edn_parts.specs.Errors.{error_kind, error_offset, error_line, error_column};
-ghost use Rattle.cbor_edn_parts.specs.Indicator.{indicator_text};
-ghost use Rattle.cbor_edn_parts.specs.LayoutColumns.{least, respaced};
+ghost use Rattle.cbor_edn_parts.specs.base.Buffer.{buffer_bytes};
+ghost use Rattle.cbor_edn_parts.specs.base.Errors.{error_kind, error_offset, error_line, error_column};
+ghost use Rattle.cbor_edn_parts.specs.base.Indicator.{indicator_text};
+ghost use Rattle.cbor_edn_parts.specs.space.LayoutColumns.{least, respaced};
 ghost use Rattle.cbor_edn_parts.specs.Leaves as leaves;
 ghost use Rattle.cbor_edn_parts.specs.Leaves.{space_bytes, separator_bytes};
-ghost use Rattle.cbor_edn_parts.specs.Location.{IsLocation};
-ghost use Rattle.cbor_edn_parts.specs.Notes.{noted};
-ghost use Rattle.cbor_edn_parts.specs.Refusals.{IfTold};
-ghost use Rattle.cbor_edn_parts.specs.Spacing as kind;
-ghost use Rattle.cbor_edn_parts.specs.declared.error.ParseErrorKind.TheVariants.{Invalid};
-ghost use Rattle.cbor_edn_parts.specs.declared.layout.Slot.TheVariants.{Between};
+ghost use Rattle.cbor_edn_parts.specs.base.Location.{IsLocation};
+ghost use Rattle.cbor_edn_parts.specs.space.Notes.{noted};
+ghost use Rattle.cbor_edn_parts.specs.base.Refusals.{IfTold};
+ghost use Rattle.cbor_edn_parts.specs.space.Spacing as kind;
+ghost use Rattle.cbor_edn_parts.specs.declared.base.error.ParseErrorKind.TheVariants.{Invalid};
+ghost use Rattle.cbor_edn_parts.specs.declared.space.layout.Slot.TheVariants.{Between};
 ghost use Rattle.cbor_edn_parts.specs.internal.Scans.{IsAt};
 ghost use Rattle.cbor_edn_parts.specs.internal.Input.{text_bytes};
 ghost use Rattle.cbor_edn_model.specs.cbor.Meaning as meaning;
@@ -36,31 +36,31 @@ ghost use Rattle.cbor_edn_model.specs.text.ListHeads.{view_list_head};
 ghost use Rattle.cbor_edn_model.specs.tree.TreeLeaves.{texts};
 ghost use Rattle.cbor_edn_model.specs.visit.Depth.{embedded_depth};
 
-use cbor_edn_conversions::steps::NoAddress;
+use cbor_edn_conversions::addresses::NoAddress;
 use cbor_edn_model::cbor::decode::head::Argument;
 use cbor_edn_model::cbor::heads::Width;
 use cbor_edn_model::text::lookahead::FormStart;
-use cbor_edn_parts::buffer::TextBuffer;
-use cbor_edn_parts::error::{Fault, InconsistentEdn, ParseError, Refusal};
-use cbor_edn_parts::indicator::Indicator;
-use cbor_edn_parts::input::Input;
-use cbor_edn_parts::layout::{Layout, Slot};
-use cbor_edn_parts::looks::Looks;
+use cbor_edn_parts::base::buffer::TextBuffer;
+use cbor_edn_parts::base::error::{Fault, InconsistentEdn, ParseError, Refusal};
+use cbor_edn_parts::base::indicator::Indicator;
+use cbor_edn_parts::base::input::Input;
+use cbor_edn_parts::base::looks::Looks;
 use cbor_edn_parts::number::Integer;
-use cbor_edn_parts::policy::Spacing;
+use cbor_edn_parts::space::layout::{Layout, Slot};
+use cbor_edn_parts::space::policy::Spacing;
 use cbor_edn_parts::space::{MandatorySpace, Separator, Space};
 use cbor_edn_parts::string::StringKind;
 use cbor_edn_times_and_addresses::address::IpVersion;
 use std::alloc::{AllocError, Global};
 
-/// `tree::copy::clone_spaces`.
+/// `space::copy::clone_spaces` of `cbor_edn_parts`.
 pub fn clone_spaces<'a>(
     before: &Space<'a>,
     after: &Space<'a>,
 ) -> Result<(Space<'a>, Space<'a>), AllocError>
     ensures { IfOk result (λ p. (space_bytes p.0 ≡ space_bytes before.now) × (space_bytes p.1 ≡ space_bytes after.now)) }
 {
-    cbor_edn_model::tree::copy::clone_spaces(before, after)
+    cbor_edn_parts::space::copy::clone_spaces(before, after)
 }
 
 /// `visit::depth::depth_of_embedded`.
@@ -172,7 +172,7 @@ pub fn with_location(text: &Input<'_>, refusal: Refusal, looks: &mut Looks) -> P
     ensures place { IsLocation (text_bytes text.now) (error_offset result) (error_line result) (error_column result) }
     ensures cost { looks.new.count ≡ looks.old.count + refusal.offset }
 {
-    cbor_edn_parts::location::with_location(text, refusal, looks)
+    cbor_edn_parts::base::location::with_location(text, refusal, looks)
 }
 
 /// The text of `Space::note`.
@@ -192,7 +192,7 @@ pub fn print_space(
 ) -> Result<(), AllocError>
     ensures { OnOk result (buffer_bytes out.new ≡ buffer_bytes out.old ++ respaced kind.Optional slot layout (space_bytes space.now)) }
 {
-    cbor_edn_parts::layout::print_space(out, space, layout, slot)
+    cbor_edn_parts::space::layout::print_space(out, space, layout, slot)
 }
 
 /// `layout::lay_separator`.
@@ -204,10 +204,10 @@ pub fn lay_separator<'a>(
     ensures laid { OnOk result (separator_bytes separator.new ≡ respaced kind.Separating Between layout (separator_bytes separator.old)) }
     ensures least { layout ≡ least → IsOk result }
 {
-    cbor_edn_parts::layout::lay_separator(separator, alloc, layout)
+    cbor_edn_parts::space::layout::lay_separator(separator, alloc, layout)
 }
 
-/// `steps::whole_text` of `cbor_edn_conversions`.
+/// `addresses::whole_text` of `cbor_edn_conversions`.
 pub fn whole_text(
     alloc: Global,
     version: IpVersion,
@@ -216,5 +216,5 @@ pub fn whole_text(
     ensures text { IfOk result (λ s. addresses.whole_text version bytes.now ≡ Ok (string_bytes s)) }
     ensures refused { IfTold result (λ e. addresses.whole_text version bytes.now ≡ Err (refusal_message e)) }
 {
-    cbor_edn_conversions::steps::whole_text(alloc, version, bytes)
+    cbor_edn_conversions::addresses::whole_text(alloc, version, bytes)
 }

@@ -1,17 +1,17 @@
 -- The tests, automata and readers of space texts, numbers, encoding indicators and literals, against the grammar.
 use Rattle.std.specs.Prelude.{List, ℕ, ℤ, true, Option, Some, ◌≡◌, ◌++◌, ◌↔◌}
-use Rattle.cbor_edn_parts.specs.Bytes.{Follow}
-use Rattle.cbor_edn_parts.specs.Indicator.{indicator_text, indicator_at}
-use Rattle.cbor_edn_parts.specs.declared.indicator.Indicator.{Indicator}
+use Rattle.cbor_edn_parts.specs.base.Bytes.{Follow}
+use Rattle.cbor_edn_parts.specs.base.Indicator.{indicator_text, indicator_at}
+use Rattle.cbor_edn_parts.specs.declared.base.indicator.Indicator.{Indicator}
 use Rattle.cbor_edn_parts.specs.internal.Lex.{Is}
-use Rattle.cbor_edn_parts.specs.Space.{IsSpace, IsMandatorySpace, IsListEnd, IsSeparator}
+use Rattle.cbor_edn_parts.specs.space.Space.{IsSpace, IsMandatorySpace, IsListEnd, IsSeparator}
 use Rattle.cbor_edn_parts.specs.internal.SpaceTokens.{space, separator, is_space, is_mandatory_space, is_list_end, is_separator}
-use Rattle.cbor_edn_parts.specs.Number.{IsNumber, HasInteger}
+use Rattle.cbor_edn_parts.specs.number.Number.{IsNumber, HasInteger}
 use Rattle.cbor_edn_parts.specs.internal.NumberReading.{integer_of}
 use Rattle.cbor_edn_parts.specs.internal.NumberTokens.{number, is_number}
-use Rattle.cbor_edn_parts.specs.Literal.{IsQuoted, IsEllipsis}
+use Rattle.cbor_edn_parts.specs.string.Literal.{IsQuoted, IsEllipsis}
 use Rattle.cbor_edn_parts.specs.internal.LiteralTokens.{literal, ellipsis, is_literal, is_ellipsis}
-use Rattle.cbor_edn_parts.specs.Contents.{HasContent, IsSupported, hex_literal, text_literal}
+use Rattle.cbor_edn_parts.specs.string.Contents.{HasContent, IsSupported, hex_literal, text_literal}
 use Rattle.cbor_edn_parts.specs.internal.ContentReading.{literal_content, literal_kind, is_supported}
 use Rattle.cbor_edn_parts.specs.declared.string.StringKind.{StringKind}
 use Rattle.cbor_edn_parts.specs.declared.string.StringKind.TheVariants.{Bytes, Text}

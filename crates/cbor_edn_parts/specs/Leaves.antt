@@ -1,6 +1,6 @@
 -- The bytes of each leaf of a tree, and that they are borrowed from the text.
 use Rattle.std.specs.Prelude.{ℕ, ℤ, pos, negsuc, ◌+◌, ◌<◌, ◌^◌, List}
-use Rattle.cbor_edn_parts.specs.LeafTexts.{leaf_bytes, IsBorrowed}
+use Rattle.cbor_edn_parts.specs.base.LeafTexts.{leaf_bytes, IsBorrowed}
 use Rattle.cbor_edn_parts.specs.declared.space.Space.{Space}
 use Rattle.cbor_edn_parts.specs.declared.space.MandatorySpace.{MandatorySpace}
 use Rattle.cbor_edn_parts.specs.declared.space.Separator.{Separator}

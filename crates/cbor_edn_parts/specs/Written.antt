@@ -1,8 +1,8 @@
 -- The texts of numbers and literals that are made from values.
 use Rattle.std.specs.Prelude.{ℕ, false, List, [], ◌∷◌, ◌++◌, ◌==◌, if◌then◌else◌}
 use Rattle.std.specs.Fmt.{digits}
-use Rattle.cbor_edn_parts.specs.Literal.{single_quote, double_quote, backslash}
-use Rattle.cbor_edn_parts.specs.Contents.{escaped}
+use Rattle.cbor_edn_parts.specs.string.Literal.{single_quote, double_quote, backslash}
+use Rattle.cbor_edn_parts.specs.string.Contents.{escaped}
 
 -- `0x` and digits in lower case, without leading zeros: `0x1f` for 31
 abbrev pub hexadecimal_text : ℕ → List ℕ

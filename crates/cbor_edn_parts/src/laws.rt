@@ -1,8 +1,8 @@
 //! What holds of the definitions that the contracts cite. These functions do nothing.
 ghost use Rattle.std.specs.Prelude.{List, ℕ, All, ◌<◌};
-ghost use Rattle.cbor_edn_parts.specs.Comments.{OneCommentsOf, CutAtComma};
+ghost use Rattle.cbor_edn_parts.specs.space.Comments.{OneCommentsOf, CutAtComma};
 ghost use Rattle.cbor_edn_parts.specs.LeafLaws.{SpaceTexts, NumberTexts, IndicatorTexts, LiteralTexts, DecodedLiterals};
-ghost use Rattle.cbor_edn_parts.specs.SpacingLaws.{StaysOfKind, ForgetsColumn, NotesAreSpace, NotesInFront};
+ghost use Rattle.cbor_edn_parts.specs.space.SpacingLaws.{StaysOfKind, ForgetsColumn, NotesAreSpace, NotesInFront};
 
 /// The tests and automata of space texts take exactly the texts of the grammar.
 pub fn space_texts()

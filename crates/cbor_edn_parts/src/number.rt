@@ -1,18 +1,18 @@
 //! Numbers.
 ghost use Rattle.std.specs.Prelude.{◌≡◌, ◌++◌, ◌<◌, ◌≤◌, ◌^◌, ◌↔◌, length, ℤ, pos, neg_ℤ, if◌then◌else◌, IsTrue, IfOk, OnOk, IfSome, IsNone, drop, true, unsigned_abs};
-ghost use Rattle.cbor_edn_parts.specs.Buffer.{buffer_bytes};
-ghost use Rattle.cbor_edn_parts.specs.LeafTexts.{leaf_bytes};
+ghost use Rattle.cbor_edn_parts.specs.base.Buffer.{buffer_bytes};
+ghost use Rattle.cbor_edn_parts.specs.base.LeafTexts.{leaf_bytes};
 ghost use Rattle.std.specs.Str.Parse.{IsNumeral, ParsesUnsigned, digits_value};
-ghost use Rattle.cbor_edn_parts.specs.Number.{MinusSign, radix, HasInteger};
+ghost use Rattle.cbor_edn_parts.specs.number.Number.{MinusSign, radix, HasInteger};
 ghost use Rattle.cbor_edn_parts.specs.internal.NumberReading.{prefix_length, sign_of, without_sign, named_base};
 ghost use Rattle.cbor_edn_parts.specs.internal.NumberTokens as tokens;
 ghost use Rattle.cbor_edn_parts.specs.internal.NumberTokens.{is_number};
 ghost use Rattle.cbor_edn_parts.specs.internal.StateLaws.{number_stays, number_inside};
 
-use crate::buffer::TextBuffer;
-use crate::bytes::Kind;
-use crate::leaf_text::LeafText;
-use crate::scan::State;
+use crate::base::buffer::TextBuffer;
+use crate::base::bytes::Kind;
+use crate::base::leaf_text::LeafText;
+use crate::base::scan::State;
 pub use small::SmallInteger;
 pub use start::{NumberStart, number_start};
 use std::alloc::AllocError;

@@ -1,20 +1,23 @@
 //! Space texts: optional space (S), mandatory space (MS), separators (MSC) and the ends of lists (SOC).
 ghost use Rattle.std.specs.Prelude.{◌≡◌, ◌↔◌, IsTrue, [], ◌∷◌, IfOk, IfSome, IsNone};
-ghost use Rattle.cbor_edn_parts.specs.LeafTexts.{leaf_bytes};
+ghost use Rattle.cbor_edn_parts.specs.base.LeafTexts.{leaf_bytes};
 ghost use Rattle.cbor_edn_parts.specs.internal.SpaceTokens as tokens;
 ghost use Rattle.cbor_edn_parts.specs.internal.SpaceTokens.{is_space, is_mandatory_space, is_separator, is_list_end};
 ghost use Rattle.cbor_edn_parts.specs.internal.StateLaws.{space_stays, space_inside};
 
-use crate::bytes::Kind;
-use crate::leaf_text::LeafText;
-use crate::scan::State;
+use crate::base::bytes::Kind;
+use crate::base::leaf_text::LeafText;
+use crate::base::scan::State;
 pub use note::TakesComment;
 pub use read::{ItemEnd, separator_behind, space_at, space_behind};
 use std::alloc::AllocError;
 
 mod comments;
+pub mod copy;
 mod joined;
+pub mod layout;
 mod note;
+pub mod policy;
 mod read;
 mod spaced;
 mod width;

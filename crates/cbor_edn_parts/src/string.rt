@@ -1,16 +1,16 @@
 //! Literals: quoted texts, with or without a prefix, and dots.
 ghost use Rattle.std.specs.Prelude.{◌≡◌, ◌++◌, ◌==◌, IsTrue, IfOk, OnOk, Some, None, [], length, if◌then◌else◌};
-ghost use Rattle.cbor_edn_parts.specs.Buffer.{buffer_bytes};
-ghost use Rattle.cbor_edn_parts.specs.LeafTexts.{leaf_bytes};
+ghost use Rattle.cbor_edn_parts.specs.base.Buffer.{buffer_bytes};
+ghost use Rattle.cbor_edn_parts.specs.base.LeafTexts.{leaf_bytes};
 ghost use Rattle.cbor_edn_parts.specs.internal.Ended.{Steps};
-ghost use Rattle.cbor_edn_parts.specs.Literal.{letter_escape};
+ghost use Rattle.cbor_edn_parts.specs.string.Literal.{letter_escape};
 ghost use Rattle.cbor_edn_parts.specs.internal.LiteralTokens as tokens;
 ghost use Rattle.cbor_edn_parts.specs.internal.LiteralTokens.{is_literal, is_ellipsis, quote_byte};
 ghost use Rattle.cbor_edn_parts.specs.internal.StateLaws.{literal_stays, literal_inside, ellipsis_stays, ellipsis_inside};
 
-use crate::buffer::TextBuffer;
-use crate::leaf_text::LeafText;
-use crate::scan::State;
+use crate::base::buffer::TextBuffer;
+use crate::base::leaf_text::LeafText;
+use crate::base::scan::State;
 pub use read::{ellipsis_at, literal_at};
 use std::alloc::AllocError;
 

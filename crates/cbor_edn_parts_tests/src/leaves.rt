@@ -5,12 +5,12 @@ ghost use Rattle.cbor_edn_parts.specs.internal.Input.{text_bytes};
 
 use cbor_edn_expect::failures::Failures;
 use cbor_edn_expect::{expect, expect_row};
-use cbor_edn_parts::error::Refusal;
-use cbor_edn_parts::indicator::{Indicator, indicator_at};
-use cbor_edn_parts::input::Input;
-use cbor_edn_parts::looks::Looks;
+use cbor_edn_parts::base::error::Refusal;
+use cbor_edn_parts::base::indicator::{Indicator, indicator_at};
+use cbor_edn_parts::base::input::Input;
+use cbor_edn_parts::base::looks::Looks;
 use cbor_edn_parts::number::{Number, number_start};
-use cbor_edn_parts::policy::{DelimiterPolicy, Spacing};
+use cbor_edn_parts::space::policy::{DelimiterPolicy, Spacing};
 use cbor_edn_parts::space::{
     ItemEnd, ListEnd, MandatorySpace, Separator, Space, separator_behind, space_at, space_behind,
 };

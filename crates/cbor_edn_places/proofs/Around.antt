@@ -4,7 +4,7 @@ use Rattle.std.specs.Prelude.{slice_get, option_and_then, option_map, unwrap_or,
 use Rattle.std.proofs.lemmas.Bool.{ltb-true, ltb-false}
 use Rattle.cbor_edn_model.proofs.lemmas.access.CountedItems.{get_left, get_right}
 use Prim.Native.Nat.{zero}
-use Rattle.cbor_edn_parts.specs.Indicator.{indicator_text}
+use Rattle.cbor_edn_parts.specs.base.Indicator.{indicator_text}
 use Rattle.cbor_edn_model.specs.declared.text.opener.OpenerKind.TheVariants as opener
 use Rattle.cbor_edn_model.specs.text.Spelling.{open_byte, close_byte}
 use Rattle.cbor_edn_model.specs.tree.Trees.{Rule, Tree, OneItem, Seq, OnePiece, OneString, Rest, OneEntry, NumberTree, FloatTree, NamedTree, EnclosedTree, ListTree, StringTree, StreamTree, LiteralTree, EllipsisTree, EmbeddedTree, LastPieceTree, PlusTree, ElementTree, PairTree, ChunkTree, EmptyTree, FullTree, LastTree, MoreTree, NothingTree, SequenceTree, StandaloneTree, onto, text, opener_text, list_head_text}

@@ -8,7 +8,7 @@ use Rattle.cbor_edn_model.specs.access.Paths.{items_in, at, at_sequence}
 use Rattle.cbor_edn_places.specs.internal.Levels.{IsValueless, IsFree, IsFoundOf, IsFoundAt, NoneBehind, NoneBefore, IsFirstBeside, IsFirstOf, is_open_at, is_open_there, places_behind, places_there, alone, IsLeft}
 use Rattle.cbor_edn_places.specs.Places.{is_open, places_in, AllMean, IsFirstAt, IsFirstPath, IsFound, is_structure}
 use Rattle.std.specs.Prelude.{Vec}
-use Rattle.cbor_edn_parts.specs.declared.error.InconsistentEdn.{InconsistentEdn}
+use Rattle.cbor_edn_parts.specs.declared.base.error.InconsistentEdn.{InconsistentEdn}
 use Prim.Native.Nat.{zero}
 use Rattle.std.proofs.lemmas.Bool.{lt-leb, le-leb}
 use Rattle.std.specs.Prelude.{Result, Ok, Err, IfOk}

@@ -9,8 +9,8 @@ use Rattle.std.proofs.lemmas.List.{length-append}
 use Rattle.std.proofs.lemmas.Str.{IsUtf8-take, IsCharBoundary-before_ascii}
 use Rattle.std.specs.Fmt.{signed_decimal}
 use Rattle.std.proofs.lemmas.Fmt.{decimal_digit}
-use Rattle.cbor_edn_parts.specs.Indicator.{indicator_text}
-use Rattle.cbor_edn_parts.specs.Contents.{text_literal}
+use Rattle.cbor_edn_parts.specs.base.Indicator.{indicator_text}
+use Rattle.cbor_edn_parts.specs.string.Contents.{text_literal}
 use Rattle.cbor_edn_model.specs.tree.Constructed.{literal_tree}
 use Rattle.cbor_edn_model.specs.tree.Trees.{Tree, OneItem, Seq, NumberTree, onto, text}
 use Rattle.cbor_edn_model.specs.access.Paths.{at_sequence, with_at_sequence}

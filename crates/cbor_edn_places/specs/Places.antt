@@ -1,6 +1,6 @@
 -- The first item of a sequence that means nothing.
 use Rattle.std.specs.Prelude.{◌≡◌, ◌≢◌, ℕ, ◌<◌, nat_le, length, slice_get, Bool, ◌||◌, if◌then◌else◌, List, [], ◌∷◌, Option, Some, None, Vec}
-use Rattle.cbor_edn_parts.specs.declared.error.InconsistentEdn.{InconsistentEdn}
+use Rattle.cbor_edn_parts.specs.declared.base.error.InconsistentEdn.{InconsistentEdn}
 use Rattle.cbor_edn_model.specs.tree.Trees.{Tree, OneItem, Seq, items}
 use Rattle.cbor_edn_model.specs.cbor.Meaning.{means}
 use Rattle.std.specs.Option.{is_some}

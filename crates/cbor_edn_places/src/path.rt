@@ -10,7 +10,7 @@ ghost use Rattle.cbor_edn_places.specs.Places.{is_structure, IsFound};
 ghost use Rattle.cbor_edn_places.specs.internal.Levels.{IsFoundOf, IsFoundAt, IsFirstBeside, IsFirstOf, is_open_at, places_behind, IsLeft};
 
 use cbor_edn_core::tree::{Item, Sequence};
-use cbor_edn_parts::error::{Fault, InconsistentEdn};
+use cbor_edn_parts::base::error::{Fault, InconsistentEdn};
 use std::alloc::{AllocError, Global};
 use std::mem;
 

@@ -7,7 +7,7 @@ use cbor_edn_application::{
 use cbor_edn_core::tree::{Item, NESTING_LIMIT, StandaloneItem};
 use cbor_edn_core::visit::MapValueHandler;
 use cbor_edn_expect::memory::Failure;
-use cbor_edn_parts::error::{CallbackError, Fault};
+use cbor_edn_parts::base::error::{CallbackError, Fault};
 use std::alloc::Global;
 
 #[derive(Clone, Copy)]

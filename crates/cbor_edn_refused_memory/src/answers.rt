@@ -3,10 +3,10 @@ use crate::trees::{sequence_of, standalone_of};
 use cbor_edn_application::{IpVersion, dt_item_to_aol, ip_item_to_aol};
 use cbor_edn_core::tree::{Indicator, Item, Sequence, StandaloneItem};
 use cbor_edn_expect::memory::{Failure, boxed};
-use cbor_edn_parts::buffer::TextBuffer;
-use cbor_edn_parts::error::Fault;
-use cbor_edn_parts::looks::Looks;
-use cbor_edn_parts::policy::DelimiterPolicy;
+use cbor_edn_parts::base::buffer::TextBuffer;
+use cbor_edn_parts::base::error::Fault;
+use cbor_edn_parts::base::looks::Looks;
+use cbor_edn_parts::space::policy::DelimiterPolicy;
 use std::alloc::{AllocError, Global};
 use std::fmt::Display;
 

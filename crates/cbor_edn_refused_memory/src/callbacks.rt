@@ -6,7 +6,7 @@ use cbor_edn_application::comment_ccs;
 use cbor_edn_core::access::TypeMismatch;
 use cbor_edn_core::tree::{Item, Sequence, StandaloneItem};
 use cbor_edn_core::visit::MapValueHandler;
-use cbor_edn_parts::error::{CallbackError, Fault};
+use cbor_edn_parts::base::error::{CallbackError, Fault};
 use std::alloc::{AllocError, Global};
 
 /// Puts 5 with a comment.

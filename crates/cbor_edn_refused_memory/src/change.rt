@@ -7,7 +7,7 @@ use crate::callbacks::{
 use cbor_edn_application::visits;
 use cbor_edn_core::tree::{Item, NESTING_LIMIT, Sequence, StandaloneItem};
 use cbor_edn_expect::memory::Failure;
-use cbor_edn_parts::policy::DelimiterPolicy;
+use cbor_edn_parts::space::policy::DelimiterPolicy;
 use std::alloc::Global;
 
 #[derive(Clone, Copy)]

@@ -3,7 +3,7 @@ use crate::spaces::PAIR;
 use crate::trees::{Tree, sequence_of};
 use cbor_edn_core::tree::{Item, Sequence};
 use cbor_edn_expect::memory::Failure;
-use cbor_edn_parts::policy::DelimiterPolicy;
+use cbor_edn_parts::space::policy::DelimiterPolicy;
 use cbor_edn_script::{Edit, ScriptError, run};
 use std::alloc::{AllocError, Global};
 

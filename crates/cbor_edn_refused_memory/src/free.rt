@@ -6,10 +6,12 @@ use cbor_edn_core::cbor::decode::CborError;
 use cbor_edn_core::tree::{Indicator, Item, Sequence, StandaloneItem};
 use cbor_edn_expect::memory::{Failure, boxed};
 use cbor_edn_model::text::keyword::NamedSimple;
-use cbor_edn_parts::buffer::TextBuffer;
-use cbor_edn_parts::error::{CallbackError, Fault, InconsistentEdn, ParseError, ParseErrorKind};
-use cbor_edn_parts::looks::Looks;
-use cbor_edn_parts::policy::DelimiterPolicy;
+use cbor_edn_parts::base::buffer::TextBuffer;
+use cbor_edn_parts::base::error::{
+    CallbackError, Fault, InconsistentEdn, ParseError, ParseErrorKind,
+};
+use cbor_edn_parts::base::looks::Looks;
+use cbor_edn_parts::space::policy::DelimiterPolicy;
 use std::alloc::{AllocError, AllocFailed, Global};
 
 #[derive(Clone, Copy)]

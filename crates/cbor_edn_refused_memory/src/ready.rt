@@ -4,8 +4,8 @@ use crate::free::{Group, Row};
 use crate::trees::{sequence_of, standalone_of};
 use cbor_edn_core::tree::{Item, Sequence, StandaloneItem};
 use cbor_edn_expect::memory::{Failure, boxed};
-use cbor_edn_parts::buffer::TextBuffer;
-use cbor_edn_parts::error::{Fault, ParseError};
+use cbor_edn_parts::base::buffer::TextBuffer;
+use cbor_edn_parts::base::error::{Fault, ParseError};
 use std::alloc::{AllocFailed, Global};
 
 const PARTS: &str = "[-8_1, true, 'a', 4_0( 5 ), {2: 3}, [0x1f]]";

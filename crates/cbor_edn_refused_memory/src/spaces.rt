@@ -1,7 +1,7 @@
 //! Spaces, comments and encoding indicators, with the texts that calls may leave.
 use crate::change::{Change, Kind, OfItem, OfSequence, OfStandalone};
 use crate::trees::Row;
-use cbor_edn_parts::policy::DelimiterPolicy;
+use cbor_edn_parts::space::policy::DelimiterPolicy;
 
 /// A claims set and a list.
 pub(crate) const PAIR: &str =

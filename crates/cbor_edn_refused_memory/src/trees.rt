@@ -2,7 +2,7 @@
 use crate::change::{Change, change_sequence, change_standalone};
 use cbor_edn_core::tree::{Sequence, StandaloneItem};
 use cbor_edn_expect::memory::{Failure, boxed, is_one_of};
-use cbor_edn_parts::policy::DelimiterPolicy;
+use cbor_edn_parts::space::policy::DelimiterPolicy;
 use std::alloc::{AllocError, Global};
 
 /// A call's name, what it changes a tree by, and the texts that it may leave: the one before it first, then one for each change on

@@ -2,7 +2,7 @@
 use crate::answers::{BytesBy, Call, ItemBy, LaidOutBy, RefusedBy, Row, SequenceBy, StandaloneBy};
 use crate::change::LINES;
 use crate::spaces::PAIR;
-use cbor_edn_parts::policy::DelimiterPolicy;
+use cbor_edn_parts::space::policy::DelimiterPolicy;
 
 // A text of each form that means something, and its bytes.
 const FORMS: &str =

@@ -1,9 +1,9 @@
 -- What is spelled is read back.
 use Rattle.std.proofs.Common.{ℕ, List, [], ◌≡◌, ◌≤◌, refl, sym, arith, append-nil}
-use Rattle.cbor_edn_parts.specs.declared.error.ParseErrorKind.{ParseErrorKind}
-use Rattle.cbor_edn_parts.specs.declared.error.ParseErrorKind.TheVariants.{Invalid, TooDeep}
-use Rattle.cbor_edn_parts.specs.Errors.{error_kind}
-use Rattle.cbor_edn_parts.specs.Space.{empty}
+use Rattle.cbor_edn_parts.specs.declared.base.error.ParseErrorKind.{ParseErrorKind}
+use Rattle.cbor_edn_parts.specs.declared.base.error.ParseErrorKind.TheVariants.{Invalid, TooDeep}
+use Rattle.cbor_edn_parts.specs.base.Errors.{error_kind}
+use Rattle.cbor_edn_parts.specs.space.Space.{empty}
 use Rattle.cbor_edn_model.specs.text.Parsing.{IsInvalid, IsTooDeep}
 use Rattle.cbor_edn_core.specs.text.Parsing.{ParsedSequence, ParsedStandalone}
 use Rattle.cbor_edn_core.specs.tree.View.{Item, StandaloneItem, Sequence, item_tree, standalone_tree, sequence_tree}

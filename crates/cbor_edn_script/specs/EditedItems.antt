@@ -1,6 +1,6 @@
 -- What edits make of items, whatever the spaces between them.
 use Rattle.std.specs.Prelude.{ℕ, ◌≡◌, ◌≢◌, List, None}
-use Rattle.cbor_edn_parts.specs.declared.policy.DelimiterPolicy.TheVariants as policies
+use Rattle.cbor_edn_parts.specs.declared.space.policy.DelimiterPolicy.TheVariants as policies
 use Rattle.cbor_edn_core.specs.tree.View.{item_tree}
 use Rattle.cbor_edn_model.specs.layout.Bare.{bare}
 use Rattle.cbor_edn_model.specs.layout.Fewer.{Fewer}

@@ -1,6 +1,6 @@
 -- What edits make of a sequence, spaces included.
 use Rattle.std.specs.Prelude.{ℕ, zero, suc, ◌≡◌, ◌≢◌, List, [], ◌∷◌, option_map, unwrap_or, string_bytes}
-use Rattle.cbor_edn_parts.specs.declared.policy.DelimiterPolicy.TheVariants as policies
+use Rattle.cbor_edn_parts.specs.declared.space.policy.DelimiterPolicy.TheVariants as policies
 use Rattle.cbor_edn_model.specs.tree.Constructed.{tagged_tree}
 use Rattle.cbor_edn_core.specs.tree.View.{item_tree}
 use Rattle.cbor_edn_model.specs.layout.Bare.{without_indicators}

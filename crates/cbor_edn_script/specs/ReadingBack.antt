@@ -1,6 +1,6 @@
 -- Printed texts that are read back as the items that were printed.
 use Rattle.std.specs.Prelude.{ℕ, List, ◌≡◌, ◌≤◌}
-use Rattle.cbor_edn_parts.specs.declared.error.ParseError.{ParseError}
+use Rattle.cbor_edn_parts.specs.declared.base.error.ParseError.{ParseError}
 use Rattle.cbor_edn_model.specs.text.Parsing.{Unparsed}
 use Rattle.cbor_edn_core.specs.text.Parsing.{ParsedSequence, ParsedStandalone}
 use Rattle.cbor_edn_core.specs.tree.View.{sequence_tree, standalone_tree}

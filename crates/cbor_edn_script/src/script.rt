@@ -9,7 +9,7 @@ ghost use Rattle.cbor_edn_script.specs.ReadingBack.{ReadsBackSequence};
 
 use cbor_edn_application::visits::{comment_tags, prettify, resolve, to_999};
 use cbor_edn_core::tree::{Item, Sequence};
-use cbor_edn_parts::policy::DelimiterPolicy;
+use cbor_edn_parts::space::policy::DelimiterPolicy;
 use std::alloc::{AllocError, Global};
 use thiserror::Error;
 

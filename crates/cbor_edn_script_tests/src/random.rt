@@ -1,7 +1,7 @@
 //! Scripts made at random over sequences made at random: what is printed then is read as the same items, with the same encoding.
 use crate::common::{Step, push_edit, see_read_back, sequence_of};
 use cbor_edn_expect::failures::Failures;
-use cbor_edn_parts::policy::DelimiterPolicy;
+use cbor_edn_parts::space::policy::DelimiterPolicy;
 use cbor_edn_script::{Edit, run};
 use std::alloc::{AllocError, Global};
 use std::test::Fail;

@@ -6,7 +6,7 @@ use crate::common::{encoding, push_edit, see_read_back, sequence_of};
 use cbor_edn_core::tree::Sequence;
 use cbor_edn_expect::expect_text;
 use cbor_edn_expect::failures::Failures;
-use cbor_edn_parts::policy::DelimiterPolicy;
+use cbor_edn_parts::space::policy::DelimiterPolicy;
 use cbor_edn_script::{Edit, ScriptError, run};
 use std::alloc::Global;
 use std::test::Fail;

@@ -1,7 +1,7 @@
 -- What is printed of the items that bytes encode, while they are read.
 use Rattle.std.specs.Prelude.{ℕ, ◌-◌, ◌*◌, ◌^◌, min, ◌≡◌, List, [], ◌∷◌, ◌++◌, Option, Some, None, Result, Ok, Err}
-use Rattle.cbor_edn_parts.specs.declared.error.Fault.{Fault}
-use Rattle.cbor_edn_parts.specs.Spacing.{Separating, AtEnd}
+use Rattle.cbor_edn_parts.specs.declared.base.error.Fault.{Fault}
+use Rattle.cbor_edn_parts.specs.space.Spacing.{Separating, AtEnd}
 use Rattle.cbor_edn_model.specs.declared.cbor.decode.CborError.{CborError}
 use Rattle.cbor_edn_model.specs.text.Spelling.{open_byte, close_byte}
 use Rattle.cbor_edn_model.specs.tree.Items.{Row, Bracketed, Array, Map, entries_of}

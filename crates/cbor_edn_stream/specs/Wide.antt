@@ -1,6 +1,6 @@
 -- Items that are wider than so many columns.
 use Rattle.std.specs.Prelude.{◌≡◌, ℕ, ◌<◌, List, Ok}
-use Rattle.cbor_edn_parts.specs.declared.policy.Spacing.TheVariants.{OneLine}
+use Rattle.cbor_edn_parts.specs.declared.space.policy.Spacing.TheVariants.{OneLine}
 use Rattle.cbor_edn_model.specs.declared.layout.width.Spaces.TheVariants.{By}
 use Rattle.cbor_edn_model.specs.tree.Trees.{Tree, OneItem}
 use Rattle.cbor_edn_model.specs.internal.CborReading.{item_at, trees}

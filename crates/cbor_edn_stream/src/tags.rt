@@ -8,7 +8,7 @@ ghost use Rattle.cbor_edn_stream.specs.Heads.{IsBehindOther};
 
 use cbor_edn_model::cbor::decode::head::{Argument, head_of};
 use cbor_edn_model::cbor::heads::Width;
-use cbor_edn_parts::error::Fault;
+use cbor_edn_parts::base::error::Fault;
 use std::alloc::AllocError;
 
 /// The major type of tags (RFC 8949, section 3.1).

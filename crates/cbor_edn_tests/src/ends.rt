@@ -3,7 +3,7 @@ use cbor_edn::engine::{DeviceFault, RunError};
 use cbor_edn::{CborError, Fault, InconsistentEdn, ParseError};
 use cbor_edn_expect::expect;
 use cbor_edn_expect::failures::Failures;
-use cbor_edn_parts::error::ParseErrorKind;
+use cbor_edn_parts::base::error::ParseErrorKind;
 use std::alloc::{AllocError, AllocFailed};
 use std::test::Fail;
 

@@ -3,7 +3,7 @@ use crate::devices::{Failure, SlowReader, SlowSink, SlowSource, SlowWriter};
 use cbor_edn::engine::{Command, Options, RunError, StdSink, StdSource, converted, run, serve};
 use cbor_edn::{CborError, InconsistentEdn, NESTING_LIMIT, ParseError};
 use cbor_edn_expect::failures::Failures;
-use cbor_edn_parts::error::ParseErrorKind;
+use cbor_edn_parts::base::error::ParseErrorKind;
 use std::alloc::{AllocError, Global};
 use std::test::Fail;
 

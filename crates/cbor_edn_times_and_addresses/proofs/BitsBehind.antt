@@ -4,7 +4,7 @@ use Rattle.std.proofs.lemmas.Bool.{not-true, and_parts, and_from, not_from_false
 use Rattle.std.proofs.lemmas.List.Elements.{All-nil, All-cons, All-head, All-tail}
 use Rattle.std.proofs.lemmas.Nat.{mod-pow-add}
 use lib.Pow.{pow_pos}
-use Rattle.cbor_edn_parts.specs.Contents.{bits_of, joined_bits}
+use Rattle.cbor_edn_parts.specs.string.Contents.{bits_of, joined_bits}
 use Rattle.cbor_edn_times_and_addresses.specs.Address.{IsZeroBehind}
 use Rattle.cbor_edn_times_and_addresses.specs.internal.AddressReading.{is_zero_behind}
 

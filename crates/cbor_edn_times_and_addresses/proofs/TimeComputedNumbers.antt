@@ -7,7 +7,7 @@ use Rattle.std.specs.Str.Parse.{AllDigits}
 use Rattle.std.proofs.lemmas.Str.Parse.{digit_at}
 use Rattle.jiff_core.proofs.SignedLemmas.{signed_arith}
 use Rattle.cbor_edn_times_and_addresses.specs.Time.{number, nanoseconds_of}
-use Rattle.cbor_edn_parts.specs.Number.{sign_text, signed}
+use Rattle.cbor_edn_parts.specs.number.Number.{sign_text, signed}
 use Rattle.cbor_edn_times_and_addresses.specs.TimeDecimal.{HasDecimal, IsNumberOf, integer}
 use Rattle.cbor_edn_times_and_addresses.specs.TimeLaws.{DecimalComputed, DecimalAnswered, WrittenComputed}
 use Rattle.cbor_edn_times_and_addresses.specs.internal.TimeWriting.{AreShortest}

@@ -7,7 +7,7 @@ use Rattle.std.proofs.Math.Nat.{pow-suc}
 use Rattle.jiff_core.proofs.SignedLemmas.{signed_arith, one_part}
 use Rattle.cbor_edn_times_and_addresses.specs.Time.{number}
 use Rattle.cbor_edn_parts.proofs.lemmas.number.Decimals.{value_is}
-use Rattle.cbor_edn_parts.specs.Number.{Sign, NoSign, PlusSign, MinusSign, sign_text, signed}
+use Rattle.cbor_edn_parts.specs.number.Number.{Sign, NoSign, PlusSign, MinusSign, sign_text, signed}
 use Rattle.cbor_edn_times_and_addresses.specs.TimeDecimal.{IsNumberOf, pointed}
 use Rattle.cbor_edn_times_and_addresses.specs.internal.TimeWriting.{padded, AreShortest, GetsFraction}
 use Rattle.cbor_edn_times_and_addresses.proofs.TimeDigits.{padded_are, padded_number, padded_more}

@@ -1,8 +1,8 @@
 -- The numbers of instants are number texts of the grammar.
 use Rattle.std.proofs.Common.{ℕ, ℤ, pos, negsuc, unsigned_abs, ◌<◌, ◌^◌, ◌≡◌, ◌≢◌, List, [], ◌∷◌, ◌++◌, append-nil, refl, sym, ap, ◌∙◌, arith}
 use Rattle.std.specs.Str.Parse.{AllDigits}
-use Rattle.cbor_edn_parts.specs.Space.{Each, end}
-use Rattle.cbor_edn_parts.specs.Number.{Decimal, IsDigitOf, AreDigits, IsMantissa, pointed, fraction, none, sign_text, HasInteger}
+use Rattle.cbor_edn_parts.specs.space.Space.{Each, end}
+use Rattle.cbor_edn_parts.specs.number.Number.{Decimal, IsDigitOf, AreDigits, IsMantissa, pointed, fraction, none, sign_text, HasInteger}
 use Rattle.cbor_edn_parts.proofs.lemmas.number.Decimals.{IsDecimal, integer_of_decimal}
 use Rattle.cbor_edn_parts.proofs.lemmas.number.NumberParts.{some_digits, integer_read}
 use Rattle.cbor_edn_times_and_addresses.specs.TimeDecimal as decimals

@@ -7,7 +7,7 @@ use Rattle.std.proofs.lemmas.List.{get_or_append_left}
 use Rattle.std.proofs.lemmas.Str.Parse.{digit_at}
 use Rattle.jiff_core.proofs.SignedLemmas.{signed_arith}
 use Rattle.cbor_edn_times_and_addresses.specs.Time.{number, nanoseconds_of, IsTimeStamp}
-use Rattle.cbor_edn_parts.specs.Number.{Sign, NoSign, PlusSign, MinusSign, sign_text, signed}
+use Rattle.cbor_edn_parts.specs.number.Number.{Sign, NoSign, PlusSign, MinusSign, sign_text, signed}
 use Rattle.cbor_edn_times_and_addresses.specs.TimeDecimal.{HasDecimal, IsOutOfRange}
 use Rattle.cbor_edn_parts.specs.internal.NumberReading.{sign_of, without_sign}
 use Rattle.cbor_edn_times_and_addresses.specs.internal.DecimalReading.{most_seconds, IsUnsigned, IsFirstPoint}

@@ -9,7 +9,7 @@ use Rattle.std.proofs.lemmas.Str.Parse.{digit_at}
 use Rattle.std.proofs.Math.Nat.{one-le-pow, pow-suc}
 use Rattle.jiff_core.proofs.SignedLemmas.{signed_arith}
 use Rattle.cbor_edn_times_and_addresses.specs.Time.{number, nanoseconds_of}
-use Rattle.cbor_edn_parts.specs.Number.{Sign, NoSign, PlusSign, MinusSign, signed}
+use Rattle.cbor_edn_parts.specs.number.Number.{Sign, NoSign, PlusSign, MinusSign, signed}
 use Rattle.cbor_edn_times_and_addresses.specs.TimeDecimal.{HasDecimal, IsNumberOf, integer, pointed}
 use Rattle.cbor_edn_times_and_addresses.specs.TimeLaws.{WrittenAs}
 use Rattle.cbor_edn_times_and_addresses.proofs.TimeDigits.{number-lt, number_more, same_digits, plain_digit}

@@ -5,7 +5,7 @@ use Rattle.std.specs.declared.net.ip_addr.IpAddr.TheVariants.{V4, V6}
 use Rattle.std.specs.Net.Addr.{ipv4_octets, ipv6_octets, segments_of}
 use Rattle.std.specs.Net.Grammar.{IsIpText, IsNumber}
 use Rattle.std.specs.Net.Text.{ip_text}
-use Rattle.cbor_edn_parts.specs.Contents.{joined_bits}
+use Rattle.cbor_edn_parts.specs.string.Contents.{joined_bits}
 use Rattle.cbor_edn_times_and_addresses.specs.declared.address.IpVersion.{IpVersion}
 use Rattle.cbor_edn_times_and_addresses.specs.declared.address.IpVersion.TheVariants as Version
 use Rattle.cbor_edn_times_and_addresses.specs.declared.address.AddressError.{AddressError}

@@ -2,7 +2,7 @@
 use Rattle.std.specs.Prelude.{ℕ, ℤ, pos, ◌+◌, ◌-◌, ◌*◌, ◌<◌, ◌≤◌, ◌≡◌, ◌≢◌, ◌+ℤ◌, ◌*ℤ◌, List, [], ◌∷◌, ◌++◌, length, slice_index}
 use Rattle.std.specs.Str.Parse.{AllDigits}
 use Rattle.std.specs.Fmt.{decimal, signed_decimal}
-use Rattle.cbor_edn_parts.specs.Number.{Sign, PlusSign, sign_text, signed}
+use Rattle.cbor_edn_parts.specs.number.Number.{Sign, PlusSign, sign_text, signed}
 use Rattle.cbor_edn_times_and_addresses.specs.Time.{number, nanoseconds_of, IsTimeStamp}
 
 -- sign *DIGIT "." *9DIGIT, with a digit, as `-1.5`, `1.`, `.5`. The number is worth so many seconds and nanoseconds, exactly: `-1.5` is worth

@@ -1,6 +1,6 @@
 -- Laws of time texts.
 use Rattle.std.specs.Prelude.{ℕ, ℤ, ◌<◌, ◌^◌, ◌≡◌, ◌≢◌, ◌↔◌, unsigned_abs, List, Option, Some, IfSome, IsNone}
-use Rattle.cbor_edn_parts.specs.Number.{IsDecimalNumber, HasInteger}
+use Rattle.cbor_edn_parts.specs.number.Number.{IsDecimalNumber, HasInteger}
 use Rattle.cbor_edn_times_and_addresses.specs.Time.{HasInstant, IsTimeStamp, IsPrinted}
 use Rattle.cbor_edn_times_and_addresses.specs.TimeDecimal.{HasDecimal, IsNumberOf}
 use Rattle.cbor_edn_times_and_addresses.specs.internal.TimeComputing.{instant_of, decimal_of, time_text, instant_number}

@@ -1,6 +1,6 @@
 //! The items that address literals stand for.
 ghost use Rattle.std.specs.Prelude.{◌≡◌, ◌∷◌, [], ℕ, false, pos, map, List, Ok, Err, Some, None, IfOk, IfSome, IfNone, string_bytes};
-ghost use Rattle.cbor_edn_parts.specs.Refusals.{IfTold};
+ghost use Rattle.cbor_edn_parts.specs.base.Refusals.{IfTold};
 ghost use Rattle.cbor_edn_model.specs.visit.Seeking.{prefix_and_text};
 ghost use Rattle.cbor_edn_times_and_addresses.specs.Address.{version_of};
 ghost use Rattle.cbor_edn_model.specs.tree.Constructed.{comma_inside};
@@ -14,10 +14,10 @@ ghost use Rattle.cbor_edn_conversions.specs.Addresses.{address_item, address_of_
 ghost use Rattle.cbor_edn_application.specs.Acts.{ActsBy};
 
 use crate::reply::reply;
-use cbor_edn_conversions::steps::address_tag;
+use cbor_edn_conversions::addresses::address_tag;
 use cbor_edn_core::tree::Item;
-use cbor_edn_parts::error::{CallbackError, Fault};
-use cbor_edn_parts::policy::DelimiterPolicy;
+use cbor_edn_parts::base::error::{CallbackError, Fault};
+use cbor_edn_parts::space::policy::DelimiterPolicy;
 use cbor_edn_times_and_addresses::address::{IpVersion, read_address, shown_bytes};
 use std::alloc::{AllocError, Global};
 use std::net::IpAddr;

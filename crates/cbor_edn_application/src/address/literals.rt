@@ -1,6 +1,6 @@
 //! The texts of items that are addresses, and the literals of these texts.
 ghost use Rattle.std.specs.Prelude.{◌≡◌, ℕ, Bool, List, map, option_map, Option, Some, Ok, Err, Result, IfOk, string_bytes};
-ghost use Rattle.cbor_edn_parts.specs.Refusals.{IfTold};
+ghost use Rattle.cbor_edn_parts.specs.base.Refusals.{IfTold};
 ghost use Rattle.cbor_edn_model.specs.access.Accessed.{item_bytes, array_items};
 ghost use Rattle.cbor_edn_model.specs.tree.Trees.{Tree, OneItem};
 ghost use Rattle.cbor_edn_core.specs.access.Iterated.{items_left};
@@ -12,10 +12,10 @@ ghost use Rattle.cbor_edn_conversions.specs.Addresses.{refusal_message, whole_te
 
 use super::placing::{Placed, first_literal, whole_literal, with_first};
 use crate::integers::integer_of;
-use cbor_edn_conversions::steps::{NoAddress, prefix_text, whole_text};
+use cbor_edn_conversions::addresses::{NoAddress, prefix_text, whole_text};
 use cbor_edn_core::access::ArrayItems;
 use cbor_edn_core::tree::Item;
-use cbor_edn_parts::error::Fault;
+use cbor_edn_parts::base::error::Fault;
 use cbor_edn_times_and_addresses::address::IpVersion;
 use std::alloc::{AllocError, Global};
 

@@ -1,7 +1,7 @@
 //! Literals in the place of items, where what they stand for means the same bytes.
 ghost use Rattle.std.specs.Prelude.{◌≡◌, ℕ, ◌∷◌, true, false, List, Bool, Option, Some, Ok, Err, IfOk, IfErr, OnOk, unwrap_or};
-ghost use Rattle.cbor_edn_parts.specs.declared.indicator.Indicator.{Indicator};
-ghost use Rattle.cbor_edn_parts.specs.Refusals.{IfTold};
+ghost use Rattle.cbor_edn_parts.specs.declared.base.indicator.Indicator.{Indicator};
+ghost use Rattle.cbor_edn_parts.specs.base.Refusals.{IfTold};
 ghost use Rattle.cbor_edn_model.specs.access.Accessed.{array_items};
 ghost use Rattle.cbor_edn_model.specs.access.Paths.{at, with_at, with_item, at_standalone, with_at_standalone};
 ghost use Rattle.cbor_edn_model.specs.visit.Seeking.{number};
@@ -13,9 +13,9 @@ ghost use Rattle.cbor_edn_application.specs.Placing.{with_placed};
 
 use super::items::{address_item, in_tag};
 use crate::same::{encoding, mean_the_same};
-use cbor_edn_conversions::steps::address_tag;
+use cbor_edn_conversions::addresses::address_tag;
 use cbor_edn_core::tree::{Item, StandaloneItem};
-use cbor_edn_parts::error::Fault;
+use cbor_edn_parts::base::error::Fault;
 use cbor_edn_times_and_addresses::address::IpVersion;
 use std::alloc::{AllocError, Global};
 use std::mem;

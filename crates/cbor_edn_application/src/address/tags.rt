@@ -1,7 +1,7 @@
 //! Address literals in the place of tags.
 ghost use Rattle.std.specs.Prelude.{◌≡◌, true, Option, Some, None, Ok, Err, IfOk, IfSome, IfNone};
-ghost use Rattle.cbor_edn_parts.specs.declared.indicator.Indicator.{Indicator};
-ghost use Rattle.cbor_edn_parts.specs.Refusals.{IfTold};
+ghost use Rattle.cbor_edn_parts.specs.declared.base.indicator.Indicator.{Indicator};
+ghost use Rattle.cbor_edn_parts.specs.base.Refusals.{IfTold};
 ghost use Rattle.cbor_edn_model.specs.visit.Seeking.{number};
 ghost use Rattle.cbor_edn_model.specs.tree.Trees.{Tree, OneItem};
 ghost use Rattle.cbor_edn_core.specs.visit.Sought.{sought_answer};
@@ -15,9 +15,10 @@ use super::literals::placed_literal;
 use super::placing::{CHANGED_ENCODING, Placed, put};
 use crate::reply::refusal;
 use crate::tags::tag_indicator_and_content;
-use cbor_edn_conversions::steps::{address_tag, is_shortest};
+use cbor_edn_conversions::addresses::address_tag;
+use cbor_edn_conversions::indicators::is_shortest;
 use cbor_edn_core::tree::{Indicator, Item};
-use cbor_edn_parts::error::{CallbackError, Fault};
+use cbor_edn_parts::base::error::{CallbackError, Fault};
 use cbor_edn_times_and_addresses::address::IpVersion;
 use std::alloc::Global;
 

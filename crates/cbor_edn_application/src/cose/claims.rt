@@ -16,7 +16,7 @@ use crate::embedded::{is_array, is_structure};
 use crate::visits::annotate_claims;
 use cbor_edn_conversions::tables::{Part, Structure, parts};
 use cbor_edn_core::tree::{Item, StandaloneItem};
-use cbor_edn_parts::error::CallbackError;
+use cbor_edn_parts::base::error::CallbackError;
 use std::alloc::{AllocError, Global};
 
 /// Puts the comments of a claims set (RFC 8392) into the payload of a COSE message, and literals in the place of its times, as

@@ -13,7 +13,7 @@ use crate::integers::integer_of;
 use cbor_edn_conversions::tables::{KeyType, key_confirmation, key_parameter, key_type};
 use cbor_edn_core::tree::Item;
 use cbor_edn_core::visit::MapValueHandler;
-use cbor_edn_parts::error::CallbackError;
+use cbor_edn_parts::base::error::CallbackError;
 use std::alloc::{AllocError, Global};
 
 /// What is done with the value of the claim `cnf`: confirmation methods that have a key get their names, and the key its own.

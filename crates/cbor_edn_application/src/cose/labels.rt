@@ -15,7 +15,7 @@ use crate::integers::integer_of;
 use cbor_edn_conversions::tables::{NamedNumber, cose_algorithm, curve, header, key_type};
 use cbor_edn_core::tree::Item;
 use cbor_edn_core::visit::MapValueHandler;
-use cbor_edn_parts::error::CallbackError;
+use cbor_edn_parts::base::error::CallbackError;
 use std::alloc::Global;
 
 /// What is done with the value of a label: a number of this kind gets its name as a comment, as `ES256` of the algorithm -7.

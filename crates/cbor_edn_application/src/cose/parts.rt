@@ -16,7 +16,7 @@ use crate::embedded::is_structure;
 use cbor_edn_conversions::tables::{Part, Structure, part_name, parts};
 use cbor_edn_core::access::TypeMismatch;
 use cbor_edn_core::tree::{Item, StandaloneItem};
-use cbor_edn_parts::error::{CallbackError, Fault};
+use cbor_edn_parts::base::error::{CallbackError, Fault};
 use std::alloc::{AllocError, Global};
 use std::mem;
 

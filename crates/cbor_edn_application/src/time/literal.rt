@@ -1,6 +1,6 @@
 //! The literals of the times that numbers stand for.
 ghost use Rattle.std.specs.Prelude.{◌≡◌, IfOk, IfErr};
-ghost use Rattle.cbor_edn_parts.specs.Literal.{IsPrefix};
+ghost use Rattle.cbor_edn_parts.specs.string.Literal.{IsPrefix};
 ghost use Rattle.cbor_edn_core.specs.tree.View.{item_tree};
 ghost use Rattle.cbor_edn_times_and_addresses.specs.Time.{IsTimeStamp};
 ghost use Rattle.cbor_edn_times_and_addresses.specs.internal.TimeComputing.{time_text};
@@ -8,10 +8,10 @@ ghost use Rattle.cbor_edn_conversions.specs.Conversions.{argument, literal_tree}
 ghost use Rattle.cbor_edn_conversions.specs.Times.{time_prefix, time_literal};
 ghost use Rattle.cbor_edn_application.specs.TimeSteps.{BecomesTime, StaysFor, integer_literal, decimal_literal, not_time_message};
 
-use cbor_edn_conversions::steps::is_shortest;
+use cbor_edn_conversions::indicators::is_shortest;
 use cbor_edn_core::access::TypeMismatch;
 use cbor_edn_core::tree::{Indicator, Item};
-use cbor_edn_parts::error::Fault;
+use cbor_edn_parts::base::error::Fault;
 use cbor_edn_times_and_addresses::time::{
     Instant, NotTime, printed_time, read_decimal, read_integer,
 };

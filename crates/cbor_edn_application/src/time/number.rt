@@ -1,6 +1,6 @@
 //! The numbers that time literals stand for.
 ghost use Rattle.std.specs.Prelude.{◌≡◌, Ok, Err, IfOk, None};
-ghost use Rattle.cbor_edn_parts.specs.Refusals.{IfTold};
+ghost use Rattle.cbor_edn_parts.specs.base.Refusals.{IfTold};
 ghost use Rattle.cbor_edn_model.specs.tree.Trees.{NumberTree};
 ghost use Rattle.cbor_edn_core.specs.tree.View.{item_tree};
 ghost use Rattle.cbor_edn_times_and_addresses.specs.internal.TimeComputing.{instant_number};
@@ -8,7 +8,7 @@ ghost use Rattle.cbor_edn_conversions.specs.Conversions.{in_tag};
 ghost use Rattle.cbor_edn_conversions.specs.Times.{time_item};
 
 use cbor_edn_core::tree::Item;
-use cbor_edn_parts::error::Fault;
+use cbor_edn_parts::base::error::Fault;
 use cbor_edn_times_and_addresses::time::{Instant, number_text, read_time};
 use std::alloc::{AllocError, Global};
 

@@ -1,7 +1,7 @@
 -- The literal of an address stands for what the item in its tag means.
 use Rattle.std.proofs.Common.{ℕ, ℤ, pos, negsuc, ◌<◌, ◌≤◌, ◌*◌, ◌≡◌, ◌==◌, Bool, true, false, cond, nat_lt, List, [], ◌∷◌, length, map, All, Option, Some, None, Result, Ok, Err, refl, sym, ap, ◌∙◌, subst, arith}
 use Rattle.std.proofs.lemmas.Bool.{ltb-false, eqb-true}
-use Rattle.cbor_edn_parts.specs.declared.indicator.Indicator.{Indicator}
+use Rattle.cbor_edn_parts.specs.declared.base.indicator.Indicator.{Indicator}
 use Rattle.cbor_edn_model.specs.access.Accessed.{item_bytes, array_items, entries_inside, element}
 use Rattle.cbor_edn_model.specs.tree.Items.{Elements, Array, Map, Tagged}
 use Rattle.cbor_edn_model.specs.cbor.Meaning.{means, width_of, listed}

@@ -1,6 +1,6 @@
 -- What one call does to what an item means, by its conversion.
 use Rattle.std.proofs.Common.{ℕ, ◌≡◌, Bool, true, false, cond, Option, Some, None, Ok, Err, refl, ap, ◌∙◌}
-use Rattle.cbor_edn_parts.specs.declared.indicator.Indicator.{Indicator}
+use Rattle.cbor_edn_parts.specs.declared.base.indicator.Indicator.{Indicator}
 use Rattle.cbor_edn_model.specs.declared.text.opener.OpenerKind.TheVariants as opener
 use Rattle.cbor_edn_model.specs.tree.Items.{Item, Node, Tagged}
 use Rattle.cbor_edn_model.specs.cbor.Meaning.{◌>>=◌, width_of}

@@ -5,9 +5,9 @@ use Rattle.std.specs.List.{list_all}
 use Rattle.std.proofs.lemmas.Bool.{false≢true}
 use Rattle.std.proofs.lemmas.List.{append_cancel_left, append_cancel_right}
 use Rattle.std.proofs.lemmas.List.Folds.{list_all-append}
-use Rattle.cbor_edn_parts.specs.declared.indicator.Indicator.{Indicator}
+use Rattle.cbor_edn_parts.specs.declared.base.indicator.Indicator.{Indicator}
 use Rattle.cbor_edn_parts.specs.internal.ContentReading.{same}
-use Rattle.cbor_edn_parts.proofs.lemmas.literal.LiteralPrefixes.{same-found, differ}
+use Rattle.cbor_edn_parts.proofs.lemmas.string.LiteralPrefixes.{same-found, differ}
 use Rattle.cbor_edn_model.specs.declared.cbor.heads.Width.{Width}
 use Rattle.cbor_edn_model.specs.declared.cbor.heads.Width.TheVariants.{One}
 use Rattle.cbor_edn_model.specs.access.Accessed.{array_items, entries_inside, element}

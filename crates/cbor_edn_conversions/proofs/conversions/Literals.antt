@@ -1,11 +1,11 @@
 -- The literals of times and addresses, and the values that the resolvers give them.
 use Rattle.std.proofs.Common.{ℕ, ◌<◌, ◌≡◌, Bool, true, false, List, codes, All, Option, Some, None, Ok, refl, ap, ◌∙◌}
-use Rattle.cbor_edn_parts.specs.declared.indicator.Indicator.{Indicator}
-use Rattle.cbor_edn_parts.specs.Literal.{IsPrefix, Prefixed, IsLiteral}
+use Rattle.cbor_edn_parts.specs.declared.base.indicator.Indicator.{Indicator}
+use Rattle.cbor_edn_parts.specs.string.Literal.{IsPrefix, Prefixed, IsLiteral}
 use Rattle.cbor_edn_parts.specs.Written.{application_literal}
 use Rattle.cbor_edn_parts.specs.internal.ContentReading.{is_supported_prefix, literal_content}
-use Rattle.cbor_edn_parts.proofs.lemmas.literal.PrefixTests.{prefix_test}
-use Rattle.cbor_edn_parts.proofs.lemmas.literal.WrittenLiterals.{application_is}
+use Rattle.cbor_edn_parts.proofs.lemmas.string.PrefixTests.{prefix_test}
+use Rattle.cbor_edn_parts.proofs.lemmas.string.WrittenLiterals.{application_is}
 use Rattle.cbor_edn_model.specs.cbor.Meaning.{◌>>=◌, means, string_of}
 use Rattle.cbor_edn_model.specs.tree.Trees.{Tree, OneItem, items}
 use Rattle.cbor_edn_model.specs.cbor.Value.{Value}

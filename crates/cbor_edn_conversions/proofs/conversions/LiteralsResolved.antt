@@ -1,16 +1,16 @@
 -- What literals become means what they stood for.
 use Rattle.std.proofs.Common.{ℕ, ◌≡◌, ◌⊎◌, inl, inr, Bool, true, false, cond, ◌&&◌, not, List, Option, Some, None, Ok, Err, refl, sym, ap, ◌∙◌, subst}
 use Rattle.std.proofs.lemmas.Bool.{cases_Bool}
-use Rattle.cbor_edn_parts.specs.declared.indicator.Indicator.{Indicator}
+use Rattle.cbor_edn_parts.specs.declared.base.indicator.Indicator.{Indicator}
 use Rattle.cbor_edn_parts.specs.declared.string.Quote.TheVariants as quotes
 use Rattle.cbor_edn_parts.specs.declared.string.QuotedState.TheVariants as part
-use Rattle.cbor_edn_parts.specs.Literal.{Prefixed, IsLiteral}
+use Rattle.cbor_edn_parts.specs.string.Literal.{Prefixed, IsLiteral}
 use Rattle.cbor_edn_parts.specs.internal.ContentReading.{same, is_supported_prefix, is_supported, behind_quote, literal_content}
 use Rattle.cbor_edn_parts.specs.internal.LiteralTokens.{is_literal, prefix_of, decoded}
-use Rattle.cbor_edn_parts.proofs.lemmas.literal.Applications.{one_application, prefixed_read, unprefixed_read}
-use Rattle.cbor_edn_parts.proofs.lemmas.literal.LiteralTexts.{literal_test}
-use Rattle.cbor_edn_parts.proofs.lemmas.literal.LiteralContents.{content_is, content_of}
-use Rattle.cbor_edn_parts.proofs.lemmas.literal.LiteralPrefixes.{same-found}
+use Rattle.cbor_edn_parts.proofs.lemmas.string.Applications.{one_application, prefixed_read, unprefixed_read}
+use Rattle.cbor_edn_parts.proofs.lemmas.string.LiteralTexts.{literal_test}
+use Rattle.cbor_edn_parts.proofs.lemmas.string.LiteralContents.{content_is, content_of}
+use Rattle.cbor_edn_parts.proofs.lemmas.string.LiteralPrefixes.{same-found}
 use Rattle.cbor_edn_model.specs.tree.Items.{Item, Node, Number, Float, Listed, Tagged, Named, Simple, String, Stream, LastPiece, Plus, Literal, Ellipsis, Embedded}
 use Rattle.cbor_edn_model.specs.cbor.Meaning.{◌>>=◌, means, string_of}
 use Rattle.cbor_edn_model.specs.visit.Seeking.{CallArguments, number, prefix_and_text, IsApplication}

@@ -5,14 +5,14 @@ use Rattle.cbor_edn_parts.specs.declared.string.Quote.TheVariants as quotes
 use Rattle.cbor_edn_parts.specs.declared.string.QuotedState.TheVariants as part
 use Rattle.cbor_edn_parts.specs.declared.string.StringKind.{StringKind}
 use Rattle.cbor_edn_parts.specs.declared.string.StringKind.TheVariants.{Bytes}
-use Rattle.cbor_edn_parts.specs.Contents.{Content, HasContent, double_quoted, single_quoted, behind_h, behind_b64, behind_b32, behind_h32, IsHexPairs, end, unended, pair}
-use Rattle.cbor_edn_parts.specs.Literal.{Prefixed, Single, IsLiteral}
+use Rattle.cbor_edn_parts.specs.string.Contents.{Content, HasContent, double_quoted, single_quoted, behind_h, behind_b64, behind_b32, behind_h32, IsHexPairs, end, unended, pair}
+use Rattle.cbor_edn_parts.specs.string.Literal.{Prefixed, Single, IsLiteral}
 use Rattle.cbor_edn_parts.specs.internal.ContentReading.{literal_content, prefixed_bytes, of_bytes, behind_quote}
 use Rattle.cbor_edn_parts.specs.internal.LiteralTokens.{is_literal, prefix_of, decoded}
-use Rattle.cbor_edn_parts.proofs.lemmas.literal.Applications.{prefixed_read, unprefixed_read, one_application}
-use Rattle.cbor_edn_parts.proofs.lemmas.literal.ContentTexts.{content_read, content_reads}
-use Rattle.cbor_edn_parts.proofs.lemmas.literal.LiteralContents.{content_is}
-use Rattle.cbor_edn_parts.proofs.lemmas.literal.LiteralTexts.{literal_test}
+use Rattle.cbor_edn_parts.proofs.lemmas.string.Applications.{prefixed_read, unprefixed_read, one_application}
+use Rattle.cbor_edn_parts.proofs.lemmas.string.ContentTexts.{content_read, content_reads}
+use Rattle.cbor_edn_parts.proofs.lemmas.string.LiteralContents.{content_is}
+use Rattle.cbor_edn_parts.proofs.lemmas.string.LiteralTexts.{literal_test}
 use Rattle.cbor_edn_model.specs.cbor.Value.{AreBytes}
 use Rattle.cbor_edn_model.proofs.lemmas.cbor.MeaningSteps.{some_is}
 use Rattle.cbor_edn_conversions.specs.EmbeddedItems.{bytes_behind_prefix}

@@ -1,9 +1,9 @@
 -- What a call makes of a literal, by its bytes, as functions over trees compute it.
 use Rattle.std.proofs.Common.{ℕ, zero, suc, ◌-◌, ◌≡◌, ◌≢◌, ◌⊎◌, inl, inr, List, [], ◌∷◌, ◌++◌, Option, Some, None, refl, sym, ap, ◌∙◌, subst, append-nil, arith}
-use Rattle.cbor_edn_parts.specs.declared.indicator.Indicator.{Indicator}
-use Rattle.cbor_edn_parts.specs.Literal.{Prefixed, IsLiteral}
+use Rattle.cbor_edn_parts.specs.declared.base.indicator.Indicator.{Indicator}
+use Rattle.cbor_edn_parts.specs.string.Literal.{Prefixed, IsLiteral}
 use Rattle.cbor_edn_parts.specs.internal.ContentReading.{literal_content, prefixed_bytes, of_bytes}
-use Rattle.cbor_edn_parts.proofs.lemmas.literal.LiteralContents.{content_is}
+use Rattle.cbor_edn_parts.proofs.lemmas.string.LiteralContents.{content_is}
 use Rattle.cbor_edn_model.specs.access.Accessed.{only_bytes, both_joined, item_bytes, IsApplicationPiece}
 use Rattle.cbor_edn_model.specs.cbor.Meaning.{means}
 use Rattle.cbor_edn_model.specs.tree.Items.{nesting}

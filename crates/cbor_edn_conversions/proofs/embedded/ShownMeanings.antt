@@ -1,9 +1,9 @@
 -- Items of which literals are shown mean what they meant.
 use Rattle.std.proofs.Common.{ℕ, zero, suc, ◌-◌, ◌≡◌, List, [], ◌∷◌, ◌++◌, Option, Some, None, All, refl, sym, ap, ◌∙◌, append-nil}
 use Rattle.std.proofs.lemmas.List.Elements.{All-weaker}
-use Rattle.cbor_edn_parts.specs.declared.indicator.Indicator.{Indicator}
+use Rattle.cbor_edn_parts.specs.declared.base.indicator.Indicator.{Indicator}
 use Rattle.cbor_edn_parts.specs.declared.string.StringKind.TheVariants.{Bytes}
-use Rattle.cbor_edn_parts.specs.Contents.{Content}
+use Rattle.cbor_edn_parts.specs.string.Contents.{Content}
 use Rattle.cbor_edn_parts.specs.internal.ContentReading.{literal_content}
 use Rattle.cbor_edn_model.specs.cbor.Meaning.{means, string_of}
 use Rattle.cbor_edn_model.specs.cbor.Value.{Value, no_values, value, encoding, encodings}

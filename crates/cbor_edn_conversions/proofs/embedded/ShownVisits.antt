@@ -1,8 +1,8 @@
 -- A whole visit whose calls show literals leaves each item that is one literal as it is shown.
 use Rattle.std.proofs.Common.{ℕ, zero, suc, ◌<◌, ◌≤◌, ◌≡◌, ◌⊎◌, inl, inr, List, [], ◌∷◌, Option, Some, None, All, refl, sym, ap, ◌∙◌, subst, arith}
 use Rattle.std.proofs.lemmas.List.Elements.{All-head, All-tail}
-use Rattle.cbor_edn_parts.specs.declared.indicator.Indicator.{Indicator}
-use Rattle.cbor_edn_parts.specs.Literal.{Prefixed, IsLiteral}
+use Rattle.cbor_edn_parts.specs.declared.base.indicator.Indicator.{Indicator}
+use Rattle.cbor_edn_parts.specs.string.Literal.{Prefixed, IsLiteral}
 use Rattle.cbor_edn_model.specs.access.Accessed.{IsApplicationPiece}
 use Rattle.cbor_edn_model.specs.declared.text.opener.OpenerKind.TheVariants as opener
 use Rattle.cbor_edn_model.specs.tree.Items.{Row}

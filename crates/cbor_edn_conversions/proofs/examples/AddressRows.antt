@@ -4,7 +4,7 @@ use Rattle.std.specs.Net.Reader.{read_ipv4, read_octet, read_number, read_ipv6, 
 use Rattle.std.specs.Net.Text.{ipv6_text, hex_groups_text}
 use Rattle.hex.specs.Hex.{encode_with}
 use Rattle.std.proofs.Common.{ℕ, codes, false, List, [], None, Some, Ok, ◌≡◌, refl}
-use Rattle.cbor_edn_parts.specs.declared.indicator.Indicator.TheVariants as indicator
+use Rattle.cbor_edn_parts.specs.declared.base.indicator.Indicator.TheVariants as indicator
 use Rattle.cbor_edn_parts.specs.internal.NumberReading.{integer_of}
 use Rattle.cbor_edn_parts.specs.internal.ContentReading.{hex_bytes, base_bytes}
 use Rattle.cbor_edn_parts.specs.internal.LiteralTokens.{decoded, prefix_of, quoted_of}

@@ -1,7 +1,7 @@
 -- Worked examples of tag 999, of the comments of tag 38, and of claims sets.
 use Rattle.std.specs.Fmt.{digits}
 use Rattle.std.proofs.Common.{ℕ, codes, List, [], ◌∷◌, None, ◌≡◌, refl, length}
-use Rattle.cbor_edn_parts.specs.Notes.{noted, hash_lines}
+use Rattle.cbor_edn_parts.specs.space.Notes.{noted, hash_lines}
 use Rattle.cbor_edn_parts.specs.internal.NumberReading.{integer_of}
 use Rattle.cbor_edn_model.specs.declared.text.keyword.NamedSimple.TheVariants.{True, False, Null, Undefined}
 use Rattle.cbor_edn_model.specs.tree.Items.{Elements, Pairs, Array, Map}

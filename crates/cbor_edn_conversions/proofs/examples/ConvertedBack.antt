@@ -9,7 +9,7 @@ use Rattle.cbor_edn_parts.specs.internal.ContentReading.{hex_bytes}
 use Rattle.cbor_edn_parts.specs.internal.LiteralTokens.{decoded, prefix_of, quoted_of}
 use Rattle.cbor_edn_parts.specs.declared.string.StringKind.TheVariants.{Bytes}
 use Rattle.cbor_edn_parts.specs.Written.{application_literal}
-use Rattle.cbor_edn_parts.proofs.lemmas.literal.WrittenLiterals.{application_is}
+use Rattle.cbor_edn_parts.proofs.lemmas.string.WrittenLiterals.{application_is}
 use Rattle.cbor_edn_model.specs.cbor.Decoded.{alone}
 use Rattle.cbor_edn_model.specs.visit.Depth.{depth}
 use Rattle.cbor_edn_model.specs.declared.cbor.heads.Width.TheVariants.{Immediate, One}

@@ -1,9 +1,9 @@
 -- `9(true)`, replaced by the literal `x''` and back.
 use Rattle.std.proofs.Common.{ℕ, ◌≡◌, cond, List, [], ◌∷◌, Option, Some, None, refl, ◌∙◌, arith, lit<, lit≤, inl}
 use Rattle.std.proofs.lemmas.List.Elements.{All-nil, All-cons}
-use Rattle.cbor_edn_parts.specs.Literal as literals
-use Rattle.cbor_edn_parts.specs.Literal.{Prefixed, IsLiteral}
-use Rattle.cbor_edn_parts.specs.Space as space
+use Rattle.cbor_edn_parts.specs.string.Literal as literals
+use Rattle.cbor_edn_parts.specs.string.Literal.{Prefixed, IsLiteral}
+use Rattle.cbor_edn_parts.specs.space.Space as space
 use Rattle.cbor_edn_parts.specs.internal.ContentReading.{same}
 use Rattle.cbor_edn_model.specs.cbor.Decoded.{alone}
 use Rattle.cbor_edn_model.specs.visit.Depth.{depth}

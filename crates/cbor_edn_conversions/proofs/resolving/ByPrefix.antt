@@ -1,15 +1,15 @@
 -- Resolvers by prefix and text give values to literals with a prefix that says no content alone.
 use Rattle.std.proofs.Common.{ℕ, ◌≡◌, ◌≢◌, Bool, true, false, cond, not, ◌&&◌, ◌||◌, List, [], Option, Some, None, refl, ap, ◌∙◌}
-use Rattle.cbor_edn_parts.specs.declared.indicator.Indicator.{Indicator}
+use Rattle.cbor_edn_parts.specs.declared.base.indicator.Indicator.{Indicator}
 use Rattle.cbor_edn_parts.specs.declared.string.Quote.TheVariants as quotes
 use Rattle.cbor_edn_parts.specs.declared.string.QuotedState.TheVariants as part
-use Rattle.cbor_edn_parts.specs.Contents.{h, b64, b32, h32}
-use Rattle.cbor_edn_parts.specs.Literal.{Prefixed, IsLiteral}
+use Rattle.cbor_edn_parts.specs.string.Contents.{h, b64, b32, h32}
+use Rattle.cbor_edn_parts.specs.string.Literal.{Prefixed, IsLiteral}
 use Rattle.cbor_edn_parts.specs.internal.ContentReading.{same, of_bytes, prefixed_bytes, is_decoded, is_supported_prefix, is_supported, behind_quote}
 use Rattle.cbor_edn_parts.specs.internal.LiteralTokens.{is_literal, prefix_of, decoded}
-use Rattle.cbor_edn_parts.proofs.lemmas.literal.Applications.{one_application, prefixed_read, unprefixed_read}
-use Rattle.cbor_edn_parts.proofs.lemmas.literal.LiteralTexts.{literal_test}
-use Rattle.cbor_edn_parts.proofs.lemmas.literal.LiteralPrefixes.{prefixed_content}
+use Rattle.cbor_edn_parts.proofs.lemmas.string.Applications.{one_application, prefixed_read, unprefixed_read}
+use Rattle.cbor_edn_parts.proofs.lemmas.string.LiteralTexts.{literal_test}
+use Rattle.cbor_edn_parts.proofs.lemmas.string.LiteralPrefixes.{prefixed_content}
 use Rattle.cbor_edn_model.specs.cbor.Value.{Value}
 use Rattle.cbor_edn_conversions.specs.Resolving.{by_prefix, ResolvesApplications, ResolvesNoContent}
 

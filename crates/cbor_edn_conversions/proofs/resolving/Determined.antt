@@ -1,7 +1,7 @@
 -- A whole visit whose calls have one answer each has one result.
 use Rattle.std.proofs.Common.{ℕ, ◌≡◌, ◌≤◌, ◌<◌, List, [], ◌∷◌, ◌++◌, Option, Some, All, refl, sym, ap, ◌∙◌, subst, arith}
 use Rattle.std.proofs.lemmas.List.Elements.{All-head, All-tail}
-use Rattle.cbor_edn_parts.proofs.lemmas.literal.Applications.{one_application}
+use Rattle.cbor_edn_parts.proofs.lemmas.string.Applications.{one_application}
 use Rattle.cbor_edn_model.specs.access.Accessed.{IsApplicationPiece}
 use Rattle.cbor_edn_model.specs.declared.text.opener.OpenerKind.TheVariants as opener
 use Rattle.cbor_edn_model.specs.visit.Depth.{depth}

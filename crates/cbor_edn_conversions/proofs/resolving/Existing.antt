@@ -2,11 +2,11 @@
 use Rattle.std.proofs.Common.{ℕ, zero, suc, ◌<◌, ◌≤◌, ◌≡◌, ◌≢◌, ◌⊎◌, inl, inr, ◌↔◌, Bool, true, false, max, List, [], ◌∷◌, ◌++◌, Option, All, refl, arith}
 use Rattle.std.proofs.lemmas.Bool.{cases_lt}
 use Rattle.std.proofs.lemmas.List.Elements.{All-nil, All-cons, All-append}
-use Rattle.cbor_edn_parts.specs.declared.indicator.Indicator.{Indicator}
+use Rattle.cbor_edn_parts.specs.declared.base.indicator.Indicator.{Indicator}
 use Rattle.cbor_edn_parts.specs.internal.LiteralTokens.{is_literal, prefix_of}
-use Rattle.cbor_edn_parts.specs.Literal.{Prefixed, IsLiteral}
-use Rattle.cbor_edn_parts.proofs.lemmas.literal.Applications.{prefixed_read, unprefixed_read}
-use Rattle.cbor_edn_parts.proofs.lemmas.literal.LiteralTexts.{literal_test}
+use Rattle.cbor_edn_parts.specs.string.Literal.{Prefixed, IsLiteral}
+use Rattle.cbor_edn_parts.proofs.lemmas.string.Applications.{prefixed_read, unprefixed_read}
+use Rattle.cbor_edn_parts.proofs.lemmas.string.LiteralTexts.{literal_test}
 use Rattle.cbor_edn_model.specs.declared.text.opener.OpenerKind.TheVariants as opener
 use Rattle.cbor_edn_model.specs.visit.Depth.{depth}
 use Rattle.cbor_edn_model.specs.tree.Items.{Row, Elements, Pairs, Strings, Bracketed, Array, Map, entries_of, Item, Node, Tagged, String, Literal, Ellipsis, Embedded, LastPiece, Plus}

@@ -1,6 +1,6 @@
 -- A visit of items has one result where each call has one.
 use Rattle.std.proofs.Common.{◌≡◌, ◌≤◌, ◌<◌, refl, sym, ap, ◌∙◌, subst, arith}
-use Rattle.cbor_edn_parts.proofs.lemmas.literal.Applications.{one_application}
+use Rattle.cbor_edn_parts.proofs.lemmas.string.Applications.{one_application}
 use Rattle.cbor_edn_model.specs.tree.Items.{Elements, Strings, Sort, Item, Piece, Pieces, Entry, Entries, entries_of, Node, Number, Float, Listed, Tagged, Named, Simple, String, Stream, Literal, Ellipsis, Embedded, LastPiece, Plus, Element, Pair, Chunk, End, Then}
 use Rattle.cbor_edn_model.specs.visit.Seeking as arguments
 use Rattle.cbor_edn_model.specs.visit.Seeking.{CallArguments}

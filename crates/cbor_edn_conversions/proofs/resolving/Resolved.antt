@@ -1,14 +1,14 @@
 -- What items mean by resolvers: by none, by two that agree, and the items of values.
 use Rattle.std.proofs.Common.{ℕ, ◌≡◌, Bool, true, false, cond, eqb, List, [], ◌∷◌, ◌++◌, Option, Some, None, refl, sym, ap, ◌∙◌}
-use Rattle.cbor_edn_parts.specs.declared.indicator.Indicator.{Indicator}
+use Rattle.cbor_edn_parts.specs.declared.base.indicator.Indicator.{Indicator}
 use Rattle.cbor_edn_parts.specs.declared.string.StringKind.{StringKind}
 use Rattle.cbor_edn_parts.specs.declared.string.StringKind.TheVariants.{Bytes, Text}
-use Rattle.cbor_edn_parts.specs.Contents.{h, kind_literal, empty_literal, hex_literal}
-use Rattle.cbor_edn_parts.specs.Literal.{Prefixed, IsLiteral, single_quote}
+use Rattle.cbor_edn_parts.specs.string.Contents.{h, kind_literal, empty_literal, hex_literal}
+use Rattle.cbor_edn_parts.specs.string.Literal.{Prefixed, IsLiteral, single_quote}
 use Rattle.cbor_edn_parts.specs.internal.ContentReading.{literal_content}
 use Rattle.cbor_edn_parts.specs.internal.LiteralTokens.{prefix_of}
-use Rattle.cbor_edn_parts.proofs.lemmas.literal.Applications.{unprefixed_read}
-use Rattle.cbor_edn_parts.proofs.lemmas.literal.LiteralContents.{prefix_plain, prefix_named}
+use Rattle.cbor_edn_parts.proofs.lemmas.string.Applications.{unprefixed_read}
+use Rattle.cbor_edn_parts.proofs.lemmas.string.LiteralContents.{prefix_plain, prefix_named}
 use Rattle.cbor_edn_model.specs.cbor.Decoded as decoded
 use Rattle.cbor_edn_model.specs.cbor.Decoded.{indicator_of, list_indicator, item_of, items_of, chunk_items, simple_item}
 use Rattle.cbor_edn_model.specs.tree.Items as kind

@@ -1,7 +1,7 @@
 -- The laws.
 use Rattle.std.proofs.Common.{ℕ, ◌≡◌, List, Option, Some, None, All, ◌↔◌, refl, sym, ap, ◌∙◌, subst}
 use Rattle.std.proofs.lemmas.List.Elements.{All-nil, All-cons}
-use Rattle.cbor_edn_parts.specs.declared.indicator.Indicator.{Indicator}
+use Rattle.cbor_edn_parts.specs.declared.base.indicator.Indicator.{Indicator}
 use Rattle.cbor_edn_model.specs.cbor.Decoded.{item_of, items_of}
 use Rattle.cbor_edn_model.specs.tree.Items as kind
 use Rattle.cbor_edn_model.specs.tree.Items.{Item, Items, Node, Literal, LastPiece, Entries, Elements}
@@ -11,7 +11,7 @@ use Rattle.cbor_edn_model.specs.cbor.Value.{Value, Values, Fits, ValuesFit}
 use Rattle.cbor_edn_model.specs.visit.Visits.{Answer, Ending, whole, Chain, no_calls, one_call}
 use Rattle.cbor_edn_model.proofs.lemmas.cbor.Decoding.{item_means, items_mean}
 use Rattle.cbor_edn_model.proofs.lemmas.cbor.MeaningSteps.{bind}
-use Rattle.cbor_edn_parts.specs.Contents.{h}
+use Rattle.cbor_edn_parts.specs.string.Contents.{h}
 use Rattle.cbor_edn_parts.specs.internal.ContentReading.{literal_content}
 use Rattle.cbor_edn_model.specs.cbor.Meaning.{means, string_of}
 use Rattle.cbor_edn_conversions.specs.Resolving.{Resolver, or_else, no_resolver, either, means_by, IsUnprefixed, DifferAtPrefixes, ResolvesApplications, ResolvesNoContent, Turns, AnswersBy}

@@ -1,11 +1,11 @@
 -- How a result of the parser stands to what the reader on lists gives.
 use Rattle.std.specs.Prelude.{ℕ, ◌+◌, ◌*◌, ◌≡◌, ◌≢◌, ◌≤◌, ◌<◌, true, false, cond, List, [], ◌∷◌, ◌++◌, length, drop, Result, Ok, Err}
 use Rattle.std.specs.Str.{IsCharBoundary}
-use Rattle.cbor_edn_parts.specs.declared.error.ParseErrorKind.{ParseErrorKind}
-use Rattle.cbor_edn_parts.specs.declared.error.Refusal.{Refusal}
-use Rattle.cbor_edn_parts.specs.declared.error.Fault.{Fault}
-use Rattle.cbor_edn_parts.specs.declared.error.Fault.TheVariants.{Memory, Told}
-use Rattle.cbor_edn_parts.specs.Bytes.{is_closed}
+use Rattle.cbor_edn_parts.specs.declared.base.error.ParseErrorKind.{ParseErrorKind}
+use Rattle.cbor_edn_parts.specs.declared.base.error.Refusal.{Refusal}
+use Rattle.cbor_edn_parts.specs.declared.base.error.Fault.{Fault}
+use Rattle.cbor_edn_parts.specs.declared.base.error.Fault.TheVariants.{Memory, Told}
+use Rattle.cbor_edn_parts.specs.base.Bytes.{is_closed}
 use Rattle.cbor_edn_parts.specs.Leaves.{separator_bytes, list_end_bytes, BorrowsSeparator, BorrowsListEnd}
 use Rattle.cbor_edn_parts.specs.declared.space.Separator.{Separator}
 use Rattle.cbor_edn_parts.specs.declared.space.ListEnd.{ListEnd}

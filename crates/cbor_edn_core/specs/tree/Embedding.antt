@@ -1,6 +1,6 @@
 -- Embedded sequences, and the encoding indicators of literals.
 use Rattle.std.specs.Prelude.{Option, Some, None}
-use Rattle.cbor_edn_parts.specs.declared.indicator.Indicator.{Indicator}
+use Rattle.cbor_edn_parts.specs.declared.base.indicator.Indicator.{Indicator}
 use Rattle.cbor_edn_model.specs.tree.Trees.{Tree, OneItem, OnePiece, OneString, Seq, StringTree, LastPieceTree, LiteralTree, EmbeddedTree}
 
 -- a string of one embedded sequence: `<<1, 2>>_0`

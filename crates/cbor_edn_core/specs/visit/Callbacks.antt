@@ -5,10 +5,10 @@ use Rattle.std.specs.Borrow.{MutBor}
 use Rattle.std.specs.Fn.{Mut, CalledAtMut}
 use Rattle.std.specs.declared.string.String.{String}
 use Rattle.std.specs.declared.alloc.Global.{Global}
-use Rattle.cbor_edn_parts.specs.declared.error.Fault.{Fault}
-use Rattle.cbor_edn_parts.specs.declared.error.Fault.TheVariants as fault
-use Rattle.cbor_edn_parts.specs.declared.error.CallbackError.{CallbackError}
-use Rattle.cbor_edn_parts.specs.declared.error.CallbackError.TheVariants as error
+use Rattle.cbor_edn_parts.specs.declared.base.error.Fault.{Fault}
+use Rattle.cbor_edn_parts.specs.declared.base.error.Fault.TheVariants as fault
+use Rattle.cbor_edn_parts.specs.declared.base.error.CallbackError.{CallbackError}
+use Rattle.cbor_edn_parts.specs.declared.base.error.CallbackError.TheVariants as error
 use Rattle.cbor_edn_model.specs.tree.Trees.{Tree, OneItem}
 use Rattle.cbor_edn_model.specs.visit.Visits.{Answer, fine, comment, no_memory, Call, Ending, whole, cut, Handler, no_handler, dropped, spent, KeyCall, Chain}
 

@@ -4,7 +4,7 @@ use Rattle.std.specs.Borrow.{MutBor}
 use Rattle.std.specs.Fn.{Mut, Called}
 use Rattle.std.specs.declared.string.String.{String}
 use Rattle.std.specs.declared.alloc.Global.{Global}
-use Rattle.cbor_edn_parts.specs.declared.error.CallbackError.{CallbackError}
+use Rattle.cbor_edn_parts.specs.declared.base.error.CallbackError.{CallbackError}
 use Rattle.cbor_edn_model.specs.access.Accessed.{tag_number, IsApplicationItem}
 use Rattle.cbor_edn_model.specs.visit.Depth.{depth}
 use Rattle.cbor_edn_model.specs.visit.Seeking.{CallArguments, SoughtCall, IsApplication, number, prefix_and_text}

@@ -1,8 +1,8 @@
 //! Literals of a prefix and a text.
 ghost use Rattle.std.specs.Prelude.{◌≡◌, ◌↔◌, ℕ, List, None, true, false, IfOk, IfSome, IfNone, OnErr, string_bytes};
 ghost use Rattle.cbor_edn_parts.specs.Leaves.{literal_bytes};
-ghost use Rattle.cbor_edn_parts.specs.Literal.{IsLiteral, Prefixed};
-ghost use Rattle.cbor_edn_parts.specs.Refusals.{IfTold, OnMemory};
+ghost use Rattle.cbor_edn_parts.specs.string.Literal.{IsLiteral, Prefixed};
+ghost use Rattle.cbor_edn_parts.specs.base.Refusals.{IfTold, OnMemory};
 ghost use Rattle.cbor_edn_model.specs.access.Accessed.{IsApplicationItem, IsApplicationPiece, are_several, string_tree};
 ghost use Rattle.cbor_edn_model.specs.tree.TreeLeaves.{texts};
 ghost use Rattle.cbor_edn_core.specs.access.Mismatch.{literal_mismatch};
@@ -10,7 +10,7 @@ ghost use Rattle.cbor_edn_core.specs.tree.View.{item_tree, view_piece, view_stri
 
 use super::TypeMismatch;
 use crate::tree::{CborString, InnerItem, Item, Piece};
-use cbor_edn_parts::error::Fault;
+use cbor_edn_parts::base::error::Fault;
 use cbor_edn_parts::string::Literal;
 use std::alloc::{AllocError, Global};
 

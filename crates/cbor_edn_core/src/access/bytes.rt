@@ -1,7 +1,7 @@
 //! The bytes of strings.
 ghost use Rattle.std.specs.Prelude.{◌≡◌, IfOk, Some, None};
 ghost use Rattle.std.specs.List.{list_all};
-ghost use Rattle.cbor_edn_parts.specs.Refusals.{IfTold};
+ghost use Rattle.cbor_edn_parts.specs.base.Refusals.{IfTold};
 ghost use Rattle.cbor_edn_parts.specs.Leaves.{literal_bytes};
 ghost use Rattle.cbor_edn_parts.specs.internal.ContentReading.{literal_content};
 ghost use Rattle.cbor_edn_model.specs.access.Accessed.{only_bytes, item_bytes, piece_bytes, pieces_bytes, strings_bytes, pieces, is_plain_piece, is_plain_string};
@@ -13,7 +13,7 @@ use super::TypeMismatch;
 use crate::cbor::encode::encode_piece;
 use crate::tree::{CborString, InnerItem, Item, Piece, Strings};
 use cbor_edn_model::cbor::encode::encode_literal;
-use cbor_edn_parts::error::Fault;
+use cbor_edn_parts::base::error::Fault;
 use cbor_edn_parts::string::{Literal, StringKind};
 use std::alloc::Global;
 

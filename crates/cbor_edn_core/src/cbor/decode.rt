@@ -3,13 +3,13 @@ ghost use Rattle.std.specs.Prelude.{◌≡◌, ◌≢◌, ℕ, List, IfOk};
 ghost use Rattle.cbor_edn_model.specs.tree.Trees.{Tree, OneItem};
 ghost use Rattle.cbor_edn_core.specs.tree.View.{item_tree, standalone_tree, sequence_tree};
 ghost use Rattle.cbor_edn_model.specs.cbor.Value.{Enc};
-ghost use Rattle.cbor_edn_parts.specs.Refusals.{IfTold};
+ghost use Rattle.cbor_edn_parts.specs.base.Refusals.{IfTold};
 ghost use Rattle.cbor_edn_model.specs.cbor.Decoded.{BeginsWith, IsDecoded, IsDecodedSequence, NoneIs, IsTooDeepEncoding, NoSequence, IsTooDeepSequence, alone};
 
 use crate::tree::{Item, NESTING_LIMIT, Sequence, StandaloneItem};
 pub use cbor_edn_model::cbor::decode::CborError;
 use cbor_edn_model::cbor::decode::head::Stop;
-use cbor_edn_parts::error::Fault;
+use cbor_edn_parts::base::error::Fault;
 use cbor_edn_parts::space::Space;
 use finish::finish_items;
 pub use reader::decode_item;

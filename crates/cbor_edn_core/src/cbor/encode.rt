@@ -8,7 +8,7 @@ ghost use Rattle.cbor_edn_model.specs.cbor.Value.{AreBytes, Value, Values, encod
 ghost use Rattle.cbor_edn_model.specs.cbor.Meaning as meaning;
 ghost use Rattle.cbor_edn_model.specs.cbor.Meaning.{NoEncoding, means, length_of};
 ghost use Rattle.cbor_edn_parts.specs.Leaves.{literal_bytes};
-ghost use Rattle.cbor_edn_parts.specs.Refusals.{IfTold};
+ghost use Rattle.cbor_edn_parts.specs.base.Refusals.{IfTold};
 ghost use Rattle.cbor_edn_model.specs.internal.Encoding as calls;
 ghost use Rattle.cbor_edn_model.specs.internal.Encoding.{Encodes, Finds, Gathers, entry_encoding, string_encodings, row_items, list_head};
 
@@ -22,8 +22,8 @@ use cbor_edn_model::cbor::heads::{
     encode_simple, encode_string, encode_text, length_of, named_number, same_kind, string_major,
 };
 use cbor_edn_model::text::list_head::indicator_of_head;
-use cbor_edn_parts::error::{Fault, InconsistentEdn};
-use cbor_edn_parts::indicator::Indicator;
+use cbor_edn_parts::base::error::{Fault, InconsistentEdn};
+use cbor_edn_parts::base::indicator::Indicator;
 use cbor_edn_parts::number::Number;
 use cbor_edn_parts::space::{Separator, Space};
 use cbor_edn_parts::string::{Literal, StringKind};

@@ -1,6 +1,6 @@
 //! Trees laid out in place. Each item is asked whether it fits on its line before any space of it changes.
 ghost use Rattle.std.specs.Prelude.{◌≡◌, map, IsOk, OnOk};
-ghost use Rattle.cbor_edn_parts.specs.LayoutColumns.{least};
+ghost use Rattle.cbor_edn_parts.specs.space.LayoutColumns.{least};
 ghost use Rattle.cbor_edn_model.specs.layout.Layout.{laid};
 ghost use Rattle.cbor_edn_model.specs.tree.Trees as definition;
 ghost use Rattle.cbor_edn_model.specs.tree.Trees.{items};
@@ -15,8 +15,8 @@ use crate::tree::{
     InnerItem, Item, ItemList, Items, Pair, PairList, Pairs, Sequence, StandaloneItem,
 };
 use cbor_edn_model::text::list_head::lay_head;
-use cbor_edn_parts::layout::{Layout, Slot, lay_end, lay_separator, lay_space};
 use cbor_edn_parts::space::Separator;
+use cbor_edn_parts::space::layout::{Layout, Slot, lay_end, lay_separator, lay_space};
 use std::alloc::{AllocError, Global};
 
 #[cycle(lay)]

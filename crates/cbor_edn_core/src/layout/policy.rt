@@ -1,9 +1,9 @@
 //! Delimiter policies, and comments in front of items.
 ghost use Rattle.std.specs.Prelude.{◌≡◌, ◌++◌, IfOk, IfErr, IsOk, OnOk};
 ghost use Rattle.std.specs.String.{string_bytes};
-ghost use Rattle.cbor_edn_parts.specs.Buffer.{buffer_bytes};
-ghost use Rattle.cbor_edn_parts.specs.declared.policy.DelimiterPolicy.TheVariants as policies;
-ghost use Rattle.cbor_edn_parts.specs.LayoutColumns.{least};
+ghost use Rattle.cbor_edn_parts.specs.base.Buffer.{buffer_bytes};
+ghost use Rattle.cbor_edn_parts.specs.declared.space.policy.DelimiterPolicy.TheVariants as policies;
+ghost use Rattle.cbor_edn_parts.specs.space.LayoutColumns.{least};
 ghost use Rattle.cbor_edn_model.specs.layout.Commented.{commented};
 ghost use Rattle.cbor_edn_model.specs.cbor.Decoded.{alone};
 ghost use Rattle.cbor_edn_model.specs.layout.Layout.{laid_out};
@@ -13,10 +13,10 @@ ghost use Rattle.cbor_edn_core.specs.tree.View.{item_tree, standalone_tree, sequ
 use super::lay::{lay_item, lay_sequence, lay_standalone};
 use super::print::{print_item, print_sequence, print_standalone};
 use crate::tree::{Item, Sequence, StandaloneItem};
-use cbor_edn_parts::buffer::TextBuffer;
-use cbor_edn_parts::layout::Layout;
-use cbor_edn_parts::policy::DelimiterPolicy;
+use cbor_edn_parts::base::buffer::TextBuffer;
 use cbor_edn_parts::space::Space;
+use cbor_edn_parts::space::layout::Layout;
+use cbor_edn_parts::space::policy::DelimiterPolicy;
 use std::alloc::{AllocError, Global};
 
 impl<'a> Item<'a> {

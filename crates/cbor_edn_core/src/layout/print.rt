@@ -1,6 +1,6 @@
 //! The text of a tree with its spaces, or with those of a layout, which the tree itself does not get.
 ghost use Rattle.std.specs.Prelude.{◌≡◌, ◌++◌, map, OnOk};
-ghost use Rattle.cbor_edn_parts.specs.Buffer.{buffer_bytes};
+ghost use Rattle.cbor_edn_parts.specs.base.Buffer.{buffer_bytes};
 ghost use Rattle.cbor_edn_parts.specs.Leaves.{number_bytes, literal_bytes};
 ghost use Rattle.cbor_edn_model.specs.layout.Layout.{laid};
 ghost use Rattle.cbor_edn_model.specs.tree.Rows.{entries_text, pieces_text};
@@ -17,11 +17,11 @@ use crate::tree::{
 };
 use cbor_edn_model::text::list_head::print_laid_head;
 use cbor_edn_model::text::write::{print_indicator, print_opener};
-use cbor_edn_parts::buffer::TextBuffer;
-use cbor_edn_parts::layout::{
+use cbor_edn_parts::base::buffer::TextBuffer;
+use cbor_edn_parts::number::Number;
+use cbor_edn_parts::space::layout::{
     Layout, Slot, print_end, print_mandatory, print_separator, print_space,
 };
-use cbor_edn_parts::number::Number;
 use cbor_edn_parts::space::{Separator, Space};
 use cbor_edn_parts::string::Literal;
 use std::alloc::AllocError;

@@ -1,8 +1,8 @@
 //! Whether items fit on a single line, told from no more of them than would fit. Each `room_behind_..` answers the room that is left
 //! behind a part of an item, or none where the part is wider than the room.
 ghost use Rattle.std.specs.Prelude.{◌≡◌, ◌<◌, ◌-◌, ◌^◌, ℕ, map};
-ghost use Rattle.cbor_edn_parts.specs.LayoutColumns.{of_parts};
-ghost use Rattle.cbor_edn_parts.specs.declared.layout.Layout.TheVariants.{Lines};
+ghost use Rattle.cbor_edn_parts.specs.space.LayoutColumns.{of_parts};
+ghost use Rattle.cbor_edn_parts.specs.declared.space.layout.Layout.TheVariants.{Lines};
 ghost use Rattle.cbor_edn_model.specs.tree.TreeLeaves.{texts};
 ghost use Rattle.cbor_edn_model.specs.internal.Widths.{Leaves, width, measured, entries_width, pieces_width};
 ghost use Rattle.cbor_edn_core.specs.tree.View.{view_list, view_items, seen, view_pair_list, view_pairs, view_pair, seen_pair, view_string, view_piece, seen_piece, view_stream, view_strings, seen_string, item_tree, standalone_tree, sequence_tree};
@@ -15,8 +15,8 @@ use cbor_edn_model::layout::width::{
     Spaces, head_len, indicator_len, list_end_len, mandatory_len, opener_len, room_behind,
     separator_len, space_len,
 };
-use cbor_edn_parts::layout::Layout;
-use cbor_edn_parts::policy::Spacing;
+use cbor_edn_parts::space::layout::Layout;
+use cbor_edn_parts::space::policy::Spacing;
 use cbor_edn_parts::space::{Separator, Space};
 
 /// The layout of the parts of an item.

@@ -1,6 +1,6 @@
 //! Strings laid out in place. No string in them has a test of its own, so none is asked whether it fits.
 ghost use Rattle.std.specs.Prelude.{◌≡◌, map, IsOk, OnOk};
-ghost use Rattle.cbor_edn_parts.specs.LayoutColumns.{least};
+ghost use Rattle.cbor_edn_parts.specs.space.LayoutColumns.{least};
 ghost use Rattle.cbor_edn_model.specs.layout.Layout.{in_chunk, laid, First};
 ghost use Rattle.cbor_edn_model.specs.tree.Trees.{items};
 ghost use Rattle.cbor_edn_core.specs.tree.View.{view_string, seen_piece, view_stream, view_strings, seen_string};
@@ -9,7 +9,9 @@ ghost use Rattle.cbor_edn_model.specs.internal.Laying.{laid_stream};
 ghost use Rattle.cbor_edn_model.specs.internal.LayoutRows.{laid_entry, entry_items, laid_piece, piece_items};
 
 use crate::tree::{CborString, Piece, Stream, Strings};
-use cbor_edn_parts::layout::{Layout, Slot, lay_end, lay_mandatory, lay_separator, lay_space};
+use cbor_edn_parts::space::layout::{
+    Layout, Slot, lay_end, lay_mandatory, lay_separator, lay_space,
+};
 use cbor_edn_parts::space::{Separator, Space};
 use std::alloc::{AllocError, Global};
 

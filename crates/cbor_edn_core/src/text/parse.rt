@@ -7,7 +7,7 @@ ghost use Rattle.cbor_edn_core.specs.internal.ParserResults.{Gives, IsPlaced};
 ghost use Rattle.cbor_edn_model.specs.internal.Reading.{reads_all};
 ghost use Rattle.cbor_edn_model.specs.text.Parsing.{Unparsed};
 ghost use Rattle.cbor_edn_core.specs.text.Parsing.{ParsedSequence, ParsedStandalone};
-ghost use Rattle.cbor_edn_parts.specs.Refusals.{IfTold};
+ghost use Rattle.cbor_edn_parts.specs.base.Refusals.{IfTold};
 ghost use Rattle.cbor_edn_model.specs.text.Spelling.{SpellsOne, SpellsSequence};
 ghost use Rattle.cbor_edn_model.specs.tree.Trees.{Seq, Standalone};
 ghost use Rattle.cbor_edn_core.specs.tree.View.{sequence_tree, standalone_tree};
@@ -15,10 +15,10 @@ ghost use Rattle.cbor_edn_core.specs.tree.View.{sequence_tree, standalone_tree};
 use crate::text::grammar::{sequence, standalone};
 use crate::tree::{NESTING_LIMIT, Sequence, StandaloneItem};
 use cbor_edn_model::text::lookahead::ends;
-use cbor_edn_parts::error::{Fault, ParseError, Refusal};
-use cbor_edn_parts::input::Input;
-use cbor_edn_parts::location::with_location;
-use cbor_edn_parts::looks::Looks;
+use cbor_edn_parts::base::error::{Fault, ParseError, Refusal};
+use cbor_edn_parts::base::input::Input;
+use cbor_edn_parts::base::location::with_location;
+use cbor_edn_parts::base::looks::Looks;
 use std::alloc::Global;
 
 impl<'a> Sequence<'a> {

@@ -1,15 +1,15 @@
 //! The text of a tree.
 ghost use Rattle.std.specs.Prelude.{◌≡◌, ◌++◌, OnOk, IfOk};
 ghost use Rattle.std.specs.String.{string_bytes};
-ghost use Rattle.cbor_edn_parts.specs.Buffer.{buffer_bytes};
+ghost use Rattle.cbor_edn_parts.specs.base.Buffer.{buffer_bytes};
 ghost use Rattle.cbor_edn_model.specs.tree.Trees.{text, items};
 ghost use Rattle.cbor_edn_model.specs.text.Spelling.{Spells, SpellsSequence, SpellsOne};
 ghost use Rattle.cbor_edn_core.specs.tree.View.{item_tree, standalone_tree, sequence_tree};
 
 use crate::layout::print::{print_item, print_sequence, print_standalone};
 use crate::tree::{Item, Sequence, StandaloneItem};
-use cbor_edn_parts::buffer::TextBuffer;
-use cbor_edn_parts::layout::Layout;
+use cbor_edn_parts::base::buffer::TextBuffer;
+use cbor_edn_parts::space::layout::Layout;
 use std::alloc::{AllocError, Global};
 
 impl Item<'_> {

@@ -16,8 +16,8 @@ use crate::tree::{
     Piece, Sequence, SequenceOf, StandaloneItem, StandaloneItemOf, Stream, Strings,
 };
 use cbor_edn_model::text::list_head::clone_list_head;
-use cbor_edn_model::tree::copy::clone_spaces;
 use cbor_edn_parts::number::Number;
+use cbor_edn_parts::space::copy::clone_spaces;
 use cbor_edn_parts::space::{ListEnd, MandatorySpace, Separator, Space};
 use cbor_edn_parts::string::{Ellipsis, Literal};
 use std::alloc::{AllocError, Global};

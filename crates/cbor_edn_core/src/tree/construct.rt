@@ -1,11 +1,11 @@
 //! Items and sequences that are made from values: no space, `,` between two entries, and no encoding indicator.
 ghost use Rattle.std.specs.Prelude.{◌≡◌, ◌∷◌, [], map, option_map, IfOk, IfErr, IfSome, OnOk, None};
 ghost use Rattle.std.specs.Fmt.{signed_decimal};
-ghost use Rattle.cbor_edn_parts.specs.Contents.{hex_literal, text_literal};
+ghost use Rattle.cbor_edn_parts.specs.string.Contents.{hex_literal, text_literal};
 ghost use Rattle.cbor_edn_parts.specs.Leaves.{separator_bytes};
-ghost use Rattle.cbor_edn_parts.specs.Literal.{IsPrefix};
-ghost use Rattle.cbor_edn_parts.specs.Number.{IsNumber};
-ghost use Rattle.cbor_edn_parts.specs.Refusals.{IfTold};
+ghost use Rattle.cbor_edn_parts.specs.string.Literal.{IsPrefix};
+ghost use Rattle.cbor_edn_parts.specs.number.Number.{IsNumber};
+ghost use Rattle.cbor_edn_parts.specs.base.Refusals.{IfTold};
 ghost use Rattle.cbor_edn_parts.specs.Written.{hexadecimal_text, application_literal};
 ghost use Rattle.cbor_edn_model.specs.tree.Constructed.{literal_tree, tagged_tree, comma_row, comma_inside, comma_sequence};
 ghost use Rattle.cbor_edn_core.specs.tree.Constructed.{element_tree, pair_tree, Ends, OfAll};
@@ -20,7 +20,7 @@ use crate::tree::{
     StandaloneItem,
 };
 use cbor_edn_model::text::keyword::NamedSimple;
-use cbor_edn_parts::error::{Fault, InconsistentEdn};
+use cbor_edn_parts::base::error::{Fault, InconsistentEdn};
 use cbor_edn_parts::number::Number;
 use cbor_edn_parts::space::{ListEnd, Separator, Space};
 use cbor_edn_parts::string::Literal;

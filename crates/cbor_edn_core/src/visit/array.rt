@@ -1,7 +1,7 @@
 //! The visit of the elements of an array.
 ghost use Rattle.std.specs.Prelude.{◌≡◌, List, None, All, map};
 ghost use Rattle.std.specs.List.{Contains};
-ghost use Rattle.cbor_edn_parts.specs.Refusals.{IfTold};
+ghost use Rattle.cbor_edn_parts.specs.base.Refusals.{IfTold};
 ghost use Rattle.cbor_edn_model.specs.access.Accessed.{array_items, element, entries, entries_inside};
 ghost use Rattle.cbor_edn_model.specs.tree.TreeLeaves.{texts};
 ghost use Rattle.cbor_edn_model.specs.tree.Trees.{ElementTree};
@@ -13,7 +13,7 @@ ghost use Rattle.cbor_edn_core.specs.tree.View.{item_tree, row_item, seen, view_
 use super::put_answer;
 use crate::access::TypeMismatch;
 use crate::tree::{InnerItem, Item, ItemList, Items};
-use cbor_edn_parts::error::{CallbackError, Fault};
+use cbor_edn_parts::base::error::{CallbackError, Fault};
 use cbor_edn_parts::space::{Separator, TakesComment};
 use std::alloc::{AllocError, Global};
 

@@ -4,8 +4,8 @@ ghost use Rattle.std.specs.Fn.{CalledAtMut};
 ghost use Rattle.std.specs.List.{Contains};
 ghost use Rattle.std.specs.declared.string.String.{String};
 ghost use Rattle.std.specs.declared.alloc.Global.{Global};
-ghost use Rattle.cbor_edn_parts.specs.declared.error.CallbackError.{CallbackError};
-ghost use Rattle.cbor_edn_parts.specs.Refusals.{IfTold};
+ghost use Rattle.cbor_edn_parts.specs.declared.base.error.CallbackError.{CallbackError};
+ghost use Rattle.cbor_edn_parts.specs.base.Refusals.{IfTold};
 ghost use Rattle.cbor_edn_model.specs.access.Accessed.{map_items, key, entries, entries_inside};
 ghost use Rattle.cbor_edn_model.specs.tree.TreeLeaves.{texts};
 ghost use Rattle.cbor_edn_model.specs.visit.Visits.{KeyCall, Chain, VisitMap, VisitPair, VisitEntries, VisitInside, keys_of};
@@ -16,7 +16,7 @@ ghost use Rattle.cbor_edn_core.specs.tree.View.{Item, item_tree, row_key, seen_p
 use super::put_answer;
 use crate::access::TypeMismatch;
 use crate::tree::{InnerItem, Item, Pair, PairList, Pairs};
-use cbor_edn_parts::error::{CallbackError, Fault};
+use cbor_edn_parts::base::error::{CallbackError, Fault};
 use cbor_edn_parts::space::{Separator, TakesComment};
 use std::alloc::{AllocError, Global};
 

@@ -16,7 +16,7 @@ use super::put_answer;
 use crate::access::application::may_have_prefix;
 use crate::tree::nesting::item_depth;
 use crate::tree::{Item, ItemOf};
-use cbor_edn_parts::error::{CallbackError, Fault};
+use cbor_edn_parts::base::error::{CallbackError, Fault};
 use cbor_edn_parts::number::Number;
 use cbor_edn_parts::space::{ListEnd, MandatorySpace, Separator, Space, TakesComment};
 use cbor_edn_parts::string::{Ellipsis, Literal};

@@ -1,10 +1,10 @@
 -- What the accessors of an item answer.
 use Rattle.std.specs.Prelude.{ℕ, ℤ, List, [], ◌∷◌, ◌++◌, ◌≡◌, map, Bool, true, false, Option, Some, None}
 use Rattle.std.specs.List.{list_all}
-use Rattle.cbor_edn_parts.specs.Literal.{Prefixed, IsLiteral}
-use Rattle.cbor_edn_parts.specs.Number.{HasInteger, IsInteger}
-use Rattle.cbor_edn_parts.specs.Contents.{Content}
-use Rattle.cbor_edn_parts.specs.declared.indicator.Indicator.{Indicator}
+use Rattle.cbor_edn_parts.specs.string.Literal.{Prefixed, IsLiteral}
+use Rattle.cbor_edn_parts.specs.number.Number.{HasInteger, IsInteger}
+use Rattle.cbor_edn_parts.specs.string.Contents.{Content}
+use Rattle.cbor_edn_parts.specs.declared.base.indicator.Indicator.{Indicator}
 use Rattle.cbor_edn_parts.specs.declared.string.StringKind.TheVariants.{Bytes}
 use Rattle.cbor_edn_model.specs.cbor.Meaning.{means}
 use Rattle.cbor_edn_model.specs.declared.text.opener.OpenerKind.TheVariants as opener

@@ -1,10 +1,10 @@
 -- The item that a value is decoded as, with the spaces that it is given.
 use Rattle.std.specs.Prelude.{ℕ, pos, negsuc, ◌≡◌, ◌++◌, ◌^◌, ◌≤◌, ◌<◌, nat_lt, nat_le, ◌==◌, if◌then◌else◌, count_by, length, List, [], ◌∷◌, Option, Some, None}
-use Rattle.cbor_edn_parts.specs.declared.policy.DelimiterPolicy.TheVariants.{DiscardAll, SingleLineRegularSpacing}
+use Rattle.cbor_edn_parts.specs.declared.space.policy.DelimiterPolicy.TheVariants.{DiscardAll, SingleLineRegularSpacing}
 use Rattle.std.specs.Fmt.{signed_decimal}
-use Rattle.cbor_edn_parts.specs.declared.indicator.Indicator.{Indicator}
-use Rattle.cbor_edn_parts.specs.declared.indicator.Indicator.TheVariants as indicator
-use Rattle.cbor_edn_parts.specs.Contents.{kind_literal, empty_literal}
+use Rattle.cbor_edn_parts.specs.declared.base.indicator.Indicator.{Indicator}
+use Rattle.cbor_edn_parts.specs.declared.base.indicator.Indicator.TheVariants as indicator
+use Rattle.cbor_edn_parts.specs.string.Contents.{kind_literal, empty_literal}
 use Rattle.cbor_edn_parts.specs.declared.string.StringKind.{StringKind}
 use Rattle.cbor_edn_model.specs.declared.cbor.heads.Width.{Width}
 use Rattle.cbor_edn_model.specs.declared.cbor.heads.Width.TheVariants.{Immediate, One, Two, Four, Eight}

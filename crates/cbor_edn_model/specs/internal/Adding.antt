@@ -1,7 +1,7 @@
 -- What the calls answer that put byte strings behind others.
 use Rattle.std.specs.Prelude.{◌≡◌, List, [], ◌∷◌, ℕ, ◌++◌, map, Option, Some, None, Result, Ok, Err}
-use Rattle.cbor_edn_parts.specs.declared.error.Fault.{Fault}
-use Rattle.cbor_edn_parts.specs.Refusals.{IfTold}
+use Rattle.cbor_edn_parts.specs.declared.base.error.Fault.{Fault}
+use Rattle.cbor_edn_parts.specs.base.Refusals.{IfTold}
 use Rattle.cbor_edn_model.specs.access.Accessed.{all_joined}
 
 -- A call puts a byte string behind the bytes that were there, and refuses with the one refusal where there is none.

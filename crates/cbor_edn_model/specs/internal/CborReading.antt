@@ -3,11 +3,11 @@ use Rattle.std.specs.Prelude.{ℕ, zero, suc, ◌-◌, ◌/◌, ◌%◌, ℤ, po
 use Rattle.std.specs.Int.{w8, w16, w32, w64, byte_len, from_be_bytes}
 use Rattle.std.specs.Int.{Width as Bits}
 use Rattle.std.specs.Fmt.{signed_decimal}
-use Rattle.cbor_edn_parts.specs.declared.error.Fault.{Fault}
+use Rattle.cbor_edn_parts.specs.declared.base.error.Fault.{Fault}
 use Rattle.cbor_edn_model.specs.internal.Results.{◌>>=◌, FailsBy, GivesBy}
-use Rattle.cbor_edn_parts.specs.declared.indicator.Indicator.{Indicator}
-use Rattle.cbor_edn_parts.specs.declared.indicator.Indicator.TheVariants.{Indefinite}
-use Rattle.cbor_edn_parts.specs.Contents.{kind_literal, empty_literal}
+use Rattle.cbor_edn_parts.specs.declared.base.indicator.Indicator.{Indicator}
+use Rattle.cbor_edn_parts.specs.declared.base.indicator.Indicator.TheVariants.{Indefinite}
+use Rattle.cbor_edn_parts.specs.string.Contents.{kind_literal, empty_literal}
 use Rattle.cbor_edn_parts.specs.declared.string.StringKind.{StringKind}
 use Rattle.cbor_edn_parts.specs.declared.string.StringKind.TheVariants.{Bytes, Text}
 use Rattle.cbor_edn_model.specs.declared.cbor.heads.Width.{Width}

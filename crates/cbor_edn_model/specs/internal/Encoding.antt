@@ -1,13 +1,13 @@
 -- What the calls answer that encode what items mean.
 use Rattle.std.specs.Prelude.{◌≡◌, List, [], ◌∷◌, ℕ, ◌++◌, Bool, true, ◌&&◌, is_none, if◌then◌else◌, Option, Some, None, Result, Ok, Err}
-use Rattle.cbor_edn_parts.specs.declared.error.Fault.{Fault}
-use Rattle.cbor_edn_parts.specs.declared.error.InconsistentEdn.{InconsistentEdn}
+use Rattle.cbor_edn_parts.specs.declared.base.error.Fault.{Fault}
+use Rattle.cbor_edn_parts.specs.declared.base.error.InconsistentEdn.{InconsistentEdn}
 use Rattle.cbor_edn_parts.specs.declared.string.StringKind.{StringKind}
 use Rattle.cbor_edn_parts.specs.declared.string.StringKind.TheVariants.{Bytes}
-use Rattle.cbor_edn_parts.specs.Contents.{Content}
+use Rattle.cbor_edn_parts.specs.string.Contents.{Content}
 use Rattle.cbor_edn_parts.specs.internal.ContentReading.{literal_kind}
 use Rattle.cbor_edn_model.specs.declared.cbor.heads.Width.{Width}
-use Rattle.cbor_edn_parts.specs.Refusals.{IfTold}
+use Rattle.cbor_edn_parts.specs.base.Refusals.{IfTold}
 use Rattle.cbor_edn_model.specs.tree.Items.{Row, Elements, Pairs, Strings, Bracketed, Array, Map, Piece, Pieces, Node, Entries, Literal, Ellipsis, Embedded, LastPiece, Plus, End, Then, Chunk}
 use Rattle.cbor_edn_model.specs.tree.Trees.{Tree, OnePiece, OneEntry, items}
 use Rattle.cbor_edn_model.specs.cbor.Value as values

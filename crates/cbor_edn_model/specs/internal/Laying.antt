@@ -1,5 +1,5 @@
 -- Parts of a tree with other spaces, by the layout of these parts.
-use Rattle.cbor_edn_parts.specs.Spacing.{Optional, Mandatory}
+use Rattle.cbor_edn_parts.specs.space.Spacing.{Optional, Mandatory}
 use Rattle.cbor_edn_model.specs.tree.Items.{Bracketed}
 use Rattle.cbor_edn_model.specs.tree.Trees.{OneItem, Inside, Tree, StreamTree, EmptyTree, FullTree}
 use Rattle.cbor_edn_model.specs.layout.Layout.{Layout, First, Elsewhere, respaced, laid_list_head, laid}

@@ -1,6 +1,6 @@
 -- Rows of entries and of pieces, laid out or without indicators, one by one.
 use Rattle.std.specs.Prelude.{ℕ, List}
-use Rattle.cbor_edn_parts.specs.Spacing.{Optional, Separating}
+use Rattle.cbor_edn_parts.specs.space.Spacing.{Optional, Separating}
 use Rattle.cbor_edn_model.specs.tree.Items.{Row, Entry, Node, Piece}
 use Rattle.cbor_edn_model.specs.tree.Trees.{OnePiece, OneEntry, Tree, items}
 use Rattle.cbor_edn_model.specs.layout.Layout.{Layout, Between, BeforePlus, AfterPlus, respaced, laid}

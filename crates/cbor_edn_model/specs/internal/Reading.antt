@@ -1,16 +1,16 @@
 -- The plain reader on lists, rule by rule. It knows how deep lists may nest.
 use Rattle.std.specs.Prelude.{ℕ, suc, zero, Bool, false, cond, eqb, ◌||◌, ◌&&◌, nat_le, nat_lt, ◌^◌, List, [], ◌∷◌, Option, Some, None, Result, Ok, Err, ◌+◌, ◌*◌, length}
-use Rattle.cbor_edn_parts.specs.declared.error.ParseErrorKind.{ParseErrorKind}
-use Rattle.cbor_edn_parts.specs.declared.error.ParseErrorKind.TheVariants.{Invalid, TooDeep}
-use Rattle.cbor_edn_parts.specs.declared.indicator.Indicator.{Indicator}
-use Rattle.cbor_edn_parts.specs.Bytes.{is_closed}
-use Rattle.cbor_edn_parts.specs.Indicator.{indicator_at}
+use Rattle.cbor_edn_parts.specs.declared.base.error.ParseErrorKind.{ParseErrorKind}
+use Rattle.cbor_edn_parts.specs.declared.base.error.ParseErrorKind.TheVariants.{Invalid, TooDeep}
+use Rattle.cbor_edn_parts.specs.declared.base.indicator.Indicator.{Indicator}
+use Rattle.cbor_edn_parts.specs.base.Bytes.{is_closed}
+use Rattle.cbor_edn_parts.specs.base.Indicator.{indicator_at}
 use Rattle.cbor_edn_parts.specs.internal.Lex as lex
 use Rattle.cbor_edn_parts.specs.internal.Lex.{Automaton}
 use Rattle.cbor_edn_parts.specs.internal.SpaceTokens.{space, separator}
 use Rattle.cbor_edn_parts.specs.internal.NumberTokens.{number}
 use Rattle.cbor_edn_parts.specs.internal.LiteralTokens.{literal, ellipsis, is_lower, is_upper, is_digit}
-use Rattle.cbor_edn_parts.specs.Number.{number_of}
+use Rattle.cbor_edn_parts.specs.number.Number.{number_of}
 use Rattle.cbor_edn_parts.specs.internal.ContentReading.{same}
 use Rattle.std.specs.Fmt.{decimal}
 use Rattle.cbor_edn_model.specs.declared.text.opener.OpenerKind.{OpenerKind}

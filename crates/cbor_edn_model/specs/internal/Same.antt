@@ -6,8 +6,8 @@ use Rattle.std.specs.Cmp.Derive.{both_true}
 use Rattle.std.proofs.Common.{sym, ◌∙◌, subst}
 use Rattle.std.proofs.lemmas.Bool.{false≢true, eqb-true, eq-eqb}
 use Rattle.std.proofs.lemmas.Cmp.{nat_list_eq_equiv}
-use Rattle.cbor_edn_parts.specs.declared.indicator.Indicator.{Indicator}
-use Rattle.cbor_edn_parts.specs.declared.indicator.Indicator.TheVariants.{Indefinite, Immediate, One, Two, Four, Eight}
+use Rattle.cbor_edn_parts.specs.declared.base.indicator.Indicator.{Indicator}
+use Rattle.cbor_edn_parts.specs.declared.base.indicator.Indicator.TheVariants.{Indefinite, Immediate, One, Two, Four, Eight}
 use Rattle.cbor_edn_model.specs.declared.text.opener.OpenerKind.{OpenerKind}
 use Rattle.cbor_edn_model.specs.declared.text.opener.OpenerKind.TheVariants.{Tag, Simple}
 use Rattle.cbor_edn_model.specs.declared.text.keyword.NamedSimple.{NamedSimple}

@@ -1,8 +1,8 @@
 -- How many bytes wide the items of a tree are on a single line: what decides which of them have lines of their own, measured part by part.
 use Rattle.std.specs.Prelude.{ℕ, ◌≡◌, ◌<◌, ◌+◌, ◌-◌, ◌^◌, min, Option, MatchOption, List, [], ◌∷◌, length, Some}
-use Rattle.cbor_edn_parts.specs.Indicator.{indicator_text}
-use Rattle.cbor_edn_parts.specs.Spacing.{SpaceKind, Optional, Mandatory, Separating, AtEnd, spaced}
-use Rattle.cbor_edn_parts.specs.declared.policy.Spacing.TheVariants.{Comments, OneLine, OneSpace}
+use Rattle.cbor_edn_parts.specs.base.Indicator.{indicator_text}
+use Rattle.cbor_edn_parts.specs.space.Spacing.{SpaceKind, Optional, Mandatory, Separating, AtEnd, spaced}
+use Rattle.cbor_edn_parts.specs.declared.space.policy.Spacing.TheVariants.{Comments, OneLine, OneSpace}
 use Rattle.cbor_edn_model.specs.declared.layout.width.Spaces.{Spaces}
 use Rattle.cbor_edn_model.specs.declared.layout.width.Spaces.TheVariants.{Kept, By}
 use Rattle.cbor_edn_model.specs.tree.Items.{Row}

@@ -1,13 +1,13 @@
 -- The spaces of a tree after a delimiter policy. Everything that is no space stays.
 use Rattle.std.specs.Prelude.{length}
-use Rattle.cbor_edn_parts.specs.Spacing.{Optional, Mandatory, Separating, AtEnd}
-use Rattle.cbor_edn_parts.specs.declared.policy.DelimiterPolicy.{DelimiterPolicy}
-use Rattle.cbor_edn_parts.specs.declared.policy.Spacing.TheVariants.{OneLine}
-pub use Rattle.cbor_edn_parts.specs.declared.layout.Layout.{Layout}
-pub use Rattle.cbor_edn_parts.specs.declared.layout.Layout.TheVariants.{Kept, Inline, Lines}
-pub use Rattle.cbor_edn_parts.specs.declared.layout.Slot.{Slot}
-pub use Rattle.cbor_edn_parts.specs.declared.layout.Slot.TheVariants.{First, Between, Last, BeforePlus, AfterPlus, AfterColon, Elsewhere}
-pub use Rattle.cbor_edn_parts.specs.LayoutColumns.{layout, spacing, spaced_or_kept, respaced, saturating_add, in_chunk, of_parts}
+use Rattle.cbor_edn_parts.specs.space.Spacing.{Optional, Mandatory, Separating, AtEnd}
+use Rattle.cbor_edn_parts.specs.declared.space.policy.DelimiterPolicy.{DelimiterPolicy}
+use Rattle.cbor_edn_parts.specs.declared.space.policy.Spacing.TheVariants.{OneLine}
+pub use Rattle.cbor_edn_parts.specs.declared.space.layout.Layout.{Layout}
+pub use Rattle.cbor_edn_parts.specs.declared.space.layout.Layout.TheVariants.{Kept, Inline, Lines}
+pub use Rattle.cbor_edn_parts.specs.declared.space.layout.Slot.{Slot}
+pub use Rattle.cbor_edn_parts.specs.declared.space.layout.Slot.TheVariants.{First, Between, Last, BeforePlus, AfterPlus, AfterColon, Elsewhere}
+pub use Rattle.cbor_edn_parts.specs.space.LayoutColumns.{layout, spacing, spaced_or_kept, respaced, saturating_add, in_chunk, of_parts}
 use Rattle.cbor_edn_model.specs.tree.Trees.{Rule, OneItem, Tree, ListHead, NoIndicator, WithIndicator, NumberTree, FloatTree, NamedTree, EnclosedTree, ListTree, StringTree, StreamTree, LiteralTree, EllipsisTree, EmbeddedTree, LastPieceTree, PlusTree, ElementTree, PairTree, ChunkTree, EmptyTree, FullTree, LastTree, MoreTree, NothingTree, SequenceTree, StandaloneTree, text}
 
 -- An item whose parts are laid out by `part`, as wide as the item is on a single line.

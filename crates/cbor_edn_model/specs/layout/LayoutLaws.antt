@@ -1,7 +1,7 @@
 -- The laws of layouts, as contracts name them.
 use Rattle.std.specs.Prelude.{ℕ, List, [], ◌∷◌, ◌<◌, ◌≡◌, ◌⊎◌, All, Some}
-use Rattle.cbor_edn_parts.specs.declared.policy.DelimiterPolicy.{DelimiterPolicy}
-use Rattle.cbor_edn_parts.specs.declared.policy.DelimiterPolicy.TheVariants.{DiscardAll, SingleLineRegularSpacing}
+use Rattle.cbor_edn_parts.specs.declared.space.policy.DelimiterPolicy.{DelimiterPolicy}
+use Rattle.cbor_edn_parts.specs.declared.space.policy.DelimiterPolicy.TheVariants.{DiscardAll, SingleLineRegularSpacing}
 use Rattle.cbor_edn_model.specs.tree.Items.{Node, Item, Items}
 use Rattle.cbor_edn_model.specs.text.Spelling.{SpellsOne, SpellsSequence}
 use Rattle.cbor_edn_model.specs.tree.Trees.{Rule, OneItem, Standalone, Seq, Tree, Valid, items, text}

@@ -1,7 +1,7 @@
 -- What stands in front of the entries of a list: an indicator and the space behind it, if they are there.
 use Rattle.std.specs.Prelude.{Option, Some, None}
 use Rattle.cbor_edn_parts.specs.Leaves.{BorrowsMandatory}
-use Rattle.cbor_edn_parts.specs.declared.indicator.Indicator.{Indicator}
+use Rattle.cbor_edn_parts.specs.declared.base.indicator.Indicator.{Indicator}
 use Rattle.cbor_edn_parts.specs.declared.space.MandatorySpace.{MandatorySpace}
 use Rattle.cbor_edn_model.specs.tree.TreeLeaves.{Ghosts}
 use Rattle.cbor_edn_model.specs.tree.Trees.{ListHead, NoIndicator, WithIndicator}

@@ -1,9 +1,9 @@
 -- What an answer to a whole text says of it: of sequences with `SpellsSequence`, of standalone items with `SpellsOne`.
 use Rattle.std.specs.Prelude.{ℕ, List, ◌≡◌, ◌≤◌, ◌<◌}
-use Rattle.cbor_edn_parts.specs.declared.error.ParseError.{ParseError}
-use Rattle.cbor_edn_parts.specs.declared.error.ParseErrorKind.TheVariants as kind
-use Rattle.cbor_edn_parts.specs.Errors.{error_kind, error_offset, error_line, error_column}
-use Rattle.cbor_edn_parts.specs.Location.{IsLocation}
+use Rattle.cbor_edn_parts.specs.declared.base.error.ParseError.{ParseError}
+use Rattle.cbor_edn_parts.specs.declared.base.error.ParseErrorKind.TheVariants as kind
+use Rattle.cbor_edn_parts.specs.base.Errors.{error_kind, error_offset, error_line, error_column}
+use Rattle.cbor_edn_parts.specs.base.Location.{IsLocation}
 use Rattle.cbor_edn_model.specs.tree.Items.{Sort, Node, nesting}
 use Rattle.cbor_edn_model.specs.text.Openings.{openings}
 

@@ -14,11 +14,11 @@
 --   specms    = ["_" suffix MS]
 use Rattle.std.specs.Prelude.{ℕ, ◌<◌, ◌^◌, codes, List, [], ◌∷◌, ◌≡◌, ◌++◌, Option, Some, None}
 use Rattle.std.specs.Fmt.{decimal}
-use Rattle.cbor_edn_parts.specs.declared.indicator.Indicator.{Indicator}
-use Rattle.cbor_edn_parts.specs.Indicator.{indicator_text}
-use Rattle.cbor_edn_parts.specs.Space.{IsSpace, IsMandatorySpace, IsSeparator, IsListEnd}
-use Rattle.cbor_edn_parts.specs.Number.{IsNumber}
-use Rattle.cbor_edn_parts.specs.Literal.{IsQuoted, IsEllipsis}
+use Rattle.cbor_edn_parts.specs.declared.base.indicator.Indicator.{Indicator}
+use Rattle.cbor_edn_parts.specs.base.Indicator.{indicator_text}
+use Rattle.cbor_edn_parts.specs.space.Space.{IsSpace, IsMandatorySpace, IsSeparator, IsListEnd}
+use Rattle.cbor_edn_parts.specs.number.Number.{IsNumber}
+use Rattle.cbor_edn_parts.specs.string.Literal.{IsQuoted, IsEllipsis}
 use Rattle.cbor_edn_model.specs.text.Keywords.{named_text, simple_text, non_finite_text}
 use Rattle.cbor_edn_model.specs.tree.Items.{Bracketed, Array, Map, Sort, Item, Node, Number, Float, Listed, Tagged, Named, Simple, String, Stream, Literal, Ellipsis, Embedded, LastPiece, Plus, Element, Pair, Chunk, End, Then, Items}
 

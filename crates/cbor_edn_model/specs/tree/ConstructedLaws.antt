@@ -1,6 +1,6 @@
 -- The law of items that are made from values, as a contract names it.
 use Rattle.std.specs.Prelude.{ℕ, ◌≡◌, ◌<◌, ◌↔◌, All, List}
-use Rattle.cbor_edn_parts.specs.Literal.{IsPrefix}
+use Rattle.cbor_edn_parts.specs.string.Literal.{IsPrefix}
 use Rattle.cbor_edn_parts.specs.Written.{application_literal}
 use Rattle.cbor_edn_model.specs.access.Accessed.{IsApplicationItem}
 use Rattle.cbor_edn_model.specs.tree.Constructed.{literal_tree}

@@ -1,17 +1,17 @@
 -- Items with the space texts between their tokens: one family, indexed by the rule of the grammar.
 use Rattle.std.specs.Fmt.{decimal}
 use Rattle.std.specs.Prelude.{ℕ, codes, suc, max, Bool, false, not, eqb, ◌||◌, ◌&&◌, List, [], ◌∷◌, ◌≡◌, ◌++◌, Option, Some, None}
-use Rattle.cbor_edn_parts.specs.declared.indicator.Indicator.{Indicator}
+use Rattle.cbor_edn_parts.specs.declared.base.indicator.Indicator.{Indicator}
 use Rattle.cbor_edn_model.specs.declared.text.opener.OpenerKind.{OpenerKind}
 use Rattle.cbor_edn_model.specs.declared.text.opener.OpenerKind.TheVariants as opener
 use Rattle.cbor_edn_model.specs.declared.text.keyword.NamedSimple.{NamedSimple}
 use Rattle.cbor_edn_model.specs.declared.text.keyword.NonFinite.{NonFinite}
-use Rattle.cbor_edn_parts.specs.Bytes.{Follow, Closes}
+use Rattle.cbor_edn_parts.specs.base.Bytes.{Follow, Closes}
 use Rattle.cbor_edn_parts.specs.internal.Lex as lex
-use Rattle.cbor_edn_parts.specs.Indicator.{indicator_text}
-use Rattle.cbor_edn_parts.specs.Space.{IsSpace, IsMandatorySpace, IsSeparator, IsListEnd}
-use Rattle.cbor_edn_parts.specs.Number.{IsNumber}
-use Rattle.cbor_edn_parts.specs.Literal.{IsQuoted, IsEllipsis}
+use Rattle.cbor_edn_parts.specs.base.Indicator.{indicator_text}
+use Rattle.cbor_edn_parts.specs.space.Space.{IsSpace, IsMandatorySpace, IsSeparator, IsListEnd}
+use Rattle.cbor_edn_parts.specs.number.Number.{IsNumber}
+use Rattle.cbor_edn_parts.specs.string.Literal.{IsQuoted, IsEllipsis}
 use Rattle.cbor_edn_parts.specs.internal.SpaceTokens.{space}
 use Rattle.cbor_edn_parts.specs.internal.LiteralTokens.{is_digit}
 use Rattle.cbor_edn_model.specs.tree.Items.{Row, Elements, Pairs, Strings, Bracketed, entries_of, Item, Piece, Pieces, Entry, Entries, Node, Number, Float, Listed, Tagged, Named, Simple, String, Stream, Literal, Ellipsis, Embedded, LastPiece, Plus, Element, Pair, Chunk, End, Then, Items}

@@ -1,6 +1,6 @@
 -- What the visits of tags and of application literals do to a tree, call by call.
 use Rattle.std.specs.Prelude.{ℕ, List, [], ◌∷◌, ◌++◌, ◌≡◌, ◌≢◌, ◌≤◌, ◌<◌, Option, Some}
-use Rattle.cbor_edn_parts.specs.declared.indicator.Indicator.{Indicator}
+use Rattle.cbor_edn_parts.specs.declared.base.indicator.Indicator.{Indicator}
 use Rattle.cbor_edn_model.specs.declared.text.opener.OpenerKind.TheVariants as opener
 use Rattle.cbor_edn_model.specs.visit.Depth.{depth}
 use Rattle.cbor_edn_model.specs.access.Accessed.{tag_number, IsApplicationItem}

@@ -1,6 +1,6 @@
 -- What a visit does to an item, call by call.
 use Rattle.std.specs.Prelude.{ℕ, List, [], ◌∷◌, ◌++◌, ◌≢◌, map}
-use Rattle.cbor_edn_parts.specs.Notes.{noted}
+use Rattle.cbor_edn_parts.specs.space.Notes.{noted}
 use Rattle.cbor_edn_model.specs.access.Accessed.{element, key, entries_inside}
 use Rattle.cbor_edn_model.specs.tree.Items.{Row, Elements, Pairs, Bracketed, Array, Map, entries_of}
 use Rattle.cbor_edn_model.specs.tree.Trees.{Tree, OneItem, OneEntry, Inside, Rest, ListTree, ElementTree, PairTree, EmptyTree, FullTree, LastTree, MoreTree}

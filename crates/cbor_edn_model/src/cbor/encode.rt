@@ -11,8 +11,8 @@ ghost use Rattle.cbor_edn_model.specs.internal.Encoding.{Encodes, Gathers, list_
 use crate::cbor::heads::{
     encode_integer, encode_list_end, encode_list_head, encode_small_integer, length_of,
 };
-use cbor_edn_parts::error::{Fault, InconsistentEdn};
-use cbor_edn_parts::indicator::Indicator;
+use cbor_edn_parts::base::error::{Fault, InconsistentEdn};
+use cbor_edn_parts::base::indicator::Indicator;
 use cbor_edn_parts::number::{Integer, Number};
 use cbor_edn_parts::string::{Literal, StringKind};
 
@@ -88,7 +88,7 @@ pub fn encode_empty(
 
 /// Writes the bytes that a literal stands for, without a head, and answers their kind. Unless they stand there as they are, they take
 /// memory on the way. Fails as [`Literal::content`] does.
-#[tactic(auto, using(cbor_edn_parts::proofs::lemmas::literal::ContentTexts::content_reads))]
+#[tactic(auto, using(cbor_edn_parts::proofs::lemmas::string::ContentTexts::content_reads))]
 pub fn encode_literal(
     out: &mut Vec<u8>,
     literal: &Literal<'_>,
@@ -105,7 +105,7 @@ pub fn encode_literal(
 }
 
 /// The same of any literal, whose bytes take memory of their own.
-#[tactic(auto, using(cbor_edn_parts::proofs::lemmas::literal::ContentTexts::content_reads))]
+#[tactic(auto, using(cbor_edn_parts::proofs::lemmas::string::ContentTexts::content_reads))]
 fn encode_decoded(
     out: &mut Vec<u8>,
     literal: &Literal<'_>,

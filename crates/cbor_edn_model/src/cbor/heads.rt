@@ -8,8 +8,8 @@ ghost use Rattle.cbor_edn_model.specs.cbor.Meaning.{shortest, means_integer, tag
 ghost use Rattle.cbor_edn_model.specs.internal.Encoding.{Encodes, Finds, list_head, list_end};
 
 use crate::text::keyword::{NamedSimple, NonFinite};
-use cbor_edn_parts::error::{Fault, InconsistentEdn};
-use cbor_edn_parts::indicator::Indicator;
+use cbor_edn_parts::base::error::{Fault, InconsistentEdn};
+use cbor_edn_parts::base::indicator::Indicator;
 use cbor_edn_parts::number::{Integer, SmallInteger};
 use cbor_edn_parts::string::StringKind;
 use std::alloc::AllocError;

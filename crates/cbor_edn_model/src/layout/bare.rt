@@ -7,7 +7,7 @@ ghost use Rattle.cbor_edn_model.specs.internal.Moved.{space_or};
 ghost use Rattle.cbor_edn_model.specs.tree.TreeLeaves.{texts};
 ghost use Rattle.cbor_edn_model.specs.text.ListHeads.{view_list_head};
 
-use cbor_edn_parts::indicator::Indicator;
+use cbor_edn_parts::base::indicator::Indicator;
 use cbor_edn_parts::space::{MandatorySpace, Space};
 use std::alloc::{AllocError, Global};
 

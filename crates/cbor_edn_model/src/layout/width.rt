@@ -1,9 +1,9 @@
 //! The widths of what stands in a text beside its items.
 ghost use Rattle.std.specs.Fmt.{decimal};
 ghost use Rattle.std.specs.Prelude.{◌≡◌, length};
-ghost use Rattle.cbor_edn_parts.specs.Indicator.{indicator_text};
+ghost use Rattle.cbor_edn_parts.specs.base.Indicator.{indicator_text};
 ghost use Rattle.cbor_edn_parts.specs.Leaves.{space_bytes, mandatory_bytes, separator_bytes, list_end_bytes};
-ghost use Rattle.cbor_edn_parts.specs.Spacing as kind;
+ghost use Rattle.cbor_edn_parts.specs.space.Spacing as kind;
 ghost use Rattle.cbor_edn_model.specs.tree.TreeLeaves.{texts};
 ghost use Rattle.cbor_edn_model.specs.text.ListHeads.{view_list_head};
 ghost use Rattle.cbor_edn_model.specs.tree.Trees.{opener_text};
@@ -11,8 +11,8 @@ ghost use Rattle.cbor_edn_model.specs.internal.Widths as widths;
 ghost use Rattle.cbor_edn_model.specs.internal.Widths.{Leaves, space_width, head_width, capped};
 
 use crate::text::opener::OpenerKind;
-use cbor_edn_parts::indicator::Indicator;
-use cbor_edn_parts::policy::Spacing;
+use cbor_edn_parts::base::indicator::Indicator;
+use cbor_edn_parts::space::policy::Spacing;
 use cbor_edn_parts::space::{ListEnd, MandatorySpace, Separator, Space};
 
 /// Which spaces a width counts.

@@ -1,7 +1,7 @@
 //! What stands in front of the entries of a list: an indicator and the space behind it, if they are there.
 ghost use Rattle.std.specs.Prelude.{◌≡◌, ◌++◌, IfOk, IsOk, OnOk};
-ghost use Rattle.cbor_edn_parts.specs.Buffer.{buffer_bytes};
-ghost use Rattle.cbor_edn_parts.specs.LayoutColumns.{least};
+ghost use Rattle.cbor_edn_parts.specs.base.Buffer.{buffer_bytes};
+ghost use Rattle.cbor_edn_parts.specs.space.LayoutColumns.{least};
 ghost use Rattle.cbor_edn_model.specs.layout.Layout.{laid_list_head};
 ghost use Rattle.cbor_edn_model.specs.tree.TreeLeaves.{texts};
 ghost use Rattle.cbor_edn_model.specs.text.ListHeads.{view_list_head};
@@ -10,10 +10,10 @@ ghost use Rattle.cbor_edn_model.specs.tree.Trees.{list_head_text, head_indicator
 ghost use Rattle.cbor_edn_model.specs.internal.Same.{same_head};
 ghost use Rattle.cbor_edn_model.specs.internal.Regular.{spaced_list_head};
 
-use cbor_edn_parts::buffer::TextBuffer;
-use cbor_edn_parts::indicator::Indicator;
-use cbor_edn_parts::layout::{Layout, Slot, lay_mandatory, print_mandatory};
+use cbor_edn_parts::base::buffer::TextBuffer;
+use cbor_edn_parts::base::indicator::Indicator;
 use cbor_edn_parts::space::MandatorySpace;
+use cbor_edn_parts::space::layout::{Layout, Slot, lay_mandatory, print_mandatory};
 use std::alloc::{AllocError, Global};
 
 /// A copy of the indicator of a list and the space behind it, if they are there. Fails where memory runs out.

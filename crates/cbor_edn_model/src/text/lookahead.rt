@@ -1,7 +1,7 @@
 //! What stands at a place of a text.
 ghost use Rattle.std.specs.Prelude.{◌≡◌, ◌≢◌, ◌+◌, ◌-◌, ◌<◌, ◌≤◌, ◌∷◌, [], true, false, length, take, drop, All, OnOk, IfErr, IfSome, IfNone, Ok, Err, Some, None};
 ghost use Rattle.std.specs.Str.{IsCharBoundary};
-ghost use Rattle.cbor_edn_parts.specs.Bytes.{is_closed, closing, kind};
+ghost use Rattle.cbor_edn_parts.specs.base.Bytes.{is_closed, closing, kind};
 ghost use Rattle.cbor_edn_parts.specs.internal.Input.{text_bytes};
 ghost use Rattle.cbor_edn_parts.specs.Leaves.{space_bytes, BorrowsSpace};
 ghost use Rattle.cbor_edn_model.specs.text.ListHeads.{BorrowsListHead};
@@ -12,14 +12,14 @@ ghost use Rattle.cbor_edn_model.specs.internal.Reading.{list_head_of};
 ghost use Rattle.cbor_edn_model.specs.tree.Trees as trees;
 ghost use Rattle.cbor_edn_model.specs.text.ListHeads.{view_list_head};
 ghost use Rattle.cbor_edn_model.specs.tree.TreeLeaves.{texts};
-ghost use Rattle.cbor_edn_parts.specs.declared.error.ParseErrorKind.TheVariants.{Invalid};
+ghost use Rattle.cbor_edn_parts.specs.declared.base.error.ParseErrorKind.TheVariants.{Invalid};
 
 use crate::text::keyword::{Keyword, NamedSimple, NonFinite};
-use cbor_edn_parts::bytes::Kind;
-use cbor_edn_parts::error::{Fault, ParseErrorKind, Refusal};
-use cbor_edn_parts::indicator::Indicator;
-use cbor_edn_parts::input::Input;
-use cbor_edn_parts::looks::Looks;
+use cbor_edn_parts::base::bytes::Kind;
+use cbor_edn_parts::base::error::{Fault, ParseErrorKind, Refusal};
+use cbor_edn_parts::base::indicator::Indicator;
+use cbor_edn_parts::base::input::Input;
+use cbor_edn_parts::base::looks::Looks;
 use cbor_edn_parts::space::{MandatorySpace, Space};
 
 /// Whether an ASCII byte stands at a place, for one look.

@@ -3,7 +3,7 @@ ghost use Rattle.std.specs.Prelude.{◌≡◌};
 ghost use Rattle.cbor_edn_model.specs.layout.Bare.{bare_opener};
 ghost use Rattle.cbor_edn_model.specs.text.Openers.{IsOpener, IsOpener-prop};
 
-use cbor_edn_parts::indicator::Indicator;
+use cbor_edn_parts::base::indicator::Indicator;
 
 /// What stands in front of an item between parentheses.
 #[derive(Clone, Copy, Debug, PartialEq, Eq)]

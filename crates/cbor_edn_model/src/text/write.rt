@@ -1,12 +1,12 @@
 //! Indicators and labels as texts.
 ghost use Rattle.std.specs.Prelude.{◌≡◌, ◌++◌, OnOk};
-ghost use Rattle.cbor_edn_parts.specs.Buffer.{buffer_bytes};
-ghost use Rattle.cbor_edn_parts.specs.Indicator.{indicator_text};
+ghost use Rattle.cbor_edn_parts.specs.base.Buffer.{buffer_bytes};
+ghost use Rattle.cbor_edn_parts.specs.base.Indicator.{indicator_text};
 ghost use Rattle.cbor_edn_model.specs.tree.Trees.{opener_text};
 
 use crate::text::opener::OpenerKind;
-use cbor_edn_parts::buffer::TextBuffer;
-use cbor_edn_parts::indicator::Indicator;
+use cbor_edn_parts::base::buffer::TextBuffer;
+use cbor_edn_parts::base::indicator::Indicator;
 use std::alloc::AllocError;
 
 /// Writes an encoding indicator with its underscore at the end of a text, if there is one. Fails where memory runs out.

@@ -1,5 +1,5 @@
 -- The alphabets of the code.
-use Rattle.cbor_edn_parts.specs.Contents as contents
+use Rattle.cbor_edn_parts.specs.string.Contents as contents
 use Rattle.cbor_edn_parts.specs.declared.string.base.Alphabet.{Alphabet}
 use Rattle.cbor_edn_parts.specs.declared.string.base.Alphabet.TheVariants.{Base64, Base32, Base32Hex}
 

@@ -1,6 +1,6 @@
 -- What a column puts in front of comments.
 use Rattle.std.specs.Prelude.{ℕ, ◌+◌, List, [], ◌∷◌, ◌++◌}
-use Rattle.cbor_edn_parts.specs.Spacing.{Spacing, Least, Comments, OneLine, NewLine, OneSpace, line}
+use Rattle.cbor_edn_parts.specs.space.Spacing.{Spacing, Least, Comments, OneLine, NewLine, OneSpace, line}
 
 -- comments behind the blanks of a column
 abbrev pub in_column : Spacing → List ℕ → List ℕ

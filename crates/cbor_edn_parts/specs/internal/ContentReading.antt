@@ -1,13 +1,13 @@
 -- The content of a literal, read from its bytes.
 use Rattle.std.specs.Prelude.{ℕ, ◌+◌, ◌*◌, ◌/◌, ◌%◌, ◌-◌, ◌^◌, ◌==◌, ◌||◌, ◌&&◌, nat_lt, Bool, true, false, List, [], ◌∷◌, length, drop, Option, Some, None, option_map, if◌then◌else◌}
 use Rattle.std.specs.Char.{digit_value}
-use Rattle.cbor_edn_parts.specs.Bytes.{kind}
+use Rattle.cbor_edn_parts.specs.base.Bytes.{kind}
 use Rattle.cbor_edn_parts.specs.internal.SpaceTokens.{space_step}
-use Rattle.cbor_edn_parts.specs.Literal.{double_quote}
+use Rattle.cbor_edn_parts.specs.string.Literal.{double_quote}
 use Rattle.cbor_edn_parts.specs.internal.LiteralTokens.{decoded, prefix_of, quoted_of}
-use Rattle.cbor_edn_parts.specs.Contents.{Alphabet, base64, base32, base32hex, Content, h, b64, b32, h32}
-use Rattle.cbor_edn_parts.specs.declared.error.InconsistentEdn.{InconsistentEdn}
-use Rattle.cbor_edn_parts.specs.declared.error.InconsistentEdn.TheVariants.{UnsupportedLiteral, UndecodableContent}
+use Rattle.cbor_edn_parts.specs.string.Contents.{Alphabet, base64, base32, base32hex, Content, h, b64, b32, h32}
+use Rattle.cbor_edn_parts.specs.declared.base.error.InconsistentEdn.{InconsistentEdn}
+use Rattle.cbor_edn_parts.specs.declared.base.error.InconsistentEdn.TheVariants.{UnsupportedLiteral, UndecodableContent}
 use Rattle.cbor_edn_parts.specs.declared.space.SpaceState.{SpaceState}
 use Rattle.cbor_edn_parts.specs.declared.space.SpaceState.TheVariants.{Between, InSlashes}
 use Rattle.cbor_edn_parts.specs.declared.string.Quote.{Quote}

@@ -3,7 +3,7 @@ use Rattle.std.specs.Prelude.{ℕ, ◌+◌, ◌*◌, ◌==◌, ◌||◌, ◌&&�
 use Rattle.std.specs.Char.{digit_value}
 use Rattle.std.specs.Char.Utf16.{is_high_surrogate, is_low_surrogate, surrogate_pair_char}
 use Rattle.cbor_edn_parts.specs.internal.Lex.{Automaton, is_token}
-use Rattle.cbor_edn_parts.specs.Literal.{single_quote, double_quote, backslash, letter_escape}
+use Rattle.cbor_edn_parts.specs.string.Literal.{single_quote, double_quote, backslash, letter_escape}
 use Rattle.cbor_edn_parts.specs.declared.string.Quote.{Quote}
 use Rattle.cbor_edn_parts.specs.declared.string.Quote.TheVariants.{Single, Double}
 use Rattle.cbor_edn_parts.specs.declared.string.QuotedState.{QuotedState}

@@ -1,6 +1,6 @@
 -- How far the scan of a number has come.
 use Rattle.std.specs.Prelude.{ℕ, ◌≡◌, ◌≤◌, Bool, true, List, Option, Some, None}
-use Rattle.cbor_edn_parts.specs.Bytes.{kind, follows}
+use Rattle.cbor_edn_parts.specs.base.Bytes.{kind, follows}
 use Rattle.cbor_edn_parts.specs.internal.NumberTokens.{number}
 use Rattle.cbor_edn_parts.specs.internal.Scans.{IsRead, Comes}
 use Rattle.cbor_edn_parts.specs.declared.number.NumberState.TheVariants.{Start, AfterZero}

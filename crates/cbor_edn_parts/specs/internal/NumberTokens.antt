@@ -1,6 +1,6 @@
 -- The texts of numbers as an automaton.
 use Rattle.std.specs.Prelude.{ℕ, Bool, true, false, List, Option, Some, None}
-use Rattle.cbor_edn_parts.specs.Bytes.{Kind, kind, Plus, Minus, Zero, One, TwoToSeven, EightOrNine, Dot, B, E, HexLetter, O, P, X}
+use Rattle.cbor_edn_parts.specs.base.Bytes.{Kind, kind, Plus, Minus, Zero, One, TwoToSeven, EightOrNine, Dot, B, E, HexLetter, O, P, X}
 use Rattle.cbor_edn_parts.specs.internal.Lex.{Automaton, is_token}
 use Rattle.cbor_edn_parts.specs.declared.number.NumberState.{NumberState}
 use Rattle.cbor_edn_parts.specs.declared.number.NumberState.TheVariants.{Start, Signed, AfterZero, DecimalDigits, Point, Fraction, Exponent, ExponentSigned, ExponentDigits, AfterX, HexadecimalDigits, HexadecimalPoint, HexadecimalFraction, BinaryExponent, BinaryExponentSigned, BinaryExponentDigits, AfterO, OctalDigits, AfterB, BinaryDigits}

@@ -1,8 +1,8 @@
 -- How a scan's result stands to the tokens of a text, and what it costs in looks.
 use Rattle.std.specs.Prelude.{ℕ, ◌+◌, ◌*◌, ◌≡◌, ◌≤◌, ◌<◌, List, [], ◌∷◌, length, drop, slice_range, Option, Some, None, IfSome, MatchOption, Result, Ok, Err, MatchResult}
 use Rattle.std.specs.Str.{IsCharBoundary}
-use Rattle.cbor_edn_parts.specs.declared.error.ParseErrorKind.TheVariants.{Invalid}
-use Rattle.cbor_edn_parts.specs.declared.error.Refusal.{Refusal}
+use Rattle.cbor_edn_parts.specs.declared.base.error.ParseErrorKind.TheVariants.{Invalid}
+use Rattle.cbor_edn_parts.specs.declared.base.error.Refusal.{Refusal}
 use Rattle.cbor_edn_parts.specs.internal.Lex.{Automaton, front, munch}
 
 -- what stands at this place: nothing, or this byte

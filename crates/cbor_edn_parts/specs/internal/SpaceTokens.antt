@@ -1,6 +1,6 @@
 -- Space texts as automata.
 use Rattle.std.specs.Prelude.{ℕ, Bool, true, false, not, List, [], ◌∷◌, ◌&&◌, Option, Some, None}
-use Rattle.cbor_edn_parts.specs.Bytes.{Kind, kind, Blank, Tab, Lf, Control, Slash, Hash, Comma}
+use Rattle.cbor_edn_parts.specs.base.Bytes.{Kind, kind, Blank, Tab, Lf, Control, Slash, Hash, Comma}
 use Rattle.cbor_edn_parts.specs.internal.Lex.{Automaton, is_token}
 use Rattle.cbor_edn_parts.specs.declared.space.SpaceState.{SpaceState}
 use Rattle.cbor_edn_parts.specs.declared.space.SpaceState.TheVariants.{Between, InSlashes, InHash}

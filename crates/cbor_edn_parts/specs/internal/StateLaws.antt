@@ -4,7 +4,7 @@ use Rattle.std.specs.Char.{digit_value}
 use Rattle.std.proofs.Common.{sym, ap, ◌∙◌, subst}
 use Rattle.std.proofs.lemmas.Bool.{false≢true, both_ways, not-true, le-ltb, or_cases, and_left, and_right, cond-false, agree_below, agree_below_at}
 use mathlib.Core.Logic.{⊎_elim}
-use Rattle.cbor_edn_parts.specs.Bytes.{Kind, Other, IsLong, kind}
+use Rattle.cbor_edn_parts.specs.base.Bytes.{Kind, Other, IsLong, kind}
 use Rattle.cbor_edn_parts.specs.internal.Lex.{Automaton}
 use Rattle.cbor_edn_parts.specs.internal.SpaceTokens as spaces
 use Rattle.cbor_edn_parts.specs.internal.SpaceTokens.{space_step, space_final}

@@ -3,7 +3,7 @@ ghost use Rattle.std.specs.Prelude.{◌≡◌, ◌≤◌, ◌↔◌, ℤ, FitsSi
 ghost use Rattle.std.specs.Char.{digit_value};
 ghost use Rattle.std.specs.List.{list_all};
 ghost use Rattle.std.specs.Int.{w128};
-ghost use Rattle.cbor_edn_parts.specs.Number.{HasInteger, IsInteger};
+ghost use Rattle.cbor_edn_parts.specs.number.Number.{HasInteger, IsInteger};
 ghost use Rattle.cbor_edn_parts.specs.internal.NumberReading as reading;
 ghost use Rattle.cbor_edn_parts.specs.Leaves.{number_bytes, integer};
 

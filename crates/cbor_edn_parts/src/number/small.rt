@@ -1,12 +1,12 @@
 //! Integers that are computed in 64 bits.
 ghost use Rattle.std.specs.Prelude.{◌≡◌, ◌<◌, ◌≤◌, ◌^◌, length, pos, neg_ℤ, unsigned_abs, if◌then◌else◌, IfSome, IsNone};
 ghost use Rattle.std.specs.Fmt.{signed_decimal};
-ghost use Rattle.cbor_edn_parts.specs.LeafTexts.{leaf_bytes};
-ghost use Rattle.cbor_edn_parts.specs.Number.{HasInteger, IsInteger, Decimal};
+ghost use Rattle.cbor_edn_parts.specs.base.LeafTexts.{leaf_bytes};
+ghost use Rattle.cbor_edn_parts.specs.number.Number.{HasInteger, IsInteger, Decimal};
 ghost use Rattle.cbor_edn_parts.specs.Leaves.{number_bytes, small_integer};
 
 use super::{Number, small_decimal, split_sign};
-use crate::leaf_text::LeafText;
+use crate::base::leaf_text::LeafText;
 
 /// The integer -2^64, the only one here whose magnitude takes more than 64 bits.
 const LEAST: &str = "-18446744073709551616";

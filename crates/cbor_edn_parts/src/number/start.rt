@@ -1,7 +1,7 @@
 //! The beginning of the number at a place of a text, which most numbers are all of.
 ghost use Rattle.std.specs.Prelude.{◌≡◌, ◌≤◌, ◌+◌, ℕ, true, IsTrue, IfOk, IfSome, IsNone, Some, drop};
 ghost use Rattle.std.specs.Str.{IsCharBoundary};
-ghost use Rattle.cbor_edn_parts.specs.Bytes.{Follow};
+ghost use Rattle.cbor_edn_parts.specs.base.Bytes.{Follow};
 ghost use Rattle.cbor_edn_parts.specs.Leaves.{number_bytes, BorrowsNumber};
 ghost use Rattle.cbor_edn_parts.specs.internal.Lex.{token};
 ghost use Rattle.cbor_edn_parts.specs.internal.NumberStarts.{IsStart, IsPastDigits, follows_at};
@@ -10,12 +10,12 @@ ghost use Rattle.cbor_edn_parts.specs.internal.Scans.{IsRead, Comes, Scans, Scan
 ghost use Rattle.cbor_edn_parts.specs.internal.Input.{text_bytes};
 
 use super::{Number, NumberState};
-use crate::bytes::Kind;
-use crate::error::Refusal;
-use crate::input::Input;
-use crate::leaf_text::LeafText;
-use crate::looks::Looks;
-use crate::scan::{State, token_end};
+use crate::base::bytes::Kind;
+use crate::base::error::Refusal;
+use crate::base::input::Input;
+use crate::base::leaf_text::LeafText;
+use crate::base::looks::Looks;
+use crate::base::scan::{State, token_end};
 
 /// How far the scan of a number has come: behind a sign and a zero or other decimal digits, where these stand there.
 #[derive(Clone, Copy)]

@@ -1,14 +1,14 @@
 //! Numbers that are made from integers and from texts.
 ghost use Rattle.std.specs.Prelude.{◌≡◌, IfOk, IfSome, None};
 ghost use Rattle.std.specs.Fmt.{signed_decimal};
-ghost use Rattle.cbor_edn_parts.specs.Number.{IsNumber};
+ghost use Rattle.cbor_edn_parts.specs.number.Number.{IsNumber};
 ghost use Rattle.cbor_edn_parts.specs.internal.NumberTokens as tokens;
 ghost use Rattle.cbor_edn_parts.specs.Leaves.{number_bytes, small_integer};
 ghost use Rattle.cbor_edn_parts.specs.Written.{hexadecimal_text};
 
 use super::{Number, NumberState, SmallInteger};
-use crate::leaf_text::LeafText;
-use crate::scan::State;
+use crate::base::leaf_text::LeafText;
+use crate::base::scan::State;
 use std::alloc::{AllocError, Global};
 
 impl<'a> Number<'a> {

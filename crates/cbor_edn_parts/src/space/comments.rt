@@ -1,6 +1,6 @@
 //! The comments of a space text, and its comma.
 ghost use Rattle.std.specs.Prelude.{◌≡◌, ◌&&◌, [], IsTrue};
-ghost use Rattle.cbor_edn_parts.specs.Spacing.{comments_before, comments_after};
+ghost use Rattle.cbor_edn_parts.specs.space.Spacing.{comments_before, comments_after};
 ghost use Rattle.cbor_edn_parts.specs.internal.CommentReading as definition;
 ghost use Rattle.cbor_edn_parts.specs.internal.CommentReading.{before_comma, after_comma, comments_of};
 

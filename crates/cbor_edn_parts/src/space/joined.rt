@@ -3,7 +3,7 @@ ghost use Rattle.std.specs.Prelude.{◌≡◌, ◌++◌, IfOk};
 ghost use Rattle.cbor_edn_parts.specs.Leaves.{space_bytes, mandatory_bytes};
 
 use super::{MandatorySpace, Space};
-use crate::leaf_text::LeafText;
+use crate::base::leaf_text::LeafText;
 use std::alloc::{AllocError, Global};
 
 impl<'a> MandatorySpace<'a> {

@@ -1,12 +1,12 @@
 //! Comments as space texts.
 ghost use Rattle.std.specs.Prelude.{◌≡◌, ◌∷◌, ◌++◌, [], IfOk, OnOk, OnErr, List, ℕ, map, encode_utf8, string_bytes};
-ghost use Rattle.cbor_edn_parts.specs.LeafTexts.{leaf_bytes};
+ghost use Rattle.cbor_edn_parts.specs.base.LeafTexts.{leaf_bytes};
 ghost use Rattle.cbor_edn_parts.specs.Leaves.{space_bytes, separator_bytes, list_end_bytes};
-ghost use Rattle.cbor_edn_parts.specs.Notes as definition;
-ghost use Rattle.cbor_edn_parts.specs.Notes.{noted, hash_lines};
+ghost use Rattle.cbor_edn_parts.specs.space.Notes as definition;
+ghost use Rattle.cbor_edn_parts.specs.space.Notes.{noted, hash_lines};
 
 use super::{ListEnd, Separator, Space};
-use crate::leaf_text::LeafText;
+use crate::base::leaf_text::LeafText;
 use std::alloc::{AllocError, Global};
 
 impl<'a> Space<'a> {

@@ -11,11 +11,11 @@ ghost use Rattle.cbor_edn_parts.specs.internal.Input.{text_bytes};
 
 use super::comments::is_blank;
 use super::{ListEnd, Space, SpaceState};
-use crate::error::Refusal;
-use crate::input::Input;
-use crate::leaf_text::LeafText;
-use crate::looks::Looks;
-use crate::scan::token_end;
+use crate::base::error::Refusal;
+use crate::base::input::Input;
+use crate::base::leaf_text::LeafText;
+use crate::base::looks::Looks;
+use crate::base::scan::token_end;
 
 /// The optional space at a place, and the place behind it.
 #[inline(always)]

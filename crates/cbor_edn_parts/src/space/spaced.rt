@@ -1,18 +1,18 @@
 //! Space texts by a column of the table of spaces.
 ghost use Rattle.std.specs.Prelude.{◌≡◌, ◌≤◌, [], ◌∷◌, ◌++◌, IfOk, IsOk, OnOk};
-ghost use Rattle.cbor_edn_parts.specs.Buffer.{buffer_bytes};
-ghost use Rattle.cbor_edn_parts.specs.LeafTexts.{leaf_bytes};
+ghost use Rattle.cbor_edn_parts.specs.base.Buffer.{buffer_bytes};
+ghost use Rattle.cbor_edn_parts.specs.base.LeafTexts.{leaf_bytes};
 ghost use Rattle.cbor_edn_parts.specs.internal.CommentReading.{comments_of};
 ghost use Rattle.cbor_edn_parts.specs.Leaves.{space_bytes, mandatory_bytes, separator_bytes, list_end_bytes};
-ghost use Rattle.cbor_edn_parts.specs.Spacing as table;
-ghost use Rattle.cbor_edn_parts.specs.Spacing.{line};
+ghost use Rattle.cbor_edn_parts.specs.space.Spacing as table;
+ghost use Rattle.cbor_edn_parts.specs.space.Spacing.{line};
 ghost use Rattle.cbor_edn_parts.specs.internal.Columns.{in_column, comma_in_column};
 
 use super::comments::{comments, comments_in_parts, comments_round_comma, is_bare_separator};
 use super::{ListEnd, MandatorySpace, Separator, Space};
-use crate::buffer::TextBuffer;
-use crate::leaf_text::LeafText;
-use crate::policy::Spacing;
+use crate::base::buffer::TextBuffer;
+use crate::base::leaf_text::LeafText;
+use crate::space::policy::Spacing;
 use std::alloc::{AllocError, Global};
 
 /// The most spaces of a line that takes no memory.

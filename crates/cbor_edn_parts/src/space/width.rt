@@ -1,12 +1,12 @@
 //! How long space texts are by a column of the table, told without memory.
 ghost use Rattle.std.specs.Prelude.{◌≡◌, ◌-◌, ◌^◌, min, length};
 ghost use Rattle.cbor_edn_parts.specs.Leaves.{space_bytes, mandatory_bytes, separator_bytes, list_end_bytes};
-ghost use Rattle.cbor_edn_parts.specs.Spacing as table;
+ghost use Rattle.cbor_edn_parts.specs.space.Spacing as table;
 ghost use Rattle.cbor_edn_parts.specs.internal.Columns.{column_length, separator_length};
 
 use super::comments::{comments, comments_round_comma};
 use super::{ListEnd, MandatorySpace, Separator, Space};
-use crate::policy::Spacing;
+use crate::space::policy::Spacing;
 
 impl Space<'_> {
     /// How long the text is by a column of the table, or the greatest number where it is longer.

@@ -1,15 +1,15 @@
 //! Literals of a prefix and a text.
 ghost use Rattle.std.specs.Prelude.{◌≡◌, ◌++◌, IfOk, IfSome, IfNone, OnOk, OnErr, None, List, ℕ, encode_utf8, string_bytes};
 ghost use Rattle.cbor_edn_parts.specs.Leaves.{literal_bytes};
-ghost use Rattle.cbor_edn_parts.specs.Literal.{IsPrefix, IsLiteral, Prefixed};
+ghost use Rattle.cbor_edn_parts.specs.string.Literal.{IsPrefix, IsLiteral, Prefixed};
 ghost use Rattle.cbor_edn_parts.specs.internal.Prefixes as prefixes;
-ghost use Rattle.cbor_edn_parts.specs.Refusals.{IfTold};
+ghost use Rattle.cbor_edn_parts.specs.base.Refusals.{IfTold};
 ghost use Rattle.cbor_edn_parts.specs.Written.{application_literal, all_single_escaped};
 
 use super::write::{is_plain, print_escaped};
 use super::{Literal, Quote};
-use crate::error::{Fault, InconsistentEdn};
-use crate::leaf_text::LeafText;
+use crate::base::error::{Fault, InconsistentEdn};
+use crate::base::leaf_text::LeafText;
 use std::alloc::{AllocError, Global};
 
 impl<'a> Literal<'a> {

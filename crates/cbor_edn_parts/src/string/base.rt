@@ -1,11 +1,11 @@
 //! Bytes by symbols of 6 or 5 bits.
 ghost use Rattle.std.specs.Prelude.{◌≡◌, IfOk, Some, None};
 ghost use Rattle.cbor_edn_parts.specs.internal.Alphabets.{alphabet};
-ghost use Rattle.cbor_edn_parts.specs.Contents.{base64_symbol, base32_symbol};
+ghost use Rattle.cbor_edn_parts.specs.string.Contents.{base64_symbol, base32_symbol};
 ghost use Rattle.cbor_edn_parts.specs.internal.ContentReading.{base_bytes};
-ghost use Rattle.cbor_edn_parts.specs.Refusals.{IfTold};
+ghost use Rattle.cbor_edn_parts.specs.base.Refusals.{IfTold};
 
-use crate::error::{Fault, InconsistentEdn};
+use crate::base::error::{Fault, InconsistentEdn};
 use std::alloc::Global;
 
 /// The symbols of a prefix.

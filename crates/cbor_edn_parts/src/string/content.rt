@@ -1,17 +1,17 @@
 //! What literals contribute to a string.
 ghost use Rattle.std.specs.Prelude.{◌≡◌, ◌≤◌, ◌∷◌, ◌++◌, ℕ, List, [], true, length, drop, ◌↔◌, All, IsTrue, IfOk, IfSome, IsNone, OnOk, Some, None, not, position};
 ghost use Rattle.std.specs.List.{position_or_len};
-ghost use Rattle.cbor_edn_parts.specs.Contents.{HasContent, NoContent, IsSupported, IsRefusal};
+ghost use Rattle.cbor_edn_parts.specs.string.Contents.{HasContent, NoContent, IsSupported, IsRefusal};
 ghost use Rattle.cbor_edn_parts.specs.internal.ContentReading as reading;
 ghost use Rattle.cbor_edn_parts.specs.internal.Ended.{ended_bytes};
 ghost use Rattle.cbor_edn_parts.specs.Leaves.{literal_bytes};
 ghost use Rattle.cbor_edn_parts.specs.internal.LiteralTokens as tokens;
-ghost use Rattle.cbor_edn_parts.specs.Refusals.{IfTold};
+ghost use Rattle.cbor_edn_parts.specs.base.Refusals.{IfTold};
 ghost use Rattle.cbor_edn_parts.specs.declared.string.Quote.{Quote};
 
 use super::base::Alphabet;
 use super::{Ended, Literal, Quote, QuotedState, StringKind, hexadecimal};
-use crate::error::{Fault, InconsistentEdn};
+use crate::base::error::{Fault, InconsistentEdn};
 use std::alloc::{AllocError, Global};
 
 impl Literal<'_> {

@@ -1,10 +1,10 @@
 //! Bytes by pairs of hexadecimal digits.
 ghost use Rattle.std.specs.Prelude.{◌≡◌, IfOk, Some, None};
 ghost use Rattle.cbor_edn_parts.specs.internal.ContentReading.{hex_bytes, hex_digit_at};
-ghost use Rattle.cbor_edn_parts.specs.Refusals.{IfTold};
+ghost use Rattle.cbor_edn_parts.specs.base.Refusals.{IfTold};
 
-use crate::bytes::Kind;
-use crate::error::{Fault, InconsistentEdn};
+use crate::base::bytes::Kind;
+use crate::base::error::{Fault, InconsistentEdn};
 use crate::space::SpaceState;
 use std::alloc::Global;
 

@@ -9,11 +9,11 @@ ghost use Rattle.cbor_edn_parts.specs.internal.Scans.{IsRead, Comes, Scans, Scan
 ghost use Rattle.cbor_edn_parts.specs.internal.Input.{text_bytes};
 
 use super::{Ellipsis, EllipsisState, Literal, LiteralState, Quote, QuotedState};
-use crate::error::Refusal;
-use crate::input::Input;
-use crate::leaf_text::LeafText;
-use crate::looks::Looks;
-use crate::scan::{scan, token_end};
+use crate::base::error::Refusal;
+use crate::base::input::Input;
+use crate::base::leaf_text::LeafText;
+use crate::base::looks::Looks;
+use crate::base::scan::{scan, token_end};
 
 /// The literal at a place, and the place behind it. Refused as invalid where none stands there, at the byte that leads no further.
 #[inline(always)]

@@ -1,12 +1,12 @@
 //! The literals of decoded strings.
 ghost use Rattle.std.specs.Prelude.{◌≡◌, ◌≤◌, ◌↔◌, ◌∷◌, ◌++◌, [], length, All, IsTrue, IfOk, OnOk, encode_utf8, string_bytes};
 ghost use Rattle.hex.specs.Hex.{encode_lower};
-ghost use Rattle.cbor_edn_parts.specs.Contents.{hex_literal, text_literal, empty_literal, escaped, all_escaped};
-ghost use Rattle.cbor_edn_parts.specs.LeafTexts.{leaf_bytes};
+ghost use Rattle.cbor_edn_parts.specs.string.Contents.{hex_literal, text_literal, empty_literal, escaped, all_escaped};
+ghost use Rattle.cbor_edn_parts.specs.base.LeafTexts.{leaf_bytes};
 ghost use Rattle.cbor_edn_parts.specs.Leaves.{literal_bytes};
 
 use super::{Literal, StringKind};
-use crate::leaf_text::LeafText;
+use crate::base::leaf_text::LeafText;
 use std::alloc::{AllocError, Global};
 use std::fmt::Write;
 use std::str;

@@ -1,6 +1,6 @@
 -- What is found at one level of a path.
 use Rattle.std.specs.Prelude.{◌≡◌, ◌≢◌, ℕ, ◌<◌, slice_get, Bool, true, List, [], ◌∷◌, ◌++◌, Option, Some, None}
-use Rattle.cbor_edn_parts.specs.declared.error.InconsistentEdn.{InconsistentEdn}
+use Rattle.cbor_edn_parts.specs.declared.base.error.InconsistentEdn.{InconsistentEdn}
 use Rattle.cbor_edn_model.specs.tree.Trees.{Tree, OneItem, Seq, LastTree, ElementTree, SequenceTree, items}
 use Rattle.cbor_edn_model.specs.cbor.Value.{Value}
 use Rattle.cbor_edn_model.specs.cbor.Meaning.{means}

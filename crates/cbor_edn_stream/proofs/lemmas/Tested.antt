@@ -1,16 +1,16 @@
 -- The tree of a value that has an encoding is valid: each text in it passes the test of its set.
 use Rattle.std.proofs.Common.{◌≡◌, ℕ, ◌<◌, Bool, true, false, cond, eqb, List, [], ◌∷◌, map, Option, Some, None, refl, sym, ap, subst, ◌∙◌, arith}
 use Rattle.std.specs.Prelude.{pos, negsuc}
-use Rattle.cbor_edn_parts.specs.declared.indicator.Indicator.{Indicator}
+use Rattle.cbor_edn_parts.specs.declared.base.indicator.Indicator.{Indicator}
 use Rattle.cbor_edn_parts.specs.declared.string.StringKind.{StringKind}
 use Rattle.cbor_edn_parts.specs.declared.string.StringKind.TheVariants.{Bytes, Text}
-use Rattle.cbor_edn_parts.specs.Contents.{kind_literal}
-use Rattle.cbor_edn_parts.specs.Bytes.{kind}
+use Rattle.cbor_edn_parts.specs.string.Contents.{kind_literal}
+use Rattle.cbor_edn_parts.specs.base.Bytes.{kind}
 use Rattle.cbor_edn_parts.specs.internal.Lex.{munch, push}
 use Rattle.cbor_edn_parts.specs.internal.SpaceTokens.{is_space, is_mandatory_space, is_separator, is_list_end}
 use Rattle.cbor_edn_parts.specs.internal.LiteralTokens.{is_literal}
 use Rattle.cbor_edn_parts.proofs.lemmas.number.Decimals.{decimal_number}
-use Rattle.cbor_edn_parts.proofs.lemmas.literal.StringLiterals.{text_is_literal, hex_is_literal, empty_is_literal}
+use Rattle.cbor_edn_parts.proofs.lemmas.string.StringLiterals.{text_is_literal, hex_is_literal, empty_is_literal}
 use Rattle.cbor_edn_model.specs.tree.Items as items
 use Rattle.cbor_edn_model.specs.tree.Items.{Row, Elements, Bracketed, entries_of, Node, Item}
 use Rattle.cbor_edn_model.specs.tree.Trees.{Tree, OneEntry, Rest, Seq, ListTree, ElementTree, Valid}

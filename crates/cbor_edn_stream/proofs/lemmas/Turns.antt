@@ -1,8 +1,8 @@
 -- How each function ends, from what its calls gave.
 use Rattle.std.proofs.Common.{◌≡◌, ℕ, suc, ◌-◌, ◌<◌, List, [], ◌∷◌, ◌++◌, length, map, Option, Some, None, Result, Ok, Err, refl, sym, ap, subst, ◌∙◌, append_assoc, arith}
-use Rattle.cbor_edn_parts.specs.declared.error.Fault.{Fault}
-use Rattle.cbor_edn_parts.specs.declared.error.Fault.TheVariants.{Memory, Told}
-use Rattle.cbor_edn_parts.specs.declared.indicator.Indicator.{Indicator}
+use Rattle.cbor_edn_parts.specs.declared.base.error.Fault.{Fault}
+use Rattle.cbor_edn_parts.specs.declared.base.error.Fault.TheVariants.{Memory, Told}
+use Rattle.cbor_edn_parts.specs.declared.base.indicator.Indicator.{Indicator}
 use Rattle.cbor_edn_model.specs.declared.cbor.heads.Width.{Width}
 use Rattle.cbor_edn_model.specs.declared.text.opener.OpenerKind.TheVariants.{Tag}
 use Rattle.cbor_edn_model.specs.declared.cbor.decode.CborError.{CborError}
@@ -11,8 +11,8 @@ use Rattle.cbor_edn_model.specs.text.Spelling.{open_byte, close_byte}
 use Rattle.cbor_edn_model.specs.tree.Items as kind
 use Rattle.cbor_edn_model.specs.tree.Items.{Bracketed, Array, Map, entries_of}
 use Rattle.cbor_edn_model.specs.tree.Trees.{Tree, OneItem, OneEntry, Rest, StringTree, LastPieceTree, LiteralTree, ElementTree, text, opener_text, list_head_text}
-use Rattle.cbor_edn_parts.specs.Spacing.{Optional}
-use Rattle.cbor_edn_parts.specs.Indicator.{indicator_text}
+use Rattle.cbor_edn_parts.specs.space.Spacing.{Optional}
+use Rattle.cbor_edn_parts.specs.base.Indicator.{indicator_text}
 use Rattle.cbor_edn_model.specs.layout.Layout.{Layout, First, AfterColon, Elsewhere, respaced, laid, laid_list_head}
 use Rattle.cbor_edn_model.specs.internal.Regular.{list_inside, key_value, spaced_list_head}
 use Rattle.cbor_edn_model.specs.internal.Results.{◌>>=◌}
@@ -23,7 +23,7 @@ use Rattle.cbor_edn_model.proofs.lemmas.cbor.CborAgain.{inner_more, item_at_ok}
 use Rattle.cbor_edn_model.proofs.lemmas.cbor.CborTurns.{with_front, shown_err}
 use Rattle.cbor_edn_model.proofs.lemmas.text.Texts.{text_last_piece, text_literal}
 use Rattle.cbor_edn_model.proofs.lemmas.cbor.CborStrings.{alone_read, definite_read}
-use Rattle.cbor_edn_parts.specs.Contents.{kind_literal}
+use Rattle.cbor_edn_parts.specs.string.Contents.{kind_literal}
 use Rattle.cbor_edn_parts.specs.declared.string.StringKind.{StringKind}
 use Rattle.cbor_edn_parts.specs.declared.string.StringKind.TheVariants.{Bytes, Text}
 use Rattle.cbor_edn_model.specs.cbor.Decoded.{indicator_of}

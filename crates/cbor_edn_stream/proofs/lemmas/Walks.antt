@@ -2,7 +2,7 @@
 use Rattle.std.proofs.Common.{◌≡◌, ℕ, zero, suc, ◌+◌, ◌-◌, ◌*◌, ◌^◌, ◌≤◌, ◌<◌, true, false, List, [], ◌∷◌, ◌++◌, map, length, Option, Some, None, Ok, refl, sym, ap, subst, ◌∙◌, append_assoc, arith}
 use Rattle.std.specs.Prelude.{min}
 use Rattle.std.proofs.Math.Seq.{drop-append_seam}
-use Rattle.cbor_edn_parts.specs.declared.indicator.Indicator.{Indicator}
+use Rattle.cbor_edn_parts.specs.declared.base.indicator.Indicator.{Indicator}
 use Rattle.cbor_edn_parts.specs.declared.string.StringKind.{StringKind}
 use Rattle.cbor_edn_parts.specs.declared.string.StringKind.TheVariants.{Bytes, Text}
 use Rattle.cbor_edn_model.specs.declared.cbor.heads.Width.{Width}

@@ -6,7 +6,7 @@ use Rattle.std.specs.Int.{int_div_euclid, int_rem_euclid}
 use Rattle.jiff_core.specs.Calendar.{days_in_month}
 use Rattle.jiff_core.specs.March.{march_days, march_months}
 use Rattle.cbor_edn_times_and_addresses.specs.Time.{number, nanoseconds_of}
-use Rattle.cbor_edn_parts.specs.Number.{Sign, signed}
+use Rattle.cbor_edn_parts.specs.number.Number.{Sign, signed}
 use Rattle.cbor_edn_parts.specs.internal.NumberReading.{sign_of, without_sign}
 use Rattle.cbor_edn_times_and_addresses.specs.internal.TimeReading.{offset_length}
 use Rattle.cbor_edn_times_and_addresses.specs.internal.TimeWriting.{padded, date_text, clock_text, fraction_text}

@@ -2,7 +2,7 @@
 ghost use Rattle.std.specs.Prelude.{◌≡◌, ◌≢◌, ◌<◌, ◌≤◌, ◌^◌, ◌+◌, ◌*◌, ◌↔◌, min, ℕ, ℤ, pos, neg_ℤ, ◌+ℤ◌, ◌*ℤ◌, length, if◌then◌else◌, slice_index, IsTrue, IfOk, IfSome, IsNone};
 ghost use Rattle.std.specs.Str.Parse.{AllDigits};
 ghost use Rattle.cbor_edn_times_and_addresses.specs.Time.{number, IsTimeStamp};
-ghost use Rattle.cbor_edn_parts.specs.Number.{MinusSign};
+ghost use Rattle.cbor_edn_parts.specs.number.Number.{MinusSign};
 ghost use Rattle.cbor_edn_parts.specs.internal.NumberReading.{sign_of, without_sign};
 ghost use Rattle.cbor_edn_times_and_addresses.specs.TimeDecimal.{HasDecimal, IsOutOfRange};
 ghost use Rattle.cbor_edn_times_and_addresses.specs.internal.DecimalReading.{most_seconds, IsUnsigned, IsFirstPoint};

@@ -1,5 +1,5 @@
 use Rattle.std.proofs.Common.{List, ℕ, ◌++◌, ◌≡◌, sym, ap, ◌∙◌}
-use Rattle.cbor_edn_parts.specs.Spacing.{indented}
+use Rattle.cbor_edn_parts.specs.space.Spacing.{indented}
 use Rattle.cbor_edn_model.specs.cbor.Value.{Values, EncAll}
 use Rattle.cbor_edn_model.specs.layout.Layout.{laid_out}
 use Rattle.cbor_edn_model.specs.tree.Trees.{text}

@@ -1,7 +1,7 @@
 //! Bytes that encode one item: decoded and encoded again, which gives the same bytes.
 ghost use Rattle.std.specs.Prelude.{◌≡◌, ◌≢◌, ℕ, List, Some, IfOk};
 ghost use Rattle.std.specs.String.{string_bytes};
-ghost use Rattle.cbor_edn_parts.specs.Refusals.{IfTold};
+ghost use Rattle.cbor_edn_parts.specs.base.Refusals.{IfTold};
 ghost use Rattle.cbor_edn_model.specs.tree.Trees.{items};
 ghost use Rattle.cbor_edn_core.specs.tree.View.{standalone_tree};
 ghost use Rattle.cbor_edn_model.specs.text.Spelling.{SpellsOne};
@@ -13,8 +13,8 @@ ghost use Rattle.cbor_edn.specs.Recoding.{IsTextOfItem};
 use crate::boxed::boxed;
 use cbor_edn_core::cbor::decode::CborError;
 use cbor_edn_core::tree::{NESTING_LIMIT, StandaloneItem};
-use cbor_edn_parts::error::Fault;
-use cbor_edn_parts::policy::DelimiterPolicy;
+use cbor_edn_parts::base::error::Fault;
+use cbor_edn_parts::space::policy::DelimiterPolicy;
 use std::alloc::{AllocError, Global};
 
 /// The bytes that the item of an encoding is encoded as by way of its text, which has the spaces of each policy in turn and is parsed

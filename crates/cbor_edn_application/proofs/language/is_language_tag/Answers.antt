@@ -1,7 +1,7 @@
 use Rattle.std.proofs.Common.{ℕ, Bool, Option, Some, None, false, ◌&&◌, ◌==◌, ◌≡◌, ◌≢◌, ◌∙◌, refl, sym, ap, arith}
 use Rattle.std.proofs.lemmas.Bool.Decides.{nat_tests}
 use Rattle.cbor_edn_core.specs.tree.View.{item_tree}
-use Rattle.cbor_edn_parts.specs.declared.indicator.Indicator.{Indicator}
+use Rattle.cbor_edn_parts.specs.declared.base.indicator.Indicator.{Indicator}
 use Rattle.cbor_edn_model.specs.declared.text.opener.OpenerKind.TheVariants as opener
 use Rattle.cbor_edn_model.specs.access.Accessed.{tag_head}
 use Rattle.cbor_edn_model.specs.visit.Seeking.{number}

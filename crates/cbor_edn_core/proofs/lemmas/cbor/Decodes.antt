@@ -4,8 +4,8 @@ use Rattle.std.specs.Prelude.{option_map, IfOk}
 use Rattle.std.specs.List.{flat_map}
 use Rattle.std.proofs.lemmas.Bool.{cases_lt, eqb-true}
 use Rattle.std.proofs.lemmas.List.{append-nil}
-use Rattle.cbor_edn_parts.specs.declared.error.Fault.{Fault}
-use Rattle.cbor_edn_parts.specs.declared.error.Fault.TheVariants.{Memory, Told}
+use Rattle.cbor_edn_parts.specs.declared.base.error.Fault.{Fault}
+use Rattle.cbor_edn_parts.specs.declared.base.error.Fault.TheVariants.{Memory, Told}
 use Rattle.cbor_edn_parts.specs.declared.number.Number.{Number}
 use Rattle.cbor_edn_parts.specs.declared.string.Literal.{Literal}
 use Rattle.cbor_edn_parts.specs.declared.string.Ellipsis.{Ellipsis}
@@ -23,7 +23,7 @@ use Rattle.cbor_edn_model.specs.tree.Items.{Elements, Items, nesting}
 use Rattle.cbor_edn_model.specs.tree.Trees.{Tree, OneItem, Rest, Seq, NothingTree, SequenceTree, items}
 use Rattle.cbor_edn_model.specs.cbor.Value.{Value, Values, encoding, encodings, Enc, EncAll}
 use Rattle.cbor_edn_model.specs.cbor.Meaning.{means}
-use Rattle.cbor_edn_parts.specs.Refusals.{IfTold}
+use Rattle.cbor_edn_parts.specs.base.Refusals.{IfTold}
 use Rattle.cbor_edn_model.specs.cbor.Decoded.{item_of, items_of, BeginsWith, IsDecoded, IsDecodedSequence, NoneIs, IsTooDeepEncoding, NoSequence, IsTooDeepSequence}
 use Rattle.cbor_edn_model.specs.internal.Regular.{regular, sequence_tree_of, regular_sequence}
 use Rattle.cbor_edn_model.specs.internal.Results.{◌>>=◌}

@@ -1,7 +1,7 @@
 -- The tree of a string or of the strings of a stream whose parts are laid out one after another.
 use Rattle.std.proofs.Common.{◌≡◌, [], map, sym, ap, ◌∙◌}
-use Rattle.cbor_edn_parts.specs.LayoutColumns.{of_parts}
-use Rattle.cbor_edn_parts.specs.Spacing.{AtEnd}
+use Rattle.cbor_edn_parts.specs.space.LayoutColumns.{of_parts}
+use Rattle.cbor_edn_parts.specs.space.Spacing.{AtEnd}
 use Rattle.cbor_edn_core.specs.declared.tree.CborStringOf.{CborStringOf, roll-CborStringOf, out-roll-CborStringOf}
 use Rattle.cbor_edn_core.specs.declared.tree.StringsOf.{StringsOf, out-StringsOf, roll-StringsOf}
 use Rattle.cbor_edn_model.specs.tree.TreeLeaves.{Ghosts}

@@ -1,6 +1,6 @@
 -- The tree of a list whose parts are laid out one after another.
 use Rattle.std.proofs.Common.{◌≡◌, map, sym, ap, ◌∙◌}
-use Rattle.cbor_edn_parts.specs.Spacing.{AtEnd}
+use Rattle.cbor_edn_parts.specs.space.Spacing.{AtEnd}
 use Rattle.cbor_edn_core.specs.declared.tree.ItemsOf.{ItemsOf, out-ItemsOf, roll-ItemsOf}
 use Rattle.cbor_edn_core.specs.declared.tree.PairsOf.{PairsOf, out-PairsOf, roll-PairsOf}
 use Rattle.cbor_edn_model.specs.tree.TreeLeaves.{Ghosts}

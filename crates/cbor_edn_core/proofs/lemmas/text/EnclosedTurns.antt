@@ -3,13 +3,13 @@ use Rattle.std.proofs.Common.{ℕ, zero, suc, List, [], ◌∷◌, ◌++◌, ◌
 use Rattle.std.specs.Prelude.{eqb}
 use Rattle.std.proofs.lemmas.Bool.{eqb-true, false_from_ne_true, ne_eqb}
 use Rattle.std.proofs.lemmas.Option.{none-some}
-use Rattle.cbor_edn_parts.specs.declared.error.ParseErrorKind.TheVariants.{Invalid, TooDeep}
-use Rattle.cbor_edn_parts.specs.declared.error.Refusal.{Refusal}
-use Rattle.cbor_edn_parts.specs.declared.error.Fault.{Fault}
-use Rattle.cbor_edn_parts.specs.declared.error.Fault.TheVariants.{Told}
-use Rattle.cbor_edn_parts.specs.declared.indicator.Indicator.{Indicator}
-use Rattle.cbor_edn_parts.specs.Bytes.{Follow}
-use Rattle.cbor_edn_parts.specs.Indicator.{indicator_at}
+use Rattle.cbor_edn_parts.specs.declared.base.error.ParseErrorKind.TheVariants.{Invalid, TooDeep}
+use Rattle.cbor_edn_parts.specs.declared.base.error.Refusal.{Refusal}
+use Rattle.cbor_edn_parts.specs.declared.base.error.Fault.{Fault}
+use Rattle.cbor_edn_parts.specs.declared.base.error.Fault.TheVariants.{Told}
+use Rattle.cbor_edn_parts.specs.declared.base.indicator.Indicator.{Indicator}
+use Rattle.cbor_edn_parts.specs.base.Bytes.{Follow}
+use Rattle.cbor_edn_parts.specs.base.Indicator.{indicator_at}
 use Rattle.cbor_edn_parts.specs.internal.Lex as lex
 use Rattle.cbor_edn_parts.specs.internal.Lex.{Automaton}
 use Rattle.cbor_edn_parts.specs.internal.NumberTokens.{number}
@@ -25,8 +25,8 @@ use Rattle.cbor_edn_model.specs.internal.Results.{◌>>=◌}
 use Rattle.cbor_edn_model.specs.internal.Reading.{token, byte, or_invalid, starts_with, keyword_at, tag_number, enclosed_item, tag_item, number_end, number_item, keyword_item, plain_item, item, reads}
 use Rattle.cbor_edn_core.specs.internal.ParserResults.{Fails}
 use Rattle.cbor_edn_model.specs.internal.BytesAt.{IsNotAt}
-use Rattle.cbor_edn_parts.proofs.lemmas.scan.Indicators.{spec-again}
-use Rattle.cbor_edn_parts.proofs.lemmas.scan.Tokens.{munch-took}
+use Rattle.cbor_edn_parts.proofs.lemmas.base.Indicators.{spec-again}
+use Rattle.cbor_edn_parts.proofs.lemmas.base.Tokens.{munch-took}
 use Rattle.cbor_edn_model.proofs.lemmas.text.Follows.{follow_unopened}
 use Rattle.cbor_edn_model.proofs.lemmas.text.StepCounts.{reads-rule}
 use Rattle.cbor_edn_core.proofs.lemmas.text.Turns.{bind_fails, bind_ok, fails_at, byte_there, byte_other, token_end}

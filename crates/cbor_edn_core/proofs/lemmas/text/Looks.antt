@@ -6,7 +6,7 @@ use Rattle.cbor_edn_parts.specs.internal.Lex as lex
 use Rattle.cbor_edn_parts.specs.internal.Lex.{Automaton, Accepts}
 use Rattle.cbor_edn_parts.specs.internal.LiteralTokens.{literal, ellipsis, literal_final, ellipsis_final, is_lower, is_upper}
 use Rattle.cbor_edn_parts.specs.declared.space.read.ItemEnd.{ItemEnd}
-use Rattle.cbor_edn_parts.proofs.lemmas.scan.Tokens.{munch-took, Holds, nothing, just}
+use Rattle.cbor_edn_parts.proofs.lemmas.base.Tokens.{munch-took, Holds, nothing, just}
 use Rattle.cbor_edn_model.specs.internal.LookCosts.{a_byte, longest_keyword, extra, refused_extra, keyword_extra, enclosed_extra, refused_enclosed_extra}
 use Rattle.cbor_edn_model.specs.tree.Trees.{OneItem}
 use Rattle.cbor_edn_core.specs.internal.ParserResults.{CostsEnd, CostsEndAhead}

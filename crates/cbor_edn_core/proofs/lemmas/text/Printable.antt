@@ -1,7 +1,7 @@
 -- Each text of a declared tree is in its set.
 use Rattle.std.proofs.Common.{◌≡◌, ℕ, List, Option, None, Some, subst, sym}
 use Rattle.cbor_edn_parts.specs.Leaves.{space_bytes}
-use Rattle.cbor_edn_parts.specs.declared.indicator.Indicator.{Indicator}
+use Rattle.cbor_edn_parts.specs.declared.base.indicator.Indicator.{Indicator}
 use Rattle.cbor_edn_parts.specs.declared.space.Space.{Space}
 use Rattle.cbor_edn_parts.specs.declared.space.MandatorySpace.{MandatorySpace}
 use Rattle.cbor_edn_parts.specs.declared.space.Separator.{Separator}

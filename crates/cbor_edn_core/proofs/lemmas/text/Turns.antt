@@ -3,14 +3,14 @@ use Rattle.std.proofs.Common.{ℕ, zero, suc, List, [], ◌∷◌, ◌++◌, ◌
 use Rattle.std.specs.Prelude.{eqb, cond}
 use Rattle.std.proofs.lemmas.List.{map-append}
 use Rattle.std.proofs.lemmas.Bool.{false≢true, eq-eqb, ne_eqb, eqb-true, false_from_ne_true, both_ways}
-use Rattle.cbor_edn_parts.specs.declared.error.ParseErrorKind.{ParseErrorKind}
-use Rattle.cbor_edn_parts.specs.declared.error.ParseErrorKind.TheVariants.{Invalid, TooDeep}
-use Rattle.cbor_edn_parts.specs.declared.error.Refusal.{Refusal}
-use Rattle.cbor_edn_parts.specs.declared.error.Fault.{Fault}
-use Rattle.cbor_edn_parts.specs.declared.error.Fault.TheVariants.{Memory, Told}
-use Rattle.cbor_edn_parts.specs.declared.indicator.Indicator.{Indicator}
-use Rattle.cbor_edn_parts.specs.Indicator.{indicator_at}
-use Rattle.cbor_edn_parts.specs.Bytes.{is_closed}
+use Rattle.cbor_edn_parts.specs.declared.base.error.ParseErrorKind.{ParseErrorKind}
+use Rattle.cbor_edn_parts.specs.declared.base.error.ParseErrorKind.TheVariants.{Invalid, TooDeep}
+use Rattle.cbor_edn_parts.specs.declared.base.error.Refusal.{Refusal}
+use Rattle.cbor_edn_parts.specs.declared.base.error.Fault.{Fault}
+use Rattle.cbor_edn_parts.specs.declared.base.error.Fault.TheVariants.{Memory, Told}
+use Rattle.cbor_edn_parts.specs.declared.base.indicator.Indicator.{Indicator}
+use Rattle.cbor_edn_parts.specs.base.Indicator.{indicator_at}
+use Rattle.cbor_edn_parts.specs.base.Bytes.{is_closed}
 use Rattle.cbor_edn_parts.specs.internal.Lex as lex
 use Rattle.cbor_edn_parts.specs.internal.Lex.{Automaton, Accepts, munch}
 use Rattle.cbor_edn_parts.specs.internal.SpaceTokens.{space, separator}
@@ -22,10 +22,10 @@ use Rattle.cbor_edn_model.specs.internal.Results.{◌>>=◌}
 use Rattle.cbor_edn_model.specs.internal.Reading.{Read, token, byte, not_empty, number_item, list_item, string_item, stream_item, starts_string, keyword_at, plain_item, item, entry, list_head_of, inside, inside_full, more, rest, sequence, standalone, reads, reads_all, at_end}
 use Rattle.cbor_edn_core.specs.internal.ParserResults.{Fails, ReadsEnd, behind_colon, with_separator, filled, parted}
 use Rattle.cbor_edn_model.specs.internal.BytesAt.{IsNotAt}
-use Rattle.cbor_edn_parts.specs.Refusals.{IfTold}
+use Rattle.cbor_edn_parts.specs.base.Refusals.{IfTold}
 use Rattle.cbor_edn_parts.specs.declared.space.read.ItemEnd.{ItemEnd}
 use Rattle.cbor_edn_model.specs.tree.Rows.{entries_onto}
-use Rattle.cbor_edn_parts.proofs.lemmas.scan.Tokens.{munch-took}
+use Rattle.cbor_edn_parts.proofs.lemmas.base.Tokens.{munch-took}
 use Rattle.cbor_edn_model.proofs.lemmas.text.StepCounts.{reads-rule}
 
 pub bind_fails : {A B : Type 0} (e : Fault Refusal) (r : Result A ParseErrorKind) (f : A → Result B ParseErrorKind) → Fails e r → Fails e (r >>= f)

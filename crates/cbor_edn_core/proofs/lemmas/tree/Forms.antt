@@ -1,7 +1,7 @@
 -- The form of an item, and what its view tells of it.
 use Rattle.std.proofs.Common.{◌≡◌, ◌≢◌, ◌⊎◌, inl, inr, Bool, true, false, Option, None, refl, sym, ap, subst, ◌∙◌}
 use Rattle.std.specs.Global.{Box}
-use Rattle.cbor_edn_parts.specs.declared.indicator.Indicator.{Indicator}
+use Rattle.cbor_edn_parts.specs.declared.base.indicator.Indicator.{Indicator}
 use Rattle.cbor_edn_core.specs.declared.tree.CborStringOf.{CborStringOf}
 use Rattle.cbor_edn_model.specs.declared.text.opener.Opener.{Opener}
 use Rattle.cbor_edn_core.specs.declared.tree.InnerItemOf.{InnerItemOf, roll-InnerItemOf, roll-out-InnerItemOf}

@@ -1,7 +1,7 @@
 -- Chains of calls at tags and at literals, and what they leave of their closure.
 use Rattle.std.proofs.Common.{ℕ, List, ◌++◌, ◌≡◌, ◌≤◌, Result, MutBor, subst, Option, Some, None}
 use Rattle.std.specs.Fn.{Called}
-use Rattle.cbor_edn_parts.specs.declared.error.CallbackError.{CallbackError}
+use Rattle.cbor_edn_parts.specs.declared.base.error.CallbackError.{CallbackError}
 use Rattle.cbor_edn_model.specs.access.Accessed.{tag_number, IsApplicationItem}
 use Rattle.cbor_edn_model.specs.visit.Depth.{depth}
 use Rattle.cbor_edn_model.specs.visit.Seeking.{CallArguments, IsTag, IsApplication, number, prefix_and_text}

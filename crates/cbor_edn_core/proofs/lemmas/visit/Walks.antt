@@ -3,7 +3,7 @@ use Rattle.std.proofs.Common.{ℕ, zero, suc, max, ◌+◌, ◌*◌, ◌<◌, �
 use Rattle.std.proofs.Math.Seq.{take-suc-set, drop-cons}
 use Rattle.std.proofs.lemmas.List.{take_more, take_all, set_split, take-append-drop, drop-drop}
 use Rattle.std.specs.Global.{Box}
-use Rattle.cbor_edn_parts.specs.declared.indicator.Indicator.{Indicator}
+use Rattle.cbor_edn_parts.specs.declared.base.indicator.Indicator.{Indicator}
 use Rattle.cbor_edn_model.specs.visit.Depth.{depth}
 use Rattle.cbor_edn_model.specs.tree.Items as kind
 use Rattle.cbor_edn_model.specs.tree.Items.{Row}

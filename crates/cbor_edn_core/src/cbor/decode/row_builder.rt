@@ -2,7 +2,7 @@
 ghost use Rattle.std.specs.Prelude.{◌≡◌, ◌++◌, ◌∷◌, [], map, OnOk, None};
 ghost use Rattle.cbor_edn_parts.specs.Leaves.{separator_bytes};
 
-use crate::tree::row::append;
+use cbor_edn_parts::base::row::append;
 use cbor_edn_parts::space::Separator;
 use std::alloc::{AllocError, Global};
 

@@ -14,7 +14,7 @@ use cbor_edn_model::cbor::decode::float::{float_indicator, non_finite};
 use cbor_edn_model::cbor::decode::head::Argument;
 use cbor_edn_model::cbor::heads::Width;
 use cbor_edn_model::text::keyword::{NamedSimple, NonFinite};
-use cbor_edn_parts::error::Fault;
+use cbor_edn_parts::base::error::Fault;
 use cbor_edn_parts::number::{Number, SmallInteger};
 use std::alloc::{AllocError, Global};
 

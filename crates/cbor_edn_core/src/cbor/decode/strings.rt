@@ -1,6 +1,6 @@
 //! Strings from their encoding.
 ghost use Rattle.std.specs.Prelude.{◌≡◌, ◌<◌, ◌≤◌, suc, length, map, option_map, IfOk};
-ghost use Rattle.cbor_edn_parts.specs.Contents.{kind_literal};
+ghost use Rattle.cbor_edn_parts.specs.string.Contents.{kind_literal};
 ghost use Rattle.cbor_edn_parts.specs.Leaves.{literal_bytes};
 ghost use Rattle.cbor_edn_core.specs.tree.View.{view_string, view_strings, item_tree};
 ghost use Rattle.cbor_edn_model.specs.tree.TreeLeaves.{texts};
@@ -13,8 +13,8 @@ use super::row_builder::RowBuilder;
 use crate::tree::{CborString, Item, Piece, Stream, Strings};
 use cbor_edn_model::cbor::decode::head::{Argument, Stop, head_of, indicator_of, past_stop};
 use cbor_edn_model::cbor::heads::{Width, string_major};
-use cbor_edn_parts::error::Fault;
-use cbor_edn_parts::indicator::Indicator;
+use cbor_edn_parts::base::error::Fault;
+use cbor_edn_parts::base::indicator::Indicator;
 use cbor_edn_parts::space::MandatorySpace;
 use cbor_edn_parts::string::{Literal, StringKind};
 use std::alloc::{AllocError, Global};

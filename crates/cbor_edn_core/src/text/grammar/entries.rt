@@ -2,15 +2,15 @@
 ghost use Rattle.std.specs.Prelude.{◌≡◌, ◌<◌, [], OnOk, IfOk, vec_len, vec_capacity};
 ghost use Rattle.cbor_edn_parts.specs.internal.Ends.{IsEnd, reached};
 ghost use Rattle.cbor_edn_parts.specs.Leaves.{list_end_bytes, BorrowsListEnd};
-ghost use Rattle.cbor_edn_parts.specs.Refusals.{IfTold};
+ghost use Rattle.cbor_edn_parts.specs.base.Refusals.{IfTold};
 ghost use Rattle.cbor_edn_parts.specs.internal.Input.{text_bytes};
 ghost use Rattle.cbor_edn_core.specs.internal.ParserResults.{IsPushed, ReadsSeparator, LandsSeparator, CostsSeparator, ReadsBehind, LandsBehind, CostsBehind, BorrowsBehind, OnMore};
 
-use crate::tree::row::{append, make_room};
 use cbor_edn_model::text::lookahead::closes;
-use cbor_edn_parts::error::{Fault, ParseErrorKind, Refusal};
-use cbor_edn_parts::input::Input;
-use cbor_edn_parts::looks::Looks;
+use cbor_edn_parts::base::error::{Fault, ParseErrorKind, Refusal};
+use cbor_edn_parts::base::input::Input;
+use cbor_edn_parts::base::looks::Looks;
+use cbor_edn_parts::base::row::{append, make_room};
 use cbor_edn_parts::space::{ItemEnd, ListEnd, Separator, separator_behind};
 
 /// What stands behind an entry, with the place behind that.

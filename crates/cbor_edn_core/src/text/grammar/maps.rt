@@ -16,13 +16,13 @@ ghost use Rattle.cbor_edn_model.specs.tree.TreeLeaves.{texts};
 
 use super::entries::{Behind, behind_entry};
 use super::items::item;
-use crate::tree::row::drop_out_of_line;
 use crate::tree::{Item, Pair, PairList, Pairs};
 use cbor_edn_model::text::lookahead::{closes, is_at, list_head_and_space};
-use cbor_edn_parts::error::{Fault, Refusal};
-use cbor_edn_parts::indicator::indicator_at;
-use cbor_edn_parts::input::Input;
-use cbor_edn_parts::looks::Looks;
+use cbor_edn_parts::base::error::{Fault, Refusal};
+use cbor_edn_parts::base::indicator::indicator_at;
+use cbor_edn_parts::base::input::Input;
+use cbor_edn_parts::base::looks::Looks;
+use cbor_edn_parts::base::row::drop_out_of_line;
 use cbor_edn_parts::space::{ItemEnd, Space, space_at, space_behind};
 use std::alloc::Global;
 

@@ -14,9 +14,9 @@ use super::items::item;
 use super::lists::items;
 use crate::tree::{Sequence, StandaloneItem};
 use cbor_edn_model::text::lookahead::closes;
-use cbor_edn_parts::error::{Fault, Refusal};
-use cbor_edn_parts::input::Input;
-use cbor_edn_parts::looks::Looks;
+use cbor_edn_parts::base::error::{Fault, Refusal};
+use cbor_edn_parts::base::input::Input;
+use cbor_edn_parts::base::looks::Looks;
 use cbor_edn_parts::space::{space_at, space_behind};
 use std::alloc::Global;
 

@@ -15,13 +15,13 @@ ghost use Rattle.cbor_edn_model.specs.tree.TreeLeaves.{texts};
 
 use super::entries::{push_entry, with_separator};
 use super::sequences::sequence;
-use crate::tree::row::append;
 use crate::tree::{CborString, Item, Piece, Stream, Strings};
 use cbor_edn_model::text::lookahead::{closes, is_at, joins};
-use cbor_edn_parts::error::{Fault, ParseErrorKind, Refusal};
-use cbor_edn_parts::indicator::indicator_at;
-use cbor_edn_parts::input::Input;
-use cbor_edn_parts::looks::Looks;
+use cbor_edn_parts::base::error::{Fault, ParseErrorKind, Refusal};
+use cbor_edn_parts::base::indicator::indicator_at;
+use cbor_edn_parts::base::input::Input;
+use cbor_edn_parts::base::looks::Looks;
+use cbor_edn_parts::base::row::append;
 use cbor_edn_parts::space::{ItemEnd, space_at};
 use cbor_edn_parts::string::{ellipsis_at, literal_at};
 use std::alloc::Global;

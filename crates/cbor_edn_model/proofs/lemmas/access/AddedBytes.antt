@@ -1,8 +1,8 @@
 -- Byte strings that are put one behind the other.
 use Rattle.std.proofs.Common.{◌≡◌, ℕ, List, [], ◌∷◌, ◌++◌, Option, Some, Result, Ok, Err, refl, ap, ◌∙◌, append_assoc}
 use Rattle.std.proofs.lemmas.List.{append-nil}
-use Rattle.cbor_edn_parts.specs.declared.error.Fault.{Fault}
-use Rattle.cbor_edn_parts.specs.declared.error.Fault.TheVariants.{Memory, Told}
+use Rattle.cbor_edn_parts.specs.declared.base.error.Fault.{Fault}
+use Rattle.cbor_edn_parts.specs.declared.base.error.Fault.TheVariants.{Memory, Told}
 use Rattle.cbor_edn_model.specs.access.Accessed.{both_joined, piece_bytes, pieces_bytes, chunk, strings_bytes}
 use Rattle.cbor_edn_model.specs.tree.Items.{Strings}
 use Rattle.cbor_edn_model.specs.tree.Rows.{pieces_onto, entries_onto}

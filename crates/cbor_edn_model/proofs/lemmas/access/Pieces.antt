@@ -3,11 +3,11 @@ use Rattle.std.proofs.Common.{◌≡◌, ℕ, Bool, List, [], ◌∷◌, true, f
 use Rattle.std.proofs.lemmas.Bool.{false≢true, ne_eqb}
 use Rattle.std.specs.Prelude.{◌==◌, ◌↔◌, IfNone}
 use mathlib.Core.Bool.{not}
-use Rattle.cbor_edn_parts.specs.Literal.{IsLiteral, Prefixed}
+use Rattle.cbor_edn_parts.specs.string.Literal.{IsLiteral, Prefixed}
 use Rattle.cbor_edn_parts.specs.Written.{application_literal}
 use Rattle.std.specs.Option.{is_some}
-use Rattle.cbor_edn_parts.proofs.lemmas.literal.Applications.{one_application}
-use Rattle.cbor_edn_parts.proofs.lemmas.literal.WrittenLiterals.{application_is}
+use Rattle.cbor_edn_parts.proofs.lemmas.string.Applications.{one_application}
+use Rattle.cbor_edn_parts.proofs.lemmas.string.WrittenLiterals.{application_is}
 use Rattle.cbor_edn_model.specs.access.Accessed.{are_several, IsApplicationPiece}
 use Rattle.cbor_edn_model.specs.internal.Same.{same_tree}
 use Rattle.cbor_edn_model.specs.tree.Rows.{pieces_onto}

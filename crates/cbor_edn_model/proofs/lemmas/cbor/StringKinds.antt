@@ -6,7 +6,7 @@ use Rattle.cbor_edn_parts.specs.declared.string.Quote.TheVariants as quotes
 use Rattle.cbor_edn_parts.specs.declared.string.StringKind.{StringKind}
 use Rattle.cbor_edn_parts.specs.declared.string.StringKind.TheVariants.{Bytes, Text}
 use Rattle.cbor_edn_parts.specs.internal.LiteralTokens.{decoded, prefix_of, quoted_of}
-use Rattle.cbor_edn_parts.specs.Contents.{Content}
+use Rattle.cbor_edn_parts.specs.string.Contents.{Content}
 use Rattle.cbor_edn_parts.specs.internal.ContentReading.{prefixed_bytes, literal_content, literal_kind}
 use Rattle.cbor_edn_model.specs.tree.Items.{Strings, Piece, Pieces, Entries, Node, Literal, Ellipsis, Embedded, LastPiece, Plus, Chunk, End, Then}
 use Rattle.cbor_edn_model.specs.cbor.Value as values

@@ -2,12 +2,12 @@
 use Rattle.std.proofs.Common.{ℕ, List, [], ◌∷◌, ◌≡◌, refl}
 use Rattle.std.specs.Prelude.{pos, codes, Some, None, Result, Ok}
 use Rattle.std.specs.Fmt.{digits}
-use Rattle.cbor_edn_parts.specs.declared.error.ParseErrorKind.{ParseErrorKind}
+use Rattle.cbor_edn_parts.specs.declared.base.error.ParseErrorKind.{ParseErrorKind}
 use Rattle.cbor_edn_parts.specs.declared.string.StringKind.TheVariants.{Bytes}
-use Rattle.cbor_edn_parts.specs.Bytes.{kind}
-use Rattle.cbor_edn_parts.specs.Indicator.{indicator_at, suffix_at}
+use Rattle.cbor_edn_parts.specs.base.Bytes.{kind}
+use Rattle.cbor_edn_parts.specs.base.Indicator.{indicator_at, suffix_at}
 use Rattle.cbor_edn_parts.specs.internal.Lex.{munch, push}
-use Rattle.cbor_edn_parts.specs.Notes.{hash_lines, noted}
+use Rattle.cbor_edn_parts.specs.space.Notes.{hash_lines, noted}
 use Rattle.cbor_edn_model.specs.declared.cbor.heads.Width.TheVariants.{Immediate, One}
 use Rattle.cbor_edn_model.specs.tree.Trees.{Rule, Standalone, Tree, text, onto, joins}
 use Rattle.cbor_edn_model.specs.internal.Results.{◌>>=◌}

@@ -4,7 +4,7 @@ use Rattle.std.proofs.Common.{◌≡◌, ◌⊎◌, inl, inr, ℕ, ◌+◌, ◌^
 use Rattle.std.specs.Prelude.{is_none}
 use mathlib.Core.Logic.{⊎_elim}
 use Rattle.cbor_edn_parts.specs.internal.NumberReading.{integer_of}
-use Rattle.cbor_edn_parts.specs.declared.indicator.Indicator.{Indicator}
+use Rattle.cbor_edn_parts.specs.declared.base.indicator.Indicator.{Indicator}
 use Rattle.cbor_edn_parts.specs.declared.string.StringKind.{StringKind}
 use Rattle.cbor_edn_model.specs.declared.cbor.heads.Width.{Width}
 use Rattle.cbor_edn_model.specs.tree.Items as kind

@@ -1,6 +1,6 @@
 -- Items with fewer indicators, and bare items, which have fewest.
 use Rattle.std.proofs.Common.{◌≡◌, refl, Option, None, inl, inr}
-use Rattle.cbor_edn_parts.specs.declared.indicator.Indicator.{Indicator}
+use Rattle.cbor_edn_parts.specs.declared.base.indicator.Indicator.{Indicator}
 use Rattle.cbor_edn_model.specs.tree.Items.{Sort, Node, Number, Float, Listed, Tagged, Named, Simple, String, Stream, Literal, Ellipsis, Embedded, LastPiece, Plus, Element, Pair, Chunk, End, Then}
 use Rattle.cbor_edn_model.specs.layout.Bare.{bare}
 use Rattle.cbor_edn_model.specs.layout.Fewer.{IndicatorsBecome, number, float, listed, tagged, named, simple, string, stream, literal, ellipsis, embedded, last_piece, plus, element, pair, chunk, end, then, StaysOrGoes, Fewer}

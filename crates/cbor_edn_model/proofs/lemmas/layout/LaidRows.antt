@@ -1,6 +1,6 @@
 -- A row laid out or without indicators is so entry by entry.
 use Rattle.std.proofs.Common.{ℕ, ◌≡◌, List, [], ◌∷◌, map, refl, ap, ◌∙◌}
-use Rattle.cbor_edn_parts.specs.Spacing.{Optional, Separating}
+use Rattle.cbor_edn_parts.specs.space.Spacing.{Optional, Separating}
 use Rattle.cbor_edn_model.specs.tree.Items.{Row, Plus, Then}
 use Rattle.cbor_edn_model.specs.tree.Trees.{OnePiece, OneString, OneEntry, Rest, Tree, PlusTree, MoreTree, items}
 use Rattle.cbor_edn_model.specs.tree.Rows.{entries_onto, pieces_onto}

@@ -1,9 +1,9 @@
 -- The text of a tree that is laid out, by its parts.
 use Rattle.std.proofs.Common.{ℕ, ◌≡◌, List, [], ◌∷◌, ◌++◌, map, refl, ap, ◌∙◌, Option}
-use Rattle.cbor_edn_parts.specs.declared.indicator.Indicator.{Indicator}
-use Rattle.cbor_edn_parts.specs.Indicator.{indicator_text}
-use Rattle.cbor_edn_parts.specs.LayoutColumns.{of_parts}
-use Rattle.cbor_edn_parts.specs.Spacing.{Optional, AtEnd}
+use Rattle.cbor_edn_parts.specs.declared.base.indicator.Indicator.{Indicator}
+use Rattle.cbor_edn_parts.specs.base.Indicator.{indicator_text}
+use Rattle.cbor_edn_parts.specs.space.LayoutColumns.{of_parts}
+use Rattle.cbor_edn_parts.specs.space.Spacing.{Optional, AtEnd}
 use Rattle.cbor_edn_model.specs.declared.text.keyword.NamedSimple.{NamedSimple}
 use Rattle.cbor_edn_model.specs.declared.text.keyword.NonFinite.{NonFinite}
 use Rattle.cbor_edn_model.specs.declared.text.opener.OpenerKind.{OpenerKind}

@@ -1,9 +1,9 @@
 -- An item is laid out by its measured width, and what is made of parts that are laid out is so too.
 use Rattle.std.proofs.Common.{ℕ, ◌≡◌, List, map, length, refl, sym, ap, ◌∙◌}
 use Rattle.std.specs.Prelude.{nat_lt, if◌then◌else◌}
-use Rattle.cbor_edn_parts.specs.Spacing.{Mandatory, AtEnd}
-use Rattle.cbor_edn_parts.specs.declared.policy.Spacing.TheVariants.{OneLine}
-use Rattle.cbor_edn_parts.specs.LayoutColumns.{of_parts}
+use Rattle.cbor_edn_parts.specs.space.Spacing.{Mandatory, AtEnd}
+use Rattle.cbor_edn_parts.specs.declared.space.policy.Spacing.TheVariants.{OneLine}
+use Rattle.cbor_edn_parts.specs.space.LayoutColumns.{of_parts}
 use Rattle.cbor_edn_model.specs.declared.text.opener.OpenerKind.{OpenerKind}
 use Rattle.cbor_edn_model.specs.tree.Items.{Strings, Bracketed, Chunk, End, Then}
 use Rattle.cbor_edn_model.specs.tree.Trees.{Rule, OneItem, OnePiece, OneString, OneEntry, Inside, Rest, Standalone, ListHead, NoIndicator, WithIndicator, Tree, NumberTree, FloatTree, NamedTree, EnclosedTree, ListTree, StringTree, StreamTree, LiteralTree, EllipsisTree, EmbeddedTree, LastPieceTree, PlusTree, ElementTree, PairTree, ChunkTree, EmptyTree, FullTree, LastTree, MoreTree, NothingTree, SequenceTree, StandaloneTree, items, text}

@@ -2,14 +2,14 @@
 use Rattle.std.proofs.Common.{ℕ, List, [], ◌∷◌, ◌++◌, ◌≡◌, refl}
 use Rattle.std.specs.Prelude.{codes, ◌^◌, ◌-◌, None, Result, Ok}
 use Rattle.std.specs.Fmt.{digits}
-use Rattle.cbor_edn_parts.specs.declared.error.ParseErrorKind.{ParseErrorKind}
-use Rattle.cbor_edn_parts.specs.Bytes.{kind}
-use Rattle.cbor_edn_parts.specs.Indicator.{indicator_at, suffix_at}
+use Rattle.cbor_edn_parts.specs.declared.base.error.ParseErrorKind.{ParseErrorKind}
+use Rattle.cbor_edn_parts.specs.base.Bytes.{kind}
+use Rattle.cbor_edn_parts.specs.base.Indicator.{indicator_at, suffix_at}
 use Rattle.cbor_edn_parts.specs.internal.Lex.{munch, push}
 use Rattle.cbor_edn_parts.specs.internal.CommentReading.{from_first, to_last, up_to_comma, past_comma}
-use Rattle.cbor_edn_parts.specs.Spacing.{indented, line}
-use Rattle.cbor_edn_parts.specs.declared.policy.DelimiterPolicy.{DelimiterPolicy}
-use Rattle.cbor_edn_parts.specs.declared.policy.DelimiterPolicy.TheVariants.{DiscardAll, DiscardAllButComments, SingleLineRegularSpacing, IndentedRegularSpacing, SingleSpace}
+use Rattle.cbor_edn_parts.specs.space.Spacing.{indented, line}
+use Rattle.cbor_edn_parts.specs.declared.space.policy.DelimiterPolicy.{DelimiterPolicy}
+use Rattle.cbor_edn_parts.specs.declared.space.policy.DelimiterPolicy.TheVariants.{DiscardAll, DiscardAllButComments, SingleLineRegularSpacing, IndentedRegularSpacing, SingleSpace}
 use Rattle.cbor_edn_model.specs.tree.Items.{Array}
 use Rattle.cbor_edn_model.specs.tree.Trees.{Rule, Standalone, OneItem, Seq, NoIndicator, Tree, NumberTree, ElementTree, ListTree, FullTree, LastTree, MoreTree, SequenceTree, StandaloneTree, text, onto, joins}
 use Rattle.cbor_edn_model.specs.internal.Results.{◌>>=◌}

@@ -3,13 +3,13 @@ use Rattle.std.proofs.Common.{ℕ, ◌≡◌, ◌⊎◌, inl, inr, List, Option,
 use Rattle.std.specs.Prelude.{nat_lt, length}
 use mathlib.Core.Logic.{⊎_elim}
 use Rattle.std.proofs.lemmas.Bool.{cond_both}
-use Rattle.cbor_edn_parts.specs.Spacing.{SpaceKind, Optional, Mandatory, Separating, AtEnd}
-use Rattle.cbor_edn_parts.specs.declared.policy.DelimiterPolicy.{DelimiterPolicy}
-use Rattle.cbor_edn_parts.specs.declared.policy.DelimiterPolicy.TheVariants.{DiscardAll}
-use Rattle.cbor_edn_parts.specs.declared.policy.Spacing.{Spacing}
-use Rattle.cbor_edn_parts.specs.declared.policy.Spacing.TheVariants.{Least, Comments, OneLine, NewLine, OneSpace}
-use Rattle.cbor_edn_parts.specs.SpacingLaws.{is_of, KeepsComments}
-use Rattle.cbor_edn_parts.proofs.lemmas.layout.Spacings.{spaced_stays, spaced_forgets, least_forgets}
+use Rattle.cbor_edn_parts.specs.space.Spacing.{SpaceKind, Optional, Mandatory, Separating, AtEnd}
+use Rattle.cbor_edn_parts.specs.declared.space.policy.DelimiterPolicy.{DelimiterPolicy}
+use Rattle.cbor_edn_parts.specs.declared.space.policy.DelimiterPolicy.TheVariants.{DiscardAll}
+use Rattle.cbor_edn_parts.specs.declared.space.policy.Spacing.{Spacing}
+use Rattle.cbor_edn_parts.specs.declared.space.policy.Spacing.TheVariants.{Least, Comments, OneLine, NewLine, OneSpace}
+use Rattle.cbor_edn_parts.specs.space.SpacingLaws.{is_of, KeepsComments}
+use Rattle.cbor_edn_parts.proofs.lemmas.space.Spacings.{spaced_stays, spaced_forgets, least_forgets}
 use Rattle.cbor_edn_model.specs.tree.Items.{Listed, String, Stream, Plus, Element, Pair, Chunk, End, Then}
 use Rattle.cbor_edn_model.specs.text.Spelling.{SpellsOne, SpellsSequence}
 use Rattle.cbor_edn_model.specs.tree.Trees.{Rule, OneItem, Seq, Standalone, Tree, ListHead, NoIndicator, WithIndicator, head_indicator, NumberTree, FloatTree, NamedTree, EnclosedTree, ListTree, StringTree, StreamTree, LiteralTree, EllipsisTree, EmbeddedTree, LastPieceTree, PlusTree, ElementTree, PairTree, ChunkTree, EmptyTree, FullTree, LastTree, MoreTree, NothingTree, SequenceTree, StandaloneTree, labelled, items, text}

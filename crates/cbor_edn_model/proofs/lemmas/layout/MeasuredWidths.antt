@@ -1,10 +1,10 @@
 -- Widths measured part by part are those of the texts.
 use Rattle.std.proofs.Common.{ℕ, ◌+◌, ◌-◌, ◌^◌, ◌≡◌, List, [], ◌∷◌, ◌++◌, length, refl, sym, ap, ◌∙◌, length-append, arith}
 use Rattle.std.specs.Prelude.{min, nat_lt}
-use Rattle.cbor_edn_parts.specs.Indicator.{indicator_text}
-use Rattle.cbor_edn_parts.specs.Spacing.{SpaceKind, Optional, Mandatory, Separating, AtEnd}
-use Rattle.cbor_edn_parts.specs.declared.policy.Spacing.{Spacing}
-use Rattle.cbor_edn_parts.specs.declared.policy.Spacing.TheVariants.{Least, Comments, OneLine, NewLine, OneSpace}
+use Rattle.cbor_edn_parts.specs.base.Indicator.{indicator_text}
+use Rattle.cbor_edn_parts.specs.space.Spacing.{SpaceKind, Optional, Mandatory, Separating, AtEnd}
+use Rattle.cbor_edn_parts.specs.declared.space.policy.Spacing.{Spacing}
+use Rattle.cbor_edn_parts.specs.declared.space.policy.Spacing.TheVariants.{Least, Comments, OneLine, NewLine, OneSpace}
 use Rattle.cbor_edn_model.specs.declared.layout.width.Spaces.{Spaces}
 use Rattle.cbor_edn_model.specs.declared.layout.width.Spaces.TheVariants.{Kept, By}
 use Rattle.cbor_edn_model.specs.tree.Items.{Row}

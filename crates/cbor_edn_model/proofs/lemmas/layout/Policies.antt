@@ -1,7 +1,7 @@
 -- Decoded items mean their value after any policies.
 use Rattle.std.proofs.Common.{◌≡◌, List, [], ◌∷◌, refl, ap, ◌∙◌, subst}
-use Rattle.cbor_edn_parts.specs.declared.policy.DelimiterPolicy.{DelimiterPolicy}
-use Rattle.cbor_edn_parts.specs.Space.{empty}
+use Rattle.cbor_edn_parts.specs.declared.space.policy.DelimiterPolicy.{DelimiterPolicy}
+use Rattle.cbor_edn_parts.specs.space.Space.{empty}
 use Rattle.cbor_edn_model.specs.text.Spelling.{SpellsOne, SpellsSequence}
 use Rattle.cbor_edn_model.specs.tree.Trees.{Rule, OneItem, Tree, Valid, onto, items, text}
 use Rattle.cbor_edn_model.specs.cbor.Meaning.{means}

@@ -5,7 +5,7 @@ use Rattle.std.specs.Fmt.{signed_decimal}
 use Rattle.std.proofs.lemmas.Bool.{cond_both}
 use Rattle.cbor_edn_parts.specs.declared.string.StringKind.{StringKind}
 use Rattle.cbor_edn_parts.specs.internal.CommentReading.{from_first, to_last, up_to_comma as front, past_comma}
-use Rattle.cbor_edn_parts.specs.declared.policy.Spacing.TheVariants.{Least, OneLine}
+use Rattle.cbor_edn_parts.specs.declared.space.policy.Spacing.TheVariants.{Least, OneLine}
 use Rattle.cbor_edn_model.specs.declared.text.keyword.NamedSimple.TheVariants.{False, True, Null, Undefined}
 use Rattle.cbor_edn_model.specs.declared.text.opener.OpenerKind.{OpenerKind}
 use Rattle.cbor_edn_model.specs.declared.text.opener.OpenerKind.TheVariants as opener

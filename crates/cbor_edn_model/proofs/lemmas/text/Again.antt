@@ -2,9 +2,9 @@
 use Rattle.std.proofs.Common.{ℕ, zero, suc, List, [], ◌∷◌, ◌++◌, ◌≡◌, ◌≤◌, ◌+◌, refl, ap, sym, arith, ◌∙◌, append_assoc}
 use Rattle.std.specs.Prelude.{true, false, eqb, Option, Some, None, Ok, max}
 use Rattle.std.proofs.lemmas.Bool.{eq-eqb}
-use Rattle.cbor_edn_parts.specs.declared.indicator.Indicator.{Indicator}
-use Rattle.cbor_edn_parts.specs.Bytes.{Follow, Closes}
-use Rattle.cbor_edn_parts.specs.Indicator.{indicator_text, indicator_at}
+use Rattle.cbor_edn_parts.specs.declared.base.indicator.Indicator.{Indicator}
+use Rattle.cbor_edn_parts.specs.base.Bytes.{Follow, Closes}
+use Rattle.cbor_edn_parts.specs.base.Indicator.{indicator_text, indicator_at}
 use Rattle.cbor_edn_parts.specs.internal.Lex.{Automaton, is_token}
 use Rattle.cbor_edn_parts.specs.internal.SpaceTokens.{space, separator, is_space, is_mandatory_space, is_list_end, is_separator}
 use Rattle.std.specs.Fmt.{decimal}
@@ -25,8 +25,8 @@ use Rattle.cbor_edn_model.specs.declared.text.keyword.Keyword.{Keyword}
 use Rattle.cbor_edn_model.specs.declared.text.keyword.Keyword.TheVariants as keyword
 use Rattle.cbor_edn_model.specs.text.Keywords.{named_text, non_finite_text, keyword_text}
 use Rattle.cbor_edn_model.specs.internal.Reading.{Reader, or_invalid, token, byte, not_empty, list_head_of, starts_string, prefix_goes_on, keyword_at, enclosed_item, tag_item, number_end, number_item, keyword_item, plain_item, list_item, stream_item, string_item, item, literal_piece, ellipsis_piece, embedded_piece, piece, plus_string, string, entry, inside_full, inside, more, rest, sequence, standalone, read, outcome}
-use Rattle.cbor_edn_parts.proofs.lemmas.scan.Indicators.{spec-none, spec-some, spec-again}
-use Rattle.cbor_edn_parts.proofs.lemmas.scan.Tokens.{Halts, munch-again, token_texts}
+use Rattle.cbor_edn_parts.proofs.lemmas.base.Indicators.{spec-none, spec-some, spec-again}
+use Rattle.cbor_edn_parts.proofs.lemmas.base.Tokens.{Halts, munch-again, token_texts}
 use Rattle.cbor_edn_model.proofs.lemmas.text.Follows.{number_some, Solid, solid_spaceless, halts_space, halts_separator, halts_indicator, halts_tag, spec-tag, follow_unopened, halts_literal, halts_ellipsis, closes_solid, closes_closed, closes_follow, begins_solid, begins_open, ending_closes, stream_closes, embedded_closes, space_before, space_follow, space_plain, colon_solid, plus_solid, plus_follow}
 use Rattle.cbor_edn_model.proofs.lemmas.text.Begins.{number_stringless, literal_some, literal_differs, ellipsis_begin, Unopened, number_unopened, string_unopened, joins_string, string_starts, string_begins, item_starts, rest_starts, end_next, more_next, colon_next, last_next}
 use Rattle.cbor_edn_model.proofs.lemmas.text.TagNumbers.{tag_number-again, tag_digits}

@@ -4,15 +4,15 @@ use Rattle.std.specs.Prelude.{Bool, true, false, not, cond, eqb, ◌||◌, ◌&&
 use Rattle.std.proofs.lemmas.Bool.{agree_below, agree_below_at, and_parts, and_left, or_left, both_ways, eqb-true, false_from_ne_true}
 use Rattle.std.proofs.lemmas.Bool.Decides.{nat_tests}
 use Rattle.std.proofs.lemmas.Option.{same_Some}
-use Rattle.cbor_edn_parts.specs.Bytes.{kind, follows, closing, begins, Follow, Closes, Begins}
-use Rattle.cbor_edn_parts.specs.declared.bytes.Kind.{Kind}
-use Rattle.cbor_edn_parts.specs.declared.bytes.Kind.TheVariants.{Control, Open, Less, Quote, Plus, Zero, One, TwoToSeven, EightOrNine, Dot, B, E, HexLetter, O, P, X, Letter}
+use Rattle.cbor_edn_parts.specs.base.Bytes.{kind, follows, closing, begins, Follow, Closes, Begins}
+use Rattle.cbor_edn_parts.specs.declared.base.bytes.Kind.{Kind}
+use Rattle.cbor_edn_parts.specs.declared.base.bytes.Kind.TheVariants.{Control, Open, Less, Quote, Plus, Zero, One, TwoToSeven, EightOrNine, Dot, B, E, HexLetter, O, P, X, Letter}
 use Rattle.std.specs.Fmt.{decimal}
-use Rattle.cbor_edn_parts.specs.Indicator.{indicator_text}
+use Rattle.cbor_edn_parts.specs.base.Indicator.{indicator_text}
 use Rattle.cbor_edn_parts.specs.internal.Lex.{Accepts, Is, munch}
-use Rattle.cbor_edn_parts.specs.Space.{IsListEnd, space as space_alone, comma}
+use Rattle.cbor_edn_parts.specs.space.Space.{IsListEnd, space as space_alone, comma}
 use Rattle.cbor_edn_parts.specs.internal.SpaceTokens.{space, is_space, is_list_end, is_separator}
-use Rattle.cbor_edn_parts.specs.Number.{Decimal}
+use Rattle.cbor_edn_parts.specs.number.Number.{Decimal}
 use Rattle.cbor_edn_parts.specs.internal.NumberTokens.{number, number_step, is_number}
 use Rattle.cbor_edn_parts.specs.internal.LiteralTokens.{literal, ellipsis, literal_step, ellipsis_step, next_dot, is_lower, is_upper, is_literal, is_ellipsis}
 use Rattle.cbor_edn_parts.specs.internal.LiteralTokens as tokens
@@ -28,8 +28,8 @@ use Rattle.cbor_edn_model.specs.declared.text.opener.OpenerKind.TheVariants as o
 use Rattle.cbor_edn_model.specs.declared.text.keyword.NamedSimple.TheVariants.{False}
 use Rattle.cbor_edn_model.specs.declared.text.keyword.NonFinite.TheVariants.{Infinity}
 use Rattle.cbor_edn_model.specs.internal.Reading.{starts_with, starts_string}
-use Rattle.cbor_edn_parts.proofs.lemmas.bytes.ByteKinds.{is_digit, at_each, differs}
-use Rattle.cbor_edn_parts.proofs.lemmas.scan.Tokens.{munch-again, token_texts}
+use Rattle.cbor_edn_parts.proofs.lemmas.base.ByteKinds.{is_digit, at_each, differs}
+use Rattle.cbor_edn_parts.proofs.lemmas.base.Tokens.{munch-again, token_texts}
 use Rattle.cbor_edn_parts.proofs.lemmas.space.SpaceTexts.{optional_texts, at_end_texts}
 use Rattle.cbor_edn_model.proofs.lemmas.text.TagNumbers.{tag_digits}
 use Rattle.cbor_edn_model.proofs.lemmas.text.Follows.{numeric, quoted, numeric-begins, numeric_start, number_some, Solid, Spaceless, solid_spaceless, halts_space, closes_solid, closes_follow, begins_solid, space_before, space_follow, separator_follow, separating_follow, colon_solid, colon_follow}

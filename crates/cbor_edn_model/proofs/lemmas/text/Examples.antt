@@ -1,10 +1,10 @@
 -- Texts read with a limit, computed.
 use Rattle.std.proofs.Common.{ℕ, List, [], ◌∷◌, ◌≡◌, refl}
 use Rattle.std.specs.Prelude.{Some, None, Ok, Err}
-use Rattle.cbor_edn_parts.specs.declared.error.ParseErrorKind.TheVariants.{Invalid, TooDeep}
-use Rattle.cbor_edn_parts.specs.declared.indicator.Indicator.TheVariants.{Immediate, Two}
-use Rattle.cbor_edn_parts.specs.Bytes.{kind}
-use Rattle.cbor_edn_parts.specs.Indicator.{indicator_at, suffix_at}
+use Rattle.cbor_edn_parts.specs.declared.base.error.ParseErrorKind.TheVariants.{Invalid, TooDeep}
+use Rattle.cbor_edn_parts.specs.declared.base.indicator.Indicator.TheVariants.{Immediate, Two}
+use Rattle.cbor_edn_parts.specs.base.Bytes.{kind}
+use Rattle.cbor_edn_parts.specs.base.Indicator.{indicator_at, suffix_at}
 use Rattle.cbor_edn_parts.specs.internal.Lex.{munch, push}
 use Rattle.cbor_edn_model.specs.tree.Items.{Array, Map, Number, Listed, Element, Pair, End, Then}
 use Rattle.cbor_edn_model.specs.tree.Trees.{OneItem, Seq, NoIndicator, WithIndicator, Tree, NumberTree, FloatTree, NamedTree, EnclosedTree, ListTree, StringTree, StreamTree, LiteralTree, EllipsisTree, EmbeddedTree, LastPieceTree, PlusTree, ElementTree, PairTree, ChunkTree, EmptyTree, FullTree, LastTree, MoreTree, NothingTree, SequenceTree, StandaloneTree, items, text, onto, joins}

@@ -2,12 +2,12 @@
 use Rattle.std.proofs.Common.{ℕ, List, [], ◌∷◌, ◌++◌, ◌≡◌, refl, ap}
 use Rattle.std.specs.Prelude.{Bool, true, false, Option, Some, None}
 use Rattle.std.proofs.lemmas.Bool.{both_ways}
-use Rattle.cbor_edn_parts.specs.declared.bytes.Kind.{Kind}
-use Rattle.cbor_edn_parts.specs.declared.bytes.Kind.TheVariants.{Blank, Tab, Lf, Slash, Hash, Comma, Close, Less, Quote, Plus, Minus, Zero, One, TwoToSeven, EightOrNine, Dot, B, E, HexLetter, O, P, X, Letter}
-use Rattle.cbor_edn_parts.specs.declared.indicator.Indicator.{Indicator}
-use Rattle.cbor_edn_parts.specs.Bytes.{kind, follows, closing, begins, Follow, Closes, Begins, is_closed}
-use Rattle.cbor_edn_parts.specs.declared.indicator.Indicator.TheVariants.{Indefinite}
-use Rattle.cbor_edn_parts.specs.Indicator.{indicator_text, indicator_at, suffix_at}
+use Rattle.cbor_edn_parts.specs.declared.base.bytes.Kind.{Kind}
+use Rattle.cbor_edn_parts.specs.declared.base.bytes.Kind.TheVariants.{Blank, Tab, Lf, Slash, Hash, Comma, Close, Less, Quote, Plus, Minus, Zero, One, TwoToSeven, EightOrNine, Dot, B, E, HexLetter, O, P, X, Letter}
+use Rattle.cbor_edn_parts.specs.declared.base.indicator.Indicator.{Indicator}
+use Rattle.cbor_edn_parts.specs.base.Bytes.{kind, follows, closing, begins, Follow, Closes, Begins, is_closed}
+use Rattle.cbor_edn_parts.specs.declared.base.indicator.Indicator.TheVariants.{Indefinite}
+use Rattle.cbor_edn_parts.specs.base.Indicator.{indicator_text, indicator_at, suffix_at}
 use Rattle.cbor_edn_parts.specs.internal.Lex.{munch, is_token}
 use Rattle.cbor_edn_parts.specs.internal.SpaceTokens.{space, separator, space_step, space_final, separator_step, separator_final, before, after, is_separator}
 use Rattle.cbor_edn_parts.specs.internal.NumberTokens.{number, number_step}
@@ -24,9 +24,9 @@ use Rattle.cbor_edn_parts.specs.declared.string.LiteralState.TheVariants.{Closed
 use Rattle.cbor_edn_model.specs.tree.Items.{Bracketed, Array, Map}
 use Rattle.cbor_edn_model.specs.text.Spelling.{close_byte}
 use Rattle.cbor_edn_model.specs.internal.Reading.{starts_with}
-use Rattle.cbor_edn_parts.proofs.lemmas.bytes.ByteKinds.{differs}
-use Rattle.cbor_edn_parts.proofs.lemmas.scan.Indicators.{Plain, begins-plain, Follow-plain}
-use Rattle.cbor_edn_parts.proofs.lemmas.scan.Tokens.{Halts, token_texts}
+use Rattle.cbor_edn_parts.proofs.lemmas.base.ByteKinds.{differs}
+use Rattle.cbor_edn_parts.proofs.lemmas.base.Indicators.{Plain, begins-plain, Follow-plain}
+use Rattle.cbor_edn_parts.proofs.lemmas.base.Tokens.{Halts, token_texts}
 
 -- What begins no space and no separator.
 abbrev pub solid : Kind → Bool

@@ -3,11 +3,11 @@
 use Rattle.std.proofs.Common.{ℕ, zero, suc, List, [], ◌∷◌, ◌++◌, ◌≡◌, ◌≤◌, ◌<◌, refl, ap, sym, arith, ◌∙◌, append_assoc}
 use Rattle.std.specs.Prelude.{Bool, true, false, cond, Option, Some, None, Result, Ok, Err, eqb}
 use Rattle.std.proofs.lemmas.Bool.{eqb-true, cond_both}
-use Rattle.cbor_edn_parts.specs.declared.error.ParseErrorKind.{ParseErrorKind}
-use Rattle.cbor_edn_parts.specs.declared.error.ParseErrorKind.TheVariants.{Invalid, TooDeep}
-use Rattle.cbor_edn_parts.specs.declared.indicator.Indicator.{Indicator}
-use Rattle.cbor_edn_parts.specs.Bytes.{is_closed}
-use Rattle.cbor_edn_parts.specs.Indicator.{indicator_text, indicator_at}
+use Rattle.cbor_edn_parts.specs.declared.base.error.ParseErrorKind.{ParseErrorKind}
+use Rattle.cbor_edn_parts.specs.declared.base.error.ParseErrorKind.TheVariants.{Invalid, TooDeep}
+use Rattle.cbor_edn_parts.specs.declared.base.indicator.Indicator.{Indicator}
+use Rattle.cbor_edn_parts.specs.base.Bytes.{is_closed}
+use Rattle.cbor_edn_parts.specs.base.Indicator.{indicator_text, indicator_at}
 use Rattle.cbor_edn_parts.specs.internal.Lex as lex
 use Rattle.cbor_edn_parts.specs.internal.Lex.{Automaton, is_token, munch}
 use Rattle.cbor_edn_parts.specs.internal.SpaceTokens.{space, separator, is_empty, is_space}
@@ -27,8 +27,8 @@ use Rattle.cbor_edn_model.specs.text.Keywords.{non_finite_text, keyword_text}
 use Rattle.cbor_edn_model.specs.internal.Results.{◌>>=◌}
 use Rattle.cbor_edn_model.specs.internal.Reading.{Reader, or_invalid, token, byte, not_empty, list_head_of, starts_with, starts_string, keyword_at, tag_number, enclosed_item, tag_item, number_end, number_item, keyword_item, plain_item, list_item, stream_item, string_item, item, literal_piece, ellipsis_piece, embedded_piece, piece, plus_string, string, entry, inside_full, inside, more, rest, sequence, standalone, rule, read}
 use Rattle.cbor_edn_model.specs.text.Openings.{openings}
-use Rattle.cbor_edn_parts.proofs.lemmas.scan.Indicators.{spec-found}
-use Rattle.cbor_edn_parts.proofs.lemmas.scan.Tokens.{Holds, nothing, just, munch-found, token_texts}
+use Rattle.cbor_edn_parts.proofs.lemmas.base.Indicators.{spec-found}
+use Rattle.cbor_edn_parts.proofs.lemmas.base.Tokens.{Holds, nothing, just, munch-found, token_texts}
 use Rattle.cbor_edn_model.proofs.lemmas.text.TagNumbers.{tag_number-found}
 use Rattle.cbor_edn_model.proofs.lemmas.text.KeywordTexts.{IsFront, keyword-found}
 use Rattle.cbor_edn_model.proofs.lemmas.text.OpeningCounts.{openings_end, openings_between, openings_onto}

@@ -2,7 +2,7 @@
 use Rattle.std.proofs.Common.{ℕ, List, [], ◌≡◌, ◌≤◌, ap, sym, arith, ◌∙◌}
 use Rattle.std.specs.Prelude.{Result, Ok, max}
 use Rattle.std.proofs.lemmas.Bool.{le-leb}
-use Rattle.cbor_edn_parts.specs.declared.error.ParseErrorKind.{ParseErrorKind}
+use Rattle.cbor_edn_parts.specs.declared.base.error.ParseErrorKind.{ParseErrorKind}
 use Rattle.cbor_edn_model.specs.tree.Trees.{Rule, Seq, Standalone, Tree, Merged, FollowOf, Of, onto, text, items, tree_nesting}
 use Rattle.cbor_edn_model.proofs.lemmas.text.Tested.{Tested, tested, valid}
 use Rattle.cbor_edn_model.specs.internal.Reading.{reads}

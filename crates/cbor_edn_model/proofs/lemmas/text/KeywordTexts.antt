@@ -4,21 +4,21 @@ use Rattle.std.specs.Prelude.{Bool, true, false, cond, eqb, ◌||◌, Option, So
 use Rattle.std.specs.List.{list_all}
 use Rattle.std.proofs.lemmas.Bool.{and_parts, cond_both, eqb-true, false_from_ne_true, both_ways}
 use Rattle.std.proofs.lemmas.Option.{same_Some, none-some}
-use Rattle.cbor_edn_parts.specs.declared.bytes.Kind.{Kind}
-use Rattle.cbor_edn_parts.specs.declared.bytes.Kind.TheVariants.{Zero, One, TwoToSeven, EightOrNine, Quote, Less, B, E, HexLetter, O, P, X, Letter}
-use Rattle.cbor_edn_parts.specs.declared.indicator.Indicator.{Indicator}
+use Rattle.cbor_edn_parts.specs.declared.base.bytes.Kind.{Kind}
+use Rattle.cbor_edn_parts.specs.declared.base.bytes.Kind.TheVariants.{Zero, One, TwoToSeven, EightOrNine, Quote, Less, B, E, HexLetter, O, P, X, Letter}
+use Rattle.cbor_edn_parts.specs.declared.base.indicator.Indicator.{Indicator}
 use Rattle.cbor_edn_parts.specs.declared.number.NumberState.{NumberState}
 use Rattle.cbor_edn_parts.specs.declared.number.NumberState.TheVariants.{Start}
 use Rattle.cbor_edn_parts.specs.declared.string.LiteralState.{LiteralState}
 use Rattle.cbor_edn_parts.specs.declared.string.LiteralState.TheVariants as in_literal
-use Rattle.cbor_edn_parts.specs.Bytes.{kind, follows, Follow}
-use Rattle.cbor_edn_parts.specs.Indicator.{indicator_text}
+use Rattle.cbor_edn_parts.specs.base.Bytes.{kind, follows, Follow}
+use Rattle.cbor_edn_parts.specs.base.Indicator.{indicator_text}
 use Rattle.cbor_edn_parts.specs.internal.Lex.{Accepts}
-use Rattle.cbor_edn_parts.specs.Number.{Decimal}
+use Rattle.cbor_edn_parts.specs.number.Number.{Decimal}
 use Rattle.cbor_edn_parts.specs.internal.NumberTokens.{number, number_step, is_number}
 use Rattle.cbor_edn_parts.specs.internal.LiteralTokens.{literal, literal_step, is_literal, is_lower, is_upper, is_digit}
-use Rattle.cbor_edn_parts.proofs.lemmas.bytes.ByteKinds as kinds
-use Rattle.cbor_edn_parts.proofs.lemmas.scan.Tokens.{Holds, nothing, just, token_texts}
+use Rattle.cbor_edn_parts.proofs.lemmas.base.ByteKinds as kinds
+use Rattle.cbor_edn_parts.proofs.lemmas.base.Tokens.{Holds, nothing, just, token_texts}
 use Rattle.cbor_edn_model.specs.declared.text.keyword.NamedSimple.TheVariants.{False, True, Null, Undefined}
 use Rattle.cbor_edn_model.specs.declared.text.keyword.NonFinite.TheVariants.{Infinity, NegativeInfinity, NaN}
 use Rattle.cbor_edn_model.specs.declared.text.keyword.Keyword.{Keyword}

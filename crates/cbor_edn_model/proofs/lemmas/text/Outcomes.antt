@@ -4,8 +4,8 @@ use Rattle.std.specs.Prelude.{true, false, nat_le, max, Result, Ok, Err}
 use Rattle.std.proofs.Math.Dec.{leb-suc-suc}
 use Rattle.std.proofs.lemmas.Bool.{leb-true, leb-false, le-leb, lt-leb, cases_Bool}
 use mathlib.Core.Logic.{◌⊎◌, inl, inr}
-use Rattle.cbor_edn_parts.specs.declared.error.ParseErrorKind.{ParseErrorKind}
-use Rattle.cbor_edn_parts.specs.declared.error.ParseErrorKind.TheVariants.{Invalid, TooDeep}
+use Rattle.cbor_edn_parts.specs.declared.base.error.ParseErrorKind.{ParseErrorKind}
+use Rattle.cbor_edn_parts.specs.declared.base.error.ParseErrorKind.TheVariants.{Invalid, TooDeep}
 use Rattle.cbor_edn_model.specs.internal.Results.{◌>>=◌}
 use Rattle.cbor_edn_model.specs.internal.Reading.{outcome}
 

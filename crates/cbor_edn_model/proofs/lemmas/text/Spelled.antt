@@ -2,10 +2,10 @@
 use Rattle.std.proofs.Common.{ℕ, suc, List, [], ◌∷◌, ◌++◌, ◌≡◌, refl, ap, sym, arith, ◌∙◌, append_assoc, subst}
 use Rattle.std.proofs.lemmas.List.{append-nil}
 use Rattle.std.specs.Prelude.{true, Option, Some, None, ◌≢◌}
-use Rattle.cbor_edn_parts.specs.declared.indicator.Indicator.{Indicator}
+use Rattle.cbor_edn_parts.specs.declared.base.indicator.Indicator.{Indicator}
 use Rattle.std.specs.Fmt.{decimal}
-use Rattle.cbor_edn_parts.specs.Indicator.{indicator_text}
-use Rattle.cbor_edn_parts.specs.Space.{IsSpace, empty, blank, comment, IsMandatorySpace, IsSeparator, IsListEnd}
+use Rattle.cbor_edn_parts.specs.base.Indicator.{indicator_text}
+use Rattle.cbor_edn_parts.specs.space.Space.{IsSpace, empty, blank, comment, IsMandatorySpace, IsSeparator, IsListEnd}
 use Rattle.cbor_edn_parts.specs.internal.SpaceTokens.{is_space}
 use Rattle.cbor_edn_model.specs.tree.Items.{Row, Elements, Strings, Bracketed, entries_of, Sort, Item, Piece, Pieces, Entry, Entries, Node, Number, Float, Listed, Tagged, Named, Simple, String, Stream, Literal, Ellipsis, Embedded, LastPiece, Plus, Element, Pair, Chunk, End, Then, Items, nesting}
 use Rattle.cbor_edn_model.specs.text.Spelling.{open_byte, close_byte, IsSpecms, Spells, SpellsSequence, SpellsOne}
@@ -18,8 +18,8 @@ use Rattle.cbor_edn_model.specs.text.Keywords.{named_text}
 use Rattle.cbor_edn_parts.proofs.lemmas.space.SpaceTexts.{optional_texts, at_end_texts, mandatory_texts, separating_texts}
 use Rattle.cbor_edn_parts.proofs.lemmas.number.NumberTexts.{number_texts}
 use Rattle.cbor_edn_model.proofs.lemmas.text.Found.{no_space}
-use Rattle.cbor_edn_parts.proofs.lemmas.literal.LiteralTexts.{literal_test}
-use Rattle.cbor_edn_parts.proofs.lemmas.literal.EllipsisTexts.{ellipsis_test}
+use Rattle.cbor_edn_parts.proofs.lemmas.string.LiteralTexts.{literal_test}
+use Rattle.cbor_edn_parts.proofs.lemmas.string.EllipsisTexts.{ellipsis_test}
 
 -- How deep the items of a use of a rule nest.
 abbrev pub nesting_of : (s : Rule) → Of s → ℕ

@@ -1,11 +1,11 @@
 -- How many steps a text takes at most, that more steps change nothing, and the laws of reading without steps.
 use Rattle.std.proofs.Common.{ℕ, zero, suc, List, [], ◌∷◌, ◌++◌, ◌≡◌, ◌≤◌, ◌<◌, ◌+◌, ◌*◌, length, refl, ap, arith, ◌∙◌, length-append}
 use Rattle.std.specs.Prelude.{true, cond, Option, Result, Ok, Err}
-use Rattle.cbor_edn_parts.specs.declared.error.ParseErrorKind.{ParseErrorKind}
-use Rattle.cbor_edn_parts.specs.declared.error.ParseErrorKind.TheVariants.{Invalid, TooDeep}
-use Rattle.cbor_edn_parts.specs.declared.indicator.Indicator.{Indicator}
-use Rattle.cbor_edn_parts.specs.Bytes.{is_closed}
-use Rattle.cbor_edn_parts.specs.Indicator.{indicator_text, indicator_at}
+use Rattle.cbor_edn_parts.specs.declared.base.error.ParseErrorKind.{ParseErrorKind}
+use Rattle.cbor_edn_parts.specs.declared.base.error.ParseErrorKind.TheVariants.{Invalid, TooDeep}
+use Rattle.cbor_edn_parts.specs.declared.base.indicator.Indicator.{Indicator}
+use Rattle.cbor_edn_parts.specs.base.Bytes.{is_closed}
+use Rattle.cbor_edn_parts.specs.base.Indicator.{indicator_text, indicator_at}
 use Rattle.cbor_edn_parts.specs.internal.Lex.{Automaton}
 use Rattle.cbor_edn_parts.specs.internal.SpaceTokens.{space, separator}
 use Rattle.cbor_edn_parts.specs.internal.NumberTokens.{number, is_number}
@@ -21,8 +21,8 @@ use Rattle.cbor_edn_model.specs.declared.text.keyword.Keyword.TheVariants.{Named
 use Rattle.cbor_edn_model.specs.text.Keywords.{keyword_text}
 use Rattle.cbor_edn_model.specs.internal.Results.{◌>>=◌}
 use Rattle.cbor_edn_model.specs.internal.Reading.{Reader, or_invalid, token, byte, not_empty, list_head_of, starts_with, keyword_at, tag_number, enclosed_item, tag_item, number_end, number_item, keyword_item, plain_item, list_item, stream_item, string_item, item, literal_piece, ellipsis_piece, embedded_piece, piece, plus_string, string, entry, inside_full, inside, more, rest, sequence, standalone, rule, read, reads, outcome}
-use Rattle.cbor_edn_parts.proofs.lemmas.scan.Indicators.{spec-found}
-use Rattle.cbor_edn_parts.proofs.lemmas.scan.Tokens.{Holds, nothing, just}
+use Rattle.cbor_edn_parts.proofs.lemmas.base.Indicators.{spec-found}
+use Rattle.cbor_edn_parts.proofs.lemmas.base.Tokens.{Holds, nothing, just}
 use Rattle.cbor_edn_model.proofs.lemmas.text.Follows.{number_some}
 use Rattle.cbor_edn_model.proofs.lemmas.text.Begins.{literal_some, ellipsis_begin}
 use Rattle.cbor_edn_model.proofs.lemmas.text.KeywordTexts.{IsFront, keyword-found, keyword_length}

@@ -10,7 +10,7 @@ use Rattle.std.proofs.lemmas.Option.{same_Some}
 use Rattle.std.proofs.lemmas.Str.{digit_value_digit}
 use Rattle.std.proofs.lemmas.Str.Parse.{numerals_by_value, tells_digits, digit_from_value}
 use Rattle.cbor_edn_parts.specs.internal.LiteralTokens.{is_digit}
-use Rattle.cbor_edn_parts.proofs.lemmas.scan.Tokens.{Holds, nothing, just}
+use Rattle.cbor_edn_parts.proofs.lemmas.base.Tokens.{Holds, nothing, just}
 use Rattle.cbor_edn_model.specs.internal.Lookahead.{digit_in_front}
 use Rattle.cbor_edn_model.specs.internal.Reading.{tag_number}
 use Rattle.cbor_edn_model.proofs.lemmas.text.TagNumbers.{tag_number-found, tag_number-again}

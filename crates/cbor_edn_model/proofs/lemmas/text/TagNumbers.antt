@@ -4,11 +4,11 @@ use Rattle.std.specs.Prelude.{◌&&◌, nat_lt, pos}
 use Rattle.std.specs.Fmt.{decimal}
 use Rattle.std.proofs.lemmas.Bool.{and_parts, cond_both, eq-eqb, ltb-true, lt-ltb}
 use Rattle.cbor_edn_parts.specs.internal.ContentReading.{same}
-use Rattle.cbor_edn_parts.specs.Number.{number_of}
+use Rattle.cbor_edn_parts.specs.number.Number.{number_of}
 use Rattle.cbor_edn_parts.specs.internal.NumberTokens.{is_number}
 use Rattle.cbor_edn_parts.proofs.lemmas.number.Decimals.{decimal_number, value_is}
-use Rattle.cbor_edn_parts.proofs.lemmas.literal.LiteralPrefixes.{same-found}
-use Rattle.cbor_edn_parts.proofs.lemmas.scan.Tokens.{Holds, nothing, just}
+use Rattle.cbor_edn_parts.proofs.lemmas.string.LiteralPrefixes.{same-found}
+use Rattle.cbor_edn_parts.proofs.lemmas.base.Tokens.{Holds, nothing, just}
 use Rattle.cbor_edn_model.specs.internal.Reading.{tag_number}
 
 same-again : (x : List ℕ) → same x x ≡ true

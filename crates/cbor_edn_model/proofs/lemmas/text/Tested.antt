@@ -5,8 +5,8 @@ use Rattle.cbor_edn_parts.specs.internal.NumberTokens.{is_number}
 use Rattle.cbor_edn_parts.specs.internal.LiteralTokens.{is_literal, is_ellipsis}
 use Rattle.cbor_edn_parts.proofs.lemmas.space.SpaceTexts.{optional_texts, mandatory_texts, at_end_texts, separating_texts}
 use Rattle.cbor_edn_parts.proofs.lemmas.number.NumberTexts.{number_texts}
-use Rattle.cbor_edn_parts.proofs.lemmas.literal.LiteralTexts.{literal_test}
-use Rattle.cbor_edn_parts.proofs.lemmas.literal.EllipsisTexts.{ellipsis_test}
+use Rattle.cbor_edn_parts.proofs.lemmas.string.LiteralTexts.{literal_test}
+use Rattle.cbor_edn_parts.proofs.lemmas.string.EllipsisTexts.{ellipsis_test}
 use Rattle.cbor_edn_model.specs.text.Openers.{IsOpener}
 use Rattle.cbor_edn_model.specs.tree.Trees.{Rule, Tree, ListHead, NoIndicator, WithIndicator, NumberTree, FloatTree, NamedTree, EnclosedTree, ListTree, StringTree, StreamTree, LiteralTree, EllipsisTree, EmbeddedTree, LastPieceTree, PlusTree, ElementTree, PairTree, ChunkTree, EmptyTree, FullTree, LastTree, MoreTree, NothingTree, SequenceTree, StandaloneTree, IsListHead, Valid}
 

@@ -2,8 +2,8 @@
 use Rattle.std.proofs.Common.{ℕ, List, [], ◌∷◌, ◌≡◌, ◌≤◌, ◌<◌, refl, ap, sym, ◌∙◌, subst}
 use Rattle.std.specs.Prelude.{Result, Ok, Err}
 use Rattle.std.proofs.lemmas.List.{append-nil}
-use Rattle.cbor_edn_parts.specs.declared.error.ParseErrorKind.{ParseErrorKind}
-use Rattle.cbor_edn_parts.specs.declared.error.ParseErrorKind.TheVariants.{Invalid, TooDeep}
+use Rattle.cbor_edn_parts.specs.declared.base.error.ParseErrorKind.{ParseErrorKind}
+use Rattle.cbor_edn_parts.specs.declared.base.error.ParseErrorKind.TheVariants.{Invalid, TooDeep}
 use Rattle.cbor_edn_model.specs.tree.Items.{Sort, Item, Node, Items, nesting}
 use Rattle.cbor_edn_model.specs.text.Spelling.{SpellsSequence, SpellsOne}
 use Rattle.cbor_edn_model.specs.tree.Trees.{Rule, Seq, Standalone, Tree, Merged, FollowOf, text, items, tree_nesting}

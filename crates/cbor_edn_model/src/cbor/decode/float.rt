@@ -5,7 +5,7 @@ ghost use Rattle.cbor_edn_model.specs.cbor.Decoded as decoded;
 
 use crate::cbor::heads::{Width, float_bits};
 use crate::text::keyword::NonFinite;
-use cbor_edn_parts::indicator::Indicator;
+use cbor_edn_parts::base::indicator::Indicator;
 
 /// The number with these bits in two, four or eight bytes: an infinity, or the NaN without sign and payload. None for any other.
 pub fn non_finite(width: Width, bits: u64) -> Option<NonFinite>

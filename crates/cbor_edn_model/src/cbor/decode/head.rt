@@ -1,6 +1,6 @@
 //! Heads, what ends a row of entries, and the indicators that heads are shown with.
 ghost use Rattle.std.specs.Prelude.{◌≡◌, ◌<◌, ◌≤◌, length, take, drop, option_map, IfSome, IfOk, IfErr};
-ghost use Rattle.cbor_edn_parts.specs.declared.error.Fault.TheVariants.{Told};
+ghost use Rattle.cbor_edn_parts.specs.declared.base.error.Fault.TheVariants.{Told};
 ghost use Rattle.cbor_edn_model.specs.declared.cbor.decode.CborError.TheVariants.{MissingArgument};
 ghost use Rattle.cbor_edn_model.specs.cbor.Decoded as decoded;
 ghost use Rattle.cbor_edn_model.specs.internal.CborReading as reading;
@@ -8,8 +8,8 @@ ghost use Rattle.cbor_edn_model.specs.internal.CborReading.{DecoderGives, head_a
 
 use super::CborError;
 use crate::cbor::heads::Width;
-use cbor_edn_parts::error::Fault;
-use cbor_edn_parts::indicator::Indicator;
+use cbor_edn_parts::base::error::Fault;
+use cbor_edn_parts::base::indicator::Indicator;
 
 /// The argument of a head and the bytes that it takes, or none for indefinite length and for a break.
 pub type Argument = Option<(Width, u64)>;

@@ -1,4 +1,4 @@
-use Rattle.cbor_edn_parts.proofs.lemmas.literal.StringLiterals.{hex_stands, text_stands, hex_is_literal, text_is_literal}
+use Rattle.cbor_edn_parts.proofs.lemmas.string.StringLiterals.{hex_stands, text_stands, hex_is_literal, text_is_literal}
 use Rattle.cbor_edn_parts.proofs.laws.decoded_literals.Goals as goal
 
 pub returns : goal.returns

@@ -1,4 +1,4 @@
-use Rattle.cbor_edn_parts.proofs.lemmas.scan.Indicators.{spec-found, spec-again}
+use Rattle.cbor_edn_parts.proofs.lemmas.base.Indicators.{spec-found, spec-again}
 use Rattle.cbor_edn_parts.proofs.laws.indicator_texts.Goals as goal
 
 pub returns : goal.returns

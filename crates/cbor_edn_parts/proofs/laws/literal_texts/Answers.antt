@@ -1,6 +1,6 @@
-use Rattle.cbor_edn_parts.proofs.lemmas.literal.ContentTexts.{content_texts, kind_is, supported_texts}
-use Rattle.cbor_edn_parts.proofs.lemmas.literal.EllipsisTexts.{ellipsis_test, ellipsis_automaton}
-use Rattle.cbor_edn_parts.proofs.lemmas.literal.LiteralTexts.{literal_test, literal_automaton}
+use Rattle.cbor_edn_parts.proofs.lemmas.string.ContentTexts.{content_texts, kind_is, supported_texts}
+use Rattle.cbor_edn_parts.proofs.lemmas.string.EllipsisTexts.{ellipsis_test, ellipsis_automaton}
+use Rattle.cbor_edn_parts.proofs.lemmas.string.LiteralTexts.{literal_test, literal_automaton}
 use Rattle.cbor_edn_parts.proofs.laws.literal_texts.Goals as goal
 
 pub returns : goal.returns

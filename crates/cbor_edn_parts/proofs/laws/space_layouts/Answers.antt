@@ -1,5 +1,5 @@
 use Rattle.cbor_edn_parts.proofs.lemmas.space.CommentTexts.{one_comments_of, cut_at_comma}
-use Rattle.cbor_edn_parts.proofs.lemmas.layout.Spacings.{spaced_stays, spaced_forgets}
+use Rattle.cbor_edn_parts.proofs.lemmas.space.Spacings.{spaced_stays, spaced_forgets}
 use Rattle.cbor_edn_parts.proofs.lemmas.space.NoteSpaces as parts
 use Rattle.cbor_edn_parts.proofs.laws.space_layouts.Goals as goal
 

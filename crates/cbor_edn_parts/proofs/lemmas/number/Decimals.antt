@@ -4,8 +4,8 @@ use Rattle.std.specs.Prelude.{ℤ, pos, negsuc, unsigned_abs}
 use Rattle.std.specs.Fmt.{decimal, signed_decimal}
 use Rattle.std.specs.Str.Parse.{AllDigits}
 use Rattle.std.proofs.lemmas.Fmt.{decimal_is_IsNumeral_wide}
-use Rattle.cbor_edn_parts.specs.Space.{Each, end, next}
-use Rattle.cbor_edn_parts.specs.Number.{Sign, NoSign, MinusSign, sign_text, Decimal, IsDigitOf, AreDigits, IsInteger, integer, signed, number_of}
+use Rattle.cbor_edn_parts.specs.space.Space.{Each, end, next}
+use Rattle.cbor_edn_parts.specs.number.Number.{Sign, NoSign, MinusSign, sign_text, Decimal, IsDigitOf, AreDigits, IsInteger, integer, signed, number_of}
 use Rattle.cbor_edn_parts.specs.internal.NumberReading.{integer_of}
 use Rattle.cbor_edn_parts.specs.internal.NumberTokens.{is_number}
 use Rattle.cbor_edn_parts.proofs.lemmas.number.NumberTexts.{number_texts}

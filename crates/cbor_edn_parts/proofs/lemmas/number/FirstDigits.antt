@@ -3,7 +3,7 @@ use Rattle.std.proofs.Common.{ℕ, ◌≡◌, ◌≤◌, Bool, true, false, Opti
 use Rattle.std.specs.Prelude.{ltb, ◌||◌}
 use Rattle.std.proofs.lemmas.Bool.{agree_below, agree_below_at, or_cases, ltb-true, false≢true}
 use mathlib.Core.Logic.{⊎_elim}
-use Rattle.cbor_edn_parts.specs.Bytes.{kind}
+use Rattle.cbor_edn_parts.specs.base.Bytes.{kind}
 use Rattle.cbor_edn_parts.specs.internal.NumberTokens as tokens
 use Rattle.cbor_edn_parts.specs.internal.NumberTokens.{number_step}
 use Rattle.cbor_edn_parts.specs.declared.number.NumberState.{NumberState}

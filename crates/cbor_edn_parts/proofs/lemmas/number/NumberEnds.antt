@@ -1,7 +1,7 @@
 -- No number goes on with what may stand behind an item.
 use Rattle.std.proofs.Common.{ℕ, ◌≡◌, List, [], drop, true, Option, Some, None, refl, sym, subst}
 use Rattle.std.specs.Prelude.{MatchOption, ⊤}
-use Rattle.cbor_edn_parts.specs.Bytes.{Kind, Plus, Minus, Zero, One, TwoToSeven, EightOrNine, Dot, B, E, HexLetter, O, P, X, follows, kind, Follow}
+use Rattle.cbor_edn_parts.specs.base.Bytes.{Kind, Plus, Minus, Zero, One, TwoToSeven, EightOrNine, Dot, B, E, HexLetter, O, P, X, follows, kind, Follow}
 use Rattle.cbor_edn_parts.specs.internal.Lex.{munch}
 use Rattle.cbor_edn_parts.specs.internal.NumberStarts.{follows_at}
 use Rattle.cbor_edn_parts.specs.internal.NumberTokens as tokens
@@ -9,7 +9,7 @@ use Rattle.cbor_edn_parts.specs.internal.NumberTokens.{number_step, number_final
 use Rattle.cbor_edn_parts.specs.internal.Scans.{IsAt}
 use Rattle.cbor_edn_parts.specs.declared.number.NumberState.{NumberState}
 use Rattle.cbor_edn_parts.specs.declared.number.NumberState.TheVariants.{AfterZero, DecimalDigits, Fraction, ExponentDigits, HexadecimalDigits, BinaryExponentDigits, OctalDigits, BinaryDigits}
-use Rattle.cbor_edn_parts.proofs.lemmas.scan.ScanLoops.{halted}
+use Rattle.cbor_edn_parts.proofs.lemmas.base.ScanLoops.{halted}
 
 pub number_stop : (k : Kind) (m : NumberState) → number_final m ≡ true → follows k ≡ true → number_step k m ≡ None
 number_stop Plus AfterZero e h = refl

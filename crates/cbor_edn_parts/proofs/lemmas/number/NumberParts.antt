@@ -7,16 +7,16 @@ use Rattle.std.specs.List.{list_all}
 use Rattle.std.specs.Str.Parse.{digits_value, digits_value_after, AllDigits, IsNumeral, without_leading_plus}
 use Rattle.std.proofs.Math.Nat.{pow-zero, pow-suc}
 use Rattle.std.proofs.lemmas.Bool.{cases_lt, eqb-true, ltb-true, and_parts, or_cases, false≢true, ne_eqb, lt-ltb, and_right, or_from, and_from}
-use Rattle.cbor_edn_parts.specs.Bytes.{Kind, Plus, Minus, kind}
+use Rattle.cbor_edn_parts.specs.base.Bytes.{Kind, Plus, Minus, kind}
 use Rattle.cbor_edn_parts.specs.internal.Lex.{Accepts}
-use Rattle.cbor_edn_parts.specs.Space.{Each, end, next}
-use Rattle.cbor_edn_parts.specs.Number.{Sign, NoSign, PlusSign, MinusSign, sign_text, Base, Binary, Octal, Decimal, Hexadecimal, radix, IsPrefixOf, IsDigitOf, AreDigits, IsInteger, IsNumber, integer, number_of, signed, HasInteger}
+use Rattle.cbor_edn_parts.specs.space.Space.{Each, end, next}
+use Rattle.cbor_edn_parts.specs.number.Number.{Sign, NoSign, PlusSign, MinusSign, sign_text, Base, Binary, Octal, Decimal, Hexadecimal, radix, IsPrefixOf, IsDigitOf, AreDigits, IsInteger, IsNumber, integer, number_of, signed, HasInteger}
 use Rattle.cbor_edn_parts.specs.internal.NumberReading.{sign_of, without_sign, names, named_base, prefix_length, base_of, digits_of, is_numeral, magnitude_of, integer_of}
 use Rattle.cbor_edn_parts.specs.internal.NumberTokens as tokens
 use Rattle.cbor_edn_parts.specs.internal.NumberTokens.{number_step}
 use Rattle.cbor_edn_parts.specs.declared.number.NumberState.{NumberState}
 use Rattle.cbor_edn_parts.specs.declared.number.NumberState.TheVariants.{Signed}
-use Rattle.cbor_edn_parts.proofs.lemmas.bytes.ByteKinds.{differs}
+use Rattle.cbor_edn_parts.proofs.lemmas.base.ByteKinds.{differs}
 use Rattle.cbor_edn_parts.proofs.lemmas.number.NumberTexts.{number_parts, behind_sign-is, behind_prefix, after_prefix}
 
 -- A fold from the left is the sum by places.

@@ -4,16 +4,16 @@ use mathlib.Core.Logic.{⊎_elim}
 use Rattle.std.proofs.lemmas.Bool.{false≢true}
 use Rattle.std.proofs.lemmas.List.{append-nil}
 use Rattle.std.proofs.lemmas.Option.{same_Some}
-use Rattle.cbor_edn_parts.specs.Bytes.{Kind, Plus, Minus, Zero, One, TwoToSeven, EightOrNine, Dot, B, E, HexLetter, O, P, X, kind}
+use Rattle.cbor_edn_parts.specs.base.Bytes.{Kind, Plus, Minus, Zero, One, TwoToSeven, EightOrNine, Dot, B, E, HexLetter, O, P, X, kind}
 use Rattle.cbor_edn_parts.specs.internal.Lex.{Accepts, Is}
-use Rattle.cbor_edn_parts.specs.Space.{Each, end, next}
-use Rattle.cbor_edn_parts.specs.Number.{Sign, NoSign, PlusSign, MinusSign, sign_text, Base, Binary, Octal, Decimal, Hexadecimal, IsPrefixOf, IsDigitOf, AreDigits, IsMantissa, whole, pointed, fraction, IsExponent, IsDecimalExponent, none, small_e, large_e, IsBinaryExponent, small_p, large_p, IsNumber, integer, decimal, hex_float}
+use Rattle.cbor_edn_parts.specs.space.Space.{Each, end, next}
+use Rattle.cbor_edn_parts.specs.number.Number.{Sign, NoSign, PlusSign, MinusSign, sign_text, Base, Binary, Octal, Decimal, Hexadecimal, IsPrefixOf, IsDigitOf, AreDigits, IsMantissa, whole, pointed, fraction, IsExponent, IsDecimalExponent, none, small_e, large_e, IsBinaryExponent, small_p, large_p, IsNumber, integer, decimal, hex_float}
 use Rattle.cbor_edn_parts.specs.internal.NumberTokens as tokens
 use Rattle.cbor_edn_parts.specs.internal.NumberTokens.{number_step, number_final, is_number}
 use Rattle.cbor_edn_parts.specs.declared.number.NumberState.{NumberState}
 use Rattle.cbor_edn_parts.specs.declared.number.NumberState.TheVariants.{Start, Signed, AfterZero, DecimalDigits, Point, Fraction, Exponent, ExponentSigned, ExponentDigits, AfterX, HexadecimalDigits, HexadecimalPoint, HexadecimalFraction, BinaryExponent, BinaryExponentSigned, BinaryExponentDigits, AfterO, OctalDigits, AfterB, BinaryDigits}
-use Rattle.cbor_edn_parts.proofs.lemmas.bytes.ByteKinds.{is_digit, digit_kind, kind_digit, kind-plus, kind-minus, kind-zero, kind-dot, kind-b, kind-e, kind-o, kind-p, kind-x}
-use Rattle.cbor_edn_parts.proofs.lemmas.scan.Tokens.{token_texts}
+use Rattle.cbor_edn_parts.proofs.lemmas.base.ByteKinds.{is_digit, digit_kind, kind_digit, kind-plus, kind-minus, kind-zero, kind-dot, kind-b, kind-e, kind-o, kind-p, kind-x}
+use Rattle.cbor_edn_parts.proofs.lemmas.base.Tokens.{token_texts}
 
 -- A number with a fraction or an exponent is read in one of two ways.
 data Form : Type 0 where

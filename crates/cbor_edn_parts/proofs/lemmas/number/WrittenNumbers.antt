@@ -4,7 +4,7 @@ use Rattle.std.specs.Prelude.{ℤ, pos, negsuc, unsigned_abs}
 use lib.Signed.{mag}
 use Rattle.std.specs.Fmt.{digits}
 use Rattle.std.proofs.lemmas.Fmt.{digits_is_IsNumeral}
-use Rattle.cbor_edn_parts.specs.Number.{NoSign, Hexadecimal, IsInteger, HasInteger, integer}
+use Rattle.cbor_edn_parts.specs.number.Number.{NoSign, Hexadecimal, IsInteger, HasInteger, integer}
 use Rattle.cbor_edn_parts.specs.internal.NumberTokens.{is_number}
 use Rattle.cbor_edn_parts.specs.Written.{hexadecimal_text}
 use Rattle.cbor_edn_parts.proofs.lemmas.number.Decimals.{IsDecimal}

@@ -2,7 +2,7 @@
 use Rattle.std.proofs.Common.{ℕ, ◌≡◌, ◌<◌, List, drop, true, false, Option, Some, None, refl, ap}
 use Rattle.std.specs.Prelude.{slice_range, IfSome, MatchOption, ⊤}
 use Rattle.std.proofs.lemmas.Bool.{false≢true, both_ways}
-use Rattle.cbor_edn_parts.specs.Bytes.{IsLong, kind}
+use Rattle.cbor_edn_parts.specs.base.Bytes.{IsLong, kind}
 use Rattle.cbor_edn_parts.specs.internal.Blanks.{begins_comment, is_blank_at, begins_comment_at}
 use Rattle.cbor_edn_parts.specs.internal.CommentReading.{is_blank}
 use Rattle.cbor_edn_parts.specs.internal.Lex.{token}
@@ -12,8 +12,8 @@ use Rattle.cbor_edn_parts.specs.internal.SpaceTokens as tokens
 use Rattle.cbor_edn_parts.specs.internal.SpaceTokens.{space_step}
 use Rattle.cbor_edn_parts.specs.declared.space.SpaceState.{SpaceState}
 use Rattle.cbor_edn_parts.specs.declared.space.SpaceState.TheVariants.{Between, InSlashes, InHash}
-use Rattle.cbor_edn_parts.proofs.lemmas.scan.ScanEnds.{comes_done}
-use Rattle.cbor_edn_parts.proofs.lemmas.scan.ScanLoops.{halted}
+use Rattle.cbor_edn_parts.proofs.lemmas.base.ScanEnds.{comes_done}
+use Rattle.cbor_edn_parts.proofs.lemmas.base.ScanLoops.{halted}
 use Rattle.cbor_edn_parts.proofs.lemmas.space.SpaceTexts.{Moves, decides_blank, step-to, step-from}
 
 -- a blank that is there

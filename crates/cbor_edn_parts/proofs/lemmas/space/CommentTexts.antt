@@ -4,8 +4,8 @@ use Rattle.std.specs.Prelude.{eqb}
 use mathlib.Core.Logic.{⊎_elim}
 use Rattle.std.proofs.lemmas.Bool.Decides.{nat_tests, Decides-or, Decides-eqb}
 use Rattle.std.proofs.lemmas.List.{append-nil}
-use Rattle.cbor_edn_parts.specs.Space.{IsBlank, InSlashes, InHash, Each, end, next, IsComment, slashes, hash, IsSpace, empty, blank, comment}
-use Rattle.cbor_edn_parts.specs.Comments.{BeginsWithComment, EndsWithComment, IsCommentsOf, OneCommentsOf, CutAtComma}
+use Rattle.cbor_edn_parts.specs.space.Space.{IsBlank, InSlashes, InHash, Each, end, next, IsComment, slashes, hash, IsSpace, empty, blank, comment}
+use Rattle.cbor_edn_parts.specs.space.Comments.{BeginsWithComment, EndsWithComment, IsCommentsOf, OneCommentsOf, CutAtComma}
 use Rattle.cbor_edn_parts.specs.internal.CommentReading.{is_blank, past, from_first, unless_last, to_last, comments_of, is_comma, up_to_comma, past_comma, before_comma, after_comma}
 use Rattle.cbor_edn_parts.specs.declared.space.SpaceState.TheVariants as within
 

@@ -5,10 +5,10 @@ use mathlib.Core.Logic.{⊎_elim}
 use Rattle.std.proofs.lemmas.Bool.{cond_both, cases_eq}
 use Rattle.std.proofs.lemmas.Bool.Decides.{nat_tests}
 use Rattle.std.proofs.lemmas.List.Elements.{All-head, All-tail}
-use Rattle.cbor_edn_parts.specs.Space.{IsBlank, IsPrintable, InSlashes, InHash, Each, end, next, slashes, hash, IsSpace, empty, comment, IsMandatorySpace, IsListEnd, IsSeparator, space, comma, comma_first, space_alone, space_comma}
-use Rattle.cbor_edn_parts.specs.Notes.{cleaned, has_slash, hash_lines, noted}
-use Rattle.cbor_edn_parts.specs.Spacing.{Optional, Mandatory, Separating, AtEnd}
-use Rattle.cbor_edn_parts.specs.SpacingLaws.{NotesAreSpace, NotesInFront}
+use Rattle.cbor_edn_parts.specs.space.Space.{IsBlank, IsPrintable, InSlashes, InHash, Each, end, next, slashes, hash, IsSpace, empty, comment, IsMandatorySpace, IsListEnd, IsSeparator, space, comma, comma_first, space_alone, space_comma}
+use Rattle.cbor_edn_parts.specs.space.Notes.{cleaned, has_slash, hash_lines, noted}
+use Rattle.cbor_edn_parts.specs.space.Spacing.{Optional, Mandatory, Separating, AtEnd}
+use Rattle.cbor_edn_parts.specs.space.SpacingLaws.{NotesAreSpace, NotesInFront}
 use Rattle.cbor_edn_parts.proofs.lemmas.space.SpaceTexts.{optional_texts, mandatory_texts, at_end_texts, separating_texts}
 use Rattle.cbor_edn_parts.proofs.lemmas.space.CommentTexts.{spaces_append, comment_space}
 

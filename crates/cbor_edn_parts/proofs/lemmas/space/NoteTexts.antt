@@ -7,7 +7,7 @@ use Rattle.std.proofs.lemmas.Bool.{cases_lt, ne_eqb, cond_both}
 use Rattle.std.proofs.lemmas.Bool.Decides.{nat_tests}
 use Rattle.std.proofs.lemmas.List.{append-nil, map-append}
 use Rattle.std.proofs.lemmas.Str.{encode_ascii, encodes-append, inside_one}
-use Rattle.cbor_edn_parts.specs.Notes.{cleaned, has_slash, hash_lines}
+use Rattle.cbor_edn_parts.specs.space.Notes.{cleaned, has_slash, hash_lines}
 
 pub slash_found : (c : List ℕ) → list_any (λ b. eqb b 47) c ≡ has_slash c
 slash_found [] = refl

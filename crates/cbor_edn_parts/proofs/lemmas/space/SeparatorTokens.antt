@@ -6,16 +6,16 @@ use mathlib.Core.Logic.{⊎_elim, ◌≢◌}
 use Rattle.std.proofs.Math.Seq.{take-append_seam}
 use Rattle.std.specs.Str.{IsCharBoundary}
 use Rattle.cbor_edn_parts.specs.internal.Ends.{IsSpaced}
-use Rattle.cbor_edn_parts.specs.Bytes.{Kind, Comma, kind}
+use Rattle.cbor_edn_parts.specs.base.Bytes.{Kind, Comma, kind}
 use Rattle.cbor_edn_parts.specs.internal.Lex.{push, munch, token}
 use Rattle.cbor_edn_parts.specs.internal.SpaceTokens as tokens
 use Rattle.cbor_edn_parts.specs.internal.SpaceTokens.{space_step, separator_step, before, after}
 use Rattle.cbor_edn_parts.specs.declared.space.SpaceState.{SpaceState}
 use Rattle.cbor_edn_parts.specs.declared.space.SpaceState.TheVariants.{Between, InSlashes, InHash}
 use Rattle.cbor_edn_parts.specs.internal.SpaceTokens.{Before, After}
-use Rattle.cbor_edn_parts.proofs.lemmas.bytes.ByteKinds.{kind-comma}
-use Rattle.cbor_edn_parts.proofs.lemmas.scan.ScanLoops.{front, munch_some, munch_none}
-use Rattle.cbor_edn_parts.proofs.lemmas.scan.Tokens.{munch-took}
+use Rattle.cbor_edn_parts.proofs.lemmas.base.ByteKinds.{kind-comma}
+use Rattle.cbor_edn_parts.proofs.lemmas.base.ScanLoops.{front, munch_some, munch_none}
+use Rattle.cbor_edn_parts.proofs.lemmas.base.Tokens.{munch-took}
 
 -- Behind the comma stands space.
 after_step : (m : SpaceState) (c : ℕ) (xs : List ℕ) (o : Option SpaceState) → space_step (kind c) m ≡ o → ((n : SpaceState) → munch tokens.separator (After n) xs ≡ munch tokens.space n xs)

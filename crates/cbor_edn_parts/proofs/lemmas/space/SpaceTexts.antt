@@ -5,19 +5,19 @@ use mathlib.Core.Logic.{⊎_elim}
 use Rattle.std.proofs.lemmas.Bool.{agree_below_at, false≢true, and_parts, and_from}
 use Rattle.std.proofs.lemmas.Bool.Decides.{nat_tests, Decides-or, Decides-and, Decides-not, Decides-eqb, Decides-ltb, Decides-like}
 use Rattle.std.specs.Bool.{Decides}
-use Rattle.cbor_edn_parts.specs.Bytes.{Kind, Control, Comma, kind}
+use Rattle.cbor_edn_parts.specs.base.Bytes.{Kind, Control, Comma, kind}
 use Rattle.cbor_edn_parts.specs.internal.CommentReading.{is_blank}
 use Rattle.cbor_edn_parts.specs.internal.Lex.{Accepts, Is}
-use Rattle.cbor_edn_parts.specs.Space as set
-use Rattle.cbor_edn_parts.specs.Space.{IsBlank, IsPrintable, Each, end, next, slashes, hash, IsSpace, empty, blank, comment, IsMandatorySpace, IsListEnd, IsSeparator, space, comma, comma_first, space_alone, space_comma}
+use Rattle.cbor_edn_parts.specs.space.Space as set
+use Rattle.cbor_edn_parts.specs.space.Space.{IsBlank, IsPrintable, Each, end, next, slashes, hash, IsSpace, empty, blank, comment, IsMandatorySpace, IsListEnd, IsSeparator, space, comma, comma_first, space_alone, space_comma}
 use Rattle.cbor_edn_parts.specs.internal.SpaceTokens as tokens
 use Rattle.cbor_edn_parts.specs.internal.SpaceTokens.{space_step, separator_step, before, after, is_empty, is_space, is_mandatory_space, is_list_end, is_separator}
 use Rattle.cbor_edn_parts.specs.declared.space.SpaceState.{SpaceState}
 use Rattle.cbor_edn_parts.specs.declared.space.SpaceState.TheVariants.{Between, InSlashes, InHash}
 use Rattle.cbor_edn_parts.specs.internal.SpaceTokens.{SeparatorState}
 use Rattle.cbor_edn_parts.specs.internal.SpaceTokens.{Before, After}
-use Rattle.cbor_edn_parts.proofs.lemmas.bytes.ByteKinds.{at_each, kind-comma}
-use Rattle.cbor_edn_parts.proofs.lemmas.scan.Tokens.{token_texts}
+use Rattle.cbor_edn_parts.proofs.lemmas.base.ByteKinds.{at_each, kind-comma}
+use Rattle.cbor_edn_parts.proofs.lemmas.base.Tokens.{token_texts}
 
 -- The bytes that lead from one state to another.
 abbrev pub Moves : SpaceState → SpaceState → ℕ → Type 0

@@ -1,5 +1,5 @@
 use Rattle.std.proofs.Common.{◌≡◌, ◌<◌, ◌-◌, [], ℕ, suc, length}
-use Rattle.cbor_edn_parts.specs.Buffer.{buffer_bytes}
+use Rattle.cbor_edn_parts.specs.base.Buffer.{buffer_bytes}
 use Rattle.cbor_edn_model.specs.internal.CborReading.{trees, many, until, argument_indicator}
 use Rattle.cbor_edn_stream.specs.Printed.{bracketed, entry_at, list_by, nested_major}
 use Rattle.std.proofs.Common.{arith, refl, sym, ap, ◌∙◌}

@@ -1,5 +1,5 @@
 use Rattle.std.proofs.Common.{◌≡◌, ℕ, suc, ◌+◌, ◌-◌, ◌*◌, ◌≤◌, ◌<◌, ◌++◌, length, List, None}
-use Rattle.cbor_edn_parts.specs.Buffer.{buffer_bytes}
+use Rattle.cbor_edn_parts.specs.base.Buffer.{buffer_bytes}
 use Rattle.cbor_edn_model.specs.tree.Items.{entries_of}
 use Rattle.cbor_edn_model.specs.tree.Trees.{Tree, OneEntry}
 use Rattle.cbor_edn_model.specs.internal.CborReading.{many, until, past_stop}

@@ -1,7 +1,7 @@
 use Rattle.std.proofs.Common.{◌∙◌, sym, ap, arith}
 use Rattle.std.proofs.lemmas.Result.{err_from_is_err_and}
-use Rattle.cbor_edn_parts.specs.Buffer.{buffer_bytes}
-use Rattle.cbor_edn_parts.specs.declared.policy.DelimiterPolicy.{DelimiterPolicy}
+use Rattle.cbor_edn_parts.specs.base.Buffer.{buffer_bytes}
+use Rattle.cbor_edn_parts.specs.declared.space.policy.DelimiterPolicy.{DelimiterPolicy}
 use Rattle.cbor_edn_model.specs.layout.Layout.{layout}
 use Rattle.cbor_edn_core.proofs.lemmas.cbor.Decodes.{is_empty, sequence_fails_refused, sequence_fails_deep}
 use Rattle.cbor_edn_stream.proofs.lemmas.Sequences.{elements_fail, sequence_printed, nothing_printed}

@@ -1,6 +1,6 @@
 use Rattle.std.proofs.Common.{Some}
 use Rattle.std.proofs.lemmas.Result.{err_from_is_err_and}
-use Rattle.cbor_edn_parts.specs.Buffer.{buffer_bytes}
+use Rattle.cbor_edn_parts.specs.base.Buffer.{buffer_bytes}
 use Rattle.cbor_edn_model.specs.internal.CborReading.{trees}
 use Rattle.cbor_edn_model.proofs.lemmas.cbor.CborTurns.{item_fails}
 use Rattle.cbor_edn_stream.specs.Printed.{Writes, WritesAnyhow}

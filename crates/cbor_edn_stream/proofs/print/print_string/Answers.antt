@@ -1,6 +1,6 @@
 use Rattle.std.proofs.Common.{arith}
 use Rattle.std.proofs.lemmas.Result.{err_from_is_err_and}
-use Rattle.cbor_edn_parts.specs.Buffer.{buffer_bytes}
+use Rattle.cbor_edn_parts.specs.base.Buffer.{buffer_bytes}
 use Rattle.cbor_edn_parts.specs.Leaves.{literal_bytes}
 use Rattle.cbor_edn_stream.proofs.lemmas.Turns.{string_written, string_fails}
 use Rattle.cbor_edn_stream.proofs.print.print_string.Goals as goal

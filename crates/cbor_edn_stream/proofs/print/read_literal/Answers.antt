@@ -1,7 +1,7 @@
 use Rattle.std.proofs.Common.{◌≡◌, false, take, ap, refl, sym, ◌∙◌}
 use Rattle.std.specs.Str.{is_utf8}
 use Rattle.std.proofs.lemmas.Str.{is_utf8-from_IsUtf8}
-use Rattle.cbor_edn_parts.specs.Contents.{kind_literal}
+use Rattle.cbor_edn_parts.specs.string.Contents.{kind_literal}
 use Rattle.cbor_edn_parts.specs.declared.string.StringKind.TheVariants.{Bytes, Text}
 use Rattle.cbor_edn_model.specs.internal.CborReading.{shown}
 use Rattle.cbor_edn_model.proofs.lemmas.cbor.CborStrings.{missing, invalid, literal_read, not_utf8}

@@ -3,7 +3,7 @@ use Rattle.std.specs.String.{string_bytes}
 use Rattle.cbor_edn_model.specs.text.Spelling.{SpellsSequence}
 use Rattle.cbor_edn_model.specs.tree.Trees.{items}
 use Rattle.cbor_edn_core.specs.tree.View.{Sequence, sequence_tree}
-use Rattle.cbor_edn_parts.specs.declared.nesting.TheConstants.{NESTING_LIMIT}
+use Rattle.cbor_edn_parts.specs.declared.base.nesting.TheConstants.{NESTING_LIMIT}
 use Rattle.cbor_edn.proofs.Loading.{of_boxed}
 use Rattle.cbor_edn.proofs.RecodedTexts.{text_of_decoded}
 use Rattle.cbor_edn.proofs.laws.recode.decoded_text.Goals as goal

@@ -3,7 +3,7 @@ use Rattle.cbor_edn_model.specs.text.Spelling.{SpellsSequence}
 use Rattle.cbor_edn_model.specs.tree.Trees.{items}
 use Rattle.cbor_edn_core.specs.text.Parsing.{ParsedSequence}
 use Rattle.cbor_edn_core.specs.tree.View.{Sequence, sequence_tree}
-use Rattle.cbor_edn_parts.specs.declared.nesting.TheConstants.{NESTING_LIMIT}
+use Rattle.cbor_edn_parts.specs.declared.base.nesting.TheConstants.{NESTING_LIMIT}
 use Rattle.cbor_edn.proofs.Loading.{of_boxed}
 use Rattle.cbor_edn.proofs.RecodedTexts.{meant_by_text}
 use Rattle.cbor_edn.proofs.laws.recode.read_and_encoded.Goals as goal

@@ -1,7 +1,7 @@
 use Rattle.std.proofs.Common.{sym, subst}
 use Rattle.std.specs.String.{string_bytes}
 use Rattle.cbor_edn.specs.Recoding.{IsTextOfItems}
-use Rattle.cbor_edn_parts.specs.declared.nesting.TheConstants.{NESTING_LIMIT}
+use Rattle.cbor_edn_parts.specs.declared.base.nesting.TheConstants.{NESTING_LIMIT}
 use Rattle.cbor_edn.proofs.RecodedTexts.{one_encoding_of_text}
 use Rattle.cbor_edn.proofs.laws.recode.recoded_by_text.Goals as goal
 

@@ -1,4 +1,4 @@
-use Rattle.cbor_edn_parts.proofs.lemmas.literal.LiteralPrefixes.{differ}
+use Rattle.cbor_edn_parts.proofs.lemmas.string.LiteralPrefixes.{differ}
 use Rattle.cbor_edn_application.proofs.AddressCalls.{other_prefix}
 use Rattle.cbor_edn_application.proofs.address.items.is_tag_wanted.Goals as goal
 

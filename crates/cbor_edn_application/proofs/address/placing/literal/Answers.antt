@@ -1,5 +1,5 @@
 use Rattle.std.proofs.Common.{sym, subst}
-use Rattle.cbor_edn_parts.specs.Literal.{IsPrefix}
+use Rattle.cbor_edn_parts.specs.string.Literal.{IsPrefix}
 use Rattle.cbor_edn_conversions.proofs.conversions.Literals.{address_prefix_is}
 use Rattle.cbor_edn_application.proofs.Told.{told_holds}
 use Rattle.cbor_edn_application.proofs.address.placing.literal.Goals as goal

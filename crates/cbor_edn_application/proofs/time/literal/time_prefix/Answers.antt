@@ -1,6 +1,6 @@
 use Rattle.std.proofs.Common.{inl, arith}
-use Rattle.cbor_edn_parts.specs.Space.{end, next}
-use Rattle.cbor_edn_parts.specs.Literal.{small, large}
+use Rattle.cbor_edn_parts.specs.space.Space.{end, next}
+use Rattle.cbor_edn_parts.specs.string.Literal.{small, large}
 use Rattle.cbor_edn_application.proofs.time.literal.time_prefix.Goals as goal
 
 pub returns-then-wrap-clause-prefix : goal.returns-then-wrap-clause-prefix

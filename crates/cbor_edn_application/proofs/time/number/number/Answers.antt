@@ -1,6 +1,6 @@
 use Rattle.std.proofs.Common.{◌≡◌, ◌<◌, ◌^◌, FitsSigned, w64, unsigned_abs, None, string_bytes, subst, sym, ap, ◌∙◌, rules, arith}
 use Rattle.std.proofs.lemmas.Int.{ints}
-use Rattle.cbor_edn_parts.specs.Number.{IsNumber}
+use Rattle.cbor_edn_parts.specs.number.Number.{IsNumber}
 use Rattle.cbor_edn_model.specs.tree.Trees.{NumberTree}
 use Rattle.cbor_edn_core.specs.tree.View.{item_tree}
 use Rattle.cbor_edn_application.proofs.InstantNumbers.{is_number, number_found, found_is, number_is}

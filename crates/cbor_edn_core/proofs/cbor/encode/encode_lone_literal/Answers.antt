@@ -1,8 +1,8 @@
 use Rattle.std.proofs.Common.{refl}
 use Rattle.std.proofs.lemmas.Result.{err_from_is_err_and}
 use Rattle.cbor_edn_parts.specs.Leaves.{literal_bytes}
-use Rattle.cbor_edn_parts.proofs.lemmas.literal.ContentTexts.{content_reads, content_unread}
-use Rattle.cbor_edn_parts.proofs.lemmas.literal.WhereRefused.{told_weaker}
+use Rattle.cbor_edn_parts.proofs.lemmas.string.ContentTexts.{content_reads, content_unread}
+use Rattle.cbor_edn_parts.proofs.lemmas.string.WhereRefused.{told_weaker}
 use Rattle.cbor_edn_model.specs.cbor.Meaning.{means}
 use Rattle.cbor_edn_model.specs.tree.Items.{LastPiece, Literal}
 use Rattle.cbor_edn_model.proofs.lemmas.cbor.StringEncodes.{string_pushed, string_lacks}

@@ -9,9 +9,9 @@ use Rattle.cbor_edn_parts.specs.declared.space.ListEnd.{ListEnd}
 use Rattle.cbor_edn_parts.specs.declared.number.Number.{Number}
 use Rattle.cbor_edn_parts.specs.declared.string.Literal.{Literal}
 use Rattle.cbor_edn_parts.specs.declared.string.Ellipsis.{Ellipsis}
-use Rattle.cbor_edn_parts.specs.LayoutColumns.{of_parts}
+use Rattle.cbor_edn_parts.specs.space.LayoutColumns.{of_parts}
 use Rattle.cbor_edn_parts.specs.Leaves.{list_end_bytes}
-use Rattle.cbor_edn_parts.specs.Spacing.{AtEnd}
+use Rattle.cbor_edn_parts.specs.space.Spacing.{AtEnd}
 use Rattle.cbor_edn_core.specs.declared.tree.ItemOf.{ItemOf}
 use Rattle.cbor_edn_core.specs.declared.tree.PairOf.{PairOf}
 use Rattle.cbor_edn_core.specs.declared.tree.InnerItemOf.TheViews.{out-InnerItemOf}

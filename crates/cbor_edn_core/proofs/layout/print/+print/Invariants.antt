@@ -1,5 +1,5 @@
 use Rattle.std.proofs.Common.{◌≡◌, ◌++◌, drop, map}
-use Rattle.cbor_edn_parts.specs.Buffer.{buffer_bytes}
+use Rattle.cbor_edn_parts.specs.base.Buffer.{buffer_bytes}
 use Rattle.cbor_edn_core.specs.tree.View.{seen, seen_pair, seen_piece, seen_string}
 use Rattle.cbor_edn_model.specs.tree.Rows.{entries_text, pieces_text}
 use Rattle.cbor_edn_model.specs.tree.TreeLeaves.{texts}

@@ -1,5 +1,5 @@
 use Rattle.std.proofs.Common.{sym, ap, ◌∙◌}
-use Rattle.cbor_edn_parts.specs.LayoutColumns.{of_parts}
+use Rattle.cbor_edn_parts.specs.space.LayoutColumns.{of_parts}
 use Rattle.cbor_edn_model.specs.internal.Widths.{measured}
 use Rattle.cbor_edn_core.specs.tree.View.{item_tree}
 use Rattle.cbor_edn_core.proofs.layout.room.layout_of_parts.Goals as goal

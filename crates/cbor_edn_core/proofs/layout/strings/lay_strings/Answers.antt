@@ -7,7 +7,7 @@ use Rattle.cbor_edn_parts.specs.declared.number.Number.{Number}
 use Rattle.cbor_edn_parts.specs.declared.string.Literal.{Literal}
 use Rattle.cbor_edn_parts.specs.declared.string.Ellipsis.{Ellipsis}
 use Rattle.cbor_edn_parts.specs.Leaves.{list_end_bytes}
-use Rattle.cbor_edn_parts.specs.Spacing.{AtEnd}
+use Rattle.cbor_edn_parts.specs.space.Spacing.{AtEnd}
 use Rattle.cbor_edn_core.specs.declared.tree.StringsOf.{out-StringsOf, roll-StringsOf, out-roll-StringsOf}
 use Rattle.cbor_edn_model.specs.layout.Layout.{Last, in_chunk, laid, respaced}
 use Rattle.cbor_edn_model.specs.tree.Trees.{items}

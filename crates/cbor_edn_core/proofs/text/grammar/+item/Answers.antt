@@ -1,7 +1,7 @@
 use Rattle.std.proofs.Common.{◌≡◌, ◌+◌, ◌<◌, ℕ, List, length, arith, ap, subst, sym, ◌∙◌, refl}
 use Rattle.std.proofs.lemmas.Bool.{false≢true}
 use Rattle.std.proofs.lemmas.Result.{err_from_is_err_and}
-use Rattle.cbor_edn_parts.specs.declared.error.Fault.TheVariants.{Told}
+use Rattle.cbor_edn_parts.specs.declared.base.error.Fault.TheVariants.{Told}
 use Rattle.cbor_edn_parts.specs.internal.SpaceTokens.{space}
 use Rattle.cbor_edn_parts.specs.internal.LiteralTokens.{literal, ellipsis}
 use Rattle.cbor_edn_parts.specs.internal.NumberTokens.{number}

@@ -1,6 +1,6 @@
 use Rattle.std.proofs.Common.{◌≡◌, true, false, None, Option, refl, sym, ap, ◌∙◌}
 use Rattle.std.proofs.lemmas.Bool.{false≢true}
-use Rattle.cbor_edn_parts.specs.declared.indicator.Indicator.{Indicator}
+use Rattle.cbor_edn_parts.specs.declared.base.indicator.Indicator.{Indicator}
 use Rattle.cbor_edn_model.specs.access.Accessed.{are_several}
 use Rattle.cbor_edn_model.specs.tree.TreeLeaves.{texts}
 use Rattle.cbor_edn_model.specs.tree.Trees.{Tree, OneString, LastPieceTree, PlusTree}

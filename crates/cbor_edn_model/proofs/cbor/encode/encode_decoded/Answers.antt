@@ -1,7 +1,7 @@
 use Rattle.std.proofs.lemmas.Result.{err_from_is_err_and}
 use Rattle.cbor_edn_parts.specs.Leaves.{literal_bytes}
-use Rattle.cbor_edn_parts.proofs.lemmas.literal.ContentTexts.{content_unread}
-use Rattle.cbor_edn_parts.proofs.lemmas.literal.WhereRefused.{told_weaker}
+use Rattle.cbor_edn_parts.proofs.lemmas.string.ContentTexts.{content_unread}
+use Rattle.cbor_edn_parts.proofs.lemmas.string.WhereRefused.{told_weaker}
 use Rattle.cbor_edn_model.proofs.cbor.encode.encode_decoded.Goals as goal
 
 pub returns-in_err-kind : goal.returns-in_err-kind

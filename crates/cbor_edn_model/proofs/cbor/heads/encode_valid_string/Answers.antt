@@ -1,6 +1,6 @@
 use Rattle.std.proofs.Common.{rules, ◌≡◌, ◌++◌, length, None, Some, sym, ap, ◌∙◌}
 use Rattle.std.proofs.lemmas.Bool.{eqb-true, eq-eqb}
-use Rattle.cbor_edn_parts.specs.declared.indicator.Indicator.TheVariants as indicator
+use Rattle.cbor_edn_parts.specs.declared.base.indicator.Indicator.TheVariants as indicator
 use Rattle.cbor_edn_model.specs.internal.Encoding.{list_head}
 use Rattle.cbor_edn_model.proofs.lemmas.cbor.StringEncodes.{indefinite_pushed, definite_pushed}
 use Rattle.cbor_edn_model.proofs.cbor.heads.encode_valid_string.Goals as goal

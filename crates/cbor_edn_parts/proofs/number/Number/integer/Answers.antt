@@ -1,6 +1,6 @@
 use Rattle.std.proofs.Common.{ℕ, List, IsTrue}
 use Rattle.cbor_edn_parts.specs.Leaves.{number_bytes}
-use Rattle.cbor_edn_parts.specs.Number.{IsNumber}
+use Rattle.cbor_edn_parts.specs.number.Number.{IsNumber}
 use Rattle.cbor_edn_parts.specs.internal.NumberTokens.{is_number}
 use Rattle.cbor_edn_parts.proofs.lemmas.number.NumberTexts.{number_texts}
 use Rattle.cbor_edn_parts.proofs.lemmas.number.NumberParts.{minus_is, digits_are, base_is, too_large, integer_by}

@@ -3,8 +3,8 @@ use Rattle.cbor_edn_parts.specs.declared.number.NumberState.TheVariants.{Decimal
 use Rattle.cbor_edn_parts.specs.internal.NumberTokens as tokens
 use Rattle.cbor_edn_parts.specs.internal.StateLaws.{number_stays, number_inside}
 use Rattle.cbor_edn_parts.proofs.lemmas.number.FirstDigits.{digits_on}
-use Rattle.cbor_edn_parts.proofs.lemmas.scan.ScanLoops.{onward}
-use Rattle.cbor_edn_parts.proofs.lemmas.scan.ScanEnds.{standing}
+use Rattle.cbor_edn_parts.proofs.lemmas.base.ScanLoops.{onward}
+use Rattle.cbor_edn_parts.proofs.lemmas.base.ScanEnds.{standing}
 use Rattle.cbor_edn_parts.proofs.number.start.behind_digits.Goals as goal
 
 pub digits-init : goal.digits-init

@@ -2,7 +2,7 @@ use Rattle.std.proofs.Common.{◌+◌, ◌-◌, length}
 use Rattle.cbor_edn_parts.specs.internal.NumberTokens as tokens
 use Rattle.cbor_edn_parts.specs.internal.Input.{text_bytes}
 use Rattle.cbor_edn_parts.specs.declared.number.NumberState.TheVariants.{DecimalDigits}
-use Rattle.cbor_edn_parts.proofs.lemmas.scan.ScanLoops.{Stands}
+use Rattle.cbor_edn_parts.proofs.lemmas.base.ScanLoops.{Stands}
 use Rattle.cbor_edn_parts.proofs.number.start.behind_digits.Given as goal
 
 abbrev pub invariant-digits : goal.invariant-digits

@@ -3,7 +3,7 @@ use Rattle.cbor_edn_parts.specs.declared.number.NumberState.TheVariants.{Start, 
 use Rattle.cbor_edn_parts.specs.internal.NumberTokens as tokens
 use Rattle.cbor_edn_parts.specs.internal.Input.{text_bytes}
 use Rattle.cbor_edn_parts.proofs.lemmas.number.FirstDigits.{sign_from_start, zero_from_start, zero_from_sign, digits_from_start, digits_from_sign}
-use Rattle.cbor_edn_parts.proofs.lemmas.scan.ScanEnds.{comes_byte, comes_on}
+use Rattle.cbor_edn_parts.proofs.lemmas.base.ScanEnds.{comes_byte, comes_on}
 use Rattle.cbor_edn_parts.proofs.number.start.number_start.Goals as goal
 
 pub unsigned_start-requires-clause-zero : goal.unsigned_start-requires-clause-zero

@@ -2,7 +2,7 @@ use Rattle.std.proofs.Common.{arith}
 use Rattle.cbor_edn_parts.specs.internal.NumberTokens as tokens
 use Rattle.cbor_edn_parts.specs.internal.Input.{text_bytes}
 use Rattle.cbor_edn_parts.specs.declared.number.NumberState.TheVariants.{AfterZero, DecimalDigits}
-use Rattle.cbor_edn_parts.proofs.lemmas.scan.ScanEnds.{comes_nowhere, comes_byte, comes_on}
+use Rattle.cbor_edn_parts.proofs.lemmas.base.ScanEnds.{comes_nowhere, comes_byte, comes_on}
 use Rattle.cbor_edn_parts.proofs.number.start.unsigned_start.Goals as goal
 
 pub behind_digits-requires : goal.behind_digits-requires

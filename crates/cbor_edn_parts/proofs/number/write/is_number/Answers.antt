@@ -2,7 +2,7 @@ use Rattle.std.proofs.Common.{sym, ◌∙◌, ap, arith}
 use Rattle.std.proofs.lemmas.List.{at_drop_more, drop_all}
 use Rattle.cbor_edn_parts.specs.internal.Lex.{munch, is_all}
 use Rattle.cbor_edn_parts.specs.internal.NumberTokens as tokens
-use Rattle.cbor_edn_parts.proofs.lemmas.scan.TokenTests.{test_stops, test_steps, test_ends}
+use Rattle.cbor_edn_parts.proofs.lemmas.base.TokenTests.{test_stops, test_steps, test_ends}
 use Rattle.cbor_edn_parts.proofs.number.write.is_number.Goals as goal
 
 pub returns-in-None : goal.returns-in-None

@@ -1,11 +1,11 @@
 use Rattle.std.proofs.Common.{◌≡◌, true, sym, ap, ◌∙◌, subst}
-use Rattle.cbor_edn_parts.specs.LeafTexts.{leaf_bytes}
+use Rattle.cbor_edn_parts.specs.base.LeafTexts.{leaf_bytes}
 use Rattle.cbor_edn_parts.specs.Leaves.{list_end_bytes}
-use Rattle.cbor_edn_parts.specs.Spacing as table
-use Rattle.cbor_edn_parts.specs.Spacing.{comments_before, comments_after}
+use Rattle.cbor_edn_parts.specs.space.Spacing as table
+use Rattle.cbor_edn_parts.specs.space.Spacing.{comments_before, comments_after}
 use Rattle.cbor_edn_parts.specs.internal.SpaceTokens.{is_list_end}
-use Rattle.cbor_edn_parts.proofs.lemmas.layout.ColumnKinds.{at_end_column}
-use Rattle.cbor_edn_parts.proofs.lemmas.layout.Spacings.{spaced_stays}
+use Rattle.cbor_edn_parts.proofs.lemmas.space.ColumnKinds.{at_end_column}
+use Rattle.cbor_edn_parts.proofs.lemmas.space.Spacings.{spaced_stays}
 use Rattle.cbor_edn_parts.proofs.space.ListEnd.spaced.Goals as goal
 
 bytes : (c : goal.In_ok-text) → leaf_bytes c.in_ok-text.text ≡ table.spaced table.AtEnd c.args.spacing (list_end_bytes c.args.self.now)

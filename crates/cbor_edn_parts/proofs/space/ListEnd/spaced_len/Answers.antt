@@ -1,9 +1,9 @@
 use Rattle.std.proofs.Common.{length, ap, ◌∙◌, ◌+◌, ◌-◌, ◌^◌}
 use Rattle.std.specs.Prelude.{min}
 use Rattle.cbor_edn_parts.specs.Leaves.{list_end_bytes}
-use Rattle.cbor_edn_parts.specs.Spacing.{comments_before, comments_after}
+use Rattle.cbor_edn_parts.specs.space.Spacing.{comments_before, comments_after}
 use Rattle.cbor_edn_parts.specs.internal.Columns.{column_length}
-use Rattle.cbor_edn_parts.proofs.lemmas.layout.ColumnLengths.{at_end_length}
+use Rattle.cbor_edn_parts.proofs.lemmas.space.ColumnLengths.{at_end_length}
 use Rattle.cbor_edn_parts.proofs.space.ListEnd.spaced_len.Goals as goal
 
 pub returns : goal.returns

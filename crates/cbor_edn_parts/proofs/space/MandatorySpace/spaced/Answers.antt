@@ -1,10 +1,10 @@
 use Rattle.std.proofs.Common.{◌≡◌, true, sym, ap, ◌∙◌, subst}
-use Rattle.cbor_edn_parts.specs.LeafTexts.{leaf_bytes}
+use Rattle.cbor_edn_parts.specs.base.LeafTexts.{leaf_bytes}
 use Rattle.cbor_edn_parts.specs.Leaves.{mandatory_bytes}
-use Rattle.cbor_edn_parts.specs.Spacing as table
+use Rattle.cbor_edn_parts.specs.space.Spacing as table
 use Rattle.cbor_edn_parts.specs.internal.SpaceTokens.{is_mandatory_space}
-use Rattle.cbor_edn_parts.proofs.lemmas.layout.ColumnKinds.{mandatory_column}
-use Rattle.cbor_edn_parts.proofs.lemmas.layout.Spacings.{spaced_stays}
+use Rattle.cbor_edn_parts.proofs.lemmas.space.ColumnKinds.{mandatory_column}
+use Rattle.cbor_edn_parts.proofs.lemmas.space.Spacings.{spaced_stays}
 use Rattle.cbor_edn_parts.proofs.space.MandatorySpace.spaced.Goals as goal
 use Rattle.cbor_edn_parts.proofs.space.MandatorySpace.spaced.Goals.{After-or_space-text}
 

@@ -3,7 +3,7 @@ use Rattle.std.specs.Prelude.{min, max}
 use Rattle.cbor_edn_parts.specs.internal.CommentReading.{comments_of}
 use Rattle.cbor_edn_parts.specs.Leaves.{mandatory_bytes}
 use Rattle.cbor_edn_parts.specs.internal.Columns.{column_length}
-use Rattle.cbor_edn_parts.proofs.lemmas.layout.ColumnLengths.{mandatory_length}
+use Rattle.cbor_edn_parts.proofs.lemmas.space.ColumnLengths.{mandatory_length}
 use Rattle.cbor_edn_parts.proofs.space.MandatorySpace.spaced_len.Goals as goal
 
 pub returns : goal.returns

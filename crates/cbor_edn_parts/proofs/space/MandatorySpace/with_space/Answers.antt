@@ -1,5 +1,5 @@
 use Rattle.std.proofs.Common.{◌≡◌, ◌++◌, true, sym, subst, rules}
-use Rattle.cbor_edn_parts.specs.LeafTexts.{leaf_bytes}
+use Rattle.cbor_edn_parts.specs.base.LeafTexts.{leaf_bytes}
 use Rattle.cbor_edn_parts.specs.Leaves.{space_bytes, mandatory_bytes}
 use Rattle.cbor_edn_parts.specs.internal.SpaceTokens.{is_space}
 use Rattle.cbor_edn_parts.proofs.lemmas.space.CommentTexts.{spaces_append}

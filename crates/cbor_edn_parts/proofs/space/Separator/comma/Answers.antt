@@ -1,5 +1,5 @@
 use Rattle.std.proofs.Common.{refl}
-use Rattle.cbor_edn_parts.specs.Bytes.{kind}
+use Rattle.cbor_edn_parts.specs.base.Bytes.{kind}
 use Rattle.cbor_edn_parts.specs.internal.Lex.{munch, push}
 use Rattle.cbor_edn_parts.proofs.space.Separator.comma.Goals as goal
 

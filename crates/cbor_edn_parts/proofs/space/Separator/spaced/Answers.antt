@@ -1,8 +1,8 @@
 use Rattle.std.proofs.Common.{◌≡◌, true, sym, ap, ◌∙◌, subst}
 use Rattle.cbor_edn_parts.specs.Leaves.{separator_bytes}
-use Rattle.cbor_edn_parts.specs.Spacing as table
+use Rattle.cbor_edn_parts.specs.space.Spacing as table
 use Rattle.cbor_edn_parts.specs.internal.SpaceTokens.{is_separator}
-use Rattle.cbor_edn_parts.proofs.lemmas.layout.Spacings.{spaced_stays}
+use Rattle.cbor_edn_parts.proofs.lemmas.space.Spacings.{spaced_stays}
 use Rattle.cbor_edn_parts.proofs.space.Separator.spaced.Goals as goal
 
 pub invariant_of-result : goal.invariant_of-result

@@ -1,9 +1,9 @@
 use Rattle.std.proofs.Common.{length, ap, ◌∙◌, ◌+◌, ◌-◌, ◌^◌}
 use Rattle.std.specs.Prelude.{min}
 use Rattle.cbor_edn_parts.specs.Leaves.{separator_bytes}
-use Rattle.cbor_edn_parts.specs.Spacing.{comments_before, comments_after}
+use Rattle.cbor_edn_parts.specs.space.Spacing.{comments_before, comments_after}
 use Rattle.cbor_edn_parts.specs.internal.Columns.{separator_length}
-use Rattle.cbor_edn_parts.proofs.lemmas.layout.ColumnLengths.{separating_length}
+use Rattle.cbor_edn_parts.proofs.lemmas.space.ColumnLengths.{separating_length}
 use Rattle.cbor_edn_parts.proofs.space.Separator.spaced_len.Goals as goal
 
 pub returns : goal.returns

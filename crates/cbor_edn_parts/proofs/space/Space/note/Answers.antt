@@ -1,8 +1,8 @@
 use Rattle.std.proofs.Common.{◌≡◌, true, false, sym, ap, ◌∙◌, subst}
 use Rattle.std.specs.Prelude.{string_bytes}
-use Rattle.cbor_edn_parts.specs.Notes.{has_slash, noted}
+use Rattle.cbor_edn_parts.specs.space.Notes.{has_slash, noted}
 use Rattle.cbor_edn_parts.specs.internal.SpaceTokens.{is_space}
-use Rattle.cbor_edn_parts.proofs.lemmas.literal.StringLiterals.{bytes_all}
+use Rattle.cbor_edn_parts.proofs.lemmas.string.StringLiterals.{bytes_all}
 use Rattle.cbor_edn_parts.proofs.lemmas.space.NoteSpaces.{notes_are_space}
 use Rattle.cbor_edn_parts.proofs.lemmas.space.NoteTexts.{slash_found}
 use Rattle.cbor_edn_parts.proofs.lemmas.space.SpaceTexts.{optional_texts}

@@ -3,7 +3,7 @@ use Rattle.std.specs.Prelude.{min}
 use Rattle.cbor_edn_parts.specs.internal.CommentReading.{comments_of}
 use Rattle.cbor_edn_parts.specs.Leaves.{space_bytes}
 use Rattle.cbor_edn_parts.specs.internal.Columns.{column_length}
-use Rattle.cbor_edn_parts.proofs.lemmas.layout.ColumnLengths.{optional_length}
+use Rattle.cbor_edn_parts.proofs.lemmas.space.ColumnLengths.{optional_length}
 use Rattle.cbor_edn_parts.proofs.space.Space.spaced_len.Goals as goal
 
 pub returns : goal.returns

@@ -1,7 +1,7 @@
 use Rattle.std.proofs.Common.{ℕ, ◌≡◌, ◌<◌, ◌≤◌, List, [], length, get_or, drop, true, refl, sym, ap, ◌∙◌, arith}
 use Rattle.std.proofs.lemmas.List.{drop_all}
 use Rattle.std.proofs.lemmas.Str.{IsCharBoundary-after_ascii}
-use Rattle.cbor_edn_parts.specs.Spacing.{comments_before, comments_after}
+use Rattle.cbor_edn_parts.specs.space.Spacing.{comments_before, comments_after}
 use Rattle.cbor_edn_parts.specs.internal.CommentReading.{from_first, to_last, comments_of, is_comma, before_comma, after_comma, up_to_comma, past_comma}
 use Rattle.cbor_edn_parts.specs.declared.space.SpaceState.TheVariants.{Between}
 use Rattle.cbor_edn_parts.proofs.lemmas.space.CommentScans.{front_found, behind_found}

@@ -1,5 +1,5 @@
 use Rattle.std.proofs.Common.{ℕ, ◌≡◌, ◌<◌, ◌≤◌, List, [], ◌∷◌, length, get_or, refl, arith}
-use Rattle.cbor_edn_parts.specs.Spacing.{comments_before, comments_after}
+use Rattle.cbor_edn_parts.specs.space.Spacing.{comments_before, comments_after}
 use Rattle.cbor_edn_parts.specs.internal.CommentReading.{from_first, to_last, up_to_comma, past_comma}
 use Rattle.cbor_edn_parts.proofs.space.comments.is_bare_separator.Goals as goal
 

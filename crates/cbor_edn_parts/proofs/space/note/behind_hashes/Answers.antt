@@ -5,7 +5,7 @@ use Rattle.std.proofs.lemmas.List.{map-id}
 use Rattle.std.proofs.lemmas.Iterator.{YieldsList-from_chars}
 use Rattle.std.proofs.lemmas.Iterator.Consumers.{YieldsList-end}
 use Rattle.std.proofs.lemmas.Str.{encodes-chars, encode_ascii}
-use Rattle.cbor_edn_parts.specs.Notes.{cleaned, hash_lines}
+use Rattle.cbor_edn_parts.specs.space.Notes.{cleaned, hash_lines}
 use Rattle.cbor_edn_parts.proofs.lemmas.space.NoteTexts.{lines_more}
 use Rattle.cbor_edn_parts.proofs.space.note.behind_hashes.Goals as goal
 

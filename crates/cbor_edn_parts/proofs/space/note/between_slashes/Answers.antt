@@ -5,7 +5,7 @@ use Rattle.std.proofs.lemmas.List.{map-id}
 use Rattle.std.proofs.lemmas.Iterator.{YieldsList-from_chars}
 use Rattle.std.proofs.lemmas.Iterator.Consumers.{YieldsList-end}
 use Rattle.std.proofs.lemmas.Str.{encodes-chars}
-use Rattle.cbor_edn_parts.specs.Notes.{cleaned}
+use Rattle.cbor_edn_parts.specs.space.Notes.{cleaned}
 use Rattle.cbor_edn_parts.proofs.lemmas.space.NoteTexts.{cleaned_more}
 use Rattle.cbor_edn_parts.proofs.space.note.between_slashes.Goals as goal
 

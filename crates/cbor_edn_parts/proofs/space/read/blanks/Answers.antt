@@ -2,8 +2,8 @@ use Rattle.std.proofs.Common.{sym, ◌∙◌}
 use Rattle.cbor_edn_parts.specs.internal.SpaceTokens as tokens
 use Rattle.cbor_edn_parts.specs.internal.StateLaws.{space_stays}
 use Rattle.cbor_edn_parts.specs.declared.space.SpaceState.TheVariants.{Between}
-use Rattle.cbor_edn_parts.proofs.lemmas.scan.ScanEnds.{standing}
-use Rattle.cbor_edn_parts.proofs.lemmas.scan.ScanLoops.{onward, over_read}
+use Rattle.cbor_edn_parts.proofs.lemmas.base.ScanEnds.{standing}
+use Rattle.cbor_edn_parts.proofs.lemmas.base.ScanLoops.{onward, over_read}
 use Rattle.cbor_edn_parts.proofs.lemmas.space.Blanks.{blank_there, other_there}
 use Rattle.cbor_edn_parts.proofs.space.read.blanks.Goals as goal
 

@@ -2,7 +2,7 @@ use Rattle.std.proofs.Common.{◌+◌, ◌-◌, length}
 use Rattle.cbor_edn_parts.specs.internal.SpaceTokens as tokens
 use Rattle.cbor_edn_parts.specs.internal.Input.{text_bytes}
 use Rattle.cbor_edn_parts.specs.declared.space.SpaceState.TheVariants.{Between}
-use Rattle.cbor_edn_parts.proofs.lemmas.scan.ScanLoops.{Stands}
+use Rattle.cbor_edn_parts.proofs.lemmas.base.ScanLoops.{Stands}
 use Rattle.cbor_edn_parts.proofs.space.read.blanks.Given as goal
 
 abbrev pub invariant-blanks : goal.invariant-blanks

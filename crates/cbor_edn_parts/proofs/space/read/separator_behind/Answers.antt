@@ -6,7 +6,7 @@ use Rattle.cbor_edn_parts.specs.internal.Scans.{IsAt}
 use Rattle.cbor_edn_parts.specs.internal.SpaceTokens as tokens
 use Rattle.cbor_edn_parts.specs.internal.Input.{text_bytes}
 use Rattle.cbor_edn_parts.proofs.lemmas.space.SeparatorTokens.{Read, end, other, comma, separator_read, separator_refused, separator_unread}
-use Rattle.cbor_edn_parts.proofs.lemmas.scan.Tokens.{taken}
+use Rattle.cbor_edn_parts.proofs.lemmas.base.Tokens.{taken}
 use Rattle.cbor_edn_parts.proofs.space.read.separator_behind.Goals as goal
 use Rattle.cbor_edn_parts.proofs.space.read.separator_behind.Goals.{After-slice, in-Some-eq44+in_ok-space_end-in-Some-eq44, in_default, in_default-2}
 

@@ -1,6 +1,6 @@
 use Rattle.std.proofs.Common.{sym, ◌∙◌}
 use Rattle.cbor_edn_parts.specs.internal.SpaceTokens as tokens
-use Rattle.cbor_edn_parts.proofs.lemmas.scan.ScanEnds.{ends_before}
+use Rattle.cbor_edn_parts.proofs.lemmas.base.ScanEnds.{ends_before}
 use Rattle.cbor_edn_parts.proofs.lemmas.space.Blanks.{blanks_whole}
 use Rattle.cbor_edn_parts.proofs.space.read.space_end.Goals as goal
 

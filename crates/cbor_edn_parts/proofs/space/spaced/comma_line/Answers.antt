@@ -6,7 +6,7 @@ use Rattle.std.proofs.lemmas.List.{take-replicate}
 use Rattle.std.proofs.lemmas.List.Elements.{All-cons, All-replicate}
 use Rattle.std.proofs.lemmas.Str.{IsCharBoundary-from_ascii}
 use Rattle.std.proofs.lemmas.Str.Ascii.{IsAscii-from_all}
-use Rattle.cbor_edn_parts.specs.Spacing.{line}
+use Rattle.cbor_edn_parts.specs.space.Spacing.{line}
 use Rattle.cbor_edn_parts.proofs.space.spaced.comma_line.Goals as goal
 
 abbrev spaces : List ℕ

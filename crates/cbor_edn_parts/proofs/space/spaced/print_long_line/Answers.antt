@@ -1,7 +1,7 @@
 use Rattle.std.proofs.Common.{◌∷◌, ◌++◌, [], ap, ◌∙◌, append_assoc}
 use Rattle.std.proofs.lemmas.List.{replicate_more}
-use Rattle.cbor_edn_parts.specs.Buffer.{buffer_bytes}
-use Rattle.cbor_edn_parts.specs.Spacing.{line}
+use Rattle.cbor_edn_parts.specs.base.Buffer.{buffer_bytes}
+use Rattle.cbor_edn_parts.specs.space.Spacing.{line}
 use Rattle.cbor_edn_parts.proofs.space.spaced.print_long_line.Goals as goal
 
 pub spaces-init : goal.spaces-init

@@ -1,6 +1,6 @@
 use Rattle.std.proofs.Common.{◌<◌, length, get_or, arith}
 use Rattle.std.proofs.lemmas.Str.{IsCharBoundary-after_ascii}
-use Rattle.cbor_edn_parts.specs.Spacing.{line}
+use Rattle.cbor_edn_parts.specs.space.Spacing.{line}
 use Rattle.cbor_edn_parts.proofs.space.spaced.short_line.Goals as goal
 
 pub range_from-requires : goal.range_from-requires

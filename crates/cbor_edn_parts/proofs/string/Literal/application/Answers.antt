@@ -1,11 +1,11 @@
 use Rattle.std.proofs.Common.{◌≡◌, ◌∷◌, ◌++◌, [], ℕ, List, sym, ◌∙◌, append_assoc}
 use Rattle.std.proofs.lemmas.Bool.{false≢true}
-use Rattle.cbor_edn_parts.specs.LeafTexts.{leaf_bytes}
-use Rattle.cbor_edn_parts.specs.Literal.{IsPrefix}
+use Rattle.cbor_edn_parts.specs.base.LeafTexts.{leaf_bytes}
+use Rattle.cbor_edn_parts.specs.string.Literal.{IsPrefix}
 use Rattle.cbor_edn_parts.specs.Written.{application_literal, all_single_escaped}
-use Rattle.cbor_edn_parts.proofs.lemmas.literal.StringLiterals.{bytes_all}
-use Rattle.cbor_edn_parts.proofs.lemmas.literal.PrefixTests.{prefix_test}
-use Rattle.cbor_edn_parts.proofs.lemmas.literal.WrittenLiterals.{application_is_literal}
+use Rattle.cbor_edn_parts.proofs.lemmas.string.StringLiterals.{bytes_all}
+use Rattle.cbor_edn_parts.proofs.lemmas.string.PrefixTests.{prefix_test}
+use Rattle.cbor_edn_parts.proofs.lemmas.string.WrittenLiterals.{application_is_literal}
 use Rattle.cbor_edn_parts.proofs.string.Literal.application.Goals as goal
 
 -- a prefix, a quote, a text and a quote

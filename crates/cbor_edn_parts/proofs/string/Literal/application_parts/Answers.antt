@@ -1,13 +1,13 @@
 use Rattle.std.proofs.Common.{◌≡◌, ℕ, List, Result, Ok, Err, sym, ap, subst, ◌∙◌, Vec, Global, string_bytes}
 use Rattle.std.specs.Result.{OnErr}
 use Rattle.cbor_edn_parts.specs.Leaves.{literal_bytes}
-use Rattle.cbor_edn_parts.specs.Literal.{IsLiteral, Prefixed}
+use Rattle.cbor_edn_parts.specs.string.Literal.{IsLiteral, Prefixed}
 use Rattle.cbor_edn_parts.specs.internal.ContentReading.{behind_quote}
 use Rattle.cbor_edn_parts.specs.internal.LiteralTokens.{prefix_of, decoded}
 use Rattle.cbor_edn_parts.specs.declared.string.QuotedState.TheVariants.{Between}
 use Rattle.cbor_edn_parts.specs.declared.string.Quote.TheVariants.{Single}
-use Rattle.cbor_edn_parts.proofs.lemmas.literal.LiteralPrefixes.{prefix_empty, prefix_filled}
-use Rattle.cbor_edn_parts.proofs.lemmas.literal.Applications.{prefixed_read, unprefixed_read, text_utf8}
+use Rattle.cbor_edn_parts.proofs.lemmas.string.LiteralPrefixes.{prefix_empty, prefix_filled}
+use Rattle.cbor_edn_parts.proofs.lemmas.string.Applications.{prefixed_read, unprefixed_read, text_utf8}
 use Rattle.cbor_edn_parts.proofs.string.Literal.application_parts.Goals as goal
 
 -- Memory is asked for behind a prefix alone.

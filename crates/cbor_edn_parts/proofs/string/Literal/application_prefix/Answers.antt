@@ -1,8 +1,8 @@
 use Rattle.std.proofs.Common.{ℕ, List, sym, subst, ◌∙◌}
 use Rattle.cbor_edn_parts.specs.Leaves.{literal_bytes}
-use Rattle.cbor_edn_parts.specs.Literal.{IsLiteral, Prefixed}
-use Rattle.cbor_edn_parts.proofs.lemmas.literal.LiteralPrefixes.{prefix_empty, prefix_filled}
-use Rattle.cbor_edn_parts.proofs.lemmas.literal.Applications.{prefixed_read, unprefixed_read}
+use Rattle.cbor_edn_parts.specs.string.Literal.{IsLiteral, Prefixed}
+use Rattle.cbor_edn_parts.proofs.lemmas.string.LiteralPrefixes.{prefix_empty, prefix_filled}
+use Rattle.cbor_edn_parts.proofs.lemmas.string.Applications.{prefixed_read, unprefixed_read}
 use Rattle.cbor_edn_parts.proofs.string.Literal.application_prefix.Goals as goal
 
 pub returns-then-is_empty-clause-none : goal.returns-then-is_empty-clause-none

@@ -1,17 +1,17 @@
 use Rattle.std.proofs.Common.{◌≡◌, ◌≢◌, ℕ, List, [], true, ap, sym, ◌∙◌, Option}
 use Rattle.std.proofs.lemmas.Result.{err_from_is_err_and}
-use Rattle.cbor_edn_parts.specs.Contents.{IsRefusal}
+use Rattle.cbor_edn_parts.specs.string.Contents.{IsRefusal}
 use Rattle.cbor_edn_parts.specs.internal.ContentReading.{of_bytes, prefixed_bytes, literal_content, is_decoded, refusal, literal_kind, quote_of, behind_quote}
-use Rattle.cbor_edn_parts.specs.declared.error.InconsistentEdn.{InconsistentEdn}
+use Rattle.cbor_edn_parts.specs.declared.base.error.InconsistentEdn.{InconsistentEdn}
 use Rattle.cbor_edn_parts.specs.Leaves.{literal_bytes}
 use Rattle.cbor_edn_parts.specs.internal.LiteralTokens.{is_literal, prefix_of, decoded}
 use Rattle.cbor_edn_parts.specs.declared.string.QuotedState.TheVariants.{Between}
 use Rattle.cbor_edn_parts.specs.declared.string.Quote.{Quote}
 use Rattle.cbor_edn_parts.specs.declared.string.StringKind.{StringKind}
 use Rattle.cbor_edn_parts.specs.declared.string.StringKind.TheVariants.{Bytes}
-use Rattle.cbor_edn_parts.proofs.lemmas.literal.ContentTexts.{content_read, no_content, refusal_is}
-use Rattle.cbor_edn_parts.proofs.lemmas.literal.LiteralPrefixes.{differ, plain_content, prefixed_content, bytes_kind, prefix_empty, prefix_filled}
-use Rattle.cbor_edn_parts.proofs.lemmas.literal.WhereRefused.{told_weaker}
+use Rattle.cbor_edn_parts.proofs.lemmas.string.ContentTexts.{content_read, no_content, refusal_is}
+use Rattle.cbor_edn_parts.proofs.lemmas.string.LiteralPrefixes.{differ, plain_content, prefixed_content, bytes_kind, prefix_empty, prefix_filled}
+use Rattle.cbor_edn_parts.proofs.lemmas.string.WhereRefused.{told_weaker}
 use Rattle.cbor_edn_parts.proofs.string.Literal.content.Goals as goal
 
 pub returns-in_ok-decode-clause-content : goal.returns-in_ok-decode-clause-content

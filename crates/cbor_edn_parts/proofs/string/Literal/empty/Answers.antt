@@ -1,5 +1,5 @@
 use Rattle.cbor_edn_parts.specs.declared.string.StringKind.TheVariants.{Bytes, Text}
-use Rattle.cbor_edn_parts.proofs.lemmas.literal.StringLiterals.{empty_is_literal}
+use Rattle.cbor_edn_parts.proofs.lemmas.string.StringLiterals.{empty_is_literal}
 use Rattle.cbor_edn_parts.proofs.string.Literal.empty.Goals as goal
 use Rattle.cbor_edn_parts.proofs.string.Literal.empty.Goals.{in-Bytes, in-Text}
 

@@ -4,8 +4,8 @@ use Rattle.cbor_edn_parts.specs.internal.LiteralTokens.{quote_byte, prefix_of}
 use Rattle.cbor_edn_parts.specs.internal.ContentReading.{behind_quote}
 use Rattle.cbor_edn_parts.specs.declared.string.Quote.{Quote}
 use Rattle.cbor_edn_parts.specs.declared.string.Quote.TheVariants.{Single, Double}
-use Rattle.cbor_edn_parts.proofs.lemmas.literal.ContentTexts.{content_read}
-use Rattle.cbor_edn_parts.proofs.lemmas.literal.LiteralPrefixes.{plain_content, lone_begins, lone_ends, lone_between}
+use Rattle.cbor_edn_parts.proofs.lemmas.string.ContentTexts.{content_read}
+use Rattle.cbor_edn_parts.proofs.lemmas.string.LiteralPrefixes.{plain_content, lone_begins, lone_ends, lone_between}
 use Rattle.cbor_edn_parts.proofs.string.Literal.plain_content.Goals as goal
 use Rattle.cbor_edn_parts.proofs.string.Literal.plain_content.Goals.{After-as_str}
 

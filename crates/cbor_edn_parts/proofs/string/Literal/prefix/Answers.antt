@@ -1,5 +1,5 @@
 use Rattle.std.proofs.Math.Nat.{sub-zero}
-use Rattle.cbor_edn_parts.proofs.lemmas.literal.LiteralPrefixes.{prefix_found, prefix_whole, quote_boundary}
+use Rattle.cbor_edn_parts.proofs.lemmas.string.LiteralPrefixes.{prefix_found, prefix_whole, quote_boundary}
 use Rattle.cbor_edn_parts.proofs.string.Literal.prefix.Goals as goal
 
 pub range-requires-clause-end_boundary : goal.range-requires-clause-end_boundary

@@ -1,5 +1,5 @@
 use Rattle.std.proofs.Common.{◌+◌, ◌≤◌, length, arith}
-use Rattle.cbor_edn_parts.proofs.lemmas.literal.LiteralPrefixes.{quoted_within}
+use Rattle.cbor_edn_parts.proofs.lemmas.string.LiteralPrefixes.{quoted_within}
 use Rattle.cbor_edn_parts.proofs.string.Literal.quoted.Goals as goal
 
 within : (c : goal.After-as_bytes) → length c.prefix.result.now + 1 ≤ length c.as_bytes.result.now

@@ -1,4 +1,4 @@
-use Rattle.cbor_edn_parts.proofs.lemmas.literal.StringLiterals.{text_is_literal, bytes_all}
+use Rattle.cbor_edn_parts.proofs.lemmas.string.StringLiterals.{text_is_literal, bytes_all}
 use Rattle.cbor_edn_parts.proofs.string.Literal.text.Goals as goal
 
 pub invariant_of-result : goal.invariant_of-result

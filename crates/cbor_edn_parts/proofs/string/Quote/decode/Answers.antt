@@ -1,7 +1,7 @@
 use Rattle.std.proofs.Common.{◌∙◌, arith}
 use Rattle.std.proofs.lemmas.List.{nil_from_length}
 use Rattle.std.proofs.lemmas.Slice.{first_rest}
-use Rattle.cbor_edn_parts.proofs.lemmas.literal.Quoted.{quoted_more, quoted_end, quoted_none, quoted_all}
+use Rattle.cbor_edn_parts.proofs.lemmas.string.Quoted.{quoted_more, quoted_end, quoted_none, quoted_all}
 use Rattle.cbor_edn_parts.proofs.string.Quote.decode.Goals as goal
 use Rattle.cbor_edn_parts.proofs.string.Quote.decode.Goals.{in_default, in-len1-up+then-ends, in-len1-up+else-ends+in_default-step}
 

@@ -1,7 +1,7 @@
 use Rattle.std.proofs.Common.{◌≡◌, [], ◌∷◌}
 use Rattle.std.proofs.lemmas.Bool.{both_ways}
 use Rattle.cbor_edn_parts.specs.internal.LiteralTokens.{quote_byte}
-use Rattle.cbor_edn_parts.proofs.lemmas.literal.Quoted.{decoded_plain, plain_rest}
+use Rattle.cbor_edn_parts.proofs.lemmas.string.Quoted.{decoded_plain, plain_rest}
 use Rattle.cbor_edn_parts.proofs.string.Quote.plain.Goals as goal
 
 pub returns-then-is_end-clause-some : goal.returns-then-is_end-clause-some

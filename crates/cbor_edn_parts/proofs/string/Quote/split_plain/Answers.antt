@@ -1,4 +1,4 @@
-use Rattle.cbor_edn_parts.proofs.lemmas.literal.Quoted.{split_found, split_whole}
+use Rattle.cbor_edn_parts.proofs.lemmas.string.Quoted.{split_found, split_whole}
 use Rattle.cbor_edn_parts.proofs.string.Quote.split_plain.Goals as goal
 
 pub returns-in-Some-clause-bytes : goal.returns-in-Some-clause-bytes

@@ -1,5 +1,5 @@
 use Rattle.std.proofs.Common.{arith}
-use Rattle.cbor_edn_parts.proofs.lemmas.literal.WrittenLiterals.{character_same}
+use Rattle.cbor_edn_parts.proofs.lemmas.string.WrittenLiterals.{character_same}
 use Rattle.cbor_edn_parts.proofs.string.application.print_single_escaped.Goals as goal
 
 pub returns-in_default : goal.returns-in_default

@@ -6,7 +6,7 @@ use Rattle.std.proofs.lemmas.Iterator.{YieldsList-from_chars}
 use Rattle.std.proofs.lemmas.Iterator.Consumers.{YieldsList-end}
 use Rattle.std.proofs.lemmas.Str.{encodes-chars, encodes-append}
 use Rattle.cbor_edn_parts.specs.Written.{all_single_escaped}
-use Rattle.cbor_edn_parts.proofs.lemmas.literal.WrittenLiterals.{all_single_escaped-append, all_plain_single}
+use Rattle.cbor_edn_parts.proofs.lemmas.string.WrittenLiterals.{all_single_escaped-append, all_plain_single}
 use Rattle.cbor_edn_parts.proofs.string.application.print_single_quoted.Goals as goal
 
 encoded : (cs : List ℕ) (c : ℕ) → encode_utf8_all (cs ++ (c ∷ [])) ≡ encode_utf8_all cs ++ encode_utf8 c

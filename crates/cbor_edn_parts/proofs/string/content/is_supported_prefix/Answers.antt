@@ -1,4 +1,4 @@
-use Rattle.cbor_edn_parts.proofs.lemmas.literal.LiteralPrefixes.{differ}
+use Rattle.cbor_edn_parts.proofs.lemmas.string.LiteralPrefixes.{differ}
 use Rattle.cbor_edn_parts.proofs.string.content.is_supported_prefix.Goals as goal
 
 pub returns-in_default : goal.returns-in_default

@@ -1,4 +1,4 @@
-use Rattle.cbor_edn_parts.proofs.lemmas.literal.LiteralPrefixes.{differ}
+use Rattle.cbor_edn_parts.proofs.lemmas.string.LiteralPrefixes.{differ}
 use Rattle.cbor_edn_parts.proofs.string.content.prefixed.Goals as goal
 
 pub returns-in_default-clause-none : goal.returns-in_default-clause-none

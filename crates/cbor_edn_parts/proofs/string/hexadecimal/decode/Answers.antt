@@ -1,8 +1,8 @@
 use Rattle.std.proofs.Common.{sym, ap, ◌∙◌}
 use Rattle.cbor_edn_parts.specs.internal.ContentReading.{hex_bytes}
 use Rattle.cbor_edn_parts.specs.internal.SpaceTokens.{space_step}
-use Rattle.cbor_edn_parts.proofs.lemmas.literal.ByteLoops.{after_none, going, pushed, refused, ended, unended}
-use Rattle.cbor_edn_parts.proofs.lemmas.literal.Hexadecimals.{digit_small, hex_first, hex_second, hex_on, hex_refused, hex_all, hex_in_comment, hex_waiting}
+use Rattle.cbor_edn_parts.proofs.lemmas.string.ByteLoops.{after_none, going, pushed, refused, ended, unended}
+use Rattle.cbor_edn_parts.proofs.lemmas.string.Hexadecimals.{digit_small, hex_first, hex_second, hex_on, hex_refused, hex_all, hex_in_comment, hex_waiting}
 use Rattle.cbor_edn_parts.proofs.string.hexadecimal.decode.Goals as goal
 use Rattle.cbor_edn_parts.proofs.string.hexadecimal.decode.Goals.{in-Some-None, in-Some-Some+in_ok-push-in-Some-Some, in-None-default+in-Some}
 

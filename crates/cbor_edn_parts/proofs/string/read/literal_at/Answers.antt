@@ -1,8 +1,8 @@
 use Rattle.cbor_edn_parts.specs.internal.LiteralTokens as tokens
 use Rattle.cbor_edn_parts.specs.internal.Input.{text_bytes}
-use Rattle.cbor_edn_parts.proofs.lemmas.literal.PlainTexts.{quote_there, opened, whole_text}
-use Rattle.cbor_edn_parts.proofs.lemmas.scan.ScanEnds.{comes_on, comes_nowhere}
-use Rattle.cbor_edn_parts.proofs.lemmas.scan.Tokens.{taken}
+use Rattle.cbor_edn_parts.proofs.lemmas.string.PlainTexts.{quote_there, opened, whole_text}
+use Rattle.cbor_edn_parts.proofs.lemmas.base.ScanEnds.{comes_on, comes_nowhere}
+use Rattle.cbor_edn_parts.proofs.lemmas.base.Tokens.{taken}
 use Rattle.cbor_edn_parts.proofs.string.read.literal_at.Goals as goal
 
 pub invariant_of-result : goal.invariant_of-result

@@ -2,9 +2,9 @@ use Rattle.std.proofs.Common.{sym, ◌∙◌}
 use Rattle.cbor_edn_parts.specs.internal.LiteralTokens as tokens
 use Rattle.cbor_edn_parts.specs.internal.PlainTexts.{in_text}
 use Rattle.cbor_edn_parts.specs.internal.StateLaws.{literal_stays}
-use Rattle.cbor_edn_parts.proofs.lemmas.literal.PlainTexts.{plain_there, other_there}
-use Rattle.cbor_edn_parts.proofs.lemmas.scan.ScanEnds.{standing}
-use Rattle.cbor_edn_parts.proofs.lemmas.scan.ScanLoops.{onward, over_read}
+use Rattle.cbor_edn_parts.proofs.lemmas.string.PlainTexts.{plain_there, other_there}
+use Rattle.cbor_edn_parts.proofs.lemmas.base.ScanEnds.{standing}
+use Rattle.cbor_edn_parts.proofs.lemmas.base.ScanLoops.{onward, over_read}
 use Rattle.cbor_edn_parts.proofs.string.read.plain_end.Goals as goal
 
 pub plain-init : goal.plain-init

@@ -2,7 +2,7 @@ use Rattle.std.proofs.Common.{◌+◌, ◌-◌, length}
 use Rattle.cbor_edn_parts.specs.internal.LiteralTokens as tokens
 use Rattle.cbor_edn_parts.specs.internal.PlainTexts.{in_text}
 use Rattle.cbor_edn_parts.specs.internal.Input.{text_bytes}
-use Rattle.cbor_edn_parts.proofs.lemmas.scan.ScanLoops.{Stands}
+use Rattle.cbor_edn_parts.proofs.lemmas.base.ScanLoops.{Stands}
 use Rattle.cbor_edn_parts.proofs.string.read.plain_end.Given as goal
 
 abbrev pub invariant-plain : goal.invariant-plain

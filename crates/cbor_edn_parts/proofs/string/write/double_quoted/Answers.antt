@@ -1,5 +1,5 @@
 use Rattle.std.proofs.Common.{refl}
-use Rattle.cbor_edn_parts.proofs.lemmas.literal.Escapes.{all_plain}
+use Rattle.cbor_edn_parts.proofs.lemmas.string.Escapes.{all_plain}
 use Rattle.cbor_edn_parts.proofs.string.write.double_quoted.Goals as goal
 
 pub returns-then-is_plain : goal.returns-then-is_plain

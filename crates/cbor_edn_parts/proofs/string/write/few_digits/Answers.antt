@@ -1,6 +1,6 @@
 use Rattle.std.proofs.Common.{arith}
 use Rattle.std.proofs.lemmas.Grind.{common_steps}
-use Rattle.cbor_edn_parts.proofs.lemmas.literal.StringLiterals.{digits_utf8}
+use Rattle.cbor_edn_parts.proofs.lemmas.string.StringLiterals.{digits_utf8}
 use Rattle.cbor_edn_parts.proofs.string.write.few_digits.Goals as goal
 
 pub unwrap-requires : goal.unwrap-requires

@@ -1,5 +1,5 @@
 use Rattle.std.proofs.Common.{◌≡◌, ◌∷◌, [], ℕ, ◌<◌, get_or}
-use Rattle.cbor_edn_parts.specs.Contents.{escaped}
+use Rattle.cbor_edn_parts.specs.string.Contents.{escaped}
 use Rattle.cbor_edn_parts.proofs.string.write.is_plain.Given as goal
 
 abbrev pub invariant-loop-byte : goal.invariant-loop-byte

@@ -2,8 +2,8 @@ use Rattle.std.proofs.Common.{◌≡◌, ◌↔◌, IsTrue, ◌<◌, ◌-◌, �
 use Rattle.std.specs.Prelude.{encode_utf8, string_bytes}
 use Rattle.std.proofs.lemmas.List.{take_all}
 use Rattle.std.proofs.lemmas.Str.{IsCharBoundary-start, IsCharBoundary-after_ascii}
-use Rattle.cbor_edn_parts.specs.Contents.{escaped, all_escaped}
-use Rattle.cbor_edn_parts.proofs.lemmas.literal.EscapedParts.{escaped_small, plain_waits, other_written}
+use Rattle.cbor_edn_parts.specs.string.Contents.{escaped, all_escaped}
+use Rattle.cbor_edn_parts.proofs.lemmas.string.EscapedParts.{escaped_small, plain_waits, other_written}
 use Rattle.cbor_edn_parts.proofs.string.write.print_between.Goals as goal
 use Rattle.cbor_edn_parts.proofs.string.write.print_between.Goals.{then-not-stands_for_itself+in_ok-push_str+in_ok-print_escaped, else-not-stands_for_itself}
 

@@ -1,7 +1,7 @@
 use Rattle.std.proofs.Common.{◌≡◌, ◌≤◌, ◌++◌, take, drop}
 use Rattle.std.specs.Prelude.{string_bytes}
 use Rattle.std.specs.Str.{IsCharBoundary}
-use Rattle.cbor_edn_parts.specs.Contents.{all_escaped}
+use Rattle.cbor_edn_parts.specs.string.Contents.{all_escaped}
 use Rattle.cbor_edn_parts.proofs.string.write.print_between.Given as goal
 
 -- what is written, and what waits to be

@@ -1,5 +1,5 @@
 use Rattle.std.proofs.Common.{rules, arith}
-use Rattle.cbor_edn_parts.proofs.lemmas.literal.Escapes.{character_low, character_plain}
+use Rattle.cbor_edn_parts.proofs.lemmas.string.Escapes.{character_low, character_plain}
 use Rattle.cbor_edn_parts.proofs.string.write.print_escaped.Goals as goal
 
 pub returns-in_default : goal.returns-in_default

@@ -1,10 +1,10 @@
 use Rattle.std.proofs.Common.{rules, ◌≡◌, ℕ, List, true, Option, Some, None, Result, Ok, Err, IfOk, IfSome, string_bytes, refl, sym, ap, ◌∙◌}
 use Rattle.std.proofs.lemmas.Bool.{false≢true}
-use Rattle.cbor_edn_parts.specs.declared.error.Fault.{Fault}
-use Rattle.cbor_edn_parts.specs.declared.error.Fault.TheVariants.{Memory, Told}
+use Rattle.cbor_edn_parts.specs.declared.base.error.Fault.{Fault}
+use Rattle.cbor_edn_parts.specs.declared.base.error.Fault.TheVariants.{Memory, Told}
 use Rattle.cbor_edn_parts.specs.Leaves.{literal_bytes}
 use Rattle.std.specs.Option.{ok_or}
-use Rattle.cbor_edn_parts.specs.Refusals.{IfTold, OnMemory}
+use Rattle.cbor_edn_parts.specs.base.Refusals.{IfTold, OnMemory}
 use Rattle.cbor_edn_model.specs.access.Accessed.{IsApplicationPiece, are_several, string_tree}
 use Rattle.cbor_edn_model.specs.tree.TreeLeaves.{texts}
 use Rattle.cbor_edn_model.specs.tree.Trees.{Tree, OnePiece, OneString, LastPieceTree, PlusTree, LiteralTree}

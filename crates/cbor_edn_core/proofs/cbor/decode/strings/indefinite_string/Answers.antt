@@ -1,5 +1,5 @@
 use Rattle.std.proofs.Common.{ℕ, List, Some, IfOk, ◌≡◌, refl, ap, subst, ◌∙◌}
-use Rattle.cbor_edn_parts.specs.declared.indicator.Indicator.TheVariants.{Indefinite}
+use Rattle.cbor_edn_parts.specs.declared.base.indicator.Indicator.TheVariants.{Indefinite}
 use Rattle.cbor_edn_model.specs.tree.Trees.{Tree, OneItem, StringTree, LastPieceTree, LiteralTree}
 use Rattle.cbor_edn_core.specs.tree.View.{item_tree}
 use Rattle.cbor_edn_model.specs.tree.TreeLeaves.{texts}

@@ -1,7 +1,7 @@
 use Rattle.std.proofs.Common.{ℕ, ◌<◌, List, length, drop, Ok, refl, sym, ap, ◌∙◌, arith}
 use Rattle.std.proofs.lemmas.Bool.{false≢true}
 use Rattle.std.proofs.lemmas.Result.{err_from_is_err_and}
-use Rattle.cbor_edn_parts.specs.declared.error.Fault.TheVariants.{Told}
+use Rattle.cbor_edn_parts.specs.declared.base.error.Fault.TheVariants.{Told}
 use Rattle.cbor_edn_parts.specs.Leaves.{list_end_bytes}
 use Rattle.cbor_edn_parts.specs.internal.SpaceTokens.{separator}
 use Rattle.cbor_edn_parts.specs.internal.Input.{text_bytes}

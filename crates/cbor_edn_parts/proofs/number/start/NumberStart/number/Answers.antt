@@ -1,7 +1,7 @@
 use Rattle.std.proofs.lemmas.Result.{err_from_is_err_and}
 use Rattle.cbor_edn_parts.specs.internal.NumberTokens as tokens
-use Rattle.cbor_edn_parts.proofs.lemmas.scan.ScanEnds.{comes_some, comes_none}
-use Rattle.cbor_edn_parts.proofs.lemmas.scan.Tokens.{taken}
+use Rattle.cbor_edn_parts.proofs.lemmas.base.ScanEnds.{comes_some, comes_none}
+use Rattle.cbor_edn_parts.proofs.lemmas.base.Tokens.{taken}
 use Rattle.cbor_edn_parts.proofs.number.start.NumberStart.number.Goals as goal
 
 pub invariant_of-result : goal.invariant_of-result

@@ -8,8 +8,8 @@ use Rattle.cbor_edn_parts.specs.internal.NumberStarts.{IsStart, follows_at}
 use Rattle.cbor_edn_parts.specs.internal.NumberTokens as tokens
 use Rattle.cbor_edn_parts.specs.internal.Input.{text_bytes}
 use Rattle.cbor_edn_parts.proofs.lemmas.number.NumberEnds.{follow_there, there_follows, stopped_there}
-use Rattle.cbor_edn_parts.proofs.lemmas.scan.ScanEnds.{comes_done}
-use Rattle.cbor_edn_parts.proofs.lemmas.scan.Tokens.{taken}
+use Rattle.cbor_edn_parts.proofs.lemmas.base.ScanEnds.{comes_done}
+use Rattle.cbor_edn_parts.proofs.lemmas.base.Tokens.{taken}
 use Rattle.cbor_edn_parts.proofs.number.start.NumberStart.plain.Goals as goal
 
 pub returns-then-not-is_final-clause-none : goal.returns-then-not-is_final-clause-none

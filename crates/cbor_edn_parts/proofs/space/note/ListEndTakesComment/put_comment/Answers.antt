@@ -1,9 +1,9 @@
 use Rattle.std.proofs.Common.{◌≡◌, ◌++◌, true, sym, ap, ◌∙◌, subst}
 use Rattle.cbor_edn_parts.specs.Leaves.{list_end_bytes}
-use Rattle.cbor_edn_parts.specs.Notes.{noted}
-use Rattle.cbor_edn_parts.specs.Spacing.{AtEnd}
+use Rattle.cbor_edn_parts.specs.space.Notes.{noted}
+use Rattle.cbor_edn_parts.specs.space.Spacing.{AtEnd}
 use Rattle.cbor_edn_parts.specs.internal.SpaceTokens.{is_list_end}
-use Rattle.cbor_edn_parts.proofs.lemmas.literal.StringLiterals.{bytes_all}
+use Rattle.cbor_edn_parts.proofs.lemmas.string.StringLiterals.{bytes_all}
 use Rattle.cbor_edn_parts.proofs.lemmas.space.NoteSpaces.{notes_in_front}
 use Rattle.cbor_edn_parts.proofs.space.note.ListEndTakesComment.put_comment.Goals as goal
 

@@ -1,9 +1,9 @@
 use Rattle.std.proofs.Common.{◌≡◌, ◌++◌, true, sym, ap, ◌∙◌, subst}
 use Rattle.cbor_edn_parts.specs.Leaves.{separator_bytes}
-use Rattle.cbor_edn_parts.specs.Notes.{noted}
-use Rattle.cbor_edn_parts.specs.Spacing.{Separating}
+use Rattle.cbor_edn_parts.specs.space.Notes.{noted}
+use Rattle.cbor_edn_parts.specs.space.Spacing.{Separating}
 use Rattle.cbor_edn_parts.specs.internal.SpaceTokens.{is_separator}
-use Rattle.cbor_edn_parts.proofs.lemmas.literal.StringLiterals.{bytes_all}
+use Rattle.cbor_edn_parts.proofs.lemmas.string.StringLiterals.{bytes_all}
 use Rattle.cbor_edn_parts.proofs.lemmas.space.NoteSpaces.{notes_in_front}
 use Rattle.cbor_edn_parts.proofs.space.note.SeparatorTakesComment.put_comment.Goals as goal
 

@@ -1,9 +1,9 @@
 use Rattle.std.proofs.Common.{◌≡◌, ◌++◌, true, sym, ap, ◌∙◌, subst}
 use Rattle.cbor_edn_parts.specs.Leaves.{space_bytes}
-use Rattle.cbor_edn_parts.specs.Notes.{noted}
-use Rattle.cbor_edn_parts.specs.Spacing.{Optional}
+use Rattle.cbor_edn_parts.specs.space.Notes.{noted}
+use Rattle.cbor_edn_parts.specs.space.Spacing.{Optional}
 use Rattle.cbor_edn_parts.specs.internal.SpaceTokens.{is_space}
-use Rattle.cbor_edn_parts.proofs.lemmas.literal.StringLiterals.{bytes_all}
+use Rattle.cbor_edn_parts.proofs.lemmas.string.StringLiterals.{bytes_all}
 use Rattle.cbor_edn_parts.proofs.lemmas.space.NoteSpaces.{notes_in_front}
 use Rattle.cbor_edn_parts.proofs.space.note.SpaceTakesComment.put_comment.Goals as goal
 

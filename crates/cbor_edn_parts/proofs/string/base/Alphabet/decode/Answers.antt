@@ -2,8 +2,8 @@ use Rattle.std.proofs.Common.{◌≡◌, false, eqb, sym, ⊎_elim, arith}
 use Rattle.std.proofs.lemmas.Bool.Decides.{nat_tests}
 use Rattle.cbor_edn_parts.specs.internal.Alphabets.{alphabet}
 use Rattle.cbor_edn_parts.specs.internal.ContentReading.{base_bytes}
-use Rattle.cbor_edn_parts.proofs.lemmas.literal.ByteLoops.{after_none, going, pushed, refused, ended, unended}
-use Rattle.cbor_edn_parts.proofs.lemmas.literal.Bases.{bits_bounds, base_ignored, base_no_symbol, base_end, base_too_many, base_left_over, joined_below, byte_fits, left_below, fewer, byte}
+use Rattle.cbor_edn_parts.proofs.lemmas.string.ByteLoops.{after_none, going, pushed, refused, ended, unended}
+use Rattle.cbor_edn_parts.proofs.lemmas.string.Bases.{bits_bounds, base_ignored, base_no_symbol, base_end, base_too_many, base_left_over, joined_below, byte_fits, left_below, fewer, byte}
 use Rattle.cbor_edn_parts.proofs.string.base.Alphabet.decode.Goals as goal
 use Rattle.cbor_edn_parts.proofs.string.base.Alphabet.decode.Goals.{then-count-ge8+in_ok-push, else-count-ge8}
 

@@ -1,7 +1,7 @@
 use Rattle.std.proofs.Common.{◌≡◌, ◌^◌, ◌<◌, drop}
 use Rattle.cbor_edn_parts.specs.internal.Alphabets.{alphabet}
 use Rattle.cbor_edn_parts.specs.internal.ContentReading.{base_bytes}
-use Rattle.cbor_edn_parts.proofs.lemmas.literal.ByteLoops.{after}
+use Rattle.cbor_edn_parts.proofs.lemmas.string.ByteLoops.{after}
 use Rattle.cbor_edn_parts.proofs.string.base.Alphabet.decode.Given as goal
 
 abbrev pub invariant-loop-byte : goal.invariant-loop-byte

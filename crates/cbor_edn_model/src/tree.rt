@@ -1,3 +1,0 @@
-//! Parts of trees, copied and compared.
-
-pub mod copy;

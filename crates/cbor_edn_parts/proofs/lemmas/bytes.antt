@@ -1,4 +1,0 @@
--- Bytes by their kinds.
-pub mod ByteKinds
-pub mod KindTable
-pub mod Utf8

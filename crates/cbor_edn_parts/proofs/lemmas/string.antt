@@ -1,0 +1,23 @@
+-- Quoted texts and ellipses: what they are, what they stand for, and those made from values.
+pub mod Applications
+pub mod Bases
+pub mod Bits
+pub mod ByteLoops
+pub mod ContentTexts
+pub mod EllipsisTexts
+pub mod EscapedParts
+pub mod Escapes
+pub mod HexTexts
+pub mod Hexadecimals
+pub mod LiteralContents
+pub mod LiteralPrefixes
+pub mod LiteralRuns
+pub mod LiteralSteps
+pub mod LiteralTexts
+pub mod OptionTests
+pub mod PlainTexts
+pub mod PrefixTests
+pub mod Quoted
+pub mod StringLiterals
+pub mod WhereRefused
+pub mod WrittenLiterals

@@ -1,0 +1,2 @@
+-- The texts of numbers.
+pub mod Number

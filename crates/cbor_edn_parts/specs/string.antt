@@ -1,0 +1,3 @@
+-- The texts of literals, and what they stand for.
+pub mod Contents
+pub mod Literal
