@@ -120,7 +120,7 @@ impl From<Fault<DeviceFault>> for RunError {
     }
 }
 
-// The items of a text.
+/// The items of a text.
 fn parsed<'a>(alloc: Global, limit: usize, input: &'a [u8]) -> Result<Box<Sequence<'a>>, RunError>
     ensures ok { IfOk result (λ s. IsReadAs limit input.now (sequence_tree s.value)) }
     ensures err { IfErr result (IsUnread limit input.now) }
@@ -131,7 +131,7 @@ fn parsed<'a>(alloc: Global, limit: usize, input: &'a [u8]) -> Result<Box<Sequen
     Ok(boxed(alloc, Sequence::parse_within(alloc, text, limit))?)
 }
 
-// The encodings of what the items of a text mean after the steps. The last step sets spaces, which have no part in it.
+/// The encodings of what the items of a text mean after the steps. The last step sets spaces, which have no part in it.
 fn to_cbor(alloc: Global, options: &Options, input: &[u8]) -> Result<Vec<u8>, RunError>
     ensures ok { IfOk result (λ bytes. IsEncoded options.now input.now bytes.items) }
     ensures err { IfErr result (IsUnencoded options.now input.now) }
@@ -144,7 +144,7 @@ fn to_cbor(alloc: Global, options: &Options, input: &[u8]) -> Result<Vec<u8>, Ru
     }
 }
 
-// The text of items after the steps.
+/// The text of items after the steps.
 pub(crate) fn printed(
     alloc: Global,
     options: &Options,
@@ -156,8 +156,8 @@ pub(crate) fn printed(
     option_steps::spaced_text(alloc, options, sequence)
 }
 
-// The text of the items that bytes encode, printed while they are read. None where a step is asked for that may change other items than tags, or
-// where a tag stands in them that a step may change.
+/// The text of the items that bytes encode, printed while they are read. None where a step is asked for that may change other items than tags, or
+/// where a tag stands in them that a step may change.
 fn streamed(alloc: Global, options: &Options, bytes: &[u8]) -> Result<Option<Vec<u8>>, RunError>
     ensures ok { IfOk result (λ text. IfSome text (λ out. IsDiagnosed options.now bytes.now out.items)) }
     ensures err { IfErr result (IsUndiagnosed options.now bytes.now) }
@@ -174,7 +174,7 @@ fn streamed(alloc: Global, options: &Options, bytes: &[u8]) -> Result<Option<Vec
     Ok(Some(out.into_bytes()))
 }
 
-// The text of the items that bytes encode.
+/// The text of the items that bytes encode.
 fn diagnosed(alloc: Global, options: &Options, bytes: &[u8]) -> Result<Vec<u8>, RunError>
     ensures ok { IfOk result (λ out. IsDiagnosed options.now bytes.now out.items) }
     ensures err { IfErr result (IsUndiagnosed options.now bytes.now) }
@@ -185,7 +185,7 @@ fn diagnosed(alloc: Global, options: &Options, bytes: &[u8]) -> Result<Vec<u8>, 
     Ok(elements::changed(alloc, options, bytes)?)
 }
 
-// The text of the items of a text.
+/// The text of the items of a text.
 fn reprinted(alloc: Global, options: &Options, input: &[u8]) -> Result<Vec<u8>, RunError>
     ensures ok { IfOk result (λ out. IsReprinted options.now input.now out.items) }
     ensures err { IfErr result (IsUnread options.now.limit input.now) }
@@ -247,8 +247,8 @@ pub fn run<R: Source, W: Sink>(
     }
 }
 
-// The line that tells of a fault, as far as there is memory. What `thiserror` writes is not known to proofs, so the words are
-// looked at: they are one line.
+/// The line that tells of a fault, as far as there is memory. What `thiserror` writes is not known to proofs, so the words are
+/// looked at: they are one line.
 fn fault_line(alloc: Global, fault: &RunError) -> Option<String>
     ensures { IfSome result (λ line. IsFaultLine (string_bytes line)) }
 {
@@ -259,7 +259,7 @@ fn fault_line(alloc: Global, fault: &RunError) -> Option<String>
     format!(in alloc; "cbor-edn: {words}\n").ok()
 }
 
-// Tells of a fault, as far as there is memory and the sink takes it.
+/// Tells of a fault, as far as there is memory and the sink takes it.
 fn tell<E: Sink>(alloc: Global, fault: &RunError, errors: &mut E)
     ensures reported { IsReported (E.contents errors.old) (E.contents errors.new) }
     ensures whole { E.failures errors.new ≡ E.failures errors.old → IsReportedWhole (E.contents errors.old) (E.contents errors.new) }

@@ -50,7 +50,7 @@ fn shown_bytes(alloc: Global, options: &ShowOptions, bytes: &[u8]) -> Result<Vec
     Ok(shown_text(alloc, options, &mut sequence)?)
 }
 
-// The text of items that were decoded.
+/// The text of items that were decoded.
 fn shown_text(
     alloc: Global,
     options: &ShowOptions,
@@ -63,7 +63,7 @@ fn shown_text(
     Ok(text)
 }
 
-// The same without a line feed at its end, where it ends in a comment.
+/// The same without a line feed at its end, where it ends in a comment.
 fn printed(
     alloc: Global,
     options: &ShowOptions,
@@ -75,7 +75,7 @@ fn printed(
     spaced_text(alloc, &options.steps(), sequence)
 }
 
-// Takes all steps but the last, which sets the spaces of what is printed.
+/// Takes all steps but the last, which sets the spaces of what is printed.
 fn take(alloc: Global, options: &ShowOptions, sequence: &mut Sequence<'_>) -> Result<(), AllocError>
     ensures { OnOk result ((v : Tree Seq) → IsLaidOut indented (sequence_tree sequence.new) v → ShowGives options.now (sequence_tree sequence.old) v) }
 {
@@ -98,14 +98,14 @@ fn embedded_shown(
     show_embedded(alloc, options.levels, options.limit, sequence)
 }
 
-// Whether there may be a tag behind the claims: annotating them counts as what may put one where none stood.
+/// Whether there may be a tag behind the claims: annotating them counts as what may put one where none stood.
 fn may_have_tag(options: &ShowOptions, tagged: bool) -> bool
     ensures { result ≡ tagged || options.now.annotate_ccs }
 {
     tagged || options.annotate_ccs
 }
 
-// Claims sets among the items and in messages, and the keys in both.
+/// Claims sets among the items and in messages, and the keys in both.
 fn annotate_claims(
     alloc: Global,
     asked: bool,

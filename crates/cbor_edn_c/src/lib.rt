@@ -32,7 +32,7 @@ fn call_fault(fault: &RunError) -> CallFault
     }
 }
 
-// The location of a fault, and its message as far as there is memory and room.
+/// The location of a fault, and its message as far as there is memory and room.
 fn report_of(alloc: Global, fault: &RunError, message: &mut [u8]) -> Report
     ensures place { TellsLocation (call_fault fault.now) result }
     ensures output { result.output_len ≡ 0 }
@@ -44,7 +44,7 @@ fn report_of(alloc: Global, fault: &RunError, message: &mut [u8]) -> Report
     }
 }
 
-// What is written for an input.
+/// What is written for an input.
 fn made(alloc: Global, asked: &Asked, input: &[u8]) -> Result<Vec<u8>, RunError>
     ensures ok { IfOk result (λ out. IsMade asked.now input.now out.items) }
     ensures err { IfErr result (IsUnmade asked.now input.now) }

@@ -30,7 +30,7 @@ fn command_numbered(number: u32) -> Option<Command>
     }
 }
 
-// The lowest of some flags, and the others.
+/// The lowest of some flags, and the others.
 fn split(flags: u32) -> (bool, u32)
     ensures { flags ≡ bit result.0 + 2 * result.1 }
 {
@@ -72,7 +72,7 @@ pub fn options_of(command: u32, flags: u32, limit: usize) -> Option<Options>
     })
 }
 
-// Whether one of some flags is set.
+/// Whether one of some flags is set.
 fn any(a: bool, b: bool, c: bool, d: bool, e: bool) -> bool
     ensures { result ≡ (a || (b || (c || (d || e)))) }
 {

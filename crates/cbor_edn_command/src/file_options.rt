@@ -64,7 +64,7 @@ pub struct CheckOptions {
     pub limit: usize,
 }
 
-// The options of a run that changes nothing.
+/// The options of a run that changes nothing.
 fn plain(command: Command, limit: usize) -> Options
     ensures { result ≡ plain_steps command limit }
 {

@@ -78,7 +78,7 @@ pub fn file_command<'a>(
     Ok((command, files_of(alloc, found)?))
 }
 
-// What `clap` has taken and is no command.
+/// What `clap` has taken and is no command.
 enum Misread<'a> {
     Name,
     Limit(&'a str),
@@ -114,7 +114,7 @@ fn show_of<'a>(found: &ArgMatches<'a>) -> Result<ShowOptions, Misread<'a>>
     })
 }
 
-// How many levels of embedded CBOR are to be shown.
+/// How many levels of embedded CBOR are to be shown.
 fn levels_of<'a>(found: &ArgMatches<'a>) -> Result<usize, Misread<'a>>
     ensures { IfOk result (line.AreLevels (rows_of (found_of found.now))) }
 {
@@ -147,7 +147,7 @@ fn check_of<'a>(found: &ArgMatches<'a>) -> Result<CheckOptions, Misread<'a>>
     })
 }
 
-// The names of the files, or `-`.
+/// The names of the files, or `-`.
 fn files_of<'a>(alloc: Global, found: &ArgMatches<'a>) -> Result<Vec<&'a str>, AllocError>
     ensures { IfOk result (λ v. map (λ w. w.now) v.items ≡ line.files_of (rows_of (found_of found.now))) }
 {
@@ -160,7 +160,7 @@ fn files_of<'a>(alloc: Global, found: &ArgMatches<'a>) -> Result<Vec<&'a str>, A
     Ok(names)
 }
 
-// The command line of the program, where it names a command for files.
+/// The command line of the program, where it names a command for files.
 fn program<'a>(alloc: Global) -> Result<clap::Command<'a>, AllocError>
     ensures { IfOk result IsFileProgram }
 {
@@ -192,7 +192,7 @@ fn show<'a>(
     with_files(alloc, command)
 }
 
-// A command with the flags that leave out a step which `show` takes by default.
+/// A command with the flags that leave out a step which `show` takes by default.
 fn with_steps_left_out<'a>(
     alloc: Global,
     command: clap::Command<'a>,
@@ -234,7 +234,7 @@ fn check<'a>(alloc: Global) -> Result<clap::Command<'a>, AllocError>
     with_files(alloc, command)
 }
 
-// A command with what all of these take.
+/// A command with what all of these take.
 fn with_files<'a>(
     alloc: Global,
     command: clap::Command<'a>,

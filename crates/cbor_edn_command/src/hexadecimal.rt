@@ -11,17 +11,17 @@ use std::alloc::{AllocError, Global};
 #[derive(Debug, Clone, Copy, PartialEq, Eq)]
 pub struct NotHex;
 
-// How many digits a line has.
+/// How many digits a line has.
 const LINE: usize = 64;
 
-// Whether the byte may stand between digits without meaning.
+/// Whether the byte may stand between digits without meaning.
 fn is_blank(byte: u8) -> bool
     ensures { result ≡ is_blank_of byte }
 {
     matches!(byte, b'\t' | b'\n' | b'\r' | b' ')
 }
 
-// The text without what stands between digits.
+/// The text without what stands between digits.
 fn without_blanks(alloc: Global, input: &[u8]) -> Result<Vec<u8>, AllocError>
     ensures { IfOk result (λ v. v.items ≡ filter (λ b. not (is_blank_of b)) input.now) }
 {

@@ -81,7 +81,7 @@ fn command_named(name: &str) -> Option<Command>
     }
 }
 
-// The options of a command by its flags. What no flag of the command sets is off, but for literals that are to be encoded.
+/// The options of a command by its flags. What no flag of the command sets is off, but for literals that are to be encoded.
 fn options_of(command: Command, found: &ArgMatches<'_>, limit: usize) -> Options
     ensures given { (result.command ≡ command) × (result.limit ≡ limit) }
     ensures flags { line.AreSet (rows_of (found_of found.now)) result }
@@ -127,14 +127,14 @@ fn options_of(command: Command, found: &ArgMatches<'_>, limit: usize) -> Options
     }
 }
 
-// Whether a flag is given.
+/// Whether a flag is given.
 pub(crate) fn is_given(found: &ArgMatches<'_>, flag: &str) -> bool
     ensures { line.IsFlag flag.now (rows_of (found_of found.now)) result }
 {
     found.get_flag(flag)
 }
 
-// Whether a flag has this value.
+/// Whether a flag has this value.
 pub(crate) fn is_value(found: &ArgMatches<'_>, flag: &str, value: &str) -> bool
     ensures { result ≡ line.is_value flag.now value.now (rows_of (found_of found.now)) }
 {
@@ -144,8 +144,8 @@ pub(crate) fn is_value(found: &ArgMatches<'_>, flag: &str, value: &str) -> bool
     }
 }
 
-// The number that a flag asks for, or the word that is not of digits alone: the kit's parsers of numbers take a plus sign. A number that is
-// too high `clap` has refused.
+/// The number that a flag asks for, or the word that is not of digits alone: the kit's parsers of numbers take a plus sign. A number that is
+/// too high `clap` has refused.
 pub(crate) fn number_of<'a>(
     found: &ArgMatches<'a>,
     flag: &str,
@@ -164,7 +164,7 @@ pub(crate) fn number_of<'a>(
     }
 }
 
-// How deep items may nest, or the word that is no number.
+/// How deep items may nest, or the word that is no number.
 pub(crate) fn limit_of<'a>(found: &ArgMatches<'a>) -> Result<usize, &'a str>
     ensures { IfOk result (line.IsLimit (first_of (codes "max-nesting")
         (rows_of (found_of found.now)))) }
@@ -172,7 +172,7 @@ pub(crate) fn limit_of<'a>(found: &ArgMatches<'a>) -> Result<usize, &'a str>
     number_of(found, "max-nesting", NESTING_LIMIT, NESTING_LIMIT)
 }
 
-// The fault of a word that is no number, as `clap` tells those that it finds.
+/// The fault of a word that is no number, as `clap` tells those that it finds.
 pub(crate) fn no_number(
     alloc: Global,
     program: &mut clap::Command<'_>,
@@ -185,7 +185,7 @@ pub(crate) fn no_number(
     program.error(ErrorKind::ValueValidation, fault.as_str())
 }
 
-// The name of a file, or `-`.
+/// The name of a file, or `-`.
 fn file_of<'a>(found: &ArgMatches<'a>, id: &str) -> &'a str
     ensures { result.now ≡ line.file_of id.now (rows_of (found_of found.now)) }
 {
@@ -195,7 +195,7 @@ fn file_of<'a>(found: &ArgMatches<'a>, id: &str) -> &'a str
     }
 }
 
-// The command line of the program.
+/// The command line of the program.
 fn program<'a>(alloc: Global) -> Result<clap::Command<'a>, AllocError>
     ensures { IfOk result IsProgram }
 {
@@ -253,7 +253,7 @@ fn diag2diag<'a>(
     with_common(alloc, command)
 }
 
-// A flag without a value.
+/// A flag without a value.
 pub(crate) fn flag<'a>(alloc: Global, name: &'a str, help: &'a str) -> Arg<'a>
     ensures { IsArgOf (line.flag name.entry.now) result }
 {
@@ -307,7 +307,7 @@ fn file<'a>(alloc: Global, id: &'a str, name: &'a str, help: &'a str) -> Arg<'a>
     Arg::new(alloc, id).value_name(name).help(help)
 }
 
-// A command with what those that read EDN take.
+/// A command with what those that read EDN take.
 fn with_edn_input<'a>(
     alloc: Global,
     command: clap::Command<'a>,
@@ -321,7 +321,7 @@ fn with_edn_input<'a>(
         .arg(flag(alloc, "apply-999", others))
 }
 
-// A command with what those that write EDN take.
+/// A command with what those that write EDN take.
 fn with_edn_output<'a>(
     alloc: Global,
     command: clap::Command<'a>,
@@ -337,7 +337,7 @@ fn with_edn_output<'a>(
         .arg(annotate(alloc, annotations))
 }
 
-// A command with what all commands take.
+/// A command with what all commands take.
 fn with_common<'a>(
     alloc: Global,
     command: clap::Command<'a>,

@@ -13,6 +13,7 @@ mod equal;
 pub(crate) mod nesting;
 
 use cbor_edn_model::text::keyword::{NamedSimple, NonFinite};
+use cbor_edn_model::text::list_head::ListHeadOf;
 pub use cbor_edn_model::text::opener::{Opener, OpenerKind};
 pub use cbor_edn_parts::base::indicator::Indicator;
 pub use cbor_edn_parts::base::nesting::NESTING_LIMIT;
@@ -240,7 +241,7 @@ pub enum ItemListOf<O: Drop, M: Drop, C: Drop, E: Drop, N: Drop, L: Drop, D: Dro
     /// One item or more, behind the space `space`.
     Present {
         /// The array's encoding indicator and the space behind it.
-        head: Option<(Indicator, M)>,
+        head: ListHeadOf<M>,
         space: O,
         items: ItemsOf<O, M, C, E, N, L, D>,
     },
@@ -277,7 +278,7 @@ pub enum PairListOf<O: Drop, M: Drop, C: Drop, E: Drop, N: Drop, L: Drop, D: Dro
     /// One pair or more, behind the space `space`.
     Present {
         /// The map's encoding indicator and the space behind it.
-        head: Option<(Indicator, M)>,
+        head: ListHeadOf<M>,
         space: O,
         pairs: PairsOf<O, M, C, E, N, L, D>,
     },

@@ -80,7 +80,7 @@ fn prints_behind_a_text(rt: HostRuntime) -> Result<(), Fail> {
     expect("printed, decoded", printed.as_slice() == wanted)
 }
 
-// An item of every form that is decoded.
+/// An item of every form that is decoded.
 const MIXED: &[u8] =
     b"\xbf\x01\x82\x5f\x41a\xff\x61b\x58\x00\x20\xc1\xf8\x63\x82\xf4\xf9\x7c\x00\xff";
 
@@ -205,7 +205,7 @@ fn shows_standalone_items(rt: HostRuntime) -> Result<(), Fail> {
     expect_told(alloc, shown_alone(alloc, "[1] "), "[..] [..]")
 }
 
-// A list keeps its items side by side, so that each byte of an item counts.
+/// A list keeps its items side by side, so that each byte of an item counts.
 #[test]
 fn items_are_small(_rt: HostRuntime) -> Result<(), Fail> {
     expect("bytes", std::mem::size_of::<Item<'static>>() <= 32)

@@ -95,7 +95,7 @@ impl Memory {
         Ok(())
     }
 
-    // Whether the call that is made now fails.
+    /// Whether the call that is made now fails.
     fn fails(&mut self) -> bool
         ensures { self.new.changes.items ≡ self.old.changes.items }
     {

@@ -27,7 +27,7 @@ fn is_free(disk: &Memory, name: &str) -> bool {
     disk.bytes(name).is_none()
 }
 
-// What came of a replacement, or `wrong` where names do not have what the answer says.
+/// What came of a replacement, or `wrong` where names do not have what the answer says.
 fn told(disk: &Memory, answer: &Result<(), ReplaceError>) -> &'static str {
     match answer {
         Ok(()) if has(disk, FILE, NEW) && is_free(disk, DRAFT) => "done",
@@ -40,7 +40,7 @@ fn told(disk: &Memory, answer: &Result<(), ReplaceError>) -> &'static str {
     }
 }
 
-// What comes of it where so many calls fail, from one on.
+/// What comes of it where so many calls fail, from one on.
 fn tried(
     alloc: Global,
     first: usize,
@@ -93,7 +93,7 @@ fn with_drafts(alloc: Global, count: u32) -> Result<Memory, AllocError> {
     Ok(disk)
 }
 
-// Whether the drafts of others stay, and no other is left.
+/// Whether the drafts of others stay, and no other is left.
 fn stay(alloc: Global, disk: &Memory, count: u32) -> Result<bool, AllocError> {
     for number in 0..count {
         if !has(disk, &draft_name(alloc, FILE, number)?, OTHERS) {

@@ -41,7 +41,7 @@ const INVALID: &str = "Invalid EDN";
 
 const NOT_UTF8: &str = "Not UTF-8";
 
-// Words with the place of a refusal.
+/// Words with the place of a refusal.
 fn in_text(words: String, place: &ParseError) -> Finding {
     Finding::InText {
         words,
@@ -51,7 +51,7 @@ fn in_text(words: String, place: &ParseError) -> Finding {
     }
 }
 
-// Words at an offset of a text.
+/// Words at an offset of a text.
 fn at_offset(words: String, text: &str, offset: usize) -> Finding {
     match located(text, offset) {
         Some(place) => in_text(words, &place),
@@ -81,7 +81,7 @@ fn not_cbor(
     Ok(Finding::InBytes { words, offset })
 }
 
-// The same of an input that may be digits of bytes.
+/// The same of an input that may be digits of bytes.
 fn not_decoded(
     alloc: Global,
     options: &Options,

@@ -26,7 +26,7 @@ pub fn located(text: &str, offset: usize) -> Option<ParseError>
     Some(with_location(&Input::new(text), refusal, &mut looks))
 }
 
-// Does what `diag2cbor` does to literals before it encodes items.
+/// Does what `diag2cbor` does to literals before it encodes items.
 fn resolve(
     alloc: Global,
     options: &Options,
@@ -42,7 +42,7 @@ fn resolve(
     Ok(())
 }
 
-// A copy of items in which literals stand for what a run takes them for.
+/// A copy of items in which literals stand for what a run takes them for.
 fn resolved<'a>(
     alloc: Global,
     options: &Options,
@@ -53,7 +53,7 @@ fn resolved<'a>(
     Ok(copy)
 }
 
-// The path of what has no encoding, and why it has none.
+/// The path of what has no encoding, and why it has none.
 fn first_in_resolved(
     alloc: Global,
     options: &Options,
@@ -63,7 +63,7 @@ fn first_in_resolved(
     first_valueless(alloc, &mut copy)
 }
 
-// Where that begins in the text of the items as they stand.
+/// Where that begins in the text of the items as they stand.
 fn first_offset(
     alloc: Global,
     options: &Options,

@@ -5,12 +5,12 @@ use crate::front::front;
 use std::alloc::{AllocError, Global};
 use std::str::from_utf8;
 
-// How many characters of a line are shown in front of a place and behind it.
+/// How many characters of a line are shown in front of a place and behind it.
 const BEFORE: usize = 50;
 
 const BEHIND: usize = 30;
 
-// What stands for characters that are left out.
+/// What stands for characters that are left out.
 const CUT: &str = "...";
 
 /// The beginning of an input that is a text: all of it, or what stands before the first byte that is of no character.
@@ -21,13 +21,13 @@ pub(crate) fn valid_part(input: &[u8]) -> &str {
     }
 }
 
-// Whether a terminal may act on a character, or turns or hides text by it.
+/// Whether a terminal may act on a character, or turns or hides text by it.
 fn is_unsafe(c: char) -> bool {
     c.is_control()
         || matches!(c, '\u{200b}'..='\u{200f}' | '\u{2028}'..='\u{202e}' | '\u{2060}'..='\u{206f}' | '\u{feff}')
 }
 
-// A tab as one space, so that a caret stands below its place, and what is unsafe by its number.
+/// A tab as one space, so that a caret stands below its place, and what is unsafe by its number.
 fn push_shown(out: &mut String, c: char) -> Result<(), AllocError> {
     if c == '\t' {
         return out.push(' ');
@@ -49,13 +49,13 @@ pub fn shown(alloc: Global, text: &str) -> Result<String, AllocError> {
     Ok(out)
 }
 
-// A line by its number from 1, without what ends it.
+/// A line by its number from 1, without what ends it.
 fn line_of(text: &str, number: usize) -> &str {
     let line = text.split('\n').nth(number.saturating_sub(1)).unwrap_or("");
     line.strip_suffix('\r').unwrap_or(line)
 }
 
-// So many spaces.
+/// So many spaces.
 fn push_spaces(out: &mut String, count: usize) -> Result<(), AllocError> {
     for _ in 0..count {
         out.push(' ')?;
@@ -63,7 +63,7 @@ fn push_spaces(out: &mut String, count: usize) -> Result<(), AllocError> {
     Ok(())
 }
 
-// The characters of a line near a column, and the column's place among what is shown.
+/// The characters of a line near a column, and the column's place among what is shown.
 fn cut_line(alloc: Global, line: &str, column: usize) -> Result<(String, usize), AllocError> {
     let first = column.saturating_sub(BEFORE);
     let last = column.saturating_add(BEHIND);
@@ -85,7 +85,7 @@ fn cut_line(alloc: Global, line: &str, column: usize) -> Result<(String, usize),
     Ok((out, place))
 }
 
-// The line of a place, cut to what stands near it, and a caret below the place.
+/// The line of a place, cut to what stands near it, and a caret below the place.
 fn marked_line(
     alloc: Global,
     text: &str,

@@ -6,7 +6,7 @@ use cbor_edn_places::path::{cut_to_item, first_valueless};
 use std::alloc::Global;
 use std::test::Fail;
 
-// The path in a text of the first item without an encoding, and where it begins.
+/// The path in a text of the first item without an encoding, and where it begins.
 fn told(alloc: Global, text: &str) -> Result<String, Fail> {
     let sequence = Box::new(alloc, Sequence::parse(alloc, text)?)?;
     let mut copy = Box::new(alloc, sequence.clone()?)?;
@@ -43,7 +43,7 @@ fn places(rt: HostRuntime) -> Result<(), Fail> {
     failures.end()
 }
 
-// A string of so many embedded items, of which the last has no encoding.
+/// A string of so many embedded items, of which the last has no encoding.
 fn embedded(alloc: Global, count: usize) -> Result<String, Fail> {
     let mut text = String::new(alloc);
     for _ in 1..count {

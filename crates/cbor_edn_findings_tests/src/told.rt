@@ -23,7 +23,7 @@ fn options(command: Command, apply_999: bool) -> Options {
     }
 }
 
-// What is told of an input of a file `f`.
+/// What is told of an input of a file `f`.
 fn told(alloc: Global, options: &Options, input: &[u8]) -> Result<String, AllocError> {
     match in_input(alloc, options, input)? {
         Some(finding) => lines(alloc, "f", input, &finding),
@@ -76,7 +76,7 @@ fn literals_in_tags(rt: HostRuntime) -> Result<(), Fail> {
     failures.end()
 }
 
-// Bytes in digits, and what is told of them: RFC 8949, section 3 and appendix F. The byte is that of the head that is refused.
+/// Bytes in digits, and what is told of them: RFC 8949, section 3 and appendix F. The byte is that of the head that is refused.
 const BYTES: &[(&str, &str)] = &[
     ("8201", "f: Expected item, out of data (byte 2)\n"),
     ("820102", ""),
@@ -133,7 +133,7 @@ fn bytes(rt: HostRuntime) -> Result<(), Fail> {
     failures.end()
 }
 
-// A line that is cut, and a name with a control character (ECMA-48).
+/// A line that is cut, and a name with a control character (ECMA-48).
 #[test]
 fn terminals(rt: HostRuntime) -> Result<(), Fail> {
     let alloc = rt.alloc();

@@ -1,4 +1,3 @@
-//! What stands beside items: the space behind an indicator that is removed, and widths.
+//! What stands beside items: widths.
 
-pub mod bare;
 pub mod width;

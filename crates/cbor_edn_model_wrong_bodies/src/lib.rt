@@ -39,6 +39,7 @@ ghost use Rattle.cbor_edn_model.specs.visit.Depth.{embedded_depth};
 use cbor_edn_conversions::addresses::NoAddress;
 use cbor_edn_model::cbor::decode::head::Argument;
 use cbor_edn_model::cbor::heads::Width;
+use cbor_edn_model::text::list_head::ListHead;
 use cbor_edn_model::text::lookahead::FormStart;
 use cbor_edn_parts::base::buffer::TextBuffer;
 use cbor_edn_parts::base::error::{Fault, InconsistentEdn, ParseError, Refusal};
@@ -48,7 +49,7 @@ use cbor_edn_parts::base::looks::Looks;
 use cbor_edn_parts::number::Integer;
 use cbor_edn_parts::space::layout::{Layout, Slot};
 use cbor_edn_parts::space::policy::Spacing;
-use cbor_edn_parts::space::{MandatorySpace, Separator, Space};
+use cbor_edn_parts::space::{Separator, Space};
 use cbor_edn_parts::string::StringKind;
 use cbor_edn_times_and_addresses::address::IpVersion;
 use std::alloc::{AllocError, Global};
@@ -70,21 +71,18 @@ pub fn depth_of_embedded(items: usize) -> usize
     cbor_edn_model::visit::depth::depth_of_embedded(items)
 }
 
-/// `text::list_head::have_same_head`.
-pub fn have_same_head(
-    a: &Option<(Indicator, MandatorySpace<'_>)>,
-    b: &Option<(Indicator, MandatorySpace<'_>)>,
-) -> bool
+/// `text::list_head::ListHead::is_same`.
+pub fn have_same_head(a: &ListHead<'_>, b: &ListHead<'_>) -> bool
     ensures { result ≡ same_head (view_list_head texts a.now) (view_list_head texts b.now) }
 {
-    cbor_edn_model::text::list_head::have_same_head(a, b)
+    a.is_same(b)
 }
 
 /// `text::lookahead::list_head_and_space`.
 pub fn list_head_and_space<'a>(
     indicator: Option<Indicator>,
     s: Space<'a>,
-) -> Option<(Option<(Indicator, MandatorySpace<'a>)>, Space<'a>)>
+) -> Option<(ListHead<'a>, Space<'a>)>
     ensures some { IfSome result (λ p. list_head_of indicator (space_bytes s.entry) ≡ Ok (view_list_head texts p.0, space_bytes p.1)) }
     ensures none { IfNone result (list_head_of indicator (space_bytes s.entry) ≡ Err Invalid) }
 {
@@ -106,15 +104,15 @@ pub fn print_indicator(out: &mut TextBuffer, indicator: Option<Indicator>) -> Re
     cbor_edn_model::text::write::print_indicator(out, indicator)
 }
 
-/// `layout::bare::moved_space`.
+/// `text::list_head::ListHead::moved_space`.
 pub fn moved_space<'a>(
-    head: &Option<(Indicator, MandatorySpace<'a>)>,
+    head: &ListHead<'a>,
     first: &Space<'a>,
     alloc: Global,
 ) -> Result<Option<Space<'a>>, AllocError>
     ensures { IfOk result (λ moved. space_or moved (space_bytes first.now) ≡ first_space (view_list_head texts head.now) (space_bytes first.now)) }
 {
-    cbor_edn_model::layout::bare::moved_space(head, first, alloc)
+    head.moved_space(first, alloc)
 }
 
 /// `cbor::decode::head::indicator_of`.

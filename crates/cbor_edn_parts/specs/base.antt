@@ -5,4 +5,5 @@ pub mod Errors
 pub mod Indicator
 pub mod LeafTexts
 pub mod Location
+pub mod Options
 pub mod Refusals

@@ -157,7 +157,7 @@ fn mandatory_of(text: &str) -> Result<MandatorySpace<'_>, Fail> {
     Ok(space_of(text)?.into_mandatory().ok_or("no space")?)
 }
 
-// The separator at a place.
+/// The separator at a place.
 fn separator<'a>(
     text: &Input<'a>,
     at: usize,
@@ -180,7 +180,7 @@ fn between_of(text: &str) -> Result<Separator<'_>, Fail> {
     Ok(separator_of(text)?.into_separator().ok_or("no separator")?)
 }
 
-// The number at a place, and the place behind it.
+/// The number at a place, and the place behind it.
 fn number_at<'a>(
     text: &Input<'a>,
     from: usize,
@@ -339,7 +339,7 @@ fn columns_of_separators(rt: HostRuntime) -> Result<(), Fail> {
     failures.end()
 }
 
-// Where there is no memory for so many spaces, that is told before any of them is written.
+/// Where there is no memory for so many spaces, that is told before any of them is written.
 #[test]
 fn endless_indents(rt: HostRuntime) -> Result<(), Fail> {
     let alloc = rt.alloc();
@@ -400,7 +400,7 @@ fn indented(_rt: HostRuntime) -> Result<(), Fail> {
     expect("indented", DelimiterPolicy::indented() == policy)
 }
 
-// The space and the separator behind the number that a text begins with, and where they end.
+/// The space and the separator behind the number that a text begins with, and where they end.
 fn space_behind_number(text: &str) -> Result<(Space<'_>, usize), Fail> {
     let text = Input::new(text);
     let (_, item) = number_at(&text, text.start(), &mut Looks::new())?;
@@ -454,7 +454,7 @@ fn literals_and_ellipses(_rt: HostRuntime) -> Result<(), Fail> {
     expect("dots", is_leaf(ellipsis_behind(text), "...")?)
 }
 
-// The indicator that a text begins with, and how many bytes it takes.
+/// The indicator that a text begins with, and how many bytes it takes.
 fn indicator_of(text: &str) -> (Option<Indicator>, usize) {
     let text = Input::new(text);
     indicator_at(&text, text.start(), &mut Looks::new())

@@ -9,7 +9,7 @@ ghost use Rattle.cbor_edn_places.specs.internal.Common.{common};
 use cbor_edn_core::tree::{Item, Sequence};
 use std::alloc::{AllocError, Global};
 
-// How many bytes two texts have in common at their fronts.
+/// How many bytes two texts have in common at their fronts.
 fn common_length(one: &[u8], other: &[u8]) -> usize
     ensures { result ≡ common one.now other.now }
 {
@@ -32,7 +32,7 @@ fn replace_at<'a>(sequence: &mut Sequence<'a>, path: &[usize], item: Item<'a>)
     }
 }
 
-// The text of a sequence with another item where a path leads.
+/// The text of a sequence with another item where a path leads.
 fn text_with<'a>(
     alloc: Global,
     sequence: &Sequence<'a>,

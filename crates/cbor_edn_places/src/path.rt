@@ -18,7 +18,7 @@ use std::mem;
 /// the place.
 pub const MOST_EMBEDDED: usize = 64;
 
-// What is found where a path leads.
+/// What is found where a path leads.
 #[derive(Clone, Copy, Debug)]
 enum Found {
     // It leads to no item.
@@ -39,7 +39,7 @@ fn found_of(alloc: Global, item: &Item<'_>) -> Result<Found, AllocError>
     }
 }
 
-// Whether the item where a path leads means a value. The sequence stays as it is.
+/// Whether the item where a path leads means a value. The sequence stays as it is.
 fn found_at(alloc: Global, sequence: &mut Sequence<'_>, path: &[usize]) -> Result<Found, AllocError>
     ensures same { sequence_tree sequence.new ≡ sequence_tree sequence.old }
     ensures found { IfOk result (IsFoundAt path.now (sequence_tree sequence.old)) }
@@ -50,7 +50,7 @@ fn found_at(alloc: Global, sequence: &mut Sequence<'_>, path: &[usize]) -> Resul
     }
 }
 
-// Which of the items behind a path is the first that means no value, and why. The sequence and the path stay as they are.
+/// Which of the items behind a path is the first that means no value, and why. The sequence and the path stay as they are.
 fn first_beside(
     alloc: Global,
     sequence: &mut Sequence<'_>,
@@ -107,7 +107,7 @@ fn is_structure(item: &Item<'_>) -> bool
     is_array(item) || is_map(item) || is_tag(item)
 }
 
-// Whether the item where a path leads is an array, a map or a tag; none where it leads to no item. The sequence stays as it is.
+/// Whether the item where a path leads is an array, a map or a tag; none where it leads to no item. The sequence stays as it is.
 fn structure_at(sequence: &mut Sequence<'_>, path: &[usize]) -> Option<bool>
     ensures same { sequence_tree sequence.new ≡ sequence_tree sequence.old }
     ensures value { result ≡ option_map is_structure (at_sequence path.now (sequence_tree sequence.old)) }
@@ -125,7 +125,7 @@ fn is_structure_at(sequence: &mut Sequence<'_>, path: &[usize]) -> bool
     structure_at(sequence, path).unwrap_or(false)
 }
 
-// Whether a path leads to an item. The sequence stays as it is.
+/// Whether a path leads to an item. The sequence stays as it is.
 fn leads(sequence: &mut Sequence<'_>, path: &[usize]) -> bool
     ensures same { sequence_tree sequence.new ≡ sequence_tree sequence.old }
     ensures value { result ≡ is_some (at_sequence path.now (sequence_tree sequence.old)) }
@@ -133,7 +133,7 @@ fn leads(sequence: &mut Sequence<'_>, path: &[usize]) -> bool
     structure_at(sequence, path).is_some()
 }
 
-// Whether the items behind a path are places of their own. The sequence and the path stay as they are.
+/// Whether the items behind a path are places of their own. The sequence and the path stay as they are.
 fn is_open(sequence: &mut Sequence<'_>, path: &mut Vec<usize>) -> Result<bool, AllocError>
     ensures same { sequence_tree sequence.new ≡ sequence_tree sequence.old }
     ensures path { OnOk result (path.new.items ≡ path.old.items) }
@@ -148,7 +148,7 @@ fn is_open(sequence: &mut Sequence<'_>, path: &mut Vec<usize>) -> Result<bool, A
     Ok(!more)
 }
 
-// Which of the places behind a path is the first that means no value, and why. The sequence and the path stay as they are.
+/// Which of the places behind a path is the first that means no value, and why. The sequence and the path stay as they are.
 fn first_of(
     alloc: Global,
     sequence: &mut Sequence<'_>,
@@ -165,7 +165,7 @@ fn first_of(
     }
 }
 
-// Leaves of a sequence the item alone where a path leads.
+/// Leaves of a sequence the item alone where a path leads.
 fn leave(alloc: Global, sequence: &mut Sequence<'_>, path: &[usize]) -> Result<(), AllocError>
     ensures { OnOk result (IsLeft path.now (sequence_tree sequence.old) (sequence_tree sequence.new)) }
 {
@@ -177,7 +177,7 @@ fn leave(alloc: Global, sequence: &mut Sequence<'_>, path: &[usize]) -> Result<(
     Ok(())
 }
 
-// A path with a reason, where there is one.
+/// A path with a reason, where there is one.
 fn with_reason(
     path: Vec<usize>,
     reason: Option<InconsistentEdn>,

@@ -197,7 +197,7 @@ fn decimal<'a>(alloc: Global, integer: i128) -> Result<Box<Item<'a>>, Failure> {
     boxed(alloc, Item::new_integer_decimal(alloc, integer))
 }
 
-// The tree that an answer has.
+/// The tree that an answer has.
 fn some_of<T: Drop>(
     alloc: Global,
     answer: Result<Option<T>, AllocError>,
@@ -208,7 +208,7 @@ fn some_of<T: Drop>(
     }
 }
 
-// The tree of an answer that tells what stands behind it too.
+/// The tree of an answer that tells what stands behind it too.
 fn beginning<T: Drop, E: Into<Failure>>(
     alloc: Global,
     answer: Result<(T, &[u8]), E>,
@@ -427,7 +427,7 @@ fn laid_out_by(alloc: Global, call: LaidOutBy) -> Result<String, Failure> {
     }
 }
 
-// The prefix of a literal, and its text behind a space.
+/// The prefix of a literal, and its text behind a space.
 fn literal_of(alloc: Global, item: &Item<'_>) -> Result<Vec<u8>, Failure> {
     let (prefix, text) = item.get_application_literal(alloc)?;
     Ok(format!(in alloc; "{prefix} {text}")?.into_bytes())
@@ -478,7 +478,7 @@ fn refused_by(alloc: Global, call: RefusedBy) -> Result<String, Failure> {
     }
 }
 
-// The message of a refusal that is not for memory.
+/// The message of a refusal that is not for memory.
 fn words<T: Drop, E: Display + Drop>(
     alloc: Global,
     answer: Result<T, Fault<E>>,

@@ -22,7 +22,7 @@ impl<'a> MapValueHandler<'a> for PutFive {
     }
 }
 
-// A comment that stands behind a pointer, as a short one does not.
+/// A comment that stands behind a pointer, as a short one does not.
 const LONG: &str = "a comment of some length";
 
 pub(crate) fn comment_elements(

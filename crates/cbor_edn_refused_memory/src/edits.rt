@@ -148,7 +148,7 @@ pub(crate) fn edited(alloc: Global, script: &Script) -> Result<bool, Failure> {
     }
 }
 
-// Memory was refused once, so it is not for what is looked at here.
+/// Memory was refused once, so it is not for what is looked at here.
 fn is_left(alloc: Global, sequence: &mut Sequence<'_>, script: &Script, done: usize) -> bool {
     let Ok(text) = sequence.serialize(alloc) else {
         return false;

@@ -7,7 +7,7 @@ use cbor_edn_parts::space::policy::DelimiterPolicy;
 pub(crate) const PAIR: &str =
     "{4: 1(0), 8: {4: {3: -17}}} , [_ h'00', <<dt'1970-01-01T00:00:23Z'>>]";
 
-// Its spaces are longer than what stands in a leaf itself.
+/// Its spaces are longer than what stands in a leaf itself.
 const NOTED: &str =
     "[_ / a comment of some length / 1 # to the end of this line\n, 'a' / in front of a plus sign / + 'b', {2: / in front of the value / 3}, (_ / in front of the chunk / 'c'), 4(5 / in front of the parenthesis /)]";
 

@@ -4,22 +4,22 @@ use crate::change::LINES;
 use crate::spaces::PAIR;
 use cbor_edn_parts::space::policy::DelimiterPolicy;
 
-// A text of each form that means something, and its bytes.
+/// A text of each form that means something, and its bytes.
 const FORMS: &str =
     "[1, 0x10000000000000000, {_ 3: []}, 'a' + <<\"b\">>, (_ h'63', b64'Zg'), 1(simple(32))]";
 
 const FORMS_ENCODED: &[u8] =
     b"\x86\x01\xc2I\x01\0\0\0\0\0\0\0\0\xbf\x03\x80\xffCaab_AcAf\xff\xc1\xf8 ";
 
-// Lists and strings whose heads are longer than they need be, and one that embeds an encoding.
+/// Lists and strings whose heads are longer than they need be, and one that embeds an encoding.
 const ENCODED: &[u8] =
     b"\x9f\x03\xff\x9b\0\0\0\0\0\0\0\x01\x03[\0\0\0\0\0\0\0\x05helloC\x01\x9f\xff";
 
-// More entries than a row has room for at first, and a text that stands behind a pointer.
+/// More entries than a row has room for at first, and a text that stands behind a pointer.
 const MANY: &[u8] =
     b"\x88\x01\x02\x03\x04\x05\x06\xa2\x07\x08\x09\x0ax\x18a comment of some length";
 
-// A list whose comment is longer than what stands in a leaf itself.
+/// A list whose comment is longer than what stands in a leaf itself.
 const COMMENTED: &str = "[1 / a comment of some length /, 2]";
 
 /// Texts by the forms of `docs/SUPPORTED.md`, and for what is made and for `Debug` by `docs/DECISIONS.md`; bytes by RFC 8949;

@@ -27,7 +27,7 @@ const BYTES_IN_DIGITS: &[u8] =
 const ENCODED: &[u8] =
     b"\x9f\x01\xa1\x02\x38\x03\x61\x61\x5f\x41\x62\xff\xc2\x49\x01\0\0\0\0\0\0\0\0\xd8\x34\x44\xc0\0\x02\x01\xff\xa1\x04\0";
 
-// The same in hexadecimal digits, and what they are shown as.
+/// The same in hexadecimal digits, and what they are shown as.
 const DIGITS: &[u8] =
     b"9f 01 a1 02 38 03 61 61 5f 41 62 ff c2 49 010000000000000000 d8 34 44 c0000201 ff a1 04 00";
 
@@ -37,13 +37,13 @@ const SHOWN: &[u8] =
 const SHOWN_WITHOUT_SPACE: &[u8] =
     b"[_ 1,{2:-4_0},\"a\",(_ h'62'),18446744073709551616,52(h'c0000201')],{4/ exp /:999([\"dt\", \"1970-01-01T00:00:00+00:00\"])}";
 
-// A text before and after.
+/// A text before and after.
 const SPACED: &[u8] = b"[dt'1970-01-01T00:00:00Z', 2(h'010000000000000000') /c/, foo'x'], {4:0}";
 
 const LAID_OUT: &[u8] =
     b"[0, 18446744073709551616, 999([\"foo\", \"x\"])],\n{4/ exp /: 999([\"dt\", \"1970-01-01T00:00:00+00:00\"])}\n";
 
-// The same where spaces are left as the removal of comments left them.
+/// The same where spaces are left as the removal of comments left them.
 const NOT_LAID_OUT: &[u8] =
     b"[0,18446744073709551616,999([\"foo\", \"x\"])],{4/ exp /:999([\"dt\", \"1970-01-01T00:00:00+00:00\"])}";
 
@@ -133,7 +133,7 @@ pub(crate) fn options_of(command: Command, hex: bool, preserve_space: bool) -> O
     }
 }
 
-// More than any output here, so that a sink asks for no memory when it is written to.
+/// More than any output here, so that a sink asks for no memory when it is written to.
 const ROOM: usize = 1024;
 
 pub(crate) fn roomy_sink(alloc: Global) -> Result<StdSink<Vec<u8>>, Failure> {

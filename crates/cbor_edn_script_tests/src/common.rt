@@ -52,7 +52,7 @@ fn item_of<'a>(alloc: Global, text: &'a str) -> Result<Item<'a>, Fail> {
     Ok(item.item().clone()?)
 }
 
-// Trees stand in boxes: a proof writes out what a function holds, and of a box only that it is one.
+/// Trees stand in boxes: a proof writes out what a function holds, and of a box only that it is one.
 pub(crate) fn sequence_of<'a>(alloc: Global, text: &'a str) -> Result<Box<Sequence<'a>>, Fail> {
     Ok(Box::new(alloc, Sequence::parse(alloc, text)?)?)
 }

@@ -30,7 +30,7 @@ use cbor_edn_core::cbor::decode::{CborError, decode_item};
 use cbor_edn_core::layout::print_item as print_tree;
 use cbor_edn_model::cbor::decode::head::{Argument, Stop, head_of, indicator_of, past_stop};
 use cbor_edn_model::cbor::heads::Width;
-use cbor_edn_model::text::list_head::{head_space, print_laid_head};
+use cbor_edn_model::text::list_head::ListHead;
 use cbor_edn_model::text::opener::OpenerKind;
 use cbor_edn_model::text::write::{print_indicator, print_opener};
 use cbor_edn_parts::base::buffer::TextBuffer;
@@ -481,7 +481,7 @@ fn print_empty(out: &mut TextBuffer, layout: Layout, argument: Argument) -> Resu
 fn print_front(out: &mut TextBuffer, layout: Layout, argument: Argument) -> Result<(), AllocError>
     ensures { OnOk result (buffer_bytes out.new ≡ buffer_bytes out.old ++ (list_head_text (laid_list_head layout (spaced_list_head (argument_indicator argument))) ++ respaced spacing.Optional slots.First layout [])) }
 {
-    print_laid_head(out, &head_space(indicator_of(argument)), layout)?;
+    ListHead::spaced(indicator_of(argument)).print(out, layout)?;
     print_space(out, &Space::empty(), layout, Slot::First)
 }
 

@@ -6,8 +6,8 @@ use cbor_edn_expect::failures::Failures;
 use std::alloc::Global;
 use std::test::Fail;
 
-// What a run by these words answers: its status, what it writes and what it tells. Where the words are no run, the status that they
-// have, and nothing else.
+/// What a run by these words answers: its status, what it writes and what it tells. Where the words are no run, the status that they
+/// have, and nothing else.
 pub(crate) fn served<'a>(
     alloc: Global,
     words: &'a [&'a str],
@@ -28,7 +28,7 @@ pub(crate) fn served<'a>(
     Ok((status, sink.into_inner(), errors.into_inner()))
 }
 
-// Whether a run ends well and writes this.
+/// Whether a run ends well and writes this.
 fn writes<'a>(
     alloc: Global,
     words: &'a [&'a str],
@@ -39,7 +39,7 @@ fn writes<'a>(
     Ok(status == 0 && written.as_slice() == output && told.is_empty())
 }
 
-// Whether a run ends with a fault that has this line, and writes nothing.
+/// Whether a run ends with a fault that has this line, and writes nothing.
 fn tells<'a>(alloc: Global, words: &'a [&'a str], input: &[u8], line: &str) -> Result<bool, Fail> {
     let (status, written, told) = served(alloc, words, input)?;
     Ok(status == 1 && written.is_empty() && told.as_slice() == line.as_bytes())
@@ -55,7 +55,7 @@ pub(crate) const FROM_HEX: &[&str] = &["cbor-edn", "cbor2diag", "-i", "hex"];
 
 pub(crate) const TO_DIAG: &[&str] = &["cbor-edn", "diag2diag"];
 
-// Words, an input, and what a run writes that ends well.
+/// Words, an input, and what a run writes that ends well.
 type Written = (&'static [&'static str], &'static str, &'static [u8]);
 
 fn all_write(alloc: Global, rows: &[Written]) -> Result<(), Fail> {
@@ -66,7 +66,7 @@ fn all_write(alloc: Global, rows: &[Written]) -> Result<(), Fail> {
     failures.end()
 }
 
-// Words, an input, and the line of the fault.
+/// Words, an input, and the line of the fault.
 type Told = (&'static [&'static str], &'static [u8], &'static str);
 
 fn all_tell(alloc: Global, rows: &[Told]) -> Result<(), Fail> {
@@ -104,7 +104,7 @@ fn encodes(rt: HostRuntime) -> Result<(), Fail> {
     )
 }
 
-// A line has 64 digits: 31 bytes and their head of two make one that is full, and one more byte.
+/// A line has 64 digits: 31 bytes and their head of two make one that is full, and one more byte.
 #[test]
 fn encodes_in_lines(rt: HostRuntime) -> Result<(), Fail> {
     all_write(
@@ -138,7 +138,7 @@ fn decodes(rt: HostRuntime) -> Result<(), Fail> {
     )
 }
 
-// Bytes that are no text in UTF-8, and what they are shown as, by docs/SUPPORTED.md ("Times and addresses").
+/// Bytes that are no text in UTF-8, and what they are shown as, by docs/SUPPORTED.md ("Times and addresses").
 const SHOWN_BYTES: &[(&[u8], &str)] = &[
     (
         b"\xc2\x49\x01\x00\x00\x00\x00\x00\x00\x00\x00",
@@ -221,7 +221,7 @@ fn tells_faults(rt: HostRuntime) -> Result<(), Fail> {
     )
 }
 
-// No pairs of hexadecimal digits (`specs/Hexadecimal.antt` of `cbor_edn_command`): an odd count of them, and a letter that is none.
+/// No pairs of hexadecimal digits (`specs/Hexadecimal.antt` of `cbor_edn_command`): an odd count of them, and a letter that is none.
 const NO_DIGITS: &[&str] = &["123", "1g"];
 
 #[test]
@@ -236,14 +236,14 @@ fn tells_digits(rt: HostRuntime) -> Result<(), Fail> {
     failures.end()
 }
 
-// The line of a text whose first opening past the limit is so many bytes behind its beginning.
+/// The line of a text whose first opening past the limit is so many bytes behind its beginning.
 fn deep_text(alloc: Global, at: usize) -> Result<String, Fail> {
     let words = "cbor-edn: Error parsing input data: EDN nested too deeply in line 1 column";
     let column = at.saturating_add(1);
     Ok(format!(in alloc; "{words} {column} (byte {at})\n")?)
 }
 
-// Whether a run tells that a text nests too deeply, and where.
+/// Whether a run tells that a text nests too deeply, and where.
 fn tells_depth<'a>(
     alloc: Global,
     words: &'a [&'a str],
@@ -262,7 +262,7 @@ fn arrays(alloc: Global, depth: usize) -> Result<String, Fail> {
     Ok(text)
 }
 
-// Arrays of one entry, each on a line of its own, and the empty one inside.
+/// Arrays of one entry, each on a line of its own, and the empty one inside.
 fn indented_arrays(alloc: Global, depth: usize) -> Result<String, Fail> {
     let mut text = String::new(alloc);
     for level in 1..depth {
@@ -281,7 +281,7 @@ fn indented_arrays(alloc: Global, depth: usize) -> Result<String, Fail> {
 
 const ONE: &[&str] = &["cbor-edn", "diag2diag", "--max-nesting", "1"];
 
-// Texts, and where they nest deeper than one level.
+/// Texts, and where they nest deeper than one level.
 const DEEP_TEXTS: &[(&str, usize)] = &[("[[]]", 1), ("[simple(20)]", 7), ("<<[1]>>", 2)];
 
 #[test]
@@ -356,7 +356,7 @@ fn limits_bytes(rt: HostRuntime) -> Result<(), Fail> {
     )
 }
 
-// The digits of arrays of one entry, so many, and the empty one inside.
+/// The digits of arrays of one entry, so many, and the empty one inside.
 fn array_digits(alloc: Global, around: usize) -> Result<String, Fail> {
     let nested = "81".repeat(alloc, around)?;
     Ok(format!(in alloc; "{nested}80")?)

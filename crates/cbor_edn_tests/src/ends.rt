@@ -7,7 +7,7 @@ use cbor_edn_parts::base::error::ParseErrorKind;
 use std::alloc::{AllocError, AllocFailed};
 use std::test::Fail;
 
-// What a fault is of: nothing but memory, a text, bytes, the items of a text, or a source.
+/// What a fault is of: nothing but memory, a text, bytes, the items of a text, or a source.
 #[derive(Clone, Copy, Debug)]
 enum Cause {
     Memory,
@@ -25,7 +25,7 @@ fn fault_of<E: Drop>(told: E, is_told: bool) -> Fault<E> {
     }
 }
 
-// The end of a run by a fault that the call tells, or by want of memory.
+/// The end of a run by a fault that the call tells, or by want of memory.
 fn end_of(cause: Cause, is_told: bool) -> RunError {
     match cause {
         Cause::Memory => RunError::from(AllocError),
@@ -50,7 +50,7 @@ fn end_of(cause: Cause, is_told: bool) -> RunError {
     }
 }
 
-// A fault, whether it is told, and the message of the end that it becomes, by `docs/SUPPORTED.md` ("What refusals say").
+/// A fault, whether it is told, and the message of the end that it becomes, by `docs/SUPPORTED.md` ("What refusals say").
 const ENDS: &[(Cause, bool, &str)] = &[
     (Cause::Memory, false, "Out of memory"),
     (
@@ -87,7 +87,7 @@ fn ends_of_runs(rt: HostRuntime) -> Result<(), Fail> {
     failures.end()
 }
 
-// A block that is refused, with the value that it was for.
+/// A block that is refused, with the value that it was for.
 #[test]
 fn refused_block() -> Result<(), Fail> {
     let fault: Fault<ParseError> = Fault::from(AllocFailed { value: true });

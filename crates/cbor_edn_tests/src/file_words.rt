@@ -29,7 +29,7 @@ const CHECK: CheckOptions = CheckOptions {
     limit: NESTING_LIMIT,
 };
 
-// Words, by the repository's `README.md` and by help, and what they ask for.
+/// Words, by the repository's `README.md` and by help, and what they ask for.
 const ASKED: &[(&[&str], FileCommand, &[&str])] = &[
     (&["cbor-edn", "show"], FileCommand::Show(SHOW), &["-"]),
     (
@@ -146,7 +146,7 @@ fn knows_commands(rt: HostRuntime) {
     assert!(rt; !is_file_command("diag2diag"));
 }
 
-// The exit status that goes with words that are no command, or ask for help.
+/// The exit status that goes with words that are no command, or ask for help.
 fn refused<'a>(alloc: Global, words: &'a [&'a str]) -> Option<i32> {
     match file_command(alloc, words) {
         Ok(_) => None,

@@ -6,7 +6,7 @@ use cbor_edn_expect::failures::Failures;
 use std::alloc::Global;
 use std::test::Fail;
 
-// Bytes in digits, and the same digits or the name of the refusal: an array of two items of RFC 8949, appendix A, and a beginning of it.
+/// Bytes in digits, and the same digits or the name of the refusal: an array of two items of RFC 8949, appendix A, and a beginning of it.
 const ROWS: &[(&str, &str)] = &[
     // a tagged integer and NaN
     ("82c11a514b67b0f97e00", "82c11a514b67b0f97e00"),
@@ -26,7 +26,7 @@ fn see_recoded(
     Ok(())
 }
 
-// By way of a text, of a sequence and of an item.
+/// By way of a text, of a sequence and of an item.
 fn see_recoded_by_text(
     failures: &mut Failures,
     alloc: Global,

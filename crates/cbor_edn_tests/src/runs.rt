@@ -7,7 +7,7 @@ use cbor_edn_parts::base::error::ParseErrorKind;
 use std::alloc::{AllocError, Global};
 use std::test::Fail;
 
-// A command with all options on, or with none.
+/// A command with all options on, or with none.
 fn options_of(command: Command, are_on: bool) -> Options {
     Options {
         command,
@@ -27,7 +27,7 @@ const TEXT: &[u8] = b"[1, 0x1f, []]\n";
 
 const BYTES: &[u8] = b"\x83\x01\x18\x1f\x80";
 
-// Something to do for each option.
+/// Something to do for each option.
 const RICH: &[u8] = b"{4: 0} /c/, 2(h'010000000000000000'), [1(0), ip'192.0.2.1', foo'x']\n";
 
 const RICH_DIGITS: &[u8] = b"a104d903e7826264747819313937302d30312d30315430303a30303a30302b30\n\
@@ -42,11 +42,11 @@ const DIGITS: &[u8] = b"c2 49 010000000000000000 a1 04 00";
 const DIGITS_TEXT: &[u8] =
     b"18446744073709551616,{4/ exp /:999([\"dt\", \"1970-01-01T00:00:00+00:00\"])}";
 
-// A command, whether all options are on or none is, what is read and what is written.
+/// A command, whether all options are on or none is, what is read and what is written.
 type Row = (Command, bool, &'static [u8], &'static [u8]);
 
-// Each command, with no option on and with all. Outputs by hand: bytes by RFC 8949, texts by `docs/SUPPORTED.md`, and the order of the
-// options' steps by the words of `Options`.
+/// Each command, with no option on and with all. Outputs by hand: bytes by RFC 8949, texts by `docs/SUPPORTED.md`, and the order of the
+/// options' steps by the words of `Options`.
 const RUNS: &[Row] = &[
     (Command::Diag2Cbor, false, TEXT, BYTES),
     (Command::Diag2Cbor, true, RICH, RICH_DIGITS),
@@ -80,19 +80,19 @@ fn converted_in_memory(rt: HostRuntime) -> Result<(), Fail> {
     failures.end()
 }
 
-// More calls than a run of these makes of a device.
+/// More calls than a run of these makes of a device.
 const CALLS: usize = 200;
 
-// How many bytes a call of a source gives, so that a run makes some.
+/// How many bytes a call of a source gives, so that a run makes some.
 const STEP: usize = 4;
 
-// How many calls of a source are made: the last one tells the end.
+/// How many calls of a source are made: the last one tells the end.
 fn reads_of(input: &[u8]) -> usize {
     input.len().div_ceil(STEP).saturating_add(1)
 }
 
-// A device that fails at one call: a source, a sink that takes a byte a call, or a reader or writer of std. Of these an interrupted call is
-// a failed one, and so is a call of a writer that takes no byte.
+/// A device that fails at one call: a source, a sink that takes a byte a call, or a reader or writer of std. Of these an interrupted call is
+/// a failed one, and so is a call of a writer that takes no byte.
 #[derive(Clone, Copy, Debug)]
 enum Device {
     Source,
@@ -114,8 +114,8 @@ const WRITTEN: &[Device] = &[
     Device::Writer(Failure::TakesNone),
 ];
 
-// Whether a run is done, and whether what came of it is right. Where a read failed that is told, nothing is written, and the call is not
-// repeated. A run without a failed call has read a few bytes a call and the end, and writes all.
+/// Whether a run is done, and whether what came of it is right. Where a read failed that is told, nothing is written, and the call is not
+/// repeated. A run without a failed call has read a few bytes a call and the end, and writes all.
 fn by_source(alloc: Global, row: &Row, call: usize) -> (bool, bool) {
     let &(command, are_on, input, output) = row;
     let mut source = SlowSource::new(input, STEP, Some(call));
@@ -133,7 +133,7 @@ fn by_source(alloc: Global, row: &Row, call: usize) -> (bool, bool) {
     }
 }
 
-// The same of a reader of std.
+/// The same of a reader of std.
 fn by_reader(
     alloc: Global,
     options: &Options,
@@ -159,12 +159,12 @@ fn by_reader(
     }
 }
 
-// Whether what was taken is a beginning of the output, a byte a call, and the failed call is not repeated.
+/// Whether what was taken is a beginning of the output, a byte a call, and the failed call is not repeated.
 fn is_begun(output: &[u8], taken: &[u8], calls: usize, call: usize) -> bool {
     taken.len() == call && output.starts_with(taken) && calls == call.saturating_add(1)
 }
 
-// The same of a sink: what it took is a beginning of the output.
+/// The same of a sink: what it took is a beginning of the output.
 fn by_sink(alloc: Global, row: &Row, call: usize) -> (bool, bool) {
     let &(command, are_on, input, output) = row;
     let mut source = SlowSource::new(input, STEP, None);
@@ -182,7 +182,7 @@ fn by_sink(alloc: Global, row: &Row, call: usize) -> (bool, bool) {
     }
 }
 
-// The same of a writer of std.
+/// The same of a writer of std.
 fn by_writer(alloc: Global, row: &Row, failure: Failure, call: usize) -> (bool, bool) {
     let &(command, are_on, input, output) = row;
     let mut writer = SlowWriter::new(alloc, failure, call);
@@ -224,7 +224,7 @@ fn by_device(alloc: Global, row: &Row, device: Device, call: usize) -> (bool, bo
     }
 }
 
-// Each call fails in turn, up to the first run that is done.
+/// Each call fails in turn, up to the first run that is done.
 fn see_faults(
     failures: &mut Failures,
     alloc: Global,
@@ -287,8 +287,8 @@ fn few_bytes_a_call(rt: HostRuntime) -> Result<(), Fail> {
     failures.end()
 }
 
-// Inputs that no run takes, with no option on and with all, and the message of the fault: bytes that are no UTF-8, digits that
-// `docs/DECISIONS.md` says are a fault, and bytes that RFC 8949 says are not well-formed.
+/// Inputs that no run takes, with no option on and with all, and the message of the fault: bytes that are no UTF-8, digits that
+/// `docs/DECISIONS.md` says are a fault, and bytes that RFC 8949 says are not well-formed.
 const UNTAKEN: &[(Command, &[bool], &[u8], &str)] = &[
     (
         Command::Diag2Diag,
@@ -322,7 +322,7 @@ const UNTAKEN: &[(Command, &[bool], &[u8], &str)] = &[
     ),
 ];
 
-// The message of a run's fault, where nothing is written.
+/// The message of a run's fault, where nothing is written.
 fn untaken(alloc: Global, options: &Options, input: &[u8]) -> Result<String, Fail> {
     let mut sink = SlowSink::new(alloc, 1, None);
     let result = run(alloc, options, &mut StdSource::new(input), &mut sink);
@@ -349,10 +349,10 @@ fn untaken_inputs(rt: HostRuntime) -> Result<(), Fail> {
     failures.end()
 }
 
-// At which call devices fail that move four bytes a call: the source, the sink, and the sink of faults.
+/// At which call devices fail that move four bytes a call: the source, the sink, and the sink of faults.
 type Faults = (Option<usize>, Option<usize>, Option<usize>);
 
-// What a run of `diag2cbor` with no option on answers by such devices.
+/// What a run of `diag2cbor` with no option on answers by such devices.
 fn served_by(alloc: Global, text: &[u8], faults: Faults) -> Result<String, Fail> {
     let mut source = SlowSource::new(text, STEP, faults.0);
     let mut sink = SlowSink::new(alloc, STEP, faults.1);
@@ -372,7 +372,7 @@ fn served_by(alloc: Global, text: &[u8], faults: Faults) -> Result<String, Fail>
     )
 }
 
-// A status, what is written, in digits, and what is told.
+/// A status, what is written, in digits, and what is told.
 fn answer_of(alloc: Global, status: u8, written: &[u8], told: &[u8]) -> Result<String, Fail> {
     let digits = hex::encode(alloc, written)?;
     let line = match str::from_utf8(told) {
@@ -382,8 +382,8 @@ fn answer_of(alloc: Global, status: u8, written: &[u8], told: &[u8]) -> Result<S
     Ok(format!(in alloc; "status {status}, written {digits}, told {line}")?)
 }
 
-// Texts, the status of a run, what it writes and what it tells: bytes by RFC 8949, statuses by the repository's `README.md`, and the
-// messages of the faults, with the first byte that no text goes on with.
+/// Texts, the status of a run, what it writes and what it tells: bytes by RFC 8949, statuses by the repository's `README.md`, and the
+/// messages of the faults, with the first byte that no text goes on with.
 const SERVED: &[(&[u8], u8, &[u8], &str)] = &[
     (TEXT, 0, BYTES, ""),
     (b"1 2,", 0, b"\x01\x02", ""),
@@ -421,13 +421,13 @@ fn served(rt: HostRuntime) -> Result<(), Fail> {
     failures.end()
 }
 
-// At which call the source or the sink fails, and the message of the fault.
+/// At which call the source or the sink fails, and the message of the fault.
 const FAULTY: &[(Option<usize>, Option<usize>, &str)] = &[
     (Some(0), None, "cbor-edn: Error reading input\n"),
     (None, Some(0), "cbor-edn: Error writing output\n"),
 ];
 
-// At which call the sink of faults fails, and how many bytes it has taken then.
+/// At which call the sink of faults fails, and how many bytes it has taken then.
 const TOLD: &[(Option<usize>, usize)] = &[(None, usize::MAX), (Some(0), 0), (Some(2), 2 * STEP)];
 
 fn beginning(line: &str, length: usize) -> &[u8] {
@@ -450,7 +450,7 @@ fn served_by_failing_devices(rt: HostRuntime) -> Result<(), Fail> {
     failures.end()
 }
 
-// Each fault of a run, and its message by `docs/SUPPORTED.md` ("What refusals say").
+/// Each fault of a run, and its message by `docs/SUPPORTED.md` ("What refusals say").
 #[test]
 fn words_of_faults(rt: HostRuntime) -> Result<(), Fail> {
     let alloc = rt.alloc();

@@ -27,7 +27,7 @@ const WITH_NAMES: ShowOptions = ShowOptions {
     ..SHOW
 };
 
-// Digits of CBOR, how they are shown, and the text: by RFC 8949, RFC 9052, RFC 9053, RFC 8392 and `docs/SUPPORTED.md`.
+/// Digits of CBOR, how they are shown, and the text: by RFC 8949, RFC 9052, RFC 9053, RFC 8392 and `docs/SUPPORTED.md`.
 const ROWS: &[(&str, ShowOptions, &str)] = &[
     ("", SHOW, ""),
     ("83 01 18 1f 80", SHOW, "[1, 31, []]\n"),
@@ -162,7 +162,7 @@ fn refuses_what_is_not_shown(rt: HostRuntime) {
     assert!(rt; matches!(cut, Err(RunError::Cbor(CborError::OutOfData))));
 }
 
-// A file's name, what is shown of it, and both.
+/// A file's name, what is shown of it, and both.
 const NAMED: &[(&str, &str, &str)] = &[
     ("a.cbor", "[1]\n", "/ a.cbor /\n[1]\n"),
     ("d/a.cbor", "[1]\n", "# d/a.cbor\n[1]\n"),
@@ -187,7 +187,7 @@ const FORMAT: FormatOptions = FormatOptions {
     limit: NESTING_LIMIT,
 };
 
-// Texts, and what `fmt` makes of them by the indented layout of `docs/SUPPORTED.md`: no item is another one.
+/// Texts, and what `fmt` makes of them by the indented layout of `docs/SUPPORTED.md`: no item is another one.
 const TEXTS: &[(&str, bool, &str)] = &[
     ("", false, ""),
     ("[1 /one/,0x2]", false, "[1/one/, 0x2]\n"),

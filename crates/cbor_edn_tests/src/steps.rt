@@ -4,7 +4,7 @@ use cbor_edn_expect::failures::Failures;
 use std::alloc::Global;
 use std::test::Fail;
 
-// What a run writes, with its status in front where that is not 0.
+/// What a run writes, with its status in front where that is not 0.
 fn written<'a>(alloc: Global, words: &'a [&'a str], input: &str) -> Result<String, Fail> {
     let (status, written, _) = served(alloc, words, input.as_bytes())?;
     let text = String::from_utf8(written).map_err(|_| Fail::new("what was written is no text"))?;
@@ -15,7 +15,7 @@ fn written<'a>(alloc: Global, words: &'a [&'a str], input: &str) -> Result<Strin
     }
 }
 
-// Each row has flags, an input, and what a command with these flags writes for it.
+/// Each row has flags, an input, and what a command with these flags writes for it.
 fn expect_rows<'a>(
     alloc: Global,
     command: &[&'a str],
@@ -33,8 +33,8 @@ fn expect_rows<'a>(
     failures.end()
 }
 
-// What a text is printed as by words behind the command: each option alone, and each two together. By docs/SUPPORTED.md, the rules of
-// conversions and comments, and those of the policy that indents.
+/// What a text is printed as by words behind the command: each option alone, and each two together. By docs/SUPPORTED.md, the rules of
+/// conversions and comments, and those of the policy that indents.
 const REPRINTED: &[(&[&str], &str, &str)] = &[
     // each option alone
     (
@@ -228,8 +228,8 @@ const REPRINTED: &[(&[&str], &str, &str)] = &[
     ),
 ];
 
-// What bytes, as digits, are shown as: each option alone, and each two together. By RFC 8949, section 3, docs/SUPPORTED.md and the rules
-// of conversions and comments.
+/// What bytes, as digits, are shown as: each option alone, and each two together. By RFC 8949, section 3, docs/SUPPORTED.md and the rules
+/// of conversions and comments.
 const SHOWN: &[(&[&str], &str, &str)] = &[
     (&[], "c249010000000000000000", "18446744073709551616\n"),
     (
@@ -280,8 +280,8 @@ const SHOWN: &[(&[&str], &str, &str)] = &[
     ),
 ];
 
-// What a text is encoded as, in digits: each option alone, and the two together. By RFC 8949, section 3, docs/SUPPORTED.md and the rules
-// of conversions.
+/// What a text is encoded as, in digits: each option alone, and the two together. By RFC 8949, section 3, docs/SUPPORTED.md and the rules
+/// of conversions.
 const ENCODED: &[(&[&str], &str, &str)] = &[
     (&[], "<<ip'192.0.2.1'>>", "4544c0000201\n"),
     (&["--apply-999"], "<<foo'x'>>", "4ad903e78263666f6f6178\n"),
@@ -319,7 +319,7 @@ fn encoded(rt: HostRuntime) -> Result<(), Fail> {
     expect_rows(rt.alloc(), TO_HEX, ENCODED)
 }
 
-// Bytes, as digits, that come back from their text. By RFC 8949, section 3, each is well-formed, and docs/SUPPORTED.md has a text for it.
+/// Bytes, as digits, that come back from their text. By RFC 8949, section 3, each is well-formed, and docs/SUPPORTED.md has a text for it.
 const RETURNED: &[&str] = &[
     "82616101",
     "5f4668656c6c6f2045776f726c64ff",

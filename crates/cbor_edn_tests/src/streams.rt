@@ -4,7 +4,7 @@ use cbor_edn_expect::failures::Failures;
 use std::alloc::Global;
 use std::test::Fail;
 
-// A text with a part that stands in it so many times: what stands in front, the part, how often, and what stands behind.
+/// A text with a part that stands in it so many times: what stands in front, the part, how often, and what stands behind.
 type Repeated = (&'static str, &'static str, usize, &'static str);
 
 fn written(alloc: Global, row: Repeated) -> Result<String, Fail> {
@@ -19,8 +19,8 @@ fn written(alloc: Global, row: Repeated) -> Result<String, Fail> {
 
 const FROM_HEX: &[&str] = &["cbor-edn", "cbor2diag", "-i", "hex"];
 
-// Digits of CBOR, and the text with its line feed. By the table of `docs/SUPPORTED.md`: an item of less than 80 bytes behind its indentation
-// stands on a line, another one has a line for each part.
+/// Digits of CBOR, and the text with its line feed. By the table of `docs/SUPPORTED.md`: an item of less than 80 bytes behind its indentation
+/// stands on a line, another one has a line for each part.
 const PRINTED: &[(Repeated, Repeated)] = &[
     // 79 bytes, and 80
     (("81784b", "61", 75, ""), ("[\"", "a", 75, "\"]\n")),
@@ -135,7 +135,7 @@ const PRINTED: &[(Repeated, Repeated)] = &[
     ),
 ];
 
-// Digits of CBOR, and the fault that stands behind what could be printed.
+/// Digits of CBOR, and the fault that stands behind what could be printed.
 const REFUSED: &[(Repeated, &str)] = &[
     (("9864", "01", 99, ""), "Expected item, out of data"),
     (("9f", "01", 99, ""), "Expected item, out of data"),

@@ -6,8 +6,8 @@ use cbor_edn_expect::failures::Failures;
 use std::alloc::Global;
 use std::test::Fail;
 
-// Words behind the program's name, and the options that are on in such a run, by the table of flags of the repository's `README.md`; long
-// names of formats by the program's help.
+/// Words behind the program's name, and the options that are on in such a run, by the table of flags of the repository's `README.md`; long
+/// names of formats by the program's help.
 const ASKED: &[(&[&str], &[&str])] = &[
     (&["diag2cbor"], &["aol_to_item"]),
     (&["diag2cbor", "-o", "hex"], &["hex", "aol_to_item"]),
@@ -98,7 +98,7 @@ const ASKED: &[(&[&str], &[&str])] = &[
     ),
 ];
 
-// How deep items may nest by some words: 512 without the flag, by the same table.
+/// How deep items may nest by some words: 512 without the flag, by the same table.
 const LIMITS: &[(&[&str], usize)] = &[
     (&["diag2cbor"], NESTING_LIMIT),
     (&["diag2cbor", "--max-nesting", "0"], 0),
@@ -107,7 +107,7 @@ const LIMITS: &[(&[&str], usize)] = &[
     (&["diag2diag", "--max-nesting=007"], 7),
 ];
 
-// The options in the order of `Options`.
+/// The options in the order of `Options`.
 const OPTIONS: [&str; 8] = [
     "hex",
     "annotate_tags",
@@ -121,7 +121,7 @@ const OPTIONS: [&str; 8] = [
 
 const COMMANDS: [&str; 3] = ["diag2cbor", "cbor2diag", "diag2diag"];
 
-// The words of each flag, and which of these commands have it, by the same table; the last three are no flags.
+/// The words of each flag, and which of these commands have it, by the same table; the last three are no flags.
 const FLAGS: &[(&[&str], [bool; 3])] = &[
     (&["-o", "hex"], [true, false, false]),
     (&["--output-format", "hex"], [true, false, false]),
@@ -141,7 +141,7 @@ const FLAGS: &[(&[&str], [bool; 3])] = &[
     (&["--hex"], [false, false, false]),
 ];
 
-// The options of a run, where the words are one.
+/// The options of a run, where the words are one.
 fn asked<'a>(alloc: Global, words: &'a [&'a str]) -> Option<Options> {
     match options(alloc, words) {
         Ok((options, _, _)) => Some(options),
@@ -149,7 +149,7 @@ fn asked<'a>(alloc: Global, words: &'a [&'a str]) -> Option<Options> {
     }
 }
 
-// The status of words that are no run.
+/// The status of words that are no run.
 fn refused<'a>(alloc: Global, words: &'a [&'a str]) -> Option<i32> {
     match options(alloc, words) {
         Ok(_) => None,
@@ -172,7 +172,7 @@ fn name_of(command: Command) -> &'static str {
     }
 }
 
-// The names of the options that are on.
+/// The names of the options that are on.
 fn on(alloc: Global, options: &Options) -> Result<Vec<&'static str>, Fail> {
     let all = [
         options.hex,
@@ -193,12 +193,12 @@ fn on(alloc: Global, options: &Options) -> Result<Vec<&'static str>, Fail> {
     Ok(names)
 }
 
-// A command's name, and names of options.
+/// A command's name, and names of options.
 fn shown(alloc: Global, command: &str, options: &[&str]) -> Result<String, Fail> {
     Ok(format!(in alloc; "{command} {options:?}")?)
 }
 
-// What words ask for.
+/// What words ask for.
 fn asked_for(alloc: Global, words: &[&str]) -> Result<String, Fail> {
     let all = program_and(alloc, words)?;
     match asked(alloc, all.as_slice()) {
@@ -244,7 +244,7 @@ fn sets_limits(rt: HostRuntime) -> Result<(), Fail> {
     failures.end()
 }
 
-// The status of a command with a flag that stands there so often, where these words are no run.
+/// The status of a command with a flag that stands there so often, where these words are no run.
 fn refused_with<'a>(
     alloc: Global,
     command: &'a str,
@@ -274,7 +274,7 @@ fn see_flag(
     Ok(())
 }
 
-// A flag is taken by the commands that have it, once.
+/// A flag is taken by the commands that have it, once.
 #[test]
 fn takes_flags(rt: HostRuntime) -> Result<(), Fail> {
     let alloc = rt.alloc();
@@ -287,7 +287,7 @@ fn takes_flags(rt: HostRuntime) -> Result<(), Fail> {
     failures.end()
 }
 
-// Words, and the names of the input and the output, by the repository's `README.md`.
+/// Words, and the names of the input and the output, by the repository's `README.md`.
 const NAMES: &[(&[&str], &str, &str)] = &[
     (&["cbor-edn", "diag2cbor", "a", "b"], "a", "b"),
     (&["cbor-edn", "diag2cbor", "a"], "a", "-"),
@@ -315,7 +315,7 @@ fn names_of_files(rt: HostRuntime) -> Result<(), Fail> {
     failures.end()
 }
 
-// Words that the usage and the flags of the repository's `README.md` don't have: they have the status of a command line at fault.
+/// Words that the usage and the flags of the repository's `README.md` don't have: they have the status of a command line at fault.
 const NO_RUNS: &[&[&str]] = &[
     &["cbor-edn"],
     &["cbor-edn", "diag2json"],
@@ -351,7 +351,7 @@ fn shows_version(rt: HostRuntime) {
     assert_eq!(rt; refused(rt.alloc(), &["cbor-edn", "--version"]), Some(0));
 }
 
-// Words that ask for help: of the program, and of each of its commands.
+/// Words that ask for help: of the program, and of each of its commands.
 const HELP: &[&[&str]] = &[
     &["cbor-edn", "--help"],
     &["cbor-edn", "diag2cbor", "--help"],
@@ -359,7 +359,7 @@ const HELP: &[&[&str]] = &[
     &["cbor-edn", "diag2diag", "--help"],
 ];
 
-// What is wrong with help: it has an example, and fits on a screen of 24 lines with 80 columns.
+/// What is wrong with help: it has an example, and fits on a screen of 24 lines with 80 columns.
 fn fault_of(help: &str) -> &'static str {
     if !help.contains("Example") {
         "no example"

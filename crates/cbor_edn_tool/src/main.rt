@@ -11,27 +11,27 @@ use std::fs::{File, OpenOptions};
 use std::io::{self, ErrorKind};
 use std::process::ExitCode;
 
-// The exit status of a fault.
+/// The exit status of a fault.
 const FAULT: u8 = 1;
 
-// The exit status of words that are no command line.
+/// The exit status of words that are no command line.
 const MISUSE: u8 = 2;
 
-// Tells of a fault.
+/// Tells of a fault.
 fn fault(rt: &HostRuntime, words: &str) -> u8 {
     let _ = eprintln!(rt; "cbor-edn: {words}");
     FAULT
 }
 
-// Where a caller closed a standard stream, the next file that is opened takes its place. This one is to take it: what is written there
-// is lost, and a read fails.
+/// Where a caller closed a standard stream, the next file that is opened takes its place. This one is to take it: what is written there
+/// is lost, and a read fails.
 fn in_place_of_stream(rt: &HostRuntime) -> Option<File> {
     let mut options = OpenOptions::new();
     options.write(true);
     options.open(rt, "/dev/null").ok()
 }
 
-// A run to the output of this name, which is created or emptied first.
+/// A run to the output of this name, which is created or emptied first.
 fn serve_to<R: Source>(rt: &HostRuntime, options: &Options, source: &mut R, output: &str) -> u8 {
     let mut errors = StdSink::new(rt.stderr());
     if output == "-" {
@@ -56,7 +56,7 @@ fn serve_to<R: Source>(rt: &HostRuntime, options: &Options, source: &mut R, outp
     }
 }
 
-// A run between two files, of which `-` names a standard stream.
+/// A run between two files, of which `-` names a standard stream.
 fn serve_files(rt: &HostRuntime, options: &Options, input: &str, output: &str) -> u8 {
     if input == "-" {
         return serve_to(rt, options, &mut StdSource::new(rt.stdin()), output);
@@ -67,7 +67,7 @@ fn serve_files(rt: &HostRuntime, options: &Options, input: &str, output: &str) -
     }
 }
 
-// Shows why the words are no run: a fault of theirs, help or the version, or that memory ran out before one of them was told.
+/// Shows why the words are no run: a fault of theirs, help or the version, or that memory ran out before one of them was told.
 fn shown(rt: &HostRuntime, error: &clap::Error) -> u8 {
     if error.kind() == clap::error::ErrorKind::OutOfMemory {
         return fault(rt, "Out of memory");
@@ -80,7 +80,7 @@ fn shown(rt: &HostRuntime, error: &clap::Error) -> u8 {
     }
 }
 
-// A command for files. What is written goes to no file, where a caller closed a standard stream.
+/// A command for files. What is written goes to no file, where a caller closed a standard stream.
 fn serve_command_for_files(rt: &HostRuntime, words: &[&str]) -> u8 {
     let _streams = [
         in_place_of_stream(rt),
@@ -93,7 +93,7 @@ fn serve_command_for_files(rt: &HostRuntime, words: &[&str]) -> u8 {
     }
 }
 
-// The exit status. Fails where the words can't be read.
+/// The exit status. Fails where the words can't be read.
 fn called(rt: &HostRuntime) -> io::Result<u8> {
     let alloc = rt.alloc();
     let owned: Vec<String> = env::args(rt)?.collect(alloc)?;

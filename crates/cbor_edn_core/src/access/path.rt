@@ -96,7 +96,7 @@ impl<O: Drop, M: Drop, C: Drop, E: Drop, N: Drop, L: Drop, D: Drop> SequenceOf<
         }
     }
 
-    // The number behind these items, unless it is one of theirs.
+    /// The number behind these items, unless it is one of theirs.
     fn past(&self, i: usize) -> Option<usize>
         ensures { (leaves : Ghosts O M C E N L D) → result ≡ past_of (length (items_in (view_sequence leaves self.now))) i }
     {
@@ -116,7 +116,7 @@ impl<O: Drop, M: Drop, C: Drop, E: Drop, N: Drop, L: Drop, D: Drop> InnerItemOf<
     L,
     D,
 > {
-    // The item where the path leads from the number at `at` on.
+    /// The item where the path leads from the number at `at` on.
     fn below_mut(&mut self, path: &[usize], at: usize) -> Option<&mut ItemOf<O, M, C, E, N, L, D>>
         requires { at < length path.now }
         ensures* lent { sem 𝓛 (LendsBelow O.row M.row C.row E.row N.row L.row D.row self.entry (drop at path.now) result) }
@@ -129,7 +129,7 @@ impl<O: Drop, M: Drop, C: Drop, E: Drop, N: Drop, L: Drop, D: Drop> InnerItemOf<
         }
     }
 
-    // Whether it leads to an item. The items on the way are lent and change nothing.
+    /// Whether it leads to an item. The items on the way are lent and change nothing.
     fn leads(&mut self, path: &[usize], at: usize) -> bool
         requires { at < length path.now }
         ensures there { (leaves : Ghosts O M C E N L D) → result ≡ is_some (at_path (drop at path.now) (view_inner leaves self.old)) }
@@ -144,7 +144,7 @@ impl<O: Drop, M: Drop, C: Drop, E: Drop, N: Drop, L: Drop, D: Drop> InnerItemOf<
         item.inner.leads(path, at + 1)
     }
 
-    // The item where it leads, once it is known that it leads to one.
+    /// The item where it leads, once it is known that it leads to one.
     fn descend(&mut self, path: &[usize], at: usize) -> Option<&mut ItemOf<O, M, C, E, N, L, D>>
         requires { ((leaves : Ghosts O M C E N L D) → IsSome (at_path (drop at path.now) (view_inner leaves self.old))) × (at < length path.now) }
         ensures* lent { sem 𝓛 (LendsBelow O.row M.row C.row E.row N.row L.row D.row self.entry (drop at path.now) result) }
@@ -167,7 +167,7 @@ impl<O: Drop, M: Drop, C: Drop, E: Drop, N: Drop, L: Drop, D: Drop> InnerItemOf<
         self.item_mut(path[at])
     }
 
-    // The item below at a number.
+    /// The item below at a number.
     fn item_mut(&mut self, i: usize) -> Option<&mut ItemOf<O, M, C, E, N, L, D>>
         ensures* lent { sem 𝓛 (LendsOfInner O.row M.row C.row E.row N.row L.row D.row self.entry i result) }
         ensures value { (leaves : Ghosts O M C E N L D) → option_map (λ w. view_item leaves w.now) result ≡ slice_get (items_in (view_inner leaves self.old)) i }
@@ -385,7 +385,7 @@ impl<O: Drop, M: Drop, C: Drop, E: Drop, N: Drop, L: Drop, D: Drop> StreamOf<O, 
     }
 }
 
-// Where an item's number leads in pieces: the number of the piece, or how many there are, and the item's number from there on.
+/// Where an item's number leads in pieces: the number of the piece, or how many there are, and the item's number from there on.
 fn piece_at<O: Drop, M: Drop, C: Drop, E: Drop, N: Drop, L: Drop, D: Drop>(
     row: &[(PieceOf<O, M, C, E, N, L, D>, O, O)],
     i: usize,
@@ -404,7 +404,7 @@ fn piece_at<O: Drop, M: Drop, C: Drop, E: Drop, N: Drop, L: Drop, D: Drop>(
     (place, left)
 }
 
-// The same in strings.
+/// The same in strings.
 fn string_at<O: Drop, M: Drop, C: Drop, E: Drop, N: Drop, L: Drop, D: Drop>(
     row: &[(CborStringOf<O, M, C, E, N, L, D>, C)],
     i: usize,
@@ -429,7 +429,7 @@ fn is_empty(path: &[usize]) -> bool
     path.len() == 0
 }
 
-// Whether a number of a path is its last.
+/// Whether a number of a path is its last.
 fn is_last(path: &[usize], at: usize) -> bool
     requires { at < length path.now }
     ensures { (result ≡ true) ↔ (suc at ≡ length path.now) }
@@ -437,7 +437,7 @@ fn is_last(path: &[usize], at: usize) -> bool
     at + 1 == path.len()
 }
 
-// The item that is lent, where one is.
+/// The item that is lent, where one is.
 fn there<O: Drop, M: Drop, C: Drop, E: Drop, N: Drop, L: Drop, D: Drop>(
     part: Option<&mut ItemOf<O, M, C, E, N, L, D>>,
 ) -> &mut ItemOf<O, M, C, E, N, L, D>

@@ -21,7 +21,6 @@ use cbor_edn_model::cbor::heads::{
     encode_chunk, encode_float, encode_indicated_head, encode_list_end, encode_list_head,
     encode_simple, encode_string, encode_text, length_of, named_number, same_kind, string_major,
 };
-use cbor_edn_model::text::list_head::indicator_of_head;
 use cbor_edn_parts::base::error::{Fault, InconsistentEdn};
 use cbor_edn_parts::base::indicator::Indicator;
 use cbor_edn_parts::number::Number;
@@ -140,7 +139,7 @@ fn encode_array(out: &mut Vec<u8>, list: &ItemList<'_>) -> Result<(), Fault<Inco
         ItemList::Absent { indicator, .. } => encode_empty(out, 4, *indicator),
         ItemList::Present { head, items, .. } => {
             let count = items.row.len() as u64 + 1;
-            let width = length_of(indicator_of_head(head), count)?;
+            let width = length_of(head.indicator(), count)?;
             encode_list_head(out, 4, width, count)?;
             encode_items(out, items)?;
             encode_list_end(out, width)?;
@@ -178,7 +177,7 @@ fn encode_map(out: &mut Vec<u8>, list: &PairList<'_>) -> Result<(), Fault<Incons
         PairList::Absent { indicator, .. } => encode_empty(out, 5, *indicator),
         PairList::Present { head, pairs, .. } => {
             let count = pairs.row.len() as u64 + 1;
-            let width = length_of(indicator_of_head(head), count)?;
+            let width = length_of(head.indicator(), count)?;
             encode_list_head(out, 5, width, count)?;
             encode_pairs(out, pairs)?;
             encode_list_end(out, width)?;

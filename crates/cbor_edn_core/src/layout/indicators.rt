@@ -14,7 +14,7 @@ use crate::tree::{
     CborString, InnerItem, Item, ItemList, Items, Pair, PairList, Pairs, Piece, Sequence,
     StandaloneItem, Stream, Strings,
 };
-use cbor_edn_model::layout::bare::moved_space;
+use cbor_edn_model::text::list_head::ListHead;
 use cbor_edn_parts::space::{Separator, Space};
 use std::alloc::{AllocError, Global};
 
@@ -106,7 +106,7 @@ fn remove_head_indicators<'a>(list: &mut ItemList<'a>, alloc: Global) -> Result<
     ensures out_of_memory { IfErr result (λ _. view_list texts list.new ≡ view_list texts list.old) }
 {
     let moved = match &*list {
-        ItemList::Present { head, space, .. } => moved_space(head, space, alloc)?,
+        ItemList::Present { head, space, .. } => head.moved_space(space, alloc)?,
         ItemList::Absent { .. } => None,
     };
     match list {
@@ -118,7 +118,7 @@ fn remove_head_indicators<'a>(list: &mut ItemList<'a>, alloc: Global) -> Result<
         ItemList::Absent { indicator, .. } => *indicator = None,
     }
     if let ItemList::Present { head, .. } = list {
-        *head = None;
+        *head = ListHead::none();
     }
     Ok(())
 }
@@ -129,7 +129,7 @@ fn remove_pair_head_indicators<'a>(list: &mut PairList<'a>, alloc: Global) -> Re
     ensures out_of_memory { IfErr result (λ _. view_pair_list texts list.new ≡ view_pair_list texts list.old) }
 {
     let moved = match &*list {
-        PairList::Present { head, space, .. } => moved_space(head, space, alloc)?,
+        PairList::Present { head, space, .. } => head.moved_space(space, alloc)?,
         PairList::Absent { .. } => None,
     };
     match list {
@@ -141,7 +141,7 @@ fn remove_pair_head_indicators<'a>(list: &mut PairList<'a>, alloc: Global) -> Re
         PairList::Absent { indicator, .. } => *indicator = None,
     }
     if let PairList::Present { head, .. } = list {
-        *head = None;
+        *head = ListHead::none();
     }
     Ok(())
 }

@@ -14,7 +14,6 @@ use super::strings::{lay_boxed_string, lay_stream};
 use crate::tree::{
     InnerItem, Item, ItemList, Items, Pair, PairList, Pairs, Sequence, StandaloneItem,
 };
-use cbor_edn_model::text::list_head::lay_head;
 use cbor_edn_parts::space::Separator;
 use cbor_edn_parts::space::layout::{Layout, Slot, lay_end, lay_separator, lay_space};
 use std::alloc::{AllocError, Global};
@@ -81,7 +80,7 @@ fn lay_opening<'a>(list: &mut ItemList<'a>, alloc: Global, layout: Layout) -> Re
     ensures least { layout ≡ least → IsOk result }
 {
     if let ItemList::Present { head, .. } = list {
-        lay_head(head, alloc, layout)?;
+        head.lay(alloc, layout)?;
     }
     match list {
         ItemList::Present { space, .. } => lay_space(space, alloc, layout, Slot::First),
@@ -101,7 +100,7 @@ fn lay_pair_opening<'a>(
     ensures least { layout ≡ least → IsOk result }
 {
     if let PairList::Present { head, .. } = list {
-        lay_head(head, alloc, layout)?;
+        head.lay(alloc, layout)?;
     }
     match list {
         PairList::Present { space, .. } => lay_space(space, alloc, layout, Slot::First),

@@ -15,7 +15,6 @@ use crate::tree::{
     CborString, Indicator, InnerItem, Item, ItemList, Items, Pair, PairList, Pairs, Piece,
     Sequence, StandaloneItem, Stream, Strings,
 };
-use cbor_edn_model::text::list_head::print_laid_head;
 use cbor_edn_model::text::write::{print_indicator, print_opener};
 use cbor_edn_parts::base::buffer::TextBuffer;
 use cbor_edn_parts::number::Number;
@@ -241,7 +240,7 @@ fn print_list(out: &mut TextBuffer, list: &ItemList<'_>, layout: &Layout) -> Res
 {
     match list {
         ItemList::Present { head, space, items } => {
-            print_laid_head(out, head, *layout)?;
+            head.print(out, *layout)?;
             print_space(out, space, *layout, Slot::First)?;
             print_items(out, items, layout)
         }
@@ -289,7 +288,7 @@ fn print_pair_list(
 {
     match list {
         PairList::Present { head, space, pairs } => {
-            print_laid_head(out, head, *layout)?;
+            head.print(out, *layout)?;
             print_space(out, space, *layout, Slot::First)?;
             print_pairs(out, pairs, layout)
         }

@@ -12,8 +12,8 @@ use crate::tree::{
     StandaloneItem, Stream, Strings,
 };
 use cbor_edn_model::layout::width::{
-    Spaces, head_len, indicator_len, list_end_len, mandatory_len, opener_len, room_behind,
-    separator_len, space_len,
+    Spaces, indicator_len, list_end_len, mandatory_len, opener_len, room_behind, separator_len,
+    space_len,
 };
 use cbor_edn_parts::space::layout::Layout;
 use cbor_edn_parts::space::policy::Spacing;
@@ -203,7 +203,7 @@ fn room_behind_list(room: usize, spaces: Spaces, list: &ItemList<'_>) -> Option<
 {
     match list {
         ItemList::Present { head, space, items } => {
-            let room = room_behind(room, head_len(spaces, head))?;
+            let room = room_behind(room, head.len(spaces))?;
             let room = room_behind(room, space_len(spaces, space))?;
             room_behind_items(room, spaces, items)
         }
@@ -247,7 +247,7 @@ fn room_behind_pair_list(room: usize, spaces: Spaces, list: &PairList<'_>) -> Op
 {
     match list {
         PairList::Present { head, space, pairs } => {
-            let room = room_behind(room, head_len(spaces, head))?;
+            let room = room_behind(room, head.len(spaces))?;
             let room = room_behind(room, space_len(spaces, space))?;
             room_behind_pairs(room, spaces, pairs)
         }

@@ -15,10 +15,10 @@ use crate::tree::{
     CborString, Indicator, InnerItem, Item, ItemList, ItemOf, Items, Opener, Pair, PairList, Pairs,
     Piece, Sequence, SequenceOf, StandaloneItem, StandaloneItemOf, Stream, Strings,
 };
-use cbor_edn_model::text::list_head::clone_list_head;
+use cbor_edn_model::text::list_head::ListHead;
 use cbor_edn_parts::number::Number;
 use cbor_edn_parts::space::copy::clone_spaces;
-use cbor_edn_parts::space::{ListEnd, MandatorySpace, Separator, Space};
+use cbor_edn_parts::space::{ListEnd, Separator, Space};
 use cbor_edn_parts::string::{Ellipsis, Literal};
 use std::alloc::{AllocError, Global};
 
@@ -147,13 +147,13 @@ fn clone_array<'a>(alloc: Global, list: &ItemList<'a>) -> Result<Item<'a>, Alloc
 #[inline(never)]
 fn make_array<'a>(
     alloc: Global,
-    head: &Option<(Indicator, MandatorySpace<'a>)>,
+    head: &ListHead<'a>,
     space: &Space<'a>,
     items: Items<'a>,
 ) -> Result<Item<'a>, AllocError>
     ensures { IfOk result (λ t. item_tree t ≡ ListTree Array (FullTree (view_list_head texts head.now) (space_bytes space.now) (view_items texts items.entry))) }
 {
-    let head = clone_list_head(head)?;
+    let head = head.clone()?;
     let space = space.clone()?;
     Item::array(alloc, ItemList::Present { head, space, items })
 }
@@ -190,7 +190,7 @@ fn clone_map<'a>(alloc: Global, list: &PairList<'a>) -> Result<Item<'a>, AllocEr
 #[tactic(auto, using(crate::proofs::lemmas::tree::Views::view_pairs_made))]
 fn make_map<'a>(
     alloc: Global,
-    head: &Option<(Indicator, MandatorySpace<'a>)>,
+    head: &ListHead<'a>,
     space: &Space<'a>,
     row: Vec<(Pair<'a>, Separator<'a>)>,
     last: Pair<'a>,
@@ -198,7 +198,7 @@ fn make_map<'a>(
 ) -> Result<Item<'a>, AllocError>
     ensures { IfOk result (λ t. item_tree t ≡ ListTree Map (FullTree (view_list_head texts head.now) (space_bytes space.now) (pair_row_onto texts row.entry.items (LastTree (view_pair texts last.entry) (list_end_bytes end.now))))) }
 {
-    let head = clone_list_head(head)?;
+    let head = head.clone()?;
     let space = space.clone()?;
     let end = end.clone()?;
     let pairs = Pairs { row, last, end };

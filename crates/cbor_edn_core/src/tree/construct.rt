@@ -20,6 +20,7 @@ use crate::tree::{
     StandaloneItem,
 };
 use cbor_edn_model::text::keyword::NamedSimple;
+use cbor_edn_model::text::list_head::ListHead;
 use cbor_edn_parts::base::error::{Fault, InconsistentEdn};
 use cbor_edn_parts::number::Number;
 use cbor_edn_parts::space::{ListEnd, Separator, Space};
@@ -148,7 +149,7 @@ impl<'a> Item<'a> {
                 space: Space::empty(),
             },
             Some(items) => ItemList::Present {
-                head: None,
+                head: ListHead::none(),
                 space: Space::empty(),
                 items,
             },
@@ -178,7 +179,7 @@ impl<'a> Item<'a> {
                 space: Space::empty(),
             },
             Some(pairs) => PairList::Present {
-                head: None,
+                head: ListHead::none(),
                 space: Space::empty(),
                 pairs,
             },

@@ -12,7 +12,6 @@ use crate::tree::{
     Sequence, StandaloneItem, Stream, Strings,
 };
 use cbor_edn_model::text::keyword::NonFinite;
-use cbor_edn_model::text::list_head::have_same_head;
 use cbor_edn_parts::space::{Separator, Space};
 use cbor_edn_parts::string::Literal;
 
@@ -200,7 +199,7 @@ fn same_list(a: &ItemList<'_>, b: &ItemList<'_>) -> bool
                 space: t,
                 items: y,
             },
-        ) => { have_same_head(h, g) && *s == *t && same_items(x, y) }
+        ) => { h.is_same(g) && *s == *t && same_items(x, y) }
         (
             ItemList::Absent {
                 indicator: i,
@@ -257,7 +256,7 @@ fn same_pair_list(a: &PairList<'_>, b: &PairList<'_>) -> bool
                 space: t,
                 pairs: y,
             },
-        ) => { have_same_head(h, g) && *s == *t && same_pairs(x, y) }
+        ) => { h.is_same(g) && *s == *t && same_pairs(x, y) }
         (
             PairList::Absent {
                 indicator: i,

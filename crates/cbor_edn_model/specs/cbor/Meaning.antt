@@ -17,11 +17,7 @@ use Rattle.cbor_edn_model.specs.declared.cbor.heads.Width.TheVariants.{Immediate
 use Rattle.cbor_edn_model.specs.tree.Items.{Row, Elements, Pairs, Strings, Bracketed, Array, Map, entries_of, Sort, Item, Piece, Pieces, Entry, Entries, Node, Number, Float, Listed, Tagged, Named, Simple, String, Stream, Literal, Ellipsis, Embedded, LastPiece, Plus, Element, Pair, Chunk, End, Then}
 use Rattle.cbor_edn_model.specs.cbor.Value as values
 use Rattle.cbor_edn_model.specs.cbor.Value.{Value, unsigned, negative, string, chunks, is_content, array, cbor_map, tag, simple, float, Values, no_values, value, values_len, no_pairs, pair, pairs_len, limit_of, encodings}
-
-infixl 10 ◌>>=◌
-abbrev pub ◌>>=◌ : {A B : Type 0} → Option A → (A → Option B) → Option B
-None >>= f = None
-(Some x) >>= f = f x
+pub use Rattle.cbor_edn_parts.specs.base.Options.{◌>>=◌}
 
 -- the narrowest width that the argument fits, of those below 2^64
 abbrev pub shortest : ℕ → Width

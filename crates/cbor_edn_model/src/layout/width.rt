@@ -4,11 +4,9 @@ ghost use Rattle.std.specs.Prelude.{◌≡◌, length};
 ghost use Rattle.cbor_edn_parts.specs.base.Indicator.{indicator_text};
 ghost use Rattle.cbor_edn_parts.specs.Leaves.{space_bytes, mandatory_bytes, separator_bytes, list_end_bytes};
 ghost use Rattle.cbor_edn_parts.specs.space.Spacing as kind;
-ghost use Rattle.cbor_edn_model.specs.tree.TreeLeaves.{texts};
-ghost use Rattle.cbor_edn_model.specs.text.ListHeads.{view_list_head};
 ghost use Rattle.cbor_edn_model.specs.tree.Trees.{opener_text};
 ghost use Rattle.cbor_edn_model.specs.internal.Widths as widths;
-ghost use Rattle.cbor_edn_model.specs.internal.Widths.{Leaves, space_width, head_width, capped};
+ghost use Rattle.cbor_edn_model.specs.internal.Widths.{Leaves, space_width, capped};
 
 use crate::text::opener::OpenerKind;
 use cbor_edn_parts::base::indicator::Indicator;
@@ -84,18 +82,6 @@ pub fn list_end_len(spaces: Spaces, space: &ListEnd<'_>) -> usize
     match spaces {
         Spaces::Kept => space.as_str().len(),
         Spaces::By(spacing) => space.spaced_len(spacing),
-    }
-}
-
-/// How many bytes the indicator of a list and the space behind it count, 0 without one. The greatest number stands for any that is more.
-pub fn head_len(spaces: Spaces, head: &Option<(Indicator, MandatorySpace<'_>)>) -> usize
-    ensures { result ≡ capped (head_width spaces (view_list_head texts head.now)) }
-{
-    match head {
-        None => 0,
-        Some((indicator, space)) => {
-            mandatory_len(spaces, space).saturating_add(indicator.as_str().len())
-        }
     }
 }
 

@@ -15,12 +15,13 @@ ghost use Rattle.cbor_edn_model.specs.tree.TreeLeaves.{texts};
 ghost use Rattle.cbor_edn_parts.specs.declared.base.error.ParseErrorKind.TheVariants.{Invalid};
 
 use crate::text::keyword::{Keyword, NamedSimple, NonFinite};
+use crate::text::list_head::ListHead;
 use cbor_edn_parts::base::bytes::Kind;
 use cbor_edn_parts::base::error::{Fault, ParseErrorKind, Refusal};
 use cbor_edn_parts::base::indicator::Indicator;
 use cbor_edn_parts::base::input::Input;
 use cbor_edn_parts::base::looks::Looks;
-use cbor_edn_parts::space::{MandatorySpace, Space};
+use cbor_edn_parts::space::Space;
 
 /// Whether an ASCII byte stands at a place, for one look.
 pub fn is_at(text: &Input<'_>, at: usize, byte: u8, looks: &mut Looks) -> bool
@@ -207,17 +208,20 @@ fn starts_number(text: &Input<'_>, at: usize, looks: &mut Looks) -> bool
 /// The first spaces of a list that has entries: behind an indicator the space is its own, and may not be missing. None where it is.
 pub fn list_head_and_space<'a>(
     indicator: Option<Indicator>,
-    s: Space<'a>,
-) -> Option<(Option<(Indicator, MandatorySpace<'a>)>, Space<'a>)>
-    ensures some { IfSome result (λ p. list_head_of indicator (space_bytes s.entry) ≡ Ok (view_list_head texts p.0, space_bytes p.1)) }
-    ensures none { IfNone result (list_head_of indicator (space_bytes s.entry) ≡ Err Invalid) }
-    ensures borrowed { BorrowsSpace s.entry → IfSome result (λ p. BorrowsListHead p.0 × BorrowsSpace p.1) }
+    space: Space<'a>,
+) -> Option<(ListHead<'a>, Space<'a>)>
+    ensures some { IfSome result (λ p. list_head_of indicator (space_bytes space.entry) ≡ Ok (view_list_head texts p.0, space_bytes p.1)) }
+    ensures none { IfNone result (list_head_of indicator (space_bytes space.entry) ≡ Err Invalid) }
+    ensures borrowed { BorrowsSpace space.entry → IfSome result (λ p. BorrowsListHead p.0 × BorrowsSpace p.1) }
 {
     match indicator {
-        None => Some((None, s)),
-        Some(indicator) => match s.into_mandatory() {
+        None => Some((ListHead { indicated: None }, space)),
+        Some(indicator) => match space.into_mandatory() {
             None => None,
-            Some(space) => Some((Some((indicator, space)), Space::empty())),
+            Some(space) => {
+                let indicated = Some((indicator, space));
+                Some((ListHead { indicated }, Space::empty()))
+            }
         },
     }
 }

@@ -10,11 +10,7 @@ use Rattle.cbor_edn_parts.specs.number.Number.{Sign, signed}
 use Rattle.cbor_edn_parts.specs.internal.NumberReading.{sign_of, without_sign}
 use Rattle.cbor_edn_times_and_addresses.specs.internal.TimeReading.{offset_length}
 use Rattle.cbor_edn_times_and_addresses.specs.internal.TimeWriting.{padded, date_text, clock_text, fraction_text}
-
-infixl 10 ◌>>=◌
-abbrev pub ◌>>=◌ : {A B : Type 0} → Option A → (A → Option B) → Option B
-None >>= f = None
-(Some x) >>= f = f x
+pub use Rattle.cbor_edn_parts.specs.base.Options.{◌>>=◌}
 
 -- ---- the instant of a text
 

@@ -30,12 +30,16 @@ use Rattle.cbor_edn_model.proofs.lemmas.text.Tested.{IsTestedListHead, Tested}
 use Rattle.cbor_edn_model.specs.text.Spelling.{Spells, SpellsSequence, SpellsOne}
 use Rattle.cbor_edn_model.proofs.lemmas.text.Spelled.{tells}
 use Rattle.cbor_edn_core.specs.tree.View.{view_inner, view_list, view_items, view_row, view_pair_list, view_pairs, view_pair_row, view_pieces, view_piece, view_held, view_stream, view_strings, view_string_row, Item, StandaloneItem, Sequence, item_tree, standalone_tree, sequence_tree}
-use Rattle.cbor_edn_model.specs.text.ListHeads.{view_list_head}
+use Rattle.cbor_edn_model.specs.declared.text.list_head.ListHeadOf.{ListHeadOf}
+use Rattle.cbor_edn_model.specs.text.ListHeads.{view_indicated, view_list_head}
 use Rattle.cbor_edn_model.specs.tree.TreeLeaves.{texts}
 
-head_valid : (h : Option (Indicator × MandatorySpace)) → IsTestedListHead (view_list_head texts h)
-head_valid None = tt
-head_valid (Some h) = h.1.spelled
+indicated_valid : (o : Option (Indicator × MandatorySpace)) → IsTestedListHead (view_indicated texts o)
+indicated_valid None = tt
+indicated_valid (Some p) = p.1.spelled
+
+head_valid : (h : ListHeadOf MandatorySpace) → IsTestedListHead (view_list_head texts h)
+head_valid h = indicated_valid h.indicated
 
 mutual
   unfolding Tested

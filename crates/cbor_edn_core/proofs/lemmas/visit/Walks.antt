@@ -13,6 +13,7 @@ use Rattle.cbor_edn_model.specs.tree.Rows.{entries_onto, pieces_onto}
 use Rattle.cbor_edn_model.specs.visit.Seeking.{CallArguments, SoughtCall, VisitItem, VisitParts, of_number, of_float, of_name, of_tag, of_simple, of_list, of_string, of_stream, of_literal, of_last_piece, of_ellipsis, of_embedded, of_pieces, of_pieces_cut, of_none_inside, of_all_inside, of_last, of_more, of_more_cut, of_nothing, of_sequence, VisitEntry, of_element, of_pair, of_pair_cut, of_chunk}
 use Rattle.cbor_edn_model.specs.tree.Trees.{Rule, Tree, OneItem, OnePiece, OneString, OneEntry, Rest, Standalone, Seq, ListTree, EnclosedTree, EmbeddedTree, LastPieceTree, PlusTree, ElementTree, PairTree, ChunkTree, FullTree, LastTree, MoreTree}
 use Rattle.cbor_edn_model.specs.visit.Visits.{Ending, whole, cut}
+use Rattle.cbor_edn_model.specs.declared.text.list_head.ListHeadOf.{ListHeadOf}
 use Rattle.cbor_edn_model.specs.declared.text.opener.Opener.{Opener}
 use Rattle.cbor_edn_model.specs.declared.text.opener.OpenerKind.{OpenerKind}
 use Rattle.cbor_edn_model.specs.declared.text.opener.OpenerKind.TheVariants as opener
@@ -154,11 +155,11 @@ module _ {O M C E N L D : Type 0} (leaves : Ghosts O M C E N L D) where
   unfolding depth
   sequence_falls x m is = ap depth (view_sequence_is leaves x) ∙ ap (λ o. depth (view_some leaves (leaves.space (out-SequenceOf O M C E N L D x).before) o)) is
 
-  list_falls : (x : ItemListOf O M C E N L D) (h : Option (Indicator × M)) (s : O) (m : ItemsOf O M C E N L D) → x ≡ item_list.Present h s m → depth (view_list leaves x) ≡ depth (view_items leaves m)
+  list_falls : (x : ItemListOf O M C E N L D) (h : ListHeadOf M) (s : O) (m : ItemsOf O M C E N L D) → x ≡ item_list.Present h s m → depth (view_list leaves x) ≡ depth (view_items leaves m)
   unfolding depth
   list_falls x h s m is = ap (λ x. depth (view_list leaves x)) is
 
-  pair_list_falls : (x : PairListOf O M C E N L D) (h : Option (Indicator × M)) (s : O) (m : PairsOf O M C E N L D) → x ≡ pair_list.Present h s m → depth (view_pair_list leaves x) ≡ depth (view_pairs leaves m)
+  pair_list_falls : (x : PairListOf O M C E N L D) (h : ListHeadOf M) (s : O) (m : PairsOf O M C E N L D) → x ≡ pair_list.Present h s m → depth (view_pair_list leaves x) ≡ depth (view_pairs leaves m)
   unfolding depth
   pair_list_falls x h s m is = ap (λ x. depth (view_pair_list leaves x)) is
 
@@ -345,14 +346,14 @@ module _ {IsSought : Tree OneItem → CallArguments → Type 0} where
         → VisitParts IsSought _ (view_items leaves m) cs (view_items leaves n) r → VisitParts IsSought _ (view_sequence leaves x) cs (view_sequence leaves z) r
     sequence_walked x z m n cs r is made p = walked (view_sequence_is leaves x ∙ ap (view_some leaves (leaves.space (out-SequenceOf O M C E N L D x).before)) is) (ap (view_sequence leaves) made ∙ view_sequence_made leaves (record (out-SequenceOf O M C E N L D x) { items = Some n })) (of_sequence p)
 
-    pub list_walked : (x : ItemListOf O M C E N L D) (h : Option (Indicator × M)) (s : O) (m : ItemsOf O M C E N L D) (v : Tree (Rest kind.Elements)) (cs : List SoughtCall) (r : Ending) → x ≡ item_list.Present h s m
+    pub list_walked : (x : ItemListOf O M C E N L D) (h : ListHeadOf M) (s : O) (m : ItemsOf O M C E N L D) (v : Tree (Rest kind.Elements)) (cs : List SoughtCall) (r : Ending) → x ≡ item_list.Present h s m
         → VisitParts IsSought _ (view_items leaves m) cs v r → VisitParts IsSought _ (view_list leaves x) cs (FullTree (view_list_head leaves h) (leaves.space s) v) r
     list_walked x h s m v cs r is p = walked (ap (view_list leaves) is) refl (of_all_inside p)
 
     pub empty_list_walked : (x : ItemListOf O M C E N L D) (i : Option Indicator) (s : O) → x ≡ item_list.Absent i s → VisitParts IsSought _ (view_list leaves x) [] (view_list leaves x) whole
     empty_list_walked x i s is = walked (ap (view_list leaves) is) (ap (view_list leaves) is) of_none_inside
 
-    pub pair_list_walked : (x : PairListOf O M C E N L D) (h : Option (Indicator × M)) (s : O) (m : PairsOf O M C E N L D) (v : Tree (Rest kind.Pairs)) (cs : List SoughtCall) (r : Ending) → x ≡ pair_list.Present h s m
+    pub pair_list_walked : (x : PairListOf O M C E N L D) (h : ListHeadOf M) (s : O) (m : PairsOf O M C E N L D) (v : Tree (Rest kind.Pairs)) (cs : List SoughtCall) (r : Ending) → x ≡ pair_list.Present h s m
         → VisitParts IsSought _ (view_pairs leaves m) cs v r → VisitParts IsSought _ (view_pair_list leaves x) cs (FullTree (view_list_head leaves h) (leaves.space s) v) r
     pair_list_walked x h s m v cs r is p = walked (ap (view_pair_list leaves) is) refl (of_all_inside p)
 
@@ -486,10 +487,10 @@ module _ {O M C E N L D : Type 0} (leaves : Ghosts O M C E N L D) where
     pub sequence_less : (x : SequenceOf O M C E N L D) (m : ItemsOf O M C E N L D) → (out-SequenceOf O M C E N L D x).items ≡ Some m → 16 * depth (view_sequence leaves x) + 9 ≡ t → 16 * depth (view_items leaves m) + 8 < t
     sequence_less x m is d = let f = sequence_falls leaves x m is in omega (arith, d, f)
 
-    pub list_less : (x : ItemListOf O M C E N L D) (h : Option (Indicator × M)) (s : O) (m : ItemsOf O M C E N L D) → x ≡ item_list.Present h s m → 16 * depth (view_list leaves x) + 9 ≡ t → 16 * depth (view_items leaves m) + 8 < t
+    pub list_less : (x : ItemListOf O M C E N L D) (h : ListHeadOf M) (s : O) (m : ItemsOf O M C E N L D) → x ≡ item_list.Present h s m → 16 * depth (view_list leaves x) + 9 ≡ t → 16 * depth (view_items leaves m) + 8 < t
     list_less x h s m is d = let f = list_falls leaves x h s m is in omega (arith, d, f)
 
-    pub pair_list_less : (x : PairListOf O M C E N L D) (h : Option (Indicator × M)) (s : O) (m : PairsOf O M C E N L D) → x ≡ pair_list.Present h s m → 16 * depth (view_pair_list leaves x) + 10 ≡ t → 16 * depth (view_pairs leaves m) + 9 < t
+    pub pair_list_less : (x : PairListOf O M C E N L D) (h : ListHeadOf M) (s : O) (m : PairsOf O M C E N L D) → x ≡ pair_list.Present h s m → 16 * depth (view_pair_list leaves x) + 10 ≡ t → 16 * depth (view_pairs leaves m) + 9 < t
     pair_list_less x h s m is d = let f = pair_list_falls leaves x h s m is in omega (arith, d, f)
 
     pub standalone_less : (x : StandaloneItemOf O M C E N L D) (b : Bool) (w : Tree OneItem) → 16 * depth (view_standalone leaves x) + 7 ≡ t → measure_if b w ≤ 16 * depth (view_item leaves x.item) + 6 → measure_if b w < t

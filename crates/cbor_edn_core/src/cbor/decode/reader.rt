@@ -17,7 +17,7 @@ use super::special::{enclosed_item, special_item};
 use super::strings::decode_string;
 use crate::tree::{InnerItem, Item, ItemList, Items, Opener, Pair, PairList, Pairs};
 use cbor_edn_model::cbor::decode::head::{Argument, Head, Stop, head_of, indicator_of, past_stop};
-use cbor_edn_model::text::list_head::head_space;
+use cbor_edn_model::text::list_head::ListHead;
 use cbor_edn_parts::base::error::Fault;
 use cbor_edn_parts::base::indicator::Indicator;
 use cbor_edn_parts::base::row::drop_out_of_line;
@@ -35,7 +35,7 @@ fn array_inside<'a>(argument: Argument, items: Option<Items<'a>>) -> ItemList<'a
     match items {
         None => ItemList::Absent { indicator, space },
         Some(items) => ItemList::Present {
-            head: head_space(indicator),
+            head: ListHead::spaced(indicator),
             space,
             items,
         },
@@ -51,7 +51,7 @@ fn map_inside<'a>(argument: Argument, pairs: Option<Pairs<'a>>) -> PairList<'a>
     match pairs {
         None => PairList::Absent { indicator, space },
         Some(pairs) => PairList::Present {
-            head: head_space(indicator),
+            head: ListHead::spaced(indicator),
             space,
             pairs,
         },

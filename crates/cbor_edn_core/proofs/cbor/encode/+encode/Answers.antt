@@ -103,7 +103,7 @@ encode_array-returns-in_err-width-in-Present t c =
     let count : n ≡ length (map (seen texts) row.items) + 1 = simp length-map (ap (λ k. k + 1) (c.len.ensures ∙ row.ok.0)) in
     let f = c.in_err-width-in-Present.field-0.0 in
     let p = err_from_is_err_and c.from_residual.result c.from_residual.ensures.1 in
-    let found : Finds (length_of (head_indicator (view_list_head texts c.in-Present.head)) n) (Err f) = subst (λ i. Finds (length_of i n) (Err f)) c.indicator_of_head.ensures c.in_err-width-in-Present.ensures in
+    let found : Finds (length_of (head_indicator (view_list_head texts c.in-Present.head)) n) (Err f) = subst (λ i. Finds (length_of i n) (Err f)) c.indicator.ensures c.in_err-width-in-Present.ensures in
     rw (c.in-Present.is, p.1, p.2) (full_unfit Array (view_list_head texts c.in-Present.head) (space_bytes c.in-Present.space) (view_items texts c.in-Present.items) (map (seen texts) row.items) (ElementTree (item_tree last)) (list_end_bytes list_end) (view_items_is texts c.in-Present.items) n count c.args.out.now.items c.args.out.now.items f found)
 
 pub encode_array-returns-in_err-encode_items-in-Present : goal.encode_array-returns-in_err-encode_items-in-Present
@@ -125,7 +125,7 @@ encode_array-returns-in_ok-encode_list_end-in-Present t c =
     let n = c.len.result + 1 in
     let count : n ≡ length (map (seen texts) row.items) + 1 = simp length-map (ap (λ k. k + 1) (c.len.ensures ∙ row.ok.0)) in
     let v = c.in_ok-width-in-Present.width in
-    let width : length_of (head_indicator (view_list_head texts c.in-Present.head)) n ≡ Some v = subst (λ i. length_of i n ≡ Some v) c.indicator_of_head.ensures c.in_ok-width-in-Present.ensures in
+    let width : length_of (head_indicator (view_list_head texts c.in-Present.head)) n ≡ Some v = subst (λ i. length_of i n ≡ Some v) c.indicator.ensures c.in_ok-width-in-Present.ensures in
     rw c.in-Present.is
     (full_encoded Array (view_list_head texts c.in-Present.head) (space_bytes c.in-Present.space) (view_items texts c.in-Present.items) (map (seen texts) row.items) (ElementTree (item_tree last)) (list_end_bytes list_end) (view_items_is texts c.in-Present.items) n count v c.args.out.now.items c.encode_list_head.new.out.items c.encode_items.new.out.items c.encode_list_end.new.out.items width c.in_ok-encode_list_head-in-Present.ensures c.in_ok-encode_items-in-Present.ensures c.in_ok-encode_list_end-in-Present.ensures)
 
@@ -141,7 +141,7 @@ encode_map-returns-in_err-width-in-Present t c =
     let count : n ≡ length (map (seen_pair texts) row.items) + 1 = simp length-map (ap (λ k. k + 1) (c.len.ensures ∙ row.ok.0)) in
     let f = c.in_err-width-in-Present.field-0.0 in
     let p = err_from_is_err_and c.from_residual.result c.from_residual.ensures.1 in
-    let found : Finds (length_of (head_indicator (view_list_head texts c.in-Present.head)) n) (Err f) = subst (λ i. Finds (length_of i n) (Err f)) c.indicator_of_head.ensures c.in_err-width-in-Present.ensures in
+    let found : Finds (length_of (head_indicator (view_list_head texts c.in-Present.head)) n) (Err f) = subst (λ i. Finds (length_of i n) (Err f)) c.indicator.ensures c.in_err-width-in-Present.ensures in
     rw (c.in-Present.is, p.1, p.2) (full_unfit Map (view_list_head texts c.in-Present.head) (space_bytes c.in-Present.space) (view_pairs texts c.in-Present.pairs) (map (seen_pair texts) row.items) (view_pair texts last) (list_end_bytes list_end) (view_pairs_is texts c.in-Present.pairs) n count c.args.out.now.items c.args.out.now.items f found)
 
 pub encode_map-returns-in_err-encode_pairs-in-Present : goal.encode_map-returns-in_err-encode_pairs-in-Present
@@ -163,7 +163,7 @@ encode_map-returns-in_ok-encode_list_end-in-Present t c =
     let n = c.len.result + 1 in
     let count : n ≡ length (map (seen_pair texts) row.items) + 1 = simp length-map (ap (λ k. k + 1) (c.len.ensures ∙ row.ok.0)) in
     let v = c.in_ok-width-in-Present.width in
-    let width : length_of (head_indicator (view_list_head texts c.in-Present.head)) n ≡ Some v = subst (λ i. length_of i n ≡ Some v) c.indicator_of_head.ensures c.in_ok-width-in-Present.ensures in
+    let width : length_of (head_indicator (view_list_head texts c.in-Present.head)) n ≡ Some v = subst (λ i. length_of i n ≡ Some v) c.indicator.ensures c.in_ok-width-in-Present.ensures in
     rw c.in-Present.is
     (full_encoded Map (view_list_head texts c.in-Present.head) (space_bytes c.in-Present.space) (view_pairs texts c.in-Present.pairs) (map (seen_pair texts) row.items) (view_pair texts last) (list_end_bytes list_end) (view_pairs_is texts c.in-Present.pairs) n count v c.args.out.now.items c.encode_list_head.new.out.items c.encode_pairs.new.out.items c.encode_list_end.new.out.items width c.in_ok-encode_list_head-in-Present.ensures c.in_ok-encode_pairs-in-Present.ensures c.in_ok-encode_list_end-in-Present.ensures)
 
