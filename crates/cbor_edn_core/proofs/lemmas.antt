@@ -1,4 +1,5 @@
 -- Lemmas by topic. The other folders of `proofs/` are those of functions.
+pub mod Rules
 pub mod text
 pub mod cbor
 pub mod layout

@@ -69,7 +69,7 @@ impl<'a> Item<'a> {
     }
 
     /// The number of a tag and its encoding indicator, as 1 and `_0` of `1_0(2)`, or none where the item is no tag.
-    #[tactic(auto, using(crate::proofs::lemmas::tree::Views::view_string_is, crate::proofs::lemmas::tree::Views::view_stream_is))]
+    #[tactic(auto, using(crate::proofs::lemmas::tree::Views::strings_are))]
     pub fn get_tag_head(&self) -> Option<(u64, Option<Indicator>)>
         ensures { result ≡ tag_head (item_tree self.now) }
     {
@@ -101,7 +101,7 @@ impl<'a> Item<'a> {
     }
 
     /// The keyword of a simple value that has a name, as `true`, or none where the item is anything else, `simple(21)` too.
-    #[tactic(auto, using(crate::proofs::lemmas::tree::Views::view_string_is, crate::proofs::lemmas::tree::Views::view_stream_is))]
+    #[tactic(auto, using(crate::proofs::lemmas::tree::Views::strings_are))]
     pub fn get_named(&self) -> Option<NamedSimple>
         ensures { result ≡ named_keyword (item_tree self.now) }
     {
@@ -120,7 +120,7 @@ impl<'a> Item<'a> {
 
     /// The text of a number and its encoding indicator, as `0x1f` and `_1` of `0x1f_1`, or none where the item is no number. The
     /// keywords `Infinity`, `-Infinity` and `NaN` are none.
-    #[tactic(auto, using(crate::proofs::lemmas::tree::Views::view_string_is, crate::proofs::lemmas::tree::Views::view_stream_is))]
+    #[tactic(auto, using(crate::proofs::lemmas::tree::Views::strings_are))]
     pub fn get_number(&self) -> Option<(&str, Option<Indicator>)>
         ensures { option_map (λ p. (p.0.now, p.1)) result ≡ number_and_indicator (item_tree self.now) }
     {
@@ -224,7 +224,7 @@ impl<'a> Sequence<'a> {
 }
 
 /// The number of a tag, and what stands between its parentheses.
-#[tactic(auto, using(crate::proofs::lemmas::tree::Views::view_string_is, crate::proofs::lemmas::tree::Views::view_stream_is))]
+#[tactic(auto, using(crate::proofs::lemmas::tree::Views::strings_are))]
 fn tag_of<'t, 'a>(item: &'t Item<'a>) -> Option<(u64, &'t StandaloneItem<'a>)>
     ensures number { option_map (λ p. p.0) result ≡ tag_number (item_tree item.now) }
     ensures content { option_map (λ p. standalone_tree p.1.now) result ≡ tag_content (item_tree item.now) }
@@ -245,7 +245,7 @@ fn tag_of<'t, 'a>(item: &'t Item<'a>) -> Option<(u64, &'t StandaloneItem<'a>)>
     }
 }
 
-#[tactic(auto, using(crate::proofs::lemmas::tree::Views::view_string_is, crate::proofs::lemmas::tree::Views::view_stream_is))]
+#[tactic(auto, using(crate::proofs::lemmas::tree::Views::strings_are))]
 fn number_of<'t, 'a>(item: &'t Item<'a>) -> Option<&'t Number<'a>>
     ensures { option_map (λ n. number_bytes n.now) result ≡ number_text (item_tree item.now) }
 {
@@ -262,7 +262,7 @@ fn number_of<'t, 'a>(item: &'t Item<'a>) -> Option<&'t Number<'a>>
     }
 }
 
-#[tactic(auto, using(crate::proofs::lemmas::tree::Views::view_string_is, crate::proofs::lemmas::tree::Views::view_stream_is))]
+#[tactic(auto, using(crate::proofs::lemmas::tree::Views::strings_are))]
 fn list_of<'t, 'a>(item: &'t Item<'a>) -> Option<&'t ItemList<'a>>
     ensures { option_map (λ l. map element (entries_inside (view_list texts l.now))) result ≡ array_items (item_tree item.now) }
 {
@@ -279,7 +279,7 @@ fn list_of<'t, 'a>(item: &'t Item<'a>) -> Option<&'t ItemList<'a>>
     }
 }
 
-#[tactic(auto, using(crate::proofs::lemmas::tree::Views::view_string_is, crate::proofs::lemmas::tree::Views::view_stream_is))]
+#[tactic(auto, using(crate::proofs::lemmas::tree::Views::strings_are))]
 fn pair_list_of<'t, 'a>(item: &'t Item<'a>) -> Option<&'t PairList<'a>>
     ensures { option_map (λ l. map key_and_value (entries_inside (view_pair_list texts l.now))) result ≡ map_items (item_tree item.now) }
 {
@@ -296,7 +296,7 @@ fn pair_list_of<'t, 'a>(item: &'t Item<'a>) -> Option<&'t PairList<'a>>
     }
 }
 
-#[tactic(auto, using(crate::proofs::lemmas::tree::Views::view_string_is, crate::proofs::lemmas::tree::Views::view_stream_is))]
+#[tactic(auto, using(crate::proofs::lemmas::tree::Views::strings_are))]
 fn list_to_lend<'t, 'a>(item: &'t mut Item<'a>) -> Option<&'t mut ItemList<'a>>
     ensures { option_map (λ l. map element (entries_inside (view_list texts l.now))) result ≡ array_items (item_tree item.old) }
 {
@@ -313,7 +313,7 @@ fn list_to_lend<'t, 'a>(item: &'t mut Item<'a>) -> Option<&'t mut ItemList<'a>>
     }
 }
 
-#[tactic(auto, using(crate::proofs::lemmas::tree::Views::view_string_is, crate::proofs::lemmas::tree::Views::view_stream_is))]
+#[tactic(auto, using(crate::proofs::lemmas::tree::Views::strings_are))]
 fn pair_list_to_lend<'t, 'a>(item: &'t mut Item<'a>) -> Option<&'t mut PairList<'a>>
     ensures { option_map (λ l. map key_and_value (entries_inside (view_pair_list texts l.now))) result ≡ map_items (item_tree item.old) }
 {

@@ -33,7 +33,7 @@ impl Item<'_> {
 impl Item<'_> {
     /// Whether the item is a string whose pieces are all quoted and have no encoding indicator, as `h'01' + 'a'` and neither
     /// `h'01'_0` nor `<<1>>`.
-    #[tactic(auto, using(crate::proofs::lemmas::tree::Views::view_string_is, crate::proofs::lemmas::tree::Views::view_stream_is))]
+    #[tactic(auto, using(crate::proofs::lemmas::tree::Views::strings_are))]
     pub fn is_plain_string(&self) -> bool
         ensures { result ≡ is_plain_string (item_tree self.now) }
     {

@@ -78,7 +78,7 @@ fn remove_piece_row_indicators<'a>(row: &mut Vec<(Piece<'a>, Space<'a>, Space<'a
     }
 }
 
-#[tactic(auto, using(crate::proofs::lemmas::tree::Views::view_stream_is, crate::proofs::lemmas::tree::Views::view_stream_made), unfolding(cbor_edn_model::specs::layout::Bare::without_indicators))]
+#[tactic(auto, using(crate::proofs::lemmas::Rules::remove_stream_indicators), unfolding(cbor_edn_model::specs::layout::Bare::without_indicators))]
 fn remove_stream_indicators(stream: &mut Stream<'_>)
     ensures { view_stream texts stream.new ≡ without_indicators (view_stream texts stream.old) }
 {
@@ -197,7 +197,7 @@ fn remove_standalone_indicators(
 }
 
 #[cycle(remove_indicators)]
-#[tactic(auto, using(crate::proofs::lemmas::layout::ViewsWithoutIndicators::full_same, crate::proofs::lemmas::layout::ViewsWithoutIndicators::full_gone, crate::proofs::lemmas::layout::ViewsWithoutIndicators::empty_gone, cbor_edn_model::proofs::lemmas::layout::FewestIndicators::same_fewer), unfolding(cbor_edn_model::specs::layout::Bare::without_indicators))]
+#[tactic(auto, using(crate::proofs::lemmas::Rules::remove_list_indicators), unfolding(cbor_edn_model::specs::layout::Bare::without_indicators))]
 fn remove_list_indicators(list: &mut ItemList<'_>, alloc: Global) -> Result<(), AllocError>
     ensures without_indicators { OnOk result (view_list texts list.new ≡ without_indicators (view_list texts list.old)) }
     ensures fewer { FewerInside (view_list texts list.old) (view_list texts list.new) }
@@ -233,7 +233,7 @@ fn remove_row_indicators<'a>(
 }
 
 #[cycle(remove_indicators)]
-#[tactic(auto, using(crate::proofs::lemmas::layout::ViewsWithoutIndicators::full_same, crate::proofs::lemmas::layout::ViewsWithoutIndicators::full_gone, crate::proofs::lemmas::layout::ViewsWithoutIndicators::empty_gone, cbor_edn_model::proofs::lemmas::layout::FewestIndicators::same_fewer), unfolding(cbor_edn_model::specs::layout::Bare::without_indicators))]
+#[tactic(auto, using(crate::proofs::lemmas::Rules::remove_list_indicators), unfolding(cbor_edn_model::specs::layout::Bare::without_indicators))]
 fn remove_pair_list_indicators(list: &mut PairList<'_>, alloc: Global) -> Result<(), AllocError>
     ensures without_indicators { OnOk result (view_pair_list texts list.new ≡ without_indicators (view_pair_list texts list.old)) }
     ensures fewer { FewerInside (view_pair_list texts list.old) (view_pair_list texts list.new) }
@@ -269,7 +269,7 @@ fn remove_pair_row_indicators<'a>(
 }
 
 #[cycle(remove_indicators)]
-#[tactic(auto, using(crate::proofs::lemmas::layout::ViewsWithoutIndicators::pair_fewer, cbor_edn_model::proofs::lemmas::layout::FewestIndicators::same_fewer), unfolding(cbor_edn_model::specs::layout::Bare::without_indicators))]
+#[tactic(auto, using(crate::proofs::lemmas::Rules::remove_pair_indicators), unfolding(cbor_edn_model::specs::layout::Bare::without_indicators))]
 fn remove_pair_indicators(pair: &mut Pair<'_>, alloc: Global) -> Result<(), AllocError>
     ensures without_indicators { OnOk result (view_pair texts pair.new ≡ without_indicators (view_pair texts pair.old)) }
     ensures fewer { Fewer (items (view_pair texts pair.old)) (items (view_pair texts pair.new)) }
@@ -278,7 +278,7 @@ fn remove_pair_indicators(pair: &mut Pair<'_>, alloc: Global) -> Result<(), Allo
     remove_item_indicators(&mut pair.value, alloc)
 }
 
-#[tactic(auto, using(crate::proofs::lemmas::tree::Views::view_sequence_is, crate::proofs::lemmas::tree::Views::view_sequence_made, crate::proofs::lemmas::layout::ViewsWithoutIndicators::sequence_fewer, cbor_edn_model::proofs::lemmas::layout::FewestIndicators::same_fewer), unfolding(cbor_edn_model::specs::layout::Bare::without_indicators))]
+#[tactic(auto, using(crate::proofs::lemmas::Rules::remove_sequence_indicators), unfolding(cbor_edn_model::specs::layout::Bare::without_indicators))]
 fn remove_sequence_indicators(sequence: &mut Sequence<'_>, alloc: Global) -> Result<(), AllocError>
     ensures without_indicators { OnOk result (sequence_tree sequence.new ≡ without_indicators (sequence_tree sequence.old)) }
     ensures fewer { Fewer (items (sequence_tree sequence.old)) (items (sequence_tree sequence.new)) }

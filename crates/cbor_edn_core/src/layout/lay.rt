@@ -19,7 +19,7 @@ use cbor_edn_parts::space::layout::{Layout, Slot, lay_end, lay_separator, lay_sp
 use std::alloc::{AllocError, Global};
 
 #[cycle(lay)]
-#[tactic(auto, using(crate::proofs::lemmas::tree::Views::view_string_is, cbor_edn_model::proofs::lemmas::layout::LaidTrees::laid_enclosed, cbor_edn_model::proofs::lemmas::layout::LaidTrees::laid_list, cbor_edn_model::proofs::lemmas::layout::LaidTrees::laid_string, cbor_edn_model::proofs::lemmas::layout::LaidTrees::stream_laid), unfolding(cbor_edn_model::specs::layout::Layout::laid, cbor_edn_model::specs::tree::Trees::items))]
+#[tactic(auto, using(crate::proofs::lemmas::Rules::lay_item), unfolding(cbor_edn_model::specs::layout::Layout::laid, cbor_edn_model::specs::tree::Trees::items))]
 pub(super) fn lay_item(item: &mut Item<'_>, alloc: Global, layout: Layout) -> Result<(), AllocError>
     ensures laid { OnOk result (item_tree item.new ≡ laid layout (item_tree item.old)) }
     ensures items { items (item_tree item.new) ≡ items (item_tree item.old) }
@@ -55,7 +55,7 @@ pub(super) fn lay_standalone(
     lay_space(&mut content.after, alloc, layout, Slot::Elsewhere)
 }
 
-#[tactic(auto, using(crate::proofs::lemmas::tree::Views::view_sequence_is, crate::proofs::lemmas::tree::Views::view_sequence_made), unfolding(cbor_edn_model::specs::layout::Layout::laid, cbor_edn_model::specs::tree::Trees::items))]
+#[tactic(auto, using(crate::proofs::lemmas::Rules::lay_sequence), unfolding(cbor_edn_model::specs::layout::Layout::laid, cbor_edn_model::specs::tree::Trees::items))]
 pub(super) fn lay_sequence(
     sequence: &mut Sequence<'_>,
     alloc: Global,

@@ -26,7 +26,7 @@ use cbor_edn_parts::string::Literal;
 use std::alloc::AllocError;
 
 #[cycle(print)]
-#[tactic(auto, using(crate::proofs::lemmas::tree::Views::view_sequence_is, cbor_edn_model::proofs::lemmas::layout::LaidTexts::text_laid_nothing, cbor_edn_model::proofs::lemmas::layout::LaidTexts::text_laid_sequence, std::proofs::Common::append_assoc))]
+#[tactic(auto, using(crate::proofs::lemmas::Rules::print_sequence))]
 pub(crate) fn print_sequence(
     out: &mut TextBuffer,
     sequence: &Sequence<'_>,
@@ -84,7 +84,7 @@ fn print_literal(
 }
 
 #[cycle(print)]
-#[tactic(auto, using(crate::proofs::lemmas::tree::Views::view_string_is, crate::proofs::lemmas::tree::Views::view_stream_is, cbor_edn_model::proofs::lemmas::layout::LaidTexts::text_laid_number, cbor_edn_model::proofs::lemmas::layout::LaidTexts::text_laid_float, cbor_edn_model::proofs::lemmas::layout::LaidTexts::text_laid_named, cbor_edn_model::proofs::lemmas::text::Texts::text_float, cbor_edn_model::proofs::lemmas::text::Texts::text_named, cbor_edn_model::proofs::lemmas::layout::LaidTexts::text_laid_enclosed, cbor_edn_model::proofs::lemmas::layout::LaidTexts::text_laid_list, cbor_edn_model::proofs::lemmas::layout::LaidTexts::text_laid_string, crate::proofs::lemmas::layout::LaidStrings::text_laid_piece, cbor_edn_model::proofs::lemmas::text::Texts::text_string, cbor_edn_model::proofs::lemmas::text::Texts::text_last_piece, cbor_edn_model::proofs::lemmas::layout::LaidTexts::text_laid_stream, std::proofs::Common::append_assoc))]
+#[tactic(auto, using(crate::proofs::lemmas::Rules::print_item))]
 pub fn print_item(out: &mut TextBuffer, item: &Item<'_>, layout: &Layout) -> Result<(), AllocError>
     ensures { OnOk result (buffer_bytes out.new ≡ buffer_bytes out.old ++ text (laid layout.now (item_tree item.now))) }
 {
@@ -158,7 +158,7 @@ fn print_piece_row(
 
 /// Writes a piece. What it embeds keeps its spaces.
 #[cycle(print)]
-#[tactic(auto, using(cbor_edn_model::proofs::lemmas::text::Texts::text_literal, cbor_edn_model::proofs::lemmas::text::Texts::text_ellipsis, cbor_edn_model::proofs::lemmas::text::Texts::text_embedded, cbor_edn_model::proofs::lemmas::layout::LaidTrees::laid_kept, std::proofs::Common::append_assoc))]
+#[tactic(auto, using(crate::proofs::lemmas::Rules::print_piece))]
 fn print_piece(out: &mut TextBuffer, piece: &Piece<'_>) -> Result<(), AllocError>
     ensures { OnOk result (buffer_bytes out.new ≡ buffer_bytes out.old ++ text (view_piece texts piece.now)) }
 {
@@ -175,7 +175,7 @@ fn print_piece(out: &mut TextBuffer, piece: &Piece<'_>) -> Result<(), AllocError
 }
 
 #[cycle(print)]
-#[tactic(auto, using(crate::proofs::lemmas::tree::Views::view_stream_is, cbor_edn_model::proofs::lemmas::text::Texts::text_stream, std::proofs::Common::append_assoc))]
+#[tactic(auto, using(crate::proofs::lemmas::Rules::print_stream))]
 fn print_stream(
     out: &mut TextBuffer,
     stream: &Stream<'_>,
@@ -190,7 +190,7 @@ fn print_stream(
 }
 
 #[cycle(print)]
-#[tactic(auto, using(crate::proofs::lemmas::tree::Views::view_strings_is, cbor_edn_model::proofs::lemmas::layout::LaidTexts::text_laid_rest, cbor_edn_model::proofs::lemmas::layout::LaidTexts::text_laid_chunk, std::proofs::Common::append_assoc))]
+#[tactic(auto, using(crate::proofs::lemmas::Rules::print_strings))]
 fn print_strings(
     out: &mut TextBuffer,
     strings: &Strings<'_>,
@@ -222,7 +222,7 @@ fn print_string_row(
 /// As [`print_item`], without its call where the item is a number or a literal, as most are.
 #[inline(always)]
 #[cycle(print)]
-#[tactic(auto, using(crate::proofs::lemmas::tree::Views::view_string_is, cbor_edn_model::proofs::lemmas::layout::LaidTexts::text_laid_number, cbor_edn_model::proofs::lemmas::layout::LaidTexts::text_laid_string, crate::proofs::lemmas::layout::LaidStrings::text_laid_piece, cbor_edn_model::proofs::lemmas::text::Texts::text_string, cbor_edn_model::proofs::lemmas::text::Texts::text_last_piece))]
+#[tactic(auto, using(crate::proofs::lemmas::Rules::print_at_once))]
 fn print_at_once(out: &mut TextBuffer, item: &Item<'_>, layout: &Layout) -> Result<(), AllocError>
     ensures { OnOk result (buffer_bytes out.new ≡ buffer_bytes out.old ++ text (laid layout.now (item_tree item.now))) }
 {
@@ -234,7 +234,7 @@ fn print_at_once(out: &mut TextBuffer, item: &Item<'_>, layout: &Layout) -> Resu
 }
 
 #[cycle(print)]
-#[tactic(auto, using(cbor_edn_model::proofs::lemmas::layout::LaidTexts::text_laid_empty, cbor_edn_model::proofs::lemmas::layout::LaidTexts::text_laid_full, std::proofs::Common::append_assoc))]
+#[tactic(auto, using(crate::proofs::lemmas::Rules::print_list))]
 fn print_list(out: &mut TextBuffer, list: &ItemList<'_>, layout: &Layout) -> Result<(), AllocError>
     ensures { OnOk result (buffer_bytes out.new ≡ buffer_bytes out.old ++ text (laid layout.now (view_list texts list.now))) }
 {
@@ -252,7 +252,7 @@ fn print_list(out: &mut TextBuffer, list: &ItemList<'_>, layout: &Layout) -> Res
 }
 
 #[cycle(print)]
-#[tactic(auto, using(crate::proofs::lemmas::tree::Views::view_items_is, cbor_edn_model::proofs::lemmas::layout::LaidTexts::text_laid_rest, cbor_edn_model::proofs::lemmas::layout::LaidTexts::text_laid_element, std::proofs::Common::append_assoc))]
+#[tactic(auto, using(crate::proofs::lemmas::Rules::print_items))]
 fn print_items(out: &mut TextBuffer, items: &Items<'_>, layout: &Layout) -> Result<(), AllocError>
     ensures { OnOk result (buffer_bytes out.new ≡ buffer_bytes out.old ++ text (laid layout.now (view_items texts items.now))) }
 {
@@ -278,7 +278,7 @@ fn print_row(
 }
 
 #[cycle(print)]
-#[tactic(auto, using(cbor_edn_model::proofs::lemmas::layout::LaidTexts::text_laid_empty, cbor_edn_model::proofs::lemmas::layout::LaidTexts::text_laid_full, std::proofs::Common::append_assoc))]
+#[tactic(auto, using(crate::proofs::lemmas::Rules::print_list))]
 fn print_pair_list(
     out: &mut TextBuffer,
     list: &PairList<'_>,
@@ -300,7 +300,7 @@ fn print_pair_list(
 }
 
 #[cycle(print)]
-#[tactic(auto, using(crate::proofs::lemmas::tree::Views::view_pairs_is, cbor_edn_model::proofs::lemmas::layout::LaidTexts::text_laid_rest, std::proofs::Common::append_assoc))]
+#[tactic(auto, using(crate::proofs::lemmas::Rules::print_pairs))]
 fn print_pairs(out: &mut TextBuffer, pairs: &Pairs<'_>, layout: &Layout) -> Result<(), AllocError>
     ensures { OnOk result (buffer_bytes out.new ≡ buffer_bytes out.old ++ text (laid layout.now (view_pairs texts pairs.now))) }
 {

@@ -69,7 +69,7 @@ fn room_behind_standalone(room: usize, spaces: Spaces, item: &StandaloneItem<'_>
 }
 
 #[cycle(room)]
-#[tactic(auto, using(crate::proofs::lemmas::tree::Views::view_string_is, crate::proofs::lemmas::tree::Views::view_stream_is), unfolding(cbor_edn_model::specs::internal::Widths::width))]
+#[tactic(auto, using(crate::proofs::lemmas::tree::Views::strings_are), unfolding(cbor_edn_model::specs::internal::Widths::width))]
 fn room_behind_item(room: usize, spaces: Spaces, item: &Item<'_>) -> Option<usize>
     requires { room < 2 ^ 64 - 1 }
     ensures { Leaves room (width spaces (item_tree item.now)) result }
@@ -167,7 +167,7 @@ fn room_behind_stream(room: usize, spaces: Spaces, stream: &Stream<'_>) -> Optio
 }
 
 #[cycle(room)]
-#[tactic(auto, using(crate::proofs::lemmas::tree::Views::view_strings_is, cbor_edn_model::proofs::lemmas::layout::MeasuredWidths::width_entries), unfolding(cbor_edn_model::specs::internal::Widths::width))]
+#[tactic(auto, using(crate::proofs::lemmas::Rules::room_behind_strings), unfolding(cbor_edn_model::specs::internal::Widths::width))]
 fn room_behind_strings(room: usize, spaces: Spaces, strings: &Strings<'_>) -> Option<usize>
     requires { room < 2 ^ 64 - 1 }
     ensures { Leaves room (width spaces (view_strings texts strings.now)) result }
@@ -215,7 +215,7 @@ fn room_behind_list(room: usize, spaces: Spaces, list: &ItemList<'_>) -> Option<
 }
 
 #[cycle(room)]
-#[tactic(auto, using(crate::proofs::lemmas::tree::Views::view_items_is, cbor_edn_model::proofs::lemmas::layout::MeasuredWidths::width_entries), unfolding(cbor_edn_model::specs::internal::Widths::width))]
+#[tactic(auto, using(crate::proofs::lemmas::Rules::room_behind_items), unfolding(cbor_edn_model::specs::internal::Widths::width))]
 fn room_behind_items(room: usize, spaces: Spaces, items: &Items<'_>) -> Option<usize>
     requires { room < 2 ^ 64 - 1 }
     ensures { Leaves room (width spaces (view_items texts items.now)) result }
@@ -259,7 +259,7 @@ fn room_behind_pair_list(room: usize, spaces: Spaces, list: &PairList<'_>) -> Op
 }
 
 #[cycle(room)]
-#[tactic(auto, using(crate::proofs::lemmas::tree::Views::view_pairs_is, cbor_edn_model::proofs::lemmas::layout::MeasuredWidths::width_entries), unfolding(cbor_edn_model::specs::internal::Widths::width))]
+#[tactic(auto, using(crate::proofs::lemmas::Rules::room_behind_pairs), unfolding(cbor_edn_model::specs::internal::Widths::width))]
 fn room_behind_pairs(room: usize, spaces: Spaces, pairs: &Pairs<'_>) -> Option<usize>
     requires { room < 2 ^ 64 - 1 }
     ensures { Leaves room (width spaces (view_pairs texts pairs.now)) result }

@@ -51,7 +51,7 @@ fn lay_piece_row<'a>(
     Ok(())
 }
 
-#[tactic(auto, using(crate::proofs::lemmas::tree::Views::view_stream_is, crate::proofs::lemmas::tree::Views::view_stream_made), unfolding(cbor_edn_model::specs::tree::Trees::items))]
+#[tactic(auto, using(crate::proofs::lemmas::Rules::remove_stream_indicators), unfolding(cbor_edn_model::specs::tree::Trees::items))]
 pub(super) fn lay_stream(
     stream: &mut Stream<'_>,
     alloc: Global,

@@ -389,7 +389,7 @@ fn clone_stream<'a>(alloc: Global, stream: &Stream<'a>) -> Result<Item<'a>, Allo
 }
 
 #[inline(never)]
-#[tactic(auto, using(crate::proofs::lemmas::tree::Views::view_stream_is, crate::proofs::lemmas::tree::Views::view_strings_is, crate::proofs::lemmas::tree::Views::view_stream_made, crate::proofs::lemmas::tree::Views::view_strings_made))]
+#[tactic(auto, using(crate::proofs::lemmas::Rules::make_stream))]
 fn make_stream<'a>(
     alloc: Global,
     stream: &Stream<'a>,

@@ -64,7 +64,7 @@ fn string_of<'a>(alloc: Global, piece: Piece<'a>) -> Result<Item<'a>, AllocError
 
 impl Item<'_> {
     /// The encoding indicator of a string that is one literal, as `_0` of `h'01'_0` and no indicator of `"a"`: none for any other item.
-    #[tactic(auto, using(crate::proofs::lemmas::tree::Views::view_string_is, crate::proofs::lemmas::tree::Views::view_stream_is))]
+    #[tactic(auto, using(crate::proofs::lemmas::tree::Views::strings_are))]
     pub fn get_literal_indicator(&self) -> Option<Option<Indicator>>
         ensures { result ≡ literal_indicator (item_tree self.now) }
     {

@@ -54,7 +54,7 @@ enum Levels {
 
 /// How deep the item nests by the levels that count, or the greatest number where it is more.
 #[cycle(nesting)]
-#[tactic(auto, using(crate::proofs::lemmas::tree::Views::view_string_is, crate::proofs::lemmas::tree::Views::view_stream_is))]
+#[tactic(auto, using(crate::proofs::lemmas::tree::Views::strings_are))]
 fn item_nesting(item: &Item<'_>, levels: Levels) -> usize
     ensures { result ≡ capped (nesting_by levels (item_tree item.now)) }
 {

@@ -12,7 +12,7 @@ use crate::tree::{
 use cbor_edn_parts::space::{Separator, Space};
 
 #[cycle(tagged)]
-#[tactic(auto, using(crate::proofs::lemmas::tree::Views::view_string_is, crate::proofs::lemmas::tree::Views::view_stream_is), unfolding(cbor_edn_model::specs::visit::Tagged::has_tag))]
+#[tactic(auto, using(crate::proofs::lemmas::tree::Views::strings_are), unfolding(cbor_edn_model::specs::visit::Tagged::has_tag))]
 #[inline(always)]
 pub fn item_has_tag(item: &Item<'_>) -> bool
     ensures { result ≡ has_tag (item_tree item.now) }
@@ -27,7 +27,7 @@ pub fn item_has_tag(item: &Item<'_>) -> bool
 }
 
 #[cycle(tagged)]
-#[tactic(auto, using(crate::proofs::lemmas::tree::Views::view_string_is, crate::proofs::lemmas::tree::Views::view_stream_is), unfolding(cbor_edn_model::specs::visit::Tagged::has_tag))]
+#[tactic(auto, using(crate::proofs::lemmas::tree::Views::strings_are), unfolding(cbor_edn_model::specs::visit::Tagged::has_tag))]
 fn inner_has_tag(item: &Item<'_>) -> bool
     ensures { result ≡ has_tag (item_tree item.now) }
 {
@@ -71,7 +71,7 @@ fn list_has_tag(list: &ItemList<'_>) -> bool
 }
 
 #[cycle(tagged)]
-#[tactic(auto, using(crate::proofs::lemmas::tree::Views::view_items_is, cbor_edn_model::proofs::lemmas::visit::Untagged::has_tag_entries), unfolding(cbor_edn_model::specs::visit::Tagged::has_tag))]
+#[tactic(auto, using(crate::proofs::lemmas::Rules::items_have_tag), unfolding(cbor_edn_model::specs::visit::Tagged::has_tag))]
 fn items_have_tag(items: &Items<'_>) -> bool
     ensures { result ≡ has_tag (view_items texts items.now) }
 {
@@ -102,7 +102,7 @@ fn pair_list_has_tag(list: &PairList<'_>) -> bool
 }
 
 #[cycle(tagged)]
-#[tactic(auto, using(crate::proofs::lemmas::tree::Views::view_pairs_is, cbor_edn_model::proofs::lemmas::visit::Untagged::has_tag_entries), unfolding(cbor_edn_model::specs::visit::Tagged::has_tag))]
+#[tactic(auto, using(crate::proofs::lemmas::Rules::pairs_have_tag), unfolding(cbor_edn_model::specs::visit::Tagged::has_tag))]
 fn pairs_have_tag(pairs: &Pairs<'_>) -> bool
     ensures { result ≡ has_tag (view_pairs texts pairs.now) }
 {
@@ -169,7 +169,7 @@ fn stream_has_tag(stream: &Stream<'_>) -> bool
 }
 
 #[cycle(tagged)]
-#[tactic(auto, using(crate::proofs::lemmas::tree::Views::view_strings_is, cbor_edn_model::proofs::lemmas::visit::Untagged::has_tag_entries), unfolding(cbor_edn_model::specs::visit::Tagged::has_tag))]
+#[tactic(auto, using(crate::proofs::lemmas::Rules::strings_have_tag), unfolding(cbor_edn_model::specs::visit::Tagged::has_tag))]
 fn strings_have_tag(strings: &Strings<'_>) -> bool
     ensures { result ≡ has_tag (view_strings texts strings.now) }
 {

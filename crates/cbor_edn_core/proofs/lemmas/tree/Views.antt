@@ -88,3 +88,6 @@ module _ {S P M O N T D : Type 0} (leaves : Ghosts S P M O N T D) where
 
   pub view_sequence_made : (f : _) → view_sequence leaves (roll-SequenceOf S P M O N T D f) ≡ view_some leaves (leaves.space f.before) f.items
   view_sequence_made f = view_sequence_is (roll-SequenceOf S P M O N T D f) ∙ ap (λ f. view_some leaves (leaves.space f.before) f.items) (out-roll-SequenceOf S P M O N T D f)
+
+-- what strings and streams are, of items that may be either
+pub ruleset strings_are = (view_string_is, view_stream_is)
