@@ -5,7 +5,7 @@
 # usage: scripts/check-wrong-bodies.sh [--jobs N] [--proved DIR] [CRATE[/NAME]..]
 #
 # An edit has a line `refuses: FUNCTION GOAL..`: the function whose body it changes, as a check names it without the crate, and what the
-# prover must not prove of it then. The other lines are those of a must-fail edit: `file:`, `old:` and `new:`. A proof rests on what is called
+# prover must not prove of it then. The other lines are those of a file in must-fail/: `file:`, `old:` and `new:`. A proof rests on what is called
 # by its contract alone, so a wrong body is refused in its own function, whatever the others are. All are written into one copy of the crate.
 # A second edit of one function changes a copy of it under another name, where it stands at the top of its file, in no cycle of calls, and has
 # no proof by hand; else it waits for another check. So does one of a function that calls another changed one, where the prover leaves goals untried. A check reads
