@@ -1,7 +1,7 @@
 //! The text of items that are changed before they are printed, some elements of their sequence at a time.
 //!
-//! A step does to elements of a sequence what it does to them by themselves. So some are decoded, changed, printed and dropped, and then the
-//! next. What stands between the last of these and the next is printed with an integer in the place of that one, which no step changes.
+//! A step does to elements of a sequence what it does to them by themselves. So some are decoded, changed, printed and dropped, and then
+//! the next. What stands between the last of these and the next is printed with an integer in the place of that one, which no step changes.
 ghost use Rattle.std.specs.Prelude.{◌≡◌, ◌≢◌, ◌<◌, ◌++◌, ◌∷◌, [], length, map, All, IfOk, IfErr, OnOk};
 ghost use Rattle.cbor_edn_parts.specs.base.Refusals.{IfTold};
 ghost use Rattle.cbor_edn_parts.specs.declared.space.policy.DelimiterPolicy.TheVariants.{SingleLineRegularSpacing};

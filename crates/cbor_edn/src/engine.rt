@@ -156,8 +156,8 @@ pub(crate) fn printed(
     option_steps::spaced_text(alloc, options, sequence)
 }
 
-/// The text of the items that bytes encode, printed while they are read. None where a step is asked for that may change other items than tags, or
-/// where a tag stands in them that a step may change.
+/// The text of the items that bytes encode, printed while they are read. None where a step is asked for that may change other items than
+/// tags, or where a tag stands in them that a step may change.
 fn streamed(alloc: Global, options: &Options, bytes: &[u8]) -> Result<Option<Vec<u8>>, RunError>
     ensures ok { IfOk result (λ text. IfSome text (λ out. IsDiagnosed options.now bytes.now out.items)) }
     ensures err { IfErr result (IsUndiagnosed options.now bytes.now) }

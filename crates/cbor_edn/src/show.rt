@@ -25,8 +25,8 @@ use cbor_edn_core::tree::Sequence;
 use cbor_edn_parts::space::Space;
 use std::alloc::{AllocError, Global};
 
-/// All that `show` writes for an input, which is CBOR, or digits of CBOR where `hex` is set. It ends in a line feed. Fails with `Cbor`, with `Hex` and with
-/// `Memory`, where a run of `Cbor2Diag` does; no other error comes.
+/// All that `show` writes for an input, which is CBOR, or digits of CBOR where `hex` is set. It ends in a line feed. Fails with `Cbor`,
+/// with `Hex` and with `Memory`, where a run of `Cbor2Diag` does; no other error comes.
 pub fn shown(alloc: Global, options: &ShowOptions, input: &[u8]) -> Result<Vec<u8>, RunError>
     ensures ok { IfOk result (λ out. IsShown options.now input.now out.items) }
     ensures err { IfErr result (IsUnshown options.now input.now) }

@@ -7,8 +7,8 @@ use cbor_edn_expect::failures::Failures;
 use std::alloc::Global;
 use std::test::Fail;
 
-/// Before and after. The names of messages, parts and header parameters, and the order of the parts, are those of RFC 9052 (sections 2, 3.1,
-/// 4.1, 4.2, 5.1, 5.2, 6.1 and 6.2), RFC 8152 (section 3.1, for label 7) and RFC 9360 (section 2), those of algorithms of RFC 9053.
+/// Before and after. The names of messages, parts and header parameters, and the order of the parts, are those of RFC 9052 (sections 2,
+/// 3.1, 4.1, 4.2, 5.1, 5.2, 6.1 and 6.2), RFC 8152 (section 3.1, for label 7) and RFC 9360 (section 2), those of algorithms of RFC 9053.
 const ROWS: &[(&str, &str)] = &[
     (
         "18([h'a10126', {4: '11'}, h'', h'00'])",

@@ -144,8 +144,8 @@ pub(crate) fn is_value(found: &ArgMatches<'_>, flag: &str, value: &str) -> bool
     }
 }
 
-/// The number that a flag asks for, or the word that is not of digits alone: the kit's parsers of numbers take a plus sign. A number that is
-/// too high `clap` has refused.
+/// The number that a flag asks for, or the word that is not of digits alone: the kit's parsers of numbers take a plus sign. A number that
+/// is too high `clap` has refused.
 pub(crate) fn number_of<'a>(
     found: &ArgMatches<'a>,
     flag: &str,

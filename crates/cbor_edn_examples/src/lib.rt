@@ -85,8 +85,8 @@ pub fn prettified_and_resolved(alloc: Global, sequence: &mut Sequence<'_>) -> Re
     Ok(())
 }
 
-/// Shows the times, addresses and bignums of one item as people read them, by a visit of its tags. Fails where memory runs out; the calls up
-/// to there are made then.
+/// Shows the times, addresses and bignums of one item as people read them, by a visit of its tags. Fails where memory runs out; the calls
+/// up to there are made then.
 pub fn prettified(alloc: Global, item: &mut StandaloneItem<'_>) -> Result<(), AllocError>
     ensures { IsVisited IsTag pretty_all (standalone_tree item.old) (ending result) (standalone_tree item.new) }
 {
@@ -119,8 +119,8 @@ pub fn encoded_again(
     item.to_cbor(alloc)
 }
 
-/// The text of a token's claims with the names of their keys, and with its times as literals. Fails where the bytes encode nothing that can be
-/// shown or nest too deep, and where memory runs out.
+/// The text of a token's claims with the names of their keys, and with its times as literals. Fails where the bytes encode nothing that can
+/// be shown or nest too deep, and where memory runs out.
 pub fn inspected(alloc: Global, bytes: &[u8]) -> Result<String, RunError>
     ensures { IfOk result (λ s. (w : Tree Seq) × IsDecodedSequence 512 bytes.now w × (string_bytes s ≡ text (with_claims_sets w))) }
 {

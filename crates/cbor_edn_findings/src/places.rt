@@ -79,8 +79,8 @@ fn first_offset(
     Ok(Some((offset, reason)))
 }
 
-/// Where the first item begins in a text that has no encoding, in bytes, and why it has none: literals stand for what a run of these options
-/// takes them for. None where each has one, or the text is no EDN.
+/// Where the first item begins in a text that has no encoding, in bytes, and why it has none: literals stand for what a run of these
+/// options takes them for. None where each has one, or the text is no EDN.
 pub fn first_in_text(
     alloc: Global,
     options: &Options,

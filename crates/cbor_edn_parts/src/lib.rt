@@ -1,5 +1,5 @@
-//! The parts of the text of CBOR's Extended Diagnostic Notation (EDN): spaces, numbers and strings, each in a module of its own, over a base
-//! that reads them and refuses what is none.
+//! The parts of the text of CBOR's Extended Diagnostic Notation (EDN): spaces, numbers and strings, each in a module of its own, over a
+//! base that reads them and refuses what is none.
 #![tactic(auto)]
 
 pub mod base;

@@ -344,9 +344,9 @@ fn columns_of_separators(rt: HostRuntime) -> Result<(), Fail> {
 fn endless_indents(rt: HostRuntime) -> Result<(), Fail> {
     let alloc = rt.alloc();
     expect("S", is_space_refused(alloc))?;
-    expect("Ms", is_mandatory_refused(alloc))?;
-    expect("Msc", is_between_refused(alloc))?;
-    expect("Soc", is_separator_refused(alloc))
+    expect("MandatorySpace", is_mandatory_refused(alloc))?;
+    expect("Separator", is_between_refused(alloc))?;
+    expect("ListEnd", is_separator_refused(alloc))
 }
 
 const ENDLESS: Spacing = Spacing::NewLine(usize::MAX);

@@ -6,8 +6,8 @@ ghost use Rattle.cbor_edn_stream.specs.Wide.{IsWider};
 use crate::tags::behind_content;
 use cbor_edn_model::cbor::decode::head::{Argument, head_of};
 
-/// Whether the item at the front is wider than so many columns, as far as the number of its heads tells. Of bytes that begin with no item it
-/// says nothing.
+/// Whether the item at the front is wider than so many columns, as far as the number of its heads tells. Of bytes that begin with no item
+/// it says nothing.
 ///
 /// It goes from head to head, each of which shows one column at least, and reads no more of them than there are columns.
 #[inline(never)]
@@ -63,7 +63,8 @@ fn parts_of(major: u8, argument: Argument) -> usize
     }
 }
 
-/// How many items are due behind a head, or the greatest number. Where a list or a string of indefinite length is open, its own don't count.
+/// How many items are due behind a head, or the greatest number. Where a list or a string of indefinite length is open, its own don't
+/// count.
 #[inline(always)]
 fn due_behind(depth: usize, due: usize, major: u8, argument: Argument) -> usize
     requires { 0 < depth + due }

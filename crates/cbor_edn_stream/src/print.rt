@@ -1,8 +1,8 @@
 //! Printing from bytes.
 //!
 //! An item that takes more than `9 * n` bytes is wider than `n` columns, since a head has nine bytes at most and shows one column at least.
-//! So an item in which others nest is decoded from no more bytes than can fit on its line. Where they hold it whole, it is a small tree, which
-//! the printer lays out. Where they don't, it has lines of its own, and its parts are printed one by one in the same way.
+//! So an item in which others nest is decoded from no more bytes than can fit on its line. Where they hold it whole, it is a small tree,
+//! which the printer lays out. Where they don't, it has lines of its own, and its parts are printed one by one in the same way.
 //!
 //! Bytes are decoded in vain once at the most: of an item that begins in such bytes, the heads are counted first.
 ghost use Rattle.std.specs.Prelude.{◌≡◌, ◌≢◌, ◌⊎◌, ◌++◌, ◌<◌, ◌≤◌, ◌*◌, ◌-◌, ◌^◌, ◌∷◌, [], ℕ, suc, true, false, length, map, min, IfOk, IfSome, IfNone, OnOk, None};
@@ -59,8 +59,8 @@ pub enum Nested {
 
 /// Writes the text of the items that bytes encode, as the indented policy lays them out, at the end of another.
 ///
-/// Fails with the refusal of the first fault of the bytes, as [`Sequence::from_cbor_within`] does, or for want of memory. A part of the text
-/// may be written then. Beside the text it takes memory for an item that fits on a line, and for a string that doesn't.
+/// Fails with the refusal of the first fault of the bytes, as [`Sequence::from_cbor_within`] does, or for want of memory. A part of the
+/// text may be written then. Beside the text it takes memory for an item that fits on a line, and for a string that doesn't.
 ///
 /// [`Sequence::from_cbor_within`]: cbor_edn_core::tree::Sequence::from_cbor_within
 pub fn print_cbor(
@@ -120,8 +120,8 @@ fn front_len(layout: Layout, bytes: &[u8], untried: usize) -> usize
     }
 }
 
-/// Whether the heads of an item tell that it is wider than so many columns. They are asked where it begins in bytes that were decoded in vain,
-/// and where it has many parts.
+/// Whether the heads of an item tell that it is wider than so many columns. They are asked where it begins in bytes that were decoded in
+/// vain, and where it has many parts.
 #[inline(always)]
 fn is_known_wide(columns: usize, bytes: &[u8], untried: usize) -> bool
     ensures { result ≡ true → IsWider columns bytes.now }
@@ -272,8 +272,8 @@ fn print_decoded<'b>(
     Ok(rest)
 }
 
-/// Writes an item in which others nest, and answers the bytes behind it. `untried` is how many bytes stand behind the last that were decoded
-/// in vain.
+/// Writes an item in which others nest, and answers the bytes behind it. `untried` is how many bytes stand behind the last that were
+/// decoded in vain.
 #[cycle(print)]
 #[inline(never)]
 fn print_nested<'b>(

@@ -91,8 +91,8 @@ fn reads_of(input: &[u8]) -> usize {
     input.len().div_ceil(STEP).saturating_add(1)
 }
 
-/// A device that fails at one call: a source, a sink that takes a byte a call, or a reader or writer of std. Of these an interrupted call is
-/// a failed one, and so is a call of a writer that takes no byte.
+/// A device that fails at one call: a source, a sink that takes a byte a call, or a reader or writer of std. Of these an interrupted call
+/// is a failed one, and so is a call of a writer that takes no byte.
 #[derive(Clone, Copy, Debug)]
 enum Device {
     Source,

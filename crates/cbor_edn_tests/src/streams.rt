@@ -19,8 +19,8 @@ fn written(alloc: Global, row: Repeated) -> Result<String, Fail> {
 
 const FROM_HEX: &[&str] = &["cbor-edn", "cbor2diag", "-i", "hex"];
 
-/// Digits of CBOR, and the text with its line feed. By the table of `docs/SUPPORTED.md`: an item of less than 80 bytes behind its indentation
-/// stands on a line, another one has a line for each part.
+/// Digits of CBOR, and the text with its line feed. By the table of `docs/SUPPORTED.md`: an item of less than 80 bytes behind its
+/// indentation stands on a line, another one has a line for each part.
 const PRINTED: &[(Repeated, Repeated)] = &[
     // 79 bytes, and 80
     (("81784b", "61", 75, ""), ("[\"", "a", 75, "\"]\n")),

@@ -14,8 +14,8 @@ fn told(alloc: Global, text: &str) -> Result<String, Fail> {
     }
 }
 
-/// RFC 4291, sections 2.2 and 2.3; RFC 5952, sections 1 to 5; RFC 9164, section 3; RFC 6052, section 2.4; others by the grammar of RFC 4291,
-/// as Python's `ipaddress` prints them.
+/// RFC 4291, sections 2.2 and 2.3; RFC 5952, sections 1 to 5; RFC 9164, section 3; RFC 6052, section 2.4; others by the grammar of RFC
+/// 4291, as Python's `ipaddress` prints them.
 const ADDRESSES: &[(&str, &str)] = &[
     // RFC 4291
     (
@@ -171,8 +171,8 @@ fn texts(rt: HostRuntime) -> Result<(), Fail> {
     failures.end()
 }
 
-/// RFC 9164, section 3, as bytes of an item: the bytes and the prefix length beside them, the text of their address, and the bytes that it has
-/// again.
+/// RFC 9164, section 3, as bytes of an item: the bytes and the prefix length beside them, the text of their address, and the bytes that it
+/// has again.
 const BYTES: &[(IpVersion, &[u8], Option<u8>, &str, &str)] = &[
     (
         IpVersion::V4,

@@ -110,8 +110,8 @@ const NO_TIMES: &[&str] = &[
     "1970-01-00T00:00:00Z",
 ];
 
-/// Examples of the Rust crate's documents and tests, whose `chrono` prints them so; RFC 8949, section 3.4.2; the ends of the years 0000 and 9999
-/// and other days, by Python's `datetime`; decimals that round down, and number texts that are no such decimals.
+/// Examples of the Rust crate's documents and tests, whose `chrono` prints them so; RFC 8949, section 3.4.2; the ends of the years 0000 and
+/// 9999 and other days, by Python's `datetime`; decimals that round down, and number texts that are no such decimals.
 const NUMBERS: &[(&str, &str)] = &[
     ("42", "1970-01-01T00:00:42+00:00"),
     ("-1.5", "1969-12-31T23:59:58.500+00:00"),

@@ -52,8 +52,8 @@ abbrev pub Lands : {X : Type 0} → List ℕ → ℕ → Result (X × ℕ) (Faul
 Lands text at (Ok p) = (at ≤ p.1) × IsCharBoundary text p.1
 Lands text at (Err e) = IsPlaced text e
 
--- The same three of a value whose end is told with the space behind it, where that is read: what the reader gives, where the
--- place behind stands, and what the looks cost up to the place that is reached. Where it is refused, looks never fall.
+-- Of a value whose end comes with the space behind it, where that is read: what the reader gives, where the place behind stands,
+-- and what the reads cost up to the place that is reached. Where it is refused, the count never falls.
 abbrev pub ReadsEnd : {X Y : Type 0} → (X → Y) → List ℕ → Result (X × ItemEnd) (Fault Refusal) → Read Y → Type 0
 ReadsEnd view text (Ok p) read = read ≡ Ok (view p.0, drop p.1.at text)
 ReadsEnd view text (Err e) read = Fails e read
@@ -66,7 +66,7 @@ abbrev pub CostsEnd : {X E : Type 0} → ℕ → ℕ → ℕ → List ℕ → �
 CostsEnd rate k failed text at old new (Ok p) = (new + rate * at + p.1.at ≤ old + rate * p.1.at + reached p.1 + k) × (old + reached p.1 ≤ new + at)
 CostsEnd rate k failed text at old new (Err e) = (new + rate * at ≤ old + rate * length text + failed) × (old ≤ new)
 
--- The same of what may have been taken for a keyword: the looks for that come on top.
+-- Of what may have been taken for a keyword: the reads for that come on top.
 abbrev pub CostsEndAhead : {X E : Type 0} → ℕ → ℕ → ℕ → List ℕ → ℕ → ℕ → ℕ → Result (X × ItemEnd) E → Type 0
 CostsEndAhead rate k failed text at old new (Ok p) = (new + ahead text at + rate * at + p.1.at ≤ old + rate * p.1.at + reached p.1 + k) × (old + reached p.1 ≤ new + at)
 CostsEndAhead rate k failed text at old new (Err e) = (new + ahead text at + rate * at ≤ old + rate * length text + failed) × (old ≤ new)
@@ -123,7 +123,7 @@ filled s = not_empty s.0 >>= λ c. Ok (c, s.1)
 abbrev pub parted : List ℕ → Read (List ℕ)
 parted xs = token separator xs >>= λ s. cond (is_closed s.1) (Ok s) (filled s)
 
--- The same three of a separator with the look behind it, by whether another entry follows.
+-- These three of a separator with the read behind it, by whether another entry follows.
 abbrev pub ReadsBehind : List ℕ → Result Behind (Fault Refusal) → ℕ → Type 0
 ReadsBehind text (Ok (Last list_end next)) at = (token separator (drop at text) ≡ Ok (list_end_bytes list_end, drop next text)) × (is_closed (drop next text) ≡ true)
 ReadsBehind text (Ok (More between next)) at = (token separator (drop at text) ≡ Ok (separator_bytes between, drop next text)) × (is_closed (drop next text) ≡ false) × (separator_bytes between ≢ [])

@@ -58,7 +58,7 @@ impl<'a> Item<'a> {
     }
 }
 
-/// Whether the item may be a literal with a prefix, by its form and its first byte: a look that takes less than
+/// Whether the item may be a literal with a prefix, by its form and its first byte: a test that takes less than
 /// [`Item::application_prefix`].
 #[inline]
 #[tactic(auto, using(crate::proofs::lemmas::tree::Views::view_stream_is))]

@@ -1,4 +1,7 @@
 //! Items by paths, over any leaves: the items below an item are counted as they stand in the text.
+//!
+//! Each function lends one part and hands that on. The checker proves no body that lends by a call of itself, so those that put the steps
+//! together, `descend` and `at_mut`, are proved by hand, and every other step stands in a function of its own.
 ghost use Rattle.std.specs.Prelude.{◌≡◌, ◌↔◌, ◌<◌, true, Some, suc, drop, map, option_map, length, slice_get};
 ghost use Rattle.std.specs.List.{slice_index};
 ghost use Rattle.std.specs.Option.{IsSome, is_some};
@@ -404,7 +407,7 @@ fn piece_at<O: Drop, M: Drop, C: Drop, E: Drop, N: Drop, L: Drop, D: Drop>(
     (place, left)
 }
 
-/// The same in strings.
+/// Where an item's number leads in strings: the number of the string, or how many there are, and the item's number from there on.
 fn string_at<O: Drop, M: Drop, C: Drop, E: Drop, N: Drop, L: Drop, D: Drop>(
     row: &[(CborStringOf<O, M, C, E, N, L, D>, C)],
     i: usize,

@@ -88,7 +88,7 @@ fn lay_opening<'a>(list: &mut ItemList<'a>, alloc: Global, layout: Layout) -> Re
     }
 }
 
-/// The same of a map.
+/// Lays out the spaces in front of the entries of a map.
 #[tactic(auto, unfolding(cbor_edn_model::specs::tree::Trees::items))]
 fn lay_pair_opening<'a>(
     list: &mut PairList<'a>,

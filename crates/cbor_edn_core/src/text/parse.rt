@@ -44,7 +44,7 @@ impl<'a> Sequence<'a> {
         Sequence::parse_looking(alloc, input, limit, &mut Looks::new())
     }
 
-    /// The items of a text, as [`Sequence::parse`] reads them, with a look for each read of a byte: at most 16 for each byte of the text
+    /// The items of a text, as [`Sequence::parse`] reads them, and the reads of its bytes counted: at most 16 for each byte of the text
     /// and 16 more. Only proofs see the count.
     pub fn parse_counted(
         alloc: Global,
@@ -104,7 +104,7 @@ impl<'a> StandaloneItem<'a> {
         StandaloneItem::parse_looking(alloc, input, limit, &mut Looks::new())
     }
 
-    /// The one item of a text, as [`StandaloneItem::parse`] reads it, with a look for each read of a byte: at most 16 for each byte of
+    /// The one item of a text, as [`StandaloneItem::parse`] reads it, and the reads of its bytes counted: at most 16 for each byte of
     /// the text and 16 more. Only proofs see the count.
     pub fn parse_counted(
         alloc: Global,

@@ -26,7 +26,7 @@ impl Item<'_> {
 }
 
 impl Sequence<'_> {
-    /// The same of a sequence: of its items the deepest.
+    /// How deep the sequence nests: as its deepest item does.
     #[tactic(auto, using(crate::proofs::lemmas::tree::Nestings::nesting_read))]
     pub fn nesting(&self) -> usize
         ensures { result ≡ capped (tree_nesting (sequence_tree self.now)) }

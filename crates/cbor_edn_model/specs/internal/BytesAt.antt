@@ -3,7 +3,7 @@ use Rattle.std.specs.Prelude.{ℕ, ◌+◌, ◌-◌, ◌≡◌, ◌≢◌, min, 
 use Rattle.std.specs.Str.{IsCharBoundary}
 use Rattle.cbor_edn_model.specs.internal.LookCosts.{longest_keyword}
 
--- how many looks a keyword may take that does not stand there: none is longer
+-- how many reads a keyword may take that does not stand there: none is longer
 abbrev pub ahead : List ℕ → ℕ → ℕ
 ahead text at = min longest_keyword (length text - at)
 

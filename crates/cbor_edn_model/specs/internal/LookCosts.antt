@@ -1,13 +1,13 @@
--- How many looks the parts of a text may cost, and who pays for them.
+-- How many reads the parts of a text may cost, and who pays for them.
 use Rattle.std.specs.Prelude.{ℕ}
 use Rattle.cbor_edn_model.specs.tree.Trees.{Rule, OneItem, OnePiece, OneString, OneEntry, Inside, Rest, Seq, Standalone}
 
--- Each byte that is read pays for so many: the look that reads it, those that ask what begins there, and what its callers spend
+-- Each byte that is read pays for so many: its own read, those that ask what begins there, and what its callers spend
 -- around it.
 abbrev pub a_byte : ℕ
 a_byte = 12
 
--- No keyword is longer, so no more looks are lost on one that does not stand there.
+-- No keyword is longer, so no more reads are lost on one that does not stand there.
 abbrev pub longest_keyword : ℕ
 longest_keyword = 9
 

@@ -15,7 +15,7 @@ Opens text at (Keyword w to) = (keyword_at (drop at text) ≡ Some (w, drop to t
 Opens text at String = (keyword_at (drop at text) ≡ None) × (starts_string (drop at text) ≡ true)
 Opens text at Number = IsNotAt 91 (drop at text) × IsNotAt 123 (drop at text) × IsNotAt 40 (drop at text) × (keyword_at (drop at text) ≡ None) × (starts_string (drop at text) ≡ false)
 
--- What the looks cost that tell it.
+-- What the reads cost that tell it.
 abbrev pub Looked : List ℕ → ℕ → ℕ → ℕ → FormStart → Type 0
 Looked text at old new (Keyword w to) = (at < to) × (new + at ≡ old + to + 2)
 Looked text at old new String = new ≤ old + ahead text at + 2

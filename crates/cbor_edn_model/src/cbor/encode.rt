@@ -56,7 +56,7 @@ pub fn encode_number(
     }
 }
 
-/// The same of any number, in 128 bits, which takes longer.
+/// Writes the encoding of any integer literal, in 128 bits, which takes longer.
 fn encode_any_number(
     out: &mut Vec<u8>,
     number: &Number<'_>,
@@ -104,7 +104,7 @@ pub fn encode_literal(
     }
 }
 
-/// The same of any literal, whose bytes take memory of their own.
+/// Writes the bytes that any literal stands for, which take memory of their own on the way.
 #[tactic(auto, using(cbor_edn_parts::proofs::lemmas::string::ContentTexts::content_reads))]
 fn encode_decoded(
     out: &mut Vec<u8>,

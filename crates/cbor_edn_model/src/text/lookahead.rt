@@ -23,7 +23,7 @@ use cbor_edn_parts::base::input::Input;
 use cbor_edn_parts::base::looks::Looks;
 use cbor_edn_parts::space::Space;
 
-/// Whether an ASCII byte stands at a place, for one look.
+/// Whether an ASCII byte stands at a place, for one read.
 pub fn is_at(text: &Input<'_>, at: usize, byte: u8, looks: &mut Looks) -> bool
     requires { byte < 128 }
     ensures yes { result ≡ true → (drop at (text_bytes text.now) ≡ byte ∷ drop (at + 1) (text_bytes text.now)) × IsCharBoundary (text_bytes text.now) (at + 1) }

@@ -1,4 +1,4 @@
--- How a scan's result stands to the tokens of a text, and what it costs in looks.
+-- How a scan's result stands to the tokens of a text, and what it costs in reads.
 use Rattle.std.specs.Prelude.{ℕ, ◌+◌, ◌*◌, ◌≡◌, ◌≤◌, ◌<◌, List, [], ◌∷◌, length, drop, slice_range, Option, Some, None, IfSome, MatchOption, Result, Ok, Err, MatchResult}
 use Rattle.std.specs.Str.{IsCharBoundary}
 use Rattle.cbor_edn_parts.specs.declared.base.error.ParseErrorKind.TheVariants.{Invalid}
@@ -34,8 +34,8 @@ Scans view text (Err r) read = (read ≡ None) × (r.kind ≡ Invalid)
 abbrev pub ScanLands : {X : Type 0} → List ℕ → ℕ → Result (X × ℕ) Refusal → Type 0
 ScanLands text at r = MatchResult r (λ p. (at ≤ p.1) × IsCharBoundary text p.1) (λ e. IsCharBoundary text e.offset)
 
--- At most `rate` looks a byte and k more, and at least one look a byte; where it is refused, at most `failed` more than for the
--- rest of the text, and looks never fall.
+-- At most `rate` reads a byte and k more, and at least one read a byte; where it is refused, at most `failed` more than for the
+-- rest of the text, and the count never falls.
 abbrev pub Costs : {X E : Type 0} → ℕ → ℕ → ℕ → List ℕ → ℕ → ℕ → ℕ → Result (X × ℕ) E → Type 0
 Costs rate k failed text at old new r = MatchResult r
     (λ p. (new + rate * at ≤ old + rate * p.1 + k) × (old + p.1 ≤ new + at))

@@ -181,7 +181,7 @@ pub enum InconsistentEdn {
     /// An encoding indicator on one of several pieces that plus signs join, as in `'a'_0 + 'b'`.
     #[error("Encoding indicators present on string expressed in multiple EDN chunks")]
     IndicatorOnPiece,
-    /// Dots, or a literal with a prefix that stands for no bytes: another one than `h`, `b64`, `b32` and `h32`.
+    /// An ellipsis, or a literal with a prefix that stands for no bytes: another one than `h`, `b64`, `b32` and `h32`.
     #[error("Unsupported application oriented literal or ellipsis")]
     UnsupportedLiteral,
     /// A literal whose text is not one of its prefix, as `h'0'`, or as `b64'A'` by RFC 4648.

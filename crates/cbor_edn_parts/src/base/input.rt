@@ -6,7 +6,7 @@ ghost use Rattle.cbor_edn_parts.specs.internal.Input.{text_bytes};
 
 use crate::base::looks::Looks;
 
-/// A text whose bytes are read one at a time, each with a look.
+/// A text whose bytes are read one at a time, and each read is counted.
 #[derive(Clone, Copy)]
 pub struct Input<'a> {
     all: &'a str,
@@ -20,7 +20,7 @@ impl<'a> Input<'a> {
         Input { all }
     }
 
-    /// The length of the text in bytes, for no look.
+    /// The length of the text in bytes, for no read.
     pub fn len(&self) -> usize
         ensures len { result ≡ length (text_bytes self.now) }
         ensures small { result < 2 ^ 63 }
@@ -43,7 +43,7 @@ impl<'a> Input<'a> {
         self.all
     }
 
-    /// The byte at a place, for one look, or none behind the end of the text.
+    /// The byte at a place, for one read, or none behind the end of the text.
     pub fn byte(&self, at: usize, looks: &mut Looks) -> Option<u8>
         ensures value { IsAt (text_bytes self.now) at result }
         ensures behind { IfSome result (λ c. c < 128 → IsCharBoundary (text_bytes self.now) (at + 1)) }
@@ -53,7 +53,7 @@ impl<'a> Input<'a> {
         byte_of(self.as_str(), at)
     }
 
-    /// The piece between two places, for no look. Each place is where a character begins, or the end.
+    /// The piece between two places, for no read. Each place is where a character begins, or the end.
     pub fn slice(&self, from: usize, to: usize) -> &'a str
         requires order { from ≤ to }
         requires starts { IsCharBoundary (text_bytes self.now) from }

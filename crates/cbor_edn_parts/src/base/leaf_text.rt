@@ -153,7 +153,7 @@ impl<'a> LeafText<'a> {
         }
     }
 
-    /// Its bytes.
+    /// The bytes of the text, wherever they stand.
     #[inline(always)]
     pub fn as_bytes(&self) -> &[u8]
         ensures bytes { result.now ≡ leaf_bytes self.now }

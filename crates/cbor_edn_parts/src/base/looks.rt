@@ -7,7 +7,7 @@ ghost use Rattle.std.specs.Borrow.{ftrue};
 
 use std::marker::Model;
 
-/// A count of the looks at a text, one for each read of a byte. Only proofs see it, and it takes no bytes.
+/// A count of the reads of a text, byte by byte. Only proofs see it, and it takes no bytes.
 #[derive(Drop)]
 pub struct Looks {
     pub ghost count: { ℕ },
@@ -20,14 +20,14 @@ impl Model for Looks {
 }
 
 impl Looks {
-    /// A count with no look yet.
+    /// A count of no reads.
     pub fn new() -> Looks
         ensures { result.count ≡ 0 }
     {
         Looks { sealed: () }
     }
 
-    /// Counts one look more. At run time it does nothing.
+    /// Counts one read more. At run time it does nothing.
     pub fn look(&mut self)
         ensures { self.new.count ≡ self.old.count + 1 }
     {

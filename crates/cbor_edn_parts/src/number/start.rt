@@ -44,7 +44,7 @@ pub fn number_start(text: &Input<'_>, from: usize, looks: &mut Looks) -> NumberS
     }
 }
 
-/// The same behind a sign, or where none stands.
+/// How a number begins behind its sign, or where it has none.
 #[inline(always)]
 fn unsigned_start(
     state: NumberState,

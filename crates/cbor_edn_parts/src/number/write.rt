@@ -20,7 +20,7 @@ impl<'a> Number<'a> {
         Ok(Number { text })
     }
 
-    /// The same of an integer that a head of CBOR holds, which takes no memory.
+    /// An integer that a head of CBOR holds in decimal, which takes no memory.
     pub fn small(integer: SmallInteger) -> Number<'a>
         ensures { number_bytes result ≡ signed_decimal (small_integer integer) }
     {

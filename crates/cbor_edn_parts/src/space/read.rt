@@ -55,7 +55,7 @@ fn space_end(
     Ok((next, at))
 }
 
-/// The same from a place whose byte is read.
+/// The byte behind comments and blanks, from a place whose byte is read, and the place of that byte.
 #[inline(never)]
 fn comments_end(
     text: &Input<'_>,

@@ -1,4 +1,4 @@
--- What is paid with the looks for a keyword that does not stand there.
+-- Who pays the reads for a keyword that does not stand there.
 use Rattle.std.proofs.Common.{ℕ, List, [], ◌∷◌, ◌++◌, ◌≡◌, ◌≤◌, ◌<◌, ◌+◌, ◌*◌, length, drop, refl, ap, arith, false, Option, Some, Result, Ok, Err}
 use Rattle.std.specs.Prelude.{eqb}
 use Rattle.std.proofs.lemmas.Bool.{cond_both, both_ways}
@@ -63,7 +63,7 @@ pub spared_first : {X : Type 0} (row : List X) (text : List ℕ) (at from count 
 spared_first [] text at from count old first h = omega (arith, h, ap (ahead text) (first refl))
 spared_first (x ∷ row) text at from count old first h = omega (arith, h)
 
--- A number pays for the looks that asked what begins there.
+-- A number pays for the reads that asked what begins there.
 pub opened_costs : {X E : Type 0} (text : List ℕ) (from old before new : ℕ) (r : Result (X × ItemEnd) E) → old < before → before ≤ old + ahead text from + 2 → CostsEndAhead a_byte keyword_extra keyword_extra text from before new r → CostsEnd a_byte (extra OneItem) (refused_extra OneItem) text from old new r
 opened_costs text from old before new (Ok p) some most c = (omega (arith, some, most, c.0), omega (arith, some, c.1))
 opened_costs text from old before new (Err e) some most c = (omega (arith, some, most, c.0), omega (arith, some, c.1))

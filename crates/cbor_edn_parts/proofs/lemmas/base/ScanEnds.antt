@@ -70,7 +70,7 @@ pub lands_before : {X : Type 0} (text : List ℕ) (from at : ℕ) (r : Result (X
 lands_before text from at (Ok p) order lands = (omega (arith, order, lands.0), lands.1)
 lands_before text from at (Err e) order lands = lands
 
--- Between the two places each byte took one look, and j more were taken.
+-- Between the two places each byte took one read, and j more were taken.
 pub costs_before : {X E : Type 0} (j k failed : ℕ) (text : List ℕ) (from at old now new : ℕ) (r : Result (X × ℕ) E) → from ≤ at → now + from ≡ old + at + j → Costs 1 k failed text at now new r → Costs 1 (k + j) (failed + j) text from old new r
 costs_before j k failed text from at old now new (Ok p) order looked costs = (omega (arith, order, looked, costs.0), omega (arith, order, looked, costs.1))
 costs_before j k failed text from at old now new (Err e) order looked costs = (omega (arith, order, looked, costs.0), omega (arith, order, looked, costs.1))

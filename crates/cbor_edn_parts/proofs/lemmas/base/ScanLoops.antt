@@ -82,8 +82,8 @@ module _ {State : Type 0} (T : Automaton State) where
       ∙ front_cond (slice_range text from at) [] (T.final m)
       ∙ ap (λ (xs : List ℕ). cond (T.final m) (Some (slice_range text from at, xs)) None) (sym here)
 
--- A scan that began at `from`, whose byte was the last of `old` looks, stands at a place in the state m. The byte there is read, and each
--- byte behind the first took one look.
+-- A scan that began at `from`, whose byte was the last of `old` reads, stands at a place in the state m. The byte there is read, and each
+-- byte behind the first took one read.
 pub record Stands {State : Type 0} (T : Automaton State) (start : State) (text : List ℕ) (from old : ℕ) (m : State) (at : ℕ) (byte : Option ℕ) (count : ℕ) : Type 0 where
   pub order : from ≤ at
   pub within : at ≤ length text

@@ -8,7 +8,7 @@ use super::Indicator;
 use crate::base::input::Input;
 use crate::base::looks::Looks;
 
-/// The encoding indicator at a place, if any, and the place behind it: for one look where there is none, else for two.
+/// The encoding indicator at a place, if any, and the place behind it: for one read where there is none, else for two.
 pub fn indicator_at(text: &Input<'_>, from: usize, looks: &mut Looks) -> (Option<Indicator>, usize)
     requires { IsCharBoundary (text_bytes text.now) from }
     ensures value { spec.indicator_at (drop from (text_bytes text.now)) ≡ (result.0, drop result.1 (text_bytes text.now)) }
