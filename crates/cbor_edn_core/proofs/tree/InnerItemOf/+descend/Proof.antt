@@ -250,7 +250,7 @@ module _ (T0 T1 T2 T3 T4 T5 T6 : RattleType) (T0d T1d T2d T3d T4d T5d T6d : Dict
         (λ w b x inner outer g. more_with path.now k there.1 (view_inner g r.now) (view_inner g u.now) (below_value g) (view_item g w) (view_inner g b) (view_inner g x) (inner g) (outer g)) d₁ found) $
         returns ! (look_at ! 0 refl) $ free_all ! refl $ move ! (1 ∷ 2 ∷ []) $ exits d₁ v₄ (λ g. val₁ g ∙ more_value path.now k there.1 (view_inner g r.now) (view_inner g u.now) (below_value g)))))))))))))))))))))))))))))))))))))))
 
-pub +reach_spec : {M : Type 1} → statement M
-+reach_spec 𝓤 𝓛 𝓜 𝓡 w T0 T1 T2 T3 T4 T5 T6 L0 L1 L2 L3 L4 L5 L6 T0d T1d T2d T3d T4d T5d T6d m0 m1 m2 m3 m4 m5 m6 y =
+pub +descend_spec : {M : Type 1} → statement M
++descend_spec 𝓤 𝓛 𝓜 𝓡 w T0 T1 T2 T3 T4 T5 T6 L0 L1 L2 L3 L4 L5 L6 T0d T1d T2d T3d T4d T5d T6d m0 m1 m2 m3 m4 m5 m6 y =
     let k = length y.0.3.1.0.now - suc y.0.3.1.1.0 in let P = on_entry 𝓛 (end T0 T1 T2 T3 T4 T5 T6 T0d T1d T2d T3d T4d T5d T6d).signature y.0.0 y.0.1 y.0.3 y.0.4 in let R = (c T0 T1 T2 T3 T4 T5 T6 T0d T1d T2d T3d T4d T5d T6d 𝓤 𝓛 𝓜 𝓡 w L0 L1 L2 L3 L4 L5 L6 m0 m1 m2 m3 m4 m5 m6 y.0.0 y.0.3).requires y.1 in
     via 𝓤 (sep 𝓤 P (sep 𝓤 (fact 𝓤 (k < suc k)) R)) (mono_r 𝓤 P (via 𝓤 (sep 𝓤 (emp 𝓤) R) (emp∗ 𝓤 R) (mono_l 𝓤 R (fact_i 𝓤 (k < suc k) (emp 𝓤) (omega arith))))) (meets T0 T1 T2 T3 T4 T5 T6 T0d T1d T2d T3d T4d T5d T6d 𝓤 𝓛 𝓜 𝓡 w L0 L1 L2 L3 L4 L5 L6 m0 m1 m2 m3 m4 m5 m6 (suc k) y)
