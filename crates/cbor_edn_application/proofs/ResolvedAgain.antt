@@ -9,14 +9,18 @@ use Rattle.cbor_edn_conversions.specs.Addresses.{resolve_address, pretty_address
 use Rattle.cbor_edn_conversions.specs.All.{resolve_all, pretty_all}
 use Rattle.cbor_edn_conversions.specs.Annotations.{comment_lang}
 use Rattle.cbor_edn_conversions.specs.Bignums.{pretty_bignum}
+use Rattle.cbor_edn_conversions.specs.Cose.{comment_cose}
+use Rattle.cbor_edn_conversions.specs.MessageClaims.{message_claims}
 use Rattle.cbor_edn_conversions.specs.Resolvers.{TurnsTo, time_resolver, literal_resolver}
 use Rattle.cbor_edn_conversions.specs.Resolving.{no_resolver, means_by}
 use Rattle.cbor_edn_conversions.specs.Times.{resolve_time, pretty_time}
 use Rattle.cbor_edn_conversions.proofs.conversions.AddressesKept.{address_turns}
 use Rattle.cbor_edn_conversions.proofs.conversions.BignumsKept.{bignum_turns}
 use Rattle.cbor_edn_conversions.proofs.conversions.ConversionsKept.{all_turns}
+use Rattle.cbor_edn_conversions.proofs.conversions.CoseKept.{cose_keeps}
 use Rattle.cbor_edn_conversions.proofs.conversions.Literals.{time_applications, all_applications, all_no_content, all_gives_times, all_gives_addresses}
 use Rattle.cbor_edn_conversions.proofs.conversions.LiteralsResolved.{time_resolved_kept, time_resolved_alone, address_resolved, address_resolved_kept, all_resolved}
+use Rattle.cbor_edn_conversions.proofs.conversions.MessagesKept.{message_claims_keep}
 use Rattle.cbor_edn_conversions.proofs.conversions.TimesKept.{time_turns}
 use Rattle.cbor_edn_conversions.proofs.nesting.DirectAnswers.{language_keeps_items}
 use Rattle.cbor_edn_conversions.proofs.resolving.Resolved.{none_means, more_means}
@@ -52,6 +56,12 @@ resolved_addresses_keep = visit_keeps IsApplication resolve_address literal_reso
 
 pub languages_leave : VisitsLeave IsTag comment_lang
 languages_leave w v r h = visit_unmoved IsTag comment_lang language_keeps_items Seq w v r h
+
+pub cose_leaves : VisitsLeave IsTag comment_cose
+cose_leaves w v r h = visit_unmoved IsTag comment_cose cose_keeps Seq w v r h
+
+pub message_claims_kept : VisitsKeep IsTag message_claims
+message_claims_kept = tags_keep message_claims message_claims_keep
 
 -- ---- visits that resolve
 

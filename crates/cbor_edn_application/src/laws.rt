@@ -3,6 +3,8 @@ ghost use Rattle.cbor_edn_model.specs.visit.Seeking.{IsTag, IsApplication};
 ghost use Rattle.cbor_edn_conversions.specs.Addresses.{resolve_address, pretty_address};
 ghost use Rattle.cbor_edn_conversions.specs.Annotations.{comment_lang};
 ghost use Rattle.cbor_edn_conversions.specs.Bignums.{pretty_bignum};
+ghost use Rattle.cbor_edn_conversions.specs.Cose.{comment_cose};
+ghost use Rattle.cbor_edn_conversions.specs.MessageClaims.{message_claims};
 ghost use Rattle.cbor_edn_conversions.specs.Times.{resolve_time, pretty_time};
 ghost use Rattle.cbor_edn_application.specs.VisitLaws.{SequencesResolvedAgain, ItemsResolvedAgain, SequencesMeanAgain, ItemsMeanAgain, VisitsKeep, VisitsLeave, ClaimsSetsKeep, LiteralsResolvedInTurn, VisitedOnce};
 
@@ -23,7 +25,9 @@ pub fn visits_keep()
     ensures times { VisitsKeep IsApplication resolve_time }
     ensures addresses { VisitsKeep IsApplication resolve_address }
     ensures languages { VisitsLeave IsTag comment_lang }
+    ensures cose { VisitsLeave IsTag comment_cose }
     ensures claims { ClaimsSetsKeep }
+    ensures message_claims { VisitsKeep IsTag message_claims }
 {}
 
 /// Items whose literals were all resolved mean what they meant where these stood for values.

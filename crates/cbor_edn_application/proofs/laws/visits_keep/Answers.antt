@@ -1,6 +1,6 @@
 -- The laws of `visits_keep`, as lemmas have them.
 use Rattle.cbor_edn_application.proofs.ClaimsSetsKept.{claims_sets_keep}
-use Rattle.cbor_edn_application.proofs.ResolvedAgain.{pretty_times_keep, pretty_addresses_keep, pretty_bignums_keep, resolved_times_keep, resolved_addresses_keep, languages_leave}
+use Rattle.cbor_edn_application.proofs.ResolvedAgain.{pretty_times_keep, pretty_addresses_keep, pretty_bignums_keep, resolved_times_keep, resolved_addresses_keep, languages_leave, cose_leaves, message_claims_kept}
 use Rattle.cbor_edn_application.proofs.laws.visits_keep.Goals as goal
 
 pub returns-clause-pretty_times : goal.returns-clause-pretty_times
@@ -23,3 +23,9 @@ returns-clause-languages c = languages_leave
 
 pub returns-clause-claims : goal.returns-clause-claims
 returns-clause-claims c = claims_sets_keep
+
+pub returns-clause-cose : goal.returns-clause-cose
+returns-clause-cose c = cose_leaves
+
+pub returns-clause-message_claims : goal.returns-clause-message_claims
+returns-clause-message_claims c = message_claims_kept
