@@ -12,7 +12,7 @@ ghost use Rattle.cbor_edn.specs.declared.engine.RunError.{RunError};
 ghost use Rattle.cbor_edn.specs.declared.engine.RunError.TheVariants.{Memory, Parse, Cbor, Inconsistent, Hex, Read};
 
 use crate::boxed::boxed;
-use crate::{elements, steps};
+use crate::{elements, option_steps};
 pub use cbor_edn_command::count::Count;
 pub use cbor_edn_command::devices::{DeviceFault, Sink, Source, StdSink, StdSource};
 use cbor_edn_command::hexadecimal::{self, NotHex};
