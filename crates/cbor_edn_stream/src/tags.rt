@@ -43,13 +43,14 @@ pub fn has_tag_of(numbers: &[u64], bytes: &[u8]) -> Result<bool, AllocError>
 }
 
 /// Whether a byte may begin the head of a tag of one of the numbers. Where none does, none stands in the bytes, whatever their heads are.
+/// A long string at the front is not read: one step over heads passes it.
 fn may_have_tag_of(numbers: &[u64], bytes: &[u8]) -> bool
     ensures { result ≡ false → (list_all heads.is_sought numbers.now ≡ true) × (list_any heads.begins_tag bytes.now ≡ false) }
 {
-    if !are_sought(numbers) {
-        return true;
+    match bytes {
+        [0x58..=0x5b | 0x78..=0x7b, ..] => true,
+        _ => !are_sought(numbers) || has_tag_byte(bytes),
     }
-    has_tag_byte(bytes)
 }
 
 /// Whether the bytes that begin the heads of tags of these numbers are among those that are sought.
