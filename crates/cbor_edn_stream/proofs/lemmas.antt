@@ -9,3 +9,4 @@ pub mod Sequences
 pub mod Heads
 pub mod TagBytes
 pub mod Walks
+pub mod Narrow

@@ -1,5 +1,10 @@
 -- Bytes, head by head.
-use Rattle.std.specs.Prelude.{◌≡◌, ◌≢◌, ℕ, zero, suc, ◌+◌, ◌-◌, ◌*◌, ◌/◌, ◌%◌, nat_lt, Bool, false, ◌||◌, ◌&&◌, ◌==◌, if◌then◌else◌, List, drop, Some, None, Ok}
+use Rattle.std.specs.Prelude.{◌≡◌, ◌≢◌, ℕ, zero, suc, ◌+◌, ◌-◌, ◌*◌, ◌/◌, ◌%◌, nat_lt, Bool, false, ◌||◌, ◌&&◌, ◌==◌, if◌then◌else◌, List, length, take, drop, ◌≤◌, Option, Some, None, MatchOption, Ok}
+use Rattle.std.specs.Fmt.{decimal}
+use Rattle.cbor_edn_parts.specs.base.Indicator.{indicator_text}
+use Rattle.cbor_edn_parts.specs.string.Contents.{all_escaped}
+use Rattle.cbor_edn_model.specs.declared.cbor.heads.Width.{Width}
+use Rattle.cbor_edn_model.specs.cbor.Decoded.{indicator_of}
 use Rattle.cbor_edn_model.specs.internal.CborReading.{Argument, head_at}
 use Rattle.cbor_edn_stream.specs.Tags.{among}
 
@@ -45,3 +50,24 @@ opened (Some (w, n)) depth = depth
 abbrev pub owed : ℕ → ℕ → ℕ → ℕ
 owed zero due parts = due - 1 + parts
 owed (suc depth) due parts = due
+
+-- so many columns with an indicator, and two more
+abbrev pub indicated : Width → ℕ → ℕ → ℕ
+indicated w n columns = columns + length (indicator_text (indicator_of w n)) + 2
+
+-- How many columns an integer, a string, a list or a tag of definite length shows at the most, without the items in it: with brackets, and with
+-- the separator behind it, which a tag has from its content. What stands behind its head is given. Of others nothing is said.
+abbrev pub most_columns : ℕ → Argument → List ℕ → Option ℕ
+most_columns major None rest = None
+most_columns major (Some (w, n)) rest =
+    if major == 0 then Some (indicated w n (length (decimal n)))
+    else if major == 1 then Some (indicated w n (length (decimal (n + 1)) + 1))
+    else if major == 2 then Some (indicated w n (2 * n + 3))
+    else if major == 3 then Some (indicated w n (length (all_escaped (take n rest)) + 2))
+    else if (major == 4) || (major == 5) then Some (indicated w n 3)
+    else if major == 6 then Some (indicated w n (length (decimal n)))
+    else None
+
+-- It shows no more than so many.
+abbrev pub ShowsWithin : ℕ → Argument → List ℕ → ℕ → Type 0
+ShowsWithin major argument rest columns = MatchOption (most_columns major argument rest) ⊥ (λ most. most ≤ columns)

@@ -1,12 +1,12 @@
 -- What is printed of the items that bytes encode, while they are read.
-use Rattle.std.specs.Prelude.{ℕ, ◌-◌, ◌*◌, ◌^◌, min, ◌≡◌, List, [], ◌∷◌, ◌++◌, Option, Some, None, Result, Ok, Err}
+use Rattle.std.specs.Prelude.{ℕ, ◌≡◌, List, [], ◌∷◌, ◌++◌, Option, Some, None, Result, Ok, Err}
 use Rattle.cbor_edn_parts.specs.declared.base.error.Fault.{Fault}
 use Rattle.cbor_edn_parts.specs.space.Spacing.{Separating, AtEnd}
 use Rattle.cbor_edn_model.specs.declared.cbor.decode.CborError.{CborError}
 use Rattle.cbor_edn_model.specs.text.Spelling.{open_byte, close_byte}
 use Rattle.cbor_edn_model.specs.tree.Items.{Row, Bracketed, Array, Map, entries_of}
 use Rattle.cbor_edn_model.specs.tree.Trees.{Rule, Tree, OneItem, OneEntry, Rest, ListTree, EnclosedTree, ElementTree, text, opener_text}
-use Rattle.cbor_edn_model.specs.layout.Layout.{Layout, Kept, Inline, Lines, Between, Last, respaced, laid}
+use Rattle.cbor_edn_model.specs.layout.Layout.{Layout, Between, Last, respaced, laid}
 use Rattle.cbor_edn_model.specs.internal.CborReading.{DecoderResult, Decoder, DecoderFails, Argument, shown, item_at, pair_at, array_by, map_by, tag_by, inner, trees}
 use Rattle.cbor_edn_stream.specs.declared.print.Brackets.{Brackets}
 use Rattle.cbor_edn_stream.specs.declared.print.Brackets.TheVariants as brackets
@@ -68,17 +68,3 @@ abbrev pub WritesParts : Layout → Tree OneItem → List ℕ → List ℕ → T
 WritesParts l (ListTree k w) old new = new ≡ old ++ (open_byte k ∷ (text (laid l w) ++ (close_byte k ∷ [])))
 WritesParts l (EnclosedTree opener w) old new = new ≡ old ++ (opener_text opener ++ (40 ∷ (text (laid l w) ++ (41 ∷ []))))
 WritesParts l w old new = ⊥
-
--- wider than any item
-abbrev pub greatest : ℕ
-greatest = 2 ^ 64 - 1
-
--- how many columns of the line are left
-abbrev pub front_columns : Layout → ℕ
-front_columns Kept = 0
-front_columns (Inline column) = 0
-front_columns (Lines base end level width) = width - base
-
--- how many bytes are read first: nine for each column
-abbrev pub front_room : Layout → ℕ
-front_room l = min (front_columns l * 9) greatest

@@ -1,17 +1,81 @@
-//! How wide items are, told from their heads.
-ghost use Rattle.std.specs.Prelude.{◌≡◌, ◌+◌, ◌-◌, ◌^◌, ◌<◌, true, min};
+//! How items are laid out on lines: how much of a line is left, and how wide items are, told from their heads.
+ghost use Rattle.std.specs.Prelude.{◌≡◌, ◌∷◌, [], ◌+◌, ◌-◌, ◌^◌, ◌<◌, ◌≤◌, true, min, length, take, All, IfSome};
+ghost use Rattle.cbor_edn_parts.specs.string.Contents.{escaped, all_escaped};
 ghost use Rattle.cbor_edn_stream.specs.Heads as heads;
-ghost use Rattle.cbor_edn_stream.specs.Wide.{IsWider};
+ghost use Rattle.cbor_edn_stream.specs.Wide.{IsWider, IsNarrower, IsOfParts, front_columns, front_room};
 
 use crate::tags::behind_content;
-use cbor_edn_model::cbor::decode::head::{Argument, head_of};
+use cbor_edn_model::cbor::decode::head::{Argument, head_of, indicator_of};
+use cbor_edn_model::layout::width::{decimal_len, indicator_len};
+use cbor_edn_parts::space::layout::Layout;
+use cbor_edn_parts::space::policy::Spacing;
+
+/// How many columns an item on a line has at the most.
+fn columns(layout: Layout) -> usize
+    ensures { result ≡ front_columns layout }
+{
+    match layout {
+        Layout::Kept | Layout::Inline(_) => 0,
+        Layout::Lines { base, width, .. } => width.saturating_sub(base),
+    }
+}
+
+/// How many bytes an item on a line has at the most.
+pub fn room(layout: Layout) -> usize
+    ensures { result ≡ front_room layout }
+{
+    columns(layout).saturating_mul(9)
+}
+
+/// The layout of the parts of the item at the front, where it is known before the item is decoded. `untried` is how many bytes stand behind
+/// the last that were decoded in vain.
+#[inline(always)]
+pub fn known_parts(layout: Layout, bytes: &[u8], untried: usize) -> Option<Layout>
+    ensures { IfSome result (λ parts. IsOfParts layout parts bytes.now) }
+{
+    match layout {
+        Layout::Kept | Layout::Inline(_) => Some(layout),
+        Layout::Lines { .. } => {
+            if is_known_wide(columns(layout), bytes, untried) {
+                Some(layout.of_parts(usize::MAX))
+            } else if is_narrower(columns(layout), bytes) {
+                Some(Layout::Inline(Spacing::OneLine))
+            } else {
+                None
+            }
+        }
+    }
+}
+
+/// Whether the heads of an item tell that it is wider than so many columns. They are asked where it begins in bytes that were decoded in
+/// vain, and where it has many parts.
+#[inline(always)]
+fn is_known_wide(columns: usize, bytes: &[u8], untried: usize) -> bool
+    ensures { result ≡ true → IsWider columns bytes.now }
+{
+    if bytes.len() > untried || has_many_parts(columns, bytes) {
+        is_wider(columns, bytes)
+    } else {
+        false
+    }
+}
+
+/// Whether a list has as many parts as there are columns, as far as two bytes tell. It says what is asked, and not what is written.
+#[inline(always)]
+fn has_many_parts(columns: usize, bytes: &[u8]) -> bool {
+    match bytes {
+        [0x98 | 0xb8, count, ..] => usize::from(*count) >= columns,
+        [0x99..=0x9b | 0xb9..=0xbb, ..] => true,
+        _ => false,
+    }
+}
 
 /// Whether the item at the front is wider than so many columns, as far as the number of its heads tells. Of bytes that begin with no item
 /// it says nothing.
 ///
 /// It goes from head to head, each of which shows one column at least, and reads no more of them than there are columns.
 #[inline(never)]
-pub fn is_wider(columns: usize, bytes: &[u8]) -> bool
+fn is_wider(columns: usize, bytes: &[u8]) -> bool
     ensures { result ≡ true → IsWider columns bytes.now }
 {
     let mut left = columns;
@@ -40,6 +104,87 @@ pub fn is_wider(columns: usize, bytes: &[u8]) -> bool
         }
         rest = behind_content(major, argument, behind);
     }
+}
+
+/// Whether the item at the front is narrower than so many columns, as far as its heads tell: those of integers, arrays, maps and tags of
+/// definite length do, and those of strings without escapes. Of bytes that begin with no item it says nothing.
+///
+/// It goes from head to head, each of which shows three columns at least with its separator, and reads no more of them than have room.
+#[inline(never)]
+fn is_narrower(columns: usize, bytes: &[u8]) -> bool
+    ensures { result ≡ true → IsNarrower columns bytes.now }
+{
+    let mut left = columns;
+    let mut due: usize = 1;
+    let mut rest = bytes;
+    'heads: loop {
+        let Ok(((major, argument), behind)) = head_of(rest) else {
+            return false;
+        };
+        let Some(most) = most_columns(major, argument, behind) else {
+            return false;
+        };
+        if left < most {
+            return false;
+        }
+        left -= most;
+        due = parts_of(major, argument).saturating_add(due - 1);
+        if due == 0 {
+            return true;
+        }
+        if left / 3 < due {
+            return false;
+        }
+        rest = behind_content(major, argument, behind);
+    }
+}
+
+/// How many columns a head shows at the most, with what it holds but items, with brackets and with the separator behind it.
+#[inline(always)]
+fn most_columns(major: u8, argument: Argument, behind: &[u8]) -> Option<usize>
+    ensures { IfSome result (λ columns. heads.ShowsWithin major argument behind.now columns) }
+{
+    let (_, count) = argument?;
+    let columns = match major {
+        0 | 6 => decimal_len(count),
+        1 => decimal_len(count.checked_add(1)?) + 1,
+        2 if count < 0x100 => 2 * (count as usize) + 3,
+        3 if count < 0x100 && begins_plain(count as usize, behind) => count as usize + 2,
+        4 | 5 => 3,
+        _ => return None,
+    };
+    Some(columns + indicator_len(indicator_of(argument)) + 2)
+}
+
+/// Whether so many bytes stand in front, each of which stands for itself between double quotes.
+fn begins_plain(count: usize, bytes: &[u8]) -> bool
+    ensures { result ≡ true → length (all_escaped (take count bytes.now)) ≤ count }
+{
+    if bytes.len() < count {
+        return false;
+    }
+    let (text, _) = bytes.split_at(count);
+    is_plain(text)
+}
+
+/// Whether each byte stands for itself between double quotes.
+fn is_plain(text: &[u8]) -> bool
+    ensures { result ≡ true → All (λ c. escaped c ≡ c ∷ []) text.now }
+{
+    for byte in text {
+        if !stands_for_itself(*byte) {
+            return false;
+        }
+    }
+    true
+}
+
+/// Whether a byte stands for itself between double quotes. A line feed does too, and is not asked for.
+#[inline(always)]
+fn stands_for_itself(byte: u8) -> bool
+    ensures { result ≡ true → escaped byte ≡ byte ∷ [] }
+{
+    byte > b'\\' || byte >= b' ' && byte != b'"' && byte != b'\'' && byte != b'\\'
 }
 
 /// Whether a head ends what has indefinite length.

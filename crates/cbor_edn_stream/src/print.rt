@@ -1,11 +1,12 @@
 //! Printing from bytes.
 //!
-//! An item that takes more than `9 * n` bytes is wider than `n` columns, since a head has nine bytes at most and shows one column at least.
-//! So an item in which others nest is decoded from no more bytes than can fit on its line. Where they hold it whole, it is a small tree,
-//! which the printer lays out. Where they don't, it has lines of its own, and its parts are printed one by one in the same way.
+//! Where the heads of an item tell whether it fits on its line, its parts are printed one by one. Else it is decoded: an item that takes more
+//! than `9 * n` bytes is wider than `n` columns, since a head has nine bytes at most and shows one column at least, so from no more bytes
+//! than these. Where they hold it whole, it is a small tree, which the printer lays out. Where they don't, it has lines of its own, and its
+//! parts are printed one by one.
 //!
 //! Bytes are decoded in vain once at the most: of an item that begins in such bytes, the heads are counted first.
-ghost use Rattle.std.specs.Prelude.{◌≡◌, ◌≢◌, ◌⊎◌, ◌++◌, ◌<◌, ◌≤◌, ◌*◌, ◌-◌, ◌^◌, ◌∷◌, [], ℕ, suc, true, false, length, map, min, IfOk, IfSome, IfNone, OnOk, None};
+ghost use Rattle.std.specs.Prelude.{◌≡◌, ◌≢◌, ◌++◌, ◌<◌, ◌≤◌, ◌*◌, ◌-◌, ◌^◌, ◌∷◌, [], ℕ, suc, true, false, length, map, IfOk, IfSome, IfNone, OnOk, None};
 ghost use Rattle.cbor_edn_parts.specs.base.Buffer.{buffer_bytes};
 ghost use Rattle.cbor_edn_parts.specs.base.Indicator.{indicator_text};
 ghost use Rattle.cbor_edn_parts.specs.base.Refusals.{IfTold};
@@ -22,10 +23,9 @@ ghost use Rattle.cbor_edn_model.specs.tree.Trees.{Tree, OneItem, Seq, text, list
 ghost use Rattle.cbor_edn_model.specs.internal.CborReading as reading;
 ghost use Rattle.cbor_edn_model.specs.internal.CborReading.{trees, inner, head_at, item_at, pair_at, tag_by, string_by, string_at, shown, number_tree, DecoderGives, many, until, several, argument_indicator, row_of};
 ghost use Rattle.cbor_edn_model.specs.internal.Regular.{list_inside, spaced_list_head};
-ghost use Rattle.cbor_edn_stream.specs.Wide.{IsWider};
-ghost use Rattle.cbor_edn_stream.specs.Printed.{Prints, Writes, WritesAnyhow, WritesParts, WritesRow, front_columns, front_room, bracketed, entry_at, list_by, nested_major, nested_by};
+ghost use Rattle.cbor_edn_stream.specs.Printed.{Prints, Writes, WritesAnyhow, WritesParts, WritesRow, bracketed, entry_at, list_by, nested_major, nested_by};
 
-use crate::columns::is_wider;
+use crate::columns::{known_parts, room};
 use cbor_edn_core::cbor::decode::{CborError, decode_item};
 use cbor_edn_core::layout::print_item as print_tree;
 use cbor_edn_model::cbor::decode::head::{Argument, Stop, head_of, indicator_of, past_stop};
@@ -88,59 +88,6 @@ pub fn print_cbor(
         bytes.len(),
     )?;
     Ok(())
-}
-
-/// How many columns an item on a line has at the most.
-fn columns(layout: Layout) -> usize
-    ensures { result ≡ front_columns layout }
-{
-    match layout {
-        Layout::Kept | Layout::Inline(_) => 0,
-        Layout::Lines { base, width, .. } => width.saturating_sub(base),
-    }
-}
-
-/// How many bytes an item on a line has at the most.
-fn room(layout: Layout) -> usize
-    ensures { result ≡ front_room layout }
-{
-    columns(layout).saturating_mul(9)
-}
-
-/// How many bytes of an item are decoded, if it may fit on a line: none where it is known that it does not.
-#[inline(always)]
-fn front_len(layout: Layout, bytes: &[u8], untried: usize) -> usize
-    ensures enough { (result ≡ min (front_room layout) (length bytes.now)) ⊎ IsWider (front_columns layout) bytes.now }
-    ensures within { result ≤ length bytes.now }
-{
-    if is_known_wide(columns(layout), bytes, untried) {
-        0
-    } else {
-        room(layout).min(bytes.len())
-    }
-}
-
-/// Whether the heads of an item tell that it is wider than so many columns. They are asked where it begins in bytes that were decoded in
-/// vain, and where it has many parts.
-#[inline(always)]
-fn is_known_wide(columns: usize, bytes: &[u8], untried: usize) -> bool
-    ensures { result ≡ true → IsWider columns bytes.now }
-{
-    if bytes.len() > untried || has_many_parts(columns, bytes) {
-        is_wider(columns, bytes)
-    } else {
-        false
-    }
-}
-
-/// Whether a list has as many parts as there are columns, as far as two bytes tell. It says what is asked, and not what is written.
-#[inline(always)]
-fn has_many_parts(columns: usize, bytes: &[u8]) -> bool {
-    match bytes {
-        [0x98 | 0xb8, count, ..] => usize::from(*count) >= columns,
-        [0x99..=0x9b | 0xb9..=0xbb, ..] => true,
-        _ => false,
-    }
 }
 
 /// Writes the item at the front, and answers the bytes behind it.
@@ -272,8 +219,7 @@ fn print_decoded<'b>(
     Ok(rest)
 }
 
-/// Writes an item in which others nest, and answers the bytes behind it. `untried` is how many bytes stand behind the last that were
-/// decoded in vain.
+/// Writes an item in which others nest, and answers the bytes behind it.
 #[cycle(print)]
 #[inline(never)]
 fn print_nested<'b>(
@@ -287,7 +233,14 @@ fn print_nested<'b>(
     ensures value { Prints (λ t. Writes layout t) (λ r. r.now) (buffer_bytes out.old) (buffer_bytes out.new) result (item_at trees limit bytes.now) }
     ensures shorter { IfOk result (λ r. length r.now < length bytes.now) }
 {
-    let (front, _) = bytes.split_at(front_len(layout, bytes, untried));
+    let ((major, argument), behind) = head_of(bytes)?;
+    let Some(nested) = nested_of(major) else {
+        return print_decoded(alloc, out, layout, bytes, limit);
+    };
+    if let Some(parts) = known_parts(layout, bytes, untried) {
+        return print_parts(alloc, out, parts, nested, argument, behind, limit, untried);
+    }
+    let (front, _) = bytes.split_at(room(layout).min(bytes.len()));
     match decode_item(alloc, front, limit) {
         Ok((item, after)) => {
             print_tree(out, &item, &layout)?;
@@ -296,10 +249,6 @@ fn print_nested<'b>(
         }
         Err(Fault::Memory(e)) => Err(Fault::Memory(e)),
         Err(Fault::Told(_)) => {
-            let ((major, argument), behind) = head_of(bytes)?;
-            let Some(nested) = nested_of(major) else {
-                return print_decoded(alloc, out, layout, bytes, limit);
-            };
             let parts = layout.of_parts(usize::MAX);
             let untried = untried.min(bytes.len() - front.len());
             print_parts(alloc, out, parts, nested, argument, behind, limit, untried)

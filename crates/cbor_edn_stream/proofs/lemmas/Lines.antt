@@ -1,6 +1,6 @@
--- An item that stands in the front of the bytes, and one that does not, which has lines of its own.
+-- The layout of an item: by what its heads tell, and by whether it stands in the front of the bytes.
 use Rattle.std.proofs.Common.{◌≡◌, ℕ, ◌-◌, ◌*◌, ◌^◌, ◌≤◌, ◌<◌, take, drop, List, [], ◌∷◌, ◌++◌, length, Result, Ok, Err, refl, sym, ap, subst, ◌∙◌, arith, inl, inr}
-use Rattle.std.specs.Prelude.{min, ◌⊎◌}
+use Rattle.std.specs.Prelude.{min}
 use Rattle.std.proofs.lemmas.Bool.{cases_lt, lt-ltb, le-ltb}
 use Rattle.cbor_edn_parts.specs.space.LayoutColumns.{of_parts, saturating_add}
 use Rattle.cbor_edn_parts.specs.declared.base.error.Fault.{Fault}
@@ -14,14 +14,14 @@ use Rattle.cbor_edn_model.proofs.lemmas.cbor.CborHeads.{IsBytes}
 use Rattle.cbor_edn_model.proofs.lemmas.layout.LaidTexts.{text_laid_enclosed, text_laid_list}
 use Rattle.cbor_edn_stream.specs.declared.print.Nested.{Nested}
 use Rattle.cbor_edn_stream.specs.declared.print.Nested.TheVariants as nested
-use Rattle.cbor_edn_stream.specs.Printed.{Prints, Writes, WritesParts, greatest, front_columns, front_room, nested_major, nested_by}
-use Rattle.cbor_edn_stream.specs.Wide.{IsWider}
+use Rattle.cbor_edn_stream.specs.Printed.{Prints, Writes, WritesParts, nested_major, nested_by}
+use Rattle.cbor_edn_stream.specs.Wide.{greatest, front_columns, front_room}
 use Rattle.cbor_edn_stream.proofs.lemmas.Lengths.{line_width}
 use Rattle.cbor_edn_stream.proofs.lemmas.Prefixes.{front_read, front_refused}
 use Rattle.cbor_edn_stream.proofs.lemmas.Turns.{array_at, map_at, tag_at}
 
 -- an item that is wider than what is left of the line has lines of its own
-pub wide_parts : (l : Layout) (t : Tree OneItem) → front_columns l < line_width t → of_parts l (measured t) ≡ of_parts l greatest
+wide_parts : (l : Layout) (t : Tree OneItem) → front_columns l < line_width t → of_parts l (measured t) ≡ of_parts l greatest
 wide_parts Kept t lt = refl
 wide_parts (Inline column) t lt = refl
 wide_parts (Lines base end level width) t lt =
@@ -46,24 +46,18 @@ nested_at limit nested.Array argument bytes behind read = array_at limit argumen
 nested_at limit nested.Map argument bytes behind read = map_at limit argument bytes behind read
 nested_at limit nested.Tag argument bytes behind read = tag_at limit argument bytes behind read
 
--- What the front does not hold is wider, and so is what its heads tell to be.
-lines_wider : (l : Layout) (limit n : ℕ) (bytes front : List ℕ) (e : CborError) → IsBytes bytes
-    → (n ≡ min (front_room l) (length bytes)) ⊎ IsWider (front_columns l) bytes → length bytes < 2 ^ 64
-    → front ≡ take n bytes → item_at trees limit front ≡ Err e → (t : Tree OneItem) (rest : List ℕ) → item_at trees limit bytes ≡ Ok (t, rest) → front_columns l < line_width t
-lines_wider l limit n bytes front e fits (inl is) small part refused t rest read =
+-- what the front does not hold is wider
+pub front_wider : (l parts : Layout) (limit n : ℕ) (bytes front : List ℕ) (e : CborError) → IsBytes bytes → n ≡ min (front_room l) (length bytes) → length bytes < 2 ^ 64
+    → front ≡ take n bytes → item_at trees limit front ≡ Err e → parts ≡ of_parts l greatest → (t : Tree OneItem) (rest : List ℕ) → item_at trees limit bytes ≡ Ok (t, rest) → parts ≡ of_parts l (measured t)
+front_wider l parts limit n bytes front e fits is small part refused given t rest read =
     let long = front_refused limit n bytes e (t, rest) fits (subst (λ (b : List ℕ). item_at trees limit b ≡ Err e) part refused) read in
-    omega (arith, is, long.0, long.1, small)
-lines_wider l limit n bytes front e fits (inr wider) small part refused t rest read = wider limit t rest read
+    given ∙ sym (wide_parts l t (omega (arith, is, long.0, long.1, small)))
 
--- Both have lines of their own.
-pub lines_written : {X : Type 0} (view : X → List ℕ) (l parts : Layout) (limit n : ℕ) (bytes front old new : List ℕ) (e : CborError) (r : Result X (Fault CborError)) → IsBytes bytes
-    → (n ≡ min (front_room l) (length bytes)) ⊎ IsWider (front_columns l) bytes → length bytes < 2 ^ 64
-    → front ≡ take n bytes → item_at trees limit front ≡ Err e → parts ≡ of_parts l greatest
+-- It is written by the layout that is known of its parts.
+pub known_written : {X : Type 0} (view : X → List ℕ) (l parts : Layout) (limit : ℕ) (bytes old new : List ℕ) (r : Result X (Fault CborError)) → ((t : Tree OneItem) (rest : List ℕ) → item_at trees limit bytes ≡ Ok (t, rest) → parts ≡ of_parts l (measured t))
     → Prints (λ t. WritesParts parts t) view old new r (item_at trees limit bytes) → Prints (λ t. Writes l t) view old new r (item_at trees limit bytes)
-lines_written view l parts limit n bytes front old new e (Ok x) fits enough small part refused given p =
-    let wide = wide_parts l p.0 (lines_wider l limit n bytes front e fits enough small part refused p.0 (view x) p.1) in
-    (p.0, p.1, parts_written l parts p.0 old new (wide ∙ sym given) p.2)
-lines_written view l parts limit n bytes front old new e (Err f) fits enough small part refused given p = p
+known_written view l parts limit bytes old new (Ok x) known p = (p.0, p.1, parts_written l parts p.0 old new (sym (known p.0 (view x) p.1)) p.2)
+known_written view l parts limit bytes old new (Err f) known p = p
 
 -- What it holds is read from all.
 pub front_written : (l : Layout) (limit n : ℕ) (bytes front behind rest old new : List ℕ) (t : Tree OneItem) → IsBytes bytes → front ≡ take n bytes → item_at trees limit front ≡ Ok (t, behind) → rest ≡ drop (length front - length behind) bytes → Writes l t old new

@@ -8,7 +8,7 @@ use Rattle.std.proofs.lemmas.Result.{err_from_is_err_and}
 use Rattle.cbor_edn_model.proofs.lemmas.cbor.CborTurns.{fails, until_fails}
 use Rattle.cbor_edn_stream.proofs.lemmas.Turns.{front_none, entry_item, list_fails, fault_told, list_printed, pair_fails, pair_printed, tag_printed, head_is, inside_printed, several_many, several_open, stopped_at_once, empty_printed}
 use Rattle.cbor_edn_model.proofs.lemmas.cbor.CborOutcomes.{many_none}
-use Rattle.cbor_edn_stream.proofs.lemmas.Lines.{nested_at, lines_written, front_written}
+use Rattle.cbor_edn_stream.proofs.lemmas.Lines.{nested_at, known_written, front_wider, front_written}
 use Rattle.cbor_edn_model.proofs.lemmas.cbor.CborTurns.{item_fails}
 use Rattle.std.proofs.Common.{subst}
 use Rattle.cbor_edn_model.specs.internal.CborReading.{DecoderFails}
@@ -151,16 +151,22 @@ print_until-turns-preserved t c =
 
 pub print_nested-returns-in_ok-print_item-in-Ok-clause-value : goal.print_nested-returns-in_ok-print_item-in-Ok-clause-value
 print_nested-returns-in_ok-print_item-in-Ok-clause-value t c =
-    front_written c.args.layout c.args.limit c.front_len.result c.args.bytes.now c.split_at.result.0.now c.in-Ok.after.now c.split_at-in-Ok.result.1.now (buffer_bytes c.args.out.now) (buffer_bytes c.print_item.new.out) (item_tree c.in-Ok.item)
+    front_written c.args.layout c.args.limit c.min.result c.args.bytes.now c.split_at.result.0.now c.in-Ok.after.now c.split_at-in-Ok.result.1.now (buffer_bytes c.args.out.now) (buffer_bytes c.print_item.new.out) (item_tree c.in-Ok.item)
     (λ i. omega (arith, c.type_inv.bytes i)) c.split_at.ensures.front c.in-Ok.ensures.value c.split_at-in-Ok.ensures.back (grind arith)
 
-pub print_nested-returns-in-Some-clause-value : goal.print_nested-returns-in-Some-clause-value
-print_nested-returns-in-Some-clause-value t c =
-    lines_written (λ r. r.now) c.args.layout c.of_parts-parts.result c.args.limit c.front_len.result c.args.bytes.now c.split_at.result.0.now (buffer_bytes c.args.out.now) (buffer_bytes c.print_parts.new.out) c.in-Err-Told.field-0-0 c.print_parts.result
-    (λ i. omega (arith, c.type_inv.bytes i)) c.front_len.ensures.enough (omega arith) c.split_at.ensures.front
-    (fault_told c.in-Err-Told.field-0 c.in-Err-Told.field-0-0 (item_at trees c.args.limit c.split_at.result.0.now) c.in-Err-Told.field-0-is c.in-Err-Told.ensures.value) c.of_parts-parts.ensures
-    (rw (nested_at c.args.limit c.in-Some.nested c.in_ok-major-in-Err-Told.argument c.args.bytes.now c.in_ok-major-in-Err-Told.behind.now
-    (head_is c.args.bytes.now c.in_ok-major-in-Err-Told.behind.now c.in_ok-major-in-Err-Told.major (nested_major c.in-Some.nested) c.in_ok-major-in-Err-Told.argument c.in_ok-major-in-Err-Told.argument c.in_ok-major-in-Err-Told.ensures.value (sym c.in-Some.ensures) refl)) c.print_parts.ensures.value)
+pub print_nested-returns-in-Err-Told-clause-value : goal.print_nested-returns-in-Err-Told-clause-value
+print_nested-returns-in-Err-Told-clause-value t c =
+    known_written (λ r. r.now) c.args.layout c.of_parts-parts.result c.args.limit c.args.bytes.now (buffer_bytes c.args.out.now) (buffer_bytes c.print_parts-in-Err-Told.new.out) c.print_parts-in-Err-Told.result
+    (front_wider c.args.layout c.of_parts-parts.result c.args.limit c.min.result c.args.bytes.now c.split_at.result.0.now c.in-Err-Told.field-0-0 (λ i. omega (arith, c.type_inv.bytes i)) (cc) (omega arith) c.split_at.ensures.front
+    (fault_told c.in-Err-Told.field-0 c.in-Err-Told.field-0-0 (item_at trees c.args.limit c.split_at.result.0.now) c.in-Err-Told.field-0-is c.in-Err-Told.ensures.value) c.of_parts-parts.ensures)
+    (rw (nested_at c.args.limit c.in-Some.nested c.in_ok-major.argument c.args.bytes.now c.in_ok-major.behind.now
+    (head_is c.args.bytes.now c.in_ok-major.behind.now c.in_ok-major.major (nested_major c.in-Some.nested) c.in_ok-major.argument c.in_ok-major.argument c.in_ok-major.ensures.value (sym c.in-Some.ensures) refl)) c.print_parts-in-Err-Told.ensures.value)
+
+pub print_nested-returns-in-Some-known_parts-clause-value : goal.print_nested-returns-in-Some-known_parts-clause-value
+print_nested-returns-in-Some-known_parts-clause-value t c =
+    known_written (λ r. r.now) c.args.layout c.in-Some-known_parts.parts c.args.limit c.args.bytes.now (buffer_bytes c.args.out.now) (buffer_bytes c.print_parts.new.out) c.print_parts.result (c.in-Some-known_parts.ensures c.args.limit)
+    (rw (nested_at c.args.limit c.in-Some.nested c.in_ok-major.argument c.args.bytes.now c.in_ok-major.behind.now
+    (head_is c.args.bytes.now c.in_ok-major.behind.now c.in_ok-major.major (nested_major c.in-Some.nested) c.in_ok-major.argument c.in_ok-major.argument c.in_ok-major.ensures.value (sym c.in-Some.ensures) refl)) c.print_parts.ensures.value)
 
 pub print_tag-returns-clause-value : goal.print_tag-returns-clause-value
 print_tag-returns-clause-value t c =
@@ -168,7 +174,7 @@ print_tag-returns-clause-value t c =
     tag_printed c.args.parts c.args.limit c.args.argument c.in-Some.field-0-0 c.in-Some.number c.args.bytes.now c.in_ok-rest.rest.now (buffer_bytes c.args.out.now) (buffer_bytes c.print_opener.new.out) (buffer_bytes c.push_str.new.self) (buffer_bytes c.print_space.new.out)
     (buffer_bytes c.print_item.new.out) (buffer_bytes c.print_space-2.new.out) (buffer_bytes c.push_str-2.new.self) p.0 c.in-Some.is (omega (arith, c.if-limit-eq0.false)) p.1 (grind arith) (grind arith) (grind arith) p.2 (grind arith) (grind arith)
 
-pub print_nested-returns-in_err-major-in-Err-Told-clause-value : goal.print_nested-returns-in_err-major-in-Err-Told-clause-value
-print_nested-returns-in_err-major-in-Err-Told-clause-value t c =
-    let p = err_from_is_err_and c.from_residual-in_err-major-in-Err-Told.result c.from_residual-in_err-major-in-Err-Told.ensures.1 in
-    rw (p.1, p.2) (item_fails trees c.in_err-major-in-Err-Told.field-0.0 c.args.limit c.args.bytes.now c.in_err-major-in-Err-Told.ensures.value)
+pub print_nested-returns-in_err-major-clause-value : goal.print_nested-returns-in_err-major-clause-value
+print_nested-returns-in_err-major-clause-value t c =
+    let p = err_from_is_err_and c.from_residual.result c.from_residual.ensures.1 in
+    rw (p.1, p.2) (item_fails trees c.in_err-major.field-0.0 c.args.limit c.args.bytes.now c.in_err-major.ensures.value)
