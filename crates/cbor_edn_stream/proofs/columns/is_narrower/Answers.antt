@@ -15,6 +15,6 @@ heads-preserved c =
     let due : c.saturating_add-due.result ≡ c.heads.due - 1 + parts_of c.in-Ok.major c.in-Ok.argument = omega arith in
     record {
       before = before_on c.args.bytes.now c.heads.rest.now c.in-Ok.behind.now c.behind_content-rest.result.now c.heads.due c.args.columns c.heads.left c.saturating_add-due.result (c.heads.left - c.in-Some.most) c.in-Some.most
-      c.in-Ok.major c.in-Ok.argument c.heads.invariant.going c.in-Ok.ensures.value c.in-Some.ensures c.behind_content-rest.ensures.value (omega arith) due c.heads.invariant.before;
+          c.in-Ok.major c.in-Ok.argument c.heads.invariant.going c.in-Ok.ensures.value c.in-Some.ensures c.behind_content-rest.ensures.value (omega arith) due c.heads.invariant.before;
       going = omega arith;
     }
