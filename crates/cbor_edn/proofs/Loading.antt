@@ -25,7 +25,7 @@ use Rattle.cbor_edn_parts.specs.declared.base.error.Fault.TheVariants.{Memory, T
 use Rattle.cbor_edn_parts.specs.declared.base.error.InconsistentEdn.{InconsistentEdn}
 use Rattle.cbor_edn_model.specs.cbor.Meaning.{NoEncoding}
 use Rattle.cbor_edn_command.specs.Hexadecimal.{input_bytes}
-use Rattle.cbor_edn.specs.Runs.{IsReadAs, IsPrintedAs, IsRefused, told_as}
+use Rattle.cbor_edn.specs.Runs.{IsReadAs, IsDecodedAs, IsPrintedAs, IsRefused, told_as}
 use Rattle.cbor_edn.specs.RunSteps.{Where, IsLaidOut, StepsGive}
 use Rattle.cbor_edn.specs.OptionSteps.{IsEncoded, IsUnencoded, IsDiagnosed, IsUndiagnosed}
 use Rattle.cbor_edn.proofs.UntaggedSteps.{kept_steps_give}
@@ -47,6 +47,9 @@ read_as limit input t x same utf8 parsed = record {
   merged = parsed.merged;
   within = parsed.accepted.within;
 }
+
+pub decoded_as : (limit : ℕ) (bytes : List ℕ) (x : Sequence) → IsDecodedSequence limit bytes (sequence_tree x) → IsDecodedAs limit bytes (sequence_tree x)
+decoded_as limit bytes x d = (d, valid (sequence_tree x) (sequence_valid x))
 
 -- the last step, which sets spaces alone
 abbrev pub Last : Options → Tree Seq → Tree Seq → Type 0
