@@ -167,6 +167,37 @@ pub(crate) fn converted_once(alloc: Global, row: &Case) -> Result<bool, Failure>
     }
 }
 
+/// A string of 4 KB between two tags: its name, whether spaces are preserved, and what stands between elements and behind them.
+pub(crate) type Apart = (&'static str, bool, &'static str, &'static str);
+
+/// Runs in memory that change elements of a sequence apart, with every option, by the same rules.
+pub(crate) const APART: &[Apart] = &[
+    ("engine::converted, elements apart", false, ",\n", "\n"),
+    (
+        "engine::converted, elements apart without space",
+        true,
+        ",",
+        "",
+    ),
+];
+
+const BIGNUM: &str = "c249010000000000000000";
+
+const INTEGER: &str = "18446744073709551616";
+
+pub(crate) fn converted_apart(alloc: Global, row: &Apart) -> Result<bool, Failure> {
+    let (_, preserve_space, between, behind) = *row;
+    let zeros = "00".repeat(alloc, 4096)?;
+    let input = format!(in alloc; "{BIGNUM}591000{zeros}{BIGNUM}")?;
+    let shown = format!(in alloc; "{INTEGER}{between}h'{zeros}'{between}{INTEGER}{behind}")?;
+    let options = options_of(Command::Cbor2Diag, true, preserve_space);
+    match converted(alloc, &options, input.as_bytes()) {
+        Ok(output) => Ok(output.as_slice() == shown.as_bytes()),
+        Err(RunError::Memory(_)) => Err(Failure::Refused),
+        Err(_) => Ok(false),
+    }
+}
+
 #[derive(Clone, Copy)]
 pub(crate) enum Recoding {
     Direct,

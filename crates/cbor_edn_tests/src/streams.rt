@@ -133,6 +133,34 @@ const PRINTED: &[(Repeated, Repeated)] = &[
             ",\n    DT'1970-01-01T00:00:00+00:00'\n]\n",
         ),
     ),
+    // more elements than are changed together, and one that is longer than they are
+    (
+        ("", "c100", 2100, ""),
+        (
+            "DT'1970-01-01T00:00:00+00:00'",
+            ",\nDT'1970-01-01T00:00:00+00:00'",
+            2099,
+            "\n",
+        ),
+    ),
+    (
+        ("", "820102c249010000000000000000", 300, "f6"),
+        ("", "[1, 2],\n18446744073709551616,\n", 300, "null\n"),
+    ),
+    (
+        (
+            "c249010000000000000000591388",
+            "00",
+            5000,
+            "c249010000000000000000",
+        ),
+        (
+            "18446744073709551616,\nh'",
+            "00",
+            5000,
+            "',\n18446744073709551616\n",
+        ),
+    ),
 ];
 
 /// Digits of CBOR, and the fault that stands behind what could be printed.
@@ -160,6 +188,12 @@ const REFUSED: &[(Repeated, &str)] = &[
         "Integer/Tag with indefinite length encoding is not well-formed",
     ),
     (("d29864", "01", 99, ""), "Expected item, out of data"),
+    // behind elements that are changed together, and in the first of the next
+    (
+        ("", "c100", 2048, "ff"),
+        "Break code only expected at end of indefinite length items",
+    ),
+    (("", "c100", 2049, "c1"), "Expected item, out of data"),
 ];
 
 fn prints(alloc: Global, digits: Repeated, text: Repeated) -> Result<bool, Fail> {
