@@ -1,1 +1,1 @@
-mod Flags
+mod FlagSums

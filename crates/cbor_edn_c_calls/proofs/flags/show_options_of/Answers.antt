@@ -1,5 +1,5 @@
 use Rattle.std.proofs.Common.{inl, inr, sym, ◌∙◌}
-use Rattle.cbor_edn_c_calls.proofs.Flags.{summed}
+use Rattle.cbor_edn_c_calls.proofs.FlagSums.{summed}
 use Rattle.cbor_edn_c_calls.proofs.flags.show_options_of.Goals as goal
 use Rattle.cbor_edn_c_calls.proofs.flags.show_options_of.Goals.{then-other-via-then-other, then-other-via-else-other+then-levels-gt-MOST_LEVELS}
 
