@@ -2,29 +2,26 @@
 use Rattle.std.specs.Prelude.{◌≡◌, ℕ}
 use Rattle.cbor_edn_parts.specs.base.Errors.{error_offset, error_line, error_column}
 use Rattle.cbor_edn_parts.specs.declared.base.error.ParseError.{ParseError}
+use Rattle.cbor_edn_c_calls.specs.declared.place.Place.{Place}
+use Rattle.cbor_edn_c_calls.specs.declared.place.Place.TheVariants.{Nowhere, NotFound, InText, InBytes}
 use Rattle.cbor_edn_c_calls.specs.declared.report.Report.{Report}
-use Rattle.cbor_edn_c_calls.specs.declared.status.CallFault.{CallFault}
-use Rattle.cbor_edn_c_calls.specs.declared.status.CallFault.TheVariants.{NotUtf8, InvalidText, InvalidCbor, InvalidHex, NoEncoding, OutOfMemory, TooDeepText, TooDeepCbor}
+use Rattle.cbor_edn_c_calls.specs.declared.report.TheConstants.{NO_OFFSET}
 
--- no location in a text
-abbrev pub TellsNoLocation : Report → Type 0
-TellsNoLocation r = (r.offset ≡ 0) × (r.line ≡ 0) × (r.column ≡ 0)
+-- the place that a refusal of a text says
+abbrev pub text_place : ParseError → Place
+text_place e = InText (error_offset e) (error_line e) (error_column e)
 
--- the location that a refusal of a text says
-abbrev pub TellsPlace : ParseError → Report → Type 0
-TellsPlace e r = (r.offset ≡ error_offset e) × (r.line ≡ error_line e) × (r.column ≡ error_column e)
+-- an offset, with its line and its column
+abbrev pub TellsLocation : ℕ → ℕ → ℕ → Report → Type 0
+TellsLocation offset line column r = (r.offset ≡ offset) × (r.line ≡ line) × (r.column ≡ column)
 
--- the location of this fault, where it has one
-abbrev pub TellsLocation : CallFault → Report → Type 0
-TellsLocation (InvalidText e) r = TellsPlace e r
-TellsLocation (TooDeepText e) r = TellsPlace e r
-TellsLocation NotUtf8 r = TellsNoLocation r
-TellsLocation InvalidCbor r = TellsNoLocation r
-TellsLocation InvalidHex r = TellsNoLocation r
-TellsLocation NoEncoding r = TellsNoLocation r
-TellsLocation OutOfMemory r = TellsNoLocation r
-TellsLocation TooDeepCbor r = TellsNoLocation r
+-- A place, of which CBOR has the offset alone: the line and the column are 0 where there is none, and the offset too, unless the place was not found.
+abbrev pub TellsPlace : Place → Report → Type 0
+TellsPlace Nowhere = TellsLocation 0 0 0
+TellsPlace NotFound = TellsLocation NO_OFFSET 0 0
+TellsPlace (InText offset line column) = TellsLocation offset line column
+TellsPlace (InBytes offset) = TellsLocation offset 0 0
 
 -- the length of an output, and no fault
 abbrev pub TellsOutput : ℕ → Report → Type 0
-TellsOutput n r = (r.output_len ≡ n) × (r.message_len ≡ 0) × TellsNoLocation r
+TellsOutput n r = (r.output_len ≡ n) × (r.message_len ≡ 0) × TellsPlace Nowhere r

@@ -5,27 +5,26 @@ use Rattle.cbor_edn_parts.specs.declared.base.error.ParseError.{ParseError}
 use Rattle.cbor_edn_parts.specs.declared.base.error.ParseErrorKind.{ParseErrorKind}
 use Rattle.cbor_edn_parts.specs.declared.base.error.ParseErrorKind.TheVariants.{Invalid, TooDeep}
 use Rattle.cbor_edn_c_calls.specs.declared.status.CallFault.{CallFault}
-use Rattle.cbor_edn_c_calls.specs.declared.status.CallFault.TheVariants.{NotUtf8, InvalidText, InvalidCbor, InvalidHex, NoEncoding, OutOfMemory, TooDeepText, TooDeepCbor}
+use Rattle.cbor_edn_c_calls.specs.declared.status.CallFault.TheVariants as fault
 use Rattle.cbor_edn_c_calls.specs.declared.status.Status.{Status}
 use Rattle.cbor_edn_c_calls.specs.declared.status.Status.TheVariants.{Done, NoRoom, BadCall, Fault}
 
 -- The fault of a text that is refused so: of its nesting alone, or of anything else.
-abbrev pub text_fault_by : ParseErrorKind → ParseError → CallFault
-text_fault_by Invalid = InvalidText
-text_fault_by TooDeep = TooDeepText
+abbrev pub text_fault_by : ParseErrorKind → CallFault
+text_fault_by Invalid = fault.InvalidText
+text_fault_by TooDeep = fault.TooDeep
 
 abbrev pub text_fault : ParseError → CallFault
-text_fault e = text_fault_by (error_kind e) e
+text_fault e = text_fault_by (error_kind e)
 
 abbrev pub fault_number : CallFault → ℕ
-fault_number NotUtf8 = 3
-fault_number (InvalidText _) = 4
-fault_number InvalidCbor = 5
-fault_number InvalidHex = 6
-fault_number NoEncoding = 7
-fault_number OutOfMemory = 8
-fault_number (TooDeepText _) = 9
-fault_number TooDeepCbor = 9
+fault_number fault.NotUtf8 = 3
+fault_number fault.InvalidText = 4
+fault_number fault.InvalidCbor = 5
+fault_number fault.InvalidHex = 6
+fault_number fault.NoEncoding = 7
+fault_number fault.OutOfMemory = 8
+fault_number fault.TooDeep = 9
 
 abbrev pub status_number : Status → ℕ
 status_number Done = 0

@@ -4,5 +4,6 @@
 pub mod buffer;
 pub mod flags;
 pub mod message;
+pub mod place;
 pub mod report;
 pub mod status;

@@ -1,6 +1,11 @@
 //! What a call tells beside its status.
 ghost use Rattle.std.specs.Prelude.{◌≡◌};
-ghost use Rattle.cbor_edn_c_calls.specs.Reports.{TellsOutput};
+ghost use Rattle.cbor_edn_c_calls.specs.Reports.{TellsOutput, TellsPlace};
+
+use crate::place::Place;
+
+/// The offset where a fault has a place that was not found, since memory ran out.
+pub const NO_OFFSET: usize = usize::MAX;
 
 /// What a call tells beside its status. The type of C has the same fields in the same order.
 #[repr(C)]
@@ -10,11 +15,11 @@ pub struct Report {
     pub output_len: usize,
     /// How long the message of a fault is, in bytes, else 0. As much of it as fits was written.
     pub message_len: usize,
-    /// The place of a fault of a text, in bytes from 0, else 0.
+    /// The place of a fault, in bytes from 0: of a text, or of CBOR. It is [`NO_OFFSET`] where memory for it ran out, and else 0.
     pub offset: usize,
-    /// Its line, from 1, else 0.
+    /// Its line in a text, from 1, else 0.
     pub line: usize,
-    /// Its column, in characters from 1, else 0.
+    /// Its column in a text, in characters from 1, else 0.
     pub column: usize,
 }
 
@@ -29,6 +34,31 @@ impl Report {
             offset: 0,
             line: 0,
             column: 0,
+        }
+    }
+
+    /// The report of a fault at a place, with a message of so many bytes.
+    pub fn of_fault(place: Place, message_len: usize) -> Report
+        ensures output { result.output_len ≡ 0 }
+        ensures length { result.message_len ≡ message_len }
+        ensures place { TellsPlace place result }
+    {
+        let (offset, line, column) = match place {
+            Place::Nowhere => (0, 0, 0),
+            Place::NotFound => (NO_OFFSET, 0, 0),
+            Place::InText {
+                offset,
+                line,
+                column,
+            } => (offset, line, column),
+            Place::InBytes { offset } => (offset, 0, 0),
+        };
+        Report {
+            output_len: 0,
+            message_len,
+            offset,
+            line,
+            column,
         }
     }
 }

@@ -10,7 +10,7 @@ pub enum CallFault {
     /// The text is no UTF-8.
     NotUtf8,
     /// The text is no EDN.
-    InvalidText(ParseError),
+    InvalidText,
     /// The bytes are no encodings.
     InvalidCbor,
     /// A character is no hexadecimal digit and no space, or there is an odd number of digits.
@@ -19,10 +19,8 @@ pub enum CallFault {
     NoEncoding,
     /// Memory ran out.
     OutOfMemory,
-    /// The text nests too deep.
-    TooDeepText(ParseError),
-    /// What the bytes encode nests too deep.
-    TooDeepCbor,
+    /// The text nests too deep, or what the bytes encode.
+    TooDeep,
 }
 
 impl CallFault {
@@ -31,9 +29,9 @@ impl CallFault {
         ensures { result ≡ text_fault error.now }
     {
         if error.too_deep() {
-            CallFault::TooDeepText(*error)
+            CallFault::TooDeep
         } else {
-            CallFault::InvalidText(*error)
+            CallFault::InvalidText
         }
     }
 }
@@ -56,12 +54,12 @@ fn fault_number(fault: CallFault) -> u32
 {
     match fault {
         CallFault::NotUtf8 => 3,
-        CallFault::InvalidText(_) => 4,
+        CallFault::InvalidText => 4,
         CallFault::InvalidCbor => 5,
         CallFault::InvalidHex => 6,
         CallFault::NoEncoding => 7,
         CallFault::OutOfMemory => 8,
-        CallFault::TooDeepText(_) | CallFault::TooDeepCbor => 9,
+        CallFault::TooDeep => 9,
     }
 }
 
