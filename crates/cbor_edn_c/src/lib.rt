@@ -1,46 +1,45 @@
 //! The library's one function for callers that are not Rattle, as a static library. The declarations of `bindings/` repeat it.
 #![tactic(auto)]
 
+mod fault;
+mod place;
+
 ghost use Rattle.std.specs.Prelude.{◌≡◌, IfOk, IfErr};
-ghost use Rattle.cbor_edn_c.specs.Calls.{Did, IsMade, IsMessage, IsUnmade, call_fault};
-ghost use Rattle.cbor_edn_c_calls.specs.Reports.{TellsLocation};
+ghost use Rattle.cbor_edn_c.specs.Calls.{Did, IsMade, IsMessage, IsUnmade, steps_of};
+ghost use Rattle.cbor_edn_c_calls.specs.Reports.{TellsPlace};
 ghost use Rattle.cbor_edn_c_calls.specs.Statuses.{status_number};
 ghost use Rattle.cbor_edn_c_calls.specs.declared.status.Status.{Status};
 
-use cbor_edn::CborError;
-use cbor_edn::engine::{RunError, converted};
+use crate::fault::call_fault;
+use crate::place::{Told, told_of};
+use cbor_edn::engine::{Options, RunError, converted};
 use cbor_edn::show::shown;
 use cbor_edn_c_calls::buffer::put_whole;
 use cbor_edn_c_calls::flags::{Asked, asked_for};
 use cbor_edn_c_calls::message::put_message;
 use cbor_edn_c_calls::report::Report;
-use cbor_edn_c_calls::status::{CallFault, Status};
+use cbor_edn_c_calls::status::Status;
 use std::alloc::Global;
 
-fn call_fault(fault: &RunError) -> CallFault
-    ensures { result ≡ call_fault fault.now }
-{
-    match fault {
-        RunError::NotUtf8 => CallFault::NotUtf8,
-        RunError::Parse(error) => CallFault::of_text(error),
-        RunError::Cbor(CborError::TooDeep) => CallFault::TooDeepCbor,
-        RunError::Cbor(_) => CallFault::InvalidCbor,
-        RunError::Hex => CallFault::InvalidHex,
-        RunError::Inconsistent(_) => CallFault::NoEncoding,
-        // No call in memory has a device that fails.
-        RunError::Read | RunError::Write | RunError::Memory(_) => CallFault::OutOfMemory,
-    }
-}
-
-/// The location of a fault, and its message as far as there is memory and room.
-fn report_of(alloc: Global, fault: &RunError, message: &mut [u8]) -> Report
-    ensures place { TellsLocation (call_fault fault.now) result }
+/// The place of a fault, and its message as far as there is memory and room.
+fn report_of(alloc: Global, told: &Told, message: &mut [u8]) -> Report
+    ensures place { TellsPlace told.now.place result }
     ensures output { result.output_len ≡ 0 }
     ensures message { IsMessage result.message_len message.old message.new }
 {
-    match fault.to_string(alloc) {
-        Ok(text) => put_message(&call_fault(fault), text.as_bytes(), message),
-        Err(_) => put_message(&call_fault(fault), b"", message),
+    match told.fault.to_string(alloc) {
+        Ok(text) => put_message(told.place, text.as_bytes(), message),
+        Err(_) => put_message(told.place, b"", message),
+    }
+}
+
+/// The options of the run that is refused where a call is.
+fn steps_of(asked: &Asked) -> Options
+    ensures { result ≡ steps_of asked.now }
+{
+    match asked {
+        Asked::Run(options) => *options,
+        Asked::Show(options) => options.steps(),
     }
 }
 
@@ -89,8 +88,10 @@ pub extern "C" fn cbor_edn_convert(
             }
         }
         Err(fault) => {
-            *report = report_of(alloc, &fault, message);
-            Status::Fault(call_fault(&fault)).number()
+            let status = Status::Fault(call_fault(&fault));
+            let told = told_of(alloc, &steps_of(&asked), input, fault);
+            *report = report_of(alloc, &told, message);
+            status.number()
         }
     }
 }

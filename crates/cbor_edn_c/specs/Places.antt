@@ -1,0 +1,38 @@
+-- Where in its input a run is refused.
+use Rattle.std.specs.Prelude.{◌≡◌, ℕ, ◌≤◌, List, length, Ok}
+use Rattle.cbor_edn_parts.specs.base.Location.{IsLocation}
+use Rattle.cbor_edn_command.specs.Hexadecimal.{input_bytes}
+use Rattle.cbor_edn_command.specs.declared.options.Options.{Options}
+use Rattle.cbor_edn.specs.declared.engine.RunError.{RunError}
+use Rattle.cbor_edn.specs.declared.engine.RunError.TheVariants.{Read, NotUtf8, Parse, Cbor, Hex, Inconsistent, Write, Memory}
+use Rattle.cbor_edn_c_calls.specs.Reports.{text_place}
+use Rattle.cbor_edn_c_calls.specs.declared.place.Place.{Place}
+use Rattle.cbor_edn_c_calls.specs.declared.place.Place.TheVariants.{Nowhere, NotFound, InText, InBytes}
+
+-- Of a text that has no encoding: the offset of an item, with its line and its column, unless there is none.
+abbrev pub IsTextPlace : List ℕ → Place → Type 0
+IsTextPlace input Nowhere = Unit {0}
+IsTextPlace input NotFound = Unit {0}
+IsTextPlace input (InText offset line column) = IsLocation input offset line column
+IsTextPlace input (InBytes offset) = ⊥
+
+-- Of CBOR, or of what digits stand for: an offset that is no further than its end.
+abbrev pub IsByteOfFault : Options → List ℕ → ℕ → Type 0
+IsByteOfFault o input offset = (bytes : List ℕ) × (input_bytes o.hex input ≡ Ok bytes) × (offset ≤ length bytes)
+
+abbrev pub IsBytePlace : Options → List ℕ → Place → Type 0
+IsBytePlace o input Nowhere = ⊥
+IsBytePlace o input NotFound = Unit {0}
+IsBytePlace o input (InText offset line column) = ⊥
+IsBytePlace o input (InBytes offset) = IsByteOfFault o input offset
+
+-- The place of a fault that a run of some options refuses an input by.
+abbrev pub IsPlace : Options → List ℕ → RunError → Place → Type 0
+IsPlace o input Read p = p ≡ Nowhere
+IsPlace o input NotUtf8 p = p ≡ Nowhere
+IsPlace o input (Parse e) p = p ≡ text_place e
+IsPlace o input (Cbor _) p = IsBytePlace o input p
+IsPlace o input Hex p = p ≡ Nowhere
+IsPlace o input (Inconsistent _) p = IsTextPlace input p
+IsPlace o input Write p = p ≡ Nowhere
+IsPlace o input (Memory _) p = p ≡ Nowhere
