@@ -60,18 +60,24 @@ extern "C" {
 #define CBOR_EDN_BAD_CALL 2u      /* no such command, no such flags, or too high a limit */
 #define CBOR_EDN_NOT_UTF8 3u      /* the text is no UTF-8 */
 #define CBOR_EDN_INVALID_TEXT 4u  /* the text is no EDN: the report has the place */
-#define CBOR_EDN_INVALID_CBOR 5u  /* the bytes are no CBOR that is read here */
+#define CBOR_EDN_INVALID_CBOR 5u  /* the bytes are no CBOR that is read here: the report has the offset */
 #define CBOR_EDN_INVALID_HEX 6u   /* a character is no digit and no space, or there is an odd number of digits */
-#define CBOR_EDN_NO_ENCODING 7u   /* what the text says has no encoding */
+#define CBOR_EDN_NO_ENCODING 7u   /* what the text says has no encoding: the report has the place */
 #define CBOR_EDN_OUT_OF_MEMORY 8u /* malloc or realloc gave nothing */
-#define CBOR_EDN_TOO_DEEP 9u      /* items nest deeper than limit: for a text the report has the place */
+#define CBOR_EDN_TOO_DEEP 9u      /* items nest deeper than limit: the report has the place, for CBOR the offset */
 
+/* The offset at CBOR_EDN_INVALID_CBOR, CBOR_EDN_NO_ENCODING and CBOR_EDN_TOO_DEEP where memory to find the place ran out. */
+#define CBOR_EDN_NO_OFFSET ((size_t)-1)
+
+/* The place in a text is that of the first item that has no encoding while all in it has one, or of what is no EDN or nests too
+ * deep. The offset in CBOR, or in the bytes that digits stand for, is that of the first head (RFC 8949, section 3) that is not
+ * whole, may not stand there or nests too deep, or the end of the bytes where an item is missing. */
 typedef struct {
   size_t output_len;  /* in bytes, at CBOR_EDN_DONE and CBOR_EDN_NO_ROOM, else 0 */
   size_t message_len; /* of a fault's whole message, in bytes, else 0. It is 0 too where memory ran out for it */
-  size_t offset;      /* the place in a text, at CBOR_EDN_INVALID_TEXT and CBOR_EDN_TOO_DEEP, in bytes from 0, else 0 */
-  size_t line;        /* its line, from 1, else 0 */
-  size_t column;      /* its column, in characters from 1, else 0 */
+  size_t offset;      /* of a place, in bytes from 0; else 0 or CBOR_EDN_NO_OFFSET */
+  size_t line;        /* of a place in a text, from 1, else 0 */
+  size_t column;      /* of a place in a text, in characters from 1, else 0 */
 } cbor_edn_report;
 
 /* Turns input into output, and returns a status.

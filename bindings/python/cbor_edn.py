@@ -11,6 +11,11 @@
 >>> diag2cbor('[1,\\n  2x]')
 Traceback (most recent call last):
 cbor_edn.ParseError: Error parsing input data: Invalid EDN in line 2 column 4 (byte 7)
+>>> try:
+...     diag2cbor('[1,\\n  {2: 1.5}]')
+... except Error as error:
+...     (error.line, error.column, error.offset)
+(2, 7, 10)
 
 The library is the file that CBOR_EDN_LIBRARY names, else `libcbor_edn.so` beside this file, else the system's. A call takes a stack of
 1 MB at most: mind `threading.stack_size`. Other threads run meanwhile.
@@ -54,6 +59,9 @@ _LEVEL = 512
 _MOST_LEVELS = 255
 _DONE, _NO_ROOM, _BAD_CALL, _NOT_UTF8, _INVALID_TEXT, _INVALID_CBOR, _INVALID_HEX, _NO_ENCODING, _OUT_OF_MEMORY, _TOO_DEEP = range(10)
 
+# Memory to find the place ran out.
+_NO_OFFSET = ctypes.c_size_t(-1).value
+
 # Takes each message.
 _MESSAGE_ROOM = 160
 
@@ -62,15 +70,15 @@ _SONAME = "libcbor_edn.so.0"
 
 
 class Error(ValueError):
-    """A fault of the input. `too_deep` says whether items nest deeper than the limit."""
+    """A fault of the input. `too_deep` says whether items nest deeper than the limit.
+
+    In a text `line` and `column` count from 1, and `offset` counts bytes of UTF-8 from 0. CBOR has an `offset` alone. What is not told
+    is None.
+    """
 
     too_deep = False
 
-
-class ParseError(Error):
-    """The text is no EDN, or nests too deep: `line` and `column` count from 1, `offset` counts bytes of UTF-8 from 0."""
-
-    def __init__(self, message, line, column, offset):
+    def __init__(self, message, line=None, column=None, offset=None):
         super().__init__(message)
         self.line, self.column, self.offset = line, column, offset
 
@@ -78,12 +86,19 @@ class ParseError(Error):
         return (type(self), (str(self), self.line, self.column, self.offset), self.__dict__)
 
 
+class ParseError(Error):
+    """The text is no EDN, or nests too deep."""
+
+
 class DecodeError(Error):
-    """The bytes are no CBOR that is read here, or nest too deep, or the digits are no hexadecimal digits."""
+    """The bytes are no CBOR that is read here, or nest too deep, or the digits are no hexadecimal digits.
+
+    `offset` is that of a head, or the end where an item is missing; of digits it is a byte that they stand for.
+    """
 
 
 class EncodeError(Error):
-    """What the text says has no encoding."""
+    """What the text says has no encoding: the place is that of the first item that has none while all in it has one."""
 
 
 class _Report(ctypes.Structure):
@@ -119,13 +134,22 @@ def _load():
 _convert = _load()
 
 
-def _fault(status, message, report):
-    # Lines count from 1: what has none is no text.
+def _place(status, report):
+    """The line, the column and the offset. Lines count from 1: what has none is no text."""
     if report.line > 0:
-        return ParseError(message, report.line, report.column, report.offset)
+        return report.line, report.column, report.offset
+    if status in (_INVALID_CBOR, _TOO_DEEP) and report.offset != _NO_OFFSET:
+        return None, None, report.offset
+    return None, None, None
+
+
+def _fault(status, message, report):
+    place = _place(status, report)
     if status == _NO_ENCODING:
-        return EncodeError(message)
-    return DecodeError(message)
+        return EncodeError(message, *place)
+    if report.line > 0:
+        return ParseError(message, *place)
+    return DecodeError(message, *place)
 
 
 def _error(status, message, report):

@@ -103,20 +103,31 @@ class Calls(unittest.TestCase):
         with self.assertRaisesRegex(cbor_edn.DecodeError, "Nested too deeply") as caught:
             cbor2diag(b"\x81\x80", limit=1)
         self.assertTrue(caught.exception.too_deep)
-        with self.assertRaisesRegex(cbor_edn.DecodeError, "Expected item, out of data") as caught:
-            cbor2diag(b"\x83\x01")
-        self.assertFalse(caught.exception.too_deep)
-        with self.assertRaisesRegex(cbor_edn.DecodeError, "hexadecimal"):
-            cbor2diag(b"123", hex=True)
-        with self.assertRaisesRegex(cbor_edn.EncodeError, "Number has no encoding"):
-            diag2cbor("1.0")
-        with self.assertRaisesRegex(cbor_edn.DecodeError, "Nested too deeply"):
-            show(b"\x81\x80", limit=1)
         for limit in (-1, NESTING_LIMIT + 1):
             with self.assertRaises(ValueError):
                 diag2cbor("1", limit=limit)
             with self.assertRaises(ValueError):
                 show(b"", limit=limit)
+
+    def test_places(self):
+        decode, encode = cbor_edn.DecodeError, cbor_edn.EncodeError
+        rows = [
+            (lambda: cbor2diag(b"\x83\x01"), decode, "Expected item, out of data", (None, None, 2)),
+            (lambda: cbor2diag(b"\x1c"), decode, "Reserved header byte", (None, None, 0)),
+            (lambda: cbor2diag(b"01 82\n01 f818", hex=True), decode, "Invalid simple value", (None, None, 3)),
+            (lambda: show(b"\x81\x80", limit=1), decode, "Nested too deeply", (None, None, 1)),
+            (lambda: cbor2diag(b"123", hex=True), decode, "hexadecimal", (None, None, None)),
+            (lambda: diag2cbor("1.0"), encode, "Number has no encoding", (1, 1, 0)),
+            (lambda: diag2cbor('["\u00e9",\n {2: <<1.5>>}]'), encode, "Number has no encoding", (2, 8, 14)),
+            (lambda: diag2cbor("dt'1970-01-01T00:00:23Z', foo'x'"), encode, "Unsupported application oriented literal", (1, 27, 26)),
+        ]
+        for call, kind, message, place in rows:
+            with self.subTest(place=place), self.assertRaisesRegex(cbor_edn.Error, message) as caught:
+                call()
+            for error in (caught.exception, pickle.loads(pickle.dumps(caught.exception))):
+                self.assertIs(type(error), kind)
+                self.assertEqual((error.line, error.column, error.offset), place)
+                self.assertEqual(error.too_deep, message == "Nested too deeply")
 
     def test_arguments(self):
         class Long(bytes):

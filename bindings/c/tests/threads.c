@@ -113,6 +113,16 @@ static size_t nest(const Nested *kind, int depth, char *text) {
   return (size_t)(end - text);
 }
 
+/* An item without an encoding at the limit: its place is found. */
+static void check_without_encoding(const Nested *kind, char *text, uint8_t *bytes) {
+  Nested without = {kind->open, "1.5", kind->close};
+  size_t length = nest(&without, LIMIT, text), offset = LIMIT * strlen(kind->open);
+  Call call = {CBOR_EDN_DIAG2CBOR, text, length, bytes, 0, {0, 0, 0, 0, 0}};
+  make_in_small_stack(&call);
+  count(kind->open, call.status == CBOR_EDN_NO_ENCODING && call.report.offset == offset && call.report.line == 1 &&
+                        call.report.column == offset + 1);
+}
+
 /* There and back at the limit: the same bytes again. One level deeper is refused. */
 static void check_nested(const Nested *kind, char *text, uint8_t *bytes, uint8_t *shown, uint8_t *again) {
   Call there = {CBOR_EDN_DIAG2CBOR, text, nest(kind, LIMIT, text), bytes, 0, {0, 0, 0, 0, 0}};
@@ -142,7 +152,10 @@ int main(void) {
   uint8_t *bytes = malloc(ROOM), *shown = malloc(ROOM), *again = malloc(ROOM);
   if (!text || !bytes || !shown || !again) return 1;
   check_at_once();
-  for (size_t i = 0; i < sizeof TEXTS / sizeof *TEXTS; i++) check_nested(&TEXTS[i], text, bytes, shown, again);
+  for (size_t i = 0; i < sizeof TEXTS / sizeof *TEXTS; i++) {
+    check_nested(&TEXTS[i], text, bytes, shown, again);
+    check_without_encoding(&TEXTS[i], text, bytes);
+  }
   free(text), free(bytes), free(shown), free(again);
   printf("%d passed, %d failed\n", passed, failed);
   return failed != 0;

@@ -31,6 +31,9 @@ extern "C" {
 const DONE: u32 = 0;
 const NO_ROOM: u32 = 1;
 
+// Memory to find the place ran out.
+const NO_OFFSET: usize = usize::MAX;
+
 // Takes each message.
 const MESSAGE_ROOM: usize = 160;
 
@@ -91,20 +94,34 @@ fn kind_of(status: u32) -> ErrorKind {
     }
 }
 
-fn error_of(status: u32, report: &Report, message: &[u8]) -> Error {
-    let kind = kind_of(status);
-    // Lines count from 1.
-    let place = (report.line > 0).then_some(Place {
+// Lines count from 1.
+fn place_of(report: &Report) -> Option<Place> {
+    (report.line > 0).then_some(Place {
         offset: report.offset,
         line: report.line,
         column: report.column,
-    });
+    })
+}
+
+// CBOR has no lines.
+fn offset_of(kind: ErrorKind, report: &Report) -> Option<usize> {
+    let is_told = report.line > 0 || matches!(kind, ErrorKind::InvalidCbor | ErrorKind::TooDeep);
+    (is_told && report.offset != NO_OFFSET).then_some(report.offset)
+}
+
+fn error_of(status: u32, report: &Report, message: &[u8]) -> Error {
+    let kind = kind_of(status);
     let shown = &message[..report.message_len.min(message.len())];
     let mut message = String::from_utf8_lossy(shown).into_owned();
     if message.is_empty() {
         message = kind.to_string();
     }
-    Error { kind, place, message }
+    Error {
+        kind,
+        offset: offset_of(kind, report),
+        place: place_of(report),
+        message,
+    }
 }
 
 pub fn convert(command: Command, options: &Options, input: &[u8]) -> Result<Vec<u8>, Error> {

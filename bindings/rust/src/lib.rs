@@ -181,7 +181,7 @@ impl fmt::Display for ErrorKind {
     }
 }
 
-/// Where a text is refused.
+/// Where a text is refused: the first item that has no encoding while all in it has one, or what is no EDN or nests too deep.
 #[derive(Clone, Copy, Debug, PartialEq, Eq)]
 pub struct Place {
     /// In bytes, from 0.
@@ -196,6 +196,7 @@ pub struct Place {
 #[derive(Clone, Debug, PartialEq, Eq)]
 pub struct Error {
     kind: ErrorKind,
+    offset: Option<usize>,
     place: Option<Place>,
     message: String,
 }
@@ -206,9 +207,15 @@ impl Error {
         self.kind
     }
 
-    /// Where a text is refused, at [`ErrorKind::InvalidText`] and [`ErrorKind::TooDeep`] alone.
+    /// Where a text is refused, at [`ErrorKind::InvalidText`], [`ErrorKind::NoEncoding`] and [`ErrorKind::TooDeep`] alone.
     pub fn place(&self) -> Option<Place> {
         self.place
+    }
+
+    /// At which byte the input is refused, from 0: that of its place in a text. In CBOR, at [`ErrorKind::InvalidCbor`] and
+    /// [`ErrorKind::TooDeep`], that of a head, or the end where an item is missing; of digits it is a byte that they stand for.
+    pub fn offset(&self) -> Option<usize> {
+        self.offset
     }
 }
 

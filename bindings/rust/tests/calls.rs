@@ -2,7 +2,7 @@
 
 use cbor_edn_verified::{
     cbor2diag, cbor2diag_with, convert, diag2cbor, diag2cbor_with, diag2diag, diag2diag_with, show, show_with, Command,
-    Error, ErrorKind, Options, Place, ShowOptions, NESTING_LIMIT,
+    Error, ErrorKind, Options, ShowOptions, NESTING_LIMIT,
 };
 
 const BIGNUM: &[u8] = b"\xc2\x49\x01\0\0\0\0\0\0\0\0";
@@ -160,77 +160,102 @@ fn more_room_than_was_guessed() {
     assert_eq!(diag2cbor(&wide).unwrap(), nested);
 }
 
-fn fault(result: Result<Vec<u8>, Error>) -> (ErrorKind, Option<Place>, String) {
+// The kind, the offset, the line and the column, and the message.
+type Fault = (ErrorKind, Option<usize>, Option<(usize, usize)>, String);
+
+fn fault(result: Result<Vec<u8>, Error>) -> Fault {
     let error = result.unwrap_err();
-    (error.kind(), error.place(), error.to_string())
+    assert!(error.place().iter().all(|place| Some(place.offset) == error.offset()));
+    let location = error.place().map(|place| (place.line, place.column));
+    (error.kind(), error.offset(), location, error.to_string())
 }
 
 #[test]
 fn faults() {
-    let place = |offset, line, column| Some(Place { offset, line, column });
     let digits = Options { hex: true, ..off() };
     let flat = Options { limit: 0, ..off() };
+    let text = |result: Result<String, Error>| fault(result.map(String::into_bytes));
+    let limit = Options {
+        limit: NESTING_LIMIT + 1,
+        ..off()
+    };
     let rows = [
         (
             fault(diag2cbor("[1,\n  2x]")),
-            (
-                ErrorKind::InvalidText,
-                place(7, 2, 4),
-                "Error parsing input data: Invalid EDN in line 2 column 4 (byte 7)",
-            ),
+            ErrorKind::InvalidText,
+            Some(7),
+            Some((2, 4)),
+            "Error parsing input data: Invalid EDN in line 2 column 4 (byte 7)",
         ),
         (
             fault(diag2cbor_with("[]", &flat)),
-            (
-                ErrorKind::TooDeep,
-                place(0, 1, 1),
-                "Error parsing input data: EDN nested too deeply in line 1 column 1 (byte 0)",
-            ),
+            ErrorKind::TooDeep,
+            Some(0),
+            Some((1, 1)),
+            "Error parsing input data: EDN nested too deeply in line 1 column 1 (byte 0)",
         ),
         (
-            fault(cbor2diag(b"\x83\x01").map(String::into_bytes)),
-            (
-                ErrorKind::InvalidCbor,
-                None,
-                "Error decoding input data: Expected item, out of data",
-            ),
+            text(cbor2diag(b"\x83\x01")),
+            ErrorKind::InvalidCbor,
+            Some(2),
+            None,
+            "Error decoding input data: Expected item, out of data",
         ),
         (
-            fault(cbor2diag_with(b"\x80", &flat).map(String::into_bytes)),
-            (ErrorKind::TooDeep, None, "Error decoding input data: Nested too deeply"),
+            text(cbor2diag_with(b"01 82\n01 f818", &digits)),
+            ErrorKind::InvalidCbor,
+            Some(3),
+            None,
+            "Error decoding input data: Invalid simple value",
         ),
         (
-            fault(cbor2diag_with(b"123", &digits).map(String::into_bytes)),
-            (ErrorKind::InvalidHex, None, "Error decoding hexadecimal input"),
+            text(cbor2diag_with(b"\x01\x80", &flat)),
+            ErrorKind::TooDeep,
+            Some(1),
+            None,
+            "Error decoding input data: Nested too deeply",
         ),
         (
-            fault(diag2cbor("1.0")),
-            (
-                ErrorKind::NoEncoding,
-                None,
-                "Error encoding output data: Number has no encoding",
-            ),
+            text(show(b"\x82\x00\x1c")),
+            ErrorKind::InvalidCbor,
+            Some(2),
+            None,
+            "Error decoding input data: Reserved header byte",
+        ),
+        (
+            text(cbor2diag_with(b"123", &digits)),
+            ErrorKind::InvalidHex,
+            None,
+            None,
+            "Error decoding hexadecimal input",
+        ),
+        (
+            fault(diag2cbor("[\"\u{e9}\",\n {2: <<1.5>>}]")),
+            ErrorKind::NoEncoding,
+            Some(14),
+            Some((2, 8)),
+            "Error encoding output data: Number has no encoding",
         ),
         (
             fault(convert(Command::Diag2Diag, b"\xff", &off())),
-            (ErrorKind::NotUtf8, None, "Error processing input file"),
+            ErrorKind::NotUtf8,
+            None,
+            None,
+            "Error processing input file",
         ),
         (
-            fault(
-                diag2diag_with(
-                    "1",
-                    &Options {
-                        limit: NESTING_LIMIT + 1,
-                        ..off()
-                    },
-                )
-                .map(String::into_bytes),
-            ),
-            (ErrorKind::InvalidLimit, None, "The limit is above 512"),
+            text(diag2diag_with("1", &limit)),
+            ErrorKind::InvalidLimit,
+            None,
+            None,
+            "The limit is above 512",
         ),
     ];
-    for ((kind, place, message), wanted) in &rows {
-        assert_eq!((*kind, *place, message.as_str()), *wanted);
+    for ((kind, offset, location, message), wanted_kind, wanted_offset, wanted_location, wanted) in &rows {
+        assert_eq!(
+            (kind, offset, location, message.as_str()),
+            (wanted_kind, wanted_offset, wanted_location, *wanted)
+        );
     }
 }
 

@@ -28,8 +28,7 @@ const TEXT: &[u8] = b"{4: 1(0), 8: {4: {3: -17}}} , [_ h'00', <<dt'1970-01-01T00
 
 const BYTES: &[u8] = b"\xa2\x04\xc1\x00\x08\xa1\x04\xa1\x03\x30\x9f\x41\x00\xc2\x49\x01\0\0\0\0\0\0\0\0\xff";
 
-#[test]
-fn each_allocation_refused() {
+fn refuse_for_outputs() {
     let rows = [
         (Command::Diag2Cbor, TEXT, Options::diag2cbor()),
         (
@@ -76,4 +75,45 @@ fn each_allocation_refused() {
             "{told} of {last} allocations of {command:?} were told"
         );
     }
+}
+
+fn refuse_for_places() {
+    let rows: [(Command, &[u8], Options, ErrorKind); 2] = [
+        (
+            Command::Diag2Cbor,
+            b"[1, <<dt'1970-01-01T00:00:23Z', 1.5>>]",
+            Options::diag2cbor(),
+            ErrorKind::NoEncoding,
+        ),
+        (
+            Command::Cbor2Diag,
+            b"\x82\x9f\x01\xf8\x18",
+            Options::cbor2diag(),
+            ErrorKind::InvalidCbor,
+        ),
+    ];
+    for (command, input, options, kind) in rows {
+        refuse(-1);
+        let wanted = convert(command, input, &options).unwrap_err();
+        let last = allocations();
+        for number in 0..last {
+            refuse(number);
+            let error = convert(command, input, &options).unwrap_err();
+            assert_eq!(blocks_left(), 0, "allocation {number} of {command:?}");
+            let place = (error.place(), error.offset());
+            assert!(
+                error.kind() == ErrorKind::OutOfMemory
+                    || error.kind() == kind && (place == (None, None) || place == (wanted.place(), wanted.offset())),
+                "allocation {number} of {command:?}: {error:?}"
+            );
+        }
+        assert!(last > 1 && wanted.offset().is_some());
+    }
+}
+
+// One behind the other, since the number of the allocation is one for all threads.
+#[test]
+fn each_allocation_refused() {
+    refuse_for_outputs();
+    refuse_for_places();
 }
