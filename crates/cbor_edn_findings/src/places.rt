@@ -4,7 +4,10 @@ ghost use Rattle.cbor_edn_parts.specs.base.Errors.{error_offset, error_line, err
 ghost use Rattle.cbor_edn_parts.specs.base.Location.{IsLocation};
 
 use cbor_edn::engine::Options;
-use cbor_edn_application::visits::{resolve_addresses, resolve_times, to_999};
+use cbor_edn_application::visits::{
+    annotate_claims_sets, prettify_addresses, prettify_times, resolve_addresses, resolve_times,
+    to_999,
+};
 use cbor_edn_core::tree::Sequence;
 use cbor_edn_parts::base::error::{Fault, InconsistentEdn, ParseError, Refusal};
 use cbor_edn_parts::base::input::Input;
@@ -26,15 +29,22 @@ pub fn located(text: &str, offset: usize) -> Option<ParseError>
     Some(with_location(&Input::new(text), refusal, &mut looks))
 }
 
-/// Does what `diag2cbor` does to literals before it encodes items.
+/// Takes the steps of `diag2cbor` that may change which items have an encoding.
 fn resolve(
     alloc: Global,
     options: &Options,
     sequence: &mut Sequence<'_>,
 ) -> Result<(), AllocError> {
+    if options.annotate_tags {
+        prettify_addresses(alloc, sequence)?;
+        prettify_times(alloc, sequence)?;
+    }
     if options.aol_to_item {
         resolve_addresses(alloc, sequence)?;
         resolve_times(alloc, sequence)?;
+    }
+    if options.annotate_ccs {
+        annotate_claims_sets(alloc, sequence)?;
     }
     if options.apply_999 {
         to_999(alloc, sequence)?;
