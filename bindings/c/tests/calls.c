@@ -121,6 +121,10 @@ static const Fault FAULTS[] = {
      1, 27, "Error encoding output data: Unsupported application oriented literal or ellipsis"},
     {"no encoding but for tags 999", 0, CBOR_EDN_APPLY_999, 512, TEXT("foo'x', 1.5"), CBOR_EDN_NO_ENCODING, 8, 1, 9,
      "Error encoding output data: Number has no encoding"},
+    {"no encoding of a tag that became a literal", 0, CBOR_EDN_ANNOTATE_TAGS, 512, TEXT("[2, 1(23)]"), CBOR_EDN_NO_ENCODING, 4, 1, 5,
+     "Error encoding output data: Unsupported application oriented literal or ellipsis"},
+    {"no encoding of a claim that became a literal", 0, CBOR_EDN_ANNOTATE_CCS, 512, TEXT("{4: 1700000000}"), CBOR_EDN_NO_ENCODING, 4,
+     1, 5, "Error encoding output data: Unsupported application oriented literal or ellipsis"},
     {"no encoding to digits", 0, CBOR_EDN_HEX, 512, TEXT("1, 1.5"), CBOR_EDN_NO_ENCODING, 3, 1, 4,
      "Error encoding output data: Number has no encoding"},
 };
