@@ -48,5 +48,7 @@ int main(void) {
   bench("cbor2diag, claims of a CWT", 1, CBOR_EDN_CBOR2DIAG_FLAGS, bytes, length, 50000);
   bench("cbor2diag, claims, annotated", 1, CBOR_EDN_CBOR2DIAG_FLAGS | CBOR_EDN_ANNOTATE_CCS, bytes, length, 50000);
   bench("a fault with its message", 0, CBOR_EDN_DIAG2CBOR_FLAGS, "[1, ", 4, 200000);
+  bench("no encoding, with its place", 0, CBOR_EDN_DIAG2CBOR_FLAGS, "[1, 1.5]", 8, 50000);
+  bench("a fault of CBOR", 1, CBOR_EDN_CBOR2DIAG_FLAGS, "\x82\x01\x1c", 3, 50000);
   return 0;
 }
