@@ -9,7 +9,7 @@ use Rattle.cbor_edn_c_calls.specs.Reports.{text_place}
 use Rattle.cbor_edn_c_calls.specs.declared.place.Place.{Place}
 use Rattle.cbor_edn_c_calls.specs.declared.place.Place.TheVariants.{Nowhere, NotFound, InText, InBytes}
 
--- Of a text that has no encoding: the offset of an item, with its line and its column, unless there is none.
+-- Of a text that has no encoding: an offset, with its line and its column, unless none is found.
 abbrev pub IsTextPlace : List ℕ → Place → Type 0
 IsTextPlace input Nowhere = Unit {0}
 IsTextPlace input NotFound = Unit {0}

@@ -10,7 +10,12 @@ returns c = (
   (
     c.in-Some.asked,
     c.in-Some.ensures.some,
-    (c.in-Err.fault, c.in-Err.ensures.err, c.call_fault.ensures, (c.told_of-told.result.place, c.told_of-told.ensures, c.report_of.ensures.place)),
+    (
+      c.in-Err.fault,
+      c.in-Err.ensures.err,
+      c.call_fault.ensures,
+      (c.told_of-told.result.place, rw c.steps_of.ensures at c.told_of-told.ensures, c.report_of.ensures.place),
+    ),
     refl,
     c.report_of.ensures.output,
     c.report_of.ensures.message,
