@@ -1,8 +1,11 @@
 //! What is found of an input that is no input of a run, or has no encoding.
-ghost use Rattle.std.specs.Prelude.{ℕ, List, IfOk, IfSome, IfNone};
+ghost use Rattle.std.specs.Prelude.{ℕ, List, IfOk, IfSome, IfNone, string_bytes};
 ghost use Rattle.std.specs.Option.{IsSome};
 ghost use Rattle.cbor_edn.specs.Runs.{IsOutput, IsRefused};
 ghost use Rattle.cbor_edn.specs.declared.engine.RunError.{RunError};
+ghost use Rattle.cbor_edn_command.specs.Hexadecimal.{input_bytes};
+ghost use Rattle.cbor_edn_parts.specs.base.Errors.{error_offset, error_line, error_column};
+ghost use Rattle.cbor_edn_findings.specs.Findings.{IsPlaced, IsAt, IsRefusal, IsNotText, IsInBytes, IsInDecoded, IsNowhere, IsSomewhere, IsFoundOf};
 
 use crate::bytes::offset_of_fault;
 use crate::places::{first_in_text, located};
@@ -42,7 +45,9 @@ const INVALID: &str = "Invalid EDN";
 const NOT_UTF8: &str = "Not UTF-8";
 
 /// Words with the place of a refusal.
-fn in_text(words: String, place: &ParseError) -> Finding {
+fn in_text(words: String, place: &ParseError) -> Finding
+    ensures { IsPlaced (string_bytes words) (error_offset place.now) (error_line place.now) (error_column place.now) result }
+{
     Finding::InText {
         words,
         offset: place.offset(),
@@ -52,19 +57,25 @@ fn in_text(words: String, place: &ParseError) -> Finding {
 }
 
 /// Words at an offset of a text.
-fn at_offset(words: String, text: &str, offset: usize) -> Finding {
+fn at_offset(words: String, text: &str, offset: usize) -> Finding
+    ensures { IsAt (string_bytes words) text.now offset result }
+{
     match located(text, offset) {
         Some(place) => in_text(words, &place),
         None => Finding::Nowhere { words },
     }
 }
 
-fn not_parsed(alloc: Global, fault: &ParseError) -> Result<Finding, AllocError> {
+fn not_parsed(alloc: Global, fault: &ParseError) -> Result<Finding, AllocError>
+    ensures { IfOk result (IsRefusal fault.now) }
+{
     let words = if fault.too_deep() { TOO_DEEP } else { INVALID };
     Ok(in_text(String::from_str(alloc, words)?, fault))
 }
 
-fn not_utf8(alloc: Global, input: &[u8]) -> Result<Finding, AllocError> {
+fn not_utf8(alloc: Global, input: &[u8]) -> Result<Finding, AllocError>
+    ensures { IfOk result (IsNotText input.now) }
+{
     let part = valid_part(input);
     let words = String::from_str(alloc, NOT_UTF8)?;
     Ok(at_offset(words, part, part.len()))
@@ -75,7 +86,9 @@ fn not_cbor(
     limit: usize,
     bytes: &[u8],
     fault: CborError,
-) -> Result<Finding, AllocError> {
+) -> Result<Finding, AllocError>
+    ensures { IfOk result (IsInBytes limit bytes.now) }
+{
     let words = fault.to_string(alloc)?;
     let offset = offset_of_fault(alloc, bytes, limit)?;
     Ok(Finding::InBytes { words, offset })
@@ -87,7 +100,9 @@ fn not_decoded(
     options: &Options,
     input: &[u8],
     fault: CborError,
-) -> Result<Finding, AllocError> {
+) -> Result<Finding, AllocError>
+    ensures { IfOk result (IsInDecoded options.now.limit (input_bytes options.now.hex input.now)) }
+{
     if !options.hex {
         return not_cbor(alloc, options.limit, input, fault);
     }
@@ -103,14 +118,18 @@ fn without_encoding(
     options: &Options,
     text: &str,
     reason: InconsistentEdn,
-) -> Result<Finding, AllocError> {
+) -> Result<Finding, AllocError>
+    ensures { IfOk result (IsSomewhere text.now) }
+{
     match first_in_text(alloc, options, text)? {
         Some((offset, reason)) => Ok(at_offset(reason.to_string(alloc)?, text, offset)),
         None => nowhere(alloc, reason),
     }
 }
 
-fn nowhere<E: Display + Drop>(alloc: Global, fault: E) -> Result<Finding, AllocError> {
+fn nowhere<E: Display + Drop>(alloc: Global, fault: E) -> Result<Finding, AllocError>
+    ensures { IfOk result IsNowhere }
+{
     Ok(Finding::Nowhere {
         words: format!(in alloc; "{fault}")?,
     })
@@ -122,7 +141,9 @@ pub fn of_run(
     options: &Options,
     input: &[u8],
     fault: RunError,
-) -> Result<Finding, AllocError> {
+) -> Result<Finding, AllocError>
+    ensures { IfOk result (IsFoundOf options.now input.now fault) }
+{
     match fault {
         RunError::Parse(fault) => not_parsed(alloc, &fault),
         RunError::NotUtf8 => not_utf8(alloc, input),
@@ -141,7 +162,8 @@ fn found(
     input: &[u8],
     fault: RunError,
 ) -> Result<Option<Finding>, AllocError>
-    ensures { IfOk result IsSome }
+    ensures some { IfOk result IsSome }
+    ensures found { IfOk result (λ r. IfSome r (IsFoundOf options.now input.now fault)) }
 {
     match of_run(alloc, options, input, fault) {
         Ok(finding) => Ok(Some(finding)),
@@ -156,7 +178,7 @@ pub fn in_input(
     input: &[u8],
 ) -> Result<Option<Finding>, AllocError>
     ensures well { IfOk result (λ found. IfNone found ((out : List ℕ) × IsOutput options.now input.now out)) }
-    ensures ill { IfOk result (λ found. IfSome found (λ _. (fault : RunError) × IsRefused options.now input.now fault)) }
+    ensures ill { IfOk result (λ found. IfSome found (λ f. (fault : RunError) × IsRefused options.now input.now fault × IsFoundOf options.now input.now fault f)) }
 {
     match converted(alloc, options, input) {
         Ok(_) => Ok(None),

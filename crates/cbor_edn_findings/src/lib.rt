@@ -3,6 +3,6 @@
 
 pub mod bytes;
 pub mod finding;
-mod front;
+mod location;
 pub mod places;
 pub mod shown;

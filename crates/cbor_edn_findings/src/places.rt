@@ -1,32 +1,32 @@
 //! Where in a text an item has no encoding.
-ghost use Rattle.std.specs.Prelude.{IfSome};
+ghost use Rattle.std.specs.Prelude.{◌≡◌, IfNone, IfSome};
+ghost use Rattle.std.specs.Str.{IsCharBoundary};
 ghost use Rattle.cbor_edn_parts.specs.base.Errors.{error_offset, error_line, error_column};
 ghost use Rattle.cbor_edn_parts.specs.base.Location.{IsLocation};
 
+use crate::location::location_behind;
 use cbor_edn::engine::Options;
 use cbor_edn_application::visits::{
     annotate_claims_sets, prettify_addresses, prettify_times, resolve_addresses, resolve_times,
     to_999,
 };
 use cbor_edn_core::tree::Sequence;
-use cbor_edn_parts::base::error::{Fault, InconsistentEdn, ParseError, Refusal};
-use cbor_edn_parts::base::input::Input;
-use cbor_edn_parts::base::location::with_location;
-use cbor_edn_parts::base::looks::Looks;
+use cbor_edn_parts::base::error::{Fault, InconsistentEdn, ParseError, ParseErrorKind};
 use cbor_edn_places::offset::offset_of;
 use cbor_edn_places::path::{cut_to_item, first_valueless};
 use std::alloc::{AllocError, Global};
 
 /// The line and the column of an offset in a text, as a refusal has them; none where no character begins there.
 pub fn located(text: &str, offset: usize) -> Option<ParseError>
-    ensures { IfSome result (λ place. IsLocation text.now (error_offset place) (error_line place) (error_column place)) }
+    ensures offset { IfSome result (λ place. error_offset place ≡ offset) }
+    ensures place { IfSome result (λ place. IsLocation text.now offset (error_line place) (error_column place)) }
+    ensures none { IfNone result (IsCharBoundary text.now offset → ⊥) }
 {
     if !text.is_char_boundary(offset) {
         return None;
     }
-    let mut looks = Looks::new();
-    let refusal = Refusal::invalid(offset);
-    Some(with_location(&Input::new(text), refusal, &mut looks))
+    let (line, column) = location_behind(&text.as_bytes()[..offset]);
+    Some(ParseError::new(ParseErrorKind::Invalid, offset, line, column))
 }
 
 /// Takes the steps of `diag2cbor` that may change which items have an encoding.

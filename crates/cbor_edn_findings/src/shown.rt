@@ -1,7 +1,11 @@
 //! The lines that tell of what is found, for people: nothing of an input acts on a terminal.
+ghost use Rattle.std.specs.Prelude.{◌≡◌, ◌++◌, IfOk, OnOk, string_bytes};
+ghost use Rattle.std.specs.Str.{chars};
+ghost use Rattle.cbor_edn_findings.specs.Findings.{IsValidPart};
+ghost use Rattle.cbor_edn_findings.specs.Shown as words;
+ghost use Rattle.cbor_edn_findings.specs.Shown.{shown_character, shown_text, IsTold};
 
 use crate::finding::Finding;
-use crate::front::front;
 use std::alloc::{AllocError, Global};
 use std::str::from_utf8;
 
@@ -14,37 +18,49 @@ const BEHIND: usize = 30;
 const CUT: &str = "...";
 
 /// The beginning of an input that is a text: all of it, or what stands before the first byte that is of no character.
-pub(crate) fn valid_part(input: &[u8]) -> &str {
-    match from_utf8(input) {
+pub(crate) fn valid_part(input: &[u8]) -> &str
+    ensures { IsValidPart input.now result.now }
+{
+    let fault = match from_utf8(input) {
+        Ok(text) => return text,
+        Err(fault) => fault,
+    };
+    match from_utf8(&input[..fault.valid_up_to()]) {
         Ok(text) => text,
-        Err(fault) => from_utf8(front(input, fault.valid_up_to())).unwrap_or(""),
+        Err(_) => "",
     }
 }
 
 /// Whether a terminal may act on a character, or turns or hides text by it.
-fn is_unsafe(c: char) -> bool {
-    c.is_control()
-        || matches!(c, '\u{200b}'..='\u{200f}' | '\u{2028}'..='\u{202e}' | '\u{2060}'..='\u{206f}' | '\u{feff}')
+fn is_unsafe(character: char) -> bool
+    ensures { result ≡ words.is_unsafe character }
+{
+    character.is_control()
+        || matches!(character, '\u{200b}'..='\u{200f}' | '\u{2028}'..='\u{202e}' | '\u{2060}'..='\u{206f}' | '\u{feff}')
 }
 
 /// A tab as one space, so that a caret stands below its place, and what is unsafe by its number.
-fn push_shown(out: &mut String, c: char) -> Result<(), AllocError> {
-    if c == '\t' {
+fn push_shown(out: &mut String, character: char) -> Result<(), AllocError>
+    ensures { OnOk result (string_bytes out.new ≡ string_bytes out.old ++ shown_character character) }
+{
+    if character == '\t' {
         return out.push(' ');
     }
-    if is_unsafe(c) {
-        let number = u32::from(c);
+    if is_unsafe(character) {
+        let number = u32::from(character);
         let number = format!(in *out.allocator(); "<U+{number:04X}>")?;
         return out.push_str(&number);
     }
-    out.push(c)
+    out.push(character)
 }
 
 /// A name or a message as it is shown: characters that a terminal may act on stand as `<U+001B>`, and a tab as a space.
-pub fn shown(alloc: Global, text: &str) -> Result<String, AllocError> {
+pub fn shown(alloc: Global, text: &str) -> Result<String, AllocError>
+    ensures { IfOk result (λ s. string_bytes s ≡ shown_text (chars text.now)) }
+{
     let mut out = String::new(alloc);
-    for c in text.chars() {
-        push_shown(&mut out, c)?;
+    for character in text.chars() {
+        push_shown(&mut out, character)?;
     }
     Ok(out)
 }
@@ -106,7 +122,9 @@ pub fn lines(
     name: &str,
     input: &[u8],
     finding: &Finding,
-) -> Result<String, AllocError> {
+) -> Result<String, AllocError>
+    ensures { IfOk result (λ s. IsTold (shown_text (chars name.now)) finding.now (string_bytes s)) }
+{
     let name = shown(alloc, name)?;
     match finding {
         Finding::InText {

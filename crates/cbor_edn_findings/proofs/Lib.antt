@@ -1,0 +1,3 @@
+mod Advances
+mod Completions
+mod FoundOffsets

@@ -1,0 +1,4 @@
+pub mod FaultOffsets
+pub mod Findings
+pub mod Shown
+pub mod internal
