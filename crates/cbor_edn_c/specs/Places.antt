@@ -1,10 +1,11 @@
 -- Where in its input a run is refused.
-use Rattle.std.specs.Prelude.{◌≡◌, ℕ, ◌≤◌, List, length, Ok}
+use Rattle.std.specs.Prelude.{◌≡◌, ℕ, List, Ok}
 use Rattle.cbor_edn_parts.specs.base.Location.{IsLocation}
 use Rattle.cbor_edn_command.specs.Hexadecimal.{input_bytes}
 use Rattle.cbor_edn_command.specs.declared.options.Options.{Options}
 use Rattle.cbor_edn.specs.declared.engine.RunError.{RunError}
 use Rattle.cbor_edn.specs.declared.engine.RunError.TheVariants.{Read, NotUtf8, Parse, Cbor, Hex, Inconsistent, Write, Memory}
+use Rattle.cbor_edn_findings.specs.FaultOffsets.{IsFaultOffset}
 use Rattle.cbor_edn_c_calls.specs.Reports.{text_place}
 use Rattle.cbor_edn_c_calls.specs.declared.place.Place.{Place}
 use Rattle.cbor_edn_c_calls.specs.declared.place.Place.TheVariants.{Nowhere, NotFound, InText, InBytes}
@@ -16,9 +17,16 @@ IsTextPlace input NotFound = Unit {0}
 IsTextPlace input (InText offset line column) = IsLocation input offset line column
 IsTextPlace input (InBytes offset) = ⊥
 
--- Of CBOR, or of what digits stand for: an offset that is no further than its end.
+-- at this offset of a text, if it is a place there
+abbrev pub IsAtOffset : ℕ → Place → Type 0
+IsAtOffset offset Nowhere = Unit {0}
+IsAtOffset offset NotFound = ⊥
+IsAtOffset offset (InText at line column) = at ≡ offset
+IsAtOffset offset (InBytes at) = ⊥
+
+-- Of CBOR, or of what digits stand for: the head of which it is refused.
 abbrev pub IsByteOfFault : Options → List ℕ → ℕ → Type 0
-IsByteOfFault o input offset = (bytes : List ℕ) × (input_bytes o.hex input ≡ Ok bytes) × (offset ≤ length bytes)
+IsByteOfFault o input offset = (bytes : List ℕ) × (input_bytes o.hex input ≡ Ok bytes) × IsFaultOffset o.limit bytes offset
 
 abbrev pub IsBytePlace : Options → List ℕ → Place → Type 0
 IsBytePlace o input Nowhere = ⊥

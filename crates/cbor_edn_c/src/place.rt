@@ -1,6 +1,6 @@
 //! Where in its input a run is refused: a second pass over what it refused. Where that gets no memory, no place is told.
 ghost use Rattle.std.specs.Prelude.{IfOk, IfSome};
-ghost use Rattle.cbor_edn_c.specs.Places.{IsByteOfFault, IsBytePlace, IsPlace, IsTextPlace};
+ghost use Rattle.cbor_edn_c.specs.Places.{IsAtOffset, IsByteOfFault, IsBytePlace, IsPlace, IsTextPlace};
 
 use cbor_edn::engine::{Options, RunError};
 use cbor_edn_c_calls::place::Place;
@@ -20,7 +20,8 @@ pub(crate) struct Told {
 
 /// The place at an offset of a text.
 fn place_at(text: &str, offset: usize) -> Place
-    ensures { IsTextPlace text.now result }
+    ensures location { IsTextPlace text.now result }
+    ensures offset { IsAtOffset offset result }
 {
     match located(text, offset) {
         Some(place) => Place::of_text(&place),
