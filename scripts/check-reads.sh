@@ -19,9 +19,9 @@ stands_in() {
   count "'$what' stands in ${found//$'\n'/ }" test "$found" = "$(printf '%s\n' "$@" | sort)"
 }
 
-# A parse begins its own count, and makes the text that is read. The line of an offset is counted with another one.
-stands_in 'Looks::new(' crates/cbor_edn_core/src/text/parse.rt crates/cbor_edn_findings/src/places.rt
-stands_in 'Input::new(' crates/cbor_edn_core/src/text/parse.rt crates/cbor_edn_findings/src/places.rt
+# A parse alone begins a count, and makes the text that is read.
+stands_in 'Looks::new(' crates/cbor_edn_core/src/text/parse.rt
+stands_in 'Input::new(' crates/cbor_edn_core/src/text/parse.rt
 # Pieces of a text are cut where scans and spaces have seen them byte by byte, for leaves.
 stands_in '.slice(' crates/cbor_edn_parts/src/base/scan.rt crates/cbor_edn_parts/src/number/start.rt crates/cbor_edn_parts/src/space/read.rt crates/cbor_edn_parts/src/string/read.rt
 
