@@ -408,12 +408,22 @@ LONG_LISTS = [("721 ones", "9902d1" + "01" * 721), ("721 ones, open", "9f" + "01
 DEPTH_READ_AGAIN, MOST_TIMES_READ_AGAIN = 20, 10
 
 
+def quickest(data, enough):
+    """The quickest of at most six runs, as soon as one takes few enough seconds: what else runs on the machine takes some of the others'."""
+    runs = []
+    while len(runs) < 6:
+        runs.append(run(["cbor2diag"], data))
+        if runs[-1].seconds <= enough:
+            break
+    return min(runs, key=lambda ended: ended.seconds)
+
+
 def check_read_again():
     flat = min(run(["cbor2diag"], b"\x01" * 1_000_000).seconds for _ in range(3))
     for name, opening, closing in READ_AGAIN:
         for inside, encoded in LONG_LISTS:
             unit = bytes.fromhex(opening * DEPTH_READ_AGAIN + encoded + closing * DEPTH_READ_AGAIN)
-            ended = min((run(["cbor2diag"], unit * (1_000_000 // len(unit))) for _ in range(2)), key=lambda ended: ended.seconds)
+            ended = quickest(unit * (1_000_000 // len(unit)), flat * MOST_TIMES_READ_AGAIN)
             times = ended.seconds / flat
             seconds = f"it takes {ended.seconds:.1f} seconds, {times:.1f} times a flat MB" if times > MOST_TIMES_READ_AGAIN else None
             count(f"cbor2diag of {inside} in {name}", seconds if ended.status == 0 else f"status {ended.status}, said {ended.said[:200]!r}")
