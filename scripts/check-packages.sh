@@ -250,7 +250,7 @@ module=$root/usr/lib/python3/dist-packages
 example=$doc/python3-cbor-edn/examples/example.py
 export PYTHONDONTWRITEBYTECODE=1
 check 'the module' writes_bytes env "LD_LIBRARY_PATH=$lib" "PYTHONPATH=$module" "$python" "$example"
-examples='import cbor_edn, doctest; assert doctest.testmod(cbor_edn) == (0, 5)'
+examples='import cbor_edn, doctest; assert doctest.testmod(cbor_edn) == (0, 6)'
 check 'its examples' quiet env "LD_LIBRARY_PATH=$lib" "PYTHONPATH=$module" "$python" -c "$examples"
 lacks_library() {
   ! CBOR_EDN_LIBRARY=/nowhere/libcbor_edn.so PYTHONPATH=$module quiet "$python" "$example" \
