@@ -30,10 +30,10 @@ use Rattle.cbor_edn_model.proofs.lemmas.cbor.CborTurns.{shown_ok}
 use Rattle.cbor_edn_model.proofs.lemmas.cbor.CborValues.{value_at}
 use Rattle.cbor_edn_model.proofs.lemmas.layout.RegularLayout.{item_fixed}
 use Rattle.cbor_edn_model.proofs.lemmas.text.Texts.{text_sequence, text_entries}
-use Rattle.cbor_edn.specs.Elements.{IsLine, AreRead, IsFault, Fronts, elements, separated, AreValid, zero_item, zero_text, IsTextInFront, IsTextOf}
+use Rattle.cbor_edn.specs.Elements.{IsLine, AreRead, IsFault, Fronts, elements, InFront, separated, AreValid, zero_item, zero_text, IsTextInFront, IsTextOf}
 use Rattle.cbor_edn_command.specs.declared.options.Options.{Options}
 use Rattle.cbor_edn.specs.Runs.{IsPrintedAs}
-use Rattle.cbor_edn.specs.RunSteps.{Where, IsLaidOut, StepsGive}
+use Rattle.cbor_edn.specs.RunSteps.{Step, Where, IsLaidOut, StepsGive}
 use Rattle.cbor_edn.specs.OptionSteps.{IsDiagnosed}
 use Rattle.cbor_edn_core.proofs.lemmas.cbor.Decodes.{sequence_decoded}
 use Rattle.cbor_edn_stream.proofs.lemmas.Tested.{decoded_valid}
@@ -98,7 +98,7 @@ unfolding laid
 zero_line = refl
 
 -- items with a comma between two, laid out on a single line
-comma_laid : (w : Tree OneItem) (ws : List (Tree OneItem)) → IsLine w → All IsLine ws → laid_out SingleLineRegularSpacing (comma_rest (ElementTree w) (map ElementTree ws)) ≡ in_front (ElementTree w) (row_of (map ElementTree ws))
+pub comma_laid : (w : Tree OneItem) (ws : List (Tree OneItem)) → IsLine w → All IsLine ws → laid_out SingleLineRegularSpacing (comma_rest (ElementTree w) (map ElementTree ws)) ≡ in_front (ElementTree w) (row_of (map ElementTree ws))
 unfolding laid from_first to_last up_to_comma past_comma
 comma_laid w [] one more = ap (λ (v : Tree OneItem). LastTree (ElementTree v) []) one
 comma_laid w (x ∷ xs) one more =
@@ -110,13 +110,13 @@ unfolding laid from_first to_last up_to_comma past_comma
 commas_laid [] lines = refl
 commas_laid (w ∷ ws) lines = ap elements (comma_laid w ws (All-head IsLine w ws lines) (All-tail IsLine w ws lines))
 
-row_onto : (ws xs : List (Tree OneItem)) (m : Tree (Rest Elements)) → element_row xs ≡ Some m → element_row (ws ++ xs) ≡ Some (entries_onto (separated ws) m)
+pub row_onto : (ws xs : List (Tree OneItem)) (m : Tree (Rest Elements)) → element_row xs ≡ Some m → element_row (ws ++ xs) ≡ Some (entries_onto (separated ws) m)
 row_onto [] xs m is = is
 row_onto (w ∷ ws) xs m is = ap (λ (o : Option (Tree (Rest Elements))). Some (in_front (ElementTree w) o)) (row_onto ws xs m is)
 
 -- ---- texts in front of others
 
-front_valid : (fs : Fronts) (n : Tree (Rest Elements)) → Valid (entries_onto fs n) → AreValid fs
+pub front_valid : (fs : Fronts) (n : Tree (Rest Elements)) → Valid (entries_onto fs n) → AreValid fs
 unfolding Valid
 front_valid [] n is m h = h
 front_valid (f ∷ fs) n is m h = (is.0, is.1, front_valid fs n is.2 m h)
@@ -132,7 +132,7 @@ valid_in_front fs n front is = (is.0, front n is.1)
 text_of_elements : (fs : Fronts) (n : Tree (Rest Elements)) → text (elements (entries_onto fs n)) ≡ entries_text fs ++ text n
 text_of_elements fs n = text_sequence [] (entries_onto fs n) ∙ text_entries fs n
 
-taken_front : (a b : List ℕ) → take (length a) (a ++ b) ≡ a
+pub taken_front : (a b : List ℕ) → take (length a) (a ++ b) ≡ a
 taken_front [] b = refl
 taken_front (x ∷ a) b = ap (λ (l : List ℕ). x ∷ l) (taken_front a b)
 
@@ -156,27 +156,31 @@ text_in_front o ws out left (v, give, (valid, utf8, is)) cut =
     let good : IsUtf8 left = subst IsUtf8 (sym (cut ∙ ap (λ n. take n out) len)) (IsUtf8-take out (length (entries_text fs)) utf8 seam) in
     (fs, a.4, front_valid fs n (sequence_row_valid (entries_onto fs n) (subst (λ (t : Tree Seq). Valid t) a.2 valid)), good, left_is)
 
-entries_on : (es fs : Fronts) (m : Tree (Rest Elements)) → entries_onto (es ++ fs) m ≡ entries_onto es (entries_onto fs m)
+pub entries_on : (es fs : Fronts) (m : Tree (Rest Elements)) → entries_onto (es ++ fs) m ≡ entries_onto es (entries_onto fs m)
 entries_on [] fs m = refl
 entries_on (e ∷ es) fs m = ap (MoreTree e.0 e.1) (entries_on es fs m)
 
-texts_on : (es fs : Fronts) → entries_text (es ++ fs) ≡ entries_text es ++ entries_text fs
+pub texts_on : (es fs : Fronts) → entries_text (es ++ fs) ≡ entries_text es ++ entries_text fs
 texts_on [] fs = refl
 texts_on (e ∷ es) fs = ap (λ (t : List ℕ). text e.0 ++ (e.1 ++ t)) (texts_on es fs) ∙ regroup (text e.0) e.1 (entries_text es) (entries_text fs) where
   regroup : (a b c d : List ℕ) → a ++ (b ++ (c ++ d)) ≡ (a ++ (b ++ c)) ++ d
   regroup a b c d = simp append_assoc refl
 
-separated_on : (ws xs : List (Tree OneItem)) → separated (ws ++ xs) ≡ separated ws ++ separated xs
+pub separated_on : (ws xs : List (Tree OneItem)) → separated (ws ++ xs) ≡ separated ws ++ separated xs
 separated_on [] xs = refl
 separated_on (w ∷ ws) xs = ap (λ (l : Fronts). (ElementTree w, 44 ∷ 32 ∷ []) ∷ l) (separated_on ws xs)
+
+-- elements in front of others in front
+pub front_on : (P : Step) (ws xs : List (Tree OneItem)) (es fs : Fronts) → InFront P (separated ws) es → InFront P (separated xs) fs → InFront P (separated (ws ++ xs)) (es ++ fs)
+front_on P ws xs es fs first second m n h =
+    let c = first (entries_onto (separated xs) m) (entries_onto fs n) (second m n h) in
+    let before : entries_onto (separated (ws ++ xs)) m ≡ entries_onto (separated ws) (entries_onto (separated xs) m) = ap (λ (l : Fronts). entries_onto l m) (separated_on ws xs) ∙ entries_on (separated ws) (separated xs) m in
+    subst (λ (t : Tree (Rest Elements)). P (elements t) (elements (entries_onto (es ++ fs) n))) (sym before) (subst (λ (t : Tree (Rest Elements)). P (elements (entries_onto (separated ws) (entries_onto (separated xs) m))) (elements t)) (sym (entries_on es fs n)) c)
 
 pub more_in_front : (o : Options) (ws xs : List (Tree OneItem)) (a b : List ℕ) → IsTextInFront o ws a → IsTextInFront o xs b → IsTextInFront o (ws ++ xs) (a ++ b)
 more_in_front o ws xs a b (es, first, valid, utf8, is) (fs, second, sound, good, same) = (
   es ++ fs,
-  λ m n h.
-      let c = first (entries_onto (separated xs) m) (entries_onto fs n) (second m n h) in
-      let before : entries_onto (separated (ws ++ xs)) m ≡ entries_onto (separated ws) (entries_onto (separated xs) m) = ap (λ (l : Fronts). entries_onto l m) (separated_on ws xs) ∙ entries_on (separated ws) (separated xs) m in
-      subst (λ (t : Tree (Rest Elements)). StepsGive o (elements t) (elements (entries_onto (es ++ fs) n))) (sym before) (subst (λ (t : Tree (Rest Elements)). StepsGive o (elements (entries_onto (separated ws) (entries_onto (separated xs) m))) (elements t)) (sym (entries_on es fs n)) c),
+  front_on (StepsGive o) ws xs es fs first second,
   λ m h. subst (λ (t : Tree (Rest Elements)). Valid t) (sym (entries_on es fs m)) (valid (entries_onto fs m) (sound m h)),
   IsUtf8-append a b utf8 good,
   ap (λ (t : List ℕ). t ++ b) is ∙ ap (λ (t : List ℕ). entries_text es ++ t) same ∙ sym (texts_on es fs),

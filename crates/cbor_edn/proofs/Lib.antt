@@ -20,3 +20,7 @@ mod VisitNestings
 mod WrittenOutput
 mod ElementTexts
 mod SplitSteps
+mod NestedSteps
+mod EntriesRead
+mod LongArrayTexts
+mod LongArrays

@@ -22,9 +22,8 @@ use Rattle.cbor_edn_command.specs.declared.options.Command.{Command}
 use Rattle.cbor_edn_command.specs.declared.options.Command.TheVariants.{Diag2Cbor, Cbor2Diag, Diag2Diag}
 use Rattle.cbor_edn_command.specs.declared.options.Options.{Options}
 use Rattle.cbor_edn.specs.RunLaws.{StepsGiveOnce, OneOutput}
-use Rattle.cbor_edn.specs.RunSteps.{Step, Where, InTurn, IsLaidOut, TagsVisited, LiteralsVisited, HasClaims, StepsGive}
+use Rattle.cbor_edn.specs.RunSteps.{Step, Where, InTurn, IsLaidOut, TagsVisited, LiteralsVisited, HasClaims, StepsGive, AnnotatesTags, ResolvesLiterals}
 use Rattle.cbor_edn.specs.Runs.{IsReadAs, IsDecodedAs, Loads, IsEncodedAs, IsWrittenAs}
-use Rattle.cbor_edn.proofs.StepsKept.{AnnotatesTags, ResolvesLiterals}
 
 -- ---- steps
 

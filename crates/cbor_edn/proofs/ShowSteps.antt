@@ -17,8 +17,8 @@ use Rattle.cbor_edn_conversions.proofs.conversions.CoseKept.{cose_keeps, key_nam
 use Rattle.cbor_edn_application.specs.Sequences.{each_item, with_each}
 use Rattle.cbor_edn_application.proofs.Unmoved.{visit_unmoved}
 use Rattle.cbor_edn_command.specs.declared.file_options.ShowOptions.{ShowOptions}
-use Rattle.cbor_edn.specs.RunSteps.{Step, Where, InTurn, IsLaidOut, TagsVisited, HasClaims}
-use Rattle.cbor_edn.specs.Show.{ClaimsAnnotated, EmbeddedShown, HasKeyNames, ShowGives, TagsAnnotated}
+use Rattle.cbor_edn.specs.RunSteps.{Step, Where, InTurn, IsLaidOut, TagsVisited, HasClaims, AnnotatesTags}
+use Rattle.cbor_edn.specs.Show.{ClaimsAnnotated, EmbeddedShown, HasKeyNames, ShowGives}
 use Rattle.cbor_edn.proofs.RunsOnce.{Once, annotated_once, claims_once, tags_visited_once, turn_once, where_once}
 use Rattle.cbor_edn.proofs.StepsKept.{Keeps, layout_kept, not_taken, same_kept, turn_kept, where_kept}
 use Rattle.cbor_edn.proofs.UntaggedSteps.{annotated_untagged, visited_untagged, where_asked}
@@ -38,7 +38,7 @@ abbrev pub FromNames : ShowOptions → Step
 FromNames s = InTurn (Named s) (InTurn (Counted s) (IsLaidOut indented))
 
 abbrev pub FromTags : ShowOptions → Step
-FromTags s = InTurn TagsAnnotated (InTurn (Claimed s) (FromNames s))
+FromTags s = InTurn AnnotatesTags (InTurn (Claimed s) (FromNames s))
 
 -- ---- one result
 
@@ -51,7 +51,7 @@ from_names_once s =
     (turn_once (Counted s) (IsLaidOut indented) (where_once s.bignum_from_tags (TagsVisited pretty_bignum) (tags_visited_once pretty_bignum)) (λ w v u a b. a ∙ sym b))
 
 from_tags_once : (s : ShowOptions) → Once (FromTags s)
-from_tags_once s = turn_once TagsAnnotated (InTurn (Claimed s) (FromNames s)) annotated_once (turn_once (Claimed s) (FromNames s) (where_once s.annotate_ccs ClaimsAnnotated claims_annotated_once) (from_names_once s))
+from_tags_once s = turn_once AnnotatesTags (InTurn (Claimed s) (FromNames s)) annotated_once (turn_once (Claimed s) (FromNames s) (where_once s.annotate_ccs ClaimsAnnotated claims_annotated_once) (from_names_once s))
 
 pub gives_once : (s : ShowOptions) → Once (ShowGives s)
 gives_once s = turn_once (EmbeddedShown s.levels s.limit) (FromTags s) (λ w v u a b. a ∙ sym b) (from_tags_once s)
@@ -72,7 +72,7 @@ keys_left (SequenceTree s m) = row_left m
 -- the steps of `show` that change items
 pub record KeptByShow (Q : Items → Type 0) (s : ShowOptions) : Type 0 where
   pub embedded : Keeps Q (EmbeddedShown s.levels s.limit)
-  pub tags : Keeps Q TagsAnnotated
+  pub tags : Keeps Q AnnotatesTags
   pub claims : Keeps Q HasClaims
   pub messages : Keeps Q (TagsVisited message_claims)
   pub bignums : Keeps Q (TagsVisited pretty_bignum)
@@ -94,7 +94,7 @@ module _ (Q : Items → Type 0) where
         (turn_kept Q (Counted s) (IsLaidOut indented) (where_kept Q s.bignum_from_tags (TagsVisited pretty_bignum) kept.bignums) (layout_kept Q indented))
 
     from_tags_kept : Keeps Q (FromTags s)
-    from_tags_kept = turn_kept Q TagsAnnotated (InTurn (Claimed s) (FromNames s)) kept.tags (turn_kept Q (Claimed s) (FromNames s) (where_kept Q s.annotate_ccs ClaimsAnnotated claims_kept) from_names_kept)
+    from_tags_kept = turn_kept Q AnnotatesTags (InTurn (Claimed s) (FromNames s)) kept.tags (turn_kept Q (Claimed s) (FromNames s) (where_kept Q s.annotate_ccs ClaimsAnnotated claims_kept) from_names_kept)
 
     pub gives_kept : Keeps Q (ShowGives s)
     gives_kept = turn_kept Q (EmbeddedShown s.levels s.limit) (FromTags s) kept.embedded from_tags_kept
@@ -105,7 +105,7 @@ pub guarded_show_gives : (s : ShowOptions) (w shown annotated claimed named coun
     → tagged ≡ has_tag shown
     → later ≡ tagged || s.annotate_ccs
     → EmbeddedShown s.levels s.limit w shown
-    → Where (true && tagged) TagsAnnotated shown annotated
+    → Where (true && tagged) AnnotatesTags shown annotated
     → Where s.annotate_ccs ClaimsAnnotated annotated claimed
     → Where (s.names && later) (TagsVisited comment_cose) claimed named
     → Where (s.bignum_from_tags && later) (TagsVisited pretty_bignum) named counted
@@ -114,7 +114,7 @@ guarded_show_gives s w shown annotated claimed named counted tagged later is lat
     -- where no step may put a tag, all of them leave the tree
     let left : later ≡ false → (claimed ≡ shown) × (has_tag shown ≡ false) = λ off.
     let parts = or_parts tagged s.annotate_ccs (sym later_is ∙ off) in (
-      not_taken s.annotate_ccs ClaimsAnnotated annotated claimed parts.1 claims ∙ not_taken (true && tagged) TagsAnnotated shown annotated parts.0 tags,
+      not_taken s.annotate_ccs ClaimsAnnotated annotated claimed parts.1 claims ∙ not_taken (true && tagged) AnnotatesTags shown annotated parts.0 tags,
       sym is ∙ parts.0,
     ) in
     let untagged : later ≡ false → has_tag claimed ≡ false = λ off. subst (λ t. has_tag t ≡ false) (sym (left off).0) (left off).1 in
@@ -124,7 +124,7 @@ guarded_show_gives s w shown annotated claimed named counted tagged later is lat
       embedded,
       (
         annotated,
-        where_asked true tagged TagsAnnotated shown annotated (λ asked off. annotated_untagged shown (sym is ∙ off)) tags,
+        where_asked true tagged AnnotatesTags shown annotated (λ asked off. annotated_untagged shown (sym is ∙ off)) tags,
         (
           claimed,
           claims,

@@ -24,9 +24,8 @@ use Rattle.cbor_edn_conversions.proofs.resolving.Keeping.{all_split}
 use Rattle.cbor_edn_application.specs.Acts.{Act, IsVisited}
 use Rattle.cbor_edn_application.specs.Sequences.{each_item}
 use Rattle.cbor_edn_command.specs.declared.options.Options.{Options}
-use Rattle.cbor_edn.specs.Elements.{Fronts, elements, InFront, zero_item, zero_text}
-use Rattle.cbor_edn.specs.RunSteps.{Step, Where, InTurn, IsLaidOut, TagsVisited, LiteralsVisited, HasClaims, StepsGive}
-use Rattle.cbor_edn.proofs.StepsKept.{AnnotatesTags, ResolvesLiterals}
+use Rattle.cbor_edn.specs.Elements.{Fronts, elements, Changes, InFront, zero_item, zero_text}
+use Rattle.cbor_edn.specs.RunSteps.{Step, Where, InTurn, IsLaidOut, TagsVisited, LiteralsVisited, AnnotatesTags, ResolvesLiterals, HasClaims, StepsGive}
 
 abbrev pub Split : Step → Fronts → Tree (Rest Elements) → Tree Seq → Type 0
 Split P es m v = (fs : Fronts) × (n : Tree (Rest Elements)) × (v ≡ elements (entries_onto fs n)) × P (elements m) (elements n) × InFront P es fs
@@ -158,17 +157,14 @@ split_claims es m v is =
 
 -- ---- all steps
 
--- the steps but the last, and all of them
-abbrev Changes : Options → Step
-Changes o = InTurn (Where o.annotate_tags AnnotatesTags) (InTurn (Where o.remove_comments (IsLaidOut DiscardAll)) (InTurn (Where o.aol_to_item ResolvesLiterals) (InTurn (Where o.annotate_ccs HasClaims) (InTurn (Where o.bignum_from_tags (TagsVisited pretty_bignum)) (Where o.apply_999 (LiteralsVisited to_tag999))))))
-
-abbrev Last : Options → Step
+-- the last step, and all of them
+abbrev pub Last : Options → Step
 Last o = Where (not o.preserve_space) (IsLaidOut indented)
 
-in_turn : (o : Options) (w v : Tree Seq) → StepsGive o w v → InTurn (Changes o) (Last o) w v
+pub in_turn : (o : Options) (w v : Tree Seq) → StepsGive o w v → InTurn (Changes o) (Last o) w v
 in_turn o w v h = (h.tagged, (h.annotated, h.tags, (h.uncommented, h.comments, (h.resolved, h.literals, (h.claimed, h.claims, (h.counted, h.bignums, h.others))))), h.spaces)
 
-give : (o : Options) (w v : Tree Seq) → InTurn (Changes o) (Last o) w v → StepsGive o w v
+pub give : (o : Options) (w v : Tree Seq) → InTurn (Changes o) (Last o) w v → StepsGive o w v
 give o w v (tagged, (annotated, tags, (uncommented, comments, (resolved, literals, (claimed, claims, (counted, bignums, others))))), spaces) = record {
   annotated = annotated;
   uncommented = uncommented;
@@ -197,7 +193,7 @@ split_annotates = split_turn (TagsVisited pretty_address) (InTurn (TagsVisited p
 split_resolves : Splits ResolvesLiterals
 split_resolves = split_turn (LiteralsVisited resolve_address) (LiteralsVisited resolve_time) (split_literals resolve_address) (split_literals resolve_time)
 
-split_changes : (o : Options) → Splits (Changes o)
+pub split_changes : (o : Options) → Splits (Changes o)
 split_changes o =
     split_turn (Where o.annotate_tags AnnotatesTags) _ (split_where o.annotate_tags AnnotatesTags split_annotates)
     (split_turn (Where o.remove_comments (IsLaidOut DiscardAll)) _ (split_where o.remove_comments (IsLaidOut DiscardAll) (split_laid DiscardAll bare_discarded))
@@ -257,7 +253,7 @@ leave_claims : Leaves HasClaims
 unfolding with_claims
 leave_claims v is = is
 
-no_tag : (a : CallArguments) → IsTag zero_item a → ⊥
+pub no_tag : (a : CallArguments) → IsTag zero_item a → ⊥
 no_tag (number n) is = cc
 no_tag (prefix_and_text p t) is = is
 
@@ -271,7 +267,7 @@ leave_tags act = leave_visit IsTag act no_tag
 leave_literals : (act : Act) → Leaves (LiteralsVisited act)
 leave_literals act = leave_visit IsApplication act no_literal
 
-leave_changes : (o : Options) → Leaves (Changes o)
+pub leave_changes : (o : Options) → Leaves (Changes o)
 leave_changes o =
     leave_turn (Where o.annotate_tags AnnotatesTags) _ (leave_where o.annotate_tags AnnotatesTags (leave_turn (TagsVisited pretty_address) _ (leave_tags pretty_address) (leave_turn (TagsVisited pretty_time) (TagsVisited comment_lang) (leave_tags pretty_time) (leave_tags comment_lang))))
     (leave_turn (Where o.remove_comments (IsLaidOut DiscardAll)) _ (leave_where o.remove_comments (IsLaidOut DiscardAll) leave_discarded)

@@ -27,15 +27,9 @@ use Rattle.cbor_edn_application.proofs.ClaimsSetsKept.{claims_sets_keep}
 use Rattle.cbor_edn_application.proofs.ResolvedAgain.{pretty_times_keep, pretty_addresses_keep, pretty_bignums_keep, resolved_times_keep, resolved_addresses_keep, languages_leave, resolved_in_turn}
 use Rattle.cbor_edn_command.specs.declared.options.Options.{Options}
 use Rattle.cbor_edn.specs.RunLaws.{Encodes}
-use Rattle.cbor_edn.specs.RunSteps.{Step, Where, InTurn, IsLaidOut, TagsVisited, LiteralsVisited, HasClaims, StepsGive}
+use Rattle.cbor_edn.specs.RunSteps.{Step, Where, InTurn, IsLaidOut, TagsVisited, LiteralsVisited, AnnotatesTags, ResolvesLiterals, HasClaims, StepsGive}
 
 -- ---- the steps by themselves
-
-abbrev pub AnnotatesTags : Step
-AnnotatesTags = InTurn (TagsVisited pretty_address) (InTurn (TagsVisited pretty_time) (TagsVisited comment_lang))
-
-abbrev pub ResolvesLiterals : Step
-ResolvesLiterals = InTurn (LiteralsVisited resolve_address) (LiteralsVisited resolve_time)
 
 -- a step that is taken, and one that is not
 taken : (b : Bool) (P : Step) (w v : Tree Seq) → b ≡ true → Where b P w v → P w v

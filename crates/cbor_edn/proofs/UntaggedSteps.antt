@@ -25,8 +25,8 @@ use Rattle.cbor_edn_conversions.specs.Tag999.{to_tag999}
 use Rattle.cbor_edn_conversions.specs.Times.{pretty_time}
 use Rattle.cbor_edn_application.specs.Acts.{Act}
 use Rattle.cbor_edn_command.specs.declared.options.Options.{Options}
-use Rattle.cbor_edn.specs.RunSteps.{Step, Where, IsLaidOut, TagsVisited, LiteralsVisited, HasClaims, StepsGive}
-use Rattle.cbor_edn.proofs.StepsKept.{AnnotatesTags, ResolvesLiterals, not_taken}
+use Rattle.cbor_edn.specs.RunSteps.{Step, Where, IsLaidOut, TagsVisited, LiteralsVisited, HasClaims, StepsGive, AnnotatesTags, ResolvesLiterals}
+use Rattle.cbor_edn.proofs.StepsKept.{not_taken}
 
 pub visited_untagged : (act : Act) (w : Tree Seq) → has_tag w ≡ false → TagsVisited act w w
 visited_untagged act w none = ([], All-nil (AnswersBy act), sequence_untagged w none)

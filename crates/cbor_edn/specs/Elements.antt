@@ -2,7 +2,7 @@
 use Rattle.std.specs.Prelude.{ℕ, ◌<◌, ◌≡◌, Bool, if◌then◌else◌, List, [], ◌∷◌, map, length, None, Ok}
 use Rattle.std.specs.Str.{IsUtf8}
 use Rattle.cbor_edn_parts.specs.declared.base.error.Fault.{Fault}
-use Rattle.cbor_edn_parts.specs.declared.space.policy.DelimiterPolicy.TheVariants.{SingleLineRegularSpacing}
+use Rattle.cbor_edn_parts.specs.declared.space.policy.DelimiterPolicy.TheVariants.{DiscardAll, SingleLineRegularSpacing}
 use Rattle.cbor_edn_model.specs.declared.cbor.decode.CborError.{CborError}
 use Rattle.cbor_edn_model.specs.layout.Layout.{laid_out}
 use Rattle.cbor_edn_model.specs.tree.Items.{Elements}
@@ -10,9 +10,11 @@ use Rattle.cbor_edn_model.specs.tree.Rows.{entries_onto, entries_text}
 use Rattle.cbor_edn_model.specs.tree.Trees.{Tree, OneItem, OneEntry, Rest, Seq, NumberTree, ElementTree, SequenceTree, Valid}
 use Rattle.cbor_edn_model.specs.internal.CborReading.{DecoderFails, item_at, trees, element_row}
 use Rattle.cbor_edn_model.specs.internal.Regular.{sequence_tree_of}
+use Rattle.cbor_edn_conversions.specs.Bignums.{pretty_bignum}
+use Rattle.cbor_edn_conversions.specs.Tag999.{to_tag999}
 use Rattle.cbor_edn_command.specs.declared.options.Options.{Options}
 use Rattle.cbor_edn.specs.Runs.{IsPrintedAs}
-use Rattle.cbor_edn.specs.RunSteps.{Step, StepsGive}
+use Rattle.cbor_edn.specs.RunSteps.{Step, Where, InTurn, IsLaidOut, TagsVisited, LiteralsVisited, AnnotatesTags, ResolvesLiterals, HasClaims, StepsGive}
 
 -- the item has the spaces of a single line
 abbrev pub IsLine : Tree OneItem → Type 0
@@ -29,6 +31,10 @@ AreRead limit bytes (w ∷ ws) rest = (behind : List ℕ) × (item_at trees limi
 abbrev pub IsFault : ℕ → List ℕ → Fault CborError → Type 0
 IsFault limit bytes e = (ws : List (Tree OneItem)) × (rest : List ℕ) × AreRead limit bytes ws rest × (0 < length rest) × DecoderFails e (item_at trees limit rest)
 
+-- the same of one of so many items
+abbrev pub IsFaultAmong : ℕ → ℕ → List ℕ → Fault CborError → Type 0
+IsFaultAmong limit most bytes e = (ws : List (Tree OneItem)) × (rest : List ℕ) × AreRead limit bytes ws rest × (length ws < most) × (0 < length rest) × DecoderFails e (item_at trees limit rest)
+
 -- ---- elements that are changed
 
 -- elements in front of others, each with the space behind it
@@ -37,6 +43,16 @@ Fronts = List (Tree (OneEntry Elements) × List ℕ)
 
 abbrev pub elements : Tree (Rest Elements) → Tree Seq
 elements m = SequenceTree [] m
+
+-- the steps but the last, which sets the spaces
+abbrev pub Changes : Options → Step
+Changes o =
+    InTurn (Where o.annotate_tags AnnotatesTags)
+    (InTurn (Where o.remove_comments (IsLaidOut DiscardAll))
+    (InTurn (Where o.aol_to_item ResolvesLiterals)
+    (InTurn (Where o.annotate_ccs HasClaims)
+    (InTurn (Where o.bignum_from_tags (TagsVisited pretty_bignum))
+    (Where o.apply_999 (LiteralsVisited to_tag999))))))
 
 -- The step makes these of elements in front, whatever is behind.
 abbrev pub InFront : Step → Fronts → Fronts → Type 0

@@ -40,6 +40,14 @@ TagsVisited act w v = IsVisited IsTag act w whole v
 abbrev pub LiteralsVisited : Act → Step
 LiteralsVisited act w v = IsVisited IsApplication act w whole v
 
+-- `IP'192.0.2.1'` for `52(h'c0000201')`, `DT'1970-01-01T00:00:42+00:00'` for `1(42)`, and comments in tags 38
+abbrev pub AnnotatesTags : Step
+AnnotatesTags = InTurn (TagsVisited pretty_address) (InTurn (TagsVisited pretty_time) (TagsVisited comment_lang))
+
+-- `h'c0000201'` for `ip'192.0.2.1'`, and 42 for `dt'1970-01-01T00:00:42Z'`
+abbrev pub ResolvesLiterals : Step
+ResolvesLiterals = InTurn (LiteralsVisited resolve_address) (LiteralsVisited resolve_time)
+
 -- comments at the keys of each item that is a map
 abbrev pub HasClaims : Step
 HasClaims w v = v ≡ with_claims_sets w
@@ -52,11 +60,9 @@ pub record StepsGive (o : Options) (w v : Tree Seq) : Type 0 where
   pub claimed : Tree Seq
   pub counted : Tree Seq
   pub tagged : Tree Seq
-  -- `IP'192.0.2.1'` for `52(h'c0000201')`, `DT'1970-01-01T00:00:42+00:00'` for `1(42)`, and comments in tags 38
-  pub tags : Where o.annotate_tags (InTurn (TagsVisited pretty_address) (InTurn (TagsVisited pretty_time) (TagsVisited comment_lang))) w annotated
+  pub tags : Where o.annotate_tags AnnotatesTags w annotated
   pub comments : Where o.remove_comments (IsLaidOut DiscardAll) annotated uncommented
-  -- `h'c0000201'` for `ip'192.0.2.1'`, and 42 for `dt'1970-01-01T00:00:42Z'`
-  pub literals : Where o.aol_to_item (InTurn (LiteralsVisited resolve_address) (LiteralsVisited resolve_time)) uncommented resolved
+  pub literals : Where o.aol_to_item ResolvesLiterals uncommented resolved
   pub claims : Where o.annotate_ccs HasClaims resolved claimed
   -- 18446744073709551616 for `2(h'010000000000000000')`
   pub bignums : Where o.bignum_from_tags (TagsVisited pretty_bignum) claimed counted

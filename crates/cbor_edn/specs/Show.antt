@@ -3,20 +3,17 @@ use Rattle.std.specs.Prelude.{◌≡◌, ℕ, ◌-◌, List, Ok}
 use Rattle.cbor_edn_parts.specs.space.Spacing.{indented}
 use Rattle.cbor_edn_model.specs.tree.Items.{nesting}
 use Rattle.cbor_edn_model.specs.tree.Trees.{Tree, Seq, items}
-use Rattle.cbor_edn_conversions.specs.Addresses.{pretty_address}
-use Rattle.cbor_edn_conversions.specs.Annotations.{comment_lang}
 use Rattle.cbor_edn_conversions.specs.Bignums.{pretty_bignum}
 use Rattle.cbor_edn_conversions.specs.Cose.{comment_cose}
 use Rattle.cbor_edn_conversions.specs.CoseKeys.{with_key_names}
 use Rattle.cbor_edn_conversions.specs.EmbeddedItems.{shown, with_literals}
 use Rattle.cbor_edn_conversions.specs.MessageClaims.{message_claims}
-use Rattle.cbor_edn_conversions.specs.Times.{pretty_time}
 use Rattle.cbor_edn_application.specs.Sequences.{with_each}
 use Rattle.cbor_edn_command.specs.FileOptions.{show_steps}
 use Rattle.cbor_edn_command.specs.Hexadecimal.{input_bytes}
 use Rattle.cbor_edn_command.specs.declared.file_options.ShowOptions.{ShowOptions}
 use Rattle.cbor_edn.specs.Format.{ended}
-use Rattle.cbor_edn.specs.RunSteps.{Step, Where, InTurn, IsLaidOut, TagsVisited, HasClaims}
+use Rattle.cbor_edn.specs.RunSteps.{Step, Where, InTurn, IsLaidOut, TagsVisited, HasClaims, AnnotatesTags}
 use Rattle.cbor_edn.specs.Runs.{IsDecodedAs, IsPrintedAs, IsRefused}
 use Rattle.cbor_edn.specs.declared.engine.RunError.{RunError}
 
@@ -25,10 +22,6 @@ use Rattle.cbor_edn.specs.declared.engine.RunError.{RunError}
 -- Byte strings that hold CBOR become embedded sequences, to so many levels, as deep as the deepest item leaves room within the limit.
 abbrev pub EmbeddedShown : ℕ → ℕ → Step
 EmbeddedShown levels limit w v = v ≡ with_literals (shown levels (limit - nesting (items w))) w
-
--- What `cbor2diag` does by default to addresses, times and languages: `DT'1970-01-01T00:00:42+00:00'` for `1(42)`.
-abbrev pub TagsAnnotated : Step
-TagsAnnotated = InTurn (TagsVisited pretty_address) (InTurn (TagsVisited pretty_time) (TagsVisited comment_lang))
 
 -- names of the COSE keys in each item that is a claims set
 abbrev pub HasKeyNames : Step
@@ -44,7 +37,7 @@ ClaimsAnnotated = InTurn HasClaims (InTurn HasKeyNames (TagsVisited message_clai
 abbrev pub ShowGives : ShowOptions → Step
 ShowGives s =
     InTurn (EmbeddedShown s.levels s.limit)
-    (InTurn TagsAnnotated
+    (InTurn AnnotatesTags
     (InTurn (Where s.annotate_ccs ClaimsAnnotated)
     (InTurn (Where s.names (TagsVisited comment_cose))
     (InTurn (Where s.bignum_from_tags (TagsVisited pretty_bignum))

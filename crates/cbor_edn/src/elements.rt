@@ -2,18 +2,21 @@
 //!
 //! A step does to elements of a sequence what it does to them by themselves. So some are decoded, changed, printed and dropped, and then
 //! the next. What stands between the last of these and the next is printed with an integer in the place of that one, which no step changes.
-ghost use Rattle.std.specs.Prelude.{◌≡◌, ◌≢◌, ◌<◌, ◌++◌, ◌∷◌, [], length, map, All, IfOk, IfErr, OnOk};
+ghost use Rattle.std.specs.Prelude.{◌≡◌, ◌≢◌, ◌<◌, ◌≤◌, ◌++◌, ◌∷◌, [], true, length, map, All, IfOk, IfErr, OnOk};
 ghost use Rattle.cbor_edn_parts.specs.base.Refusals.{IfTold};
+ghost use Rattle.cbor_edn_parts.specs.declared.base.error.Fault.TheVariants.{Told};
 ghost use Rattle.cbor_edn_parts.specs.declared.space.policy.DelimiterPolicy.TheVariants.{SingleLineRegularSpacing};
 ghost use Rattle.cbor_edn_core.specs.tree.Constructed.{element_tree};
 ghost use Rattle.cbor_edn_core.specs.tree.View.{item_tree, sequence_tree};
 ghost use Rattle.cbor_edn_model.specs.cbor.Decoded.{NoSequence, IsTooDeepSequence};
 ghost use Rattle.cbor_edn_model.specs.tree.Constructed.{comma_sequence};
 ghost use Rattle.cbor_edn.specs.RunSteps.{Where, IsLaidOut};
-ghost use Rattle.cbor_edn.specs.Elements.{IsLine, AreRead, IsFault, zero_item, zero_text, IsTextInFront, IsTextOf};
+ghost use Rattle.cbor_edn.specs.Elements.{IsLine, AreRead, IsFault, IsFaultAmong, zero_item, zero_text, IsTextInFront, IsTextOf};
+ghost use Rattle.cbor_edn.specs.LongArrays.{IsFrontText, behind_array};
 ghost use Rattle.cbor_edn.specs.OptionSteps.{IsDiagnosed};
 
 use crate::engine::printed;
+use crate::long_arrays::{array_text, long_array};
 use cbor_edn_command::options::Options;
 use cbor_edn_core::cbor::decode::{CborError, decode_item};
 use cbor_edn_core::tree::{Item, Sequence};
@@ -34,43 +37,96 @@ pub(crate) fn changed(
     ensures refused { IfTold result (λ e. e ≢ CborError.TooDeep → NoSequence bytes.now) }
     ensures too_deep { IfTold result (λ e. e ≡ CborError.TooDeep → IsTooDeepSequence options.now.limit bytes.now) }
 {
-    let (items, rest) = front_items(alloc, bytes, options.limit)?;
+    let (text, rest) = front_text(alloc, options, bytes)?;
     if rest.is_empty() {
-        return Ok(text_of(alloc, options, items)?);
+        return Ok(text);
     }
-    let mut out = text_in_front(alloc, options, items)?;
+    let mut out = text;
     let mut rest = rest;
     'turns: loop {
-        let (items, behind) = front_items(alloc, rest, options.limit)?;
+        let (text, behind) = front_text(alloc, options, rest)?;
+        out.extend_from_slice(&text)?;
         if behind.is_empty() {
-            let text = text_of(alloc, options, items)?;
-            out.extend_from_slice(&text)?;
             return Ok(out);
         }
-        let text = text_in_front(alloc, options, items)?;
-        out.extend_from_slice(&text)?;
         rest = behind;
     }
 }
 
-/// The items at the front of bytes that are changed together, one at least where there are bytes, and the bytes behind them.
-fn front_items<'a, 'b>(
+/// The text of what stands at the front and is changed together: of some elements, one at least where there are bytes; and the bytes behind.
+fn front_text<'b>(
     alloc: Global,
+    options: &Options,
+    bytes: &'b [u8],
+) -> Result<(Vec<u8>, &'b [u8]), Fault<CborError>>
+    ensures text { IfOk result (λ x. IsFrontText options.now bytes.now x.0.items x.1.now) }
+    ensures refused { IfTold result (λ e. IsFault options.now.limit bytes.now (Told e)) }
+    ensures shorter { IfOk result (λ x. 0 < length bytes.now → length x.1.now < length bytes.now) }
+{
+    if let Some((width, count, elements)) = long_array(options, bytes) {
+        let (text, behind) = array_text(alloc, options, width, count, elements)?;
+        return Ok((with_line(text, behind.is_empty())?, behind));
+    }
+    let (items, behind) = front_items(alloc, options, bytes, options.limit, u64::MAX)?;
+    let text = if behind.is_empty() {
+        text_of(alloc, options, items)?
+    } else {
+        text_in_front(alloc, options, items)?
+    };
+    Ok((text, behind))
+}
+
+/// A text with the end of its line, and a comma in front of that where others follow.
+fn with_line(text: Vec<u8>, is_last: bool) -> Result<Vec<u8>, AllocError>
+    ensures { IfOk result (λ out. out.items ≡ text.items ++ behind_array is_last) }
+{
+    let mut out = text;
+    if !is_last {
+        out.push(b',')?;
+    }
+    out.push(b'\n')?;
+    Ok(out)
+}
+
+/// The items at the front of bytes that are changed together, `most` at most, and one at least where there are bytes; and the bytes behind
+/// them. None but the first is a long array.
+pub(crate) fn front_items<'a, 'b>(
+    alloc: Global,
+    options: &Options,
     bytes: &'b [u8],
     limit: usize,
+    most: u64,
 ) -> Result<(Vec<Item<'a>>, &'b [u8]), Fault<CborError>>
     ensures read { IfOk result (λ x. AreRead limit bytes.now (map item_tree x.0.items) x.1.now) }
-    ensures refused { IfErr result (λ e. IsFault limit bytes.now e) }
-    ensures shorter { IfOk result (λ x. 0 < length bytes.now → length x.1.now < length bytes.now) }
+    ensures most { IfOk result (λ x. length x.0.items ≤ most) }
+    ensures refused { IfErr result (λ e. IsFaultAmong limit most bytes.now e) }
+    ensures shorter { IfOk result (λ x. 0 < most → 0 < length bytes.now → length x.1.now < length bytes.now) }
 {
     let mut items: Vec<Item<'a>> = Vec::new(alloc);
     let mut rest = bytes;
-    'items: while !rest.is_empty() && bytes.len() - rest.len() < TOGETHER {
+    'items: while goes_on(
+        options,
+        items.len() as u64,
+        most,
+        bytes.len() - rest.len(),
+        rest,
+    ) {
         let (item, behind) = decode_item(alloc, rest, limit)?;
         items.push(item)?;
         rest = behind;
     }
     Ok((items, rest))
+}
+
+/// Whether the item at the front goes with so many that were read from so many bytes.
+fn goes_on(options: &Options, items: u64, most: u64, read: usize, bytes: &[u8]) -> bool
+    ensures some { result ≡ true → (0 < length bytes.now) × (items < most) }
+    ensures first { items ≡ 0 → 0 < most → 0 < length bytes.now → result ≡ true }
+{
+    if bytes.is_empty() || items >= most {
+        return false;
+    }
+    items == 0 || read < TOGETHER && long_array(options, bytes).is_none()
 }
 
 /// The text after the steps of items that others follow, with what stands behind the last of them.
@@ -89,7 +145,10 @@ fn text_in_front(
 }
 
 /// The items and the integer 0 behind them.
-fn with_zero<'a>(alloc: Global, items: Vec<Item<'a>>) -> Result<Vec<Item<'a>>, AllocError>
+pub(crate) fn with_zero<'a>(
+    alloc: Global,
+    items: Vec<Item<'a>>,
+) -> Result<Vec<Item<'a>>, AllocError>
     ensures { IfOk result (λ v. map item_tree v.items ≡ map item_tree items.entry.items ++ (zero_item ∷ [])) }
 {
     let mut items = items;

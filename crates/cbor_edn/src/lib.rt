@@ -8,6 +8,7 @@ pub mod engine;
 pub mod format;
 pub mod laws;
 mod line_feed;
+mod long_arrays;
 mod option_steps;
 pub mod script;
 pub mod show;

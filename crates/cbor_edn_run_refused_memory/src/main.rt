@@ -27,6 +27,8 @@ fn print_runs(rt: &HostRuntime) -> io::Result<()> {
         let told = word(runs::converted_apart(rt.alloc(), row));
         println!(rt; "{}: {told}", row.0)?;
     }
+    let told = word(runs::converted_long_array(rt.alloc()));
+    println!(rt; "engine::converted, elements of a long array: {told}")?;
     for row in runs::THERE_AND_BACK {
         let told = word(runs::recoded_bytes(rt.alloc(), row));
         println!(rt; "{}: {told}", row.0)?;

@@ -185,6 +185,31 @@ const BIGNUM: &str = "c249010000000000000000";
 
 const INTEGER: &str = "18446744073709551616";
 
+/// An array of as many bignums as a line has columns, by the default options: its elements are changed in an array of their own.
+pub(crate) fn converted_long_array(alloc: Global) -> Result<bool, Failure> {
+    let digits = BIGNUM.repeat(alloc, 80)?;
+    let lines = ",\n    18446744073709551616".repeat(alloc, 79)?;
+    let input = format!(in alloc; "9850{digits}")?;
+    let shown = format!(in alloc; "[\n    {INTEGER}{lines}\n]\n")?;
+    let options = Options {
+        command: Command::Cbor2Diag,
+        hex: true,
+        annotate_tags: true,
+        apply_999: false,
+        aol_to_item: false,
+        bignum_from_tags: true,
+        annotate_ccs: false,
+        remove_comments: false,
+        preserve_space: false,
+        limit: NESTING_LIMIT,
+    };
+    match converted(alloc, &options, input.as_bytes()) {
+        Ok(output) => Ok(output.as_slice() == shown.as_bytes()),
+        Err(RunError::Memory(_)) => Err(Failure::Refused),
+        Err(_) => Ok(false),
+    }
+}
+
 pub(crate) fn converted_apart(alloc: Global, row: &Apart) -> Result<bool, Failure> {
     let (_, preserve_space, between, behind) = *row;
     let zeros = "00".repeat(alloc, 4096)?;

@@ -161,6 +161,54 @@ const PRINTED: &[(Repeated, Repeated)] = &[
             "',\n18446744073709551616\n",
         ),
     ),
+    // arrays of as many elements as a line has columns: between others, and with more elements than are changed together
+    (
+        ("019850", "c100", 80, "c249010000000000000000"),
+        (
+            "1,\n[\n    DT'1970-01-01T00:00:00+00:00'",
+            ",\n    DT'1970-01-01T00:00:00+00:00'",
+            79,
+            "\n],\n18446744073709551616\n",
+        ),
+    ),
+    (
+        ("9a00001004", "c100", 4100, ""),
+        (
+            "[_2 \n    DT'1970-01-01T00:00:00+00:00'",
+            ",\n    DT'1970-01-01T00:00:00+00:00'",
+            4099,
+            "\n]\n",
+        ),
+    ),
+    // comments of the steps, which the last element has behind its line
+    (
+        ("9907d0", "d826a0", 2000, ""),
+        (
+            "[\n    38({})/ Expected array /",
+            ",\n    38({})/ Expected array /",
+            1998,
+            ",\n    38({})\n/ Expected array /]\n",
+        ),
+    ),
+    // elements that have lines of their own, behind which the next begin
+    (
+        ("9850", "82c1008180", 80, ""),
+        (
+            "[\n    [DT'1970-01-01T00:00:00+00:00', [[]]]",
+            ",\n    [DT'1970-01-01T00:00:00+00:00', [[]]]",
+            79,
+            "\n]\n",
+        ),
+    ),
+    (
+        ("9850", "83c100c100c100", 80, ""),
+        (
+            "[\n    [\n        DT'1970-01-01T00:00:00+00:00',\n        DT'1970-01-01T00:00:00+00:00',\n        DT'1970-01-01T00:00:00+00:00'\n    ]",
+            ",\n    [\n        DT'1970-01-01T00:00:00+00:00',\n        DT'1970-01-01T00:00:00+00:00',\n        DT'1970-01-01T00:00:00+00:00'\n    ]",
+            79,
+            "\n]\n",
+        ),
+    ),
 ];
 
 /// Digits of CBOR, and the fault that stands behind what could be printed.
@@ -194,6 +242,20 @@ const REFUSED: &[(Repeated, &str)] = &[
         "Break code only expected at end of indefinite length items",
     ),
     (("", "c100", 2049, "c1"), "Expected item, out of data"),
+    // in long arrays of such elements
+    (
+        ("9a00001004", "c100", 4099, ""),
+        "Expected item, out of data",
+    ),
+    (
+        ("9a00001004", "c100", 4096, ""),
+        "Expected item, out of data",
+    ),
+    (
+        ("9a00001004", "c100", 4099, "ff"),
+        "Break code only expected at end of indefinite length items",
+    ),
+    (("9850", "c100", 79, "c1"), "Expected item, out of data"),
 ];
 
 fn prints(alloc: Global, digits: Repeated, text: Repeated) -> Result<bool, Fail> {
