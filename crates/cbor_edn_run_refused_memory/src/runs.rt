@@ -198,6 +198,36 @@ pub(crate) fn converted_apart(alloc: Global, row: &Apart) -> Result<bool, Failur
     }
 }
 
+/// Bytes and their text.
+pub(crate) type Printed = (&'static str, &'static [u8], &'static [u8]);
+
+/// Bytes that no step changes, which are printed while they are read, by the same rules: strings that fit on no line, and empty ones.
+pub(crate) const PRINTED: &[Printed] = &[(
+    "engine::converted, printed at once",
+    b"\x82\x5f\x58\x24aaaaaaaaaaaaaaaaaaaaaaaaaaaaaaaaaaaa\x41b\xff\xa1\x7f\xff\x7f\x61c\x78\x48dddddddddddddddddddddddddddddddddddddddddddddddddddddddddddddddddddddddd\xff",
+    b"[\n    (_\n        h'616161616161616161616161616161616161616161616161616161616161616161616161',\n        h'62'\n    ),\n    {\n        \"\"_:(_\n            \"c\",\n            \"dddddddddddddddddddddddddddddddddddddddddddddddddddddddddddddddddddddddd\"\n        )\n    }\n]\n",
+)];
+
+pub(crate) fn printed_once(alloc: Global, row: &Printed) -> Result<bool, Failure> {
+    let options = Options {
+        command: Command::Cbor2Diag,
+        hex: false,
+        annotate_tags: false,
+        apply_999: false,
+        aol_to_item: false,
+        bignum_from_tags: false,
+        annotate_ccs: false,
+        remove_comments: false,
+        preserve_space: false,
+        limit: NESTING_LIMIT,
+    };
+    match converted(alloc, &options, row.1) {
+        Ok(output) => Ok(output.as_slice() == row.2),
+        Err(RunError::Memory(_)) => Err(Failure::Refused),
+        Err(_) => Ok(false),
+    }
+}
+
 #[derive(Clone, Copy)]
 pub(crate) enum Recoding {
     Direct,
