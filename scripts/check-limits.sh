@@ -404,7 +404,13 @@ READ_AGAIN = [
     ("tags", "c6", ""),
     ("arrays in tags", "c681", ""),
 ]
-LONG_LISTS = [("721 ones", "9902d1" + "01" * 721), ("721 ones, open", "9f" + "01" * 721 + "ff"), ("81 ones", "9851" + "01" * 81), ("360 pairs", "b90168" + "0101" * 360)]
+LONG_LISTS = [
+    ("721 ones", "9902d1" + "01" * 721),
+    ("721 ones, open", "9f" + "01" * 721 + "ff"),
+    ("81 ones", "9851" + "01" * 81),
+    ("360 pairs", "b90168" + "0101" * 360),
+    ("361 strings in one", "5f" + "4101" * 361 + "ff"),
+]
 DEPTH_READ_AGAIN, MOST_TIMES_READ_AGAIN = 20, 10
 
 

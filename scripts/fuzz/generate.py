@@ -385,7 +385,7 @@ class Bytes:
             return self.head(kind, self.argument())
         if kind < 4:
             if rng.randrange(4) == 0:
-                chunks = b"".join(self.string(kind) for _ in range(rng.randrange(3)))
+                chunks = b"".join(self.string(kind) for _ in range(rng.choice([0, 1, 2, 20])))
                 return bytes([kind << 5 | 31]) + chunks + b"\xff"
             return self.string(kind)
         if kind == 4:

@@ -29,6 +29,10 @@ fn print_runs(rt: &HostRuntime) -> io::Result<()> {
     }
     let told = word(runs::converted_long_array(rt.alloc()));
     println!(rt; "engine::converted, elements of a long array: {told}")?;
+    for row in runs::PRINTED {
+        let told = word(runs::printed_once(rt.alloc(), row));
+        println!(rt; "{}: {told}", row.0)?;
+    }
     for row in runs::THERE_AND_BACK {
         let told = word(runs::recoded_bytes(rt.alloc(), row));
         println!(rt; "{}: {told}", row.0)?;

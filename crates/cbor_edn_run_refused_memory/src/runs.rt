@@ -191,9 +191,19 @@ pub(crate) fn converted_long_array(alloc: Global) -> Result<bool, Failure> {
     let lines = ",\n    18446744073709551616".repeat(alloc, 79)?;
     let input = format!(in alloc; "9850{digits}")?;
     let shown = format!(in alloc; "[\n    {INTEGER}{lines}\n]\n")?;
-    let options = Options {
+    writes(
+        alloc,
+        &default_options(true),
+        input.as_bytes(),
+        shown.as_bytes(),
+    )
+}
+
+/// The options that `cbor2diag` has without flags.
+fn default_options(hex: bool) -> Options {
+    Options {
         command: Command::Cbor2Diag,
-        hex: true,
+        hex,
         annotate_tags: true,
         apply_999: false,
         aol_to_item: false,
@@ -202,9 +212,13 @@ pub(crate) fn converted_long_array(alloc: Global) -> Result<bool, Failure> {
         remove_comments: false,
         preserve_space: false,
         limit: NESTING_LIMIT,
-    };
-    match converted(alloc, &options, input.as_bytes()) {
-        Ok(output) => Ok(output.as_slice() == shown.as_bytes()),
+    }
+}
+
+/// Whether a run in memory writes this.
+fn writes(alloc: Global, options: &Options, input: &[u8], wanted: &[u8]) -> Result<bool, Failure> {
+    match converted(alloc, options, input) {
+        Ok(output) => Ok(output.as_slice() == wanted),
         Err(RunError::Memory(_)) => Err(Failure::Refused),
         Err(_) => Ok(false),
     }
@@ -216,11 +230,21 @@ pub(crate) fn converted_apart(alloc: Global, row: &Apart) -> Result<bool, Failur
     let input = format!(in alloc; "{BIGNUM}591000{zeros}{BIGNUM}")?;
     let shown = format!(in alloc; "{INTEGER}{between}h'{zeros}'{between}{INTEGER}{behind}")?;
     let options = options_of(Command::Cbor2Diag, true, preserve_space);
-    match converted(alloc, &options, input.as_bytes()) {
-        Ok(output) => Ok(output.as_slice() == shown.as_bytes()),
-        Err(RunError::Memory(_)) => Err(Failure::Refused),
-        Err(_) => Ok(false),
-    }
+    writes(alloc, &options, input.as_bytes(), shown.as_bytes())
+}
+
+/// Bytes and their text.
+pub(crate) type Printed = (&'static str, &'static [u8], &'static [u8]);
+
+/// Bytes that no step changes, which are printed while they are read, by the same rules: strings that fit on no line, and empty ones.
+pub(crate) const PRINTED: &[Printed] = &[(
+    "engine::converted, printed at once",
+    b"\x82\x5f\x58\x24aaaaaaaaaaaaaaaaaaaaaaaaaaaaaaaaaaaa\x41b\xff\xa1\x7f\xff\x7f\x61c\x78\x48dddddddddddddddddddddddddddddddddddddddddddddddddddddddddddddddddddddddd\xff",
+    b"[\n    (_\n        h'616161616161616161616161616161616161616161616161616161616161616161616161',\n        h'62'\n    ),\n    {\n        \"\"_:(_\n            \"c\",\n            \"dddddddddddddddddddddddddddddddddddddddddddddddddddddddddddddddddddddddd\"\n        )\n    }\n]\n",
+)];
+
+pub(crate) fn printed_once(alloc: Global, row: &Printed) -> Result<bool, Failure> {
+    writes(alloc, &default_options(false), row.1, row.2)
 }
 
 #[derive(Clone, Copy)]

@@ -10,3 +10,5 @@ pub mod Heads
 pub mod TagBytes
 pub mod Walks
 pub mod Narrow
+pub mod ChunkWidths
+pub mod Chunks

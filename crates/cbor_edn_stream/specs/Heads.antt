@@ -2,8 +2,10 @@
 use Rattle.std.specs.Prelude.{◌≡◌, ◌≢◌, ℕ, zero, suc, ◌+◌, ◌-◌, ◌*◌, ◌/◌, ◌%◌, nat_lt, Bool, false, ◌||◌, ◌&&◌, ◌==◌, if◌then◌else◌, List, length, take, drop, ◌≤◌, Option, Some, None, MatchOption, Ok}
 use Rattle.std.specs.Fmt.{decimal}
 use Rattle.cbor_edn_parts.specs.base.Indicator.{indicator_text}
-use Rattle.cbor_edn_parts.specs.string.Contents.{all_escaped}
+use Rattle.cbor_edn_parts.specs.string.Contents.{all_escaped, kind_literal}
+use Rattle.cbor_edn_parts.specs.declared.string.StringKind.{StringKind}
 use Rattle.cbor_edn_model.specs.declared.cbor.heads.Width.{Width}
+use Rattle.cbor_edn_model.specs.cbor.Value.{Chunk}
 use Rattle.cbor_edn_model.specs.cbor.Decoded.{indicator_of}
 use Rattle.cbor_edn_model.specs.internal.CborReading.{Argument, head_at}
 use Rattle.cbor_edn_stream.specs.Tags.{among}
@@ -71,3 +73,7 @@ most_columns major (Some (w, n)) rest =
 -- It shows no more than so many.
 abbrev pub ShowsWithin : ℕ → Argument → List ℕ → ℕ → Type 0
 ShowsWithin major argument rest columns = MatchOption (most_columns major argument rest) ⊥ (λ most. most ≤ columns)
+
+-- How many columns a string of definite length shows with its indicator, and with the separator behind it.
+abbrev pub chunk_columns : StringKind → Chunk → ℕ
+chunk_columns k c = length (kind_literal k c.1) + length (indicator_text (indicator_of c.0 (length c.1))) + 2

@@ -1,13 +1,14 @@
 -- What is printed of the items that bytes encode, while they are read.
 use Rattle.std.specs.Prelude.{ℕ, ◌≡◌, List, [], ◌∷◌, ◌++◌, Option, Some, None, Result, Ok, Err}
 use Rattle.cbor_edn_parts.specs.declared.base.error.Fault.{Fault}
+use Rattle.cbor_edn_parts.specs.declared.string.StringKind.{StringKind}
 use Rattle.cbor_edn_parts.specs.space.Spacing.{Separating, AtEnd}
 use Rattle.cbor_edn_model.specs.declared.cbor.decode.CborError.{CborError}
 use Rattle.cbor_edn_model.specs.text.Spelling.{open_byte, close_byte}
-use Rattle.cbor_edn_model.specs.tree.Items.{Row, Bracketed, Array, Map, entries_of}
-use Rattle.cbor_edn_model.specs.tree.Trees.{Rule, Tree, OneItem, OneEntry, Rest, ListTree, EnclosedTree, ElementTree, text, opener_text}
+use Rattle.cbor_edn_model.specs.tree.Items.{Row, Strings, Bracketed, Array, Map, entries_of}
+use Rattle.cbor_edn_model.specs.tree.Trees.{Rule, Tree, OneItem, OneEntry, Rest, ListTree, EnclosedTree, ElementTree, ChunkTree, text, opener_text}
 use Rattle.cbor_edn_model.specs.layout.Layout.{Layout, Between, Last, respaced, laid}
-use Rattle.cbor_edn_model.specs.internal.CborReading.{DecoderResult, Decoder, DecoderFails, Argument, shown, item_at, pair_at, array_by, map_by, tag_by, inner, trees}
+use Rattle.cbor_edn_model.specs.internal.CborReading.{DecoderResult, Decoder, DecoderFails, Argument, shown, item_at, pair_at, chunk_at, definite_tree, array_by, map_by, tag_by, inner, trees}
 use Rattle.cbor_edn_stream.specs.declared.print.Brackets.{Brackets}
 use Rattle.cbor_edn_stream.specs.declared.print.Brackets.TheVariants as brackets
 use Rattle.cbor_edn_stream.specs.declared.print.Nested.{Nested}
@@ -26,14 +27,18 @@ Prints Written view old new (Err e) read = DecoderFails e read
 abbrev pub Writes : {s : Rule} → Layout → Tree s → List ℕ → List ℕ → Type 0
 Writes l w old new = new ≡ old ++ text (laid l w)
 
--- an item is written as by any layout
-abbrev pub WritesAnyhow : Tree OneItem → List ℕ → List ℕ → Type 0
+-- it is written as by any layout
+abbrev pub WritesAnyhow : {s : Rule} → Tree s → List ℕ → List ℕ → Type 0
 WritesAnyhow t old new = (l : Layout) → Writes l t old new
 
 -- an entry of a list
 abbrev pub entry_at : (k : Bracketed) → ℕ → Decoder (Tree (OneEntry (entries_of k)))
 entry_at Array limit bytes = shown ElementTree (item_at trees limit bytes)
 entry_at Map limit bytes = pair_at trees (item_at trees limit) bytes
+
+-- one of the strings that a string of indefinite length consists of
+abbrev pub chunk_entry : StringKind → Decoder (Tree (OneEntry Strings))
+chunk_entry k bytes = shown ChunkTree (shown (definite_tree k) (chunk_at k bytes))
 
 -- a list behind its head
 abbrev pub list_by : Bracketed → ℕ → Argument → Decoder (Tree OneItem)

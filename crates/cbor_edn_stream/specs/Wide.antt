@@ -1,11 +1,12 @@
 -- Items that are wider or narrower than so many columns.
-use Rattle.std.specs.Prelude.{◌≡◌, ℕ, ◌-◌, ◌*◌, ◌^◌, ◌<◌, min, List, Ok}
+use Rattle.std.specs.Prelude.{◌≡◌, ℕ, ◌-◌, ◌*◌, ◌^◌, ◌<◌, ◌≤◌, min, List, None, Ok}
 use Rattle.cbor_edn_parts.specs.declared.space.policy.Spacing.TheVariants.{OneLine}
+use Rattle.cbor_edn_parts.specs.declared.string.StringKind.{StringKind}
 use Rattle.cbor_edn_parts.specs.space.LayoutColumns.{of_parts}
 use Rattle.cbor_edn_model.specs.declared.layout.width.Spaces.TheVariants.{By}
 use Rattle.cbor_edn_model.specs.tree.Trees.{Tree, OneItem}
 use Rattle.cbor_edn_model.specs.layout.Layout.{Layout, Kept, Inline, Lines}
-use Rattle.cbor_edn_model.specs.internal.CborReading.{item_at, trees}
+use Rattle.cbor_edn_model.specs.internal.CborReading.{item_at, string_by, trees}
 use Rattle.cbor_edn_model.specs.internal.Widths.{width, measured}
 
 -- wider than any item
@@ -33,3 +34,14 @@ IsNarrower columns bytes = (limit : ℕ) (t : Tree OneItem) (rest : List ℕ) �
 -- the layout of the parts of what bytes begin with, by any limit
 abbrev pub IsOfParts : Layout → Layout → List ℕ → Type 0
 IsOfParts l parts bytes = (limit : ℕ) (t : Tree OneItem) (rest : List ℕ) → item_at trees limit bytes ≡ Ok (t, rest) → parts ≡ of_parts l (measured t)
+
+-- the string of indefinite length behind whose head bytes stand is narrower on a single line, or no narrower
+abbrev pub IsNarrowStream : ℕ → StringKind → List ℕ → Type 0
+IsNarrowStream columns k bytes = (t : Tree OneItem) (rest : List ℕ) → string_by trees k None bytes ≡ Ok (t, rest) → width (By OneLine) t < columns
+
+abbrev pub IsWideStream : ℕ → StringKind → List ℕ → Type 0
+IsWideStream columns k bytes = (t : Tree OneItem) (rest : List ℕ) → string_by trees k None bytes ≡ Ok (t, rest) → columns ≤ width (By OneLine) t
+
+-- the layout of its strings
+abbrev pub IsOfChunks : Layout → Layout → StringKind → List ℕ → Type 0
+IsOfChunks l parts k bytes = (t : Tree OneItem) (rest : List ℕ) → string_by trees k None bytes ≡ Ok (t, rest) → parts ≡ of_parts l (measured t)

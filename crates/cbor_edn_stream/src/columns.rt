@@ -1,14 +1,19 @@
-//! How items are laid out on lines: how much of a line is left, and how wide items are, told from their heads.
-ghost use Rattle.std.specs.Prelude.{◌≡◌, ◌∷◌, [], ◌+◌, ◌-◌, ◌^◌, ◌<◌, ◌≤◌, true, min, length, take, All, IfSome};
-ghost use Rattle.cbor_edn_parts.specs.string.Contents.{escaped, all_escaped};
+//! How items are laid out on lines: how much of a line is left, and how wide items are, told from their heads and, of strings of indefinite
+//! length, from their texts.
+ghost use Rattle.std.specs.Prelude.{◌≡◌, ◌∷◌, [], ◌+◌, ◌-◌, ◌^◌, ◌<◌, ◌≤◌, true, false, min, length, take, All, IfSome, IfOk, None};
+ghost use Rattle.cbor_edn_parts.specs.string.Contents.{escaped, all_escaped, kind_literal};
+ghost use Rattle.cbor_edn_model.specs.internal.CborReading as reading;
 ghost use Rattle.cbor_edn_stream.specs.Heads as heads;
-ghost use Rattle.cbor_edn_stream.specs.Wide.{IsWider, IsNarrower, IsOfParts, front_columns, front_room};
+ghost use Rattle.cbor_edn_stream.specs.Wide.{IsWider, IsNarrower, IsOfParts, IsNarrowStream, IsWideStream, IsOfChunks, front_columns, front_room, greatest};
 
 use crate::tags::behind_content;
-use cbor_edn_model::cbor::decode::head::{Argument, head_of, indicator_of};
+use cbor_edn_model::cbor::decode::head::{Argument, Stop, head_of, indicator_of, past_stop};
 use cbor_edn_model::layout::width::{decimal_len, indicator_len};
+use cbor_edn_parts::base::error::Fault;
 use cbor_edn_parts::space::layout::Layout;
 use cbor_edn_parts::space::policy::Spacing;
+use cbor_edn_parts::string::StringKind;
+use std::alloc::AllocError;
 
 /// How many columns an item on a line has at the most.
 fn columns(layout: Layout) -> usize
@@ -44,6 +49,100 @@ pub fn known_parts(layout: Layout, bytes: &[u8], untried: usize) -> Option<Layou
                 None
             }
         }
+    }
+}
+
+/// The layout of the strings behind the head of a string of indefinite length, of which one stands at the front.
+pub fn layout_of_chunks(
+    layout: Layout,
+    kind: StringKind,
+    bytes: &[u8],
+) -> Result<Layout, AllocError>
+    requires { reading.past_stop Stop.Break bytes.now ≡ None }
+    ensures { IfOk result (λ parts. IsOfChunks layout parts kind bytes.now) }
+{
+    match layout {
+        Layout::Kept | Layout::Inline(_) => Ok(layout),
+        Layout::Lines { .. } => {
+            if do_chunks_fit(columns(layout), kind, bytes)? {
+                Ok(Layout::Inline(Spacing::OneLine))
+            } else {
+                Ok(layout.of_parts(usize::MAX))
+            }
+        }
+    }
+}
+
+/// Whether the strings of a string of indefinite length are narrower than so many columns with their brackets. It reads no more of them
+/// than have room.
+#[inline(never)]
+fn do_chunks_fit(columns: usize, kind: StringKind, bytes: &[u8]) -> Result<bool, AllocError>
+    requires { reading.past_stop Stop.Break bytes.now ≡ None }
+    ensures narrow { IfOk result (λ fit. fit ≡ true → IsNarrowStream columns kind bytes.now) }
+    ensures wide { IfOk result (λ fit. fit ≡ false → IsWideStream columns kind bytes.now) }
+{
+    // four for `(_ ` and `)`, without the two of a separator behind the last string
+    let mut left = columns.saturating_sub(2);
+    let mut rest = bytes;
+    'chunks: loop {
+        if past_stop(Stop::Break, rest).is_some() {
+            return Ok(left > 0);
+        }
+        let ((_, argument), behind) = match head_of(rest) {
+            Ok(head) => head,
+            Err(Fault::Memory(e)) => return Err(e),
+            Err(Fault::Told(_)) => return Ok(false),
+        };
+        let Some((_, count)) = argument else {
+            return Ok(false);
+        };
+        if (left as u64) < count || (behind.len() as u64) < count {
+            return Ok(false);
+        }
+        let (content, after) = behind.split_at(count as usize);
+        let separated = indicator_len(indicator_of(argument)) + 2;
+        let shown = literal_len(kind, content).saturating_add(separated);
+        if left < shown {
+            return Ok(false);
+        }
+        left -= shown;
+        rest = after;
+    }
+}
+
+/// How many bytes the literal of a string has, or the greatest number.
+fn literal_len(kind: StringKind, content: &[u8]) -> usize
+    ensures { result ≡ min (length (kind_literal kind content.now)) greatest }
+{
+    match kind {
+        StringKind::Bytes => content.len().saturating_mul(2).saturating_add(3),
+        StringKind::Text => escaped_len(content).saturating_add(2),
+    }
+}
+
+/// How many bytes a text takes between double quotes, or the greatest number.
+fn escaped_len(text: &[u8]) -> usize
+    ensures { result ≡ min (length (all_escaped text.now)) greatest }
+{
+    let mut len: usize = 0;
+    for byte in text {
+        len = len.saturating_add(escape_len(*byte));
+    }
+    len
+}
+
+/// How many bytes a byte takes between double quotes: those of an escape, or one.
+#[inline(always)]
+fn escape_len(byte: u8) -> usize
+    ensures { result ≡ length (escaped byte) }
+{
+    match byte {
+        b'"' | b'\\' | b'\r' | b'\t' | 8 | 12 => 2,
+        b'\n' => 1,
+        b'\'' => 6,
+        0..=15 => 5,
+        16..=31 => 6,
+        _ => 1,
     }
 }
 

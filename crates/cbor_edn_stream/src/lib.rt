@@ -3,6 +3,7 @@
 
 mod columns;
 mod print;
+mod strings;
 mod tags;
 
 pub use print::print_cbor;

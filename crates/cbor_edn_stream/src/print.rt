@@ -17,15 +17,15 @@ ghost use Rattle.cbor_edn_parts.specs.space.LayoutColumns.{respaced};
 ghost use Rattle.cbor_edn_model.specs.text.Spelling as spelling;
 ghost use Rattle.cbor_edn_model.specs.cbor.Decoded.{IsDecodedSequence, NoSequence, IsTooDeepSequence};
 ghost use Rattle.cbor_edn_model.specs.layout.Layout.{laid, laid_out, laid_list_head};
-ghost use Rattle.cbor_edn_parts.specs.string.Contents.{kind_literal};
-ghost use Rattle.cbor_edn_parts.specs.Leaves.{literal_bytes, small_integer};
+ghost use Rattle.cbor_edn_parts.specs.Leaves.{small_integer};
 ghost use Rattle.cbor_edn_model.specs.tree.Trees.{Tree, OneItem, Seq, text, list_head_text};
 ghost use Rattle.cbor_edn_model.specs.internal.CborReading as reading;
-ghost use Rattle.cbor_edn_model.specs.internal.CborReading.{trees, inner, head_at, item_at, pair_at, tag_by, string_by, string_at, shown, number_tree, DecoderGives, many, until, several, argument_indicator, row_of};
+ghost use Rattle.cbor_edn_model.specs.internal.CborReading.{trees, inner, head_at, item_at, pair_at, tag_by, number_tree, many, until, several, argument_indicator, row_of};
 ghost use Rattle.cbor_edn_model.specs.internal.Regular.{list_inside, spaced_list_head};
-ghost use Rattle.cbor_edn_stream.specs.Printed.{Prints, Writes, WritesAnyhow, WritesParts, WritesRow, bracketed, entry_at, list_by, nested_major, nested_by};
+ghost use Rattle.cbor_edn_stream.specs.Printed.{Prints, Writes, WritesParts, WritesRow, bracketed, entry_at, list_by, nested_major, nested_by};
 
 use crate::columns::{known_parts, room};
+use crate::strings::{print_stream, print_string};
 use cbor_edn_core::cbor::decode::{CborError, decode_item};
 use cbor_edn_core::layout::print_item as print_tree;
 use cbor_edn_model::cbor::decode::head::{Argument, Stop, head_of, indicator_of, past_stop};
@@ -39,7 +39,7 @@ use cbor_edn_parts::number::{Number, SmallInteger};
 use cbor_edn_parts::space::layout::{Layout, Slot, print_end, print_separator, print_space};
 use cbor_edn_parts::space::policy::DelimiterPolicy;
 use cbor_edn_parts::space::{ListEnd, Separator, Space};
-use cbor_edn_parts::string::{Literal, StringKind};
+use cbor_edn_parts::string::StringKind;
 use std::alloc::{AllocError, Global};
 
 /// The lists.
@@ -140,6 +140,8 @@ fn print_leaf<'b>(
         (3, Some((width, count))) => {
             print_string(alloc, out, StringKind::Text, width, count, behind)
         }
+        (2, None) => print_stream(alloc, out, layout, StringKind::Bytes, behind),
+        (3, None) => print_stream(alloc, out, layout, StringKind::Text, behind),
         _ => print_decoded(alloc, out, layout, bytes, limit),
     }
 }
@@ -157,49 +159,6 @@ fn print_integer(
 {
     Number::small(integer).print(out)?;
     print_indicator(out, indicator_of(Some((width, argument))))
-}
-
-/// Writes a string of definite length with the indicator of its head, and answers the bytes behind it.
-#[inline(never)]
-fn print_string<'b>(
-    alloc: Global,
-    out: &mut TextBuffer,
-    kind: StringKind,
-    width: Width,
-    count: u64,
-    bytes: &'b [u8],
-) -> Result<&'b [u8], Fault<CborError>>
-    ensures value { Prints WritesAnyhow (λ r. r.now) (buffer_bytes out.old) (buffer_bytes out.new) result (string_by trees kind (Some (width, count)) bytes.now) }
-    ensures shorter { IfOk result (λ r. length r.now ≤ length bytes.now) }
-{
-    let (literal, rest) = read_literal(alloc, kind, count, bytes)?;
-    literal.print(out)?;
-    print_indicator(out, indicator_of(Some((width, count))))?;
-    Ok(rest)
-}
-
-/// The literal of so many bytes, and the bytes behind them.
-fn read_literal<'a, 'b>(
-    alloc: Global,
-    kind: StringKind,
-    count: u64,
-    bytes: &'b [u8],
-) -> Result<(Literal<'a>, &'b [u8]), Fault<CborError>>
-    ensures value { DecoderGives (λ x. (literal_bytes x.0, x.1.now)) result (shown (kind_literal kind) (string_at kind count bytes.now)) }
-    ensures shorter { IfOk result (λ x. length x.1.now ≤ length bytes.now) }
-{
-    if (bytes.len() as u64) < count {
-        return Err(Fault::Told(CborError::MissingBytes));
-    }
-    let (front, rest) = bytes.split_at(count as usize);
-    let literal = match kind {
-        StringKind::Bytes => Literal::hex(alloc, front)?,
-        StringKind::Text => match std::str::from_utf8(front) {
-            Ok(text) => Literal::text(alloc, text)?,
-            Err(_) => return Err(Fault::Told(CborError::InvalidUtf8)),
-        },
-    };
-    Ok((literal, rest))
 }
 
 /// Writes an item of which a tree is made.

@@ -72,7 +72,86 @@ const PRINTED: &[(Repeated, Repeated)] = &[
         ("5f", "4161", 300, "ff"),
         ("(_\n    h'61'", ",\n    h'61'", 299, "\n)\n"),
     ),
+    // strings of indefinite length: 79 bytes, and 80
+    (("7f7849", "61", 73, "ff"), ("(_ \"", "a", 73, "\")\n")),
+    (
+        ("7f784a", "61", 74, "ff"),
+        ("(_\n    \"", "a", 74, "\"\n)\n"),
+    ),
+    (
+        ("7f782561", "22", 36, "ff"),
+        ("(_ \"a", "\\\"", 36, "\")\n"),
+    ),
+    (
+        ("7f78266161", "22", 36, "ff"),
+        ("(_\n    \"aa", "\\\"", 36, "\"\n)\n"),
+    ),
+    (("5f", "4161", 11, "ff"), ("(_ h'61'", ", h'61'", 10, ")\n")),
+    (
+        ("5f", "4161", 12, "ff"),
+        ("(_\n    h'61'", ",\n    h'61'", 11, "\n)\n"),
+    ),
+    // 77 bytes of empty strings, and 82
+    (("5f", "40", 15, "ff"), ("(_ h''", ", h''", 14, ")\n")),
+    (
+        ("5f", "40", 16, "ff"),
+        ("(_\n    h''", ",\n    h''", 15, "\n)\n"),
+    ),
+    // heads of nine bytes: 74 bytes, and 83
+    (
+        ("5f", "5b000000000000000161", 8, "ff"),
+        ("(_ h'61'_3", ", h'61'_3", 7, ")\n"),
+    ),
+    (
+        ("5f", "5b000000000000000161", 9, "ff"),
+        ("(_\n    h'61'_3", ",\n    h'61'_3", 8, "\n)\n"),
+    ),
+    (
+        ("5f5903e8", "61", 1000, "ff"),
+        ("(_\n    h'", "61", 1000, "'\n)\n"),
+    ),
+    // in lists and tags
+    (
+        ("9f7f", "6161", 300, "ffff"),
+        (
+            "[_ \n    (_\n        \"a\"",
+            ",\n        \"a\"",
+            299,
+            "\n    )\n]\n",
+        ),
+    ),
+    (
+        ("a25fff015f", "4161", 300, "ff00"),
+        (
+            "{\n    ''_:1,\n    (_\n        h'61'",
+            ",\n        h'61'",
+            299,
+            "\n    ):0\n}\n",
+        ),
+    ),
+    (
+        ("d25f", "4161", 12, "ff"),
+        ("18((_\n        h'61'", ",\n        h'61'", 11, "\n    ))\n"),
+    ),
+    // behind four spaces 75 bytes fit, and 76 do not
+    (
+        ("827f7845", "61", 69, "ff00"),
+        ("[\n    (_ \"", "a", 69, "\"),\n    0\n]\n"),
+    ),
+    (
+        ("827f7846", "61", 70, "ff00"),
+        ("[\n    (_\n        \"", "a", 70, "\"\n    ),\n    0\n]\n"),
+    ),
     // what is short behind what is long
+    (
+        ("84784c", "61", 76, "5fff7fff5f42616240ff"),
+        (
+            "[\n    \"",
+            "a",
+            76,
+            "\",\n    ''_,\n    \"\"_,\n    (_ h'6162', h'')\n]\n",
+        ),
+    ),
     (
         ("82784c", "61", 76, "80"),
         ("[\n    \"", "a", 76, "\",\n    []\n]\n"),
@@ -236,6 +315,36 @@ const REFUSED: &[(Repeated, &str)] = &[
         "Integer/Tag with indefinite length encoding is not well-formed",
     ),
     (("d29864", "01", 99, ""), "Expected item, out of data"),
+    // behind strings of a string of indefinite length
+    (
+        ("5f", "4161", 300, "6161ff"),
+        "Indefinite length strings can only contain matching items",
+    ),
+    (
+        ("817f", "6161", 300, "4161ff"),
+        "Indefinite length strings can only contain matching items",
+    ),
+    (
+        ("5f", "4161", 300, "7fffff"),
+        "Indefinite length strings can only contain matching items",
+    ),
+    (
+        ("7f", "6161", 300, "7fffff"),
+        "Indefinite length strings can only contain definite lengths",
+    ),
+    (("5f", "4161", 300, ""), "Expected item, out of data"),
+    (("9f5f", "4161", 300, "ff"), "Expected item, out of data"),
+    (("5f", "4161", 300, "5c"), "Reserved header byte"),
+    (("5f", "4161", 300, "5901"), "Missing argument bytes"),
+    (("5f", "4161", 300, "427a"), "Announced bytes unavailable"),
+    (
+        ("7f", "6161", 300, "61ffff"),
+        "Text string must be valid UTF-8",
+    ),
+    (
+        ("5f", "4161", 300, "ffff"),
+        "Break code only expected at end of indefinite length items",
+    ),
     // behind elements that are changed together, and in the first of the next
     (
         ("", "c100", 2048, "ff"),

@@ -1,6 +1,6 @@
 -- From head to head through an item: its heads show how wide it is at the most.
-use Rattle.std.proofs.Common.{◌≡◌, ℕ, zero, suc, ◌+◌, ◌-◌, ◌*◌, ◌^◌, ◌≤◌, ◌<◌, List, [], ◌∷◌, ◌++◌, length, take, Option, Some, None, Ok, refl, sym, ap, subst, ◌∙◌, append_assoc, length-append, arith}
-use Rattle.std.specs.Prelude.{min, All, MatchOption}
+use Rattle.std.proofs.Common.{◌≡◌, ℕ, suc, ◌+◌, ◌-◌, ◌*◌, ◌≤◌, ◌<◌, List, [], ◌∷◌, ◌++◌, length, take, Option, Some, None, Ok, ap, subst, append_assoc, length-append, arith}
+use Rattle.std.specs.Prelude.{All, MatchOption}
 use Rattle.std.specs.Fmt.{decimal}
 use Rattle.std.proofs.lemmas.List.{length-take}
 use Rattle.std.proofs.Math.Seq.{take-append_seam, drop-append_seam}
@@ -13,7 +13,6 @@ use Rattle.cbor_edn_parts.specs.declared.string.StringKind.TheVariants.{Bytes, T
 use Rattle.cbor_edn_parts.specs.internal.CommentReading.{from_first, to_last, up_to_comma, past_comma}
 use Rattle.cbor_edn_parts.specs.string.Contents.{hex_literal, escaped, all_escaped}
 use Rattle.cbor_edn_parts.proofs.lemmas.string.Escapes.{all_plain}
-use Rattle.cbor_edn_model.specs.declared.cbor.heads.Width.{Width}
 use Rattle.cbor_edn_model.specs.tree.Items as kind
 use Rattle.cbor_edn_model.specs.tree.Items.{Row, Bracketed, entries_of}
 use Rattle.cbor_edn_model.specs.tree.Trees.{Tree, OneItem, OneEntry, Rest, ElementTree, ListTree}
@@ -90,7 +89,7 @@ indicator_short (Some indicator.Eight) = omega arith
 pub plain_short : (n : ℕ) (bs : List ℕ) → All (λ c. escaped c ≡ c ∷ []) (take n bs) → length (all_escaped (take n bs)) ≤ n
 plain_short n bs plain = let h = length-take n bs in let same = ap length (all_plain (take n bs) plain) in omega (arith, h, same)
 
-hex_narrow : (bs : List ℕ) → length (hex_literal bs) ≡ 2 * length bs + 3
+pub hex_narrow : (bs : List ℕ) → length (hex_literal bs) ≡ 2 * length bs + 3
 hex_narrow bs = let h = length-encode_with lower_digits bs in simp length-append (omega (arith, h))
 
 -- ---- values

@@ -178,15 +178,15 @@ pub prints_as : {A X : Type 0} (P Q : A → List ℕ → List ℕ → Type 0) (v
 prints_as P Q view old new (Ok x) read weaker p = (p.0, p.1, weaker p.0 p.2)
 prints_as P Q view old new (Err f) read weaker p = p
 
-pub bytes_at : (limit : ℕ) (w : Width) (n : ℕ) (bytes rest : List ℕ) → head_at bytes ≡ Ok ((2, Some (w, n)), rest) → item_at trees limit bytes ≡ string_by trees Bytes (Some (w, n)) rest
+pub bytes_at : (limit : ℕ) (argument : Argument) (bytes rest : List ℕ) → head_at bytes ≡ Ok ((2, argument), rest) → item_at trees limit bytes ≡ string_by trees Bytes argument rest
 unfolding item_by
-bytes_at limit w n bytes rest h = item_at_ok trees limit bytes rest (2, Some (w, n)) h
+bytes_at limit argument bytes rest h = item_at_ok trees limit bytes rest (2, argument) h
 
-pub text_at : (limit : ℕ) (w : Width) (n : ℕ) (bytes rest : List ℕ) → head_at bytes ≡ Ok ((3, Some (w, n)), rest) → item_at trees limit bytes ≡ string_by trees Text (Some (w, n)) rest
+pub text_at : (limit : ℕ) (argument : Argument) (bytes rest : List ℕ) → head_at bytes ≡ Ok ((3, argument), rest) → item_at trees limit bytes ≡ string_by trees Text argument rest
 unfolding item_by
-text_at limit w n bytes rest h = item_at_ok trees limit bytes rest (3, Some (w, n)) h
+text_at limit argument bytes rest h = item_at_ok trees limit bytes rest (3, argument) h
 
-literal_laid : (l : Layout) (x : List ℕ) (i : Option Indicator) → text (laid l (StringTree (LastPieceTree (LiteralTree x i)))) ≡ x ++ indicator_text i
+pub literal_laid : (l : Layout) (x : List ℕ) (i : Option Indicator) → text (laid l (StringTree (LastPieceTree (LiteralTree x i)))) ≡ x ++ indicator_text i
 unfolding laid
 literal_laid l x i = text_laid_string l (LastPieceTree (LiteralTree x i)) ∙ text_last_piece (LiteralTree x i) ∙ text_literal x i
 

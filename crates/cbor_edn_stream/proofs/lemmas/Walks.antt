@@ -11,7 +11,7 @@ use Rattle.cbor_edn_model.specs.tree.Items.{Bracketed, entries_of}
 use Rattle.cbor_edn_model.specs.tree.Trees.{Tree, OneItem, Rest, ChunkTree, ElementTree, ListTree}
 use Rattle.cbor_edn_model.specs.cbor.Value.{Value, Chunk, unsigned, negative, string, chunks, array, cbor_map, tag, simple, float, Values, no_values, value, values_len, Pairs, no_pairs, pair, pairs_len, head, break, simple_width, float_bits, LengthFits, ChunkFits, ChunksFit, list_encoding, chunk_encoding, chunk_encodings, encoding, encodings, pair_encodings, Fits, ValuesFit, PairsFit}
 use Rattle.cbor_edn_model.specs.cbor.Decoded.{list_indicator}
-use Rattle.cbor_edn_model.specs.internal.Regular.{in_front, list_inside, key_value}
+use Rattle.cbor_edn_model.specs.internal.Regular.{list_inside, key_value}
 use Rattle.cbor_edn_model.specs.internal.CborReading.{Argument, Head, head_at, definite_tree, chunks_tree, string_row}
 use Rattle.cbor_edn_model.specs.internal.Widths.{width}
 use Rattle.cbor_edn_model.proofs.lemmas.cbor.CborHeads.{IsBytes, head_again, open_again}

@@ -1,6 +1,6 @@
-use Rattle.std.proofs.Common.{◌≡◌, ℕ, ◌+◌, ◌-◌, ◌≤◌, refl, arith}
+use Rattle.std.proofs.Common.{◌≡◌, ◌+◌, ◌-◌, refl, arith}
 use Rattle.cbor_edn_stream.specs.Heads.{behind_content, parts_of}
-use Rattle.cbor_edn_stream.proofs.lemmas.Narrow.{Fit, ended, before_on, item_narrow}
+use Rattle.cbor_edn_stream.proofs.lemmas.Narrow.{ended, before_on, item_narrow}
 use Rattle.cbor_edn_stream.proofs.columns.is_narrower.Goals as goal
 
 pub returns-then-due-eq0 : goal.returns-then-due-eq0

@@ -1,4 +1,4 @@
-use Rattle.std.proofs.Common.{ℕ, ◌<◌, length}
+use Rattle.std.proofs.Common.{◌<◌, length}
 use Rattle.cbor_edn_stream.proofs.lemmas.Narrow.{Before}
 use Rattle.cbor_edn_stream.proofs.columns.is_narrower.Given as goal
 

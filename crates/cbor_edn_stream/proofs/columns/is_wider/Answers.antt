@@ -1,4 +1,4 @@
-use Rattle.std.proofs.Common.{◌≡◌, sym, ◌∙◌, arith}
+use Rattle.std.proofs.Common.{sym, ◌∙◌, arith}
 use Rattle.cbor_edn_stream.proofs.lemmas.Walks.{opened_one, gone_out, gone_on, gone_wide, item_walked}
 use Rattle.cbor_edn_stream.proofs.columns.is_wider.Goals.{then-is_break+else-depth-eq0, else-is_break+else-left-due, else-depth-eq0-2-via-then-depth-eq0-2+else-due-eq0, else-depth-eq0-2-via-else-depth-eq0-2}
 use Rattle.cbor_edn_stream.proofs.columns.is_wider.Goals as goal

@@ -1,4 +1,4 @@
-use Rattle.std.proofs.Common.{ℕ, ◌+◌, ◌≤◌, ◌<◌, length}
+use Rattle.std.proofs.Common.{◌+◌, ◌≤◌, ◌<◌, length}
 use Rattle.cbor_edn_stream.proofs.lemmas.Walks.{Gone}
 use Rattle.cbor_edn_stream.proofs.columns.is_wider.Given as goal
 

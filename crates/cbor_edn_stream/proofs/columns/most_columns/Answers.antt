@@ -1,6 +1,4 @@
 use Rattle.std.proofs.Common.{arith}
-use Rattle.cbor_edn_model.specs.cbor.Decoded.{indicator_of}
-use Rattle.cbor_edn_model.specs.internal.CborReading.{argument_indicator}
 use Rattle.cbor_edn_model.proofs.lemmas.layout.Digits.{few_digits}
 use Rattle.cbor_edn_stream.proofs.lemmas.Narrow.{indicator_short}
 use Rattle.cbor_edn_stream.proofs.columns.most_columns.Goals.{in-0, in-1+in_ok-checked_add-in-1, in-2, in-3, in-4}

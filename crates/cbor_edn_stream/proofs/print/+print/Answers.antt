@@ -1,5 +1,6 @@
 use Rattle.std.proofs.Common.{◌≡◌, ◌<◌, ◌-◌, [], ℕ, suc, length}
 use Rattle.cbor_edn_parts.specs.base.Buffer.{buffer_bytes}
+use Rattle.cbor_edn_model.specs.tree.Items.{entries_of}
 use Rattle.cbor_edn_model.specs.internal.CborReading.{trees, many, until, argument_indicator}
 use Rattle.cbor_edn_stream.specs.Printed.{bracketed, entry_at, list_by, nested_major}
 use Rattle.std.proofs.Common.{arith, refl, sym, ap, ◌∙◌}
@@ -87,7 +88,7 @@ print_many-loop-preserved t c =
     let entry = c.in_ok-after.ensures.value in
     let less = c.in_ok-after.ensures.shorter in
     record {
-      read = many_on (bracketed c.args.list) c.args.layout c.args.limit c.args.count c.loop.counter _ c.loop.rest.now c.in_ok-after.after.now (buffer_bytes c.args.out.now) (buffer_bytes c.loop.out) (buffer_bytes c.print_entry.new.out) (buffer_bytes c.print_separator.new.out) c.loop.invariant.low c.loop.invariant.read entry (grind arith);
+      read = many_on (entries_of (bracketed c.args.list)) c.args.layout (entry_at (bracketed c.args.list) c.args.limit) c.args.count c.loop.counter _ c.loop.rest.now c.in_ok-after.after.now (buffer_bytes c.args.out.now) (buffer_bytes c.loop.out) (buffer_bytes c.print_entry.new.out) (buffer_bytes c.print_separator.new.out) c.loop.invariant.low c.loop.invariant.read entry (grind arith);
       low = grind arith;
       shorter = grind arith;
     }
@@ -104,7 +105,7 @@ print_many-returns-in_err-after-2-clause-value t c =
 pub print_many-returns-clause-value : goal.print_many-returns-clause-value
 print_many-returns-clause-value t c =
     let entry = c.in_ok-after-2.ensures.value in
-    many_last (bracketed c.args.list) c.args.layout c.args.limit c.args.count c.loop.counter _ c.loop.rest.now c.in_ok-after-2.after.now (buffer_bytes c.args.out.now) (buffer_bytes c.loop.out) (buffer_bytes c.print_entry-2.new.out) (buffer_bytes c.print_end.new.out) c.loop.invariant.low (omega (arith, c.loop-test.false)) c.loop.invariant.read entry (grind arith)
+    many_last (entries_of (bracketed c.args.list)) c.args.layout (entry_at (bracketed c.args.list) c.args.limit) c.args.count c.loop.counter _ c.loop.rest.now c.in_ok-after-2.after.now (buffer_bytes c.args.out.now) (buffer_bytes c.loop.out) (buffer_bytes c.print_entry-2.new.out) (buffer_bytes c.print_end.new.out) c.loop.invariant.low (omega (arith, c.loop-test.false)) c.loop.invariant.read entry (grind arith)
 
 -- src/print.rt:314:22
 pub print_pair-returns-in_err-rest-clause-value : goal.print_pair-returns-in_err-rest-clause-value
@@ -136,7 +137,7 @@ pub print_until-returns-in-Some-clause-value : goal.print_until-returns-in-Some-
 print_until-returns-in-Some-clause-value t c =
     let entry = c.in_ok-after.ensures.value in
     let less : length c.in_ok-after.after.now < length c.turns.rest.now = grind arith in
-    until_last (bracketed c.args.list) c.args.layout c.args.limit c.args.stop _ c.turns.rest.now c.in_ok-after.after.now c.in-Some.behind.now (buffer_bytes c.args.out.now) (buffer_bytes c.turns.out) (buffer_bytes c.print_entry.new.out) (buffer_bytes c.print_end.new.out) c.turns.invariant.going less (grind arith) c.turns.invariant.read entry (grind arith)
+    until_last (entries_of (bracketed c.args.list)) c.args.layout (entry_at (bracketed c.args.list) c.args.limit) c.args.stop _ c.turns.rest.now c.in_ok-after.after.now c.in-Some.behind.now (buffer_bytes c.args.out.now) (buffer_bytes c.turns.out) (buffer_bytes c.print_entry.new.out) (buffer_bytes c.print_end.new.out) c.turns.invariant.going less (grind arith) c.turns.invariant.read entry (grind arith)
 
 -- src/print.rt:268:5
 pub print_until-turns-preserved : goal.print_until-turns-preserved
@@ -144,7 +145,7 @@ print_until-turns-preserved t c =
     let entry = c.in_ok-after.ensures.value in
     let less : length c.in_ok-after.after.now < length c.turns.rest.now = grind arith in
     record {
-      read = until_on (bracketed c.args.list) c.args.layout c.args.limit c.args.stop _ c.turns.rest.now c.in_ok-after.after.now (buffer_bytes c.args.out.now) (buffer_bytes c.turns.out) (buffer_bytes c.print_entry.new.out) (buffer_bytes c.print_separator.new.out) c.turns.invariant.going less c.turns.invariant.read entry (grind arith);
+      read = until_on (entries_of (bracketed c.args.list)) c.args.layout (entry_at (bracketed c.args.list) c.args.limit) c.args.stop _ c.turns.rest.now c.in_ok-after.after.now (buffer_bytes c.args.out.now) (buffer_bytes c.turns.out) (buffer_bytes c.print_entry.new.out) (buffer_bytes c.print_separator.new.out) c.turns.invariant.going less c.turns.invariant.read entry (grind arith);
       going = grind arith;
       shorter = omega (arith, less, c.turns.invariant.shorter);
     }

@@ -5,8 +5,8 @@ use Rattle.cbor_edn_parts.specs.string.Contents.{kind_literal}
 use Rattle.cbor_edn_parts.specs.declared.string.StringKind.TheVariants.{Bytes, Text}
 use Rattle.cbor_edn_model.specs.internal.CborReading.{shown}
 use Rattle.cbor_edn_model.proofs.lemmas.cbor.CborStrings.{missing, invalid, literal_read, not_utf8}
-use Rattle.cbor_edn_stream.proofs.print.read_literal.Goals as goal
-use Rattle.cbor_edn_stream.proofs.print.read_literal.Goals.{in-Bytes+in_ok-literal-in-Bytes, in-Text+in-Ok+in_ok-literal-in-Ok}
+use Rattle.cbor_edn_stream.proofs.strings.read_literal.Goals as goal
+use Rattle.cbor_edn_stream.proofs.strings.read_literal.Goals.{in-Bytes+in_ok-literal-in-Bytes, in-Text+in-Ok+in_ok-literal-in-Ok}
 
 pub returns-then-bytes-count-clause-value : goal.returns-then-bytes-count-clause-value
 returns-then-bytes-count-clause-value c = ap (shown (kind_literal c.args.kind)) (missing c.args.kind c.args.count c.args.bytes.now c.if-bytes-count.true)

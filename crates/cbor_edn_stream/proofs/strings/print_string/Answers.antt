@@ -3,7 +3,7 @@ use Rattle.std.proofs.lemmas.Result.{err_from_is_err_and}
 use Rattle.cbor_edn_parts.specs.base.Buffer.{buffer_bytes}
 use Rattle.cbor_edn_parts.specs.Leaves.{literal_bytes}
 use Rattle.cbor_edn_stream.proofs.lemmas.Turns.{string_written, string_fails}
-use Rattle.cbor_edn_stream.proofs.print.print_string.Goals as goal
+use Rattle.cbor_edn_stream.proofs.strings.print_string.Goals as goal
 
 pub returns-in_err-literal-clause-value : goal.returns-in_err-literal-clause-value
 returns-in_err-literal-clause-value c =
