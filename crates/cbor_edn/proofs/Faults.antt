@@ -41,7 +41,7 @@ unparsed_by : (limit : ℕ) (input : List ℕ) (e : ParseError) (w : Tree Seq) (
 unparsed_by limit input e w parse.Invalid is u spelled within = u.invalid is (items w) spelled
 unparsed_by limit input e w parse.TooDeep is u spelled within = let deep = (u.too_deep is).deeper (items w) spelled in omega (arith, deep, within)
 
-read_or_unparsed : (limit : ℕ) (input : List ℕ) (e : ParseError) (w : Tree Seq) → Unparsed SpellsSequence limit input e → IsReadAs limit input w → ⊥
+pub read_or_unparsed : (limit : ℕ) (input : List ℕ) (e : ParseError) (w : Tree Seq) → Unparsed SpellsSequence limit input e → IsReadAs limit input w → ⊥
 read_or_unparsed limit input e w u read = unparsed_by limit input e w (error_kind e) refl u (subst (SpellsSequence (items w)) read.prints (spelled_by_trees.2 w read.valid)) read.within
 
 decoded_or_not : (limit : ℕ) (bytes : List ℕ) (e : CborError) (w : Tree Seq) → IsUndecoded limit bytes e → IsDecodedAs limit bytes w → ⊥

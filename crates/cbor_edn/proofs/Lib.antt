@@ -1,18 +1,18 @@
 mod ClaimNestings
-mod Faults
+pub mod Faults
 mod Formatted
 mod KeptTags
 mod LineFeeds
-mod Loading
+pub mod Loading
 mod MessageNestings
 mod RecodedTexts
 mod Returns
-mod RunsOnce
+pub mod RunsOnce
 mod ShowNesting
 mod ShowSteps
 mod Shown
 mod ShownNesting
-mod StepsKept
+pub mod StepsKept
 mod TagActs
 mod TagNestings
 mod UntaggedSteps

@@ -9,7 +9,7 @@ pub mod format;
 pub mod laws;
 mod line_feed;
 mod long_arrays;
-mod option_steps;
+pub mod option_steps;
 pub mod script;
 pub mod show;
 

@@ -25,12 +25,9 @@ use cbor_edn_parts::base::buffer::TextBuffer;
 use cbor_edn_parts::space::policy::DelimiterPolicy;
 use std::alloc::{AllocError, Global};
 
-/// Takes all steps but the last, which sets the spaces of what is printed.
-pub(crate) fn take(
-    alloc: Global,
-    options: &Options,
-    sequence: &mut Sequence<'_>,
-) -> Result<(), AllocError>
+/// Takes all steps of a run but the last, which sets the spaces of what is printed. The command and the limit have no part in it. Fails
+/// where memory runs out: some steps are taken then, and one may be begun.
+pub fn take(alloc: Global, options: &Options, sequence: &mut Sequence<'_>) -> Result<(), AllocError>
     ensures { OnOk result ((v : Tree Seq) → Where (not options.now.preserve_space) (IsLaidOut indented) (sequence_tree sequence.new) v → StepsGive options.now (sequence_tree sequence.old) v) }
 {
     let tagged = has_tag_for(options, sequence);
