@@ -5,7 +5,7 @@
 //! than these. Where they hold it whole, it is a small tree, which the printer lays out. Where they don't, it has lines of its own, and its
 //! parts are printed one by one.
 //!
-//! Bytes are decoded in vain once at the most: of an item that begins in such bytes, the heads are counted first.
+//! Of an item that begins in bytes that were decoded in vain the heads are counted first, so that few of these are decoded again.
 ghost use Rattle.std.specs.Prelude.{◌≡◌, ◌≢◌, ◌++◌, ◌<◌, ◌≤◌, ◌*◌, ◌-◌, ◌^◌, ◌∷◌, [], ℕ, suc, true, false, length, map, IfOk, IfSome, IfNone, OnOk, None};
 ghost use Rattle.cbor_edn_parts.specs.base.Buffer.{buffer_bytes};
 ghost use Rattle.cbor_edn_parts.specs.base.Indicator.{indicator_text};
