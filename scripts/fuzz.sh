@@ -1,6 +1,6 @@
 #!/usr/bin/env bash
 # Sends random inputs through the three commands by random flags: texts by the grammar, encodings with heads of every width,
-# hexadecimal digits, each whole and damaged, and some of 64 KB or nested to the limit.
+# hexadecimal digits, each whole and damaged, and some of 64 KB, nested to the limit, or with arrays of more elements than a line has columns.
 #
 # usage: scripts/fuzz.sh SEED COUNT [PROGRAM]
 #

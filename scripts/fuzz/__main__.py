@@ -98,6 +98,9 @@ class Inputs:
         self.add(laws.decode, data, self.some(CBOR2DIAG), ENCODINGS)
         self.add_shown(data, 0)
         self.add_shown(b"".join(encodings.embedded(self.rng.randrange(1, 4)) for _ in range(NESTINGS)), 0)
+        long = encodings.long_array()
+        self.add(laws.decode, long, self.rng.choice([[], self.some(CBOR2DIAG)]))
+        self.add(laws.decode, generate.damaged(self.rng, long))
         if self.rng.randrange(4) == 0:
             self.add(laws.decode_digits, generate.digits(self.rng, data), self.some(CBOR2DIAG))
         for _ in range(DAMAGED_ENCODINGS):

@@ -405,6 +405,12 @@ class Bytes:
             return bytes([major << 5 | 31]) + entries + b"\xff"
         return self.head(major, count) + entries
 
+    def long_array(self):
+        """An array of about as many items as a line has columns, or of more, between others."""
+        count = self.rng.choice([79, 80, 81, 300])
+        elements = b"".join(self.known_tag() if self.rng.randrange(2) else self.item(1) for _ in range(count))
+        return self.item(1) + self.head(4, count) + elements + self.items(1, self.rng.randrange(2))
+
     def embedded(self, depth):
         """A byte string that holds an item, or a sequence, whole or damaged."""
         return self.holding(self.items(depth - 1, self.rng.choice([1, 1, 1, 1, 0, 2])))
