@@ -1,4 +1,5 @@
 mod ClaimNestings
+pub mod CountedItems
 pub mod Faults
 mod Formatted
 mod KeptTags

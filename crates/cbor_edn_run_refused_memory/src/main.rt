@@ -33,6 +33,10 @@ fn print_runs(rt: &HostRuntime) -> io::Result<()> {
         let told = word(runs::printed_once(rt.alloc(), row));
         println!(rt; "{}: {told}", row.0)?;
     }
+    for row in runs::TAKEN {
+        let told = word(runs::steps_taken(rt.alloc(), row));
+        println!(rt; "{}: {told}", row.0)?;
+    }
     for row in runs::THERE_AND_BACK {
         let told = word(runs::recoded_bytes(rt.alloc(), row));
         println!(rt; "{}: {told}", row.0)?;

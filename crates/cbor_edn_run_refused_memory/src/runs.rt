@@ -1,7 +1,7 @@
 //! Runs, and bytes that are decoded and encoded again.
 use cbor_edn::engine::{Command, Options, RunError, StdSink, StdSource, converted, run};
 use cbor_edn::laws::recode::{item, recoded, recoded_by_text};
-use cbor_edn::{DelimiterPolicy, NESTING_LIMIT};
+use cbor_edn::{DelimiterPolicy, NESTING_LIMIT, Sequence, option_steps};
 use cbor_edn_expect::memory::Failure;
 use std::alloc::Global;
 
@@ -245,6 +245,24 @@ pub(crate) const PRINTED: &[Printed] = &[(
 
 pub(crate) fn printed_once(alloc: Global, row: &Printed) -> Result<bool, Failure> {
     writes(alloc, &default_options(false), row.1, row.2)
+}
+
+/// A text before and after all steps but the last, which would set the spaces, with every option.
+pub(crate) const TAKEN: &[(&str, &str, &str)] = &[(
+    "option_steps::take",
+    "[dt'1970-01-01T00:00:00Z', 2(h'010000000000000000') /c/, foo'x'], {4:0}",
+    "[0,18446744073709551616,999([\"foo\", \"x\"])],{4/ exp /:999([\"dt\", \"1970-01-01T00:00:00+00:00\"])}",
+)];
+
+pub(crate) fn steps_taken(
+    alloc: Global,
+    row: &(&'static str, &'static str, &'static str),
+) -> Result<bool, Failure> {
+    let options = options_of(Command::Diag2Diag, false, false);
+    let mut sequence = Box::new(alloc, Sequence::parse(alloc, row.1)?)?;
+    option_steps::take(alloc, &options, &mut sequence)?;
+    let left = sequence.serialize(alloc)?;
+    Ok(left.as_str() == row.2)
 }
 
 #[derive(Clone, Copy)]

@@ -1,5 +1,7 @@
 //! What the options make of items: each alone, two together in the order of their steps, and literals through both readings.
 use crate::commands::{FROM_HEX, TO_DIAG, TO_HEX, served};
+use cbor_edn::file_options::CheckOptions;
+use cbor_edn::{NESTING_LIMIT, Sequence, option_steps};
 use cbor_edn_expect::failures::Failures;
 use std::alloc::Global;
 use std::test::Fail;
@@ -317,6 +319,29 @@ fn shown(rt: HostRuntime) -> Result<(), Fail> {
 #[test]
 fn encoded(rt: HostRuntime) -> Result<(), Fail> {
     expect_rows(rt.alloc(), TO_HEX, ENCODED)
+}
+
+/// All steps but the last, which would set the spaces.
+#[test]
+fn taken(rt: HostRuntime) -> Result<(), Fail> {
+    let alloc = rt.alloc();
+    let check = CheckOptions {
+        apply_999: true,
+        cbor: false,
+        limit: NESTING_LIMIT,
+    };
+    let text = "[dt'1970-01-01T00:00:42Z' /c/ , foo'x']";
+    let mut sequence = Box::new(alloc, Sequence::parse(alloc, text)?)?;
+    option_steps::take(alloc, &check.steps(false), &mut sequence)?;
+    let left = sequence.serialize(alloc)?;
+    let mut failures = Failures::new(alloc);
+    failures.row(
+        alloc,
+        text,
+        left.as_str(),
+        "[42 /c/ , 999([\"foo\", \"x\"])]",
+    )?;
+    failures.end()
 }
 
 /// Bytes, as digits, that come back from their text. By RFC 8949, section 3, each is well-formed, and docs/SUPPORTED.md has a text for it.
