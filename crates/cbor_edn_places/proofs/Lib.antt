@@ -1,4 +1,7 @@
 mod Around
+pub mod Cuts
 mod FirstPlaces
+pub mod MeantItems
 mod Offsets
+pub mod PathsOnItems
 mod Refusals

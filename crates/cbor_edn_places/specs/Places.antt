@@ -1,11 +1,11 @@
 -- The first item of a sequence that means nothing.
-use Rattle.std.specs.Prelude.{◌≡◌, ◌≢◌, ℕ, ◌<◌, nat_le, length, slice_get, Bool, ◌||◌, if◌then◌else◌, List, [], ◌∷◌, Option, Some, None, Vec}
+use Rattle.std.specs.Prelude.{◌≡◌, ◌≢◌, ℕ, ◌<◌, ◌≤◌, nat_le, length, take, slice_get, Bool, ◌||◌, if◌then◌else◌, List, [], ◌∷◌, Option, Some, None, Vec}
 use Rattle.cbor_edn_parts.specs.declared.base.error.InconsistentEdn.{InconsistentEdn}
 use Rattle.cbor_edn_model.specs.tree.Trees.{Tree, OneItem, Seq, items}
 use Rattle.cbor_edn_model.specs.cbor.Meaning.{means}
 use Rattle.std.specs.Option.{is_some}
 use Rattle.cbor_edn_model.specs.access.Accessed.{array_items, map_items, tag_number}
-use Rattle.cbor_edn_model.specs.access.Paths.{items_in}
+use Rattle.cbor_edn_model.specs.access.Paths.{items_in, at_sequence}
 
 -- an array, a map or a tag
 abbrev pub is_structure : Tree OneItem → Bool
@@ -37,3 +37,8 @@ IsFirstPath xs (i ∷ path) = (x : Tree OneItem) × IsFirstAt xs i x × IsFirstP
 abbrev pub IsFound : {A : Type 0} → Tree Seq → Option (Vec ℕ A × InconsistentEdn) → Type 0
 IsFound w None = AllMean (items_in w)
 IsFound w (Some p) = (p.0.items ≢ []) × IsFirstPath (items_in w) p.0.items
+
+-- A front of a path, behind which no longer one leads to an item.
+pub record IsCut (w : Tree Seq) (path cut : List ℕ) : Type 0 where
+  pub front : cut ≡ take (length cut) path
+  pub longest : (n : ℕ) → length cut < n → n ≤ length path → at_sequence (take n path) w ≡ None

@@ -1,12 +1,12 @@
 //! The path of the first item that has no encoding.
-ghost use Rattle.std.specs.Prelude.{◌≡◌, false, IfOk, OnOk, option_map, unwrap_or};
+ghost use Rattle.std.specs.Prelude.{◌≡◌, [], false, IfOk, OnOk, option_map, unwrap_or};
 ghost use Rattle.std.specs.Option.{is_some};
 ghost use Rattle.cbor_edn_model.specs.access.Accessed.{array_items, map_items, tag_number};
 ghost use Rattle.cbor_edn_model.specs.access.Paths.{at_sequence};
 ghost use Rattle.cbor_edn_model.specs.cbor.Meaning.{means};
 ghost use Rattle.cbor_edn_model.specs.tree.Trees.{items};
 ghost use Rattle.cbor_edn_core.specs.tree.View.{item_tree, sequence_tree};
-ghost use Rattle.cbor_edn_places.specs.Places.{is_structure, IsFound};
+ghost use Rattle.cbor_edn_places.specs.Places.{is_structure, IsCut, IsFound};
 ghost use Rattle.cbor_edn_places.specs.internal.Levels.{IsFoundOf, IsFoundAt, IsFirstBeside, IsFirstOf, is_open_at, places_behind, IsLeft};
 
 use cbor_edn_core::tree::{Item, Sequence};
@@ -217,17 +217,19 @@ pub fn first_valueless(
     Err(AllocError)
 }
 
-/// Cuts numbers from the end of a path until it leads to an item, and says whether one is left that does: an item that was resolved may
-/// have parts where its literal has none. The sequence stays as it is.
+/// Cuts numbers from the end of a path until it leads to an item, and says whether it does: an item that was resolved may have parts where
+/// its literal has none. Without such a front nothing is left of the path. The sequence stays as it is.
 pub fn cut_to_item(sequence: &mut Sequence<'_>, path: &mut Vec<usize>) -> bool
     ensures same { sequence_tree sequence.new ≡ sequence_tree sequence.old }
+    ensures cut { IsCut (sequence_tree sequence.old) path.old.items path.new.items }
     ensures leads { result ≡ is_some (at_sequence path.new.items (sequence_tree sequence.old)) }
+    ensures all { result ≡ false → path.new.items ≡ [] }
 {
-    'numbers: for _ in 0..path.len() {
+    'numbers: while !path.is_empty() {
         if leads(sequence, path) {
             return true;
         }
-        let _ = path.pop();
+        path.truncate(path.len() - 1);
     }
-    leads(sequence, path)
+    false
 }
