@@ -1,5 +1,5 @@
 -- The steps of a run leave as many items in a sequence as there were.
-use Rattle.std.proofs.Common.{◌≡◌, Bool, true, false, suc, length, refl, ap, ◌∙◌, arith}
+use Rattle.std.proofs.Common.{◌≡◌, List, Bool, true, false, suc, length, refl, ap, ◌∙◌, arith}
 use Rattle.std.specs.Prelude.{not}
 use Rattle.std.proofs.lemmas.List.{length-append}
 use Rattle.cbor_edn_parts.specs.declared.space.policy.DelimiterPolicy.{DelimiterPolicy}
@@ -49,7 +49,7 @@ Counts P = (w v : Tree Seq) → P w v → length (items_in v) ≡ length (items_
 
 where_counts : (asked : Bool) (P : Step) → Counts P → Counts (Where asked P)
 where_counts true P counts = counts
-where_counts false P counts w v is = ap (λ (t : Tree Seq). length (items_in t)) is
+where_counts false P counts = λ w v is. ap (λ (t : Tree Seq). length (items_in t)) is
 
 turn_counts : (P Q : Step) → Counts P → Counts Q → Counts (InTurn P Q)
 turn_counts P Q p q w v (u, first, second) = q u v second ∙ p w u first
