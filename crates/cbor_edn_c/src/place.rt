@@ -1,6 +1,7 @@
 //! Where in its input a run is refused: a second pass over what it refused. Where that gets no memory, no place is told.
-ghost use Rattle.std.specs.Prelude.{IfOk, IfSome};
-ghost use Rattle.cbor_edn_c.specs.Places.{IsAtOffset, IsByteOfFault, IsBytePlace, IsPlace, IsTextPlace};
+ghost use Rattle.std.specs.Prelude.{IfNone, IfOk, IfSome};
+ghost use Rattle.cbor_edn_findings.specs.WithoutEncoding.{NoneWithout};
+ghost use Rattle.cbor_edn_c.specs.Places.{IsByteOfFault, IsBytePlace, IsPlace, IsPlaceAt, IsTextPlace};
 
 use cbor_edn::engine::{Options, RunError};
 use cbor_edn_c_calls::place::Place;
@@ -20,8 +21,7 @@ pub(crate) struct Told {
 
 /// The place at an offset of a text.
 fn place_at(text: &str, offset: usize) -> Place
-    ensures location { IsTextPlace text.now result }
-    ensures offset { IsAtOffset offset result }
+    ensures { IsPlaceAt text.now offset result }
 {
     match located(text, offset) {
         Some(place) => Place::of_text(&place),
@@ -35,7 +35,8 @@ fn first_without(
     options: &Options,
     input: &[u8],
 ) -> Result<Option<(Place, InconsistentEdn)>, AllocError>
-    ensures { IfOk result (λ found. IfSome found (λ p. IsTextPlace input.now p.0)) }
+    ensures some { IfOk result (λ found. IfSome found (λ p. IsTextPlace options.now input.now p.0)) }
+    ensures none { IfOk result (λ found. IfNone found (NoneWithout options.now input.now)) }
 {
     let Ok(text) = from_utf8(input) else {
         return Ok(None);
@@ -48,7 +49,7 @@ fn first_without(
 
 /// Of a text that has no encoding: the fault is that of the item at the place.
 fn told_of_text(alloc: Global, options: &Options, input: &[u8], reason: InconsistentEdn) -> Told
-    ensures { IsTextPlace input.now result.place }
+    ensures { IsTextPlace options.now input.now result.place }
 {
     let (place, reason) = match first_without(alloc, options, input) {
         Ok(Some(found)) => found,

@@ -1,3 +1,5 @@
 mod Advances
 mod Completions
+mod FirstOffsets
 mod FoundOffsets
+pub mod ToldPlaces

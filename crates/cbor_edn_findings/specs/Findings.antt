@@ -1,5 +1,5 @@
 -- What findings tell, and where.
-use Rattle.std.specs.Prelude.{◌≡◌, ℕ, ◌<◌, ◌≤◌, List, ◌++◌, length, take, Result, Ok, Err, codes, string_bytes}
+use Rattle.std.specs.Prelude.{◌≡◌, ◌⊎◌, ℕ, ◌<◌, ◌≤◌, List, ◌++◌, length, take, Result, Ok, Err, codes, string_bytes}
 use Rattle.std.specs.Str.{IsUtf8, IsCharBoundary}
 use Rattle.cbor_edn_parts.specs.declared.base.error.ParseErrorKind.{ParseErrorKind}
 use Rattle.cbor_edn_parts.specs.declared.base.error.ParseErrorKind.TheVariants.{Invalid, TooDeep}
@@ -11,6 +11,7 @@ use Rattle.cbor_edn_command.specs.Hexadecimal.{input_bytes}
 use Rattle.cbor_edn.specs.declared.engine.RunError.{RunError}
 use Rattle.cbor_edn.specs.declared.engine.RunError.TheVariants.{Read, NotUtf8, Parse, Cbor, Hex, Inconsistent, Write, Memory}
 use Rattle.cbor_edn_findings.specs.FaultOffsets.{IsFaultOffset}
+use Rattle.cbor_edn_findings.specs.WithoutEncoding.{IsFirstWithout, NoneWithout}
 use Rattle.cbor_edn_findings.specs.declared.finding.Finding.{Finding}
 use Rattle.cbor_edn_findings.specs.declared.finding.Finding.TheVariants.{InText, InBytes, Nowhere}
 
@@ -60,14 +61,18 @@ abbrev pub IsInDecoded : {E : Type 0} → ℕ → Result (List ℕ) E → Findin
 IsInDecoded limit (Ok bytes) f = IsInBytes limit bytes f
 IsInDecoded limit (Err e) f = IsNowhere f
 
--- with the line and the column of its offset, if it has one
-abbrev pub IsSomewhere : List ℕ → Finding → Type 0
-IsSomewhere text (InText words at line column) = IsLocation text at line column
-IsSomewhere text (InBytes words at) = ⊥
-IsSomewhere text (Nowhere words) = Unit {0}
+-- at the first item of a text that has no encoding, with its line and its column
+abbrev pub IsAtFirst : Options → List ℕ → Finding → Type 0
+IsAtFirst o text (InText words at line column) = IsFirstWithout o text at × IsLocation text at line column
+IsAtFirst o text (InBytes words at) = ⊥
+IsAtFirst o text (Nowhere words) = ⊥
 
-abbrev pub IsInText : List ℕ → Finding → Type 0
-IsInText input f = (text : List ℕ) × IsValidPart input text × IsSomewhere text f
+-- there, or without a place where there is none
+abbrev pub IsInText : Options → List ℕ → Finding → Type 0
+IsInText o text f = IsAtFirst o text f ⊎ (IsNowhere f × NoneWithout o text)
+
+abbrev pub IsInValidPart : Options → List ℕ → Finding → Type 0
+IsInValidPart o input f = (text : List ℕ) × IsValidPart input text × IsInText o text f
 
 -- what is found of an input whose run was refused so
 abbrev pub IsFoundOf : Options → List ℕ → RunError → Finding → Type 0
@@ -76,6 +81,6 @@ IsFoundOf o input NotUtf8 f = IsNotText input f
 IsFoundOf o input (Parse e) f = IsRefusal e f
 IsFoundOf o input (Cbor e) f = IsInDecoded o.limit (input_bytes o.hex input) f
 IsFoundOf o input Hex f = IsNowhere f
-IsFoundOf o input (Inconsistent e) f = IsInText input f
+IsFoundOf o input (Inconsistent e) f = IsInValidPart o input f
 IsFoundOf o input Write f = IsNowhere f
 IsFoundOf o input (Memory e) f = ⊥

@@ -1,4 +1,5 @@
 pub mod FaultOffsets
 pub mod Findings
 pub mod Shown
+pub mod WithoutEncoding
 pub mod internal

@@ -3,9 +3,10 @@ ghost use Rattle.std.specs.Prelude.{ℕ, List, IfOk, IfSome, IfNone, string_byte
 ghost use Rattle.std.specs.Option.{IsSome};
 ghost use Rattle.cbor_edn.specs.Runs.{IsOutput, IsRefused};
 ghost use Rattle.cbor_edn.specs.declared.engine.RunError.{RunError};
+ghost use Rattle.cbor_edn.specs.declared.engine.RunError.TheVariants.{Inconsistent};
 ghost use Rattle.cbor_edn_command.specs.Hexadecimal.{input_bytes};
 ghost use Rattle.cbor_edn_parts.specs.base.Errors.{error_offset, error_line, error_column};
-ghost use Rattle.cbor_edn_findings.specs.Findings.{IsPlaced, IsAt, IsRefusal, IsNotText, IsInBytes, IsInDecoded, IsNowhere, IsSomewhere, IsFoundOf};
+ghost use Rattle.cbor_edn_findings.specs.Findings.{IsPlaced, IsAt, IsAtFirst, IsRefusal, IsNotText, IsInBytes, IsInDecoded, IsInText, IsNowhere, IsFoundOf};
 
 use crate::bytes::offset_of_fault;
 use crate::places::{first_in_text, located};
@@ -119,7 +120,7 @@ fn without_encoding(
     text: &str,
     reason: InconsistentEdn,
 ) -> Result<Finding, AllocError>
-    ensures { IfOk result (IsSomewhere text.now) }
+    ensures { IfOk result (IsInText options.now text.now) }
 {
     match first_in_text(alloc, options, text)? {
         Some((offset, reason)) => Ok(at_offset(reason.to_string(alloc)?, text, offset)),
@@ -179,6 +180,7 @@ pub fn in_input(
 ) -> Result<Option<Finding>, AllocError>
     ensures well { IfOk result (λ found. IfNone found ((out : List ℕ) × IsOutput options.now input.now out)) }
     ensures ill { IfOk result (λ found. IfSome found (λ f. (fault : RunError) × IsRefused options.now input.now fault × IsFoundOf options.now input.now fault f)) }
+    ensures placed { IfOk result (λ found. IfSome found (λ f. (e : InconsistentEdn) → IsRefused options.now input.now (Inconsistent e) → IsAtFirst options.now input.now f)) }
 {
     match converted(alloc, options, input) {
         Ok(_) => Ok(None),

@@ -1,15 +1,15 @@
 //! Where in a text an item has no encoding.
-ghost use Rattle.std.specs.Prelude.{◌≡◌, IfNone, IfSome};
+ghost use Rattle.std.specs.Prelude.{◌≡◌, IfNone, IfOk, IfSome};
 ghost use Rattle.std.specs.Str.{IsCharBoundary};
 ghost use Rattle.cbor_edn_parts.specs.base.Errors.{error_offset, error_line, error_column};
 ghost use Rattle.cbor_edn_parts.specs.base.Location.{IsLocation};
+ghost use Rattle.cbor_edn_core.specs.tree.View.{sequence_tree};
+ghost use Rattle.cbor_edn_findings.specs.WithoutEncoding.{IsFirstOffset, IsFirstWithout, NoneWithout};
+ghost use Rattle.cbor_edn_findings.specs.internal.Left.{HasMeaning, IsFoundLeft, IsLeft};
 
 use crate::location::location_behind;
 use cbor_edn::engine::Options;
-use cbor_edn_application::visits::{
-    annotate_claims_sets, prettify_addresses, prettify_times, resolve_addresses, resolve_times,
-    to_999,
-};
+use cbor_edn::option_steps;
 use cbor_edn_core::tree::Sequence;
 use cbor_edn_parts::base::error::{Fault, InconsistentEdn, ParseError, ParseErrorKind};
 use cbor_edn_places::offset::offset_of;
@@ -29,48 +29,29 @@ pub fn located(text: &str, offset: usize) -> Option<ParseError>
     Some(ParseError::new(ParseErrorKind::Invalid, offset, line, column))
 }
 
-/// Takes the steps of `diag2cbor` that may change which items have an encoding.
-fn resolve(
-    alloc: Global,
-    options: &Options,
-    sequence: &mut Sequence<'_>,
-) -> Result<(), AllocError> {
-    if options.annotate_tags {
-        prettify_addresses(alloc, sequence)?;
-        prettify_times(alloc, sequence)?;
-    }
-    if options.aol_to_item {
-        resolve_addresses(alloc, sequence)?;
-        resolve_times(alloc, sequence)?;
-    }
-    if options.annotate_ccs {
-        annotate_claims_sets(alloc, sequence)?;
-    }
-    if options.apply_999 {
-        to_999(alloc, sequence)?;
-    }
-    Ok(())
-}
-
-/// A copy of items in which literals stand for what a run takes them for.
-fn resolved<'a>(
+/// What the steps of a run leave of items, but for the spaces that the last one sets.
+fn left_of<'a>(
     alloc: Global,
     options: &Options,
     sequence: &Sequence<'a>,
-) -> Result<Box<Sequence<'a>>, AllocError> {
+) -> Result<Box<Sequence<'a>>, AllocError>
+    ensures { IfOk result (λ left. IsLeft options.now (sequence_tree sequence.now) (sequence_tree left.value)) }
+{
     let mut copy = Box::new(alloc, sequence.clone()?)?;
-    resolve(alloc, options, &mut copy)?;
+    option_steps::take(alloc, options, &mut copy)?;
     Ok(copy)
 }
 
-/// The path of what has no encoding, and why it has none.
-fn first_in_resolved(
+/// The path in that of what has no encoding, and why it has none.
+fn first_left(
     alloc: Global,
     options: &Options,
     sequence: &Sequence<'_>,
-) -> Result<Option<(Vec<usize>, InconsistentEdn)>, AllocError> {
-    let mut copy = resolved(alloc, options, sequence)?;
-    first_valueless(alloc, &mut copy)
+) -> Result<Option<(Vec<usize>, InconsistentEdn)>, AllocError>
+    ensures { IfOk result (IsFoundLeft options.now (sequence_tree sequence.now)) }
+{
+    let mut left = left_of(alloc, options, sequence)?;
+    first_valueless(alloc, &mut left)
 }
 
 /// Where that begins in the text of the items as they stand.
@@ -78,10 +59,14 @@ fn first_offset(
     alloc: Global,
     options: &Options,
     sequence: &mut Sequence<'_>,
-) -> Result<Option<(usize, InconsistentEdn)>, AllocError> {
-    let Some((mut path, reason)) = first_in_resolved(alloc, options, sequence)? else {
+) -> Result<Option<(usize, InconsistentEdn)>, AllocError>
+    ensures some { IfOk result (λ found. IfSome found (λ p. IsFirstOffset options.now (sequence_tree sequence.old) p.0)) }
+    ensures none { IfOk result (λ found. IfNone found (HasMeaning options.now (sequence_tree sequence.old))) }
+{
+    let Some((mut path, reason)) = first_left(alloc, options, sequence)? else {
         return Ok(None);
     };
+    // The steps leave as many items in a sequence as there were, so the first number of the path leads to one.
     if !cut_to_item(sequence, &mut path) {
         return Ok(None);
     }
@@ -95,7 +80,10 @@ pub fn first_in_text(
     alloc: Global,
     options: &Options,
     text: &str,
-) -> Result<Option<(usize, InconsistentEdn)>, AllocError> {
+) -> Result<Option<(usize, InconsistentEdn)>, AllocError>
+    ensures some { IfOk result (λ found. IfSome found (λ p. IsFirstWithout options.now text.now p.0)) }
+    ensures none { IfOk result (λ found. IfNone found (NoneWithout options.now text.now)) }
+{
     match Sequence::parse_within(alloc, text, options.limit) {
         Ok(mut sequence) => first_offset(alloc, options, &mut sequence),
         Err(Fault::Told(_)) => Ok(None),

@@ -1,4 +1,4 @@
--- What items alone tell, whatever the spaces: first paths, and how many items a sequence has.
+-- A first path is told by items alone, whatever the spaces.
 use Rattle.std.proofs.Common.{◌≡◌, ℕ, Bool, true, false, List, [], ◌∷◌, ◌++◌, map, length, Option, Some, None, refl, sym, ap, ◌∙◌}
 use Rattle.std.specs.Prelude.{slice_get, option_map, ◌||◌, if◌then◌else◌, nat_le}
 use Rattle.std.proofs.lemmas.List.{append-nil, length-map, map-append}
@@ -135,7 +135,3 @@ first_path (i ∷ path) xs ys same (x, first, rest) =
 
 pub same_first_path : (v w : Tree Seq) (path : List ℕ) → items v ≡ items w → IsFirstPath (items_in v) path → IsFirstPath (items_in w) path
 same_first_path v w path same h = first_path path (items_in v) (items_in w) (below_items v ∙ (ap inner same ∙ sym (below_items w))) h
-
-pub same_count : (v w : Tree Seq) → items v ≡ items w → length (items_in v) ≡ length (items_in w)
-same_count v w same =
-    sym (length-map (items_in v) (λ (x : Tree OneItem). items x)) ∙ (ap length (below_items v ∙ (ap inner same ∙ sym (below_items w))) ∙ length-map (items_in w) (λ (x : Tree OneItem). items x))
