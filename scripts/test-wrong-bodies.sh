@@ -8,7 +8,7 @@ cd "$(dirname "$(readlink -f "$0")")"
 . ./count.sh
 tree=$(mktemp -d)
 trap 'rm -rf "$tree"' EXIT
-mkdir -p "$tree/scripts" "$tree"/crates/{low,high}/{src,wrong}
+mkdir -p "$tree/scripts" "$tree"/crates/{low,high}/{src,wrong} "$tree/crates/low/proofs/counted"
 cp check-wrong-bodies.sh wrong_bodies.py kit.py "$tree/scripts"
 printf 'low:\nhigh: low\n' > "$tree/crates.txt"
 echo '#![tactic(auto)]' > "$tree/crates/high/src/lib.rt"
@@ -46,6 +46,26 @@ fn pair(a: u8) -> u8
 {
     (a, 0).0
 }
+
+pub fn counted(n: u8) -> u8
+    ensures { result ≡ n }
+{
+    let mut i = 0;
+    'turns: while i < n {
+        i += 1;
+    }
+    i
+}
+EOF
+cat > "$tree/crates/low/proofs/counted/Invariants.antt" << 'EOF'
+use Rattle.std.proofs.Common.{◌≤◌, ◌-◌}
+use Rattle.low.proofs.counted.Given as goal
+
+abbrev pub invariant-turns : goal.invariant-turns
+invariant-turns l = record { bound : l.i ≤ l.n; }
+
+abbrev pub decreases-turns : goal.decreases-turns
+decreases-turns l = l.n - l.i
 EOF
 
 # Gives a crate the only edits that it has: for each a name, the line `refuses:`, an old text and a new one.
@@ -85,6 +105,13 @@ edits low "${second[@]}" zero 'refuses: first returns' '(a, b).0' 'a ^ b' "${cut
 try low
 count 'wrong bodies are refused, two of one function' ended 0 '3 passed, 0 failed'
 count 'they are tried in one check' says 'checks: 1,'
+
+# The copies have the invariants of the function.
+edits low short 'refuses: counted returns' 'while i < n' 'while i < n / 2' \
+  long 'refuses: counted turns-preserved overflow_add-i' 'i += 1' 'i += 2' "${cut[@]}"
+try low
+count 'wrong bodies of a function with invariants are refused' ended 0 '3 passed, 0 failed'
+count 'in one check too' says 'checks: 1,'
 
 # Of these, one is as it must be.
 edits low "${cut[@]}" \

@@ -43,21 +43,37 @@ def write(edit, room):
 
 
 def write_copy(edit, room, folder, number):
-    """Writes an edit into a copy of its function, and returns the copy's name, or None where the function does not stand alone."""
-    name, files = edit.function.rpartition("::")[2], {*re.findall(r"(?m)^file: (.*?)\s*$", edit.text)}
-    if len(files) > 1 or os.path.isdir(f"{folder}/proofs/{edit.function.replace('::', '/')}"):
+    """Writes an edit into a copy of its function, with the answers and the invariants of that, and returns the copy's name, or None where the
+    function does not stand alone."""
+    path, _, name = edit.function.rpartition("::")
+    files = {*re.findall(r"(?m)^file: (.*?)\s*$", edit.text)}
+    if len(files) > 1:
         return None
     (file,) = files
     changed = rt.edited(edit.text, folder)[0][file]
-    found = re.findall(rf"(?ms)^(?:#\[[^\n]*\]\n)*(?:pub )?fn {name}\b.*?^\}}\n", changed)
+    found = re.findall(rf"(?ms)^(?:#\[[^\n]*\]\n)*(?:pub(?:\(crate\))? )?fn {name}\b.*?^\}}\n", changed)
     if len(found) != 1 or "#[cycle(" in found[0] or found[0] in rtlib.text_of(f"{folder}/{file}"):
         return None
+    copy = f"{name}_{number}"
     with open(f"{room}/{file}", "a", encoding="utf-8") as it:
-        it.write("\n" + re.sub(rf"\bfn {name}\b", f"fn {name}_{number}", found[0], count=1))
-    return f"{edit.function}_{number}"
+        it.write("\n" + re.sub(rf"\bfn {name}\b", f"fn {copy}", found[0], count=1))
+    modules = path.split("::") if path else []
+    proofs = "/".join(["proofs", *modules])
+    if os.path.isdir(f"{folder}/{proofs}/{name}"):
+        copy_proofs(f"{folder}/{proofs}/{name}", f"{room}/{proofs}/{copy}", ".".join(["", "proofs", *modules, ""]), name, copy)
+    return "::".join([*modules, copy])
 
 
-def refusals(said, crate, folder):
+def copy_proofs(old, new, module, name, copy):
+    """Copies the answers and the invariants of a function for a copy of it, whose goals they then are."""
+    shutil.copytree(old, new)
+    for it in glob.glob(f"{new}/*.antt"):
+        text = rtlib.text_of(it)
+        with open(it, "w", encoding="utf-8") as to:
+            to.write(re.sub(rf"(?<={re.escape(module)}){re.escape(name)}\b", copy, text))
+
+
+def refusals(said, crate, room):
     """Returns, by function, what a check did not prove of it: the goals of the line that it has, and the answers that stand in its files. It is
     `no-goal` where these name none, as for a body that the borrow checker does not cover."""
     found = collections.defaultdict(set)
@@ -66,7 +82,7 @@ def refusals(said, crate, folder):
         found[function] |= {*re.findall(r"`([^`]+)`", open_goals[1] if open_goals else "")}
         errors = rf"(?m)^(?:\./)?(proofs/{re.escape(function.replace('::', '/'))}/\w+\.antt):\d+:\d+: error: (?:`([^`]+)`:|.* not checked: (.*))"
         for file, one, more in re.findall(errors, said):
-            answers = {*re.findall(r"(?m)^pub (\S+)", rtlib.text_of(f"{folder}/{file}") or "")}
+            answers = {*re.findall(r"(?m)^pub (\S+)", rtlib.text_of(f"{room}/{file}") or "")}
             found[function] |= answers & {one, *more.split(", ")}
         if not found[function] and "which is not proved" not in rest and "which are not proved" not in rest:
             found[function].add("no-goal")
@@ -164,6 +180,7 @@ class Trial:
                 else:
                     later.append(it)
             status, said = self.check(room, now)
+            refused = refusals(said, self.crate.name, room)
         lacking = re.search(rf"has no function `{self.crate.name}::([^`]+)`", said)
         if lacking and lacking[1] in now:
             self.fail([now.pop(lacking[1])], f"the crate has no function {lacking[1]}")
@@ -177,7 +194,7 @@ class Trial:
         waiting = {*now} & {*re.findall(rf"`{self.crate.name}::([^`]+)`", notes)}
         if waiting != {*now}:
             later = [now.pop(it) for it in sorted(waiting)] + later
-        told = {it: goals for it, goals in refusals(said, self.crate.name, folder).items() if it in now or it not in waiting}
+        told = {it: goals for it, goals in refused.items() if it in now or it not in waiting}
         for function in sorted({*told} - {*now}):
             self.tell(function, f"it is not changed, and refused: {' '.join(sorted(told[function]))}")
         for function, it in now.items():
