@@ -7,9 +7,9 @@
 # An edit has a line `refuses: FUNCTION GOAL..`: the function whose body it changes, as a check names it without the crate, and what the
 # prover must not prove of it then. The other lines are those of a file in must-fail/: `file:`, `old:` and `new:`. A proof rests on what is called
 # by its contract alone, so a wrong body is refused in its own function, whatever the others are. All are written into one copy of the crate.
-# A second edit of one function changes a copy of it under another name, where it stands at the top of its file, in no cycle of calls, and has
-# no proof by hand; else it waits for another check. So does one of a function that calls another changed one, where the prover leaves goals untried. A check reads
-# the functions that are changed and those that they call, and no other.
+# A second edit of one function changes a copy of it under another name, with the answers and invariants of its own, where it stands at the top
+# of its file and in no cycle of calls; else it waits for another check. So does one of a function that calls another changed one, where the
+# prover leaves goals untried. A check reads the functions that are changed and those that they call, and no other.
 #
 # These are failures: an edit without that line, one that cannot be applied, one of a function that is not there, a function that is refused
 # for other goals than its edit names (for none: the body is right; for `no-goal`: the prover does not cover it), a function that is refused

@@ -5,6 +5,7 @@
 mod alone;
 #[cfg(test)]
 mod claims;
+#[cfg(test)]
 mod cose;
 #[cfg(test)]
 mod embedded;

@@ -1,6 +1,5 @@
 -- Where the first item begins that has no encoding, as a call tells it.
 use Rattle.std.proofs.Common.{◌≡◌, ℕ, List, sym, subst}
-use Rattle.std.specs.Str.{IsUtf8}
 use Rattle.cbor_edn_parts.specs.base.Location.{IsLocation}
 use Rattle.cbor_edn_command.specs.declared.options.Options.{Options}
 use Rattle.cbor_edn_findings.specs.WithoutEncoding.{IsFirstWithout, NoneWithout}
@@ -18,6 +17,3 @@ told_place o text input offset (InBytes at) same first bad = absurd bad
 
 pub none_told : (o : Options) (text input : List ℕ) → text ≡ input → NoneWithout o text → NoneWithout o input
 none_told o text input same none = subst (NoneWithout o) same none
-
-pub not_read : (o : Options) (input : List ℕ) → (IsUtf8 input → ⊥) → NoneWithout o input
-not_read o input invalid = λ w v read steps none. invalid read.utf8
