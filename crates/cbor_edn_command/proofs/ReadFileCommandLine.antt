@@ -1,5 +1,5 @@
 -- From what the calls of `clap` answer to what is read off a command line of files.
-use Rattle.std.proofs.Common.{◌≡◌, true, List, [], ◌∷◌, Option, Some, None, refl, sym, ap, ◌∙◌}
+use Rattle.std.proofs.Common.{◌≡◌, true, List, [], ◌∷◌, Some, None, refl, ap, ◌∙◌}
 use Rattle.std.specs.Prelude.{codes, map, unwrap_or, option_map}
 use Rattle.std.specs.Borrow.{Bor}
 use Rattle.clap.specs.Matches.{matched_of, raw_values}

@@ -1,6 +1,6 @@
 //! The words of a command line that names a command for files: `show`, `fmt` and `check`.
-ghost use Rattle.std.specs.Prelude.{◌≡◌, IfOk, map, [], ◌∷◌};
-ghost use Rattle.clap.specs.Words.{found_of, rows_of};
+ghost use Rattle.std.specs.Prelude.{◌≡◌, IfOk, List, Some, map, [], ◌∷◌};
+ghost use Rattle.clap.specs.Words.{Row, Text, found_of, rows_of, subcommand_rows_of};
 ghost use Rattle.cbor_edn_command.specs.CommandLine.{max_nesting as the_limit};
 ghost use Rattle.cbor_edn_command.specs.CommandLineSteps.{GrowsBy, IsArgOf, IsCommandOf};
 ghost use Rattle.cbor_edn_command.specs.FileCommandLine as line;
@@ -11,7 +11,7 @@ use crate::file_options::{
 };
 use crate::words::{
     ANNOTATIONS, FORMATS, annotate, flag, format, is_given, is_value, limit_of, max_nesting,
-    no_number, number_of,
+    new_command, new_program, no_number, number_of,
 };
 use clap::builder::ValueParser;
 use clap::error::ErrorKind;
@@ -62,20 +62,38 @@ pub fn file_command<'a>(
 {
     let mut program = program(alloc)?;
     let matches = program.try_get_matches_from_mut(words)?;
+    read_off(alloc, &mut program, &matches)
+}
+
+/// The same of what `clap` has found.
+fn read_off<'a>(
+    alloc: Global,
+    program: &mut clap::Command<'_>,
+    matches: &ArgMatches<'a>,
+) -> Result<(FileCommand, Vec<&'a str>), Error>
+    ensures { IfOk result (λ r. (f : Text × List Row) × (subcommand_rows_of matches.now ≡ Some f)
+        × line.IsCommand f r.0 × (map (λ w. w.now) r.1.items ≡ line.files_of f.1)) }
+{
     let Some((name, found)) = matches.subcommand() else {
         return Err(program.error(ErrorKind::MissingSubcommand, "a command is wanted")?);
     };
-    let command = match command_of(name, found) {
-        Ok(command) => command,
-        Err(Misread::Name) => {
-            return Err(program.error(ErrorKind::InvalidSubcommand, "no such command")?);
-        }
-        Err(Misread::Limit(word)) => {
-            return Err(no_number(alloc, &mut program, "max-nesting", word)?);
-        }
-        Err(Misread::Levels(word)) => return Err(no_number(alloc, &mut program, "levels", word)?),
-    };
-    Ok((command, files_of(alloc, found)?))
+    match command_of(name, found) {
+        Ok(command) => Ok((command, files_of(alloc, found)?)),
+        Err(misread) => Err(fault_of(alloc, program, misread)?),
+    }
+}
+
+/// The fault of a command line that `clap` has taken and that names no command, as `clap` tells those that it finds.
+fn fault_of(
+    alloc: Global,
+    program: &mut clap::Command<'_>,
+    misread: Misread<'_>,
+) -> Result<Error, AllocError> {
+    match misread {
+        Misread::Name => program.error(ErrorKind::InvalidSubcommand, "no such command"),
+        Misread::Limit(word) => no_number(alloc, program, "max-nesting", word),
+        Misread::Levels(word) => no_number(alloc, program, "levels", word),
+    }
 }
 
 /// What `clap` has taken and is no command.
@@ -166,11 +184,7 @@ fn program<'a>(alloc: Global) -> Result<clap::Command<'a>, AllocError>
 {
     let formats = ValueParser::Names(&FORMATS);
     let annotations = ValueParser::Names(&ANNOTATIONS);
-    clap::Command::new(alloc, "cbor-edn")
-        .version("0.1.0")
-        .about(ABOUT)
-        .subcommand_required(true)
-        .disable_help_subcommand(true)
+    new_program(alloc, ABOUT)
         .subcommand(show(alloc, formats, annotations)?)?
         .subcommand(fmt(alloc)?)?
         .subcommand(check(alloc)?)
@@ -183,9 +197,8 @@ fn show<'a>(
 ) -> Result<clap::Command<'a>, AllocError>
     ensures { IfOk result (IsCommandOf (line.show formats.entry annotations.entry)) }
 {
-    let command = clap::Command::new(alloc, "show")
-        .about("Decodes CBOR, also in its byte strings, into items in EDN")
-        .after_help(SHOWING)
+    let about = "Decodes CBOR, also in its byte strings, into items in EDN";
+    let command = new_command(alloc, "show", about, SHOWING)
         .arg(format(alloc, 'i', "input-format", formats))?
         .arg(levels(alloc))?;
     let command = with_steps_left_out(alloc, command)?.arg(annotate(alloc, annotations))?;
@@ -210,9 +223,7 @@ fn with_steps_left_out<'a>(
 fn fmt<'a>(alloc: Global) -> Result<clap::Command<'a>, AllocError>
     ensures { IfOk result (IsCommandOf line.fmt) }
 {
-    let command = clap::Command::new(alloc, "fmt")
-        .about("Lays out files of EDN in place")
-        .after_help(LAYING_OUT)
+    let command = new_command(alloc, "fmt", "Lays out files of EDN in place", LAYING_OUT)
         .arg(only_lists(alloc))?
         .arg(flag(alloc, "remove-comments", "Leave comments out"))?;
     with_files(alloc, command)
@@ -222,9 +233,8 @@ fn check<'a>(alloc: Global) -> Result<clap::Command<'a>, AllocError>
     ensures { IfOk result (IsCommandOf line.check) }
 {
     let others = "Turn literals that are left into tag 999";
-    let command = clap::Command::new(alloc, "check")
-        .about("Tells whether files are EDN that has an encoding, or CBOR")
-        .after_help(CHECKING)
+    let about = "Tells whether files are EDN that has an encoding, or CBOR";
+    let command = new_command(alloc, "check", about, CHECKING)
         .arg(flag(alloc, "apply-999", others))?
         .arg(flag(
             alloc,

@@ -1,6 +1,6 @@
 //! The words of a command line.
-ghost use Rattle.std.specs.Prelude.{◌≡◌, IfOk, codes, map};
-ghost use Rattle.clap.specs.Words.{first_of, found_of, rows_of};
+ghost use Rattle.std.specs.Prelude.{◌≡◌, IfOk, List, Some, codes, map};
+ghost use Rattle.clap.specs.Words.{Row, Text, first_of, found_of, new_app, rows_of, subcommand_rows_of};
 ghost use Rattle.cbor_edn_command.specs.CommandLine as line;
 ghost use Rattle.cbor_edn_command.specs.CommandLineSteps.{GrowsBy, IsArgOf, IsCommandOf, IsProgram};
 
@@ -56,6 +56,17 @@ pub fn options<'a>(
 {
     let mut program = program(alloc)?;
     let matches = program.try_get_matches_from_mut(words)?;
+    read_off(alloc, &mut program, &matches)
+}
+
+/// The same of what `clap` has found.
+fn read_off<'a>(
+    alloc: Global,
+    program: &mut clap::Command<'_>,
+    matches: &ArgMatches<'a>,
+) -> Result<(Options, &'a str, &'a str), Error>
+    ensures { IfOk result (λ r. (f : Text × List Row) × (subcommand_rows_of matches.now ≡ Some f) × line.IsReadOff f r.0 r.1.now r.2.now) }
+{
     let Some((name, found)) = matches.subcommand() else {
         return Err(program.error(ErrorKind::MissingSubcommand, "a command is wanted")?);
     };
@@ -64,7 +75,7 @@ pub fn options<'a>(
     };
     let limit = match limit_of(found) {
         Ok(limit) => limit,
-        Err(word) => return Err(no_number(alloc, &mut program, "max-nesting", word)?),
+        Err(word) => return Err(no_number(alloc, program, "max-nesting", word)?),
     };
     let options = options_of(command, found, limit);
     Ok((options, file_of(found, "input"), file_of(found, "output")))
@@ -201,24 +212,46 @@ fn program<'a>(alloc: Global) -> Result<clap::Command<'a>, AllocError>
 {
     let formats = ValueParser::Names(&FORMATS);
     let annotations = ValueParser::Names(&ANNOTATIONS);
-    clap::Command::new(alloc, "cbor-edn")
-        .version("0.1.0")
-        .about(ABOUT)
+    new_program(alloc, ABOUT)
         .after_help(EXAMPLES)
-        .subcommand_required(true)
-        .disable_help_subcommand(true)
         .subcommand(diag2cbor(alloc, formats)?)?
         .subcommand(cbor2diag(alloc, formats, annotations)?)?
         .subcommand(diag2diag(alloc, annotations)?)
 }
 
+/// A program of which a command is wanted, and which has no command `help`.
+pub(crate) fn new_program<'a>(alloc: Global, about: &'a str) -> clap::Command<'a>
+    ensures { IsCommandOf (line.wants_command (new_app (codes "cbor-edn"))) result }
+{
+    clap::Command::new(alloc, "cbor-edn")
+        .version("0.1.0")
+        .about(about)
+        .subcommand_required(true)
+        .disable_help_subcommand(true)
+}
+
+/// A command without arguments. Its help ends with the last text.
+pub(crate) fn new_command<'a>(
+    alloc: Global,
+    name: &'a str,
+    about: &'a str,
+    end: &'a str,
+) -> clap::Command<'a>
+    ensures { IsCommandOf (new_app name.entry.now) result }
+{
+    clap::Command::new(alloc, name).about(about).after_help(end)
+}
+
 fn diag2cbor<'a>(alloc: Global, formats: ValueParser<'a>) -> Result<clap::Command<'a>, AllocError>
     ensures { IfOk result (IsCommandOf (line.diag2cbor formats.entry)) }
 {
-    let command = clap::Command::new(alloc, "diag2cbor")
-        .about("Encodes items in EDN as CBOR")
-        .after_help(ENCODING)
-        .arg(format(alloc, 'o', "output-format", formats))?;
+    let about = "Encodes items in EDN as CBOR";
+    let command = new_command(alloc, "diag2cbor", about, ENCODING).arg(format(
+        alloc,
+        'o',
+        "output-format",
+        formats,
+    ))?;
     with_common(alloc, with_edn_input(alloc, command)?)
 }
 
@@ -230,9 +263,8 @@ fn cbor2diag<'a>(
     ensures { IfOk result (IsCommandOf (line.cbor2diag formats.entry annotations.entry)) }
 {
     let left = "Leave tags of times and addresses as they are";
-    let command = clap::Command::new(alloc, "cbor2diag")
-        .about("Decodes CBOR into items in EDN")
-        .after_help(DECODING)
+    let about = "Decodes CBOR into items in EDN";
+    let command = new_command(alloc, "cbor2diag", about, DECODING)
         .arg(format(alloc, 'i', "input-format", formats))?
         .arg(flag(alloc, "no-annotate-tags", left))?;
     with_common(alloc, with_edn_output(alloc, command, annotations)?)
@@ -244,9 +276,7 @@ fn diag2diag<'a>(
 ) -> Result<clap::Command<'a>, AllocError>
     ensures { IfOk result (IsCommandOf (line.diag2diag annotations.entry)) }
 {
-    let command = clap::Command::new(alloc, "diag2diag")
-        .about("Lays out items in EDN anew")
-        .after_help(EDITING);
+    let command = new_command(alloc, "diag2diag", "Lays out items in EDN anew", EDITING);
     let command = with_edn_output(alloc, with_edn_input(alloc, command)?, annotations)?
         .arg(flag(alloc, "preserve-space", "Leave spaces as they are"))?
         .arg(flag(alloc, "remove-comments", "Leave comments out"))?;

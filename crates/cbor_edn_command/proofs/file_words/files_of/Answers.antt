@@ -1,4 +1,4 @@
-use Rattle.std.proofs.Common.{List, ℕ, map, ap, ◌∙◌, [], ◌∷◌, ◌++◌, Bor}
+use Rattle.std.proofs.Common.{List, ℕ, map, ap, ◌∙◌, ◌++◌, Bor}
 use Rattle.clap.specs.Words.{found_of}
 use Rattle.cbor_edn_command.proofs.ReadFileCommandLine.{files_given, files_left_out}
 use Rattle.cbor_edn_command.proofs.file_words.files_of.Goals as goal

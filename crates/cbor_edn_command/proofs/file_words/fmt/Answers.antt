@@ -1,13 +1,9 @@
-use Rattle.std.proofs.Common.{codes, rules}
 use Rattle.std.proofs.lemmas.Result.{IfOk-weaker}
-use Rattle.clap.specs.Words.{new_app}
-use Rattle.cbor_edn_command.specs.CommandLineSteps.{IsCommandOf}
 use Rattle.cbor_edn_command.proofs.ReadCommandLine.{grown, more, one}
 use Rattle.cbor_edn_command.proofs.file_words.fmt.Goals as goal
 
 pub returns : goal.returns
 returns c =
-    let bare : IsCommandOf (new_app (codes "fmt")) c.after_help.result = search rules in
     IfOk-weaker c.with_files.result _ _
-    (λ r h. grown bare (more (one c.in_ok-arg.ensures c.only_lists.ensures) (more (one c.in_ok-command.ensures c.flag.ensures) h)))
+    (λ r h. grown c.new_command.ensures (more (one c.in_ok-arg.ensures c.only_lists.ensures) (more (one c.in_ok-command.ensures c.flag.ensures) h)))
     c.with_files.ensures

@@ -1,14 +1,10 @@
-use Rattle.std.proofs.Common.{codes, rules}
 use Rattle.std.proofs.lemmas.Result.{IfOk-weaker}
-use Rattle.clap.specs.Words.{new_app}
-use Rattle.cbor_edn_command.specs.CommandLineSteps.{IsCommandOf}
 use Rattle.cbor_edn_command.proofs.ReadCommandLine.{grown, more, one}
 use Rattle.cbor_edn_command.proofs.words.diag2diag.Goals as goal
 
 pub returns : goal.returns
 returns c =
-    let bare : IsCommandOf (new_app (codes "diag2diag")) c.after_help-command.result = search rules in
     IfOk-weaker c.with_common.result _ _
-    (λ r h. grown bare (more c.in_ok-with_edn_input.ensures (more c.in_ok-with_edn_output.ensures
+    (λ r h. grown c.new_command-command.ensures (more c.in_ok-with_edn_input.ensures (more c.in_ok-with_edn_output.ensures
     (more (one c.in_ok-arg.ensures c.flag.ensures) (more (one c.in_ok-command.ensures c.flag-2.ensures) h)))))
     c.with_common.ensures
