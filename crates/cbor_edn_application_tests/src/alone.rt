@@ -1,11 +1,12 @@
 //! Functions that are called alone, at one item.
+use crate::common::standalone_of;
 use cbor_edn_application::{
     CcsHandler, CnfHandler, IpVersion, OscHandler, all_aol_to_item, all_tag_prettify,
     annotate_message, any_aol_to_tag999, comment_ccs, comment_cose, comment_lang_tag,
     dt_aol_to_item, dt_item_to_aol, dt_tag_to_aol, ip_aol_to_item, ip_item_to_aol, ip_tag_to_aol,
     tag23_to_edn_integer,
 };
-use cbor_edn_core::tree::{Item, StandaloneItem};
+use cbor_edn_core::tree::Item;
 use cbor_edn_core::visit::MapValueHandler;
 use cbor_edn_expect::failures::Failures;
 use cbor_edn_expect::{expect, expect_text};
@@ -23,12 +24,12 @@ fn text_of(alloc: Global, answer: Result<Item<'_>, Fault<&'static str>>) -> Resu
 }
 
 fn time_of(alloc: Global, text: &str, wrap: bool) -> Result<String, Fail> {
-    let item = Box::new(alloc, StandaloneItem::parse(alloc, text)?)?;
+    let item = standalone_of(alloc, text)?;
     text_of(alloc, dt_item_to_aol(alloc, item.item(), wrap))
 }
 
 fn address_of(alloc: Global, text: &str, version: IpVersion, wrap: bool) -> Result<String, Fail> {
-    let item = Box::new(alloc, StandaloneItem::parse(alloc, text)?)?;
+    let item = standalone_of(alloc, text)?;
     text_of(alloc, ip_item_to_aol(alloc, item.item(), version, wrap))
 }
 
@@ -159,7 +160,7 @@ fn call_on(
 
 /// The text of an item behind a call, or the comment that the call answers.
 fn called(alloc: Global, text: &str, call: Call) -> Result<String, Fail> {
-    let mut item = Box::new(alloc, StandaloneItem::parse(alloc, text)?)?;
+    let mut item = standalone_of(alloc, text)?;
     match call_on(alloc, call, item.at_mut(&[]))? {
         Ok(()) => Ok(item.serialize(alloc)?),
         Err(CallbackError::Comment(comment)) => Ok(comment),
@@ -253,7 +254,7 @@ fn comment_of_a_callback(rt: HostRuntime) -> Result<(), Fail> {
 #[test]
 fn key_of_a_claim(rt: HostRuntime) -> Result<(), Fail> {
     let alloc = rt.alloc();
-    let mut key = Box::new(alloc, StandaloneItem::parse(alloc, "4")?)?;
+    let mut key = standalone_of(alloc, "4")?;
     let Some(place) = key.at_mut(&[]) else {
         return Err(Fail::new("no key"));
     };
@@ -303,7 +304,7 @@ fn answer_of(
 
 /// The text of a value behind its handler, and the comment that this answers.
 fn handled(alloc: Global, text: &str, by: Handler) -> Result<String, Fail> {
-    let mut value = Box::new(alloc, StandaloneItem::parse(alloc, text)?)?;
+    let mut value = standalone_of(alloc, text)?;
     let comment = answer_of(alloc, by, value.at_mut(&[]))?;
     let mut told = value.serialize(alloc)?;
     if let Some(comment) = comment {

@@ -1,6 +1,7 @@
 //! Comments at the keys of claims sets.
+use crate::common::standalone_of;
 use cbor_edn_application::visits::annotate_claims;
-use cbor_edn_core::tree::{Item, StandaloneItem};
+use cbor_edn_core::tree::Item;
 use cbor_edn_expect::failures::Failures;
 use cbor_edn_parts::base::error::Fault;
 use std::alloc::Global;
@@ -19,7 +20,7 @@ fn annotate(alloc: Global, item: Option<&mut Item<'_>>) -> Result<bool, Fail> {
 }
 
 fn annotated(alloc: Global, text: &str) -> Result<String, Fail> {
-    let mut item = Box::new(alloc, StandaloneItem::parse(alloc, text)?)?;
+    let mut item = standalone_of(alloc, text)?;
     if annotate(alloc, item.at_mut(&[]))? {
         Ok(item.serialize(alloc)?)
     } else {

@@ -1,8 +1,8 @@
 //! Comments in COSE messages.
+use crate::common::sequence_of;
 use cbor_edn_application::visits::{
     annotate_claims_sets, annotate_messages, comment_claims_keys, comment_cose, show_embedded,
 };
-use cbor_edn_core::tree::Sequence;
 use cbor_edn_expect::failures::Failures;
 use std::alloc::Global;
 use std::test::Fail;
@@ -61,7 +61,7 @@ const ROWS: &[(&str, &str)] = &[
 ];
 
 fn commented(alloc: Global, text: &str) -> Result<String, Fail> {
-    let mut sequence = Box::new(alloc, Sequence::parse(alloc, text)?)?;
+    let mut sequence = sequence_of(alloc, text)?;
     show_embedded(alloc, 8, 512, &mut sequence)?;
     comment_cose(alloc, &mut sequence)?;
     Ok(sequence.serialize(alloc)?)
@@ -124,7 +124,7 @@ const CLAIMS: &[(&str, &str)] = &[
 ];
 
 fn annotated(alloc: Global, text: &str) -> Result<String, Fail> {
-    let mut sequence = Box::new(alloc, Sequence::parse(alloc, text)?)?;
+    let mut sequence = sequence_of(alloc, text)?;
     show_embedded(alloc, 8, 512, &mut sequence)?;
     annotate_claims_sets(alloc, &mut sequence)?;
     comment_claims_keys(alloc, &mut sequence)?;

@@ -1,6 +1,8 @@
 //! Byte strings that are shown as embedded sequences.
+use crate::common::sequence_of;
 use cbor_edn_application::visits::show_embedded;
 use cbor_edn_core::tree::Sequence;
+use cbor_edn_expect::boxed;
 use cbor_edn_expect::failures::Failures;
 use std::alloc::Global;
 use std::test::Fail;
@@ -44,13 +46,13 @@ const ROWS: &[Row] = &[
 ];
 
 fn shown(alloc: Global, bytes: &[u8], levels: usize, limit: usize) -> Result<String, Fail> {
-    let mut sequence = Box::new(alloc, Sequence::from_cbor(alloc, bytes)?)?;
+    let mut sequence = boxed(alloc, Sequence::from_cbor(alloc, bytes))?;
     show_embedded(alloc, levels, limit, &mut sequence)?;
     Ok(sequence.serialize(alloc)?)
 }
 
 fn read_back(alloc: Global, text: &str, limit: usize) -> Result<Vec<u8>, Fail> {
-    let sequence = Box::new(alloc, Sequence::parse_within(alloc, text, limit)?)?;
+    let sequence = boxed(alloc, Sequence::parse_within(alloc, text, limit))?;
     Ok(sequence.to_cbor(alloc)?)
 }
 
@@ -108,7 +110,7 @@ const TEXTS: &[(&str, &str)] = &[
 ];
 
 fn shown_text(alloc: Global, text: &str) -> Result<String, Fail> {
-    let mut sequence = Box::new(alloc, Sequence::parse(alloc, text)?)?;
+    let mut sequence = sequence_of(alloc, text)?;
     show_embedded(alloc, 8, 512, &mut sequence)?;
     Ok(sequence.serialize(alloc)?)
 }

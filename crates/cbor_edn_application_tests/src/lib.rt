@@ -6,6 +6,8 @@ mod alone;
 #[cfg(test)]
 mod claims;
 #[cfg(test)]
+mod common;
+#[cfg(test)]
 mod cose;
 #[cfg(test)]
 mod embedded;

@@ -1,4 +1,5 @@
 //! Single items that are visited with each function, as callers do it: their texts before and after.
+use crate::common::standalone_of;
 use cbor_edn_application::{
     any_aol_to_tag999, comment_lang_tag, dt_aol_to_item, dt_tag_to_aol, ip_aol_to_item,
     ip_tag_to_aol, tag23_to_edn_integer,
@@ -55,7 +56,7 @@ fn visit(alloc: Global, by: Function, item: &mut StandaloneItem<'_>) -> Result<(
 }
 
 fn visited(alloc: Global, by: Function, text: &str) -> Result<String, Fail> {
-    let mut item = Box::new(alloc, StandaloneItem::parse(alloc, text)?)?;
+    let mut item = standalone_of(alloc, text)?;
     visit(alloc, by, &mut item)?;
     Ok(item.serialize(alloc)?)
 }

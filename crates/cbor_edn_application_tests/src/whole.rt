@@ -1,4 +1,5 @@
 //! Whole visits of a sequence, each once, and how rows are held against them.
+use crate::common::sequence_of;
 use cbor_edn_application::visits::{
     annotate_claims_sets, comment_languages, comment_tags, prettify, prettify_addresses,
     prettify_bignums, prettify_times, resolve, resolve_addresses, resolve_times, to_999,
@@ -40,7 +41,7 @@ fn apply(alloc: Global, sequence: &mut Sequence<'_>, by: Visit) -> Result<(), Al
 }
 
 fn visited(alloc: Global, text: &str, by: Visit) -> Result<String, Fail> {
-    let mut sequence = Box::new(alloc, Sequence::parse(alloc, text)?)?;
+    let mut sequence = sequence_of(alloc, text)?;
     apply(alloc, &mut sequence, by)?;
     Ok(sequence.serialize(alloc)?)
 }

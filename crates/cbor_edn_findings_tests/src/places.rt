@@ -1,5 +1,6 @@
 //! The first item of a text that has no encoding: its path, and where it begins.
 use cbor_edn_core::tree::Sequence;
+use cbor_edn_expect::boxed;
 use cbor_edn_expect::failures::Failures;
 use cbor_edn_places::offset::offset_of;
 use cbor_edn_places::path::{cut_to_item, first_valueless};
@@ -8,8 +9,8 @@ use std::test::Fail;
 
 /// The path in a text of the first item without an encoding, and where it begins.
 fn told(alloc: Global, text: &str) -> Result<String, Fail> {
-    let sequence = Box::new(alloc, Sequence::parse(alloc, text)?)?;
-    let mut copy = Box::new(alloc, sequence.clone()?)?;
+    let sequence = boxed(alloc, Sequence::parse(alloc, text))?;
+    let mut copy = boxed(alloc, sequence.clone())?;
     match first_valueless(alloc, &mut copy)? {
         Some((path, _)) => {
             let offset = offset_of(alloc, &sequence, &path)?;
@@ -66,7 +67,7 @@ fn long_strings(rt: HostRuntime) -> Result<(), Fail> {
 #[test]
 fn paths_are_cut(rt: HostRuntime) -> Result<(), Fail> {
     let alloc = rt.alloc();
-    let mut sequence = Box::new(alloc, Sequence::parse(alloc, "[dt'1970-01-01T00:00:00Z']")?)?;
+    let mut sequence = boxed(alloc, Sequence::parse(alloc, "[dt'1970-01-01T00:00:00Z']"))?;
     let mut path = Vec::from_slice(alloc, &[0, 0, 0])?;
     let leads = cut_to_item(&mut sequence, &mut path);
     let mut failures = Failures::new(alloc);

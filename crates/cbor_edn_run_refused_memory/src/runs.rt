@@ -2,7 +2,7 @@
 use cbor_edn::engine::{Command, Options, RunError, StdSink, StdSource, converted, run};
 use cbor_edn::laws::recode::{item, recoded, recoded_by_text};
 use cbor_edn::{DelimiterPolicy, NESTING_LIMIT, Sequence, option_steps};
-use cbor_edn_expect::memory::Failure;
+use cbor_edn_expect::memory::{Failure, boxed};
 use std::alloc::Global;
 
 /// A run with every option but these.
@@ -259,7 +259,7 @@ pub(crate) fn steps_taken(
     row: &(&'static str, &'static str, &'static str),
 ) -> Result<bool, Failure> {
     let options = options_of(Command::Diag2Diag, false, false);
-    let mut sequence = Box::new(alloc, Sequence::parse(alloc, row.1)?)?;
+    let mut sequence = boxed(alloc, Sequence::parse(alloc, row.1))?;
     option_steps::take(alloc, &options, &mut sequence)?;
     let left = sequence.serialize(alloc)?;
     Ok(left.as_str() == row.2)

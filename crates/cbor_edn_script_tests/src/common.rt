@@ -1,7 +1,7 @@
 //! Edits as tables hold them, and sequences whose texts are read again.
 use cbor_edn_core::tree::{Item, Sequence, StandaloneItem};
 use cbor_edn_expect::failures::Failures;
-use cbor_edn_expect::{digits_of, name_of};
+use cbor_edn_expect::{boxed, digits_of, name_of};
 use cbor_edn_parts::space::policy::DelimiterPolicy;
 use cbor_edn_script::Edit;
 use std::alloc::Global;
@@ -48,13 +48,13 @@ fn replacement<'a>(alloc: Global, path: &[usize], text: &'a str) -> Result<Edit<
 }
 
 fn item_of<'a>(alloc: Global, text: &'a str) -> Result<Item<'a>, Fail> {
-    let item = Box::new(alloc, StandaloneItem::parse(alloc, text)?)?;
+    let item = boxed(alloc, StandaloneItem::parse(alloc, text))?;
     Ok(item.item().clone()?)
 }
 
 /// Trees stand in boxes: a proof writes out what a function holds, and of a box only that it is one.
 pub(crate) fn sequence_of<'a>(alloc: Global, text: &'a str) -> Result<Box<Sequence<'a>>, Fail> {
-    Ok(Box::new(alloc, Sequence::parse(alloc, text)?)?)
+    boxed(alloc, Sequence::parse(alloc, text))
 }
 
 /// The bytes that a sequence means, in digits, or the name of the refusal.

@@ -1,7 +1,7 @@
 //! The callers of `cbor_edn_examples`, each where it answers and where it does not.
 use cbor_edn::StandaloneItem;
 use cbor_edn_examples::{encoded_again, shipped, shown};
-use cbor_edn_expect::expect;
+use cbor_edn_expect::{boxed, expect};
 use std::alloc::Global;
 use std::test::Fail;
 
@@ -26,7 +26,7 @@ const TAGS_BYTES: &[u8] =
     b"\x83\xc1\x18\x2a\xd8\x34\x44\xc0\x00\x02\x01\xc2\x49\x01\x00\x00\x00\x00\x00\x00\x00\x00";
 
 fn encodes_again(alloc: Global, text: &str, wanted: &[u8]) -> Result<bool, Fail> {
-    let mut item = Box::new(alloc, StandaloneItem::parse(alloc, text)?)?;
+    let mut item = boxed(alloc, StandaloneItem::parse(alloc, text))?;
     let bytes = encoded_again(alloc, &mut item)?;
     Ok(bytes.as_slice() == wanted)
 }

@@ -2,6 +2,7 @@
 use crate::commands::{FROM_HEX, TO_DIAG, TO_HEX, served};
 use cbor_edn::file_options::CheckOptions;
 use cbor_edn::{NESTING_LIMIT, Sequence, option_steps};
+use cbor_edn_expect::boxed;
 use cbor_edn_expect::failures::Failures;
 use std::alloc::Global;
 use std::test::Fail;
@@ -331,7 +332,7 @@ fn taken(rt: HostRuntime) -> Result<(), Fail> {
         limit: NESTING_LIMIT,
     };
     let text = "[dt'1970-01-01T00:00:42Z' /c/ , foo'x']";
-    let mut sequence = Box::new(alloc, Sequence::parse(alloc, text)?)?;
+    let mut sequence = boxed(alloc, Sequence::parse(alloc, text))?;
     option_steps::take(alloc, &check.steps(false), &mut sequence)?;
     let left = sequence.serialize(alloc)?;
     let mut failures = Failures::new(alloc);
