@@ -61,6 +61,11 @@ refuses() {
   [ "$status" = 2 ] && [ ! -s "$work/output" ] && [[ $(head -n 1 "$work/said") == 'error: '* ]]
 }
 
+# The fault is told in these words, as `clap` has them.
+refuses_with() {
+  refuses "${@:2}" && [ "$(head -n 1 "$work/said")" = "$1" ]
+}
+
 for command in '' diag2cbor cbor2diag diag2diag show fmt check; do
   text=scripts/help/${command:-program}.txt
   for flag in --help -h; do
@@ -129,5 +134,12 @@ check --annotate ccs
 check --remove-comments
 check --max-nesting +5
 END
+
+# A number with a plus sign is told with its own flag.
+for words in 'diag2cbor --max-nesting' 'show --max-nesting' 'show --levels'; do
+  fault="error: invalid value '+5' for '${words#* } <N>': invalid digit found in string"
+  # shellcheck disable=SC2086
+  count "'$words' names its flag" refuses_with "$fault" $words +5
+done
 
 end
