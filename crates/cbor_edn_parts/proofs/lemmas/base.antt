@@ -1,5 +1,6 @@
 -- Bytes by their kinds, and reads at a place: loops of automata over bytes, tokens, indicators, lines and columns.
 pub mod ByteKinds
+pub mod Each
 pub mod Indicators
 pub mod KindTable
 pub mod Locations

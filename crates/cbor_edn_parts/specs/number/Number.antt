@@ -1,7 +1,6 @@
 -- The texts of numbers, and the integers of integer literals.
-use Rattle.std.specs.Prelude.{ℕ, ℤ, pos, neg_ℤ, ◌+◌, ◌*◌, ◌^◌, ◌<◌, ◌≡◌, ◌≢◌, ◌⊎◌, List, [], ◌∷◌, ◌++◌, length}
+use Rattle.std.specs.Prelude.{ℕ, ℤ, pos, neg_ℤ, ◌+◌, ◌*◌, ◌^◌, ◌<◌, ◌≡◌, ◌≢◌, ◌⊎◌, List, [], ◌∷◌, ◌++◌, length, All}
 use Rattle.std.specs.Char.{digit_value}
-use Rattle.cbor_edn_parts.specs.space.Space.{Each}
 
 -- sign = "+" / "-", or none
 pub data Sign : Type 0 where
@@ -39,7 +38,7 @@ IsDigitOf b c = digit_value c < radix b
 
 -- 1*DIGIT, of a base
 abbrev pub AreDigits : Base → List ℕ → Type 0
-AreDigits b ds = Each (IsDigitOf b) ds × (ds ≢ [])
+AreDigits b ds = All (IsDigitOf b) ds × (ds ≢ [])
 
 -- hexint, octint, binint, and decnumber without point and exponent: as `-0x1F`, `+07`, `0b101`
 pub record IsInteger (text : List ℕ) : Type 0 where
@@ -54,7 +53,7 @@ pub record IsInteger (text : List ℕ) : Type 0 where
 -- 1*DIGIT ["." *DIGIT] / "." 1*DIGIT, of a base
 pub data IsMantissa (b : Base) : List ℕ → Type 0 where
   whole : {x : List ℕ} → AreDigits b x → IsMantissa b x
-  pointed : {x y : List ℕ} → AreDigits b x → Each (IsDigitOf b) y → IsMantissa b (x ++ (46 ∷ y))
+  pointed : {x : List ℕ} (y : List ℕ) → AreDigits b x → All (IsDigitOf b) y → IsMantissa b (x ++ (46 ∷ y))
   fraction : {y : List ℕ} → AreDigits b y → IsMantissa b (46 ∷ y)
 
 -- an exponent behind its letter: [sign] 1*DIGIT

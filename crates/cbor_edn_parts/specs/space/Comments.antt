@@ -1,6 +1,6 @@
 -- The comments of a space text, and its comma.
-use Rattle.std.specs.Prelude.{ℕ, List, [], ◌∷◌, ◌++◌, ◌≡◌, ◌⊎◌, ◌↔◌}
-use Rattle.cbor_edn_parts.specs.space.Space.{IsBlank, Each, IsComment, IsSpace}
+use Rattle.std.specs.Prelude.{ℕ, List, [], ◌∷◌, ◌++◌, ◌≡◌, ◌⊎◌, ◌↔◌, All}
+use Rattle.cbor_edn_parts.specs.space.Space.{IsBlank, IsComment, IsSpace}
 use Rattle.cbor_edn_parts.specs.internal.CommentReading.{comments_of, before_comma, after_comma}
 
 abbrev pub BeginsWithComment : List ℕ → Type 0
@@ -18,8 +18,8 @@ IsTrimmed t = (t ≡ []) ⊎ (BeginsWithComment t × EndsWithComment t)
 pub record IsCommentsOf (x t : List ℕ) : Type 0 where
   pub front : List ℕ
   pub back : List ℕ
-  pub front_blank : Each IsBlank front
-  pub back_blank : Each IsBlank back
+  pub front_blank : All IsBlank front
+  pub back_blank : All IsBlank back
   pub trimmed : IsTrimmed t
   pub whole : x ≡ front ++ (t ++ back)
 

@@ -1,5 +1,5 @@
 -- Space texts, built from blanks, comments and commas.
-use Rattle.std.specs.Prelude.{ℕ, List, [], ◌∷◌, ◌++◌, ◌≡◌, ◌≢◌, ◌≤◌, ◌<◌, ◌⊎◌}
+use Rattle.std.specs.Prelude.{ℕ, List, [], ◌∷◌, ◌++◌, ◌≡◌, ◌≢◌, ◌≤◌, ◌<◌, ◌⊎◌, All}
 
 -- HT, LF, CR or a space
 abbrev pub IsBlank : ℕ → Type 0
@@ -17,14 +17,10 @@ InSlashes c = (c ≢ 47) × (IsBlank c ⊎ IsPrintable c)
 abbrev pub InHash : ℕ → Type 0
 InHash c = (c ≡ 9) ⊎ (c ≡ 13) ⊎ IsPrintable c
 
-pub data Each (P : ℕ → Type 0) : List ℕ → Type 0 where
-  end : Each P []
-  next : {c : ℕ} {x : List ℕ} → P c → Each P x → Each P (c ∷ x)
-
 -- comment = "/" .. "/" / "#" .. LF
 pub data IsComment : List ℕ → Type 0 where
-  slashes : {x : List ℕ} → Each InSlashes x → IsComment (47 ∷ (x ++ (47 ∷ [])))
-  hash : {x : List ℕ} → Each InHash x → IsComment (35 ∷ (x ++ (10 ∷ [])))
+  slashes : (x : List ℕ) → All InSlashes x → IsComment (47 ∷ (x ++ (47 ∷ [])))
+  hash : (x : List ℕ) → All InHash x → IsComment (35 ∷ (x ++ (10 ∷ [])))
 
 -- S = *blank *(comment *blank), as ` /a/ ` or the empty text
 pub data IsSpace : List ℕ → Type 0 where

@@ -2,7 +2,7 @@
 use Rattle.std.specs.Prelude.{ℕ, ◌≡◌, ◌⊎◌, ◌+◌, ◌*◌, ◌/◌, ◌%◌, ◌-◌, ◌^◌, ◌<◌, ◌==◌, ◌||◌, ◌&&◌, nat_le, nat_lt, Bool, false, List, [], ◌∷◌, ◌++◌, length, Option, Some, None, All, if◌then◌else◌, zero, suc}
 use Rattle.std.specs.Char.{digit_value, digit_char}
 use Rattle.hex.specs.Hex.{encode_lower}
-use Rattle.cbor_edn_parts.specs.space.Space.{Each, IsSpace, InHash}
+use Rattle.cbor_edn_parts.specs.space.Space.{IsSpace, InHash}
 use Rattle.cbor_edn_parts.specs.number.Number.{Hexadecimal, IsDigitOf}
 use Rattle.cbor_edn_parts.specs.string.Literal.{single_quote, double_quote, backslash, Quoting, Double, Single, Prefixed, IsLiteral}
 use Rattle.cbor_edn_parts.specs.declared.base.error.InconsistentEdn.{InconsistentEdn}
@@ -15,7 +15,7 @@ use Rattle.cbor_edn_parts.specs.declared.string.StringKind.TheVariants.{Bytes, T
 -- what follows the first space: pairs of digits, each digit with the space behind it, at the end a comment with no end
 pub data IsHexPairs : List ℕ → List ℕ → Type 0 where
   end : IsHexPairs [] []
-  unended : {x : List ℕ} → Each InHash x → IsHexPairs (35 ∷ x) []
+  unended : {x : List ℕ} → All InHash x → IsHexPairs (35 ∷ x) []
   pair : (a b : ℕ) {s t x bs : List ℕ} → IsDigitOf Hexadecimal a → IsSpace s → IsDigitOf Hexadecimal b → IsSpace t → IsHexPairs x bs
       → IsHexPairs (a ∷ (s ++ (b ∷ (t ++ x)))) ((16 * digit_value a + digit_value b) ∷ bs)
 

@@ -1,9 +1,9 @@
 -- The texts of literals: quoted texts, with or without a prefix, and dots.
 --   dquoted, [prefix] squoted, prefix = lower *(lower / DIGIT) / upper *(upper / DIGIT), 3*"."
-use Rattle.std.specs.Prelude.{ℕ, ◌≡◌, ◌≢◌, ◌≤◌, ◌⊎◌, true, List, [], ◌∷◌, ◌++◌, length, encode_utf8, Option, Some, None, ◌==◌, if◌then◌else◌}
+use Rattle.std.specs.Prelude.{ℕ, ◌≡◌, ◌≢◌, ◌≤◌, ◌⊎◌, true, List, [], ◌∷◌, ◌++◌, length, encode_utf8, Option, Some, None, ◌==◌, if◌then◌else◌, All}
 use Rattle.std.specs.Char.{IsScalar}
 use Rattle.std.specs.Char.Utf16.{is_high_surrogate, is_low_surrogate, surrogate_pair_char}
-use Rattle.cbor_edn_parts.specs.space.Space.{Each, IsPrintable}
+use Rattle.cbor_edn_parts.specs.space.Space.{IsPrintable}
 use Rattle.cbor_edn_parts.specs.number.Number.{Hexadecimal, AreDigits, number_of}
 
 abbrev pub IsLower : ℕ → Type 0
@@ -17,8 +17,8 @@ IsDigit c = (48 ≤ c) × (c ≤ 57)
 
 -- prefix, as `b64` or `DT`
 pub data IsPrefix : List ℕ → Type 0 where
-  small : {c : ℕ} {x : List ℕ} → IsLower c → Each (λ d. IsLower d ⊎ IsDigit d) x → IsPrefix (c ∷ x)
-  large : {c : ℕ} {x : List ℕ} → IsUpper c → Each (λ d. IsUpper d ⊎ IsDigit d) x → IsPrefix (c ∷ x)
+  small : {c : ℕ} {x : List ℕ} → IsLower c → All (λ d. IsLower d ⊎ IsDigit d) x → IsPrefix (c ∷ x)
+  large : {c : ℕ} {x : List ℕ} → IsUpper c → All (λ d. IsUpper d ⊎ IsDigit d) x → IsPrefix (c ∷ x)
 
 -- the quotes, ' and "
 abbrev pub single_quote : ℕ
@@ -92,4 +92,4 @@ IsQuoted t = (q : Quoting) × (v : List ℕ) × IsLiteral q v t
 
 -- three dots or more
 abbrev pub IsEllipsis : List ℕ → Type 0
-IsEllipsis t = Each (λ c. c ≡ 46) t × (3 ≤ length t)
+IsEllipsis t = All (λ c. c ≡ 46) t × (3 ≤ length t)

@@ -4,23 +4,23 @@ use Rattle.std.specs.Prelude.{ℤ, pos, negsuc, unsigned_abs}
 use Rattle.std.specs.Fmt.{decimal, signed_decimal}
 use Rattle.std.specs.Str.Parse.{AllDigits}
 use Rattle.std.proofs.lemmas.Fmt.{decimal_is_IsNumeral_wide}
-use Rattle.cbor_edn_parts.specs.space.Space.{Each, end, next}
 use Rattle.cbor_edn_parts.specs.number.Number.{Sign, NoSign, MinusSign, sign_text, Decimal, IsDigitOf, AreDigits, IsInteger, integer, signed, number_of}
 use Rattle.cbor_edn_parts.specs.internal.NumberReading.{integer_of}
 use Rattle.cbor_edn_parts.specs.internal.NumberTokens.{is_number}
+use Rattle.cbor_edn_parts.proofs.lemmas.base.Each.{Each, end, next, all}
 use Rattle.cbor_edn_parts.proofs.lemmas.number.NumberTexts.{number_texts}
 use Rattle.cbor_edn_parts.proofs.lemmas.number.NumberParts.{integer_is, number_is}
 
 each_digit : (ds : List ℕ) → AllDigits 10 ds → Each (IsDigitOf Decimal) ds
-each_digit [] all = end
-each_digit (d ∷ ds) all = next all.0 (each_digit ds all.1)
+each_digit [] h = end
+each_digit (d ∷ ds) h = next h.0 (each_digit ds h.1)
 
 pub some : (ds : List ℕ) → 0 < length ds → ds ≢ []
 some [] lt = absurd (omega arith)
 some (d ∷ ds) lt = λ e. cc
 
 pub digits_are : (n : ℕ) → n < 10 ^ 64 → AreDigits Decimal (decimal n)
-digits_are n lt = let h = (decimal_is_IsNumeral_wide n lt).0 in (each_digit (decimal n) h.1, some (decimal n) h.0)
+digits_are n lt = let h = (decimal_is_IsNumeral_wide n lt).0 in (all (each_digit (decimal n) h.1), some (decimal n) h.0)
 
 pub value_is : (n : ℕ) → n < 10 ^ 64 → number_of 10 (decimal n) ≡ n
 value_is n lt = sym (number_is 10 (decimal n)) ∙ (decimal_is_IsNumeral_wide n lt).1

@@ -9,13 +9,13 @@ use Rattle.std.proofs.Math.Nat.{pow-zero, pow-suc}
 use Rattle.std.proofs.lemmas.Bool.{cases_lt, eqb-true, ltb-true, and_parts, or_cases, false≢true, ne_eqb, lt-ltb, and_right, or_from, and_from}
 use Rattle.cbor_edn_parts.specs.base.Bytes.{Kind, Plus, Minus, kind}
 use Rattle.cbor_edn_parts.specs.internal.Lex.{Accepts}
-use Rattle.cbor_edn_parts.specs.space.Space.{Each, end, next}
 use Rattle.cbor_edn_parts.specs.number.Number.{Sign, NoSign, PlusSign, MinusSign, sign_text, Base, Binary, Octal, Decimal, Hexadecimal, radix, IsPrefixOf, IsDigitOf, AreDigits, IsInteger, IsNumber, integer, number_of, signed, HasInteger}
 use Rattle.cbor_edn_parts.specs.internal.NumberReading.{sign_of, without_sign, names, named_base, prefix_length, base_of, digits_of, is_numeral, magnitude_of, integer_of}
 use Rattle.cbor_edn_parts.specs.internal.NumberTokens as tokens
 use Rattle.cbor_edn_parts.specs.internal.NumberTokens.{number_step}
 use Rattle.cbor_edn_parts.specs.declared.number.NumberState.{NumberState}
 use Rattle.cbor_edn_parts.specs.declared.number.NumberState.TheVariants.{Signed}
+use Rattle.cbor_edn_parts.proofs.lemmas.base.Each.{Each, end, next, each, all}
 use Rattle.cbor_edn_parts.proofs.lemmas.base.ByteKinds.{differs}
 use Rattle.cbor_edn_parts.proofs.lemmas.number.NumberTexts.{number_parts, behind_sign-is, behind_prefix, after_prefix}
 
@@ -76,17 +76,17 @@ names_none small large s l a b _ (next {c = c} h end) = and_right _ _ (or_from _
 names_none small large s l a b _ (next {c = c} h (next {c = d} {x = x} k more)) = and_right _ _ (or_from _ _ (ne_eqb d small (no_digit 10 d small s k)) (ne_eqb d large (no_digit 10 d large l k)))
 
 names_decimal : (x : List ℕ) → Each (IsDigitOf Decimal) x → named_base x ≡ Decimal
-names_decimal x each =
+names_decimal x ds =
     rw (
-      names_none 120 88 (omega arith) (omega arith) (omega arith) (omega arith) x each,
-      names_none 111 79 (omega arith) (omega arith) (omega arith) (omega arith) x each,
-      names_none 98 66 (omega arith) (omega arith) (omega arith) (omega arith) x each,
+      names_none 120 88 (omega arith) (omega arith) (omega arith) (omega arith) x ds,
+      names_none 111 79 (omega arith) (omega arith) (omega arith) (omega arith) x ds,
+      names_none 98 66 (omega arith) (omega arith) (omega arith) (omega arith) x ds,
     )
 
 names_is : (b : Base) (p x : List ℕ) → IsPrefixOf b p → AreDigits b x → named_base (p ++ x) ≡ b
 names_is Binary p x e d = ⊎_elim (λ q. rw q) (λ q. rw q) e
 names_is Octal p x e d = ⊎_elim (λ q. rw q) (λ q. rw q) e
-names_is Decimal p x e d = rw e (names_decimal x d.0)
+names_is Decimal p x e d = rw e (names_decimal x (each d.0))
 names_is Hexadecimal p x e d = ⊎_elim (λ q. rw q) (λ q. rw q) e
 
 digits_behind : (b : Base) (p x : List ℕ) → IsPrefixOf b p → drop (prefix_length b) (p ++ x) ≡ x
@@ -112,7 +112,7 @@ each_passes b (next {c = c} {x = x} h more) = and_from (nat_lt (digit_value c) (
 
 numeral : (b : Base) (x : List ℕ) → AreDigits b x → is_numeral (radix b) x ≡ true
 numeral b [] d = absurd (d.1 refl)
-numeral b (c ∷ x) d = each_passes b d.0
+numeral b (c ∷ x) d = each_passes b (each {x = c ∷ x} d.0)
 
 has_numeral : (t : List ℕ) → IsInteger t → is_numeral (radix (base_of t)) (digits_of t) ≡ true
 has_numeral t r = ap (λ b. is_numeral (radix b) (digits_of t)) (base_of_is t r) ∙ (ap (is_numeral (radix r.base)) (digits_of_is t r) ∙ numeral r.base r.digits r.digits_are)
@@ -165,13 +165,13 @@ prefixed_by u false false false x_is o_is b_is = record { prefix = []; prefix_is
 prefixed : (u : List ℕ) → Prefixed (named_base u) u
 prefixed u = prefixed_by u (names 120 88 u) (names 111 79 u) (names 98 66 u) refl refl refl
 
-each_of : (b : Base) (x : List ℕ) → list_all (λ c. nat_lt (digit_value c) (radix b)) x ≡ true → Each (IsDigitOf b) x
-each_of b [] e = end
-each_of b (c ∷ x) e = let h = and_parts (nat_lt (digit_value c) (radix b)) _ e in next (ltb-true (digit_value c) (radix b) h.0) (each_of b x h.1)
+each_from : (b : Base) (x : List ℕ) → list_all (λ c. nat_lt (digit_value c) (radix b)) x ≡ true → Each (IsDigitOf b) x
+each_from b [] e = end
+each_from b (c ∷ x) e = let h = and_parts (nat_lt (digit_value c) (radix b)) _ e in next (ltb-true (digit_value c) (radix b) h.0) (each_from b x h.1)
 
 digits_from : (b : Base) (x : List ℕ) → is_numeral (radix b) x ≡ true → AreDigits b x
 digits_from b [] e = absurd (false≢true e)
-digits_from b (c ∷ x) e = (each_of b (c ∷ x) e, λ q. cc)
+digits_from b (c ∷ x) e = (all (each_from b (c ∷ x) e), λ q. cc)
 
 literal : (t : List ℕ) → is_numeral (radix (base_of t)) (digits_of t) ≡ true → IsInteger t
 literal t e =
@@ -253,7 +253,7 @@ all_digits b (c ∷ x) h = next h.0 (all_digits b x h.1)
 
 pub some_digits : (b : Base) (x : List ℕ) → IsNumeral (radix b) x → AreDigits b x
 some_digits b [] h = absurd (omega arith)
-some_digits b (c ∷ x) h = (all_digits b (c ∷ x) h.1, λ q. cc)
+some_digits b (c ∷ x) h = (all (all_digits b (c ∷ x) h.1), λ q. cc)
 
 positive : (x : List ℕ) → x ≢ [] → 0 < length x
 positive [] some = absurd (some refl)
@@ -266,7 +266,7 @@ numeral_from t h = numeral (base_of t) (digits_of t) (some_digits (base_of t) (d
 numeral_of : (t : List ℕ) → IsInteger t → IsNumeral (radix (base_of t)) (digits_of t)
 numeral_of t r =
     let P : Base → List ℕ → Type 0 = λ b x. IsNumeral (radix b) x in
-    let parts : P r.base r.digits = (positive r.digits r.digits_are.1, digits_all r.base r.digits_are.0) in
+    let parts : P r.base r.digits = (positive r.digits r.digits_are.1, digits_all r.base (each r.digits_are.0)) in
     subst (λ b. P b (digits_of t)) (sym (base_of_is t r)) (subst (P r.base) (sym (digits_of_is t r)) parts)
 
 no_minus : NoSign ≡ MinusSign → ⊥

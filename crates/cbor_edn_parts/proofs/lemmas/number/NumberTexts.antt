@@ -6,12 +6,12 @@ use Rattle.std.proofs.lemmas.List.{append-nil}
 use Rattle.std.proofs.lemmas.Option.{same_Some}
 use Rattle.cbor_edn_parts.specs.base.Bytes.{Kind, Plus, Minus, Zero, One, TwoToSeven, EightOrNine, Dot, B, E, HexLetter, O, P, X, kind}
 use Rattle.cbor_edn_parts.specs.internal.Lex.{Accepts, Is}
-use Rattle.cbor_edn_parts.specs.space.Space.{Each, end, next}
 use Rattle.cbor_edn_parts.specs.number.Number.{Sign, NoSign, PlusSign, MinusSign, sign_text, Base, Binary, Octal, Decimal, Hexadecimal, IsPrefixOf, IsDigitOf, AreDigits, IsMantissa, whole, pointed, fraction, IsExponent, IsDecimalExponent, none, small_e, large_e, IsBinaryExponent, small_p, large_p, IsNumber, integer, decimal, hex_float}
 use Rattle.cbor_edn_parts.specs.internal.NumberTokens as tokens
 use Rattle.cbor_edn_parts.specs.internal.NumberTokens.{number_step, number_final, is_number}
 use Rattle.cbor_edn_parts.specs.declared.number.NumberState.{NumberState}
 use Rattle.cbor_edn_parts.specs.declared.number.NumberState.TheVariants.{Start, Signed, AfterZero, DecimalDigits, Point, Fraction, Exponent, ExponentSigned, ExponentDigits, AfterX, HexadecimalDigits, HexadecimalPoint, HexadecimalFraction, BinaryExponent, BinaryExponentSigned, BinaryExponentDigits, AfterO, OctalDigits, AfterB, BinaryDigits}
+use Rattle.cbor_edn_parts.proofs.lemmas.base.Each.{Each, end, next, each, each_of, all}
 use Rattle.cbor_edn_parts.proofs.lemmas.base.ByteKinds.{is_digit, digit_kind, kind_digit, kind-plus, kind-minus, kind-zero, kind-dot, kind-b, kind-e, kind-o, kind-p, kind-x}
 use Rattle.cbor_edn_parts.proofs.lemmas.base.Tokens.{token_texts}
 
@@ -89,10 +89,10 @@ digits-from : (b : Base) (m n : NumberState) → Leads b m n → Leads b n n →
 digits-from b m n l on unended [] a = absurd (false≢true (sym unended ∙ a))
 digits-from b m n l on unended (c ∷ t) a =
     let h = l.only (kind c) a.0 a.1 in
-    (next (kind_digit b c h.0) (each-from b n on t (along a.0 n t h.1 a.2)), filled c t)
+    (all (next (kind_digit b c h.0) (each-from b n on t (along a.0 n t h.1 a.2))), filled c t)
 
 digits-is : (b : Base) (m n : NumberState) {x : List ℕ} → Leads b m n → Leads b n n → number_final n ≡ true → AreDigits b x → Accepts tokens.number m x
-digits-is b m n {x = x} l on closed d = subst (Accepts tokens.number m) (append-nil x) (into-is b m n [] l.to on.to d.0 d.1 closed)
+digits-is b m n {x = x} l on closed d = subst (Accepts tokens.number m) (append-nil x) (into-is b m n [] l.to on.to (each d.0) d.1 closed)
 
 -- The states of integers in octal and binary.
 octal_to : (k : Kind) → is_digit Octal k ≡ true → (number_step k AfterO ≡ Some OctalDigits) × (number_step k OctalDigits ≡ Some OctalDigits)
@@ -215,7 +215,7 @@ power-is f {t = t} r = subst (Accepts tokens.number (power f)) (sym r.spelled) (
     behind = digits-is Decimal (power_signed f) (power_digits f) (after_power_sign f) (powers f) (closed_power f) r.digits_are
 
     go : (s : Sign) → Accepts tokens.number (power f) (sign_text s ++ r.digits)
-    go NoSign = subst (Accepts tokens.number (power f)) (append-nil r.digits) (into-is Decimal (power f) (power_digits f) [] (λ k e. (power_to f k e).0) (λ k e. (power_to f k e).2) r.digits_are.0 r.digits_are.1 (closed_power f))
+    go NoSign = subst (Accepts tokens.number (power f)) (append-nil r.digits) (into-is Decimal (power f) (power_digits f) [] (λ k e. (power_to f k e).0) (λ k e. (power_to f k e).2) (each r.digits_are.0) r.digits_are.1 (closed_power f))
     go PlusSign = (power_signed f, (signed_power f).0, behind)
     go MinusSign = (power_signed f, (signed_power f).1, behind)
 
@@ -227,7 +227,7 @@ power-from Ten [] a = absurd (false≢true a)
 power-from Sixteen [] a = absurd (false≢true a)
 power-from f (c ∷ t) a =
     ⊎_elim
-    (λ (d, to). exponent NoSign (c ∷ t) (c ∷ t) refl (next (kind_digit Decimal c d) (each-from Decimal (power_digits f) (powers f) t (along a.0 (power_digits f) t to a.2)), filled c t))
+    (λ (d, to). exponent NoSign (c ∷ t) (c ∷ t) refl (all (next (kind_digit Decimal c d) (each-from Decimal (power_digits f) (powers f) t (along a.0 (power_digits f) t to a.2))), filled c t))
     (λ (k, to).
     let x = digits-from Decimal (power_signed f) (power_digits f) (after_power_sign f) (powers f) (open_sign f) t (along a.0 (power_signed f) t to a.2) in
     ⊎_elim (λ p. exponent PlusSign (c ∷ t) t (ap (◌∷ t) (kind-plus c p)) x) (λ m. exponent MinusSign (c ∷ t) t (ap (◌∷ t) (kind-minus c m)) x) k)
@@ -320,22 +320,25 @@ record Enters (f : Form) (m : NumberState) : Type 0 where
   digit : (c : ℕ) (t : List ℕ) → IsDigitOf (base f) c → Accepts tokens.number (digits f) t → Accepts tokens.number m (c ∷ t)
   dot : number_step (kind 46) m ≡ Some (point f)
 
+digits_row-is : (f : Form) (m : NumberState) {x : List ℕ} (t : List ℕ) → Enters f m → Each (IsDigitOf (base f)) x → x ≢ [] → Accepts tokens.number (digits f) t → Accepts tokens.number m (x ++ t)
+digits_row-is f m t n end some a = absurd (some refl)
+digits_row-is f m t n (next {c = c} {x = x} h more) some a = n.digit c (x ++ t) h (run-is (base f) (digits f) t (λ k e. (mantissa_to f k e).0) more a)
+
 row-is : (f : Form) (m : NumberState) {x : List ℕ} (t : List ℕ) → Enters f m → AreDigits (base f) x → Accepts tokens.number (digits f) t → Accepts tokens.number m (x ++ t)
-row-is f m t n (end, some) a = absurd (some refl)
-row-is f m t n (next {c = c} {x = x} h more, some) a = n.digit c (x ++ t) h (run-is (base f) (digits f) t (λ k e. (mantissa_to f k e).0) more a)
+row-is f m t n (h, some) a = digits_row-is f m t n (each h) some a
 
 mantissa-is : (f : Form) (m : NumberState) {x : List ℕ} (t : List ℕ) → Enters f m → IsMantissa (base f) x → Tail f t → Accepts tokens.number m (x ++ t)
 mantissa-is f m t n (whole d) e = row-is f m t n d (tail-is f t e).0
-mantissa-is f m t n (pointed {x = x} {y = y} d h) e =
+mantissa-is f m t n (pointed {x = x} y d h) e =
     subst (Accepts tokens.number m) (sym (append_assoc x (46 ∷ y) t))
-    (row-is f m (46 ∷ (y ++ t)) n d (fractional f, digits_point f, run-is (base f) (fractional f) t (λ k e. (mantissa_to f k e).2) h (tail-is f t e).1))
-mantissa-is f m t n (fraction d) e = (point f, n.dot, into-is (base f) (point f) (fractional f) t (λ k e. (mantissa_to f k e).1) (λ k e. (mantissa_to f k e).2) d.0 d.1 (tail-is f t e).1)
+    (row-is f m (46 ∷ (y ++ t)) n d (fractional f, digits_point f, run-is (base f) (fractional f) t (λ k e. (mantissa_to f k e).2) (each_of y h) (tail-is f t e).1))
+mantissa-is f m t n (fraction d) e = (point f, n.dot, into-is (base f) (point f) (fractional f) t (λ k e. (mantissa_to f k e).1) (λ k e. (mantissa_to f k e).2) (each d.0) d.1 (tail-is f t e).1)
 
 -- What is left behind the point, and behind a digit in front of it.
 record LeftOfFraction (f : Form) (t : List ℕ) : Type 0 where
   digits_left : List ℕ
   tail : List ℕ
-  each : Each (IsDigitOf (base f)) digits_left
+  digits_are : Each (IsDigitOf (base f)) digits_left
   tail_is : Tail f tail
   spelled : t ≡ digits_left ++ tail
 
@@ -345,10 +348,10 @@ data LeftOfDigits (f : Form) (t : List ℕ) : Type 0 where
   a_point : {x y : List ℕ} → Each (IsDigitOf (base f)) x → LeftOfFraction f y → t ≡ x ++ (46 ∷ y) → LeftOfDigits f t
 
 left_digit : (f : Form) (c : ℕ) (t : List ℕ) → IsDigitOf (base f) c → LeftOfFraction f t → LeftOfFraction f (c ∷ t)
-left_digit f c t h l = record { digits_left = c ∷ l.digits_left; tail = l.tail; each = next h l.each; tail_is = l.tail_is; spelled = ap (c ∷◌) l.spelled }
+left_digit f c t h l = record { digits_left = c ∷ l.digits_left; tail = l.tail; digits_are = next h l.digits_are; tail_is = l.tail_is; spelled = ap (c ∷◌) l.spelled }
 
 left_tail : (f : Form) (t : List ℕ) → Tail f t → LeftOfFraction f t
-left_tail f t e = record { digits_left = []; tail = t; each = end; tail_is = e; spelled = refl }
+left_tail f t e = record { digits_left = []; tail = t; digits_are = end; tail_is = e; spelled = refl }
 
 left_power : (f : Form) (c : ℕ) (t : List ℕ) → kind c ≡ letter f → Accepts tokens.number (power f) t → LeftOfFraction f (c ∷ t)
 left_power f c t k a = left_tail f (c ∷ t) (tail_of f c t k (power-from f t a))
@@ -363,9 +366,9 @@ fraction-from f (c ∷ t) a =
     (fractional_only f (kind c) a.0 a.1)
 
 one_more : (f : Form) (c : ℕ) (t : List ℕ) → IsDigitOf (base f) c → LeftOfDigits f t → LeftOfDigits f (c ∷ t)
-one_more f c t h (digits_alone each) = digits_alone (next h each)
+one_more f c t h (digits_alone ds) = digits_alone (next h ds)
 one_more f c t h (no_point l) = no_point (left_digit f c t h l)
-one_more f c t h (a_point each l e) = a_point (next h each) l (ap (c ∷◌) e)
+one_more f c t h (a_point ds l e) = a_point (next h ds) l (ap (c ∷◌) e)
 
 digits_left-from : (f : Form) (t : List ℕ) → Accepts tokens.number (digits f) t → LeftOfDigits f t
 digits_left-from f [] a = digits_alone end
@@ -394,21 +397,21 @@ point-from f (c ∷ t) a =
     record {
       mantissa = 46 ∷ c ∷ l.digits_left;
       tail = l.tail;
-      mantissa_is = fraction (next (kind_digit (base f) c h.0) l.each, filled c l.digits_left);
+      mantissa_is = fraction (all (next (kind_digit (base f) c h.0) l.digits_are), filled c l.digits_left);
       tail_is = l.tail_is;
       spelled = ap (λ x. 46 ∷ c ∷ x) l.spelled;
     }
 
 -- a first digit and what is left behind it
 of_digits : (f : Form) (c : ℕ) (t : List ℕ) → IsDigitOf (base f) c → LeftOfDigits f t → AreDigits (base f) (c ∷ t) ⊎ Pointed f (c ∷ t)
-of_digits f c t h (digits_alone each) = inl (next h each, filled c t)
+of_digits f c t h (digits_alone ds) = inl (all (next h ds), filled c t)
 of_digits f c t h (no_point l) =
-    inr (record { mantissa = c ∷ l.digits_left; tail = l.tail; mantissa_is = whole (next h l.each, filled c l.digits_left); tail_is = l.tail_is; spelled = ap (c ∷◌) l.spelled })
-of_digits f c t h (a_point {x = x} {y = y} each l e) =
+    inr (record { mantissa = c ∷ l.digits_left; tail = l.tail; mantissa_is = whole (all (next h l.digits_are), filled c l.digits_left); tail_is = l.tail_is; spelled = ap (c ∷◌) l.spelled })
+of_digits f c t h (a_point {x = x} {y = y} ds l e) =
     inr (record {
       mantissa = (c ∷ x) ++ (46 ∷ l.digits_left);
       tail = l.tail;
-      mantissa_is = pointed (next h each, filled c x) l.each;
+      mantissa_is = pointed l.digits_left (all (next h ds), filled c x) (all l.digits_are);
       tail_is = l.tail_is;
       spelled = ap (c ∷◌) (e ∙ (ap (λ u. x ++ (46 ∷ u)) l.spelled ∙ sym (append_assoc x (46 ∷ l.digits_left) l.tail)));
     })
@@ -628,7 +631,7 @@ zero_digit : (c : ℕ) → kind c ≡ Zero → is_digit Decimal (kind c) ≡ tru
 zero_digit c e = rw e
 
 of_zero : (c : ℕ) (t : List ℕ) → kind c ≡ Zero → Accepts tokens.number AfterZero t → Unsigned (c ∷ t)
-of_zero c [] k a = of_ten (c ∷ []) (inl (next (kind_digit Decimal c (zero_digit c k)) end, filled c []))
+of_zero c [] k a = of_ten (c ∷ []) (inl (all {P = IsDigitOf Decimal} (next (kind_digit Decimal c (zero_digit c k)) end), filled c []))
 of_zero c (d ∷ t) k a =
     ⊎_elim
     (λ to. of_ten (c ∷ d ∷ t) (of_digits Ten c (d ∷ t) (kind_digit Decimal c (zero_digit c k)) (digits_left-from Ten (d ∷ t) (a.0, to, a.2))))

@@ -4,10 +4,12 @@ use Rattle.std.specs.Prelude.{eqb}
 use mathlib.Core.Logic.{⊎_elim}
 use Rattle.std.proofs.lemmas.Bool.Decides.{nat_tests, Decides-or, Decides-eqb}
 use Rattle.std.proofs.lemmas.List.{append-nil}
-use Rattle.cbor_edn_parts.specs.space.Space.{IsBlank, InSlashes, InHash, Each, end, next, IsComment, slashes, hash, IsSpace, empty, blank, comment}
+use Rattle.std.proofs.lemmas.List.Elements.{All-nil}
+use Rattle.cbor_edn_parts.specs.space.Space.{IsBlank, InSlashes, InHash, IsComment, slashes, hash, IsSpace, empty, blank, comment}
 use Rattle.cbor_edn_parts.specs.space.Comments.{BeginsWithComment, EndsWithComment, IsCommentsOf, OneCommentsOf, CutAtComma}
 use Rattle.cbor_edn_parts.specs.internal.CommentReading.{is_blank, past, from_first, unless_last, to_last, comments_of, is_comma, up_to_comma, past_comma, before_comma, after_comma}
 use Rattle.cbor_edn_parts.specs.declared.space.SpaceState.TheVariants as within
+use Rattle.cbor_edn_parts.proofs.lemmas.base.Each.{Each, end, next, each, each_of, all}
 
 -- ---- bytes
 
@@ -64,8 +66,8 @@ to_last-in_hash y (next {c = c} h more) = rw (hash_past c h) (ap (c ∷◌) (to_
 
 to_last-comment : {c : List ℕ} (y : List ℕ) → IsComment c → to_last within.Between (c ++ y) ≡ c ++ to_last within.Between y
 unfolding to_last
-to_last-comment y (slashes h) = ap (47 ∷◌) (to_last-in_slashes y h)
-to_last-comment y (hash h) = ap (35 ∷◌) (to_last-in_hash y h)
+to_last-comment y (slashes x h) = ap (47 ∷◌) (to_last-in_slashes y (each_of x h))
+to_last-comment y (hash x h) = ap (35 ∷◌) (to_last-in_hash y (each_of x h))
 
 to_last-blanks : {x : List ℕ} → Each IsBlank x → to_last within.Between x ≡ []
 unfolding to_last
@@ -130,8 +132,8 @@ from_first-blank c x b = rw (blank_is c b)
 
 from_first-comment : {c : List ℕ} (x : List ℕ) → IsComment c → from_first (c ++ x) ≡ c ++ x
 unfolding from_first
-from_first-comment x (slashes h) = refl
-from_first-comment x (hash h) = refl
+from_first-comment x (slashes y h) = refl
+from_first-comment x (hash y h) = refl
 
 from_first-blanks : {u : List ℕ} (x : List ℕ) → Each IsBlank u → from_first (u ++ x) ≡ from_first x
 from_first-blanks x end = refl
@@ -154,8 +156,8 @@ begun (comment {b = c} {x = x} k s) = subst (Begun (c ++ x)) (sym (from_first-co
 -- ---- the comments
 
 some_comment : {c : List ℕ} (x : List ℕ) → IsComment c → c ++ x ≢ []
-some_comment x (slashes h) = λ e. cc
-some_comment x (hash h) = λ e. cc
+some_comment x (slashes y h) = λ e. cc
+some_comment x (hash y h) = λ e. cc
 
 with_comment : (x c s t : List ℕ) → IsComment c → IsSpace s → from_first x ≡ c ++ s → Begun x (from_first x) → IsCommentsOf x (c ++ to_last within.Between s)
 with_comment x c s t k is q b =
@@ -164,8 +166,8 @@ with_comment x c s t k is q b =
     record {
       front = b.front;
       back = e.back;
-      front_blank = b.blanks;
-      back_blank = e.blanks;
+      front_blank = all b.blanks;
+      back_blank = all e.blanks;
       trimmed = inr ((c, r, k, ended_space s r (ended is), refl), ⊎_elim (λ n. absurd (some_comment r k n)) (λ h. h) e.ends);
       whole = b.whole ∙ ap (b.front ++◌) (q ∙ e.whole);
     }
@@ -175,7 +177,7 @@ unfolding to_last
 comments_is {x} s =
     let b : Begun x (from_first x) = begun s in
     ⊎_elim
-    (λ q. subst (IsCommentsOf x) (sym (ap (to_last within.Between) q)) (record { front = b.front; back = []; front_blank = b.blanks; back_blank = end; trimmed = inl refl; whole = b.whole ∙ ap (b.front ++◌) q }))
+    (λ q. subst (IsCommentsOf x) (sym (ap (to_last within.Between) q)) (record { front = b.front; back = []; front_blank = all b.blanks; back_blank = All-nil IsBlank; trimmed = inl refl; whole = b.whole ∙ ap (b.front ++◌) q }))
     (λ (c, r, k, is, q). subst (IsCommentsOf x) (sym (ap (to_last within.Between) q ∙ to_last-comment r k)) (with_comment x c r r k is q b))
     b.begins
 
@@ -192,11 +194,11 @@ to_ends t back (s, d, is, k, q) blanks =
 pub comments_only : (x t : List ℕ) → IsCommentsOf x t → comments_of x ≡ t
 unfolding from_first to_last
 comments_only x t h =
-    let e : from_first x ≡ from_first (t ++ h.back) = ap from_first h.whole ∙ from_first-blanks (t ++ h.back) h.front_blank in
+    let e : from_first x ≡ from_first (t ++ h.back) = ap from_first h.whole ∙ from_first-blanks (t ++ h.back) (each h.front_blank) in
     ap (to_last within.Between) e
     ∙ ⊎_elim
-    (λ q. ap (λ t. to_last within.Between (from_first (t ++ h.back))) q ∙ (ap (λ x. to_last within.Between (from_first x)) (sym (append-nil h.back)) ∙ (ap (to_last within.Between) (from_first-blanks [] h.back_blank) ∙ sym q)))
-    (λ (b, k). ap (to_last within.Between) (from_begins t h.back b) ∙ to_ends t h.back k h.back_blank)
+    (λ q. ap (λ t. to_last within.Between (from_first (t ++ h.back))) q ∙ (ap (λ x. to_last within.Between (from_first x)) (sym (append-nil h.back)) ∙ (ap (to_last within.Between) (from_first-blanks [] (each h.back_blank)) ∙ sym q)))
+    (λ (b, k). ap (to_last within.Between) (from_begins t h.back b) ∙ to_ends t h.back k (each h.back_blank))
     h.trimmed
 
 pub one_comments_of : (x : List ℕ) → OneCommentsOf x
@@ -218,8 +220,8 @@ in_front-space : {x : List ℕ} (y : List ℕ) → IsSpace x → up_to_comma wit
 unfolding up_to_comma
 in_front-space y empty = refl
 in_front-space y (blank {c = c} {x = x} b s) = rw (blank_comma c (blank_is c b), blank_past c b) (ap (c ∷◌) (in_front-space y s))
-in_front-space y (comment {x = x} (slashes {x = c} h) s) = ap (λ t. 47 ∷ up_to_comma within.InSlashes t) (append_assoc (c ++ (47 ∷ [])) x y) ∙ (ap (47 ∷◌) (in_front-in_slashes (x ++ y) h) ∙ (ap (λ t. 47 ∷ ((c ++ (47 ∷ [])) ++ t)) (in_front-space y s) ∙ ap (47 ∷◌) (sym (append_assoc (c ++ (47 ∷ [])) x _))))
-in_front-space y (comment {x = x} (hash {x = c} h) s) = ap (λ t. 35 ∷ up_to_comma within.InHash t) (append_assoc (c ++ (10 ∷ [])) x y) ∙ (ap (35 ∷◌) (in_front-in_hash (x ++ y) h) ∙ (ap (λ t. 35 ∷ ((c ++ (10 ∷ [])) ++ t)) (in_front-space y s) ∙ ap (35 ∷◌) (sym (append_assoc (c ++ (10 ∷ [])) x _))))
+in_front-space y (comment {x = x} (slashes c h) s) = ap (λ t. 47 ∷ up_to_comma within.InSlashes t) (append_assoc (c ++ (47 ∷ [])) x y) ∙ (ap (47 ∷◌) (in_front-in_slashes (x ++ y) (each_of c h)) ∙ (ap (λ t. 47 ∷ ((c ++ (47 ∷ [])) ++ t)) (in_front-space y s) ∙ ap (47 ∷◌) (sym (append_assoc (c ++ (47 ∷ [])) x _))))
+in_front-space y (comment {x = x} (hash c h) s) = ap (λ t. 35 ∷ up_to_comma within.InHash t) (append_assoc (c ++ (10 ∷ [])) x y) ∙ (ap (35 ∷◌) (in_front-in_hash (x ++ y) (each_of c h)) ∙ (ap (λ t. 35 ∷ ((c ++ (10 ∷ [])) ++ t)) (in_front-space y s) ∙ ap (35 ∷◌) (sym (append_assoc (c ++ (10 ∷ [])) x _))))
 
 behind-in_slashes : {x : List ℕ} (y : List ℕ) → Each InSlashes x → past_comma within.InSlashes ((x ++ (47 ∷ [])) ++ y) ≡ past_comma within.Between y
 unfolding past_comma
@@ -235,8 +237,8 @@ behind-space : {x : List ℕ} (y : List ℕ) → IsSpace x → past_comma within
 unfolding past_comma
 behind-space y empty = refl
 behind-space y (blank {c = c} {x = x} b s) = rw (blank_comma c (blank_is c b), blank_past c b) (behind-space y s)
-behind-space y (comment {x = x} (slashes {x = c} h) s) = ap (past_comma within.InSlashes) (append_assoc (c ++ (47 ∷ [])) x y) ∙ (behind-in_slashes (x ++ y) h ∙ behind-space y s)
-behind-space y (comment {x = x} (hash {x = c} h) s) = ap (past_comma within.InHash) (append_assoc (c ++ (10 ∷ [])) x y) ∙ (behind-in_hash (x ++ y) h ∙ behind-space y s)
+behind-space y (comment {x = x} (slashes c h) s) = ap (past_comma within.InSlashes) (append_assoc (c ++ (47 ∷ [])) x y) ∙ (behind-in_slashes (x ++ y) (each_of c h) ∙ behind-space y s)
+behind-space y (comment {x = x} (hash c h) s) = ap (past_comma within.InHash) (append_assoc (c ++ (10 ∷ [])) x y) ∙ (behind-in_hash (x ++ y) (each_of c h) ∙ behind-space y s)
 
 pub cut_at_comma : (x y : List ℕ) → CutAtComma x y
 unfolding up_to_comma past_comma

@@ -5,10 +5,11 @@ use mathlib.Core.Logic.{⊎_elim}
 use Rattle.std.proofs.lemmas.Bool.{cond_both, cases_eq}
 use Rattle.std.proofs.lemmas.Bool.Decides.{nat_tests}
 use Rattle.std.proofs.lemmas.List.Elements.{All-head, All-tail}
-use Rattle.cbor_edn_parts.specs.space.Space.{IsBlank, IsPrintable, InSlashes, InHash, Each, end, next, slashes, hash, IsSpace, empty, comment, IsMandatorySpace, IsListEnd, IsSeparator, space, comma, comma_first, space_alone, space_comma}
+use Rattle.cbor_edn_parts.specs.space.Space.{IsBlank, IsPrintable, InSlashes, InHash, slashes, hash, IsSpace, empty, comment, IsMandatorySpace, IsListEnd, IsSeparator, space, comma, comma_first, space_alone, space_comma}
 use Rattle.cbor_edn_parts.specs.space.Notes.{cleaned, has_slash, hash_lines, noted}
 use Rattle.cbor_edn_parts.specs.space.Spacing.{Optional, Mandatory, Separating, AtEnd}
 use Rattle.cbor_edn_parts.specs.space.SpacingLaws.{NotesAreSpace, NotesInFront}
+use Rattle.cbor_edn_parts.proofs.lemmas.base.Each.{Each, end, next, all}
 use Rattle.cbor_edn_parts.proofs.lemmas.space.SpaceTexts.{optional_texts, mandatory_texts, at_end_texts, separating_texts}
 use Rattle.cbor_edn_parts.proofs.lemmas.space.CommentTexts.{spaces_append, comment_space}
 
@@ -66,7 +67,7 @@ slash_free (b ∷ c) small none =
 between_slashes : (c : List ℕ) → All (λ b. b < 256) c → has_slash c ≡ false → IsSpace (47 ∷ 32 ∷ (map cleaned c ++ (32 ∷ 47 ∷ [])))
 between_slashes c small none =
     subst (λ t. IsSpace (47 ∷ 32 ∷ t)) (append_assoc (map cleaned c) (32 ∷ []) (47 ∷ []))
-    (comment_space (slashes (next (λ q. omega arith, inl (inr (inr (inr refl)))) (slash_free c small none))))
+    (comment_space (slashes (32 ∷ (map cleaned c ++ (32 ∷ []))) (all (next (λ q. omega arith, inl (inr (inr (inr refl)))) (slash_free c small none)))))
 
 -- ---- behind hashes
 
@@ -85,7 +86,7 @@ record Lines (t : List ℕ) : Type 0 where
 -- behind `# ` they are space
 lines_space : (t : List ℕ) → Lines t → IsSpace (35 ∷ 32 ∷ t)
 lines_space t l =
-    subst IsSpace (ap (λ t. 35 ∷ 32 ∷ t) (append_assoc l.front (10 ∷ []) l.back ∙ sym l.whole)) (comment (hash (next (inr (inr (omega arith, omega arith))) l.within)) l.space)
+    subst IsSpace (ap (λ t. 35 ∷ 32 ∷ t) (append_assoc l.front (10 ∷ []) l.back ∙ sym l.whole)) (comment (hash (32 ∷ l.front) (all (next {c = 32} (inr (inr (omega arith, omega arith))) l.within))) l.space)
 
 lines : (c : List ℕ) → Each InNote c → Lines (hash_lines c ++ (10 ∷ []))
 unfolding hash_lines

@@ -9,13 +9,14 @@ use Rattle.cbor_edn_parts.specs.base.Bytes.{Kind, Control, Comma, kind}
 use Rattle.cbor_edn_parts.specs.internal.CommentReading.{is_blank}
 use Rattle.cbor_edn_parts.specs.internal.Lex.{Accepts, Is}
 use Rattle.cbor_edn_parts.specs.space.Space as set
-use Rattle.cbor_edn_parts.specs.space.Space.{IsBlank, IsPrintable, Each, end, next, slashes, hash, IsSpace, empty, blank, comment, IsMandatorySpace, IsListEnd, IsSeparator, space, comma, comma_first, space_alone, space_comma}
+use Rattle.cbor_edn_parts.specs.space.Space.{IsBlank, IsPrintable, slashes, hash, IsSpace, empty, blank, comment, IsMandatorySpace, IsListEnd, IsSeparator, space, comma, comma_first, space_alone, space_comma}
 use Rattle.cbor_edn_parts.specs.internal.SpaceTokens as tokens
 use Rattle.cbor_edn_parts.specs.internal.SpaceTokens.{space_step, separator_step, before, after, is_empty, is_space, is_mandatory_space, is_list_end, is_separator}
 use Rattle.cbor_edn_parts.specs.declared.space.SpaceState.{SpaceState}
 use Rattle.cbor_edn_parts.specs.declared.space.SpaceState.TheVariants.{Between, InSlashes, InHash}
 use Rattle.cbor_edn_parts.specs.internal.SpaceTokens.{SeparatorState}
 use Rattle.cbor_edn_parts.specs.internal.SpaceTokens.{Before, After}
+use Rattle.cbor_edn_parts.proofs.lemmas.base.Each.{Each, end, next, each_of, all}
 use Rattle.cbor_edn_parts.proofs.lemmas.base.ByteKinds.{at_each, kind-comma}
 use Rattle.cbor_edn_parts.proofs.lemmas.base.Tokens.{token_texts}
 
@@ -150,8 +151,8 @@ in_hash t (next {c = c} h more) a = (InHash, step-to InHash InHash c h, in_hash 
 pub s-is : {t : List ℕ} → IsSpace t → Is tokens.space t
 s-is empty = refl
 s-is (blank {c = c} b s) = (Between, step-to Between Between c b, s-is s)
-s-is (comment {x = x} (slashes e) s) = (InSlashes, step-to Between InSlashes 47 refl, in_slashes x e (s-is s))
-s-is (comment {x = x} (hash e) s) = (InHash, step-to Between InHash 35 refl, in_hash x e (s-is s))
+s-is (comment {x = x} (slashes c e) s) = (InSlashes, step-to Between InSlashes 47 refl, in_slashes x (each_of c e) (s-is s))
+s-is (comment {x = x} (hash c e) s) = (InHash, step-to Between InHash 35 refl, in_hash x (each_of c e) (s-is s))
 
 -- What is left of a text in a state.
 abbrev Left : SpaceState → List ℕ → Type 0
@@ -161,8 +162,8 @@ Left InHash t = (x : List ℕ) × (y : List ℕ) × Each set.InHash x × IsSpace
 
 left : (m n : SpaceState) (c : ℕ) (t : List ℕ) → Moves m n c → Left n t → Left m (c ∷ t)
 left Between Between c t b s = blank b s
-left Between InSlashes c t e (x, y, h, s, q) = subst IsSpace (cc (e, q)) (comment (slashes h) s)
-left Between InHash c t e (x, y, h, s, q) = subst IsSpace (cc (e, q)) (comment (hash h) s)
+left Between InSlashes c t e (x, y, h, s, q) = subst IsSpace (cc (e, q)) (comment (slashes x (all h)) s)
+left Between InHash c t e (x, y, h, s, q) = subst IsSpace (cc (e, q)) (comment (hash x (all h)) s)
 left InSlashes InSlashes c t b (x, y, h, s, q) = (c ∷ x, y, next b h, s, ap (c ∷◌) q)
 left InSlashes Between c t e s = ([], t, end, s, ap (◌∷ t) e)
 left InSlashes InHash c t e l = absurd e

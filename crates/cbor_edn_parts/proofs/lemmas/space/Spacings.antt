@@ -3,11 +3,12 @@ use Rattle.std.proofs.Common.{ℕ, zero, suc, ◌≡◌, ◌≢◌, inl, inr, Li
 use mathlib.Core.Logic.{⊎_elim}
 use Rattle.std.proofs.Math.ListN.{replicate}
 use Rattle.std.proofs.lemmas.List.{append-nil}
-use Rattle.cbor_edn_parts.specs.space.Space.{IsBlank, Each, end, next, IsSpace, empty, comment, IsMandatorySpace, IsListEnd, IsSeparator, space, comma, comma_first, space_alone, space_comma}
+use Rattle.cbor_edn_parts.specs.space.Space.{IsBlank, IsSpace, empty, comment, IsMandatorySpace, IsListEnd, IsSeparator, space, comma, comma_first, space_alone, space_comma}
 use Rattle.cbor_edn_parts.specs.space.Comments.{BeginsWithComment, EndsWithComment, IsTrimmed, CutAtComma}
 use Rattle.cbor_edn_parts.specs.internal.CommentReading.{from_first, to_last, comments_of, before_comma, after_comma}
 use Rattle.cbor_edn_parts.specs.space.Spacing.{SpaceKind, Optional, Mandatory, Separating, AtEnd, Spacing, Least, Comments, OneLine, NewLine, OneSpace, line, or_space, comments_before, comments_after, spaced}
 use Rattle.cbor_edn_parts.specs.space.SpacingLaws.{KeepsComments, StaysOfKind, ForgetsColumn}
+use Rattle.cbor_edn_parts.proofs.lemmas.base.Each.{Each, end, next, all}
 use Rattle.cbor_edn_parts.proofs.lemmas.space.SpaceTexts.{optional_texts, mandatory_texts, at_end_texts, separating_texts}
 use Rattle.cbor_edn_parts.proofs.lemmas.space.CommentTexts.{spaces_append, blanks_space, comments_is, comments_only, cut_at_comma}
 
@@ -39,7 +40,7 @@ comments_space x s = trimmed_space (comments_trimmed x s)
 
 -- behind blanks they are themselves
 comments_behind : (u t : List ℕ) → Each IsBlank u → IsTrimmed t → comments_of (u ++ t) ≡ t
-comments_behind u t blanks h = comments_only (u ++ t) t (record { front = u; back = []; front_blank = blanks; back_blank = end; trimmed = h; whole = ap (u ++◌) (sym (append-nil t)) })
+comments_behind u t blanks h = comments_only (u ++ t) t (record { front = u; back = []; front_blank = all blanks; back_blank = all end; trimmed = h; whole = ap (u ++◌) (sym (append-nil t)) })
 
 -- ---- what the columns put in front
 

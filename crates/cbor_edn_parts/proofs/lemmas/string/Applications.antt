@@ -13,10 +13,10 @@ use Rattle.cbor_edn_parts.specs.internal.ContentReading.{behind_quote}
 use Rattle.cbor_edn_parts.specs.internal.LiteralTokens.{is_literal, prefix_of, decoded}
 use Rattle.cbor_edn_parts.specs.declared.string.QuotedState.TheVariants.{Between}
 use Rattle.cbor_edn_parts.specs.declared.string.Quote.TheVariants.{Single}
+use Rattle.cbor_edn_parts.proofs.lemmas.base.Each.{Each, end, next, each}
 use Rattle.cbor_edn_parts.proofs.lemmas.string.LiteralContents.{decoded_is, prefix_named, prefix_plain}
 use Rattle.cbor_edn_parts.proofs.lemmas.string.LiteralTexts.{literal_test}
 use Rattle.cbor_edn_parts.specs.number.Number.{Hexadecimal, IsDigitOf}
-use Rattle.cbor_edn_parts.specs.space.Space.{Each, end, next}
 
 abbrev IsSmall : ℕ → Type 0
 IsSmall c = c < 128
@@ -98,13 +98,13 @@ module _ (q : ℕ) (small : q < 128) where
       let both = letter_small c b is in
       escape_utf8 p (92 ∷ c ∷ []) (b ∷ []) y v (92, c ∷ [], refl, omega arith, next both.0 end, one_utf8 b both.1) utf8 (decoded_utf8 [] d)
   decoded_utf8 p (part {y = y} {c = v} (unit {ds = ds} digits scalar) d) utf8 =
-      escape_utf8 p (92 ∷ 117 ∷ ds) (encode_utf8 (hex_number ds)) y v (92, 117 ∷ ds, refl, omega arith, next (omega arith) (digits_small digits.0.0), IsUtf8-encode (hex_number ds) scalar) utf8 (decoded_utf8 [] d)
+      escape_utf8 p (92 ∷ 117 ∷ ds) (encode_utf8 (hex_number ds)) y v (92, 117 ∷ ds, refl, omega arith, next (omega arith) (digits_small (each digits.0.0)), IsUtf8-encode (hex_number ds) scalar) utf8 (decoded_utf8 [] d)
   decoded_utf8 p (part {y = y} {c = v} (pair {hs = hs} {ls = ls} highs high lows low) d) utf8 =
       escape_utf8 p (92 ∷ 117 ∷ (hs ++ (92 ∷ 117 ∷ ls))) (encode_utf8 (surrogate_pair_char (hex_number hs) (hex_number ls))) y v
-      (92, 117 ∷ (hs ++ (92 ∷ 117 ∷ ls)), refl, omega arith, next (omega arith) (each_append (digits_small highs.0.0) (next (omega arith) (next (omega arith) (digits_small lows.0.0)))), IsUtf8-encode _ (pair_scalar (hex_number hs) (hex_number ls) high low)) utf8 (decoded_utf8 [] d)
+      (92, 117 ∷ (hs ++ (92 ∷ 117 ∷ ls)), refl, omega arith, next (omega arith) (each_append (digits_small (each highs.0.0)) (next (omega arith) (next (omega arith) (digits_small (each lows.0.0))))), IsUtf8-encode _ (pair_scalar (hex_number hs) (hex_number ls) high low)) utf8 (decoded_utf8 [] d)
   decoded_utf8 p (part {y = y} {c = v} (braced {ds = ds} digits scalar) d) utf8 =
       escape_utf8 p (92 ∷ 117 ∷ 123 ∷ (ds ++ (125 ∷ []))) (encode_utf8 (hex_number ds)) y v
-      (92, 117 ∷ 123 ∷ (ds ++ (125 ∷ [])), refl, omega arith, next (omega arith) (next (omega arith) (each_append (digits_small digits.0) (next (omega arith) end))), IsUtf8-encode (hex_number ds) scalar) utf8 (decoded_utf8 [] d)
+      (92, 117 ∷ 123 ∷ (ds ++ (125 ∷ [])), refl, omega arith, next (omega arith) (next (omega arith) (each_append (digits_small (each digits.0)) (next (omega arith) end))), IsUtf8-encode (hex_number ds) scalar) utf8 (decoded_utf8 [] d)
 
 pub text_utf8 : (p v t : List ℕ) → IsLiteral (Prefixed p) v t → IsUtf8 t → IsUtf8 v
 text_utf8 p v t (x, is, d, e) utf8 =

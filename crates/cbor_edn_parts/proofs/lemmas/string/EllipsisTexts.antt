@@ -3,12 +3,12 @@ use Rattle.std.proofs.Common.{ℕ, suc, ◌≡◌, ◌≤◌, List, [], ◌∷�
 use Rattle.std.specs.Prelude.{◌==◌, ◌↔◌}
 use Rattle.std.proofs.lemmas.Bool.{cond-true, eq-eqb, eqb-true, false≢true}
 use Rattle.cbor_edn_parts.specs.internal.Lex.{Accepts, Is}
-use Rattle.cbor_edn_parts.specs.space.Space.{Each, end, next}
 use Rattle.cbor_edn_parts.specs.string.Literal.{IsEllipsis}
 use Rattle.cbor_edn_parts.specs.internal.LiteralTokens as tokens
 use Rattle.cbor_edn_parts.specs.internal.LiteralTokens.{next_dot, is_ellipsis}
 use Rattle.cbor_edn_parts.specs.declared.string.EllipsisState.{EllipsisState}
 use Rattle.cbor_edn_parts.specs.declared.string.EllipsisState.TheVariants.{None as NoDot, One, Two, Enough}
+use Rattle.cbor_edn_parts.proofs.lemmas.base.Each.{Each, end, next, each, all}
 use Rattle.cbor_edn_parts.proofs.lemmas.string.OptionTests.{some_if}
 use Rattle.cbor_edn_parts.proofs.lemmas.base.Tokens.{token_texts}
 
@@ -49,7 +49,7 @@ ellipsis-from m (c ∷ t) a =
     (next (eqb-true c 46 h.0) rest.0, one_more m (length t) rest.1)
 
 pub ellipsis_automaton : (t : List ℕ) → IsEllipsis t ↔ Is tokens.ellipsis t
-ellipsis_automaton t = (λ h. ellipsis-is NoDot h.0 h.1, ellipsis-from NoDot t)
+ellipsis_automaton t = (λ h. ellipsis-is NoDot (each h.0) h.1, λ a. let h = ellipsis-from NoDot t a in (all h.0, h.1))
 
 pub ellipsis_test : (t : List ℕ) → IsEllipsis t ↔ (is_ellipsis t ≡ true)
 ellipsis_test t = (λ h. (token_texts tokens.ellipsis t).0 ((ellipsis_automaton t).0 h), λ e. (ellipsis_automaton t).1 ((token_texts tokens.ellipsis t).1 e))

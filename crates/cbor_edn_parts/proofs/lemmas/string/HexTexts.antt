@@ -6,13 +6,14 @@ use Rattle.std.proofs.lemmas.Bool.{lt-ltb}
 use Rattle.cbor_edn_parts.specs.base.Bytes.{kind}
 use Rattle.cbor_edn_parts.specs.number.Number.{Hexadecimal, IsDigitOf}
 use Rattle.cbor_edn_parts.specs.space.Space as set
-use Rattle.cbor_edn_parts.specs.space.Space.{IsBlank, Each, end, next, slashes, hash, IsSpace, empty, blank, comment}
+use Rattle.cbor_edn_parts.specs.space.Space.{IsBlank, slashes, hash, IsSpace, empty, blank, comment}
 use Rattle.cbor_edn_parts.specs.internal.SpaceTokens.{space_step}
 use Rattle.cbor_edn_parts.specs.string.Contents.{IsHexPairs, unended, pair, IsHex}
 use Rattle.cbor_edn_parts.specs.internal.ContentReading.{hex_bytes, hex_digit_at, if_scanned}
 use Rattle.cbor_edn_parts.specs.string.Contents as contents
 use Rattle.cbor_edn_parts.specs.declared.space.SpaceState.{SpaceState}
 use Rattle.cbor_edn_parts.specs.declared.space.SpaceState.TheVariants.{Between, InSlashes, InHash}
+use Rattle.cbor_edn_parts.proofs.lemmas.base.Each.{Each, end, next, each_of, all}
 use Rattle.cbor_edn_parts.proofs.lemmas.space.SpaceTexts.{Moves, step-to, step-from}
 use Rattle.cbor_edn_parts.proofs.lemmas.string.Bases.{mapped}
 use Rattle.cbor_edn_parts.proofs.lemmas.string.Hexadecimals.{digit_is, hex_first, hex_second, hex_space, hex_on}
@@ -43,10 +44,10 @@ over_hash h t (next {c} {x} is more) = stepped InHash InHash h c ((x ++ (10 ∷ 
 over_space : {s : List ℕ} (h : Option ℕ) (t : List ℕ) → IsSpace s → hex_bytes Between h (s ++ t) ≡ hex_bytes Between h t
 over_space h t empty = refl
 over_space h t (blank {c} {x} is s) = stepped Between Between h c (x ++ t) (no_digit c is) is ∙ over_space h t s
-over_space h t (comment {x = x} (slashes {x = y} e) s) =
-    ap (λ z. hex_bytes Between h (47 ∷ z)) (append_assoc (y ++ (47 ∷ [])) x t) ∙ stepped Between InSlashes h 47 ((y ++ (47 ∷ [])) ++ (x ++ t)) refl refl ∙ over_slashes h (x ++ t) e ∙ over_space h t s
-over_space h t (comment {x = x} (hash {x = y} e) s) =
-    ap (λ z. hex_bytes Between h (35 ∷ z)) (append_assoc (y ++ (10 ∷ [])) x t) ∙ stepped Between InHash h 35 ((y ++ (10 ∷ [])) ++ (x ++ t)) refl refl ∙ over_hash h (x ++ t) e ∙ over_space h t s
+over_space h t (comment {x = x} (slashes y e) s) =
+    ap (λ z. hex_bytes Between h (47 ∷ z)) (append_assoc (y ++ (47 ∷ [])) x t) ∙ stepped Between InSlashes h 47 ((y ++ (47 ∷ [])) ++ (x ++ t)) refl refl ∙ over_slashes h (x ++ t) (each_of y e) ∙ over_space h t s
+over_space h t (comment {x = x} (hash y e) s) =
+    ap (λ z. hex_bytes Between h (35 ∷ z)) (append_assoc (y ++ (10 ∷ [])) x t) ∙ stepped Between InHash h 35 ((y ++ (10 ∷ [])) ++ (x ++ t)) refl refl ∙ over_hash h (x ++ t) (each_of y e) ∙ over_space h t s
 
 -- a comment that ends with the text
 over_unended : {x : List ℕ} → Each set.InHash x → hex_bytes InHash None x ≡ Some []
@@ -57,7 +58,7 @@ over_unended (next {c} {x} is more) = stepped InHash InHash None c x refl is ∙
 over_pairs : {x bs : List ℕ} → IsHexPairs x bs → hex_bytes Between None x ≡ Some bs
 unfolding hex_bytes
 over_pairs contents.end = refl
-over_pairs (unended {x} e) = stepped Between InHash None 35 x refl refl ∙ over_unended e
+over_pairs (unended {x} e) = stepped Between InHash None 35 x refl refl ∙ over_unended (each_of x e)
 over_pairs (pair a b {s} {t} {x} {bs} first is second is' more) =
     hex_first a (s ++ (b ∷ (t ++ x))) Between (digit_value a) (digit_found a first) ∙ over_space (Some (digit_value a)) (b ∷ (t ++ x)) is
     ∙ hex_second b (t ++ x) Between (digit_value a) (digit_value b) (digit_found b second)
@@ -84,18 +85,18 @@ spaced (Some d) x t bs front (s, b, u, cs, is, digit, more, e, q) = (x ++ s, b, 
 
 moved : (m n : SpaceState) (h : Option ℕ) (c : ℕ) (t bs : List ℕ) → Moves m n c → Rest n h t bs → Rest m h (c ∷ t) bs
 moved Between Between h c t bs is w = spaced h (c ∷ []) t bs (λ s optional_is. blank is optional_is) w
-moved Between InSlashes h c t bs e (x, y, each, w, q) =
-    let all : (47 ∷ (x ++ (47 ∷ []))) ++ y ≡ c ∷ t = cc (e, q) in
-    subst (λ z. Waits h z bs) all (spaced h (47 ∷ (x ++ (47 ∷ []))) y bs (λ s optional_is. comment (slashes each) optional_is) w)
-moved Between InHash h c t bs e (inl (x, y, each, w, q)) =
-    let all : (35 ∷ (x ++ (10 ∷ []))) ++ y ≡ c ∷ t = cc (e, q) in
-    subst (λ z. Waits h z bs) all (spaced h (35 ∷ (x ++ (10 ∷ []))) y bs (λ s optional_is. comment (hash each) optional_is) w)
-moved Between InHash h c t bs e (inr (none, each, q)) = rw (none, e, ← q) ([], 35 ∷ t, empty, unended each, refl)
-moved InSlashes InSlashes h c t bs is (x, y, each, w, q) = (c ∷ x, y, next is each, w, ap (c ∷◌) q)
+moved Between InSlashes h c t bs e (x, y, within, w, q) =
+    let whole : (47 ∷ (x ++ (47 ∷ []))) ++ y ≡ c ∷ t = cc (e, q) in
+    subst (λ z. Waits h z bs) whole (spaced h (47 ∷ (x ++ (47 ∷ []))) y bs (λ s optional_is. comment (slashes x (all within)) optional_is) w)
+moved Between InHash h c t bs e (inl (x, y, within, w, q)) =
+    let whole : (35 ∷ (x ++ (10 ∷ []))) ++ y ≡ c ∷ t = cc (e, q) in
+    subst (λ z. Waits h z bs) whole (spaced h (35 ∷ (x ++ (10 ∷ []))) y bs (λ s optional_is. comment (hash x (all within)) optional_is) w)
+moved Between InHash h c t bs e (inr (none, within, q)) = rw (none, e, ← q) ([], 35 ∷ t, empty, unended (all within), refl)
+moved InSlashes InSlashes h c t bs is (x, y, within, w, q) = (c ∷ x, y, next is within, w, ap (c ∷◌) q)
 moved InSlashes Between h c t bs e w = ([], t, end, w, ap (◌∷ t) e)
 moved InSlashes InHash h c t bs e w = absurd e
-moved InHash InHash h c t bs is (inl (x, y, each, w, q)) = inl (c ∷ x, y, next is each, w, ap (c ∷◌) q)
-moved InHash InHash h c t bs is (inr (none, each, q)) = inr (none, next is each, q)
+moved InHash InHash h c t bs is (inl (x, y, within, w, q)) = inl (c ∷ x, y, next is within, w, ap (c ∷◌) q)
+moved InHash InHash h c t bs is (inr (none, within, q)) = inr (none, next is within, q)
 moved InHash Between h c t bs e w = inl ([], t, end, w, ap (◌∷ t) e)
 moved InHash InSlashes h c t bs e w = absurd e
 

@@ -6,7 +6,6 @@ use Rattle.std.proofs.lemmas.List.{append-nil}
 use mathlib.Core.Logic.{⊎_elim}
 use Rattle.cbor_edn_parts.specs.string.Contents.{Content}
 use Rattle.cbor_edn_parts.specs.internal.ContentReading.{of_bytes, prefixed_bytes, literal_content}
-use Rattle.cbor_edn_parts.specs.space.Space.{Each, end, next}
 use Rattle.cbor_edn_parts.specs.string.Literal as literals
 use Rattle.cbor_edn_parts.specs.string.Literal.{IsLower, IsUpper, IsDigit, IsPrefix, small, large, Decoded, Quoting, Prefixed, IsLiteral}
 use Rattle.cbor_edn_parts.specs.internal.LiteralTokens.{quote_byte, decoded, prefix_of, quoted_of}
@@ -14,6 +13,7 @@ use Rattle.cbor_edn_parts.specs.declared.string.Quote.{Quote}
 use Rattle.cbor_edn_parts.specs.declared.string.Quote.TheVariants.{Single, Double}
 use Rattle.cbor_edn_parts.specs.declared.string.QuotedState.TheVariants.{Between}
 use Rattle.cbor_edn_parts.specs.declared.string.StringKind.TheVariants.{Bytes, Text}
+use Rattle.cbor_edn_parts.proofs.lemmas.base.Each.{Each, end, next, each}
 use Rattle.cbor_edn_parts.proofs.lemmas.string.LiteralRuns.{runs_decoded, decoded_runs}
 
 -- up to the quote that ends the text
@@ -44,8 +44,8 @@ each_plain to end = end
 each_plain to (next {c = c} h more) = next (to c h) (each_plain to more)
 
 pub prefix_plain : {p : List ℕ} → IsPrefix p → Each IsPlain p
-prefix_plain (small {c = c} h each) = next (plain_lower c h) (each_plain (λ d. ⊎_elim (plain_lower d) (plain_digit d)) each)
-prefix_plain (large {c = c} h each) = next (plain_upper c h) (each_plain (λ d. ⊎_elim (plain_upper d) (plain_digit d)) each)
+prefix_plain (small {c = c} h more) = next (plain_lower c h) (each_plain (λ d. ⊎_elim (plain_lower d) (plain_digit d)) (each more))
+prefix_plain (large {c = c} h more) = next (plain_upper c h) (each_plain (λ d. ⊎_elim (plain_upper d) (plain_digit d)) (each more))
 
 pub prefix_named : {p : List ℕ} (u : List ℕ) → Each IsPlain p → prefix_of (p ++ (39 ∷ u)) ≡ p
 unfolding prefix_of

@@ -9,7 +9,7 @@ use Rattle.std.proofs.lemmas.Bool.{cond-true, cond-false, ne_eqb, lt-ltb, le-ltb
 use Rattle.std.proofs.lemmas.List.{append-nil}
 use mathlib.Core.Logic.{⊎_elim}
 use Rattle.cbor_edn_parts.specs.internal.Lex.{Accepts}
-use Rattle.cbor_edn_parts.specs.space.Space.{Each, end, next, IsPrintable}
+use Rattle.cbor_edn_parts.specs.space.Space.{IsPrintable}
 use Rattle.cbor_edn_parts.specs.number.Number.{Hexadecimal, IsDigitOf}
 use Rattle.cbor_edn_parts.specs.string.Literal.{letter_escape, hex_number, IsUnit, IsPart, raw, line_feed, carriage_return, quote, letter, unit, pair, braced, Decoded, nothing, part}
 use Rattle.cbor_edn_parts.specs.internal.LiteralTokens as tokens
@@ -19,6 +19,7 @@ use Rattle.cbor_edn_parts.specs.declared.string.Quote.TheVariants.{Single, Doubl
 use Rattle.cbor_edn_parts.specs.declared.string.QuotedState.{QuotedState}
 use Rattle.cbor_edn_parts.specs.declared.string.QuotedState.TheVariants.{Between, Unit as Digits, High, LowUnit, Brace, Braced}
 use Rattle.cbor_edn_parts.specs.declared.string.LiteralState.TheVariants.{Inside}
+use Rattle.cbor_edn_parts.proofs.lemmas.base.Each.{Each, end, next, each}
 use Rattle.cbor_edn_parts.proofs.lemmas.string.LiteralSteps.{scalar_is}
 use Rattle.cbor_edn_parts.proofs.lemmas.number.NumberParts.{number_is}
 
@@ -161,8 +162,8 @@ pair_run q {hs = hs} {ls = ls} u high v low =
     let second : pair_end h l ≡ Some (Between, encode_utf8 (surrogate_pair_char h l)) =
     cond-true (is_high_surrogate h && is_low_surrogate l) _ _ (and_from (is_high_surrogate h) _ high low) ∙ whole_to (surrogate_pair_char h l) (pair_scalar h l high low) in
     behind_u q (runs_append q
-    (take_unit q Digits unit_end (unit_takes q) u.0.0 u.1 first)
-    (go refl refl (go refl refl (take_unit q (LowUnit h) (pair_end h) (low_takes q h) v.0.0 v.1 second))))
+    (take_unit q Digits unit_end (unit_takes q) (each u.0.0) u.1 first)
+    (go refl refl (go refl refl (take_unit q (LowUnit h) (pair_end h) (low_takes q h) (each v.0.0) v.1 second))))
 
 part_runs : (q : Quote) {x b : List ℕ} → IsPart (quote_byte q) x b → Runs q Between x b Between
 part_runs q (raw {c = c} h other ne) = last q (ne_eqb c (quote_byte q) other) (raw_to c h ne)
@@ -172,9 +173,9 @@ part_runs q quote = go (not_quote q 92 (λ e. absurd (omega arith)) (λ e. absur
 part_runs q (letter {c = c} {d = d} e) = go (not_quote q 92 (λ e. absurd (omega arith)) (λ e. absurd (omega arith))) refl (last q refl (letter_to q c d e))
 part_runs q (unit {ds = ds} u s) =
     let n = hex_number ds in
-    behind_u q (take_unit q Digits unit_end (unit_takes q) u.0.0 u.1 (cond-false (is_high_surrogate n) _ _ (not_high n s) ∙ whole_to n s))
+    behind_u q (take_unit q Digits unit_end (unit_takes q) (each u.0.0) u.1 (cond-false (is_high_surrogate n) _ _ (not_high n s) ∙ whole_to n s))
 part_runs q (pair u high v low) = pair_run q u high v low
-part_runs q (braced d s) = behind_u q (go refl refl (brace_run q d.0 d.1 s))
+part_runs q (braced d s) = behind_u q (go refl refl (brace_run q (each d.0) d.1 s))
 
 pub decoded_runs : (q : Quote) {x b : List ℕ} → Decoded (quote_byte q) x b → Runs q Between x b Between
 decoded_runs q nothing = stop

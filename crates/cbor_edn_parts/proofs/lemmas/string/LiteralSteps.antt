@@ -8,13 +8,13 @@ use Rattle.std.proofs.lemmas.Bool.{cond_both, eqb-true, eqb-false, ltb-true, ltb
 use Rattle.std.proofs.lemmas.Bool.Decides.{nat_tests}
 use Rattle.std.proofs.lemmas.Int.Digits.{digits_value_push}
 use mathlib.Core.Logic.{⊎_elim}
-use Rattle.cbor_edn_parts.specs.space.Space.{Each, end, next}
 use Rattle.cbor_edn_parts.specs.number.Number.{Hexadecimal, IsDigitOf, AreDigits}
 use Rattle.cbor_edn_parts.specs.string.Literal.{letter_escape, hex_number, IsUnit, IsPart, raw, line_feed, carriage_return, quote, letter, unit, pair, braced}
 use Rattle.cbor_edn_parts.specs.internal.LiteralTokens.{quote_byte, Step, is_scalar, whole, with_digit, unit_end, pair_end, raw_step, escape_step, unit_digit, low_digit, braced_digit, quoted_step, ends}
 use Rattle.cbor_edn_parts.specs.declared.string.Quote.{Quote}
 use Rattle.cbor_edn_parts.specs.declared.string.QuotedState.{QuotedState}
 use Rattle.cbor_edn_parts.specs.declared.string.QuotedState.TheVariants.{Between, Backslash, Unit as Digits, High, HighBackslash, LowUnit, Brace, Braced}
+use Rattle.cbor_edn_parts.proofs.lemmas.base.Each.{Each, end, next, each, all}
 use Rattle.cbor_edn_parts.proofs.lemmas.number.NumberParts.{number_is}
 
 -- ---- digits
@@ -92,12 +92,12 @@ from_unit_end q ds u =
     cond_both (is_high_surrogate (hex_number ds)) _ _ (Leads q (92 ∷ 117 ∷ ds)) (λ h. came_high u h) (λ _. from_whole q (92 ∷ 117 ∷ ds) (hex_number ds) (unit u))
 
 from_unit : (q c : ℕ) (ds : List ℕ) → Each (IsDigitOf Hexadecimal) ds → length ds < 4 → Leads q (92 ∷ 117 ∷ (ds ++ (c ∷ []))) (unit_digit (length ds) (with_digit (hex_number ds) c))
-from_unit q c ds each few =
+from_unit q c ds digits few =
     by_digit ds c (λ o. Leads q (92 ∷ 117 ∷ (ds ++ (c ∷ []))) (unit_digit (length ds) o))
     (λ h. cond_both (nat_lt (length ds) 3) _ _ (Leads q (92 ∷ 117 ∷ (ds ++ (c ∷ []))))
     (λ e. let lt : length (ds ++ (c ∷ [])) < 4 = omega (arith, length_push ds c, ltb-true (length ds) 3 e) in
-    subst (λ d. Came (Digits d (hex_number (ds ++ (c ∷ [])))) (92 ∷ 117 ∷ (ds ++ (c ∷ [])))) (length_push ds c) (came_unit (each_push each h) lt))
-    (λ e. from_unit_end q (ds ++ (c ∷ [])) ((each_push each h, pushed ds c), omega (arith, length_push ds c, ltb-false (length ds) 3 e))))
+    subst (λ d. Came (Digits d (hex_number (ds ++ (c ∷ [])))) (92 ∷ 117 ∷ (ds ++ (c ∷ [])))) (length_push ds c) (came_unit (each_push digits h) lt))
+    (λ e. from_unit_end q (ds ++ (c ∷ [])) ((all (each_push digits h), pushed ds c), omega (arith, length_push ds c, ltb-false (length ds) 3 e))))
     tt
 
 none_of : (ds : List ℕ) → length ds ≡ 0 → ds ≡ []
@@ -105,10 +105,10 @@ none_of [] e = refl
 none_of (d ∷ ds) e = absurd (omega arith)
 
 from_brace : (q c : ℕ) (ds : List ℕ) → Each (IsDigitOf Hexadecimal) ds → length ds < 4 → Leads q (92 ∷ 117 ∷ (ds ++ (c ∷ []))) (quoted_step q c (Digits (length ds) (hex_number ds)))
-from_brace q c ds each few =
+from_brace q c ds digits few =
     cond_both (length ds == 0 && c == 123) _ _ (Leads q (92 ∷ 117 ∷ (ds ++ (c ∷ []))))
     (λ e. let h = and_parts (length ds == 0) (c == 123) e in rw (none_of ds (eqb-true (length ds) 0 h.0), eqb-true c 123 h.1) came_brace)
-    (λ _. from_unit q c ds each few)
+    (λ _. from_unit q c ds digits few)
 
 -- the low surrogate behind a high one
 from_pair_end : (q : ℕ) (hs ls : List ℕ) → IsUnit hs → is_high_surrogate (hex_number hs) ≡ true → IsUnit ls → Leads q (92 ∷ 117 ∷ (hs ++ (92 ∷ 117 ∷ ls))) (pair_end (hex_number hs) (hex_number ls))
@@ -119,23 +119,23 @@ from_pair_end q hs ls u high l =
 
 from_low : (q c : ℕ) (hs ls : List ℕ) → IsUnit hs → is_high_surrogate (hex_number hs) ≡ true → Each (IsDigitOf Hexadecimal) ls → length ls < 4
     → Leads q (92 ∷ 117 ∷ (hs ++ (92 ∷ 117 ∷ (ls ++ (c ∷ []))))) (low_digit (hex_number hs) (length ls) (with_digit (hex_number ls) c))
-from_low q c hs ls u high each few =
+from_low q c hs ls u high digits few =
     let p : List ℕ = 92 ∷ 117 ∷ (hs ++ (92 ∷ 117 ∷ (ls ++ (c ∷ [])))) in
     by_digit ls c (λ o. Leads q p (low_digit (hex_number hs) (length ls) o))
     (λ h. cond_both (nat_lt (length ls) 3) _ _ (Leads q p)
     (λ e. let lt : length (ls ++ (c ∷ [])) < 4 = omega (arith, length_push ls c, ltb-true (length ls) 3 e) in
-    subst (λ d. Came (LowUnit (hex_number hs) d (hex_number (ls ++ (c ∷ [])))) p) (length_push ls c) (came_low u high (each_push each h) lt))
-    (λ e. from_pair_end q hs (ls ++ (c ∷ [])) u high ((each_push each h, pushed ls c), omega (arith, length_push ls c, ltb-false (length ls) 3 e))))
+    subst (λ d. Came (LowUnit (hex_number hs) d (hex_number (ls ++ (c ∷ [])))) p) (length_push ls c) (came_low u high (each_push digits h) lt))
+    (λ e. from_pair_end q hs (ls ++ (c ∷ [])) u high ((all (each_push digits h), pushed ls c), omega (arith, length_push ls c, ltb-false (length ls) 3 e))))
     tt
 
 from_braced_digit : (q c : ℕ) (ds : List ℕ) → Each (IsDigitOf Hexadecimal) ds → Leads q (92 ∷ 117 ∷ 123 ∷ (ds ++ (c ∷ []))) (braced_digit (with_digit (hex_number ds) c))
-from_braced_digit q c ds each = by_digit ds c (λ o. Leads q (92 ∷ 117 ∷ 123 ∷ (ds ++ (c ∷ []))) (braced_digit o)) (λ h. came_braced (each_push each h, pushed ds c)) tt
+from_braced_digit q c ds digits = by_digit ds c (λ o. Leads q (92 ∷ 117 ∷ 123 ∷ (ds ++ (c ∷ []))) (braced_digit o)) (λ h. came_braced (all (each_push digits h), pushed ds c)) tt
 
 from_braced : (q c : ℕ) (ds : List ℕ) → AreDigits Hexadecimal ds → Leads q (92 ∷ 117 ∷ 123 ∷ (ds ++ (c ∷ []))) (quoted_step q c (Braced (hex_number ds)))
 from_braced q c ds digits =
     cond_both (c == 125) _ _ (Leads q (92 ∷ 117 ∷ 123 ∷ (ds ++ (c ∷ []))))
     (λ e. from_whole q _ (hex_number ds) (λ s. rw (eqb-true c 125 e) (braced digits s)))
-    (λ _. from_braced_digit q c ds digits.0)
+    (λ _. from_braced_digit q c ds (each digits.0))
 
 -- One step between two quotes, if the byte is not the quote that ends the text.
 pub step_leads : (q : Quote) (c : ℕ) (m : QuotedState) (p : List ℕ) → Came m p → ends q c m ≡ false → Leads (quote_byte q) (p ++ (c ∷ [])) (quoted_step (quote_byte q) c m)

@@ -5,7 +5,6 @@ use Rattle.std.proofs.lemmas.Bool.{cond-true, cond-false, cond_both, eq-eqb, ne_
 use Rattle.std.proofs.lemmas.Bool.Decides.{Decides-or}
 use Rattle.std.specs.Bool.{Decides}
 use Rattle.cbor_edn_parts.specs.internal.Lex.{Accepts, Is}
-use Rattle.cbor_edn_parts.specs.space.Space.{Each, end, next}
 use Rattle.cbor_edn_parts.specs.string.Literal as literals
 use Rattle.cbor_edn_parts.specs.string.Literal.{IsLower, IsUpper, IsDigit, IsPrefix, small, large, Decoded, nothing, part, Quoting, Prefixed, IsLiteral, IsQuoted}
 use Rattle.cbor_edn_parts.specs.internal.LiteralTokens as tokens
@@ -16,6 +15,7 @@ use Rattle.cbor_edn_parts.specs.declared.string.QuotedState.{QuotedState}
 use Rattle.cbor_edn_parts.specs.declared.string.QuotedState.TheVariants.{Between}
 use Rattle.cbor_edn_parts.specs.declared.string.LiteralState.{LiteralState}
 use Rattle.cbor_edn_parts.specs.declared.string.LiteralState.TheVariants.{Start, Lower, Upper, Inside, Closed}
+use Rattle.cbor_edn_parts.proofs.lemmas.base.Each.{Each, end, next, each, all}
 use Rattle.cbor_edn_parts.proofs.lemmas.string.LiteralRuns.{runs_accepted, decoded_runs}
 use Rattle.cbor_edn_parts.proofs.lemmas.string.LiteralSteps.{Came, came_between, Leads, step_leads}
 use Rattle.cbor_edn_parts.proofs.lemmas.base.Tokens.{token_texts}
@@ -86,8 +86,8 @@ module _ (m : LiteralState) (test : ℕ → Bool) (P : ℕ → Type 0) (decides 
       (λ q e. let to : a.0 ≡ Inside Single Between = cc in ([], t, end, subst (λ i. Accepts tokens.literal i t) to a.2, ap (◌∷ t) (eqb-true c 39 q)))
       (λ _. cond_both (test c) _ _ (λ o. o ≡ Some a.0 → Named (c ∷ t))
       (λ h e. let to : a.0 ≡ m = cc in
-      let (x, u, each, b, is) = letters-from t (subst (λ i. Accepts tokens.literal i t) to a.2) in
-      (c ∷ x, u, next ((decides c).0 h) each, b, ap (c ∷◌) is))
+      let (x, u, letters, b, is) = letters-from t (subst (λ i. Accepts tokens.literal i t) to a.2) in
+      (c ∷ x, u, next ((decides c).0 h) letters, b, ap (c ∷◌) is))
       (λ _ e. absurd (cc)))
       (sym (steps c) ∙ a.1)
 
@@ -113,8 +113,8 @@ start_upper c h =
     ∙ cond-true (is_upper c) _ _ ((decides_range 65 90 c).1 h)))
 
 prefixed-is : {p : List ℕ} (t : List ℕ) → IsPrefix p → Accepts tokens.literal (Inside Single Between) t → Is tokens.literal (p ++ (39 ∷ t))
-prefixed-is t (small {c = c} h each) a = (Lower, start_lower c h, letters-is Lower _ _ lower_next refl refl (λ c. refl) t each a)
-prefixed-is t (large {c = c} h each) a = (Upper, start_upper c h, letters-is Upper _ _ upper_next refl refl (λ c. refl) t each a)
+prefixed-is t (small {c = c} h more) a = (Lower, start_lower c h, letters-is Lower _ _ lower_next refl refl (λ c. refl) t (each more) a)
+prefixed-is t (large {c = c} h more) a = (Upper, start_upper c h, letters-is Upper _ _ upper_next refl refl (λ c. refl) t (each more) a)
 
 -- ---- literals
 
@@ -142,12 +142,12 @@ quoted-from (c ∷ t) a =
     (literals.Single, v, (x, d, cc (eqb-true c 39 h))))
     (λ _. cond_both (is_lower c) _ _ (λ o. o ≡ Some a.0 → IsQuoted (c ∷ t))
     (λ h e. let to : a.0 ≡ Lower = cc in
-    let (x, u, each, b, q) = letters-from Lower _ _ lower_next refl refl (λ c. refl) t (subst (λ i. Accepts tokens.literal i t) to a.2) in
-    by_prefix (c ∷ x) u (c ∷ t) (small ((decides_range 97 122 c).0 h) each) b (ap (c ∷◌) q))
+    let (x, u, letters, b, q) = letters-from Lower _ _ lower_next refl refl (λ c. refl) t (subst (λ i. Accepts tokens.literal i t) to a.2) in
+    by_prefix (c ∷ x) u (c ∷ t) (small ((decides_range 97 122 c).0 h) (all letters)) b (ap (c ∷◌) q))
     (λ _. cond_both (is_upper c) _ _ (λ o. o ≡ Some a.0 → IsQuoted (c ∷ t))
     (λ h e. let to : a.0 ≡ Upper = cc in
-    let (x, u, each, b, q) = letters-from Upper _ _ upper_next refl refl (λ c. refl) t (subst (λ i. Accepts tokens.literal i t) to a.2) in
-    by_prefix (c ∷ x) u (c ∷ t) (large ((decides_range 65 90 c).0 h) each) b (ap (c ∷◌) q))
+    let (x, u, letters, b, q) = letters-from Upper _ _ upper_next refl refl (λ c. refl) t (subst (λ i. Accepts tokens.literal i t) to a.2) in
+    by_prefix (c ∷ x) u (c ∷ t) (large ((decides_range 65 90 c).0 h) (all letters)) b (ap (c ∷◌) q))
     (λ _ e. absurd (cc)))))
     a.1
 

@@ -7,13 +7,13 @@ use Rattle.std.proofs.lemmas.List.{append-nil}
 use Rattle.std.proofs.lemmas.List.Elements.{All-head, All-tail}
 use Rattle.std.proofs.lemmas.Bool.Decides.{nat_tests}
 use Rattle.std.proofs.lemmas.Str.{encode_ascii, inside_one, digit_value-digit_char}
-use Rattle.cbor_edn_parts.specs.space.Space.{end, next}
 use Rattle.cbor_edn_parts.specs.number.Number.{Hexadecimal, IsDigitOf, AreDigits}
 use Rattle.cbor_edn_parts.specs.string.Literal.{IsPart, raw, line_feed, quote, letter, braced, Decoded, nothing, part, IsPrefix, Prefixed, IsLiteral, hex_number}
 use Rattle.cbor_edn_parts.specs.string.Contents as contents
 use Rattle.cbor_edn_parts.specs.string.Contents.{escaped, all_escaped}
 use Rattle.cbor_edn_parts.specs.Written.{single_escaped, all_single_escaped, application_literal}
 use Rattle.cbor_edn_parts.specs.internal.LiteralTokens.{is_literal}
+use Rattle.cbor_edn_parts.proofs.lemmas.base.Each.{end, next, all}
 use Rattle.cbor_edn_parts.proofs.lemmas.string.LiteralTexts.{literal_test}
 
 -- between single quotes xs is a part that stands for the byte c
@@ -35,8 +35,8 @@ is_digit d lt = rw (digit_value-digit_char d (omega arith)) lt
 
 stands_braced : (c : ℕ) → c < 32 → Stands c (contents.braced c)
 stands_braced c low = cond_both (ltb c 16) (digit_char c ∷ []) (digit_char (c / 16) ∷ digit_char (c % 16) ∷ []) (λ xs. Stands c (92 ∷ 117 ∷ 123 ∷ (xs ++ (125 ∷ []))))
-    (λ one. let lt : c < 16 = grind (arith, nat_tests) in by_digits (digit_char c ∷ []) c (next (is_digit c lt) end, λ e. cc) (let v = digit_value-digit_char c (omega arith) in omega (arith, v)) (omega arith))
-    (λ two. by_digits (digit_char (c / 16) ∷ digit_char (c % 16) ∷ []) c (next (is_digit (c / 16) (omega arith)) (next (is_digit (c % 16) (omega arith)) end), λ e. cc) (let v = digit_value-digit_char (c / 16) (omega arith) in let w = digit_value-digit_char (c % 16) (omega arith) in omega (arith, v, w)) (omega arith))
+    (λ one. let lt : c < 16 = grind (arith, nat_tests) in by_digits (digit_char c ∷ []) c (all {P = IsDigitOf Hexadecimal} (next (is_digit c lt) end), λ e. cc) (let v = digit_value-digit_char c (omega arith) in omega (arith, v)) (omega arith))
+    (λ two. by_digits (digit_char (c / 16) ∷ digit_char (c % 16) ∷ []) c (all {P = IsDigitOf Hexadecimal} (next (is_digit (c / 16) (omega arith)) (next (is_digit (c % 16) (omega arith)) end)), λ e. cc) (let v = digit_value-digit_char (c / 16) (omega arith) in let w = digit_value-digit_char (c % 16) (omega arith) in omega (arith, v, w)) (omega arith))
 
 stands : (c : ℕ) → c < 256 → eqb c 39 ≡ false → eqb c 34 ≡ false → Stands c (escaped c)
 stands c byte not_single not_double =
@@ -57,7 +57,7 @@ stands c byte not_single not_double =
 single_stands : (c : ℕ) → c < 256 → Stands c (single_escaped c)
 single_stands c byte =
     cond_both (eqb c 39) _ _ (Stands c) (λ e. subst (λ m. Stands m (92 ∷ m ∷ [])) (sym (eqb-true c 39 e)) quote) (λ not_single.
-    cond_both (eqb c 34) _ _ (Stands c) (λ e. at _ 34 c (by_digits (50 ∷ 50 ∷ []) 34 (next (omega arith) (next (omega arith) end), λ e. cc) refl (omega arith)) e) (λ not_double. stands c byte not_single not_double))
+    cond_both (eqb c 34) _ _ (Stands c) (λ e. at _ 34 c (by_digits (50 ∷ 50 ∷ []) 34 (all {P = IsDigitOf Hexadecimal} (next (omega arith) (next (omega arith) end)), λ e. cc) refl (omega arith)) e) (λ not_double. stands c byte not_single not_double))
 
 pub all_stand : (bs : List ℕ) → All (λ b. b < 256) bs → Decoded 39 (all_single_escaped bs) bs
 all_stand [] all = nothing
