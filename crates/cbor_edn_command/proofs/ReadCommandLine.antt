@@ -1,13 +1,20 @@
 -- From what the calls of `clap` answer to what is read off a command line.
-use Rattle.std.proofs.Common.{◌≡◌, ◌≤◌, ℕ, Bool, true, false, List, [], ◌∷◌, ◌++◌, Option, Some, None, refl, sym, subst, ap, ap₂, ◌∙◌, append_assoc}
+use Rattle.std.proofs.Common.{◌≡◌, ◌≢◌, ◌≤◌, ◌<◌, ℕ, Bool, true, false, ◌⊎◌, inl, inr, List, [], ◌∷◌, ◌++◌, Option, Some, None, refl, sym, subst, ap, ap₂, ◌∙◌, append_assoc, arith, ne_eqb}
+use mathlib.Core.Logic.{⊎_elim}
+use Rattle.std.proofs.lemmas.Bool.Decides.{nat_tests}
+use Rattle.std.specs.Char.{digit_value}
 use Rattle.std.specs.Prelude.{◌||◌, ◌==◌, cond, drop, not, slice_index, Box, codes, unwrap_or, option_map}
 use Rattle.std.specs.Box.{box_value}
 use Rattle.std.specs.Option.{option_map_or}
 use Rattle.std.specs.Str.{bytes_eq}
 use Rattle.std.specs.Str.Parse.{IsNumeral, digits_value, without_leading_plus}
 use Rattle.clap.specs.Matches.{first_value, one_text}
+use Rattle.clap.specs.Values.{kind_of}
+use Rattle.clap.specs.declared.error.Error.{Error}
+use Rattle.clap.specs.declared.error.kind.ErrorKind.{ErrorKind}
+use Rattle.clap.specs.declared.error.kind.ErrorKind.TheVariants.{OutOfMemory}
 use Rattle.clap.specs.declared.parser.matches.Found.{Found}
-use Rattle.clap.specs.Words.{AddsArg, AddsSubcommand, App, Row, Rule, Text, app_of, first_of, is_simple_and_free, new_app, rows_of, subcommand_rows, with_rule, with_subcommand}
+use Rattle.clap.specs.Words.{AddsArg, AddsSubcommand, App, HasKind, IsAmong, Row, Rule, Text, app_of, fault_of, first_of, is_simple_and_free, new_app, rows_of, subcommand_of, subcommand_rows, with_rule, with_subcommand}
 use Rattle.clap.specs.declared.builder.arg.Arg.{Arg}
 use Rattle.clap.specs.declared.builder.command.Command.{Command}
 use Rattle.clap.specs.declared.builder.command.Command.TheViews.{out-Command}
@@ -46,6 +53,22 @@ pub number_read : (f : Found) (flag word : Text) (default most number : ℕ) (pl
 number_read f flag word default most number plus is numeral value looked none within =
     let same : without_leading_plus word ≡ word = ap (λ b. drop (cond b 1 0) word) (sym looked ∙ none) in
     rw (sym (is ∙ first_value-rows f flag)) (subst (IsNumeral 10) same numeral, value ∙ ap (digits_value 10) same, within)
+
+-- ---- words of which there is no number
+
+no_sign : (c : ℕ) → digit_value c < 10 → c ≢ 43
+no_sign c h = grind (arith, nat_tests)
+
+pub no_plus : (w : Text) → IsNumeral 10 w → (slice_index w 0 == 43) ≡ false
+no_plus [] h = absurd (omega arith)
+no_plus (c ∷ w) h = ne_eqb c 43 (no_sign c h.1.0)
+
+digits_alone : (w : Text) → IsNumeral 10 w → without_leading_plus w ≡ w
+digits_alone w h = ap (λ b. drop (cond b 1 0) w) (no_plus w h)
+
+pub no_number : (f : Found) (flag word : Text) (default most : ℕ) → Some word ≡ first_value f flag → ((n : ℕ) → without_leading_plus word ≡ word → IsNumeral 10 word → n ≡ digits_value 10 word → n ≤ most → ⊥)
+    → line.IsNoNumber default most (first_of flag (rows_of f))
+no_number f flag word default most is none n = rw (sym (is ∙ first_value-rows f flag)) (λ h. none n (digits_alone word h.0) h.0 h.1 h.2)
 
 pub flag_read : (f : Found) (id : Text) (b : Bool) → (one_text f id ≡ None → b ≡ false) → (one_text f id ≡ Some (codes "true") → b ≡ true)
     → (one_text f id ≡ Some (codes "false") → b ≡ false) → line.IsFlag id (rows_of f) b
@@ -93,14 +116,39 @@ with_sub old sub new a b (is, local) adds (same, leaf) = (
   adds.globals ∙ or_false (out-Command old).has_globals (out-Command sub).has_globals leaf ∙ local,
 )
 
-pub whole : (top one first two second three new : Command) (f a : ValueParser) → line.AreFormats f → line.AreAnnotations a
+pub whole : (one two three : line.Program) (top first second third one_more two_more new : Command) (f a : ValueParser) → line.AreFormats f → line.AreAnnotations a
     → IsCommandOf (line.wants_command (new_app (codes "cbor-edn"))) top
-    → AddsSubcommand top one first → IsCommandOf (line.diag2cbor f) one
-    → AddsSubcommand first two second → IsCommandOf (line.cbor2diag f a) two
-    → AddsSubcommand second three new → IsCommandOf (line.diag2diag a) three
-    → IsProgram new
-whole top one first two second three new f a are too is adds own then its adds_last last =
-    (f, a, are, too, with_sub second three new _ _ (with_sub first two second _ _ (with_sub top one first _ _ is adds own) then its) adds_last last)
+    → AddsSubcommand top first one_more → IsCommandOf (one f a) first
+    → AddsSubcommand one_more second two_more → IsCommandOf (two f a) second
+    → AddsSubcommand two_more third new → IsCommandOf (three f a) third
+    → IsProgram (λ f a. line.with_commands (one f a) (two f a) (three f a)) new
+whole one two three top first second third one_more two_more new f a are too is adds own then its adds_last last =
+    (f, a, are, too, with_sub two_more third new _ _ (with_sub one_more second two_more _ _ (with_sub top first one_more _ _ is adds own) then its) adds_last last)
+
+-- ---- what is found of words, and what is refused
+
+module _ (p : line.Program) (simple : (formats annotations : ValueParser) → is_simple_and_free (p formats annotations) ≡ true) (words : List Text) (c : Command) (is_program : IsProgram p c) where
+  pub free : is_simple_and_free (app_of c) ≡ true
+  free = let (f, a, are, too, is) = is_program in ap is_simple_and_free is.0 ∙ simple f a
+
+  pub finds : (IsFound : Text × List Row → Type 0) (found : Text × List Row) → fault_of (app_of c) words ≡ [] → subcommand_of (app_of c) words ≡ Some found → IsFound found → line.Finds p words IsFound
+  finds IsFound found none met h =
+      let (f, a, are, too, is) = is_program in
+      (f, a, found, are, too, subst (λ (x : App). fault_of x words ≡ []) is.0 none, subst (λ (x : App). subcommand_of x words ≡ Some found) is.0 met, h)
+
+  module _ (IsMisread : Option (Text × List Row) → ErrorKind → Type 0) (e : Error) where
+    pub refused : HasKind (fault_of (app_of c) words) e → line.Refuses p words IsMisread e
+    refused kinds =
+        let (f, a, are, too, is) = is_program in
+        ⊎_elim inl (λ among. inr (f, a, are, too, inl (subst (λ (x : App). IsAmong (kind_of e) (fault_of x words)) is.0 among))) kinds
+
+    pub misread : (found : Option (Text × List Row)) → fault_of (app_of c) words ≡ [] → subcommand_of (app_of c) words ≡ found → (kind_of e ≡ OutOfMemory) ⊎ IsMisread found (kind_of e)
+        → line.Refuses p words IsMisread e
+    misread found none met h =
+        let (f, a, are, too, is) = is_program in
+        ⊎_elim inl
+        (λ no_command. inr (f, a, are, too, inr (subst (λ (x : App). fault_of x words ≡ []) is.0 none, subst (λ o. IsMisread o (kind_of e)) (sym met ∙ ap (λ (x : App). subcommand_of x words) is.0) no_command)))
+        h
 
 pub program_simple : (formats annotations : ValueParser) → is_simple_and_free (line.program formats annotations) ≡ true
 unfolding clap_on_literals

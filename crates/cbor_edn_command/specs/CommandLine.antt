@@ -1,12 +1,16 @@
 -- The program's command line, as `clap` sees it, and what is read off the entries that `clap` finds for the words.
-use Rattle.std.specs.Prelude.{◌≡◌, ◌≤◌, ℕ, Bool, true, false, not, List, [], ◌∷◌, ◌++◌, map, codes, Option, Some, None, unwrap_or, if◌then◌else◌}
+use Rattle.std.specs.Prelude.{◌≡◌, ◌≤◌, ℕ, Bool, true, false, not, ◌⊎◌, List, [], ◌∷◌, ◌++◌, map, codes, Option, Some, None, unwrap_or, if◌then◌else◌}
 use Rattle.std.specs.Str.{bytes_eq}
 use Rattle.std.specs.Str.Parse.{IsNumeral, digits_value}
 use Rattle.std.specs.Option.{option_map_or}
-use Rattle.clap.specs.Words.{App, Row, Rule, Text, fault_of, first_of, new_app, new_rule, one_of, subcommand_of, with_subcommand}
+use Rattle.clap.specs.Words.{App, IsAmong, Row, Rule, Text, fault_of, first_of, new_app, new_rule, one_of, subcommand_of, with_subcommand}
+use Rattle.clap.specs.Values.{kind_of}
 use Rattle.clap.specs.declared.builder.action.ArgAction.TheVariants.{SetTrue}
 use Rattle.clap.specs.declared.builder.value_parser.ValueParser.{ValueParser}
 use Rattle.clap.specs.declared.builder.value_parser.ValueParser.TheVariants.{Names, Unsigned}
+use Rattle.clap.specs.declared.error.Error.{Error}
+use Rattle.clap.specs.declared.error.kind.ErrorKind.{ErrorKind}
+use Rattle.clap.specs.declared.error.kind.ErrorKind.TheVariants.{InvalidSubcommand, MissingSubcommand, OutOfMemory, ValueValidation}
 use Rattle.cbor_edn_parts.specs.declared.base.nesting.TheConstants.{NESTING_LIMIT}
 use Rattle.cbor_edn_command.specs.declared.options.Command.{Command}
 use Rattle.cbor_edn_command.specs.declared.options.Command.TheVariants.{Diag2Cbor, Cbor2Diag, Diag2Diag}
@@ -65,12 +69,16 @@ diag2diag annotations =
 abbrev pub wants_command : App → App
 wants_command a = record a { top = record a.top { has_version = true; subcommand_required = true; disable_help_subcommand = true } }
 
--- `cbor-edn`, with the parsers of the names of formats and of annotations
-abbrev pub program : ValueParser → ValueParser → App
-program formats annotations =
-    with_subcommand
-    (with_subcommand (with_subcommand (wants_command (new_app (codes "cbor-edn"))) (diag2cbor formats).top) (cbor2diag formats annotations).top)
-    (diag2diag annotations).top
+-- `cbor-edn` with three commands
+abbrev pub with_commands : App → App → App → App
+with_commands a b c = with_subcommand (with_subcommand (with_subcommand (wants_command (new_app (codes "cbor-edn"))) a.top) b.top) c.top
+
+-- A program, with the parsers of the names of formats and of annotations.
+abbrev pub Program : Type 0
+Program = ValueParser → ValueParser → App
+
+abbrev pub program : Program
+program formats annotations = with_commands (diag2cbor formats) (cbor2diag formats annotations) (diag2diag annotations)
 
 -- ---- what they say
 
@@ -90,9 +98,16 @@ abbrev pub IsNumber : ℕ → ℕ → Option Text → ℕ → Type 0
 IsNumber default most (Some word) n = IsNumeral 10 word × (n ≡ digits_value 10 word) × (n ≤ most)
 IsNumber default most None n = n ≡ default
 
+-- There is a word, and no number of it: not digits alone, or too high.
+abbrev pub IsNoNumber : ℕ → ℕ → Option Text → Type 0
+IsNoNumber default most word = (n : ℕ) → ¬ IsNumber default most word n
+
 -- How deep items may nest, by the word of `--max-nesting`, at most 512.
 abbrev pub IsLimit : Option Text → ℕ → Type 0
 IsLimit = IsNumber NESTING_LIMIT NESTING_LIMIT
+
+abbrev pub IsNoLimit : Option Text → Type 0
+IsNoLimit = IsNoNumber NESTING_LIMIT NESTING_LIMIT
 
 -- the name of a file, or `-`
 abbrev pub file_of : Text → List Row → Text
@@ -186,9 +201,30 @@ AreFormats = AreNames (codes "hex" ∷ codes "binary" ∷ codes "auto" ∷ [])
 abbrev pub AreAnnotations : ValueParser → Type 0
 AreAnnotations = AreNames (codes "ccs" ∷ [])
 
--- The same of the entries that `clap` finds for some words, and it finds no fault in them: each value is one that its flag takes, where a
--- format is `hex`, `binary` or `auto`, and `ccs` is annotated.
-abbrev pub IsReadFrom : List Text → Options → Text → Text → Type 0
-IsReadFrom words o source target =
+-- What `clap` finds of the words of a program, with a command's name and its entries where it finds no fault in them: each value is one that its
+-- flag takes, where a format is `hex`, `binary` or `auto`, and `ccs` is annotated.
+abbrev pub Finds : Program → List Text → (Text × List Row → Type 0) → Type 0
+Finds p words IsFound =
     (formats annotations : ValueParser) × (found : Text × List Row) × AreFormats formats × AreAnnotations annotations
-    × (fault_of (program formats annotations) words ≡ []) × (subcommand_of (program formats annotations) words ≡ Some found) × IsReadOff found o source target
+    × (fault_of (p formats annotations) words ≡ []) × (subcommand_of (p formats annotations) words ≡ Some found) × IsFound found
+
+-- The options and the two names, read off what is found.
+abbrev pub IsReadFrom : List Text → Options → Text → Text → Type 0
+IsReadFrom words o source target = Finds program words (λ found. IsReadOff found o source target)
+
+-- Words are refused: memory ran out; or `clap` finds a fault of this kind, help and the version among them; or it finds none, and what it finds
+-- is no command line.
+abbrev pub Refuses : Program → List Text → (Option (Text × List Row) → ErrorKind → Type 0) → Error → Type 0
+Refuses p words IsMisread e =
+    (kind_of e ≡ OutOfMemory) ⊎ ((formats annotations : ValueParser) × AreFormats formats × AreAnnotations annotations
+    × (IsAmong (kind_of e) (fault_of (p formats annotations) words)
+    ⊎ ((fault_of (p formats annotations) words ≡ []) × IsMisread (subcommand_of (p formats annotations) words) (kind_of e))))
+
+-- No command, none of this name, or no number of levels.
+abbrev pub IsMisread : Option (Text × List Row) → ErrorKind → Type 0
+IsMisread None kind = kind ≡ MissingSubcommand
+IsMisread (Some (name, rows)) kind =
+    ((kind ≡ InvalidSubcommand) × (command_named name ≡ None)) ⊎ ((kind ≡ ValueValidation) × IsNoLimit (first_of (codes "max-nesting") rows))
+
+abbrev pub IsRefusedAs : List Text → Error → Type 0
+IsRefusedAs words = Refuses program words IsMisread

@@ -1,11 +1,14 @@
 -- The words of the commands for files, as `clap` sees them, and what is read off the entries that `clap` finds for them.
-use Rattle.std.specs.Prelude.{◌≡◌, ◌||◌, ℕ, Bool, true, Some, if◌then◌else◌, List, [], ◌∷◌, ◌++◌, codes, unwrap_or}
+use Rattle.std.specs.Prelude.{◌≡◌, ◌||◌, ◌⊎◌, ℕ, Bool, true, false, Option, Some, None, if◌then◌else◌, List, [], ◌∷◌, ◌++◌, codes, unwrap_or}
 use Rattle.std.specs.Str.{bytes_eq}
-use Rattle.clap.specs.Words.{App, Row, Rule, Text, all_of, fault_of, first_of, new_app, new_rule, subcommand_of, with_subcommand}
+use Rattle.clap.specs.Words.{App, Row, Rule, Text, all_of, first_of, new_app, new_rule}
 use Rattle.clap.specs.declared.builder.action.ArgAction.TheVariants.{Append}
 use Rattle.clap.specs.declared.builder.value_parser.ValueParser.{ValueParser}
 use Rattle.clap.specs.declared.builder.value_parser.ValueParser.TheVariants.{Unsigned}
-use Rattle.cbor_edn_command.specs.CommandLine.{AreAnnotations, AreFormats, IsFlag, IsLimit, IsNoFlag, IsNumber, IsValue, annotate, flag, format, max_nesting, wants_command, with_rules}
+use Rattle.clap.specs.declared.error.Error.{Error}
+use Rattle.clap.specs.declared.error.kind.ErrorKind.{ErrorKind}
+use Rattle.clap.specs.declared.error.kind.ErrorKind.TheVariants.{InvalidSubcommand, MissingSubcommand, ValueValidation}
+use Rattle.cbor_edn_command.specs.CommandLine.{Finds, IsFlag, IsLimit, IsNoFlag, IsNoLimit, IsNoNumber, IsNumber, IsValue, Program, Refuses, annotate, flag, format, max_nesting, with_commands, with_rules}
 use Rattle.cbor_edn_command.specs.declared.file_options.FileCommand.{FileCommand}
 use Rattle.cbor_edn_command.specs.declared.file_options.FileCommand.TheVariants.{Show, Format, Check}
 use Rattle.cbor_edn_command.specs.declared.file_options.ShowOptions.{ShowOptions}
@@ -42,10 +45,9 @@ fmt = with_rules (new_app (codes "fmt")) (only_lists ∷ flag (codes "remove-com
 abbrev pub check : App
 check = with_rules (new_app (codes "check")) (flag (codes "apply-999") ∷ flag (codes "cbor") ∷ max_nesting ∷ files ∷ [])
 
--- `cbor-edn` with these commands, with the parsers of the names of formats and of annotations
-abbrev pub program : ValueParser → ValueParser → App
-program formats annotations =
-    with_subcommand (with_subcommand (with_subcommand (wants_command (new_app (codes "cbor-edn"))) (show formats annotations).top) fmt.top) check.top
+-- `cbor-edn` with these commands
+abbrev pub program : Program
+program formats annotations = with_commands (show formats annotations) fmt check
 
 -- ---- what they say
 
@@ -90,9 +92,18 @@ IsCommand (name, rows) (Check o) = IsNamed name (codes "check") × IsCheck rows 
 abbrev pub files_of : List Row → List Text
 files_of rows = unwrap_or (all_of (codes "files") rows) (codes "-" ∷ [])
 
--- The same of the entries that `clap` finds for some words, and it finds no fault in them.
+-- The command and the names, read off what is found.
 abbrev pub IsFileCommandOf : List Text → FileCommand → List Text → Type 0
-IsFileCommandOf words c names =
-    (formats annotations : ValueParser) × (found : Text × List Row) × AreFormats formats × AreAnnotations annotations
-    × (fault_of (program formats annotations) words ≡ []) × (subcommand_of (program formats annotations) words ≡ Some found)
-    × IsCommand found c × (names ≡ files_of found.1)
+IsFileCommandOf words c names = Finds program words (λ found. IsCommand found c × (names ≡ files_of found.1))
+
+abbrev pub AreNoLevels : List Row → Type 0
+AreNoLevels rows = IsNoNumber DEFAULT_LEVELS MOST_LEVELS (first_of (codes "levels") rows)
+
+-- No command, none of this name, or no number of levels, of items or of embedded CBOR.
+abbrev pub IsMisread : Option (Text × List Row) → ErrorKind → Type 0
+IsMisread None kind = kind ≡ MissingSubcommand
+IsMisread (Some (name, rows)) kind =
+    ((kind ≡ InvalidSubcommand) × (is_file_command name ≡ false)) ⊎ ((kind ≡ ValueValidation) × (IsNoLimit (first_of (codes "max-nesting") rows) ⊎ AreNoLevels rows))
+
+abbrev pub IsRefusedAs : List Text → Error → Type 0
+IsRefusedAs words = Refuses program words IsMisread

@@ -1,9 +1,23 @@
--- What only clauses of private functions cite: the command line of the commands for files, as it is built.
-use Rattle.clap.specs.declared.builder.command.Command.{Command}
-use Rattle.clap.specs.declared.builder.value_parser.ValueParser.{ValueParser}
-use Rattle.cbor_edn_command.specs.CommandLine.{AreAnnotations, AreFormats}
-use Rattle.cbor_edn_command.specs.CommandLineSteps.{IsCommandOf}
-use Rattle.cbor_edn_command.specs.FileCommandLine.{program}
+-- What only clauses of private functions cite: what `clap` has taken and is no command for files.
+use Rattle.std.specs.Prelude.{◌≡◌, false, List, codes}
+use Rattle.clap.specs.Words.{Row, Text, first_of}
+use Rattle.clap.specs.declared.error.kind.ErrorKind.{ErrorKind}
+use Rattle.clap.specs.declared.error.kind.ErrorKind.TheVariants.{InvalidSubcommand, ValueValidation}
+use Rattle.cbor_edn_command.specs.CommandLine.{IsNoLimit}
+use Rattle.cbor_edn_command.specs.FileCommandLine.{AreNoLevels, is_file_command}
+use Rattle.cbor_edn_command.specs.declared.file_words.Misread.{Misread}
+use Rattle.cbor_edn_command.specs.declared.file_words.Misread.TheVariants.{Name, Limit, Levels}
 
-abbrev pub IsFileProgram : Command → Type 0
-IsFileProgram c = (formats annotations : ValueParser) × AreFormats formats × AreAnnotations annotations × IsCommandOf (program formats annotations) c
+-- A number among the entries is none.
+abbrev pub AreMisread : List Row → Misread → Type 0
+AreMisread rows Name = ⊥
+AreMisread rows (Limit word) = IsNoLimit (first_of (codes "max-nesting") rows)
+AreMisread rows (Levels word) = AreNoLevels rows
+
+abbrev pub IsMisreadAs : Text × List Row → Misread → Type 0
+IsMisreadAs (name, rows) Name = is_file_command name ≡ false
+IsMisreadAs (name, rows) misread = AreMisread rows misread
+
+abbrev pub kind_of_misread : Misread → ErrorKind
+kind_of_misread Name = InvalidSubcommand
+kind_of_misread _ = ValueValidation

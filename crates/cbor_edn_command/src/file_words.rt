@@ -1,10 +1,11 @@
 //! The words of a command line that names a command for files: `show`, `fmt` and `check`.
-ghost use Rattle.std.specs.Prelude.{◌≡◌, IfOk, List, Some, map, [], ◌∷◌};
+ghost use Rattle.std.specs.Prelude.{◌≡◌, ◌⊎◌, IfErr, IfOk, List, Some, map, [], ◌∷◌};
+ghost use Rattle.clap.specs.Values.{kind_of};
 ghost use Rattle.clap.specs.Words.{Row, Text, found_of, rows_of, subcommand_rows_of};
 ghost use Rattle.cbor_edn_command.specs.CommandLine.{max_nesting as the_limit};
-ghost use Rattle.cbor_edn_command.specs.CommandLineSteps.{GrowsBy, IsArgOf, IsCommandOf};
+ghost use Rattle.cbor_edn_command.specs.CommandLineSteps.{GrowsBy, IsArgOf, IsCommandOf, IsProgram};
 ghost use Rattle.cbor_edn_command.specs.FileCommandLine as line;
-ghost use Rattle.cbor_edn_command.specs.FileCommandLineSteps.{IsFileProgram};
+ghost use Rattle.cbor_edn_command.specs.FileCommandLineSteps.{AreMisread, IsMisreadAs, kind_of_misread};
 
 use crate::file_options::{
     CheckOptions, DEFAULT_LEVELS, FileCommand, FormatOptions, MOST_LEVELS, ShowOptions,
@@ -58,21 +59,23 @@ pub fn file_command<'a>(
     alloc: Global,
     words: &'a [&'a str],
 ) -> Result<(FileCommand, Vec<&'a str>), Error>
-    ensures { IfOk result (λ r. line.IsFileCommandOf (map (λ w. w.now) words.entry.now) r.0 (map (λ w. w.now) r.1.items)) }
+    ensures ok { IfOk result (λ r. line.IsFileCommandOf (map (λ w. w.now) words.entry.now) r.0 (map (λ w. w.now) r.1.items)) }
+    ensures refused { IfErr result (line.IsRefusedAs (map (λ w. w.now) words.entry.now)) }
 {
     let mut program = program(alloc)?;
     let matches = program.try_get_matches_from_mut(words)?;
     read_off(alloc, &mut program, &matches)
 }
 
-/// The same of what `clap` has found.
+/// What is to be done by what `clap` has found, and the names of the files.
 fn read_off<'a>(
     alloc: Global,
     program: &mut clap::Command<'_>,
     matches: &ArgMatches<'a>,
 ) -> Result<(FileCommand, Vec<&'a str>), Error>
-    ensures { IfOk result (λ r. (f : Text × List Row) × (subcommand_rows_of matches.now ≡ Some f)
+    ensures ok { IfOk result (λ r. (f : Text × List Row) × (subcommand_rows_of matches.now ≡ Some f)
         × line.IsCommand f r.0 × (map (λ w. w.now) r.1.items ≡ line.files_of f.1)) }
+    ensures refused { IfErr result (λ e. (kind_of e ≡ ErrorKind.OutOfMemory) ⊎ line.IsMisread (subcommand_rows_of matches.now) (kind_of e)) }
 {
     let Some((name, found)) = matches.subcommand() else {
         return Err(program.error(ErrorKind::MissingSubcommand, "a command is wanted")?);
@@ -88,7 +91,9 @@ fn fault_of(
     alloc: Global,
     program: &mut clap::Command<'_>,
     misread: Misread<'_>,
-) -> Result<Error, AllocError> {
+) -> Result<Error, AllocError>
+    ensures { IfOk result (λ e. kind_of e ≡ kind_of_misread misread.entry) }
+{
     match misread {
         Misread::Name => program.error(ErrorKind::InvalidSubcommand, "no such command"),
         Misread::Limit(word) => no_number(alloc, program, "max-nesting", word),
@@ -104,7 +109,8 @@ enum Misread<'a> {
 }
 
 fn command_of<'a>(name: &str, found: &ArgMatches<'a>) -> Result<FileCommand, Misread<'a>>
-    ensures { IfOk result (line.IsCommand (name.now, rows_of (found_of found.now))) }
+    ensures ok { IfOk result (line.IsCommand (name.now, rows_of (found_of found.now))) }
+    ensures refused { IfErr result (IsMisreadAs (name.now, rows_of (found_of found.now))) }
 {
     if name == "show" {
         Ok(FileCommand::Show(show_of(found)?))
@@ -118,7 +124,8 @@ fn command_of<'a>(name: &str, found: &ArgMatches<'a>) -> Result<FileCommand, Mis
 }
 
 fn show_of<'a>(found: &ArgMatches<'a>) -> Result<ShowOptions, Misread<'a>>
-    ensures { IfOk result (line.IsShow (rows_of (found_of found.now))) }
+    ensures ok { IfOk result (line.IsShow (rows_of (found_of found.now))) }
+    ensures refused { IfErr result (AreMisread (rows_of (found_of found.now))) }
 {
     let limit = limit_of(found).map_err(Misread::Limit)?;
     let levels = levels_of(found)?;
@@ -134,7 +141,8 @@ fn show_of<'a>(found: &ArgMatches<'a>) -> Result<ShowOptions, Misread<'a>>
 
 /// How many levels of embedded CBOR are to be shown.
 fn levels_of<'a>(found: &ArgMatches<'a>) -> Result<usize, Misread<'a>>
-    ensures { IfOk result (line.AreLevels (rows_of (found_of found.now))) }
+    ensures ok { IfOk result (line.AreLevels (rows_of (found_of found.now))) }
+    ensures refused { IfErr result (AreMisread (rows_of (found_of found.now))) }
 {
     match number_of(found, "levels", DEFAULT_LEVELS, MOST_LEVELS) {
         Ok(_) if is_given(found, "no-embedded") => Ok(0),
@@ -144,7 +152,8 @@ fn levels_of<'a>(found: &ArgMatches<'a>) -> Result<usize, Misread<'a>>
 }
 
 fn format_of<'a>(found: &ArgMatches<'a>) -> Result<FormatOptions, Misread<'a>>
-    ensures { IfOk result (line.IsFormat (rows_of (found_of found.now))) }
+    ensures ok { IfOk result (line.IsFormat (rows_of (found_of found.now))) }
+    ensures refused { IfErr result (AreMisread (rows_of (found_of found.now))) }
 {
     let limit = limit_of(found).map_err(Misread::Limit)?;
     Ok(FormatOptions {
@@ -155,7 +164,8 @@ fn format_of<'a>(found: &ArgMatches<'a>) -> Result<FormatOptions, Misread<'a>>
 }
 
 fn check_of<'a>(found: &ArgMatches<'a>) -> Result<CheckOptions, Misread<'a>>
-    ensures { IfOk result (line.IsCheck (rows_of (found_of found.now))) }
+    ensures ok { IfOk result (line.IsCheck (rows_of (found_of found.now))) }
+    ensures refused { IfErr result (AreMisread (rows_of (found_of found.now))) }
 {
     let limit = limit_of(found).map_err(Misread::Limit)?;
     Ok(CheckOptions {
@@ -180,7 +190,7 @@ fn files_of<'a>(alloc: Global, found: &ArgMatches<'a>) -> Result<Vec<&'a str>, A
 
 /// The command line of the program, where it names a command for files.
 fn program<'a>(alloc: Global) -> Result<clap::Command<'a>, AllocError>
-    ensures { IfOk result IsFileProgram }
+    ensures { IfOk result (IsProgram line.program) }
 {
     let formats = ValueParser::Names(&FORMATS);
     let annotations = ValueParser::Names(&ANNOTATIONS);

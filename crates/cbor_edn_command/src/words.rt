@@ -1,6 +1,7 @@
 //! The words of a command line.
-ghost use Rattle.std.specs.Prelude.{◌≡◌, IfOk, List, Some, codes, map};
+ghost use Rattle.std.specs.Prelude.{◌≡◌, ◌⊎◌, IfErr, IfOk, List, Some, codes, map};
 ghost use Rattle.clap.specs.Words.{Row, Text, first_of, found_of, new_app, rows_of, subcommand_rows_of};
+ghost use Rattle.clap.specs.Values.{kind_of};
 ghost use Rattle.cbor_edn_command.specs.CommandLine as line;
 ghost use Rattle.cbor_edn_command.specs.CommandLineSteps.{GrowsBy, IsArgOf, IsCommandOf, IsProgram};
 
@@ -52,20 +53,22 @@ pub fn options<'a>(
     alloc: Global,
     words: &'a [&'a str],
 ) -> Result<(Options, &'a str, &'a str), Error>
-    ensures { IfOk result (λ r. line.IsReadFrom (map (λ w. w.now) words.entry.now) r.0 r.1.now r.2.now) }
+    ensures ok { IfOk result (λ r. line.IsReadFrom (map (λ w. w.now) words.entry.now) r.0 r.1.now r.2.now) }
+    ensures refused { IfErr result (line.IsRefusedAs (map (λ w. w.now) words.entry.now)) }
 {
     let mut program = program(alloc)?;
     let matches = program.try_get_matches_from_mut(words)?;
     read_off(alloc, &mut program, &matches)
 }
 
-/// The same of what `clap` has found.
+/// What a run is to do by what `clap` has found, and the names of its input and its output.
 fn read_off<'a>(
     alloc: Global,
     program: &mut clap::Command<'_>,
     matches: &ArgMatches<'a>,
 ) -> Result<(Options, &'a str, &'a str), Error>
-    ensures { IfOk result (λ r. (f : Text × List Row) × (subcommand_rows_of matches.now ≡ Some f) × line.IsReadOff f r.0 r.1.now r.2.now) }
+    ensures ok { IfOk result (λ r. (f : Text × List Row) × (subcommand_rows_of matches.now ≡ Some f) × line.IsReadOff f r.0 r.1.now r.2.now) }
+    ensures refused { IfErr result (λ e. (kind_of e ≡ ErrorKind.OutOfMemory) ⊎ line.IsMisread (subcommand_rows_of matches.now) (kind_of e)) }
 {
     let Some((name, found)) = matches.subcommand() else {
         return Err(program.error(ErrorKind::MissingSubcommand, "a command is wanted")?);
@@ -163,7 +166,9 @@ pub(crate) fn number_of<'a>(
     default: usize,
     most: usize,
 ) -> Result<usize, &'a str>
-    ensures { IfOk result (line.IsNumber default most (first_of flag.now
+    ensures ok { IfOk result (line.IsNumber default most (first_of flag.now
+        (rows_of (found_of found.now)))) }
+    ensures refused { IfErr result (λ _. line.IsNoNumber default most (first_of flag.now
         (rows_of (found_of found.now)))) }
 {
     let Some(word) = found.get_str(flag) else {
@@ -177,7 +182,9 @@ pub(crate) fn number_of<'a>(
 
 /// How deep items may nest, or the word that is no number.
 pub(crate) fn limit_of<'a>(found: &ArgMatches<'a>) -> Result<usize, &'a str>
-    ensures { IfOk result (line.IsLimit (first_of (codes "max-nesting")
+    ensures ok { IfOk result (line.IsLimit (first_of (codes "max-nesting")
+        (rows_of (found_of found.now)))) }
+    ensures refused { IfErr result (λ _. line.IsNoLimit (first_of (codes "max-nesting")
         (rows_of (found_of found.now)))) }
 {
     number_of(found, "max-nesting", NESTING_LIMIT, NESTING_LIMIT)
@@ -189,7 +196,9 @@ pub(crate) fn no_number(
     program: &mut clap::Command<'_>,
     flag: &str,
     word: &str,
-) -> Result<Error, AllocError> {
+) -> Result<Error, AllocError>
+    ensures { IfOk result (λ e. kind_of e ≡ ErrorKind.ValueValidation) }
+{
     let fault = format!(in alloc;
         "invalid value '{word}' for '--{flag} <N>': invalid digit found in string"
     )?;
@@ -208,7 +217,7 @@ fn file_of<'a>(found: &ArgMatches<'a>, id: &str) -> &'a str
 
 /// The command line of the program.
 fn program<'a>(alloc: Global) -> Result<clap::Command<'a>, AllocError>
-    ensures { IfOk result IsProgram }
+    ensures { IfOk result (IsProgram line.program) }
 {
     let formats = ValueParser::Names(&FORMATS);
     let annotations = ValueParser::Names(&ANNOTATIONS);
