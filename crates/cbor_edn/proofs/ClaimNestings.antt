@@ -15,7 +15,8 @@ use Rattle.cbor_edn_conversions.specs.Integers.{literal_integer, within_128, ite
 use Rattle.cbor_edn_conversions.specs.Tables.{found, claims, confirmations, parameters}
 use Rattle.cbor_edn_conversions.specs.Times.{time_literal}
 use Rattle.cbor_edn_conversions.specs.Claims.{KeyReply, value_turn, key_turn, with_keys, named, parameter_value, fitting_parameter, numbered_parameter, parameter_key, confirmation_value, confirmation_key, claim_value, claim_key, with_claims}
-use Rattle.cbor_edn.proofs.TagNestings.{NoDeeper, itself, reply_no_deeper, time_gives}
+use Rattle.cbor_edn_conversions.proofs.nesting.GivenItems.{reply_gives, time_gives}
+use Rattle.cbor_edn.proofs.TagNestings.{NoDeeper, deep, itself, literal_flat}
 
 -- ---- maps, key by key
 
@@ -72,7 +73,7 @@ confirmation_within : (x : ConfirmationValue) → NoDeeper (confirmation_value x
 confirmation_within Oscore = keys_within parameter_key (λ k. numbered_within (literal_integer k))
 
 claim_within : (x : ClaimValue) → NoDeeper (claim_value x)
-claim_within Timestamp v = reply_no_deeper (nesting (items v)) v (Some (time_literal v false)) (time_gives (nesting (items v)) v false) (itself v)
+claim_within Timestamp v = let P : Tree OneItem → Type 0 = λ w. deep w ≤ deep v in reply_gives P v (Some (time_literal v false)) (time_gives P (literal_flat (deep v)) v false) (itself v)
 claim_within Confirmation v = keys_within confirmation_key (λ k. named_stays confirmation_value confirmation_within (option_and_then (found confirmations) (item_integer k))) v
 
 pub claims_no_deeper : NoDeeper with_claims

@@ -1,15 +1,15 @@
 -- The elements of an array that are read one behind the other.
 use Rattle.std.specs.Prelude.{false, nat_eq}
-use Rattle.std.proofs.Common.{◌≡◌, ℕ, zero, suc, ◌-◌, ◌<◌, List, [], ◌∷◌, ◌++◌, ◌+◌, ◌≤◌, map, length, length-append, Option, Some, None, Ok, Err, refl, sym, ap, subst, ◌∙◌, arith}
+use Rattle.std.proofs.Common.{◌≡◌, ℕ, zero, suc, ◌-◌, ◌<◌, List, [], ◌∷◌, ◌++◌, ◌+◌, ◌≤◌, map, length, length-append, Option, Some, Ok, Err, refl, sym, ap, ◌∙◌, arith}
 use Rattle.cbor_edn_parts.specs.declared.base.error.Fault.{Fault}
 use Rattle.cbor_edn_parts.specs.declared.base.error.Fault.TheVariants.{Memory, Told}
 use Rattle.cbor_edn_parts.specs.base.Refusals.{IfTold}
 use Rattle.cbor_edn_model.specs.declared.cbor.decode.CborError.{CborError}
 use Rattle.cbor_edn_model.specs.declared.cbor.decode.CborError.TheVariants.{OutOfData}
 use Rattle.cbor_edn_model.specs.declared.cbor.heads.Width.{Width}
-use Rattle.cbor_edn_model.specs.tree.Items.{Elements, Array}
-use Rattle.cbor_edn_model.specs.tree.Trees.{Tree, OneItem, Rest, LastTree, MoreTree}
-use Rattle.cbor_edn_model.specs.internal.CborReading.{Decoder, DecoderFails, Head, head_at, item_at, item_by, array_by, several, inner, many, trees, element_row, list_tree, sequence_at}
+use Rattle.cbor_edn_model.specs.tree.Items.{Elements}
+use Rattle.cbor_edn_model.specs.tree.Trees.{Tree, OneItem, Rest}
+use Rattle.cbor_edn_model.specs.internal.CborReading.{Decoder, DecoderFails, Head, head_at, item_at, item_by, array_by, several, inner, many, trees, element_row, sequence_at}
 use Rattle.cbor_edn_model.proofs.lemmas.cbor.CborAgain.{inner_more, item_at_ok}
 use Rattle.cbor_edn_command.specs.declared.options.Options.{Options}
 use Rattle.cbor_edn.specs.Elements.{AreRead, IsFault, IsFaultAmong}

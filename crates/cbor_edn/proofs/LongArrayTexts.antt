@@ -1,5 +1,5 @@
 -- The text of arrays that don't fit on a line, and of elements in an array of their own.
-use Rattle.std.proofs.Common.{◌≡◌, ℕ, zero, suc, ◌+◌, ◌*◌, ◌-◌, ◌≤◌, ◌<◌, List, [], ◌∷◌, ◌++◌, map, length, length-append, take, drop, Option, Some, None, refl, sym, ap, subst, ◌∙◌, append_assoc, arith}
+use Rattle.std.proofs.Common.{◌≡◌, ℕ, zero, suc, ◌+◌, ◌*◌, ◌-◌, ◌≤◌, List, [], ◌∷◌, ◌++◌, map, length, length-append, take, drop, Option, Some, None, refl, sym, ap, subst, ◌∙◌, append_assoc, arith}
 use Rattle.std.specs.Prelude.{replicate, All}
 use Rattle.std.specs.Str.{IsUtf8}
 use Rattle.std.proofs.lemmas.Bool.{le-ltb}
@@ -19,7 +19,7 @@ use Rattle.cbor_edn_model.specs.layout.Layout.{Layout, First, Between, Last, Els
 use Rattle.cbor_edn_model.specs.tree.Constructed.{comma_inside}
 use Rattle.cbor_edn_model.specs.tree.Items.{Elements, Array}
 use Rattle.cbor_edn_model.specs.tree.Rows.{entries_onto, entries_text}
-use Rattle.cbor_edn_model.specs.tree.Trees.{Tree, Seq, OneItem, OneEntry, Rest, ListHead, NoIndicator, ListTree, FullTree, ElementTree, LastTree, MoreTree, NothingTree, SequenceTree, Valid, IsListHead, text, list_head_text}
+use Rattle.cbor_edn_model.specs.tree.Trees.{Tree, Seq, OneItem, Rest, ListHead, NoIndicator, ListTree, FullTree, ElementTree, LastTree, MoreTree, NothingTree, SequenceTree, Valid, IsListHead, text, list_head_text}
 use Rattle.cbor_edn_parts.proofs.lemmas.space.SpaceTexts.{optional_texts, mandatory_texts, at_end_texts, separating_texts}
 use Rattle.cbor_edn_model.specs.internal.CborReading.{element_row}
 use Rattle.cbor_edn_model.specs.internal.LayoutRows.{laid_entry}
@@ -29,7 +29,7 @@ use Rattle.cbor_edn_model.proofs.lemmas.layout.LaidRows.{laid_entries}
 use Rattle.cbor_edn_model.proofs.lemmas.layout.LaidTrees.{laid_list}
 use Rattle.cbor_edn_model.proofs.lemmas.layout.LaidTexts.{text_laid_list, text_laid_full, text_laid_sequence, text_laid_rest, text_laid_element}
 use Rattle.cbor_edn_model.proofs.lemmas.text.Texts.{text_element, text_number, text_last, text_entries}
-use Rattle.cbor_edn.specs.Elements.{IsLine, Fronts, elements, zero_item, separated, AreValid}
+use Rattle.cbor_edn.specs.Elements.{IsLine, Fronts, elements, zero_item}
 use Rattle.cbor_edn.specs.LongArrays.{array_of, alone, in_lines, zeros, zeros_text, cut}
 use Rattle.cbor_edn.specs.RunSteps.{Step}
 use Rattle.cbor_edn.proofs.ElementTexts.{comma_laid, row_onto, taken_front, zero_line}

@@ -1,6 +1,6 @@
 -- Arrays that don't fit on a line, whose elements are read, changed and printed before those behind them.
-use Rattle.std.proofs.Common.{ne_eqb, ◌≡◌, ℕ, zero, suc, ◌+◌, ◌-◌, ◌≤◌, ◌<◌, List, [], ◌∷◌, ◌++◌, map, length, length-append, Option, Some, None, Ok, refl, sym, ap, subst, ◌∙◌, append_assoc, arith}
-use Rattle.std.specs.Prelude.{Bool, true, false, nat_eq, Result, Err, All, IfOk, replicate}
+use Rattle.std.proofs.Common.{ne_eqb, ◌≡◌, ℕ, ◌+◌, ◌≤◌, ◌<◌, List, [], ◌∷◌, ◌++◌, map, length, length-append, Some, Ok, refl, sym, ap, subst, ◌∙◌, append_assoc, arith}
+use Rattle.std.specs.Prelude.{Bool, false, nat_eq, Result, Err, All, IfOk, replicate}
 use Rattle.std.specs.declared.alloc.AllocError.{AllocError}
 use Rattle.std.specs.declared.alloc.Global.{Global}
 use Rattle.std.specs.declared.vec.Vec.{Vec}
@@ -16,7 +16,7 @@ use Rattle.cbor_edn_model.specs.tree.Constructed.{comma_inside}
 use Rattle.cbor_edn_model.specs.tree.Items.{Elements, Array}
 use Rattle.cbor_edn_model.specs.tree.Rows.{entries_onto, entries_text}
 use Rattle.cbor_edn_model.specs.tree.Trees.{Tree, OneItem, OneEntry, Rest, Seq, NoIndicator, ListTree, ElementTree, LastTree, MoreTree, NothingTree, SequenceTree, Valid, text, list_head_text}
-use Rattle.cbor_edn_model.specs.internal.CborReading.{head_at, item_at, many, inner, trees, element_row}
+use Rattle.cbor_edn_model.specs.internal.CborReading.{item_at, trees, element_row}
 use Rattle.cbor_edn_model.specs.internal.Regular.{in_front}
 use Rattle.cbor_edn_model.specs.internal.LayoutRows.{laid_entry}
 use Rattle.cbor_edn_model.proofs.lemmas.layout.LaidRows.{laid_entries}
@@ -25,11 +25,11 @@ use Rattle.cbor_edn_command.specs.declared.options.Options.{Options}
 use Rattle.cbor_edn.specs.Elements.{IsLine, AreRead, Fronts, elements, Changes, InFront, separated, zero_item, IsTextInFront, IsTextOf}
 use Rattle.cbor_edn.specs.LongArrays.{ChangesTags, IsLongArray, AreElementsOf, array_of, alone, in_lines, head_of_width, front_text, zeros, zeros_text, cut, IsTextBehindZeros, IsTextWithin, IsTextAtEnd, Puts, IsArrayText, IsArrayRead, behind_array, IsFrontText}
 use Rattle.cbor_edn.specs.Runs.{IsPrintedAs}
-use Rattle.cbor_edn.specs.RunSteps.{Step, StepsGive}
-use Rattle.cbor_edn.proofs.ElementTexts.{read_on, row_onto, front_valid, front_on, entries_on, texts_on, separated_on}
+use Rattle.cbor_edn.specs.RunSteps.{StepsGive}
+use Rattle.cbor_edn.proofs.ElementTexts.{read_on, row_onto, front_valid, front_on, entries_on, texts_on}
 use Rattle.cbor_edn.proofs.EntriesRead.{array_read, row_counted}
 use Rattle.cbor_edn.proofs.LongArrayTexts.{array_text, entries_laid, behind_zeros, zero_end, front_length, cut_out, utf8_behind, utf8_before, front_utf8, row_valid, elements_valid, array_valid, alone_printed, alone_valid_again, before_laid, elements_laid, separator_valid, zeros_array}
-use Rattle.cbor_edn.proofs.NestedSteps.{before, row_length, some_same, Nests, nests_changes, changes_given, given_changes}
+use Rattle.cbor_edn.proofs.NestedSteps.{before, row_length, some_same, nests_changes, changes_given, given_changes}
 use Rattle.cbor_edn.proofs.SplitSteps.{split_changes, leave_changes, zero_alone}
 
 -- the items of a sequence

@@ -1,10 +1,11 @@
 -- A visit leaves items that nest no deeper, where its calls do.
-use Rattle.std.proofs.Common.{◌≡◌, ◌≤◌, ℕ, List, [], All, subst, ap, arith}
+use Rattle.std.proofs.Common.{◌≡◌, ◌≤◌, List, [], All, subst, ap, arith}
 use Rattle.std.proofs.lemmas.List.Elements.{All-head, All-tail}
 use Rattle.cbor_edn_model.specs.tree.Items.{Row, nesting}
 use Rattle.cbor_edn_model.specs.visit.Seeking.{CallArguments, IsTag, SoughtCall, VisitItem, passed, entered, stayed, refused, not_called, VisitParts, of_number, of_float, of_name, of_tag, of_simple, of_list, of_string, of_stream, of_literal, of_ellipsis, of_embedded, of_last_piece, of_pieces, of_pieces_cut, of_none_inside, of_all_inside, of_last, of_more, of_more_cut, of_nothing, of_sequence, of_standalone, VisitEntry, of_element, of_pair, of_pair_cut, of_chunk}
-use Rattle.cbor_edn_model.specs.tree.Trees.{Rule, Tree, OneItem, OnePiece, OneString, OneEntry, Inside, Rest, Seq, Standalone, Of, items}
+use Rattle.cbor_edn_model.specs.tree.Trees.{Rule, Tree, OneItem, OneEntry, Seq, items}
 use Rattle.cbor_edn_model.specs.visit.Visits.{Ending}
+use Rattle.cbor_edn_model.proofs.lemmas.text.Spelled.{nesting_of}
 use Rattle.cbor_edn_conversions.specs.Conversions.{Reply}
 use Rattle.cbor_edn_conversions.specs.Resolving.{AnswersBy}
 use Rattle.cbor_edn_conversions.proofs.resolving.Keeping.{all_split}
@@ -18,16 +19,6 @@ pub calls_stay_within : (f : CallArguments → Tree OneItem → Reply) → ((a :
 calls_stay_within f h c is =
     let left : items c.after ≡ items (f c.arguments c.before).1 = ap (λ (v : Tree OneItem). items v) is.1 in
     let deep = ap nesting left in let within = h c.arguments c.before in omega (arith, deep, within)
-
-abbrev pub nesting_of : (k : Rule) → Of k → ℕ
-nesting_of OneItem x = nesting x
-nesting_of OnePiece x = nesting x
-nesting_of OneString x = nesting x
-nesting_of (OneEntry k) x = nesting x
-nesting_of (Inside k) x = nesting x.1
-nesting_of (Rest k) x = nesting x
-nesting_of Seq x = nesting x
-nesting_of Standalone x = nesting x
 
 module _ (Sought : Tree OneItem → CallArguments → Type 0) where
   mutual

@@ -1,7 +1,7 @@
 -- The bytes of quoted strings, and which integers mean the same bytes as a bignum.
 use Rattle.std.proofs.Common.{ℕ, ℤ, pos, negsuc, zero, suc, ◌+◌, ◌-◌, ◌^◌, ◌<◌, ◌≤◌, ◌≡◌, ◌≢◌, ◌==◌, Bool, true, false, cond, nat_lt, List, [], ◌∷◌, length, Option, Some, None, Ok, refl, sym, ap, ◌∙◌, append-nil, arith}
 use Rattle.std.specs.Prelude.{option_map, option_and_then, is_some}
-use Rattle.std.proofs.lemmas.Bool.{eqb-true, eqb-false}
+use Rattle.std.proofs.lemmas.Bool.{eqb-true}
 use Rattle.std.specs.Fmt.{signed_decimal}
 use Rattle.std.specs.Int.{bytes_high_first}
 use Rattle.std.specs.List.{list_all}
@@ -13,10 +13,10 @@ use Rattle.cbor_edn_parts.specs.internal.NumberReading.{integer_of}
 use Rattle.cbor_edn_parts.proofs.lemmas.number.Decimals.{integer_of_decimal}
 use Rattle.cbor_edn_model.specs.declared.cbor.heads.Width.{Width}
 use Rattle.cbor_edn_model.specs.declared.text.opener.OpenerKind.TheVariants as opener
-use Rattle.cbor_edn_model.specs.access.Accessed.{tag_head, tag_content, inner_item, only_bytes, both_joined, pieces, pieces_bytes, item_bytes, is_plain_piece, is_plain_string}
+use Rattle.cbor_edn_model.specs.access.Accessed.{inner_item, only_bytes, both_joined, pieces, pieces_bytes, item_bytes, is_plain_piece, is_plain_string}
 use Rattle.cbor_edn_model.specs.cbor.Meaning.{◌>>=◌, means, width_of, without_zeros, magnitude_bytes, tagged_bytes, bignum, means_integer, pieces_indicator, chunk_of, string_of}
 use Rattle.cbor_edn_model.specs.visit.Seeking.{CallArguments, number}
-use Rattle.cbor_edn_model.specs.tree.Trees.{Tree, OneItem, OneString, Standalone, NumberTree, FloatTree, NamedTree, EnclosedTree, ListTree, StringTree, StreamTree, LiteralTree, EllipsisTree, EmbeddedTree, LastPieceTree, PlusTree, items}
+use Rattle.cbor_edn_model.specs.tree.Trees.{Tree, OneItem, OneString, NumberTree, FloatTree, NamedTree, EnclosedTree, ListTree, StringTree, StreamTree, LiteralTree, EllipsisTree, EmbeddedTree, LastPieceTree, PlusTree, items}
 use Rattle.cbor_edn_model.specs.cbor.Value.{Value, Chunk, unsigned, negative, string, tag}
 use Rattle.cbor_edn_model.specs.visit.Visits.{fine}
 use Rattle.cbor_edn_model.proofs.lemmas.cbor.MeaningSteps.{given, some_is, some_if, both_steps, bind}
@@ -241,25 +241,9 @@ some_acts a w v e = (ap (λ o. (reply w o).0) (sym e), ap (λ o. (reply w o).1) 
 
 -- ---- the tag's head
 
-same_true : (m n : ℕ) (b : Bool) → (m == n) ≡ b → m ≡ n → b ≡ true
-same_true m n true e same = refl
-same_true m n false e same = absurd (eqb-false m n e same)
-
 pub other_false : (m n : ℕ) (b : Bool) → (m == n) ≡ b → m ≢ n → b ≡ false
 other_false m n true e other = absurd (other (eqb-true m n e))
 other_false m n false e other = refl
-
-abbrev pub head : ℕ → Option Indicator → Option (ℕ × Option Indicator)
-head m i = Some (m, i)
-
-head_number : (m k : ℕ) (i : Option Indicator) → head m i ≡ head k None → m ≡ k
-head_number m k i e = ap (λ (p : ℕ × Option Indicator). p.0) (some_is (m, i) (k, None) e)
-
-no_head_indicator : (m k : ℕ) (i : Option Indicator) → head m i ≡ head k None → i ≡ None
-no_head_indicator m k i e = ap (λ (p : ℕ × Option Indicator). p.1) (some_is (m, i) (k, None) e)
-
-pub same_head : (m k : ℕ) (i : Option Indicator) → m ≡ k → i ≡ None → head m i ≡ head k None
-same_head m k i e is = ap (λ n. head n i) e ∙ ap (head k) is
 
 pub no_indicator_is : (i : Option Indicator) → false ≡ is_some i → i ≡ None
 no_indicator_is None e = refl
@@ -268,62 +252,10 @@ no_indicator_is (Some i) e = absurd cc
 abbrev parts : ℕ → Option Indicator → Tree OneItem → Option (ℕ × Option Indicator × Tree OneItem)
 parts m i c = Some (m, i, c)
 
-parts_by : (k m : ℕ) (i : Option Indicator) (c d : Tree OneItem) → head m i ≡ head k None → d ≡ c → cond (k == m) (parts m i c) None ≡ parts k None d
-parts_by k m i c d e same =
-    let same_number = head_number m k i e in
-    let indicator_is = no_head_indicator m k i e in
-    ap (λ b. cond b (parts m i c) None) (same_true k m _ refl (sym same_number))
-    ∙ (ap (λ n. parts n i c) same_number ∙ (ap (λ j. parts k j c) indicator_is ∙ ap (λ x. parts k None x) (sym same)))
-
-pub plain_tag : (w : Tree OneItem) (k : ℕ) (u : Tree Standalone) (c : Tree OneItem) → tag_head w ≡ Some (k, None) → tag_content w ≡ Some u → c ≡ inner_item u → called_tag (number k) w ≡ Some (k, None, c)
-plain_tag (EnclosedTree (opener.Tag i m) v) k u c e is same = parts_by k m i (inner_item v) c e (same ∙ ap inner_item (sym (some_is v u is)))
-plain_tag (EnclosedTree opener.Simple v) k u c e is same = absurd cc
-plain_tag (NumberTree x i) k u c e is same = absurd cc
-plain_tag (FloatTree f i) k u c e is same = absurd cc
-plain_tag (NamedTree b) k u c e is same = absurd cc
-plain_tag (ListTree l v) k u c e is same = absurd cc
-plain_tag (StringTree v) k u c e is same = absurd cc
-plain_tag (StreamTree s m) k u c e is same = absurd cc
-
-head_by : (b : Bool) (k m : ℕ) (i : Option Indicator) (c : Tree OneItem) → (k == m) ≡ b → (head m i ≡ head k None → ⊥) → bignum_of_tag (cond b (parts m i c) None) ≡ None
-head_by false k m i c e other = refl
-head_by true k m (Some i) c e other = refl
-head_by true k m None c e other = absurd (other (ap (λ n. head n None) (sym (eqb-true k m e))))
-
--- any other head
-other_head : (w : Tree OneItem) (k : ℕ) → (tag_head w ≡ Some (k, None) → ⊥) → bignum_of_tag (called_tag (number k) w) ≡ None
-other_head (EnclosedTree (opener.Tag i m) v) k other = head_by (k == m) k m i (inner_item v) refl other
-other_head (EnclosedTree opener.Simple v) k other = refl
-other_head (NumberTree x i) k other = refl
-other_head (FloatTree f i) k other = refl
-other_head (NamedTree b) k other = refl
-other_head (ListTree l v) k other = refl
-other_head (StringTree v) k other = refl
-other_head (StreamTree s m) k other = refl
-
-pub no_head : (w : Tree OneItem) (k : ℕ) → tag_head w ≡ None → bignum_of_tag (called_tag (number k) w) ≡ None
-no_head w k none = other_head w k (λ e. let both : None ≡ head k None = sym none ∙ e in cc)
-
-pub numbered_head : (w : Tree OneItem) (k m : ℕ) (i : Option Indicator) → tag_head w ≡ head m i → m ≢ k → bignum_of_tag (called_tag (number k) w) ≡ None
-numbered_head w k m i is other = other_head w k (λ e. other (head_number m k i (sym is ∙ e)))
-
-indicator_not : (i : Option Indicator) → true ≡ is_some i → i ≡ None → ⊥
-indicator_not None e is = cc
-indicator_not (Some i) e is = cc
-
-pub indicator_head : (w : Tree OneItem) (k m : ℕ) (i : Option Indicator) → tag_head w ≡ head m i → true ≡ is_some i → bignum_of_tag (called_tag (number k) w) ≡ None
-indicator_head w k m i is indicated = other_head w k (λ e. indicator_not i indicated (no_head_indicator m k i (sym is ∙ e)))
-
--- no tag
-pub no_content : (w : Tree OneItem) (k : ℕ) → tag_content w ≡ None → bignum_of_tag (called_tag (number k) w) ≡ None
-no_content (EnclosedTree (opener.Tag i m) v) k e = absurd cc
-no_content (EnclosedTree opener.Simple v) k e = refl
-no_content (NumberTree x i) k e = refl
-no_content (FloatTree f i) k e = refl
-no_content (NamedTree b) k e = refl
-no_content (ListTree l v) k e = refl
-no_content (StringTree v) k e = refl
-no_content (StreamTree s m) k e = refl
+-- a tag with an indicator
+pub indicated : (m : ℕ) (i : Option Indicator) (c : Tree OneItem) → true ≡ is_some i → bignum_of_tag (parts m i c) ≡ None
+indicated m None c e = absurd cc
+indicated m (Some i) c e = refl
 
 no_integer : (m : ℕ) (c : Tree OneItem) (o : Option (List ℕ)) → m ≢ 2 → m ≢ 3 → integer_of_tag m c o ≡ None
 no_integer m c None a b = refl

@@ -1,12 +1,12 @@
 -- Visits of tags whose calls put comments.
-use Rattle.std.proofs.Common.{ℕ, ◌≤◌, ◌≡◌, List, Result, Ok, Err, MutBor, All, refl, sym, ap, subst, ◌∙◌, arith}
+use Rattle.std.proofs.Common.{ℕ, ◌≤◌, ◌≡◌, List, Result, Ok, Err, MutBor, refl, sym, ap, subst, arith}
 use Rattle.std.specs.Fn.{Called}
 use Rattle.std.specs.Prelude.{OnOk}
 use Rattle.cbor_edn_parts.specs.declared.base.error.CallbackError.{CallbackError}
 use Rattle.cbor_edn_model.specs.visit.Depth.{depth}
 use Rattle.cbor_edn_model.specs.visit.Seeking.{CallArguments, IsTag, SoughtCall, number, VisitParts}
 use Rattle.cbor_edn_model.specs.tree.Trees.{Rule, Tree, OneItem, items}
-use Rattle.cbor_edn_model.specs.visit.Visits.{Answer, Ending, whole, cut, Chain}
+use Rattle.cbor_edn_model.specs.visit.Visits.{Answer, Ending, whole, Chain}
 use Rattle.cbor_edn_core.specs.visit.Callbacks.{ending}
 use Rattle.cbor_edn_core.specs.visit.Sought.{IsTagCall, TagCallback, LeavesNoneDeeper, sought_answer}
 use Rattle.cbor_edn_core.specs.tree.View.{Item, item_tree}

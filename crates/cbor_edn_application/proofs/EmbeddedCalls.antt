@@ -1,5 +1,5 @@
 -- What functions over trees make of literals that hold CBOR.
-use Rattle.std.proofs.Common.{ℕ, ◌+◌, ◌-◌, ◌^◌, ◌<◌, ◌≤◌, ◌≡◌, ◌≢◌, ◌⊎◌, inl, inr, ◌||◌, List, [], Option, Some, None, min, refl, sym, ap, ◌∙◌, arith}
+use Rattle.std.proofs.Common.{ℕ, ◌-◌, ◌^◌, ◌≡◌, ◌≢◌, ◌⊎◌, inl, inr, ◌||◌, List, [], Option, Some, None, min, refl, sym, ap, ◌∙◌, arith}
 use Rattle.std.specs.Prelude.{is_some, option_and_then}
 use Rattle.cbor_edn_parts.specs.declared.base.indicator.Indicator.{Indicator}
 use Rattle.cbor_edn_model.specs.access.Accessed.{tag_head, array_items, map_items, item_bytes}

@@ -1,5 +1,5 @@
 -- Sequences whose items get the names of keys, one by one.
-use Rattle.std.proofs.Common.{◌≡◌, ℕ, suc, [], ◌∷◌, true, false, Option, None, Some, refl, sym, ap, ◌∙◌, subst}
+use Rattle.std.proofs.Common.{◌≡◌, ℕ, suc, [], ◌∷◌, true, false, Option, None, Some, refl, ap, ◌∙◌, subst}
 use Rattle.std.specs.Prelude.{slice_get, option_map, option_and_then, unwrap_or}
 use Rattle.cbor_edn_model.specs.access.Paths.{items_in, at, at_sequence, with_item, with_at, with_at_sequence}
 use Rattle.cbor_edn_model.specs.tree.Trees.{Tree, OneItem, Seq, items}

@@ -9,6 +9,7 @@ ghost use Rattle.cbor_edn_conversions.specs.Bignums.{quoted_item_bytes, magnitud
 ghost use Rattle.cbor_edn_application.specs.Acts.{ActsBy};
 
 use crate::same::mean_the_same;
+use crate::tags::tag_indicator_and_content;
 use cbor_edn_conversions::bignums::bignum_text;
 use cbor_edn_core::tree::Item;
 use cbor_edn_parts::base::error::{CallbackError, Fault};
@@ -63,16 +64,11 @@ fn bignum_content<'t, 'a>(tag: u64, item: &'t Item<'a>) -> Option<&'t Item<'a>>
     if tag != 2 && tag != 3 {
         return None;
     }
-    let Some((number, indicator)) = item.get_tag_head() else {
-        return None;
-    };
-    if number != tag || indicator.is_some() {
+    let (indicator, content) = tag_indicator_and_content(tag, item)?;
+    if indicator.is_some() {
         return None;
     }
-    match item.get_tagged() {
-        Ok(content) => Some(content.item()),
-        Err(_) => None,
-    }
+    Some(content)
 }
 
 /// The number that the bytes of a content write. There is none of more than 16 bytes: no integer means so many.

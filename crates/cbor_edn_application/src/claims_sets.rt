@@ -29,7 +29,7 @@ pub fn annotate_claims_sets(alloc: Global, sequence: &mut Sequence<'_>) -> Resul
     Err(AllocError)
 }
 
-/// The same of the item at an index. False where there is none.
+/// Annotates the claims set at an index. Another item is passed over. False where none is there.
 fn annotate_at(alloc: Global, sequence: &mut Sequence<'_>, index: usize) -> Result<bool, AllocError>
     ensures annotated { IfOk result (λ there. IsAnnotatedAt index there (sequence_tree sequence.old) (sequence_tree sequence.new)) }
     ensures out_of_memory { IfErr result (λ _. IsBegunAt index (sequence_tree sequence.old) (sequence_tree sequence.new)) }
@@ -43,7 +43,7 @@ fn annotate_at(alloc: Global, sequence: &mut Sequence<'_>, index: usize) -> Resu
     }
 }
 
-/// The same of an item. One that is no map stays.
+/// Annotates a claims set. An item that is no map stays.
 fn annotate_map(alloc: Global, item: &mut Item<'_>) -> Result<(), AllocError>
     ensures annotated { OnOk result (item_tree item.new ≡ (with_claims (item_tree item.old)).1) }
     ensures out_of_memory { IfErr result (λ _. AreKeysVisited claim_key (item_tree item.old) cut (item_tree item.new)) }

@@ -85,7 +85,7 @@ fn structure_in<'a>(
     decoded_structure(alloc, limit, &bytes)
 }
 
-/// The same of bytes. Those that can't begin a structure are not decoded.
+/// The array, the map or the tag that bytes encode, nested no deeper than the limit. Bytes that can't begin a structure are not decoded.
 fn decoded_structure<'a>(
     alloc: Global,
     limit: usize,

@@ -25,7 +25,7 @@ pub fn comment_claims_keys(alloc: Global, sequence: &mut Sequence<'_>) -> Result
     Err(AllocError)
 }
 
-/// The same of the item at an index. False where there is none.
+/// Puts the names into the claim `cnf` of the map at an index. Another item is passed over. False where none is there.
 fn comment_at(alloc: Global, sequence: &mut Sequence<'_>, index: usize) -> Result<bool, AllocError>
     ensures keys { IfOk result (λ there. IsChangedAt with_key_names index there (sequence_tree sequence.old) (sequence_tree sequence.new)) }
     ensures items { items (sequence_tree sequence.new) ≡ items (sequence_tree sequence.old) }

@@ -2,5 +2,7 @@
 pub mod DirectAnswers
 pub mod DirectClaims
 pub mod DirectVisits
+pub mod GivenItems
 pub mod Meant
+pub mod MessagesLeft
 pub mod TagDepths

@@ -1,6 +1,6 @@
 -- Messages of COSE (RFC 9052) with their names, those of their parts and of their header parameters:
 -- `18([<<{1/ alg /: -7/ ES256 /}>>/ protected /, {}/ unprotected /, h'00'/ payload /, h'00'/ signature /])/ COSE_Sign1 /`.
-use Rattle.std.specs.Prelude.{ℕ, zero, suc, pos, ◌^◌, ◌-◌, [], List, Option, None, Some, if◌then◌else◌, slice_get}
+use Rattle.std.specs.Prelude.{ℕ, zero, suc, pos, ◌^◌, ◌-◌, List, Option, None, Some, if◌then◌else◌, slice_get}
 use Rattle.cbor_edn_model.specs.declared.text.opener.OpenerKind.TheVariants as opener
 use Rattle.cbor_edn_model.specs.access.Paths.{items_in, with_item}
 use Rattle.cbor_edn_model.specs.tree.Items.{Elements, Array}

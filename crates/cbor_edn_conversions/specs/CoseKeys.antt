@@ -8,7 +8,7 @@ use Rattle.cbor_edn_model.specs.visit.Visits.{fine, comment}
 use Rattle.cbor_edn_conversions.specs.declared.tables.KeyType.{KeyType}
 use Rattle.cbor_edn_conversions.specs.declared.tables.NamedNumber.{NamedNumber}
 use Rattle.cbor_edn_conversions.specs.declared.tables.NamedNumber.TheVariants as named_number
-use Rattle.cbor_edn_conversions.specs.Claims.{KeyReply, with_keys, named, key_of, name_answer}
+use Rattle.cbor_edn_conversions.specs.Claims.{KeyReply, with_keys, key_of, name_answer}
 use Rattle.cbor_edn_conversions.specs.Conversions.{Reply}
 use Rattle.cbor_edn_conversions.specs.CoseTables.{cose_algorithms, key_types, curves, key_parameters, typed_parameters, key_confirmations}
 use Rattle.cbor_edn_conversions.specs.Integers.{item_integer}

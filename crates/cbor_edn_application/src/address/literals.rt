@@ -58,7 +58,7 @@ pub(super) fn placed_literal<'a>(
     }
 }
 
-/// The same of an array.
+/// The literal that is to stand in the place of an array, or in that of its first element.
 fn array_literal<'a>(
     alloc: Global,
     array: &Item<'_>,
@@ -192,7 +192,7 @@ fn bytes_of(alloc: Global, item: &Item<'_>) -> Result<Option<Vec<u8>>, AllocErro
     }
 }
 
-/// The same with the message of a refusal.
+/// A text, or the message of its refusal.
 fn with_message(text: Result<String, Fault<NoAddress>>) -> Result<String, Fault<&'static str>>
     ensures text { (t : Result (List ℕ) Message) → IfOk text (λ s. t ≡ Ok (string_bytes s)) → IfOk result (λ s. t ≡ Ok (string_bytes s)) }
     ensures refused { (t : Result (List ℕ) Message) → IfTold text (λ e. t ≡ Err (refusal_message e)) → IfTold result (λ e. t ≡ Err e.now) }

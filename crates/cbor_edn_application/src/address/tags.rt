@@ -34,7 +34,7 @@ pub fn ip_tag_to_aol<'a>(alloc: Global, tag: u64, item: &mut Item<'a>) -> Result
     }
 }
 
-/// The same of the tag of a version.
+/// Puts a literal in the place of the tag of a version's addresses. Other items stay.
 fn version_tag_to_aol<'a>(
     alloc: Global,
     version: IpVersion,

@@ -77,7 +77,7 @@ fn annotate_embedded(alloc: Global, payload: &mut Item<'_>) -> Result<(), AllocE
     answer
 }
 
-/// The same in a string, or anything else with an item below it.
+/// The comments in the map that is embedded first in a string, or stands first in anything else.
 fn annotate_first(alloc: Global, string: &mut StandaloneItem<'_>) -> Result<(), AllocError>
     ensures claims { OnOk result (standalone_tree string.new ≡ inside (in_item 0 claims_and_keys) (standalone_tree string.old)) }
     ensures out_of_memory { OnErr result (standalone_tree string.new ≡ standalone_tree string.old) }

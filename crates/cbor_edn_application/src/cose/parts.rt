@@ -138,7 +138,7 @@ fn comment_embedded_headers(alloc: Global, item: &mut Item<'_>) -> Result<(), Al
     answer
 }
 
-/// The same in a string, or anything else with an item below it.
+/// The names of header parameters in the map that is embedded first in a string, or stands first in anything else.
 fn comment_first_headers(alloc: Global, string: &mut StandaloneItem<'_>) -> Result<(), AllocError>
     ensures headers { OnOk result (standalone_tree string.new ≡ inside (in_item 0 with_headers) (standalone_tree string.old)) }
     ensures items { items (standalone_tree string.new) ≡ items (standalone_tree string.old) }

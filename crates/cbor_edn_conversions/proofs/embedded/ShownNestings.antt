@@ -1,10 +1,11 @@
 -- How deep items nest of which literals are shown.
-use Rattle.std.proofs.Common.{ℕ, zero, suc, ◌+◌, ◌-◌, ◌<◌, ◌≤◌, ◌≡◌, List, [], ◌∷◌, Option, Some, None, option_and_then, refl, sym, ap, ◌∙◌, subst, arith}
+use Rattle.std.proofs.Common.{ℕ, zero, suc, ◌+◌, ◌-◌, ◌≤◌, ◌≡◌, List, Option, Some, None, option_and_then, refl, sym, ap, ◌∙◌, subst, arith}
 use Rattle.cbor_edn_parts.specs.declared.base.indicator.Indicator.{Indicator}
 use Rattle.cbor_edn_model.specs.declared.text.opener.OpenerKind.TheVariants as opener
 use Rattle.cbor_edn_model.specs.tree.Items.{nesting}
-use Rattle.cbor_edn_model.specs.tree.Trees.{Rule, Tree, OneItem, OnePiece, OneString, OneEntry, Inside, Rest, Seq, Standalone, Of, NumberTree, FloatTree, NamedTree, EnclosedTree, ListTree, StringTree, StreamTree, LiteralTree, EllipsisTree, EmbeddedTree, LastPieceTree, PlusTree, ElementTree, PairTree, ChunkTree, EmptyTree, FullTree, LastTree, MoreTree, NothingTree, SequenceTree, StandaloneTree, items}
+use Rattle.cbor_edn_model.specs.tree.Trees.{Rule, Tree, OneItem, NumberTree, FloatTree, NamedTree, EnclosedTree, ListTree, StringTree, StreamTree, LiteralTree, EllipsisTree, EmbeddedTree, LastPieceTree, PlusTree, ElementTree, PairTree, ChunkTree, EmptyTree, FullTree, LastTree, MoreTree, NothingTree, SequenceTree, StandaloneTree, items}
 use Rattle.cbor_edn_model.proofs.lemmas.cbor.MeaningSteps.{some_if}
+use Rattle.cbor_edn_model.proofs.lemmas.text.Spelled.{nesting_of}
 use Rattle.cbor_edn_conversions.specs.EmbeddedItems.{OfLiteral, literal_item, with_literals, bytes_behind_prefix, decoded_item, is_structure, if_structure, structure_of, embedded_item, shown_or, shown}
 use Rattle.cbor_edn_conversions.specs.EmbeddedLaws.{ShownNests, ShownWithin}
 use Rattle.cbor_edn_conversions.proofs.embedded.LiteralBytes.{HasBytes, has_bytes}
@@ -37,16 +38,6 @@ pub structure_is : (limit : ℕ) (x : List ℕ) (w : Tree OneItem) → structure
 structure_is limit x w e = structure_by limit x (bytes_behind_prefix x) w refl e
 
 -- ---- with other literals
-
-abbrev nesting_of : (k : Rule) → Of k → ℕ
-nesting_of OneItem x = nesting x
-nesting_of OnePiece x = nesting x
-nesting_of OneString x = nesting x
-nesting_of (OneEntry k) x = nesting x
-nesting_of (Inside k) x = nesting x.1
-nesting_of (Rest k) x = nesting x
-nesting_of Seq x = nesting x
-nesting_of Standalone x = nesting x
 
 module _ (f : OfLiteral) (n : ℕ) (nests : (x : List ℕ) (i : Option Indicator) → nesting (items (f x i)) ≤ n) where
   pub nests_with : {k : Rule} (w : Tree k) → nesting_of k (items (with_literals f w)) ≤ nesting_of k (items w) + n

@@ -3,7 +3,6 @@ use Rattle.std.proofs.Common.{ℕ, ◌≡◌, cond, List, [], ◌∷◌, Option,
 use Rattle.std.proofs.lemmas.List.Elements.{All-nil, All-cons}
 use Rattle.cbor_edn_parts.specs.string.Literal as literals
 use Rattle.cbor_edn_parts.specs.string.Literal.{Prefixed, IsLiteral}
-use Rattle.cbor_edn_parts.specs.space.Space as space
 use Rattle.cbor_edn_parts.specs.internal.ContentReading.{same}
 use Rattle.cbor_edn_model.specs.cbor.Decoded.{alone}
 use Rattle.cbor_edn_model.specs.visit.Depth.{depth}
@@ -36,7 +35,7 @@ abbrev R : Resolver
 R = by_prefix F
 
 is_literal : IsLiteral (Prefixed x) [] text
-is_literal = ([], literals.small (lit≤ tt, lit≤ tt) space.end, literals.nothing, refl)
+is_literal = ([], literals.small (lit≤ tt, lit≤ tt) (All-nil _), literals.nothing, refl)
 
 resolved : R text None ≡ Some v
 resolved = by_prefix_is F x [] text None is_literal refl

@@ -1,69 +1,41 @@
 -- What conversions and comments make of direct items is direct.
-use Rattle.std.proofs.Common.{ℕ, ℤ, ◌≡◌, ◌==◌, Bool, true, false, cond, not, List, [], ◌∷◌, codes, Option, Some, None, Result, Ok, Err, refl, sym, ap, subst}
+use Rattle.std.proofs.Common.{ℕ, ℤ, ◌≡◌, Bool, true, false, cond, List, Option, Some, None, Result, Ok, Err, refl, sym, ap, subst}
 use Rattle.std.specs.declared.net.ip_addr.IpAddr.{IpAddr}
 use Rattle.cbor_edn_parts.specs.declared.base.indicator.Indicator.{Indicator}
 use Rattle.cbor_edn_parts.specs.internal.ContentReading.{same}
-use Rattle.cbor_edn_parts.specs.internal.NumberReading.{integer_of}
 use Rattle.cbor_edn_model.specs.declared.text.opener.OpenerKind.TheVariants as opener
-use Rattle.cbor_edn_model.specs.access.Accessed.{item_bytes, array_items}
+use Rattle.cbor_edn_model.specs.access.Accessed.{array_items}
 use Rattle.cbor_edn_model.specs.tree.Items.{Elements, Array, Map, Item, Node, Tagged, Listed, Simple, Then}
 use Rattle.cbor_edn_model.specs.access.Paths.{with_item}
 use Rattle.cbor_edn_model.specs.visit.Seeking.{CallArguments, number, prefix_and_text}
 use Rattle.cbor_edn_model.specs.tree.Trees.{Tree, OneItem, Inside, Rest, head_indicator, NumberTree, FloatTree, NamedTree, EnclosedTree, ListTree, StringTree, StreamTree, ElementTree, EmptyTree, FullTree, LastTree, MoreTree, StandaloneTree, items}
-use Rattle.cbor_edn_model.specs.visit.Visits.{fine, comment, no_memory}
-use Rattle.cbor_edn_times_and_addresses.specs.declared.address.IpVersion.{IpVersion}
-use Rattle.cbor_edn_times_and_addresses.specs.declared.address.IpVersion.TheVariants.{V4, V6}
+use Rattle.cbor_edn_model.specs.visit.Visits.{fine}
 use Rattle.cbor_edn_times_and_addresses.specs.declared.address.AddressError.{AddressError}
 use Rattle.cbor_edn_times_and_addresses.specs.internal.AddressReading.{address_of}
-use Rattle.cbor_edn_times_and_addresses.specs.internal.TimeComputing.{instant_of, time_text}
-use Rattle.cbor_edn_conversions.specs.Conversions.{Message, Conversion, Reply, reply, and_then, of_prefixes, of_literal, called_tag, is_shortest, changed_encoding, without_tag, mean_the_same, literal_tree, integer_tree, tag_tree, in_tag}
-use Rattle.cbor_edn_conversions.specs.Integers.{item_integer}
-use Rattle.cbor_edn_conversions.specs.Times.{time_prefix, instant_item, time_item, resolve_time, is_plain, instant_by, is_time_stamp, instant_literal, time_literal, time_of_tag, pretty_time}
-use Rattle.cbor_edn_conversions.specs.Addresses.{address_prefix, address_tag, bytes_behind, read_item, address_item, resolve_address, whole_text, prefix_text, if_same, as_literal, with_first, as_first, by_length, by_others, by_first, by_elements, by_bytes, address_literal, address_of_tag, pretty_address}
-use Rattle.cbor_edn_conversions.specs.Bignums.{quoted_item_bytes, magnitude, bignum_integer, if_same_integer, integer_of_tag, bignum_of_tag, pretty_bignum}
+use Rattle.cbor_edn_times_and_addresses.specs.internal.TimeComputing.{instant_of}
+use Rattle.cbor_edn_conversions.specs.Conversions.{Conversion, Reply, reply, and_then, of_prefixes, of_literal, called_tag, literal_tree, integer_tree, in_tag}
+use Rattle.cbor_edn_conversions.specs.Times.{time_prefix, instant_item, time_item, resolve_time, time_literal, pretty_time}
+use Rattle.cbor_edn_conversions.specs.Addresses.{address_prefix, address_tag, bytes_behind, read_item, address_item, resolve_address, pretty_address}
+use Rattle.cbor_edn_conversions.specs.Bignums.{pretty_bignum}
 use Rattle.cbor_edn_conversions.specs.All.{resolve_all, pretty_all}
 use Rattle.cbor_edn_conversions.specs.Annotations.{direction_at, commented, turned, with_direction, at_content, is_called_tag, comment_lang}
 use Rattle.cbor_edn_conversions.specs.Tag999.{is_built_in, tag999_tree, tag999_of_literal, to_tag999}
 use Rattle.cbor_edn_conversions.specs.Nesting.{IsDirect}
 use Rattle.cbor_edn_conversions.specs.NestingLaws.{CallsKeepDirect, LanguageKeepsItems}
 use Rattle.cbor_edn_conversions.proofs.conversions.Calls.{called_tag_is}
+use Rattle.cbor_edn_conversions.proofs.nesting.GivenItems.{Gives, MayGive, address_left, bignum_left, may_give, reply_gives, then_gives, time_gives, time_left}
 
 -- ---- conversions
 
--- the item that a conversion gives, if it gives one, is direct
-abbrev pub Gives : Conversion → Type 0
-Gives (Ok v) = IsDirect (items v)
-Gives (Err e) = Unit {0}
-
-abbrev MayGive : Option Conversion → Type 0
-MayGive None = Unit {0}
-MayGive (Some c) = Gives c
+abbrev pub IsDirectItem : Tree OneItem → Type 0
+IsDirectItem v = IsDirect (items v)
 
 -- what a callback leaves of a direct item is
 abbrev pub Leaves : (Tree OneItem → Reply) → Type 0
 Leaves f = (w : Tree OneItem) → IsDirect (items w) → IsDirect (items (f w).1)
 
-pub reply_leaves : (w : Tree OneItem) (o : Option Conversion) → MayGive o → IsDirect (items w) → IsDirect (items (reply w o).1)
-reply_leaves w None g d = d
-reply_leaves w (Some (Err e)) g d = d
-reply_leaves w (Some (Ok v)) g d = g
-
-then_leaves : (a : Reply) (f : Tree OneItem → Reply) → Leaves f → IsDirect (items a.1) → IsDirect (items (and_then a f).1)
-then_leaves (fine, w) f h d = h w d
-then_leaves (comment e, w) f h d = d
-then_leaves (no_memory, w) f h d = d
-
-if_gives : (b : Bool) (c e : Conversion) → Gives c → Gives e → Gives (cond b c e)
-if_gives true c e g h = g
-if_gives false c e g h = h
-
-may_give : (b : Bool) (o p : Option Conversion) → MayGive o → MayGive p → MayGive (cond b o p)
-may_give true o p g h = g
-may_give false o p g h = h
-
-without_gives : (i : Option Indicator) (n : ℕ) (c : Conversion) → Gives c → Gives (without_tag i n c)
-without_gives i n (Err e) g = tt
-without_gives i n (Ok v) g = if_gives (is_shortest i n) (Ok v) (Err changed_encoding) g tt
+pub reply_leaves : (w : Tree OneItem) (o : Option Conversion) → MayGive IsDirectItem o → IsDirect (items w) → IsDirect (items (reply w o).1)
+reply_leaves = reply_gives IsDirectItem
 
 -- an item in a tag is as direct as without
 in_tag_direct : (wrap : Bool) (n : ℕ) (w : Tree OneItem) → IsDirect (items w) → IsDirect (items (in_tag wrap n w))
@@ -81,11 +53,11 @@ called_direct a w d n i c e = subst (λ (x : Node Item). IsDirect x) (called_tag
 
 -- ---- literals
 
-prefixes_give : (prefix : Bool → List ℕ) (item : Bool → List ℕ → Conversion) → ((wrap : Bool) (t : List ℕ) → Gives (item wrap t)) → (a : CallArguments) → MayGive (of_literal (of_prefixes prefix item) a)
+prefixes_give : (prefix : Bool → List ℕ) (item : Bool → List ℕ → Conversion) → ((wrap : Bool) (t : List ℕ) → Gives IsDirectItem (item wrap t)) → (a : CallArguments) → MayGive IsDirectItem (of_literal (of_prefixes prefix item) a)
 prefixes_give prefix item g (number n) = tt
-prefixes_give prefix item g (prefix_and_text p t) = may_give (same p (prefix false)) (Some (item false t)) _ (g false t) (may_give (same p (prefix true)) (Some (item true t)) None (g true t) tt)
+prefixes_give prefix item g (prefix_and_text p t) = may_give IsDirectItem (same p (prefix false)) (Some (item false t)) _ (g false t) (may_give IsDirectItem (same p (prefix true)) (Some (item true t)) None (g true t) tt)
 
-instant_gives : (wrap : Bool) (o : Option (ℤ × ℕ)) → Gives (instant_item wrap o)
+instant_gives : (wrap : Bool) (o : Option (ℤ × ℕ)) → Gives IsDirectItem (instant_item wrap o)
 unfolding items
 instant_gives wrap None = tt
 instant_gives wrap (Some p) = in_tag_direct wrap 1 _ tt
@@ -95,7 +67,7 @@ unfolding items
 behind_direct None bs = tt
 behind_direct (Some n) bs = (tt, (tt, tt))
 
-read_gives : (wrap : Bool) (r : Result (IpAddr × Option ℕ) AddressError) → Gives (read_item wrap r)
+read_gives : (wrap : Bool) (r : Result (IpAddr × Option ℕ) AddressError) → Gives IsDirectItem (read_item wrap r)
 read_gives wrap (Err e) = tt
 read_gives wrap (Ok p) = in_tag_direct wrap _ (bytes_behind p.1 _) (behind_direct p.1 _)
 
@@ -111,9 +83,9 @@ tag999_direct : (p t : List ℕ) → IsDirect (items (tag999_tree p t))
 unfolding items
 tag999_direct p t = (tt, (tt, tt))
 
-tag999_gives : (a : CallArguments) → MayGive (of_literal tag999_of_literal a)
+tag999_gives : (a : CallArguments) → MayGive IsDirectItem (of_literal tag999_of_literal a)
 tag999_gives (number n) = tt
-tag999_gives (prefix_and_text p t) = may_give (is_built_in p) None (Some (Ok (tag999_tree p t))) tt (tag999_direct p t)
+tag999_gives (prefix_and_text p t) = may_give IsDirectItem (is_built_in p) None (Some (Ok (tag999_tree p t))) tt (tag999_direct p t)
 
 tags_999 : (a : CallArguments) → Leaves (to_tag999 a)
 unfolding to_tag999
@@ -121,25 +93,11 @@ tags_999 a w d = reply_leaves w _ (tag999_gives a) d
 
 -- ---- times
 
-instant_literal_gives : (wrap plain : Bool) (o : Option (ℤ × ℕ)) → Gives (instant_literal wrap plain o)
-instant_literal_gives wrap plain None = tt
-instant_literal_gives wrap plain (Some p) =
-    let literal = literal_tree (time_prefix wrap) (time_text p.0 p.1) in
-    if_gives (not (is_time_stamp p.0)) (Err (codes "Value out of range for time stamps")) (cond (not plain) (Err changed_encoding) (Ok literal)) tt
-    (if_gives (not plain) (Err changed_encoding) (Ok literal) tt (literal_direct (time_prefix wrap) (time_text p.0 p.1)))
-
-pub time_gives : (w : Tree OneItem) (wrap : Bool) → Gives (time_literal w wrap)
-unfolding time_literal
-time_gives (NumberTree x i) wrap = instant_literal_gives wrap (is_plain (integer_of x) i) (instant_by (integer_of x) i x)
-time_gives _ wrap = tt
-
-time_tag_gives : (o : Option (ℕ × Option Indicator × Tree OneItem)) → MayGive (time_of_tag o)
-time_tag_gives None = tt
-time_tag_gives (Some (n, i, w)) = may_give (n == 1) (Some (without_tag i n (time_literal w true))) None (without_gives i n (time_literal w true) (time_gives w true)) tt
+pub time_leaves : (w : Tree OneItem) (wrap : Bool) → Gives IsDirectItem (time_literal w wrap)
+time_leaves = time_gives IsDirectItem literal_direct
 
 pub pretty_times : (a : CallArguments) → Leaves (pretty_time a)
-unfolding pretty_time
-pretty_times a w d = reply_leaves w (time_of_tag (called_tag a w)) (time_tag_gives (called_tag a w)) d
+pretty_times = time_left IsDirectItem literal_direct
 
 -- ---- addresses
 
@@ -166,86 +124,29 @@ module _ (x : Tree OneItem) (new : IsDirect (items x)) where
   first_direct (NamedTree b) es is d = absurd cc
   first_direct (EnclosedTree l w) es is d = absurd cc
 
-module _ (version : IpVersion) (wrap : Bool) (w : Tree OneItem) (direct : IsDirect (items w)) where
-  same_gives : (new : Tree OneItem) (r : Conversion) → IsDirect (items new) → Gives (if_same version wrap w new r)
-  same_gives new (Err e) d = tt
-  same_gives new (Ok back) d = if_gives (mean_the_same (in_tag wrap (address_tag version) w) back) (Ok new) (Err changed_encoding) d tt
-
-  literal_gives : (r : Result (List ℕ) Message) → Gives (as_literal version wrap w r)
-  literal_gives (Err e) = tt
-  literal_gives (Ok t) = same_gives (literal_tree (address_prefix wrap) t) (address_item wrap t) (literal_direct (address_prefix wrap) t)
-
-  first_gives : (es : List (Tree OneItem)) → array_items w ≡ Some es → (r : Result (List ℕ) Message) → Gives (as_first version wrap w r)
-  first_gives es are (Err e) = tt
-  first_gives es are (Ok t) =
-      same_gives (with_first version wrap w (literal_tree (address_prefix false) t)) _
-      (in_tag_direct wrap (address_tag version) _ (first_direct (literal_tree (address_prefix false) t) (literal_direct (address_prefix false) t) w es are direct))
-
-  length_gives : (z : Option ℤ) (o : Option (List ℕ)) → Gives (by_length version wrap w z o)
-  length_gives None o = tt
-  length_gives (Some z) None = tt
-  length_gives (Some z) (Some bs) = literal_gives (prefix_text version z bs)
-
-  others_give : (e : Tree OneItem) (es : List (Tree OneItem)) → Gives (by_others version wrap w e es)
-  others_give e [] = tt
-  others_give e (b ∷ []) = length_gives (item_integer e) (item_bytes b)
-  others_give e (b ∷ c ∷ es) = tt
-
-  elements_give : (e : Tree OneItem) (es : List (Tree OneItem)) → array_items w ≡ Some (e ∷ es) → (o : Option (List ℕ)) → Gives (by_first version wrap w o e es)
-  elements_give e es are (Some bs) = first_gives (e ∷ es) are (whole_text version bs)
-  elements_give e es are None = others_give e es
-
-  array_gives : (o : Option (List (Tree OneItem))) → array_items w ≡ o → Gives (by_elements version wrap w o)
-  array_gives None are = tt
-  array_gives (Some []) are = tt
-  array_gives (Some (e ∷ es)) are = elements_give e es are (item_bytes e)
-
-  item_gives : (o : Option (List ℕ)) → Gives (by_bytes version wrap w o)
-  item_gives (Some bs) = literal_gives (whole_text version bs)
-  item_gives None = array_gives (array_items w) refl
-
-  address_gives : Gives (address_literal w version wrap)
-  unfolding address_literal
-  address_gives = item_gives (item_bytes w)
-
-address_tag_gives : (o : Option (ℕ × Option Indicator × Tree OneItem)) → ((n : ℕ) (i : Option Indicator) (c : Tree OneItem) → o ≡ Some (n, i, c) → IsDirect (items c)) → MayGive (address_of_tag o)
-address_tag_gives None d = tt
-address_tag_gives (Some (n, i, c)) d =
-    let direct = d n i c refl in
-    may_give (n == 52) (Some (without_tag i n (address_literal c V4 true))) _ (without_gives i n _ (address_gives V4 true c direct))
-    (may_give (n == 54) (Some (without_tag i n (address_literal c V6 true))) None (without_gives i n _ (address_gives V6 true c direct)) tt)
-
 pub pretty_addresses : (a : CallArguments) → Leaves (pretty_address a)
-unfolding pretty_address
-pretty_addresses a w d = reply_leaves w (address_of_tag (called_tag a w)) (address_tag_gives (called_tag a w) (called_direct a w d)) d
+pretty_addresses a w d =
+    address_left IsDirectItem literal_direct a w
+    (λ n i c e version t es are.
+    in_tag_direct true (address_tag version) _ (first_direct (literal_tree (address_prefix false) t) (literal_direct (address_prefix false) t) c es are (called_direct a w d n i c e)))
+    d
 
 -- ---- bignums
 
-integer_gives : (w : Tree OneItem) (o : Option ℤ) → MayGive (if_same_integer w o)
+integer_direct : (z : ℤ) → IsDirect (items (integer_tree z))
 unfolding items
-integer_gives w None = tt
-integer_gives w (Some z) = may_give (mean_the_same w (integer_tree z)) (Some (Ok (integer_tree z))) None tt tt
-
-bytes_give : (n : ℕ) (c : Tree OneItem) (o : Option (List ℕ)) → MayGive (integer_of_tag n c o)
-bytes_give n c None = tt
-bytes_give n c (Some bs) = integer_gives (tag_tree n c) (bignum_integer n (magnitude bs))
-
-bignum_gives : (o : Option (ℕ × Option Indicator × Tree OneItem)) → MayGive (bignum_of_tag o)
-bignum_gives None = tt
-bignum_gives (Some (n, Some i, c)) = tt
-bignum_gives (Some (n, None, c)) = bytes_give n c (quoted_item_bytes c)
+integer_direct z = tt
 
 pub pretty_bignums : (a : CallArguments) → Leaves (pretty_bignum a)
-unfolding pretty_bignum
-pretty_bignums a w d = reply_leaves w (bignum_of_tag (called_tag a w)) (bignum_gives (called_tag a w)) d
+pretty_bignums = bignum_left IsDirectItem integer_direct
 
 -- ---- all of them
 
 pretty_items : (a : CallArguments) → Leaves (pretty_all a)
-pretty_items a w d = then_leaves (and_then (pretty_time a w) (pretty_address a)) (pretty_bignum a) (pretty_bignums a) (then_leaves (pretty_time a w) (pretty_address a) (pretty_addresses a) (pretty_times a w d))
+pretty_items a w d = then_gives IsDirectItem (and_then (pretty_time a w) (pretty_address a)) (pretty_bignum a) (pretty_bignums a) (then_gives IsDirectItem (pretty_time a w) (pretty_address a) (pretty_addresses a) (pretty_times a w d))
 
 resolved_items : (a : CallArguments) → Leaves (resolve_all a)
-resolved_items a w d = then_leaves (resolve_time a w) (resolve_address a) (resolved_addresses a) (resolved_times a w d)
+resolved_items a w d = then_gives IsDirectItem (resolve_time a w) (resolve_address a) (resolved_addresses a) (resolved_times a w d)
 
 -- ---- comments in a tag 38
 

@@ -17,7 +17,7 @@ use Rattle.cbor_edn_conversions.specs.Times.{time_literal}
 use Rattle.cbor_edn_conversions.specs.Claims.{KeyReply, value_turn, key_turn, with_keys, named, parameter_value, fitting_parameter, numbered_parameter, parameter_key, confirmation_value, confirmation_key, claim_value, claim_key, with_claims}
 use Rattle.cbor_edn_conversions.specs.Nesting.{IsDirect}
 use Rattle.cbor_edn_conversions.specs.NestingLaws.{ClaimsKeepDirect}
-use Rattle.cbor_edn_conversions.proofs.nesting.DirectAnswers.{Leaves, reply_leaves, time_gives}
+use Rattle.cbor_edn_conversions.proofs.nesting.DirectAnswers.{Leaves, reply_leaves, time_leaves}
 
 -- ---- maps, key by key
 
@@ -74,7 +74,7 @@ confirmation_leaves : (x : ConfirmationValue) → Leaves (confirmation_value x)
 confirmation_leaves Oscore = keys_leave parameter_key (λ k. numbered_leaves (literal_integer k))
 
 claim_leaves : (x : ClaimValue) → Leaves (claim_value x)
-claim_leaves Timestamp v d = reply_leaves v (Some (time_literal v false)) (time_gives v false) d
+claim_leaves Timestamp v d = reply_leaves v (Some (time_literal v false)) (time_leaves v false) d
 claim_leaves Confirmation v d = keys_leave confirmation_key (λ k. named_leaves confirmation_value confirmation_leaves (option_and_then (found confirmations) (item_integer k))) v d
 
 pub claims_keep_direct : ClaimsKeepDirect

@@ -1,7 +1,5 @@
-use Rattle.std.proofs.Common.{◌≡◌, ℕ, ◌-◌, ◌<◌, ◌++◌, List, length, map, sym, ap, ◌∙◌, arith}
+use Rattle.std.proofs.Common.{arith}
 use Rattle.std.proofs.lemmas.Result.{err_from_is_err_and}
-use Rattle.cbor_edn_core.specs.tree.View.{item_tree}
-use Rattle.cbor_edn.specs.LongArrays.{behind_array}
 use Rattle.cbor_edn.proofs.ElementTexts.{lines_read}
 use Rattle.cbor_edn.proofs.EntriesRead.{array_fault, among_fault}
 use Rattle.cbor_edn.proofs.LongArrays.{array_front}

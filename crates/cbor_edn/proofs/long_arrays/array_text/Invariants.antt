@@ -1,4 +1,4 @@
-use Rattle.std.proofs.Common.{ℕ, ◌-◌, ◌≤◌, ◌<◌, length}
+use Rattle.std.proofs.Common.{◌-◌, ◌≤◌, ◌<◌, length}
 use Rattle.std.specs.Str.{IsUtf8}
 use Rattle.cbor_edn.specs.LongArrays.{front_text}
 use Rattle.cbor_edn.proofs.LongArrays.{IsBegun}

@@ -1,6 +1,6 @@
-use Rattle.std.proofs.Common.{◌≡◌, ◌++◌, ◌∷◌, [], List, ℕ, length, length-append, map, ap, subst, ◌∙◌, arith}
+use Rattle.std.proofs.Common.{◌≡◌, ◌++◌, List, ℕ, length, map, ap, ◌∙◌, arith}
 use Rattle.cbor_edn_core.specs.tree.View.{item_tree}
-use Rattle.cbor_edn.specs.LongArrays.{IsTextBehindZeros, cut}
+use Rattle.cbor_edn.specs.LongArrays.{cut}
 use Rattle.cbor_edn.proofs.LongArrays.{long_enough, text_at_end}
 use Rattle.cbor_edn.proofs.long_arrays.push_last.Goals as goal
 

@@ -1,7 +1,6 @@
-use Rattle.std.proofs.Common.{◌≡◌, ◌++◌, ◌∷◌, [], List, ℕ, length, map, ap, subst, ◌∙◌, arith}
+use Rattle.std.proofs.Common.{◌≡◌, ◌++◌, List, ℕ, length, map, ap, subst, ◌∙◌, arith}
 use Rattle.cbor_edn_model.specs.tree.Trees.{Tree, OneItem}
 use Rattle.cbor_edn_core.specs.tree.View.{item_tree}
-use Rattle.cbor_edn.specs.Elements.{zero_item}
 use Rattle.cbor_edn.specs.LongArrays.{IsTextBehindZeros, cut}
 use Rattle.cbor_edn.proofs.ElementTexts.{lines_pushed}
 use Rattle.cbor_edn.proofs.LongArrays.{long_for_others, text_within}

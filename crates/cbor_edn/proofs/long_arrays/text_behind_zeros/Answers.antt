@@ -1,7 +1,3 @@
-use Rattle.std.proofs.Common.{◌≡◌, ◌++◌, List, length, map, ap, ◌∙◌, arith}
-use Rattle.std.specs.Prelude.{replicate}
-use Rattle.cbor_edn_model.specs.tree.Trees.{Tree, OneItem, OneEntry, Seq}
-use Rattle.cbor_edn_model.specs.tree.Items.{Elements}
 use Rattle.cbor_edn_core.specs.tree.View.{item_tree, sequence_tree}
 use Rattle.cbor_edn.proofs.LongArrays.{printed_behind_zeros}
 use Rattle.cbor_edn.proofs.long_arrays.text_behind_zeros.Goals as goal

@@ -1,4 +1,4 @@
-use Rattle.std.proofs.Common.{ℕ, ◌+◌, ◌*◌}
+use Rattle.std.proofs.Common.{◌+◌, ◌*◌}
 use Rattle.cbor_edn_application.proofs.embedded.+show.Given as goal
 
 -- each call shows one level less, by way of the visit of what was decoded

@@ -1,4 +1,4 @@
-use Rattle.std.proofs.Common.{sym, ◌∙◌}
+use Rattle.std.proofs.Common.{sym}
 use Rattle.cbor_edn_application.proofs.EmbeddedCalls.{decoded_some, decoded_none}
 use Rattle.cbor_edn_application.proofs.Magnitudes.{told_holds}
 use Rattle.cbor_edn_application.proofs.embedded.decoded_item.Goals as goal

@@ -1,5 +1,4 @@
 use Rattle.std.proofs.Common.{rules, refl}
-use Rattle.cbor_edn_core.specs.tree.View.{sequence_tree}
 use Rattle.cbor_edn_core.specs.visit.Callbacks.{ending}
 use Rattle.cbor_edn_model.specs.tree.Trees.{Seq}
 use Rattle.cbor_edn_conversions.specs.Cose.{comment_cose}

@@ -1,4 +1,4 @@
-use Rattle.std.proofs.Common.{◌-◌, ◌∙◌, subst}
+use Rattle.std.proofs.Common.{subst}
 use Rattle.cbor_edn_core.specs.tree.View.{sequence_tree}
 use Rattle.cbor_edn_core.specs.visit.Callbacks.{ending}
 use Rattle.cbor_edn_model.specs.visit.Seeking.{IsApplication}

@@ -1,4 +1,4 @@
-use Rattle.std.proofs.Common.{ℕ, ◌+◌, ◌*◌}
+use Rattle.std.proofs.Common.{◌+◌, ◌*◌}
 use Rattle.cbor_edn_application.proofs.cose.parts.+parts.Given as goal
 
 -- each structure stands a level below the one that it is in
