@@ -37,8 +37,8 @@ SHAPES = {
     "From<AllocError> for CallbackError": r"-> Result<[^{;]*\bCallbackError>\s*\{[^}]*\?|\bCallbackError::from\(AllocError\)",
     "From<AllocError> for Fault": r"-> Result<[^{;]*\bFault<\w+>> \{[^}]*\?|\bFault::from\(AllocError\)",
     "From<AllocFailed<T>> for Fault": r"\bFault::from\(AllocFailed \{", "From<AllocError> for RunError": r"\bRunError::from\(AllocError\)",
-    **{f"From<Fault<{fault}>> for RunError": rf"\bfault: Fault<{fault}> = [^}}]*?\bRunError::from\(fault\)"
-       for fault in ("CborError", "ParseError", "InconsistentEdn", "DeviceFault")},
+    "From<Fault<E>> for RunError": r"(?s)\A" + "".join(rf"(?=.*\bfault: Fault<{refusal}> = [^}}]*?\bRunError::from\(fault\))"
+        for refusal in ("CborError", "ParseError", "InconsistentEdn", "DeviceFault")),
     "Display for ParseError": r"\brefused\.too_deep\([^}]*\brefused\.to_string\(", "Display for InconsistentEdn": r"refused: InconsistentEdn,[^}]*\brefused\.to_string\(",
     "Display for CborError": r"\bCborError::TooDeep\.to_string\(", "Display for TypeMismatch": r"refused: Option<TypeMismatch>[^}]*\brefused\.to_string\(",
     "Display for CallbackError": r"\blet comment = CallbackError::Comment\([^}]*\bcomment\.to_string\(",

@@ -64,59 +64,63 @@ impl From<AllocError> for RunError {
     }
 }
 
-impl From<Fault<ParseError>> for RunError {
-    ghost from_gives = { λ fault e. e ≡ told_as Parse fault };
+impl<E: StepRefusal> From<Fault<E>> for RunError {
+    ghost from_gives = { λ fault e. e ≡ told_as E.error_of fault };
 
-    fn from(fault: Fault<ParseError>) -> RunError {
+    fn from(fault: Fault<E>) -> RunError {
         match fault {
             Fault::Memory(refused) => RunError::Memory(refused),
-            Fault::Told(e) => RunError::Parse(e),
+            Fault::Told(refusal) => refusal.into_error(),
         }
     }
 }
 
-impl From<Fault<CborError>> for RunError {
-    ghost from_gives = { λ fault e. e ≡ told_as Cbor fault };
+/// What a step of a run refuses with, which is an error of the run.
+trait StepRefusal: Sized {
+    ghost error_of: { Self → RunError };
 
-    fn from(fault: Fault<CborError>) -> RunError {
-        match fault {
-            Fault::Memory(refused) => RunError::Memory(refused),
-            Fault::Told(e) => RunError::Cbor(e),
-        }
+    fn into_error(self) -> RunError
+        ensures { result ≡ error_of self };
+}
+
+impl StepRefusal for ParseError {
+    ghost error_of = { Parse };
+
+    fn into_error(self) -> RunError {
+        RunError::Parse(self)
     }
 }
 
-impl From<Fault<InconsistentEdn>> for RunError {
-    ghost from_gives = { λ fault e. e ≡ told_as Inconsistent fault };
+impl StepRefusal for CborError {
+    ghost error_of = { Cbor };
 
-    fn from(fault: Fault<InconsistentEdn>) -> RunError {
-        match fault {
-            Fault::Memory(refused) => RunError::Memory(refused),
-            Fault::Told(e) => RunError::Inconsistent(e),
-        }
+    fn into_error(self) -> RunError {
+        RunError::Cbor(self)
     }
 }
 
-impl From<Fault<NotHex>> for RunError {
-    ghost from_gives = { λ fault e. e ≡ told_as (λ _. Hex) fault };
+impl StepRefusal for InconsistentEdn {
+    ghost error_of = { Inconsistent };
 
-    fn from(fault: Fault<NotHex>) -> RunError {
-        match fault {
-            Fault::Memory(refused) => RunError::Memory(refused),
-            Fault::Told(_) => RunError::Hex,
-        }
+    fn into_error(self) -> RunError {
+        RunError::Inconsistent(self)
+    }
+}
+
+impl StepRefusal for NotHex {
+    ghost error_of = { λ _. Hex };
+
+    fn into_error(self) -> RunError {
+        RunError::Hex
     }
 }
 
 // Of a source: a sink that fails answers no `Fault`.
-impl From<Fault<DeviceFault>> for RunError {
-    ghost from_gives = { λ fault e. e ≡ told_as (λ _. Read) fault };
+impl StepRefusal for DeviceFault {
+    ghost error_of = { λ _. Read };
 
-    fn from(fault: Fault<DeviceFault>) -> RunError {
-        match fault {
-            Fault::Memory(refused) => RunError::Memory(refused),
-            Fault::Told(_) => RunError::Read,
-        }
+    fn into_error(self) -> RunError {
+        RunError::Read
     }
 }
 

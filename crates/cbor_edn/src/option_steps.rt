@@ -98,7 +98,7 @@ fn has_tag_for(options: &Options, sequence: &Sequence<'_>) -> bool
     (options.annotate_tags || options.bignum_from_tags) && sequence.has_tag()
 }
 
-/// The same behind the steps between those two kinds of visits. Each of them counts as one that may put a tag where none stood.
+/// Whether a tag may stand behind the steps between those two kinds of visits: each of them may put one where none stood.
 fn may_have_tag(options: &Options, tagged: bool) -> bool
     ensures { result ≡ tagged || (options.now.remove_comments || (options.now.aol_to_item || options.now.annotate_ccs)) }
 {

@@ -63,7 +63,7 @@ fn shown_text(
     Ok(text)
 }
 
-/// The same without a line feed at its end, where it ends in a comment.
+/// The text of items that were decoded, without a line feed at its end, where it ends in a comment.
 fn printed(
     alloc: Global,
     options: &ShowOptions,

@@ -82,6 +82,7 @@ fn not_utf8(alloc: Global, input: &[u8]) -> Result<Finding, AllocError>
     Ok(at_offset(words, part, part.len()))
 }
 
+/// What is at fault in bytes that are no CBOR.
 fn not_cbor(
     alloc: Global,
     limit: usize,
@@ -95,7 +96,7 @@ fn not_cbor(
     Ok(Finding::InBytes { words, offset })
 }
 
-/// The same of an input that may be digits of bytes.
+/// What is at fault in an input that is no CBOR, or digits of none.
 fn not_decoded(
     alloc: Global,
     options: &Options,

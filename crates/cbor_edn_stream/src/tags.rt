@@ -77,7 +77,7 @@ fn has_tag_byte(bytes: &[u8]) -> bool
     }
 }
 
-/// The same of few bytes, without a branch for each.
+/// [`has_tag_byte`] of few bytes, without a branch for each.
 fn has_tag_byte_in_front(bytes: &[u8]) -> bool
     ensures { result ≡ list_any heads.begins_tag bytes.now }
 {
