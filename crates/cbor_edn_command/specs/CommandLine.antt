@@ -201,8 +201,8 @@ AreFormats = AreNames (codes "hex" ∷ codes "binary" ∷ codes "auto" ∷ [])
 abbrev pub AreAnnotations : ValueParser → Type 0
 AreAnnotations = AreNames (codes "ccs" ∷ [])
 
--- What `clap` finds of the words of a program, with a command's name and its entries where it finds no fault in them: each value is one that its
--- flag takes, where a format is `hex`, `binary` or `auto`, and `ccs` is annotated.
+-- `clap` finds no fault in the words of a program, and a command's name and entries of which this holds. Each value is one that its flag takes:
+-- a format is `hex`, `binary` or `auto`, and what is annotated is `ccs`.
 abbrev pub Finds : Program → List Text → (Text × List Row → Type 0) → Type 0
 Finds p words IsFound =
     (formats annotations : ValueParser) × (found : Text × List Row) × AreFormats formats × AreAnnotations annotations
