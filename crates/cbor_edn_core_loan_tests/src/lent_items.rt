@@ -17,7 +17,7 @@ fn overwrite_array<'a>(array: &mut Item<'a>, new: &Item<'a>) -> Result<(), Fail>
     Ok(())
 }
 
-/// The same of a sequence.
+/// Puts copies of an item in place of all items of a sequence but the first.
 fn overwrite_sequence<'a>(sequence: &mut Sequence<'a>, new: &Item<'a>) -> Result<(), Fail> {
     let mut items = sequence.get_items_mut();
     let _ = items.next();

@@ -85,7 +85,7 @@ fn visited_sequence(
     Ok(told)
 }
 
-/// The same of a standalone item.
+/// The numbers that a visit of a standalone item's tags tells, and the text that it leaves, one behind the other.
 fn visited_alone(alloc: Global, text: &'static str, what: Done) -> Result<String, Fail> {
     let mut item = standalone_of(alloc, text)?;
     visited_item(&mut item, alloc, what)
@@ -139,7 +139,7 @@ const TAGS: &[(&str, Done, &str)] = &[
     ("1(2(3(0)))", Done::Unwraps, "1;3;2(0)"),
 ];
 
-/// The same of standalone items, whose spaces stay.
+/// Texts of standalone items, with `TAGS`' columns: the spaces around the item stay.
 const TAGS_ALONE: &[(&str, Done, &str)] = &[
     (
         " 1(2(3)) # d\n",
@@ -340,7 +340,7 @@ fn literals_of(
     Ok(told)
 }
 
-/// The same of a standalone item.
+/// The literals that a visit of a standalone item tells, and the text that it leaves.
 fn literals_alone(
     alloc: Global,
     text: &'static str,
@@ -396,7 +396,7 @@ const LITERALS: &[(&str, Option<&str>, &str)] = &[
     ),
 ];
 
-/// The same of calls that are given the item alone.
+/// `LITERALS`' columns, for calls that are given the item without the literal's text: its prefix alone is told.
 const ITEMS: &[(&str, Option<&str>, &str)] = &[
     (
         "[dt'1', \"a\", ip'2' ]",
@@ -408,7 +408,7 @@ const ITEMS: &[(&str, Option<&str>, &str)] = &[
     ("x'1'_1", Some("<<x'1'>>"), "x;<<x'1'>>"),
 ];
 
-/// The same of standalone items, whose spaces stay.
+/// Texts of standalone items, with `LITERALS`' columns: the spaces around the item stay.
 const LITERALS_ALONE: &[(&str, Option<&str>, &str)] = &[
     (" x'1' # d\n", None, "x:1; x'1'/ c / # d\n"),
     (

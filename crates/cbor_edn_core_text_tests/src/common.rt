@@ -47,7 +47,7 @@ pub(crate) fn encoded(alloc: Global, text: &str) -> Result<String, Fail> {
     }
 }
 
-/// The same of a standalone item's text.
+/// The bytes of a standalone item's text in lower case digits, or the name of the refusal: `parse` where the text is refused.
 pub(crate) fn encoded_alone(alloc: Global, text: &str) -> Result<String, Fail> {
     match StandaloneItem::parse(alloc, text) {
         Ok(item) => digits_of(alloc, item.to_cbor(alloc)),
@@ -97,7 +97,7 @@ pub(crate) fn stand_for_each_other(
     failures.told(alloc, text, printed(alloc, text), text)
 }
 
-/// The same of each text and its bytes.
+/// Each text and its bytes stand for each other.
 pub(crate) fn all_stand_for_each_other(alloc: Global, rows: &[(&str, &str)]) -> Result<(), Fail> {
     let mut failures = Failures::new(alloc);
     for &(text, digits) in rows {

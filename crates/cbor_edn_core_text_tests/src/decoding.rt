@@ -305,7 +305,7 @@ fn first_item(alloc: Global, bytes: &[u8], limit: Option<usize>) -> Result<(Stri
     }
 }
 
-/// The same of a standalone item.
+/// `first_item`, of a standalone item.
 fn first_standalone(
     alloc: Global,
     bytes: &[u8],
@@ -367,7 +367,7 @@ fn item_again(alloc: Global, bytes: &[u8], limit: usize) -> Result<String, Fail>
     }
 }
 
-/// The same of a standalone item.
+/// `item_again`, of a standalone item.
 fn standalone_again(alloc: Global, bytes: &[u8], limit: usize) -> Result<String, Fail> {
     match StandaloneItem::from_cbor_within(alloc, bytes, limit) {
         Ok(item) => digits_of(alloc, item.to_cbor(alloc)),
@@ -375,7 +375,7 @@ fn standalone_again(alloc: Global, bytes: &[u8], limit: usize) -> Result<String,
     }
 }
 
-/// The same of a standalone item without a limit of its own.
+/// `standalone_again`, without a limit of its own.
 fn unlimited_again(alloc: Global, bytes: &[u8]) -> Result<String, Fail> {
     match StandaloneItem::from_cbor(alloc, bytes) {
         Ok(item) => digits_of(alloc, item.to_cbor(alloc)),
@@ -383,7 +383,7 @@ fn unlimited_again(alloc: Global, bytes: &[u8]) -> Result<String, Fail> {
     }
 }
 
-/// The same of a sequence.
+/// `item_again`, of a sequence.
 fn sequence_again(alloc: Global, bytes: &[u8], limit: usize) -> Result<String, Fail> {
     match Sequence::from_cbor_within(alloc, bytes, limit) {
         Ok(sequence) => digits_of(alloc, sequence.to_cbor(alloc)),

@@ -71,7 +71,7 @@ fn encodes_rows(rt: HostRuntime) -> Result<(), Fail> {
     all_mean(rt.alloc(), ENCODED)
 }
 
-/// The same of standalone items, or the name of the refusal.
+/// Texts of standalone items, and their encodings or the name of the refusal.
 const ALONE: &[(&str, &str)] = &[
     (" [1, 0x1f, []] # c\n", "8301181f80"),
     ("", "parse"),

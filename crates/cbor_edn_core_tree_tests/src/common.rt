@@ -26,7 +26,7 @@ pub(crate) fn sequence_of<'a>(alloc: Global, text: &'a str) -> Result<Box<Sequen
     boxed(alloc, Sequence::parse(alloc, text))
 }
 
-/// The same of a standalone item's text.
+/// The tree of a standalone item's text.
 pub(crate) fn standalone_of<'a>(
     alloc: Global,
     text: &'a str,

@@ -166,7 +166,7 @@ const ENDLESS: &[(&str, (usize, usize, usize), &str)] = &[
     ("1, 2", (usize::MAX, 4, 80), "1,2"),
 ];
 
-/// The same of bytes of one item.
+/// Bytes of one item, with `ENDLESS`' columns.
 const DECODED_ENDLESS: &[(&[u8], (usize, usize, usize), &str)] = &[
     (b"\x81\x01", (usize::MAX, 4, 80), "[1]"),
     (b"\x81\x81\x01", (0, usize::MAX, 0), "[[1]]"),

@@ -44,7 +44,7 @@ fn is_copied_alone(item: &StandaloneItem<'_>, alloc: Global, text: &str) -> Resu
     is_copy_alone(item, &copy, alloc, text)
 }
 
-/// The same of a standalone item's text.
+/// Whether a text's standalone item equals its copy, which prints the text.
 fn is_own_copy_alone(alloc: Global, text: &str) -> Result<bool, Fail> {
     let item = standalone_of(alloc, text)?;
     is_copied_alone(&item, alloc, text)
@@ -171,7 +171,7 @@ fn shown(alloc: Global, text: &str) -> Result<String, Fail> {
     Ok(format!(in alloc; "{tree:?}")?)
 }
 
-/// The same of a standalone item, and of its item.
+/// What `{:?}` prints of a standalone item, and of the item in it.
 fn shown_alone(alloc: Global, text: &str) -> Result<String, Fail> {
     let alone = standalone_of(alloc, text)?;
     let item = alone.item();

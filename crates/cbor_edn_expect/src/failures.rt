@@ -30,7 +30,7 @@ impl Failures {
         Ok(())
     }
 
-    /// The same of an answer. Fails where there is none.
+    /// Adds the row where its answer is not the wanted text. Fails where there is no answer.
     pub fn told(
         &mut self,
         alloc: Global,
@@ -51,7 +51,7 @@ impl Failures {
         Ok(())
     }
 
-    /// The same of an answer. Fails where there is none.
+    /// Adds the row where the answer is that it does not hold. Fails where there is no answer.
     pub fn held(
         &mut self,
         alloc: Global,

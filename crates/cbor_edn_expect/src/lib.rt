@@ -29,7 +29,7 @@ pub fn expect_text(alloc: Global, told: &str, wanted: &str) -> Result<(), Fail>
     }
 }
 
-/// The same of an answer. Fails where there is none.
+/// Fails where the answer is not the wanted text, and where there is none.
 pub fn expect_told(alloc: Global, told: Result<String, Fail>, wanted: &str) -> Result<(), Fail> {
     let told = told?;
     expect_text(alloc, told.as_str(), wanted)

@@ -133,7 +133,7 @@ fn by_source(alloc: Global, row: &Row, call: usize) -> (bool, bool) {
     }
 }
 
-/// The same of a reader of std.
+/// `by_source`, where a reader of std is what is read.
 fn by_reader(
     alloc: Global,
     options: &Options,
@@ -164,7 +164,7 @@ fn is_begun(output: &[u8], taken: &[u8], calls: usize, call: usize) -> bool {
     taken.len() == call && output.starts_with(taken) && calls == call.saturating_add(1)
 }
 
-/// The same of a sink: what it took is a beginning of the output.
+/// `by_source`, where the sink's call fails: what it took is a beginning of the output.
 fn by_sink(alloc: Global, row: &Row, call: usize) -> (bool, bool) {
     let &(command, are_on, input, output) = row;
     let mut source = SlowSource::new(input, STEP, None);
@@ -182,7 +182,7 @@ fn by_sink(alloc: Global, row: &Row, call: usize) -> (bool, bool) {
     }
 }
 
-/// The same of a writer of std.
+/// `by_sink`, where a writer of std is written to.
 fn by_writer(alloc: Global, row: &Row, failure: Failure, call: usize) -> (bool, bool) {
     let &(command, are_on, input, output) = row;
     let mut writer = SlowWriter::new(alloc, failure, call);

@@ -19,7 +19,7 @@ use Rattle.cbor_edn_model.specs.cbor.Value as values
 use Rattle.cbor_edn_model.specs.cbor.Value.{Value, unsigned, negative, string, chunks, is_content, array, cbor_map, tag, simple, float, Values, no_values, value, values_len, no_pairs, pair, pairs_len, limit_of, encodings}
 pub use Rattle.cbor_edn_parts.specs.base.Options.{◌>>=◌}
 
--- the narrowest width that the argument fits, of those below 2^64
+-- the shortest width that the argument fits, of those below 2^64
 abbrev pub shortest : ℕ → Width
 shortest n =
     if nat_lt n 24 then Immediate
@@ -32,7 +32,7 @@ shortest n =
 abbrev pub fitting : Width → ℕ → Option Width
 fitting w n = if nat_lt n (limit_of w) then Some w else None
 
--- The width of the head of an argument: as the indicator says where the argument fits, and without one the narrowest. The indicator `_`
+-- The width of the head of an argument: as the indicator says where the argument fits, and without one the shortest. The indicator `_`
 -- gives no width.
 abbrev pub width_of : Option Indicator → ℕ → Option Width
 width_of None n = fitting (shortest n) n

@@ -44,7 +44,7 @@ impl Width {
     }
 }
 
-/// The narrowest width that the argument fits.
+/// The shortest width that the argument fits.
 pub fn shortest_width(argument: u64) -> Width
     ensures { result ≡ shortest argument }
 {
@@ -105,7 +105,7 @@ pub fn encode_indicated_head(
     Ok(())
 }
 
-/// The width that the indicator names, or without one the narrowest. Fails with `IndicatorDoesNotFit` where the argument does not fit,
+/// The width that the indicator names, or without one the shortest. Fails with `IndicatorDoesNotFit` where the argument does not fit,
 /// and for `_`.
 pub fn width_of(
     indicator: Option<Indicator>,

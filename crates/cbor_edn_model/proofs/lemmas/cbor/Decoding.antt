@@ -129,7 +129,7 @@ below_64 Two n lt = omega arith
 below_64 Four n lt = omega arith
 below_64 Eight n lt = lt
 
--- the narrowest width, of what no narrower one fits
+-- the shortest width, of what no shorter one fits
 is_shortest : (w : Width) (n : ℕ) → ArgumentFits w n → indicator_of w n ≡ None → shortest n ≡ w
 is_shortest Immediate n lt none = let a : below n 24 = lt-ltb n 24 lt in rw a refl
 is_shortest One n lt none =

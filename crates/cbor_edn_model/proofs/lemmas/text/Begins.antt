@@ -159,7 +159,7 @@ dot_step c m n e = by (eqb c 46) refl e
     by true t e = (eqb-true c 46 t, sym (same_Some _ _ e))
     by false t e = absurd (cc)
 
--- Dots are two at least.
+-- An ellipsis begins with two dots.
 pub ellipsis_begin : (x : List ℕ) → is_ellipsis x ≡ true → (y : List ℕ) × (x ≡ 46 ∷ 46 ∷ y)
 ellipsis_begin x v = go x ((token_texts ellipsis x).1 v)
   where
