@@ -1,70 +1,86 @@
 #!/usr/bin/env bash
-# Calls ./cbor-edn in a copy of the tree: where nothing is built, unproved, by `rt try`; then built, and older than its sources.
+# Calls ./cbor-edn in a copy of the tree: before anything is made, with an unproved program, and with one that is built, also an old one.
 #
-# usage: scripts/check-launcher.sh PROGRAM
+# usage: scripts/check-launcher.sh PROGRAM [UNPROVED]
 #
-# PROGRAM is the program that was proved. Two calls run the sources, which takes a minute each. In all others a command
-# of this script stands in place of rt: it answers as `rt try` does for each ending of a run, and builds by a copy of
-# PROGRAM. The last line is 'N passed, M failed'.
+# PROGRAM is the program that was proved, UNPROVED one that scripts/unproved.py made of the same sources; without it the first
+# call makes one, in one to two minutes. In all other calls commands of this script stand in place of rt and python3: they
+# make and build by copies of these. The last line is 'N passed, M failed'.
 set -euo pipefail
 
 cd "$(dirname "$(readlink -f "$0")")/.."
 program=$(readlink -f "$1")
+unproved=${2+$(readlink -f "$2")}
 # shellcheck source=scripts/count.sh
 . scripts/count.sh
 work=$(mktemp -d)
 trap 'rm -rf "$work"' EXIT
 tree="$work/the tree"
 reply=$work/reply
-mkdir "$tree" "$reply" "$work/stand-in" "$work/no-rt" "$work/elsewhere"
+mkdir "$tree" "$reply" "$work/stand-in" "$work/no-rt" "$work/elsewhere" "$work/temporary"
 tar -c --exclude=out --exclude=.git . | tar -x -C "$tree"
+unset CBOR_EDN_UNPROVED
 
-# Answers by the files in `reply`, and keeps the words and the input that it was given there.
-cat > "$work/stand-in/rt" << EOF
+# They answer by the files in `reply`, and list there what they were asked for.
+for name in rt python3; do
+  cat > "$work/stand-in/$name" << EOF
 #!/usr/bin/env bash
 reply='$reply'
 program='$program'
+unproved='$work/unproved'
 EOF
+done
 cat >> "$work/stand-in/rt" << 'EOF'
-case $1 in
-  try)
-    printf '%s\n' "${@:3}" > "$reply/words"
-    cat > "$reply/input"
-    cat "$reply/output"
-    cat "$reply/said" >&2
-    exit "$(cat "$reply/status")"
-    ;;
-  lib | run)
-    echo "$* $(basename "$PWD")" >> "$reply/built"
-    echo 'so far: 7 of 9 functions checked; the verdict comes last'
-    sleep 0.5
-    [ "$(cat "$reply/status")" = 0 ] || { echo 'not proved'; exit 1; }
-    [ "$1" = lib ] || { mkdir -p out && cp "$program" out/cbor_edn_tool; }
-    ;;
-esac
+[ "$1" != version ] || { cat "$reply/kit" && exit; }
+echo "$* $(basename "$PWD")" >> "$reply/built"
+echo 'so far: 7 of 9 functions checked; the verdict comes last'
+sleep 0.5
+[ "$(cat "$reply/status")" = 0 ] || { echo 'not proved'; exit 1; }
+[ "$1" = lib ] || { mkdir -p out && cp "$program" out/cbor_edn_tool; }
 EOF
-chmod +x "$work/stand-in/rt"
-for tool in bash readlink dirname find nproc; do
+cat >> "$work/stand-in/python3" << 'EOF'
+[ "$1 ${2##*/} $3" = '-B unproved.py cbor_edn_tool' ] || exit 1
+echo made >> "$reply/made"
+mkdir "$TMPDIR/for a while"
+if [ -e "$reply/meanwhile" ]; then
+  echo '// an edit' >> "$(cat "$reply/meanwhile")"
+  rm "$reply/meanwhile"
+fi
+[ ! -e "$reply/pause" ] || sleep "$(cat "$reply/pause")"
+[ "$(cat "$reply/status")" = 0 ] || { seq 100; echo 'error: refused'; exit 1; }
+cp "$unproved" "$4"
+EOF
+chmod +x "$work"/stand-in/*
+for tool in bash readlink dirname find nproc sha256sum sort xargs cut cat; do
   ln -s "$(command -v "$tool")" "$work/no-rt/"
 done
 
-# Runs the launcher from another folder with a PATH, on standard input.
+# Becomes the launcher, from another folder, with a PATH.
+launch() {
+  cd "$work/elsewhere"
+  TMPDIR=$work/temporary PATH=$1 exec "$tree/cbor-edn" "${@:2}"
+}
+
+# Runs the launcher with a PATH, on standard input.
 call_by() {
   local path=$1
   shift
   status=0
-  (cd "$work/elsewhere" && PATH=$path exec "$tree/cbor-edn" "$@") > "$work/output" 2> "$work/said" || status=$?
+  (launch "$path" "$@") > "$work/output" 2> "$work/said" || status=$?
 }
 
 call() {
   call_by "$work/stand-in:$PATH" "$@"
 }
 
-# Sets what `rt try` answers: its status, the program's output, what stands on standard error.
+# Sets the status of the commands that stand in place of others.
 answer() {
-  printf '%s' "$1" > "$reply/status"
-  printf '%b' "$2" > "$reply/output"
-  printf '%b' "$3" > "$reply/said"
+  echo "$1" > "$reply/status"
+}
+
+# Forgets what was made and asked for.
+afresh() {
+  rm -rf "$tree/out" "$reply/made" "$reply/built"
 }
 
 details() {
@@ -77,12 +93,19 @@ ended() {
   [ "$status" = "$1" ] && printf '%b' "$2" | cmp -s - "$work/output" && [ "$(cat "$work/said")" = "$3" ]
 }
 
-# The same of an unproved run, which begins with two lines on why, and on what to do.
+# The same of an unproved run, which begins with one line.
 ended_unproved() {
-  grep -q "$why.* unproved and slow" <(sed -n 1p "$work/said") || return
-  grep -q -- '--build proves and builds the program, in about [0-9]* minutes' <(sed -n 2p "$work/said") || return
-  sed -i 1,2d "$work/said"
+  [[ $(head -n 1 "$work/said") =~ $unproved_line ]] || return
+  sed -i 1d "$work/said"
   ended "$@"
+}
+
+# The same where the program was made first.
+ended_first() {
+  [ "$(head -n 1 "$work/said")" = "$making$once" ] || return
+  [[ $(sed -n 2p "$work/said") =~ ^cbor-edn:\ made\ in\ [0-9]+\ s$ ]] || return
+  sed -i 1,2d "$work/said"
+  ended_unproved "$@"
 }
 
 # An ending of the launcher's own says this.
@@ -90,93 +113,191 @@ is_unanswered() {
   [ "$status" = 3 ] && [ ! -s "$work/output" ] && grep -q -- "$1" "$work/said"
 }
 
-# `rt try` was given these words.
-passed_on() {
-  [ "$(cat "$reply/words")" = "$(printf '%s\n' "$@")" ]
+# So many programs were made, and one stands.
+were_made() {
+  [ "$(wc -l < "$reply/made")" = "$1" ] && [ "$(find "$tree/out" -name 'unproved-*' | wc -l)" = 1 ]
 }
 
-why='no program is built yet'
+# Nothing is left of files for a while.
+nothing_left() {
+  [ -z "$(ls "$work/temporary")" ]
+}
+
+# One of three calls takes less than a second.
+is_quick() {
+  local before
+  for _ in 1 2 3; do
+    before=${EPOCHREALTIME/./}
+    call_by "$@" < /dev/null
+    [ $((${EPOCHREALTIME/./} - before)) -ge 1000000 ] || return 0
+  done
+  return 1
+}
+
+unproved_line='^cbor-edn: this program is unproved: .*/cbor-edn --build proves and builds it, in about [0-9]+ minutes'
+making='cbor-edn: making the program from its sources, without proofs: this takes 1 to 2 minutes'
+once=', once'
 fault='cbor-edn: Error parsing input data: Invalid EDN in line 1 column 5 (byte 4)'
-tail_of_try='checked: ended status=%s\nrun=ended status=%s runners=1 proved=no\n'
-
-# The sources.
-call_by "$PATH" diag2cbor < <(printf '[1, 0x1f, []]')
-count 'the sources on standard streams' ended_unproved 0 '\x83\x01\x18\x1f\x80' ''
 printf '[1, ' > "$work/elsewhere/in edn"
-call_by "$PATH" diag2cbor 'in edn' out.cbor < /dev/null
-count 'the sources on files' ended_unproved 1 '' "$fault"
-count 'the output of a fault' cmp -s "$work/elsewhere/out.cbor" /dev/null
 
-# Each ending of `rt try`.
-answer 0 '\0\xff' "\\n${tail_of_try//%s/0}"
-call diag2cbor < <(printf '1\0\xff\n')
-count 'bytes' ended_unproved 0 '\0\xff' ''
-count 'standard input' cmp -s "$reply/input" <(printf '1\0\xff\n')
-answer 1 '' "$fault\n${tail_of_try//%s/1}"
-call diag2cbor < /dev/null
-count 'a fault' ended_unproved 1 '' "$fault"
-answer 2 '' "error: unexpected argument 'a' found\n\nUsage: program diag2cbor\n${tail_of_try//%s/2}"
-call diag2cbor - - a < /dev/null
-count 'a fault of the words' ended_unproved 2 '' $'error: unexpected argument \'a\' found\n\nUsage: cbor-edn diag2cbor'
-answer 0 'Usage: program diag2cbor\n' "${tail_of_try//%s/0}"
-call diag2cbor -o hex --help < <(sleep 100)
-count 'help, which reads nothing' ended_unproved 0 'Usage: cbor-edn diag2cbor\n' ''
-answer 3 '' ''
-call --version < <(sleep 100)
-count 'the version, at once' ended 0 'cbor-edn 0.1.0\n' ''
+# The sources themselves.
+if [ -n "$unproved" ]; then
+  cp "$unproved" "$work/unproved"
+else
+  call_by "$PATH" diag2cbor 'in edn' out.cbor < /dev/null
+  count 'a program that is made of the sources' ended_first 1 '' "$fault"
+  count 'its second call' is_quick "$PATH" diag2cbor
+  cp "$tree"/out/unproved-* "$work/unproved"
+  afresh
+fi
+
+# Before anything is made.
+answer 1
+echo 'a toolchain' > "$reply/kit"
 for command in '' diag2cbor cbor2diag diag2diag show fmt check; do
   for flag in --help -h; do
     # shellcheck disable=SC2086
     call $command $flag < <(sleep 100)
-    count "$command $flag, at once" cmp -s "$work/output" "$tree/scripts/help/${command:-program}.txt"
+    count "$command $flag, at once" ended 0 "$(cat "$tree/scripts/help/${command:-program}.txt")\n" ''
   done
 done
-call fmt 'in edn' < /dev/null
-count 'a file that an unproved program would change' is_unanswered 'fmt of a file by its name'
-answer 0 '' "${tail_of_try//%s/0}"
-call show --levels 3 -i hex - < <(printf 1)
-count 'a command for files on standard input' passed_on show --levels 3 -i hex -
-answer 6 '' "the end of the program's standard output:\n1\ninterpreter: no-answer\nchecked: no-answer: the program wrote more than 1048576 bytes to standard output or to standard error, the limit on each\nrun=no-answer proved=no\n"
-call diag2cbor < /dev/null
-count 'too much output' is_unanswered 'it writes more than 1 MiB'
-answer 6 '' 'checked: no-answer: the program did not end within the time limit\nrun=no-answer proved=no\n'
-call diag2cbor < /dev/null
-count 'too much time' is_unanswered 'it takes more than 60 seconds'
-answer 4 1 'checked: fault: here\nrun=fault proved=no\n'
-call diag2cbor < /dev/null
-count 'a fault of the run' is_unanswered 'checked: fault: here'
-answer 1 '' 'error: refused\nrun=none proved=no\n'
-call diag2cbor < /dev/null
-count 'sources that are refused' is_unanswered 'error: refused'
-call diag2cbor < <(head -c 64M /dev/zero)
-count 'too much input' is_unanswered '64 MiB or more'
-call diag2cbor <(echo 1) < /dev/null
-count 'a pipe by name' is_unanswered 'is no plain file'
-
-# Names are made whole, and nothing else is changed.
-answer 0 '' "${tail_of_try//%s/0}"
-call cbor2diag -i hex --max-nesting 'in edn' 'in edn' out.edn < /dev/null
-count 'names' passed_on cbor2diag -i hex --max-nesting 'in edn' "$work/elsewhere/in edn" "$work/elsewhere/out.edn"
-call diag2diag --annotate-tags --annotate ccs 'in edn' --annotate=ccs < /dev/null
-count 'the value of a flag' passed_on diag2diag --annotate-tags --annotate ccs "$work/elsewhere/in edn" --annotate=ccs
-call diag2diag -- --help - < /dev/null
-count 'a name like a flag' passed_on diag2diag -- "$work/elsewhere/--help" -
-call diag2cbor --flag 'in edn' < /dev/null
-count 'a flag that the launcher does not know' passed_on diag2cbor --flag "$work/elsewhere/in edn"
-call diag2cbor 'in edn' a b < /dev/null
-count 'too many names' passed_on diag2cbor 'in edn' a b
-
+call --version < <(sleep 100)
+count 'the version, at once' ended 0 'cbor-edn 0.1.0\n' ''
+for command in '' help; do
+  # shellcheck disable=SC2086
+  call $command < <(sleep 100)
+  # shellcheck disable=SC2086
+  count "no command but '$command', at once" ended 2 '' "$( (exec -a cbor-edn "$program" $command) 2>&1 || true)"
+done
+count 'none of these makes anything' test ! -e "$tree/out"
 call_by "$work/no-rt" diag2cbor < /dev/null
 count 'no toolchain for a run' is_unanswered 'rt must be on the PATH'
 call_by "$work/no-rt" --build < /dev/null
 count 'no toolchain for a build' is_unanswered 'rt must be on the PATH'
+call diag2cbor < /dev/null
+count 'a program that cannot be made' is_unanswered '^error: refused$'
+count 'the last lines alone' test "$(grep -c '^[0-9]*$' "$work/said")" = 19
+count 'it leaves nothing' nothing_left
+
+# It is made once.
+answer 0
+afresh
+call diag2cbor < <(printf '[1, 0x1f, []]')
+count 'the first call' ended_first 0 '\x83\x01\x18\x1f\x80' ''
+count 'it leaves no other file' nothing_left
+call diag2cbor 'in edn' out.cbor < /dev/null
+count 'a fault in a file' ended_unproved 1 '' "$fault"
+count 'the output of a fault' cmp -s "$work/elsewhere/out.cbor" /dev/null
+call diag2cbor - - a < /dev/null
+said="error: unexpected argument 'a' found
+
+Usage: cbor-edn diag2cbor [OPTIONS] [INPUT] [OUTPUT]
+
+For more information, try '--help'."
+count 'a fault of the words' ended_unproved 2 '' "$said"
+call diag2cbor -o hex <(printf 1) < /dev/null
+count 'a pipe by name' ended_unproved 0 '01\n' ''
+printf '[1,2]' > "$work/elsewhere/a.edn"
+call fmt a.edn < /dev/null
+count 'fmt of a file' ended_unproved 0 '' 'cbor-edn: a.edn: Laid out'
+count 'the file' test "$(cat "$work/elsewhere/a.edn")" = '[1, 2]'
+call diag2cbor < <(printf 1 && head -c 70M /dev/zero | tr '\0' ' ')
+count 'a large input' ended_unproved 0 '\x01' ''
+call --help < /dev/null
+count 'its own help' ended_unproved 0 "$(cat "$tree/scripts/help/program.txt")\n" ''
+count 'a call takes no second' is_quick "$work/stand-in:$PATH" diag2cbor
+export CBOR_EDN_UNPROVED=quiet
+call diag2cbor < <(printf 1)
+count 'the line turned off' ended 0 '\x01' ''
+unset CBOR_EDN_UNPROVED
+call_by "$work/no-rt" diag2cbor < <(printf 1)
+count 'no toolchain is needed any more' ended_unproved 0 '\x01' ''
+touch "$tree/crates/cbor_edn_parts/src/lib.rt"
+echo >> "$tree/crates/cbor_edn_core_tree_tests/src/lib.rt"
+for file in "$tree"/crates/cbor_edn_parts/specs/*; do
+  [ ! -f "$file" ] || echo >> "$file"
+done
+: > "$tree/crates/cbor_edn_parts/src/.lib.rt.swp"
+call diag2cbor < <(printf 1)
+count 'what it is not made of' ended_unproved 0 '\x01' ''
+count 'one was made' were_made 1
+
+# It is made anew: the file keeps its size and time.
+source=$tree/crates/cbor_edn_model/src/lib.rt
+cp -p "$source" "$work/source"
+sed '1s/./!/' "$work/source" > "$source"
+touch -r "$work/source" "$source"
+call diag2cbor < <(printf 1)
+count 'an edit' ended_first 0 '\x01' ''
+count 'the older program goes' were_made 2
+echo 'another toolchain' > "$reply/kit"
+call diag2cbor < <(printf 1)
+count 'another toolchain' ended_first 0 '\x01' ''
+sed -i 's/^cbor_edn_tool:.*/& hex/' "$tree/crates.txt"
+call diag2cbor < <(printf 1)
+count 'another line of crates.txt' ended_first 0 '\x01' ''
+echo "$source" > "$reply/meanwhile"
+cp -p "$work/source" "$source"
+call diag2cbor < <(printf 1)
+count 'an edit while it is made' grep -q 'a source has changed meanwhile' "$work/said"
+count 'it was made twice' were_made 6
+
+# Calls at one time.
+afresh
+echo 2 > "$reply/pause"
+calls=()
+for name in 1 2 3; do
+  launch "$work/stand-in:$PATH" diag2cbor <<< "$name" > "$work/$name" 2> "$work/$name.said" &
+  calls+=("$!")
+done
+wait "${calls[@]}"
+count 'three calls make one' were_made 1
+count 'two wait' test "$(cat "$work"/?.said | grep -c 'waiting for another call')" = 2
+count 'all answer' test "$(cat "$work"/[123] | tr '\1\2\3' 123)" = 123
+
+# A call that is stopped.
+afresh
+echo 20 > "$reply/pause"
+launch "$work/stand-in:$PATH" diag2cbor < /dev/null > "$work/output" 2> "$work/said" &
+sleep 2
+kill $!
+status=0
+wait $! || status=$?
+count 'it ends' test "$status" = 143
+count 'nothing stays' nothing_left
+rm "$reply/pause"
+
+# Nothing can be kept.
+afresh
+: > "$tree/out"
+call diag2cbor < <(printf 1)
+count 'no place to keep it' grep -q 'cannot be written, so the program is made for this call alone' "$work/said"
+sed -i 1d "$work/said"
+once=
+count 'it is made all the same' ended_first 0 '\x01' ''
+once=', once'
+count 'and goes' nothing_left
+rm "$tree/out"
+
+# On a terminal.
+afresh
+echo 2 > "$reply/pause"
+cat > "$work/terminal.py" << 'EOF'
+import pty, sys
+pty.spawn(sys.argv[1:])
+EOF
+python3 "$work/terminal.py" env PATH="$work/stand-in:$PATH" "$tree/cbor-edn" diag2cbor "$work/elsewhere/a.edn" "$work/output" \
+  < /dev/null > "$work/said"
+count 'a terminal counts seconds' grep -q $'\r\e\\[Kcbor-edn: 1 s' "$work/said"
+rm "$reply/pause"
 
 # A build.
-answer 1 '' ''
+afresh
+answer 1
 call --build < /dev/null
 count 'a build that fails' is_unanswered 'the build failed at cbor_edn_parts'
-answer 0 '' "${tail_of_try//%s/0}"
-rm -f "$reply/built"
+answer 0
+afresh
 call --build < /dev/null
 count 'a build' test "$status" = 0
 count 'its progress' grep -q "crate 1 of $(wc -l < "$reply/built"), cbor_edn_parts.* 0 min" "$work/said"
@@ -194,11 +315,11 @@ count 'nothing to build' grep -q 'is built from these sources' "$work/said"
 touch "$tree/crates/cbor_edn_core_tree_tests/src/lib.rt" "$tree/README.md"
 call --version < /dev/null
 count 'what the program is not made of' ended 0 'cbor-edn 0.1.0\n' ''
+count 'no unproved program is made beside it' test ! -e "$reply/made"
 
-why='the program that is built is older than crates/cbor_edn_parts/src/lib.rt'
+unproved_line='^cbor-edn: this program is unproved, since the proved one is older than crates/cbor_edn_parts/src/lib.rt: .*--build proves'
 touch "$tree/crates/cbor_edn_parts/src/lib.rt"
-answer 0 'new' "\\n${tail_of_try//%s/0}"
-call diag2cbor < /dev/null
-count 'an old program' ended_unproved 0 new ''
+call diag2cbor < <(printf 1)
+count 'an old program' ended_first 0 '\x01' ''
 
 end
