@@ -4,7 +4,7 @@
 # usage: scripts/refuse-memory.sh CRATE [PROGRAM]
 #
 # The program makes calls and prints a line for each, its name with `: done`, `: refused` (it answered want of memory, and left
-# what it must) or `: wrong`. Without its path it is proved and built first. A small library stands in front of malloc
+# what it must) or `: wrong`. Without its path it is made of the sources, unproved (scripts/unproved.py). A small library stands in front of malloc
 # (scripts/refuse/refusing.c): in each run it refuses another allocation, from the first to the last.
 #
 # Where an allocation is refused, exactly one line must say so, and no line may say `wrong`. Where none is, each line must say
@@ -32,10 +32,12 @@ give_up() {
   exit 1
 }
 
-if [ -z "${2-}" ]; then
-  (cd "crates/$crate" && rt run > /dev/null) || give_up "it is not proved, or not built"
+program=${2-}
+if [ -z "$program" ]; then
+  program=$work/program
+  python3 -B scripts/unproved.py "$crate" "$program" || give_up "it is not made"
 fi
-program=$(readlink -f "${2-crates/$crate/out/$crate}")
+program=$(readlink -f "$program")
 cc -O2 -fPIC -shared -o "$work/refusing.so" scripts/refuse/refusing.c || give_up "a C compiler (cc) must be on the PATH"
 
 # Runs the program with one allocation refused, or with none by 0. What it says goes to a file of that number.

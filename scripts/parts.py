@@ -1,0 +1,216 @@
+"""Runs the parts of the tests side by side, and says what each took: `scripts/quick.sh` and `scripts/test.sh` call this.
+
+usage: python3 -B scripts/parts.py quick|gate
+
+A part is a command whose last line is 'N passed, M failed'. One that fails and counts no failure counts as one, and so does one that
+tests nothing. What a part printed is shown where it failed. At the end stands a table of the parts, in CPU minutes and in *cores*: one is what the proof
+of cbor_edn_core takes on the machine at hand, where it is proved in this run. `scripts/budget.txt` says what a part may take, and the table where it
+takes more. The last line is 'N passed, M failed', over all parts.
+"""
+
+import os
+import re
+import shutil
+import subprocess
+import sys
+import tempfile
+import threading
+import time
+from dataclasses import dataclass, field
+
+import kit
+
+BUDGET = "scripts/budget.txt"
+UNIT = "cbor_edn_core"
+COUNTED = re.compile(r"(?:\A|\n)(\d+) passed, (\d+) failed\n?\Z")
+PROGRAM = "crates/cbor_edn_tool/out/cbor_edn_tool"
+
+
+@dataclass
+class Part:
+    """A command, the names of the parts that it waits for, and how much lower its priority is. `shows` finds the lines that are shown at once. One that
+    only makes something counts nothing, unless it fails."""
+
+    name: str
+    words: list
+    needs: list = field(default_factory=list)
+    lower: int = 0
+    shows: str = ""
+    makes: bool = False
+
+
+@dataclass
+class Result:
+    passed: int
+    failed: int
+    seconds: float
+
+
+class Run:
+    """Parts, as many side by side as there are processors, the first of the list first."""
+
+    def __init__(self, parts, room):
+        self.parts, self.room, self.began = parts, room, time.monotonic()
+        self.results, self.running, self.changed = {}, set(), threading.Condition()
+
+    def say(self, text):
+        print(f"{int(time.monotonic() - self.began) // 60:4d} min  {text}", flush=True)
+
+    def run(self, part):
+        began = time.monotonic()
+        log = f"{self.room}/{part.name.replace('/', '-').replace(' ', '-')}.log"
+        lower = ["nice", "-n", str(part.lower)] if part.lower else []
+        with open(log, "w", encoding="utf-8") as to:
+            started = subprocess.Popen([*lower, *part.words], stdin=subprocess.DEVNULL, stdout=subprocess.PIPE, stderr=subprocess.STDOUT, errors="replace")
+            for line in started.stdout:
+                to.write(line)
+                if part.shows and re.search(part.shows, line):
+                    self.say(line.rstrip("\n"))
+            _, status, took = os.wait4(started.pid, 0)
+            started.returncode = os.waitstatus_to_exitcode(status)
+        with open(log, encoding="utf-8") as it:
+            said = it.read()
+        found = COUNTED.search(said)
+        passed, failed = map(int, found.groups()) if found else (0, 0)
+        if not failed and (started.returncode or not passed and not part.makes):
+            failed = 1
+        if failed:
+            print(f"== {part.name}, status {started.returncode}\n{said}", end="" if said.endswith("\n") else "\n", flush=True)
+        seconds = took.ru_utime + took.ru_stime
+        self.say(f"{part.name}: {passed} passed, {failed} failed ({time.monotonic() - began:.0f} s, CPU {seconds:.0f} s)")
+        with self.changed:
+            self.results[part.name] = Result(passed, failed, seconds)
+            self.running.discard(part.name)
+            self.changed.notify_all()
+
+    def run_all(self):
+        left, lanes = [*self.parts], kit.load().processors()
+        with self.changed:
+            while left or self.running:
+                ready = [it for it in left if all(name in self.results for name in it.needs)]
+                if ready and len(self.running) < lanes:
+                    left.remove(ready[0])
+                    self.running.add(ready[0].name)
+                    threading.Thread(target=self.run, args=[ready[0]]).start()
+                else:
+                    self.changed.wait()
+        return self.results
+
+
+def budget():
+    """Returns how many cores each part may take."""
+    with open(BUDGET, encoding="utf-8") as it:
+        lines = [line.partition("#")[0].split() for line in it]
+    return {" ".join(words[:-1]): float(words[-1]) for words in lines if words}
+
+
+def print_table(seconds, clock):
+    """Prints what each part took: CPU minutes, cores, and its budget where it took more."""
+    most, unit = budget(), seconds.get(UNIT)
+    core = unit / budget()[UNIT] if unit else None
+    total = sum(seconds.values())
+    print(f"{'part':<44} {'CPU min':>8} {'cores':>7}")
+    for name, took in [*sorted(seconds.items(), key=lambda it: -it[1]), ("all", total)]:
+        cores = f"{took / core:.3f}" if core else "-"
+        over = f"  past its budget of {most[name]}" if core and took / core > most.get(name, float("inf")) else ""
+        print(f"{name:<44} {took / 60:8.1f} {cores:>7}{over}")
+    if core is None:
+        print(f"{UNIT} was not proved in this run: what a core is here is not known")
+    print(f"{clock / 60:.0f} minutes, {total / 60:.0f} CPU minutes")
+
+
+def names_in(listed):
+    """Returns the crates of crates.txt whose names are so."""
+    with open("crates.txt", encoding="utf-8") as it:
+        found = re.findall(r"(?m)^(\w+)[^:#\n]*:", it.read())
+    return [it for it in found if re.search(listed, it)]
+
+
+def unproved_parts(room):
+    """Returns the parts that make programs of sources and tests without proofs, and run all tests and refused memory by them."""
+    memory = [Part(it, ["scripts/refuse-memory.sh", it]) for it in names_in("_refused_memory$")]
+    tests = [Part(it, ["scripts/run-tests.sh", it, f"{room}/{it}"]) for it in names_in("_tests$")]
+    looks = [Part(it, [f"scripts/{it}.sh"]) for it in ("check-reads", "check-surface")]
+    # the longest first
+    return [*memory, *tests, *looks]
+
+
+def checks(room, program, needs, is_quick):
+    """Returns the scripts that try a program, the longest first, over the program that the named part makes. For the quick tests some are shorter."""
+    short, unproved = ["--short"] * is_quick, ["--unproved"] * is_quick
+    tests = [f"cbor_edn_core_{it}_tests" for it in ("text", "tree", "loan")]
+    scripts = {
+        "check-limits": [*short, program],
+        "fuzz": ["8949", "5000" if is_quick else "30000", program],
+        "refuse-program": [program],
+        "check-stack": [*unproved, program, *[f"{room}/{it}" for it in tests]],
+    }
+    for it in ("check-devices", "check-outside", "check-files", "check-faults", "check-recipes", "check-examples", "check-help"):
+        scripts[it] = [program]
+    return [Part(name, [f"scripts/{name}.sh", *words], [*needs, *tests * (name == "check-stack")]) for name, words in scripts.items()]
+
+
+def quick(room):
+    program = f"{room}/program"
+    made = Part("unproved program", ["python3", "-B", "scripts/unproved.py", "cbor_edn_tool", program], makes=True)
+    library = Part("check-bindings", ["scripts/check-bindings.sh", "--unproved"])
+    return [made, library, *unproved_parts(room), *checks(room, program, [made.name], True)]
+
+
+def gate(room):
+    first = unproved_parts(room)
+    needs, proved = [it.name for it in first], f"{room}/proved"
+    os.mkdir(proved)
+    words = ["python3", "-B", "scripts/prove.py", "--costs", f"{room}/costs", "--proved", proved]
+    prove = Part("proofs", words, needs, shows="^rt: |NOT PROVED|: error")
+    beside = [
+        Part("check-wrong-bodies", ["scripts/check-wrong-bodies.sh", "--proved", proved], needs, 19, " refused, |NOT AS IT MUST BE"),
+        Part("test-wrong-bodies", ["scripts/test-wrong-bodies.sh"], needs, 19),
+    ]
+    last = [
+        Part("check-bindings", ["scripts/check-bindings.sh", "--after-ci"], [prove.name]),
+        Part("check-launcher", ["scripts/check-launcher.sh", PROGRAM], [prove.name]),
+        Part("check-packages", ["scripts/check-packages.sh", "--after-ci"], ["check-bindings"]),
+    ]
+    return [*first, prove, *beside, *last, *checks(room, PROGRAM, [prove.name], False)]
+
+
+def leave_program(began):
+    """Leaves the proved program to ./cbor-edn as its own build does: a source that has changed since this run began is newer."""
+    if os.path.getmtime(PROGRAM) >= began:
+        os.makedirs("out", exist_ok=True)
+        shutil.copy(PROGRAM, "out/cbor-edn.new")
+        os.utime("out/cbor-edn.new", (began, began))
+        os.replace("out/cbor-edn.new", "out/cbor-edn")
+
+
+def costs(file):
+    """Returns the CPU seconds of each crate that was proved."""
+    seconds = {}
+    if os.path.exists(file):
+        with open(file, encoding="utf-8") as it:
+            for line in it:
+                name, took, _ = line.split()
+                seconds[name] = seconds.get(name, 0) + float(took)
+    return seconds
+
+
+def main(what):
+    began = time.time()
+    with tempfile.TemporaryDirectory(prefix=f"{what}-") as room:
+        os.environ["TMPDIR"] = room
+        run = Run({"quick": quick, "gate": gate}[what](room), room)
+        results = run.run_all()
+        seconds = {name: it.seconds for name, it in results.items() if name != "proofs"}
+        seconds.update(costs(f"{room}/costs"))
+    passed, failed = sum(it.passed for it in results.values()), sum(it.failed for it in results.values())
+    print_table(seconds, time.monotonic() - run.began)
+    if what == "gate" and not failed:
+        leave_program(began)
+    print(f"{passed} passed, {failed} failed")
+    return 1 if failed or not passed else 0
+
+
+if __name__ == "__main__":
+    os.chdir(os.path.dirname(os.path.dirname(os.path.realpath(__file__))))
+    sys.exit(main(*sys.argv[1:]))
