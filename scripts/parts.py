@@ -1,7 +1,8 @@
 """Runs the parts of the tests side by side, and says what each took: `scripts/quick.sh` and `scripts/test.sh` call this.
 
-usage: python3 -B scripts/parts.py quick|gate
+usage: python3 -B scripts/parts.py quick|gate [--all]
 
+With --all the gate tries all wrong bodies, and writes down for which sources it did (scripts/check-wrong-bodies.sh), and takes no proof of an earlier run.
 A part is a command whose last line is 'N passed, M failed'. One that fails and counts no failure counts as one, and so does one that
 tests nothing. What a part printed is shown where it failed. At the end stands a table of the parts, in CPU minutes and in *cores*: one is what the proof
 of cbor_edn_core takes on the machine at hand, where it is proved in this run. `scripts/budget.txt` says what a part may take, and the table where it
@@ -157,14 +158,15 @@ def quick(room):
     return [made, library, *unproved_parts(room), *checks(room, program, [made.name], True)]
 
 
-def gate(room):
+def gate(room, is_whole):
     first = unproved_parts(room)
     needs, proved = [it.name for it in first], f"{room}/proved"
     os.mkdir(proved)
-    words = ["python3", "-B", "scripts/prove.py", "--costs", f"{room}/costs", "--proved", proved]
+    anew, every = ["--anew"] * is_whole, ["--all"] * is_whole
+    words = ["python3", "-B", "scripts/prove.py", *anew, "--costs", f"{room}/costs", "--proved", proved]
     prove = Part("proofs", words, needs, shows="^rt: |NOT PROVED|: error")
     beside = [
-        Part("check-wrong-bodies", ["scripts/check-wrong-bodies.sh", "--proved", proved], needs, 19, " refused, |NOT AS IT MUST BE"),
+        Part("check-wrong-bodies", ["scripts/check-wrong-bodies.sh", *every, "--proved", proved], needs, 19, " refused, |NOT AS IT MUST BE"),
         Part("test-wrong-bodies", ["scripts/test-wrong-bodies.sh"], needs, 19),
     ]
     last = [
@@ -195,11 +197,11 @@ def costs(file):
     return seconds
 
 
-def main(what):
+def main(what, *flags):
     began = time.time()
     with tempfile.TemporaryDirectory(prefix=f"{what}-") as room:
         os.environ["TMPDIR"] = room
-        run = Run({"quick": quick, "gate": gate}[what](room), room)
+        run = Run(quick(room) if what == "quick" else gate(room, flags == ("--all",)), room)
         results = run.run_all()
         seconds = {name: it.seconds for name, it in results.items() if name != "proofs"}
         seconds.update(costs(f"{room}/costs"))

@@ -3,8 +3,12 @@
 # that are made of the sources (scripts/quick.sh says more). Then the proof of each crate that has proofs (scripts/prove.py), and beside it the
 # wrong bodies. Then the scripts that try a program, over the one that was proved, calls from other languages, and packages. The last line is
 # 'N passed, M failed'. Where nothing failed, the program that was proved is left to ./cbor-edn.
+#
+# usage: scripts/test.sh [--all]
+#
+# With --all it takes no proof of an earlier run, tries all wrong bodies, and writes the record of those (scripts/check-wrong-bodies.sh).
 set -euo pipefail
 
 cd "$(dirname "$(readlink -f "$0")")/.."
 command -v rt > /dev/null || { echo "test: the Rattle toolchain (the command rt) must be on the PATH" >&2; exit 1; }
-exec python3 -B scripts/parts.py gate
+exec python3 -B scripts/parts.py gate "$@"
