@@ -200,7 +200,6 @@ def costs(file):
 def main(what, *flags):
     began = time.time()
     with tempfile.TemporaryDirectory(prefix=f"{what}-") as room:
-        os.environ["TMPDIR"] = room
         run = Run(quick(room) if what == "quick" else gate(room, flags == ("--all",)), room)
         results = run.run_all()
         seconds = {name: it.seconds for name, it in results.items() if name != "proofs"}
