@@ -1,9 +1,9 @@
 #!/usr/bin/env bash
-# All tests: where a text is read and which public calls are tested (two looks at the sources), each proof, edit that must fail, test and
-# program (`rt ci`), the wrong bodies of each crate and the script that tries them, each allocation of the calls of the crates *_memory
-# and of the program refused in turn and all of them where none is taken, then the encodings of another implementation, where it is
-# installed, the examples, the recipes, the help, the lines of faults, devices that fail, inputs past the limits, random inputs, the
-# launcher, the deepest nesting under small stacks, calls from other languages, and packages. The last line is 'N passed, M failed'.
+# All tests: where a text is read and which public calls are tested (two looks at the sources), each proof, test and program (`rt ci`),
+# the wrong bodies of each crate and the script that tries them, each allocation of the calls of the crates *_memory and of the program
+# refused in turn and all of them where none is taken, then the encodings of another implementation, where it is installed, the examples,
+# the recipes, the help, the lines of faults, devices that fail, inputs past the limits, random inputs, the launcher, the deepest nesting
+# under small stacks, calls from other languages, and packages. The last line is 'N passed, M failed'.
 # Where nothing failed, the program that was proved is left to ./cbor-edn. `docs/CONTRIBUTING.md` says how the proofs share the processors.
 set -euo pipefail
 
@@ -25,8 +25,8 @@ mkdir "$proved"
 began=$(mktemp)
 trap 'kill $(jobs -p) 2> /dev/null || true; rm -rf "$log" "$times" "$beside" "$began"' EXIT
 
-# Hands lines on of an `rt ci` in a tree. Those that say that a crate's proof has ended, that its edits begin, or what is wrong, come again
-# at the end, with the minutes since the start.
+# Hands lines on of an `rt ci` in a tree. Those that say that a crate's proof has ended, or what is wrong, come again at the end, with the
+# minutes since the start.
 stamp() {
   local line
   while IFS= read -r line; do
@@ -35,8 +35,7 @@ stamp() {
       : > "$proved/${BASH_REMATCH[1]}"
     fi
     case $line in
-      *"refused, as it must be"*) ;;
-      "rt: "*" proved" | "rt: "*"NOT PROVED"* | "rt: "*": trying its must-fail edits"* | *": error"* | "rt: FAILED"* | *"BAD EDIT"* | *"NOT REFUSED"* | *"not proved"*)
+      "rt: "*" proved" | "rt: "*"NOT PROVED"* | *": error"* | "rt: FAILED"* | *"not proved"*)
         printf '%4d min  %s\n' $((SECONDS / 60)) "$line" >> "$times" ;;
     esac
   done
