@@ -165,7 +165,7 @@ count 'a crate that is not there' ended 1 '0 passed, 1 failed'
 
 # What is tried where nothing has changed.
 record=$tree/scripts/wrong-bodies/record
-right=(right 'refuses: third returns' '    a' '    a | a')
+right=(right 'refuses: third returns' '    a' '    (a, 9).0')
 git init -q "$tree"
 
 # Makes the next commit: they differ in their number alone.
