@@ -179,11 +179,12 @@ commit() {
 # Writes the line of a crate that --all would, had it refused all edits.
 forge() {
   (cd "$tree" && PYTHONPATH=scripts python3 -Bc '
-import os, sys, kit, wrong_record as it
-files_of, crates = (lib := kit.load().rtlib).files_of, lib.crates_below(os.getcwd())
-for crate in crates:
-    if crate.name == sys.argv[1]:
-        (record := it.Record(files_of)).keep(crate, record.line(crate), crates)' "$1")
+import os, sys, kit, wrong_record
+lib = kit.load().rtlib
+crates = lib.crates_below(os.getcwd())
+(crate,) = [it for it in crates if it.name == sys.argv[1]]
+record = wrong_record.Record(lib.files_of)
+record.keep(crate, record.line(crate), crates)' "$1")
 }
 
 # Without edits of its own, a crate is not tried.
@@ -254,14 +255,15 @@ lie 'of another sum' 's/ [0-9a-f]* / 0123456789abcdef0123456789abcdef /' "$other
 lie 'of another crate' 's/^high /low /' 'all, since it is not in the record)'
 lie 'with two lines of a crate' 'p' 'all, since the record has no single line of four words for it)'
 change() {
+  cp "$tree/crates/$3" "$tree/kept"
   sed -i "$2" "$tree/crates/$3"
   count "$1" tried 3 "$other"
-  sed -i "$4" "$tree/crates/$3"
+  mv "$tree/kept" "$tree/crates/$3"
 }
-change 'another source' 's/auto/auto, auto/' high/src/lib.rt 's/auto, auto/auto/'
-change 'another source of a library below' 's/(a, 0)/(a, 1)/' low/src/lib.rt 's/(a, 1)/(a, 0)/'
-change 'another proof of one' 's/≤/≡/' low/proofs/counted/Invariants.antt 's/l.i ≡/l.i ≤/'
-change 'another edit' 's/  *a *$/ b/' high/wrong/right.edit 's/ b$/     a/'
+change 'another source' 's/auto/auto, auto/' high/src/lib.rt
+change 'another source of a library below' 's/(a, 0)/(a, 1)/' low/src/lib.rt
+change 'another proof of one' 's/l.i ≤/l.i ≡/' low/proofs/counted/Invariants.antt
+change 'another edit' 's/, 9/, 8/' high/wrong/right.edit
 mv "$tree/.git" "$tree/git"
 count 'no commit' tried 3 'all, since no commit is there to choose by)'
 end

@@ -231,7 +231,8 @@ class Trial:
 
 def words():
     """Returns what is asked for, and by crate the names of the edits that are."""
-    parser, names = argparse.ArgumentParser(usage="scripts/check-wrong-bodies.sh [--jobs N] [--proved DIR] [CRATE[/NAME].. | --all [CRATE..]]"), {}
+    usage = "scripts/check-wrong-bodies.sh [--jobs N] [--proved DIR] [CRATE[/NAME].. | --all [CRATE..]]"
+    parser, names = argparse.ArgumentParser(usage=usage), {}
     parser.add_argument("--jobs", default="1")
     parser.add_argument("--proved")
     parser.add_argument("--all", action="store_true")
@@ -253,7 +254,7 @@ def trial_of(crate, asked, names, record):
     return Trial(crate, *record.choose(crate), asked.jobs)
 
 
-def lacking(names, crates, every):
+def not_there(names, crates, every):
     """Says which crates are not there that are named, or else which listed edits no crate has."""
     if names:
         return [f"{it}: no such crate" for it in sorted({*names} - {it.name for it in crates})]
@@ -275,7 +276,7 @@ def main():
             print(it.told(), flush=True)
             if asked.all:
                 record.keep(it.crate, None if it.failed or not it.passed else lines[it.crate.name], every)
-    lost = lacking(names, crates, every)
+    lost = not_there(names, crates, every)
     for it in lost:
         print(it)
     print(f"CPU seconds in all: {sum(it.seconds for it in trials):.0f}")
