@@ -7,6 +7,7 @@ import importlib.machinery
 import importlib.util
 import os
 import shutil
+import subprocess
 import sys
 
 
@@ -17,3 +18,8 @@ def load():
     module = importlib.util.module_from_spec(importlib.util.spec_from_loader("rt", loader))
     loader.exec_module(module)
     return module
+
+
+def identity():
+    """Returns the toolchain's line about itself."""
+    return subprocess.run(["rt", "version"], check=True, capture_output=True, text=True).stdout.strip()

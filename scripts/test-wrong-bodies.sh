@@ -9,7 +9,7 @@ cd "$(dirname "$(readlink -f "$0")")"
 tree=$(mktemp -d)
 trap 'rm -rf "$tree"' EXIT
 mkdir -p "$tree/scripts" "$tree"/crates/{low,high}/{src,wrong} "$tree/crates/low/proofs/counted"
-cp check-wrong-bodies.sh wrong_bodies.py kit.py "$tree/scripts"
+cp check-wrong-bodies.sh wrong_bodies.py wrong_record.py kit.py "$tree/scripts"
 printf 'low:\nhigh: low\n' > "$tree/crates.txt"
 echo '#![tactic(auto)]' > "$tree/crates/high/src/lib.rt"
 cat > "$tree/crates/low/src/lib.rt" << 'EOF'
@@ -162,4 +162,108 @@ try low
 count 'a crate without edits' ended 1 '0 passed, 1 failed'
 try none
 count 'a crate that is not there' ended 1 '0 passed, 1 failed'
+
+# What is tried where nothing has changed.
+record=$tree/scripts/wrong-bodies/record
+right=(right 'refuses: third returns' '    a' '    (a, 9).0')
+git init -q "$tree"
+
+# Makes the next commit: they differ in their number alone.
+next=0
+commit() {
+  next=$((next + 1))
+  GIT_AUTHOR_DATE=2026-01-01T00:00:00Z GIT_COMMITTER_DATE=2026-01-01T00:00:00Z git -C "$tree" -c user.name=a -c user.email=a@b \
+    -c commit.gpgsign=false commit -q --allow-empty -m "$next"
+}
+
+# Writes the line of a crate that --all would, had it refused all edits.
+forge() {
+  (cd "$tree" && PYTHONPATH=scripts python3 -Bc '
+import os, sys, kit, wrong_record
+lib = kit.load().rtlib
+crates = lib.crates_below(os.getcwd())
+(crate,) = [it for it in crates if it.name == sys.argv[1]]
+record = wrong_record.Record(lib.files_of)
+record.keep(crate, record.line(crate), crates)' "$1")
+}
+
+# Without edits of its own, a crate is not tried.
+rm -r "$tree/crates/high/wrong"
+edits low "${second[@]}" "${cut[@]}"
+try low
+count 'a crate that is named is tried whole' says '2 refused, 0 failed, of 2 edits (as named)'
+count 'this writes no record' [ ! -e "$record" ]
+try --all
+count 'all are tried' ended 0 '2 passed, 0 failed'
+count 'this writes the record' grep -q "^low [0-9a-f]* $(date +%F) rattle" "$record"
+count 'the processor time of all is told' grep -q '^CPU seconds in all: [0-9]' "$tree/said"
+written=$(cat "$record")
+commit
+try
+count 'a crate as recorded is tried in part' ended 0 '1 passed, 0 failed'
+count 'what it says then' says '1 refused, 0 failed, of 2 edits (as recorded, so one in 8 by commit '
+count 'this leaves the record' [ "$(cat "$record")" = "$written" ]
+
+# A body that is right, of which the record says that it was refused: the commits choose now this one, now the other.
+edits low "${cut[@]}" "${right[@]}"
+try --all
+count 'a right body among all' ended 1 '1 passed, 1 failed'
+count 'the record has no such crate' [ "$(grep -c '^low' "$record")" = 0 ]
+forge low
+found='' passed_over=''
+while [ "$next" -lt 20 ] && [ "$found$passed_over" != yesyes ]; do
+  commit
+  try
+  ! ended 1 '0 passed, 1 failed' || ! says 'right.edit: NOT AS IT MUST BE' || found=yes
+  ! ended 0 '1 passed, 0 failed' || passed_over=yes
+done
+count 'a right body that the commit chooses' [ "$found" = yes ]
+count 'one that it passes over' [ "$passed_over" = yes ]
+printf '%s\n' '# a comment' cut right > "$tree/scripts/wrong-bodies/always"
+try
+count 'one that is listed' ended 1 '1 passed, 1 failed'
+count 'its name' says 'right.edit: NOT AS IT MUST BE'
+
+# The library of these is not proved, so they fail, and no check takes time: what is told is how many are tried, and why.
+rm -r "$tree/crates/low/wrong" "$tree/crates/low/out"
+mkdir "$tree/crates/high/wrong"
+edits high "${cut[@]}" "${second[@]}" "${right[@]}"
+tried() {
+  try
+  says "high: 0 refused, $1 failed, of 3 edits ($2"
+}
+count 'a crate that is not in the record is tried whole' tried 3 'all, since it is not in the record)'
+forge high
+written=$(cat "$record")
+printf '%s\n' cut right second > "$tree/scripts/wrong-bodies/always"
+count 'a crate as recorded, with all listed' tried 3 'as recorded, so one in 8 by commit '
+printf 'gone\n' > "$tree/scripts/wrong-bodies/always"
+count 'a crate as recorded, with none' tried 1 'as recorded, so one in 8 by commit '
+count 'a listed edit that no crate has' says 'gone: no crate has this edit, which is listed'
+count 'it counts' ended 1 '0 passed, 2 failed'
+
+# A record that lies, and sources that change.
+other='all, since it or a library below is not what the record is of)'
+lie() {
+  sed -i "$2" "$record"
+  count "$1" tried 3 "$3"
+  printf '%s\n' "$written" > "$record"
+}
+lie 'a record of another date' 's/ 20[0-9-]* / 2020-01-01 /' "$other"
+lie 'of another toolchain' 's/ rattle/ rattles/' 'all, since the record is of another toolchain)'
+lie 'of another sum' 's/ [0-9a-f]* / 0123456789abcdef0123456789abcdef /' "$other"
+lie 'of another crate' 's/^high /low /' 'all, since it is not in the record)'
+lie 'with two lines of a crate' 'p' 'all, since the record has no single line of four words for it)'
+change() {
+  cp "$tree/crates/$3" "$tree/kept"
+  sed -i "$2" "$tree/crates/$3"
+  count "$1" tried 3 "$other"
+  mv "$tree/kept" "$tree/crates/$3"
+}
+change 'another source' 's/auto/auto, auto/' high/src/lib.rt
+change 'another source of a library below' 's/(a, 0)/(a, 1)/' low/src/lib.rt
+change 'another proof of one' 's/l.i ≤/l.i ≡/' low/proofs/counted/Invariants.antt
+change 'another edit' 's/, 9/, 8/' high/wrong/right.edit
+mv "$tree/.git" "$tree/git"
+count 'no commit' tried 3 'all, since no commit is there to choose by)'
 end

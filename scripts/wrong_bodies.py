@@ -15,6 +15,7 @@ import time
 from concurrent.futures import ThreadPoolExecutor
 
 import kit
+import wrong_record
 
 rt = kit.load()
 rtlib = rt.rtlib
@@ -134,10 +135,10 @@ class Turns:
 
 
 class Trial:
-    """The wrong bodies of a crate: what is told of them, and how many passed and failed."""
+    """Wrong bodies of a crate, and why these: what is told of them, and how many passed and failed."""
 
-    def __init__(self, crate, names, jobs):
-        self.crate, self.names, self.jobs, self.lines, self.passed, self.failed = crate, names, jobs, [], 0, 0
+    def __init__(self, crate, names, why, jobs):
+        self.crate, self.names, self.why, self.jobs, self.lines, self.passed, self.failed = crate, names, why, jobs, [], 0, 0
         self.checks, self.seconds, self.memory = 0, 0.0, 0.0
 
     def tell(self, what, why, passed=False):
@@ -206,8 +207,8 @@ class Trial:
         return later
 
     def run(self):
-        edits = [read(it, self.crate.folder) for it in sorted(glob.glob(f"{self.crate.folder}/wrong/*"))]
-        edits = [it for it in edits if not self.names or os.path.basename(it.path) in self.names]
+        names = sorted({*self.names} & {*wrong_record.edits_of(self.crate)})
+        edits = [read(f"{self.crate.folder}/wrong/{it}", self.crate.folder) for it in names]
         lacking = next(filter(None, map(why_no_library, self.crate.below())), None)
         if len(edits) < (len(self.names) or 1):
             self.tell("wrong", "no such edit stands there")
@@ -221,28 +222,65 @@ class Trial:
         while left:
             left = self.round(left)
 
+    def told(self):
+        """Returns what is printed of the trial."""
+        tried = f"{self.passed} refused, {self.failed} failed, of {len(wrong_record.edits_of(self.crate))} edits ({self.why})"
+        spent = f"checks: {self.checks}, CPU seconds: {self.seconds:.0f}, GB: {self.memory:.1f}"
+        return "\n".join([*self.lines, f"{self.crate.name}: {tried}; {spent}"])
 
-def main():
-    asked = argparse.ArgumentParser(usage="scripts/check-wrong-bodies.sh [--jobs N] [--proved DIR] [CRATE[/NAME]..]")
-    asked.add_argument("--jobs", default="1")
-    asked.add_argument("--proved")
-    asked.add_argument("edits", nargs="*")
-    asked, names = asked.parse_args(), collections.defaultdict(set)
+
+def words():
+    """Returns what is asked for, and by crate the names of the edits that are."""
+    usage = "scripts/check-wrong-bodies.sh [--jobs N] [--proved DIR] [CRATE[/NAME].. | --all [CRATE..]]"
+    parser, names = argparse.ArgumentParser(usage=usage), {}
+    parser.add_argument("--jobs", default="1")
+    parser.add_argument("--proved")
+    parser.add_argument("--all", action="store_true")
+    parser.add_argument("edits", nargs="*")
+    asked = parser.parse_args()
     for it in asked.edits:
         crate, _, name = it.partition("/")
-        names[crate] |= {f"{name}.edit"} if name else set()
+        names.setdefault(crate, set()).update([f"{name}.edit"] if name else [])
+    if asked.all and any(names.values()):
+        parser.error("--all tries whole crates")
+    return asked, names
+
+
+def trial_of(crate, asked, names, record):
+    """Returns the trial of those edits of a crate that are asked for, or that the record leaves to be tried."""
+    if asked.all or names:
+        named = names.get(crate.name) or wrong_record.edits_of(crate)
+        return Trial(crate, named, "all" if asked.all else "as named", asked.jobs)
+    return Trial(crate, *record.choose(crate), asked.jobs)
+
+
+def not_there(names, crates, every):
+    """Says which crates are not there that are named, or else which listed edits no crate has."""
+    if names:
+        return [f"{it}: no such crate" for it in sorted({*names} - {it.name for it in crates})]
+    edits = {edit for it in every for edit in wrong_record.edits_of(it)}
+    return [f"{it}: no crate has this edit, which is listed" for it in wrong_record.listed() if f"{it}.edit" not in edits]
+
+
+def main():
+    asked, names = words()
     rtlib.guarded()
-    crates = [it for it in rtlib.crates_below(os.getcwd()) if it.name in names or not names and os.path.isdir(f"{it.folder}/wrong")]
-    unknown = {*names} - {it.name for it in crates}
-    trials, turns = [Trial(it, names.get(it.name, ()), asked.jobs) for it in crates], Turns(asked.proved)
+    every = [it for it in rtlib.crates_below(os.getcwd()) if os.path.isdir(f"{it.folder}/wrong") or it.name in names]
+    crates = [it for it in every if not names or it.name in names]
+    record, turns = wrong_record.Record(rtlib.files_of), Turns(asked.proved)
+    trials = [trial_of(it, asked, names, record) for it in crates]
+    lines = {it.name: record.line(it) for it in crates if asked.all}
     with ThreadPoolExecutor(len(trials) or 1) as pool:
         for it, ran in [(it, pool.submit(turns.run, it.crate, it.run)) for it in trials]:
             ran.result()
-            print("\n".join(it.lines))
-            print(f"{it.crate.name}: {it.passed} refused, {it.failed} failed; checks: {it.checks}, CPU seconds: {it.seconds:.0f}, GB: {it.memory:.1f}", flush=True)
-    for it in sorted(unknown):
-        print(f"{it}: no such crate")
-    passed, failed = sum(it.passed for it in trials), sum(it.failed for it in trials) + len(unknown)
+            print(it.told(), flush=True)
+            if asked.all:
+                record.keep(it.crate, None if it.failed or not it.passed else lines[it.crate.name], every)
+    lost = not_there(names, crates, every)
+    for it in lost:
+        print(it)
+    print(f"CPU seconds in all: {sum(it.seconds for it in trials):.0f}")
+    passed, failed = sum(it.passed for it in trials), sum(it.failed for it in trials) + len(lost)
     print(f"{passed} passed, {failed} failed")
     return 1 if failed or not passed else 0
 

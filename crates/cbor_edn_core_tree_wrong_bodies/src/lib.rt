@@ -1,5 +1,5 @@
-//! Public calls on the parts of trees, under their own clauses. Bodies that these clauses refuse stand in `wrong/` and `must-fail/`: a
-//! check here is that of a small crate, and what a clause refuses here it refuses where the call is written.
+//! Public calls on the parts of trees, under their own clauses. Bodies that these clauses refuse stand in `wrong/`: a check here is that
+//! of a small crate, and what a clause refuses here it refuses where the call is written.
 #![tactic(auto)]
 
 ghost use Rattle.std.specs.Prelude.{◌≡◌, [], ℕ, ℤ, FitsSigned, option_map, map, List, Some, None, IfOk, IfErr, IfSome, OnOk};

@@ -1,6 +1,6 @@
 //! Calls of `cbor_edn_model`, `cbor_edn_parts` and `cbor_edn_conversions` that know no tree, under their own clauses. Bodies that these
-//! clauses refuse stand in `wrong/` and `must-fail/`: a check here is that of a small crate, and what a clause refuses here it refuses
-//! where the call is written.
+//! clauses refuse stand in `wrong/`: a check here is that of a small crate, and what a clause refuses here it refuses where the call is
+//! written.
 #![tactic(auto)]
 
 ghost use Rattle.std.specs.Prelude.{◌≡◌, ◌+◌, ◌<◌, ◌++◌, IfOk, IfSome, IfNone, OnOk, IsOk, Ok, Err, string_bytes};

@@ -1,5 +1,5 @@
-//! Lists of edits, under their own clauses. Bodies that these clauses refuse stand in `wrong/` and `must-fail/`: a check here is that of a
-//! small crate, and what a clause refuses here it refuses where the call is written.
+//! Lists of edits, under their own clauses. Bodies that these clauses refuse stand in `wrong/`: a check here is that of a small crate,
+//! and what a clause refuses here it refuses where the call is written.
 #![tactic(auto)]
 
 ghost use Rattle.std.specs.Prelude.{IfErr, OnOk};
