@@ -12,6 +12,11 @@
 # what a trait gives. It prints a line for each call that is missing, with --list one for each that stands too, and 'N passed, M failed'
 # last. What it can't read is a failure: names handed on that it does not find or that are not written out (`*`, `as`, a whole crate),
 # modules without files of their own, `pub .. fn` that it does not take. It must find calls, and each that CALLING.md lists.
+#
+# Tests run unproved, so a call with a premise (`requires`) also needs a proved caller, which shows that it can be met: of what cbor_edn
+# hands on one in cbor_edn_examples, and of any other public function one in a proved crate, its own too, since a caller's proof knows its
+# contract alone. The proved crates are the libraries, the examples, the program and what C calls: no crate *_tests, *_wrong_bodies or
+# *_memory, and not cbor_edn_expect. Of a method the file of the caller also names the type.
 set -euo pipefail
 
 cd "$(dirname "$(readlink -f "$0")")/../crates"
@@ -103,13 +108,26 @@ def is_law(text):
     return re.search(r"(^|\s)\{(\s*let _ = \w+;)*\s*\}$", text) is not None
 
 
+# Whether a function's caller owes something: it has a clause `requires` in front of its body.
+def has_premise(text):
+    for line in text.split("\n"):
+        if re.match(r" *requires\b", line):
+            return True
+        if line.strip() == "{" or line.endswith(" {"):
+            return False
+    return False
+
+
 PARTS = ("", "_parts", "_model", "_core", "_times_and_addresses", "_conversions", "_application", "_script", "_command")
 LIBRARIES = [f"cbor_edn{part}" for part in PARTS]
+# The crates that are proved and no tests.
+PROVED = [crate for crate in sorted(glob.glob("cbor_edn*")) if not re.search(r"_(tests|wrong_bodies|memory|expect)$", crate)]
 files = {path: list(functions(path)) for crate in LIBRARIES for path in glob.glob(f"{crate}/src/**/*.rt", recursive=True)}
 texts = {path: "\n".join(lines_of(path)) for path in files}
 alias = {a: b for text in texts.values() for a, b in re.findall(r"^pub type (\w+)<.*> =\s+(\w+)<", text, re.M)}
 defined = {name for text in texts.values() for name in re.findall(r"^(?:pub(?:\(\w+\))? )?(?:struct|enum|trait|type) (\w+)", text, re.M)}
 surface, handed, types = {}, set(), set()  # a call's name: its signature and the names by which it is imported
+premises, owed = set(), set()  # those whose callers owe something: their names, and where they stand
 problems = []  # what of the sources this script can't read
 
 
@@ -152,7 +170,7 @@ def hand_on(path):
     stem, crate = os.path.basename(path)[:-3], path.split("/")[0]
     for owner, name, public, signature, text in files[path]:
         if public and owner is None and not is_law(text):
-            add(name, stem, signature, {stem, crate} if crate != "cbor_edn" else {stem})
+            add(name, stem, signature, {stem, crate} if crate != "cbor_edn" else {stem}, path, text)
     for name in re.findall(r"^pub (?:struct|enum|trait|type) (\w+)", texts[path], re.M):
         take_type(name, crate)
     folder = path[:-len("/lib.rt")] if stem == "lib" else path[:-3]
@@ -165,8 +183,17 @@ def hand_on(path):
         take(path, base, name, stem)
 
 
-def add(name, stem, signature, imports):
-    surface[f"{stem}::{name}" if stem != "lib" else name] = (signature, imports)
+def add(name, stem, signature, imports, path, text):
+    called = f"{stem}::{name}" if stem != "lib" else name
+    surface[called] = (signature, imports)
+    owe(called, path, None, name, text)
+
+
+# Notes a call whose caller owes something.
+def owe(called, path, owner, name, text):
+    if has_premise(text):
+        premises.add(called)
+        owed.add((path, owner, name))
 
 
 # Takes a module, function, type or trait that a module hands on under a name.
@@ -180,7 +207,7 @@ def take(path, base, name, stem):
         crate = found[0].split("/")[0]
         for owner, function, public, signature, text in files[found[0]]:
             if owner is None and function == name and public and not is_law(text):
-                add(name, stem, signature, {stem, base[0], crate})
+                add(name, stem, signature, {stem, base[0], crate}, found[0], text)
         if re.search(rf"^pub (?:struct|enum|trait|type) {name}\b", texts[found[0]], re.M):
             take_type(name, crate)
 
@@ -189,9 +216,10 @@ def take(path, base, name, stem):
 def take_type(name, crate):
     types.add(name)
     for path, found in files.items():
-        for owner, function, public, signature, _ in found:
+        for owner, function, public, signature, text in found:
             if owner and owner[1] in (name, alias.get(name)) and not owner[2] and path.startswith(crate + "/") and (public or owner[0] == "trait"):
                 surface[f"{name}::{function}"] = (signature, owner[0])
+                owe(f"{name}::{function}", path, owner[1], function, text)
 
 
 # Takes what public types are given by traits: each `impl`, and the words of a derived error. Nobody outside can call one by a type
@@ -319,9 +347,36 @@ def calls(pattern):
     return made
 
 
+# The methods of traits that the functions of some crates call on what they are handed by a bound.
+def by_bounds(pattern):
+    found = [(signature, text) for path in glob.glob(pattern) for _, _, _, signature, text in functions(path)]
+    return {name for name, (_, how) in surface.items() if how == "trait" for signature, text in found
+            if re.search(rf": {name.split('::')[0]}\b", signature) and re.search(rf"\.{name.split('::')[1]}\(", text)}
+
+
+# Each public function with a premise that is not handed on, and the proved crates that call it.
+def owed_below():
+    paths = [path for crate in PROVED for path in sorted(glob.glob(f"{crate}/src/**/*.rt", recursive=True))]
+    proved = {path: "\n".join(lines_of(path)) for path in paths}
+    for path in paths:
+        crate = path.split("/")[0]
+        for owner, name, public, _, text in functions(path):
+            of = owner[1] if owner else None
+            if public and has_premise(text) and (path, of, name) not in owed:
+                call = rf"(\.|\b{of}::){name}\(" if of else rf"(?<!fn )\b{name}\("
+                near = [(other, lines) for other, lines in proved.items() if other.startswith(crate + "/") or f"{crate}::" in lines]
+                users = {other.split("/")[0] for other, lines in near
+                         if re.search(call, lines) and (not of or re.search(rf"\b{of}\b", lines))}
+                yield f"{crate}: {of + '::' if of else ''}{name}", sorted(users)
+
+
 # What takes no memory but what a caller's reader, writer or formatter takes.
 DEVICES_AND_WORDS = r"(Debug|Display|Source|Sink) for |(Source|Sink|StdSource|StdSink|Count)::"
 tested, refused, free = calls("cbor_edn_*tests/src/*.rt"), calls("cbor_edn_*memory/src/*.rt"), calls("cbor_edn_*memory/src/free.rt")
+EXAMPLES = "cbor_edn_examples/src/*.rt"
+shown = {name for name in calls(EXAMPLES) if surface.get(name, ("", ""))[1] != "trait"} | by_bounds(EXAMPLES)
+if not premises:
+    problems.append("no public call with a premise is found in the sources")
 passed, failed = 0, len(problems)
 for problem in problems:
     print(f"check-surface: {problem}")
@@ -330,9 +385,15 @@ for name, (signature, _) in sorted(surface.items()):
     missing = ["no crate of tests"] * (name not in tested) + ["no crate *_memory"] * bool(takes_memory and name not in refused)
     takes_none = not takes_memory and not re.match(DEVICES_AND_WORDS, name) or name.endswith("::set_delimiters")
     missing += ["no free.rt of a crate *_memory"] * (takes_none and name not in free)
+    missing += ["no proved caller in cbor_edn_examples"] * (name in premises and name not in shown)
     passed, failed = passed + (not missing), failed + bool(missing)
+    made = "made, with its premise" if name in premises else "made"
     if missing or "--list" in sys.argv:
-        print(f"check-surface: {name}: {' and '.join(missing) + ' makes this call' if missing else 'made'}")
+        print(f"check-surface: {name}: {' and '.join(missing) + ' makes this call' if missing else made}")
+for name, callers in owed_below():
+    passed, failed = passed + bool(callers), failed + (not callers)
+    if not callers or "--list" in sys.argv:
+        print(f"check-surface: {name}: {'its premise is met in ' + ', '.join(callers) if callers else 'no proved crate makes this call'}")
 print(f"{passed} passed, {failed} failed")
 sys.exit(failed > 0)
 PYTHON

@@ -1,2 +1,3 @@
+mod DepthsKept
 mod LoanExamples
 mod Outcomes

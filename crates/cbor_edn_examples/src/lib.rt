@@ -21,6 +21,10 @@ ghost use Rattle.cbor_edn_conversions.specs.All.{resolve_all, pretty_all};
 ghost use Rattle.cbor_edn_application.specs.Acts.{IsVisited};
 ghost use Rattle.cbor_edn_application.specs.Sequences.{with_claims_sets};
 
+pub mod devices;
+pub mod made;
+pub mod visits;
+
 use cbor_edn::application::laws::calls_resolve_again;
 use cbor_edn::application::visits::{annotate_claims_sets, prettify, resolve};
 use cbor_edn::application::{all_aol_to_item, all_tag_prettify};

@@ -1,0 +1,25 @@
+-- A callback by a function that leaves no item that nests deeper.
+use Rattle.std.proofs.Common.{◌≤◌, ℕ, Result, MutBor, sym, subst, arith}
+use Rattle.std.specs.Fn.{Called}
+use Rattle.cbor_edn_parts.specs.declared.base.error.CallbackError.{CallbackError}
+use Rattle.cbor_edn_model.specs.tree.Trees.{Tree, OneItem}
+use Rattle.cbor_edn_model.specs.visit.Depth.{depth}
+use Rattle.cbor_edn_model.specs.visit.Seeking.{CallArguments, number}
+use Rattle.cbor_edn_model.specs.visit.Visits.{Answer, fine, comment, no_memory}
+use Rattle.cbor_edn_core.specs.visit.Sought.{LeavesNoneDeeper, TagCallback, sought_answer}
+use Rattle.cbor_edn_core.specs.tree.View.{Item, item_tree}
+use Rattle.cbor_edn_core.proofs.lemmas.visit.SoughtChains.{none_deeper}
+use Rattle.cbor_edn_conversions.proofs.nesting.TagDepths.{NoDeeper}
+use Rattle.cbor_edn_application.specs.Acts.{Act, ActsBy}
+
+module _ (act : Act) (no_deeper : (a : CallArguments) → NoDeeper (act a)) where
+  left_no_deeper : (a : CallArguments) (w v : Tree OneItem) (r : Answer) → ActsBy act a w r v → depth v ≤ depth w
+  left_no_deeper a w v fine h = let l = no_deeper a w in subst (λ x. depth x ≤ depth w) (sym h.1) l
+  left_no_deeper a w v (comment c) h = let l = no_deeper a w in subst (λ x. depth x ≤ depth w) (sym h.1) l
+  left_no_deeper a w v no_memory h = subst (λ x. depth x ≤ depth w) (sym h) (omega arith)
+
+  pub act_leaves : {F : Type 0} (callback : TagCallback Item F)
+      → ((p q : F) (n : ℕ) (x y : MutBor Item) (z : Result (Unit {0}) CallbackError) → Called callback p (n, (x, tt)) (z, (y, tt)) q
+      → ActsBy act (number n) (item_tree x.now) (sought_answer z) (item_tree y.now))
+      → LeavesNoneDeeper item_tree callback
+  act_leaves callback each = none_deeper item_tree callback (λ p q n x y z s. left_no_deeper (number n) (item_tree x.now) (item_tree y.now) (sought_answer z) (each p q n x y z s))
