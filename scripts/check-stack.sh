@@ -2,9 +2,10 @@
 # Runs the program under a stack of 1 MB on texts and bytes that nest as deep as its limit, and one level deeper, and
 # tests of the library.
 #
-# usage: scripts/check-stack.sh [PROGRAM [TESTS..]]
+# usage: scripts/check-stack.sh [--short] [PROGRAM [TESTS..]]
 #
-# Without PROGRAM it is the working tree's. TESTS are programs of tests, as of trees that are copied and compared: all
+# Without PROGRAM it is the working tree's. With --short, for programs of unproved sources, the stack has 2 MB, since their frames are
+# larger, and nothing else is less. TESTS are programs of tests, as of trees that are copied and compared: all
 # tests of each must pass. Each input is of one kind of nesting. Of a text at the limit, diag2cbor must
 # write the bytes that stand here, with all flags that visit too, diag2diag --preserve-space the text itself, and the other ways
 # of diag2diag what they write under the largest stack there is. Of the bytes cbor2diag must write what it writes there, by its
@@ -12,10 +13,11 @@
 set -euo pipefail
 
 cd "$(dirname "$(readlink -f "$0")")/.."
+SMALL=1024
+[ "${1-}" != --short ] || { SMALL=2048 && shift; }
 # shellcheck source=scripts/trial.sh
 . scripts/trial.sh "${1-}"
 shift || true
-SMALL=1024
 LARGE=hard
 LIMIT=512
 
