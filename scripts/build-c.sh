@@ -2,11 +2,17 @@
 # Makes the library for callers that are not Rattle, in a folder: libcbor_edn.a, libcbor_edn.so, cbor_edn.h and cbor_edn.pc. The
 # shared library is the file of its soname, with a link for the linker.
 #
-# usage: scripts/build-c.sh [--after-ci] [FOLDER]
+# usage: scripts/build-c.sh [--after-ci | --unproved] [FOLDER]
 #
 # FOLDER is out/c if it is not given. The crates are proved first, as far as they are not proved already: from nothing that takes
-# about as long as `./cbor-edn --build`. With --after-ci, as the gate calls it, the library is proved and compiled over the
-# crates that `rt ci` has just proved in this tree, which it leaves without the marks that `rt lib` goes by.
+# about as long as `./cbor-edn --build`.
+#
+# With --after-ci, as the gate calls it, the archive that the gate left in the crate is taken. Where none is there that is newer than
+# all its sources, the library is proved and compiled over the crates that `rt ci` has just proved in this tree, which it leaves
+# without the marks that `rt lib` goes by.
+#
+# With --unproved nothing is proved, and scripts/unproved.py makes the archive: that is for quick tests alone. FOLDER is out/c-unproved
+# if it is not given. It names no logic that it was proved in, so scripts/package.sh takes none of it.
 #
 # Both libraries have one symbol, cbor_edn_convert. They take a C compiler with its binutils (CC; else cc).
 set -euo pipefail
@@ -16,9 +22,14 @@ cc=${CC:-cc}
 name=cbor_edn_c
 # Its number goes up where a program that was linked with an older library can't call the new one.
 soname=libcbor_edn.so.0
-after_ci=
-[ "${1-}" != --after-ci ] || { after_ci=yes; shift; }
-folder=${1:-out/c}
+how=
+folder=out/c
+case ${1-} in
+  --after-ci) how=$1 && shift ;;
+  --unproved) how=$1 folder=out/c-unproved && shift ;;
+esac
+folder=${1:-$folder}
+archive=crates/$name/out/lib$name.a
 
 stop() {
   echo "build-c: $1" >&2
@@ -55,18 +66,30 @@ build_after_ci() {
     --toolchain "$kit/toolchain" --backend llvm -o "out/lib$name.a")
 }
 
-if [ -n "$after_ci" ]; then
-  build_after_ci
-else
-  (cd "crates/$name" && rt lib)
-fi
+# Whether the archive is there, and newer than each source of the library and of the crates that it uses.
+is_current() {
+  local crate sources=(crates.txt)
+  for crate in "$name" $(libraries_of "$name"); do
+    [ ! -d "crates/$crate" ] || sources+=("crates/$crate")
+  done
+  [ -f "$archive" ] && [ -z "$(find "${sources[@]}" -newer "$archive" \( -name '*.rt' -o -name '*.antt' -o -name crates.txt \) \
+    -not -path '*/out/*' -print -quit)" ]
+}
 
-mkdir -p "$folder"
 work=$(mktemp -d)
 trap 'rm -rf "$work"' EXIT
+case $how in
+  --after-ci) is_current || build_after_ci ;;
+  --unproved)
+    archive=$work/lib$name.a
+    python3 -B scripts/unproved.py "$name" "$archive"
+    ;;
+  *) (cd "crates/$name" && rt lib) ;;
+esac
+mkdir -p "$folder"
 
 # One object of the library and of the toolchain's calls of malloc, realloc and free, in which other names are its own.
-ld -r -o "$work/cbor_edn.o" --whole-archive "crates/$name/out/lib$name.a" "$kit/c/liblibc_c.a"
+ld -r -o "$work/cbor_edn.o" --whole-archive "$archive" "$kit/c/liblibc_c.a"
 objcopy --keep-global-symbol=cbor_edn_convert "$work/cbor_edn.o"
 rm -f "$folder"/libcbor_edn.{a,so*}
 ar rcsD "$folder/libcbor_edn.a" "$work/cbor_edn.o"

@@ -1,13 +1,16 @@
 #!/usr/bin/env bash
 # Calls the library from C, Rust and Python, as somebody who writes none of Rattle would.
 #
-# usage: scripts/check-bindings.sh [--after-ci | FOLDER]
+# usage: scripts/check-bindings.sh [--after-ci | --unproved | FOLDER]
 #
-# FOLDER has what scripts/build-c.sh makes. Without it that script makes it, with --after-ci over the crates that `rt ci` has
-# just proved here. Each binding has its tests, and the commands of its README must print the bytes of `[1, 0x1f, []]`. The header
-# is compiled by each compiler there is, as C99 and as C++. Encodings of python3-cbor2 go to text and come back, and each
-# allocation is refused in turn, in each language. What is not installed is left out, and told; in CI, which may install it, that is a
-# fault (but for clang and valgrind). The last line is 'N passed, M failed'.
+# FOLDER has what scripts/build-c.sh makes. Without it that script makes it, with --after-ci over what the gate has just proved
+# here, with --unproved of unproved sources, which is for quick tests alone: its frames are larger, so there the deepest nesting is
+# tried under a stack of 2 MB and not of 1 MB, and nothing else is less.
+#
+# Each binding has its tests, and the commands of its README must print the bytes of `[1, 0x1f, []]`. The header is compiled by each
+# compiler there is, as C99 and as C++. Encodings of python3-cbor2 go to text and come back, and each allocation is refused in turn,
+# in each language. What is not installed is left out, and told; in CI, which may install it, that is a fault (but for clang and
+# valgrind). The last line is 'N passed, M failed'.
 set -euo pipefail
 
 cd "$(dirname "$(readlink -f "$0")")/.."
@@ -71,16 +74,21 @@ run_readme() {
   [ -s "$work/commands" ] && [ "$(cd "$copy" && bash -euo pipefail "$work/commands" | tail -n 1)" = 8301181f80 ]
 }
 
+how=()
 folder=${1-}
-if [ -z "$folder" ] || [ "$folder" = --after-ci ]; then
-  # shellcheck disable=SC2086
-  if ! scripts/build-c.sh $folder out/c > "$work/said" 2>&1; then
-    say 'the library is not built'
-    tail -n 20 "$work/said"
-    failed=1
-    end
-  fi
-  folder=out/c
+case $folder in
+  '') folder=out/c ;;
+  --after-ci) how=("$folder") folder=out/c ;;
+  --unproved)
+    how=("$folder") folder=out/c-unproved
+    export CBOR_EDN_STACK=2097152
+    ;;
+esac
+if [ "$folder" != "${1-}" ] && ! scripts/build-c.sh "${how[@]}" "$folder" > "$work/said" 2>&1; then
+  say 'the library is not built'
+  tail -n 20 "$work/said"
+  failed=1
+  end
 fi
 folder=$(readlink -f "$folder")
 

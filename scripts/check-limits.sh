@@ -1,17 +1,24 @@
 #!/usr/bin/env bash
 # Runs the program on inputs that ask for too much: depths, announced counts, much input, and less memory than there is need of.
 #
-# usage: scripts/check-limits.sh [PROGRAM [MEGABYTES]]
+# usage: scripts/check-limits.sh [--short] [PROGRAM [MEGABYTES]]
 #
 # Without PROGRAM it is the working tree's. MEGABYTES is the size of each flat input whose memory is measured, 64 without it: that takes
 # 2.5 CPU minutes, and up to 7 GB of memory, since three kinds are measured side by side. The bounds are those of docs/PERFORMANCE.md.
-# The last line is 'N passed, M failed'.
+#
+# With --short, for quick tests and for programs of unproved sources, it has each row with less of it: flat inputs of half a MB, those
+# whose seconds are measured and the flat ones beside them a tenth as long, openings and what floods a tenth as often, and smaller ones
+# where memory is refused. A bound in seconds or in times of a flat input is three times as high. So what costs more only from some MB
+# on, and what is up to three times slower, is not seen. The last line is 'N passed, M failed'.
 set -euo pipefail
 
 cd "$(dirname "$(readlink -f "$0")")/.."
+short=
+[ "${1-}" != --short ] || { short=yes && shift; }
 # shellcheck source=scripts/program.sh
 . scripts/program.sh "${1-}"
-exec python3 -B - "$program" "${2-64}" << 'EOF_PYTHON'
+exec python3 -B - "$program" "${2-${short:+0.5}}" "$short" << 'EOF_PYTHON'
+import ctypes
 import os
 import resource
 import subprocess
@@ -22,12 +29,17 @@ from concurrent.futures import ThreadPoolExecutor
 sys.path.insert(0, "scripts")
 from inputs import FLAT
 
-PROGRAM, SIZE = sys.argv[1], int(sys.argv[2]) * 1_000_000
+PROGRAM, SHORT = sys.argv[1], bool(sys.argv[3])
+SIZE = int(float(sys.argv[2] or 64) * 1_000_000)
 KB = 1024
 LIMIT = 512
-COUNT = 100_000
+# By how much a short run has less, and how much more time its bounds leave: a program of unproved sources looks at much as it runs.
+LESS, MORE = (10, 3) if SHORT else (1, 1)
+COUNT = 100_000 // LESS
 # A refusal takes some 5 milliseconds.
-MOST_SECONDS = 0.2
+MOST_SECONDS = 0.2 * MORE
+# How many ones a flat input has beside which others are timed: each is a byte of CBOR.
+ONES = 1_000_000 // LESS
 
 TOO_DEEP = "cbor-edn: Error parsing input data: EDN nested too deeply in line 1 column {} (byte {})\n"
 INVALID = "cbor-edn: Error parsing input data: Invalid EDN in line 1 column {} (byte {})\n"
@@ -223,8 +235,8 @@ NAMES = {
 }
 # How much more an input may take. A vector that has doubled may be half empty, so another size of input may take a half more memory.
 ROOM = 1.1 if SIZE == 64_000_000 else 1.6
-# What the program itself takes; of less input what this script takes, which is seen then.
-PROGRAM_SIZE = 4_000_000 if SIZE >= 64_000_000 else 20_000_000
+# What the program itself takes.
+PROGRAM_SIZE = 4_000_000
 
 
 def stated():
@@ -247,10 +259,22 @@ def stated():
     return dict(zip(NAMES, (numbers for _, numbers in found)))
 
 
+# So that this process may wait for what a shell began that has ended: prctl(PR_SET_CHILD_SUBREAPER, 1).
+ctypes.CDLL(None).prctl(36, 1, 0, 0, 0)
+
+
 def measure(words, source, sink):
-    """Runs the program from file to file. Answers its status and its peak of memory in bytes."""
-    files = [(os.POSIX_SPAWN_OPEN, 0, source, os.O_RDONLY, 0), (os.POSIX_SPAWN_OPEN, 1, sink, os.O_WRONLY | os.O_CREAT | os.O_TRUNC, 0o600)]
-    _, status, usage = os.wait4(os.posix_spawn(PROGRAM, [PROGRAM, *words], os.environ, file_actions=files), 0)
+    """Runs the program from file to file. Answers its status and its peak of memory in bytes.
+
+    A peak begins with what the process had that starts the program, so that is a small shell, which another one begins. It goes on when
+    that one has ended, so it is waited for here."""
+    begins = 'from=$1 to=$2; shift 2; exec 3<&0; { read -r line <&3; exec "$@" < "$from" > "$to" 3<&-; } & echo $!'
+    command = ["sh", "-c", begins, "sh", source, sink, PROGRAM, *words]
+    with subprocess.Popen(command, stdin=subprocess.PIPE, stdout=subprocess.PIPE) as shell:
+        begun = int(shell.stdout.readline())
+        shell.wait()
+        shell.stdin.write(b"\n")
+    _, status, usage = os.wait4(begun, 0)
     return os.waitstatus_to_exitcode(status), usage.ru_maxrss * KB
 
 
@@ -277,10 +301,7 @@ def measure_kind(kind, numbers):
 
 
 def check_memory():
-    """Holds each peak of memory against the number that is stated.
-
-    A peak begins with what the process had that starts the program, some 16 MB here, so a smaller one is not seen. This comes first,
-    and other processes make the texts, so that it is no more."""
+    """Holds each peak of memory against the number that is stated."""
     numbers = stated()
     print(f"{'peak memory':18}" + "".join(f"{command + ', MB':>16}{'per byte':>10}" for command in COMMANDS))
     with ThreadPoolExecutor(min(SIDE_BY_SIDE, os.cpu_count() or 1)) as pool:
@@ -309,8 +330,7 @@ STARVED = [
     (["cbor2diag", "--annotate", "ccs"], "maps"),
     (["cbor2diag", "-i", "hex"], "streams"),
 ]
-STARVED_SIZE = 100_000
-STEP = 32 * KB
+STARVED_SIZE, STEP = (40_000, 16 * KB) if SHORT else (100_000, 32 * KB)
 
 
 def check_starved():
@@ -353,17 +373,30 @@ SLOWEST = [
 ]
 
 
+def quickest(words, data, enough):
+    """The quickest of at most six runs, as soon as one takes few enough seconds: what else runs on the machine takes some of the others'."""
+    runs = []
+    while len(runs) < 6:
+        runs.append(run(words, data))
+        if runs[-1].seconds <= enough:
+            break
+    return min(runs, key=lambda ended: ended.seconds)
+
+
 def check_slowest():
     # by a flag for which a tree is made, as it is for each input below
-    flat = min(run(["cbor2diag", "--aol-to-item"], b"\x01" * 1_000_000).seconds for _ in range(3))
-    for name, depth, opening, closing, most in SLOWEST:
+    flat = min(run(["cbor2diag", "--aol-to-item"], b"\x01" * ONES).seconds for _ in range(3))
+    for name, depth, opening, closing, times_flat in SLOWEST:
+        most = times_flat * MORE
         # 64 KB as a text, and as an encoding
-        text, encoded = ((opening * depth + "[" + ",".join(["1"] * ones) + "]" + closing * depth).encode() for ones in (30_000, 60_000))
+        lengths = (30_000 // LESS, 60_000 // LESS)
+        text, encoded = ((opening * depth + "[" + ",".join(["1"] * ones) + "]" + closing * depth).encode() for ones in lengths)
         encoded = run(["diag2cbor"], encoded)
-        for words, data in ((["diag2cbor", "--annotate-tags"], text), (["diag2diag", "--annotate-tags", "--preserve-space"], text), (["cbor2diag"], encoded.output)):
-            ended = run(words, data)
+        keeps_spaces = ["diag2diag", "--annotate-tags", "--preserve-space"]
+        for words, data in ((["diag2cbor", "--annotate-tags"], text), (keeps_spaces, text), (["cbor2diag"], encoded.output)):
+            ended = quickest(words, data, flat * most)
             times = ended.seconds / flat
-            seconds = f"it takes {ended.seconds:.1f} seconds, {times:.1f} times a flat MB" if times > most else None
+            seconds = f"it takes {ended.seconds:.1f} seconds, {times:.1f} times a flat input" if times > most else None
             count(f"{' '.join(words)} of {name}, {depth} deep", seconds if ended.status == 0 else f"status {ended.status}, said {ended.said[:200]!r}")
 
 
@@ -376,17 +409,17 @@ DEEPEST_SHOWN = [
     ("messages in messages", 8, "<<18([h'', {}, ", ", h''])>>"),
     ("messages in messages", 128, "<<18([h'', {}, ", ", h''])>>"),
 ]
-MOST_TIMES_SHOWN = 10
+MOST_TIMES_SHOWN = 10 * MORE
 
 
 def check_shown():
-    flat = min(run(["cbor2diag", "--aol-to-item"], b"\x01" * 1_000_000).seconds for _ in range(3))
+    flat = min(run(["cbor2diag", "--aol-to-item"], b"\x01" * ONES).seconds for _ in range(3))
     for name, depth, opening, closing in DEEPEST_SHOWN:
-        text = opening * depth + ",".join(["1"] * 1_000_000) + closing * depth
+        text = opening * depth + ",".join(["1"] * ONES) + closing * depth
         encoded = run(["diag2cbor"], text.encode()).output
-        ended = run(["show"], encoded)
+        ended = quickest(["show"], encoded, flat * MOST_TIMES_SHOWN)
         times = ended.seconds / flat
-        seconds = f"it takes {ended.seconds:.1f} seconds, {times:.1f} times a flat MB" if times > MOST_TIMES_SHOWN else None
+        seconds = f"it takes {ended.seconds:.1f} seconds, {times:.1f} times a flat input" if times > MOST_TIMES_SHOWN else None
         count(f"show of {name}, {depth} deep", seconds if ended.status == 0 else f"status {ended.status}, said {ended.said[:200]!r}")
 
 
@@ -411,27 +444,17 @@ LONG_LISTS = [
     ("360 pairs", "b90168" + "0101" * 360),
     ("361 strings in one", "5f" + "4101" * 361 + "ff"),
 ]
-DEPTH_READ_AGAIN, MOST_TIMES_READ_AGAIN = 20, 10
-
-
-def quickest(data, enough):
-    """The quickest of at most six runs, as soon as one takes few enough seconds: what else runs on the machine takes some of the others'."""
-    runs = []
-    while len(runs) < 6:
-        runs.append(run(["cbor2diag"], data))
-        if runs[-1].seconds <= enough:
-            break
-    return min(runs, key=lambda ended: ended.seconds)
+DEPTH_READ_AGAIN, MOST_TIMES_READ_AGAIN = 20, 10 * MORE
 
 
 def check_read_again():
-    flat = min(run(["cbor2diag"], b"\x01" * 1_000_000).seconds for _ in range(3))
+    flat = min(run(["cbor2diag"], b"\x01" * ONES).seconds for _ in range(3))
     for name, opening, closing in READ_AGAIN:
         for inside, encoded in LONG_LISTS:
             unit = bytes.fromhex(opening * DEPTH_READ_AGAIN + encoded + closing * DEPTH_READ_AGAIN)
-            ended = quickest(unit * (1_000_000 // len(unit)), flat * MOST_TIMES_READ_AGAIN)
+            ended = quickest(["cbor2diag"], unit * (ONES // len(unit)), flat * MOST_TIMES_READ_AGAIN)
             times = ended.seconds / flat
-            seconds = f"it takes {ended.seconds:.1f} seconds, {times:.1f} times a flat MB" if times > MOST_TIMES_READ_AGAIN else None
+            seconds = f"it takes {ended.seconds:.1f} seconds, {times:.1f} times a flat input" if times > MOST_TIMES_READ_AGAIN else None
             count(f"cbor2diag of {inside} in {name}", seconds if ended.status == 0 else f"status {ended.status}, said {ended.said[:200]!r}")
 
 

@@ -1,6 +1,7 @@
 """What each option does, what is told of faults, threads, and encodings of another implementation.
 
 CBOR_EDN_VALUES names a file of such encodings, one a line in hexadecimal digits; without it that test is left out.
+CBOR_EDN_STACK is how many bytes the small stack has; without it 1 MB.
 """
 
 import doctest
@@ -13,6 +14,7 @@ import cbor_edn
 from cbor_edn import NESTING_LIMIT, cbor2diag, diag2cbor, diag2diag, show
 
 VALUES = os.environ.get("CBOR_EDN_VALUES")
+STACK = int(os.environ.get("CBOR_EDN_STACK", 1 << 20))
 
 BIGNUM = b"\xc2\x49\x01" + bytes(8)
 
@@ -164,7 +166,7 @@ class Calls(unittest.TestCase):
 
         for opened, inside, closed in NESTED:
             text = opened * NESTING_LIMIT + inside + closed * NESTING_LIMIT
-            thread, raised = in_thread(lambda text=text: work(text), 1 << 20)
+            thread, raised = in_thread(lambda text=text: work(text), STACK)
             thread.join()
             self.assertEqual(raised, [], opened)
 

@@ -1,4 +1,5 @@
-/* Eight threads at once, and each kind of nesting under a stack of 1 MB. The last line is 'N passed, M failed'. */
+/* Eight threads at once, and each kind of nesting under a stack of 1 MB, or of CBOR_EDN_STACK bytes, where that is in the environment.
+ * The last line is 'N passed, M failed'. */
 #include "../cbor_edn.h"
 
 #include <pthread.h>
@@ -6,7 +7,7 @@
 #include <stdlib.h>
 #include <string.h>
 
-enum { THREADS = 8, TURNS = 2000, LIMIT = CBOR_EDN_NESTING_LIMIT, STACK = 1 << 20, ROOM = 4 << 20 };
+enum { THREADS = 8, TURNS = 2000, LIMIT = CBOR_EDN_NESTING_LIMIT, ROOM = 4 << 20 };
 
 static int passed, failed;
 
@@ -19,9 +20,14 @@ static void count(const char *name, int is_right) {
   }
 }
 
+static size_t stack_size(void) {
+  const char *bytes = getenv("CBOR_EDN_STACK");
+  return bytes ? strtoul(bytes, NULL, 10) : 1 << 20;
+}
+
 static void run_in(void *(*work)(void *), void *argument, pthread_t *thread) {
   pthread_attr_t attributes;
-  if (pthread_attr_init(&attributes) || pthread_attr_setstacksize(&attributes, STACK) ||
+  if (pthread_attr_init(&attributes) || pthread_attr_setstacksize(&attributes, stack_size()) ||
       pthread_create(thread, &attributes, work, argument)) {
     puts("0 passed, 1 failed");
     exit(1);

@@ -283,8 +283,10 @@ const NESTED: &[(&str, &str, &str)] = &[
     ("(_ 'a', 'b' + <<", "1", ">>, 'c')"),
 ];
 
+/// A stack of 1 MB, or of `CBOR_EDN_STACK` bytes, where that is in the environment.
 #[test]
 fn the_deepest_nesting_in_a_small_stack() {
+    let stack = std::env::var("CBOR_EDN_STACK").map_or(1 << 20, |bytes| bytes.parse().unwrap());
     for (open, inside, close) in NESTED {
         let text = open.repeat(NESTING_LIMIT) + inside + &close.repeat(NESTING_LIMIT);
         let work = move || {
@@ -293,7 +295,7 @@ fn the_deepest_nesting_in_a_small_stack() {
             assert_eq!(diag2cbor(&shown).unwrap(), bytes);
         };
         std::thread::Builder::new()
-            .stack_size(1 << 20)
+            .stack_size(stack)
             .spawn(work)
             .unwrap()
             .join()
