@@ -130,9 +130,9 @@ def names_in(listed):
 def unproved_parts(room):
     """Returns the parts that make programs of sources and tests without proofs, and run all tests and refused memory by them."""
     memory = [Part(it, ["scripts/refuse-memory.sh", it]) for it in names_in("_refused_memory$")]
-    tests = [Part(it, ["scripts/run-tests.sh", it, f"{room}/{it}"]) for it in names_in("_tests$")]
+    # those of the highest crates take longest, and begin first
+    tests = [Part(it, ["scripts/run-tests.sh", it, f"{room}/{it}"]) for it in reversed(names_in("_tests$"))]
     looks = [Part(it, [f"scripts/{it}.sh"]) for it in ("check-reads", "check-surface")]
-    # the longest first
     return [*memory, *tests, *looks]
 
 
