@@ -1,6 +1,6 @@
 #!/usr/bin/env bash
 # Runs scripts/check-wrong-bodies.sh over a small tree of its own: edits that it must pass, and everything that it must tell as a failure.
-# Some 20 CPU seconds. The last line is 'N passed, M failed'.
+# Some 200 CPU seconds on a busy machine. The last line is 'N passed, M failed'.
 set -euo pipefail
 
 cd "$(dirname "$(readlink -f "$0")")"
