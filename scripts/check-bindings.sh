@@ -8,9 +8,10 @@
 # tried under a stack of 2 MB and not of 1 MB, and nothing else is less.
 #
 # Each binding has its tests, and the commands of its README must print the bytes of `[1, 0x1f, []]`. The header is compiled by each
-# compiler there is, as C99 and as C++. Encodings of python3-cbor2 go to text and come back, and each allocation is refused in turn,
-# in each language. What is not installed is left out, and told; in CI, which may install it, that is a fault (but for clang and
-# valgrind). The last line is 'N passed, M failed'.
+# compiler there is, as C99 and as C++. Encodings of python3-cbor2 go to text and come back, and each allocation of the library is
+# refused in turn, in each language. The tests of Rust refuse its binding's own allocations too, and those of Python give no room for an
+# output. What is not installed is left out, and told; in CI, which may install it, that is a fault (but for clang and valgrind). The
+# last line is 'N passed, M failed'.
 set -euo pipefail
 
 cd "$(dirname "$(readlink -f "$0")")/.."

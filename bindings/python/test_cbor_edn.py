@@ -9,6 +9,7 @@ import os
 import pickle
 import threading
 import unittest
+from unittest import mock
 
 import cbor_edn
 from cbor_edn import NESTING_LIMIT, cbor2diag, diag2cbor, diag2diag, show
@@ -89,6 +90,16 @@ class Calls(unittest.TestCase):
         self.assertEqual(cbor2diag(data), f"h'{'00' * 4096}'\n")
         deep = "[" * NESTING_LIMIT + "]" * NESTING_LIMIT
         self.assertEqual(diag2cbor(diag2diag(deep)), b"\x81" * (NESTING_LIMIT - 1) + b"\x80")
+
+    def test_more_room_than_there_is(self):
+        """As where a call says that the output takes 2^62 bytes."""
+
+        def convert(*words):
+            words[-1]._obj.output_len = 1 << 62
+            return cbor_edn._NO_ROOM
+
+        with mock.patch.object(cbor_edn, "_convert", convert), self.assertRaises(MemoryError):
+            cbor2diag(b"\x80")
 
     def test_faults(self):
         with self.assertRaises(cbor_edn.ParseError) as caught:

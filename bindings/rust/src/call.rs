@@ -1,6 +1,7 @@
 //! The one call of the library.
 
 use crate::{Command, Error, ErrorKind, Options, Place, ShowOptions};
+use std::collections::TryReserveError;
 
 // As in `cbor_edn.h`.
 #[repr(C)]
@@ -109,18 +110,32 @@ fn offset_of(kind: ErrorKind, report: &Report) -> Option<usize> {
     (is_told && report.offset != NO_OFFSET).then_some(report.offset)
 }
 
+// None where memory for it is refused: then the words of the kind are shown.
+fn message_of(bytes: &[u8]) -> String {
+    let shown = std::str::from_utf8(bytes).unwrap_or_default();
+    let mut message = String::new();
+    if message.try_reserve_exact(shown.len()).is_ok() {
+        message.push_str(shown);
+    }
+    message
+}
+
 fn error_of(status: u32, report: &Report, message: &[u8]) -> Error {
     let kind = kind_of(status);
-    let shown = &message[..report.message_len.min(message.len())];
-    let mut message = String::from_utf8_lossy(shown).into_owned();
-    if message.is_empty() {
-        message = kind.to_string();
-    }
     Error {
         kind,
         offset: offset_of(kind, report),
         place: place_of(report),
-        message,
+        message: message_of(&message[..report.message_len.min(message.len())]),
+    }
+}
+
+fn out_of_memory(_: TryReserveError) -> Error {
+    Error {
+        kind: ErrorKind::OutOfMemory,
+        offset: None,
+        place: None,
+        message: String::new(),
     }
 }
 
@@ -134,7 +149,10 @@ pub fn show(options: &ShowOptions, input: &[u8]) -> Result<Vec<u8>, Error> {
 
 /// Calls once, and again where the output is longer than was guessed.
 fn call(command: u32, flags: u32, limit: usize, input: &[u8]) -> Result<Vec<u8>, Error> {
-    let mut output: Vec<u8> = Vec::with_capacity(input.len().saturating_mul(2).saturating_add(16));
+    let mut output: Vec<u8> = Vec::new();
+    output
+        .try_reserve_exact(input.len().saturating_mul(2).saturating_add(16))
+        .map_err(out_of_memory)?;
     let mut message = [0; MESSAGE_ROOM];
     let mut report = Report::default();
     loop {
@@ -164,7 +182,7 @@ fn call(command: u32, flags: u32, limit: usize, input: &[u8]) -> Result<Vec<u8>,
             }
             NO_ROOM => {
                 assert!(report.output_len > output.capacity());
-                output.reserve_exact(report.output_len);
+                output.try_reserve_exact(report.output_len).map_err(out_of_memory)?;
             }
             fault => return Err(error_of(fault, &report, &message)),
         }

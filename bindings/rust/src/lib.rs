@@ -160,7 +160,7 @@ pub enum ErrorKind {
     InvalidHex,
     /// What the text says has no encoding.
     NoEncoding,
-    /// The library got no memory.
+    /// Memory was refused, to the library or for the output.
     OutOfMemory,
     /// Items nest deeper than the limit.
     TooDeep,
@@ -198,6 +198,7 @@ pub struct Error {
     kind: ErrorKind,
     offset: Option<usize>,
     place: Option<Place>,
+    // Empty where the kind says it all.
     message: String,
 }
 
@@ -221,6 +222,9 @@ impl Error {
 
 impl fmt::Display for Error {
     fn fmt(&self, f: &mut fmt::Formatter<'_>) -> fmt::Result {
+        if self.message.is_empty() {
+            return self.kind.fmt(f);
+        }
         f.write_str(&self.message)
     }
 }
