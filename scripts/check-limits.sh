@@ -458,6 +458,30 @@ def check_read_again():
             count(f"cbor2diag of {inside} in {name}", seconds if ended.status == 0 else f"status {ended.status}, said {ended.said[:200]!r}")
 
 
+# What indents most: small items, or lists of one item, in as many lists as the limit has room for. A line has at most so many columns of
+# indentation a level, with one level more for chunks. A byte makes at most so many lines: of what it opens and of what it closes.
+COLUMNS_OF_A_LEVEL, LINES_OF_A_BYTE = 4, 2
+INDENTED = [("01", 0), ("80", 1), ("818101", 2), ("81818180", 4), ("a10101", 1), ("5f40ff", 0), ("c681c600", 3), ("d280", 2)]
+
+
+def check_indentation():
+    for limit in (8, 64):
+        for unit, levels in INDENTED:
+            for opening in ("81", "a101"):
+                encoded = bytes.fromhex(opening) * (limit - 1 - levels) + b"\x99\x03\xe8" + bytes.fromhex(unit) * 1000
+                columns = COLUMNS_OF_A_LEVEL * (limit + 1)
+                most = columns * LINES_OF_A_BYTE * len(encoded)
+                for command in ("cbor2diag", "show"):
+                    ended = run([command, "--max-nesting", str(limit)], encoded)
+                    indented = max(len(line) - len(line.lstrip(b" ")) for line in ended.output.split(b"\n"))
+                    problem = None
+                    if ended.status != 0:
+                        problem = f"status {ended.status}, said {ended.said[:200]!r}"
+                    elif len(ended.output) > most or indented > columns:
+                        problem = f"{len(ended.output)} bytes of at most {most}, indented by {indented} of at most {columns}"
+                    count(f"{command} of {unit} in {opening}, {limit} levels", problem)
+
+
 check_memory()
 check_depths()
 check_floods()
@@ -467,6 +491,7 @@ check_endless()
 check_slowest()
 check_shown()
 check_read_again()
+check_indentation()
 print(f"{passed} passed, {failed} failed")
 raise SystemExit(failed != 0)
 EOF_PYTHON
