@@ -166,7 +166,7 @@ def gate(room, is_whole):
     words = ["python3", "-B", "scripts/prove.py", *anew, "--costs", f"{room}/costs", "--proved", proved]
     prove = Part("proofs", words, needs, shows="^rt: |NOT PROVED|: error")
     beside = [
-        Part("check-wrong-bodies", ["scripts/check-wrong-bodies.sh", *every, "--proved", proved], needs, 19, " refused, |NOT AS IT MUST BE"),
+        Part("check-wrong-bodies", ["scripts/check-wrong-bodies.sh", *every, "--proved", proved], needs, 19, r": \d+ refused, |NOT AS IT MUST BE"),
         Part("test-wrong-bodies", ["scripts/test-wrong-bodies.sh"], needs, 19),
     ]
     last = [
