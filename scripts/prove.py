@@ -53,7 +53,7 @@ def is_proved(crate):
 def in_order(tasks):
     """Runs the tasks of `rt ci` and returns what each gave. A task is what it waits for, its lines, the memory that it may take, and a call that gets what
     was given and its jobs."""
-    lanes, memory, behind = rt.processors(), 0.85 * rt.free(), {it: 0 for it in tasks}
+    own, lanes, memory, behind = os.getpriority(os.PRIO_PROCESS, 0), rt.processors(), 0.85 * rt.free(), {it: 0 for it in tasks}
     for key in reversed([*tasks]):
         behind[key] += tasks[key][1]
         for it in tasks[key][0]:
@@ -62,7 +62,7 @@ def in_order(tasks):
 
     def run(key, jobs, is_first):
         # a thread's own priority, which the commands that it starts take over
-        os.setpriority(os.PRIO_PROCESS, threading.get_native_id(), 0 if is_first else LOWER)
+        os.setpriority(os.PRIO_PROCESS, threading.get_native_id(), own if is_first else own + LOWER)
         value = False
         try:
             value = tasks[key][3](given, jobs)
