@@ -7,8 +7,9 @@ use cbor_edn::engine::{Options, Source, StdSink, StdSource, serve};
 use cbor_edn::file_words::is_file_command;
 use cbor_edn::words;
 use std::env;
-use std::fs::{File, OpenOptions};
+use std::fs::{self, File, Metadata, OpenFile, OpenOptions};
 use std::io::{self, ErrorKind};
+use std::os::unix::fs::MetadataExt;
 use std::process::ExitCode;
 
 /// The exit status of a fault.
@@ -16,6 +17,9 @@ const FAULT: u8 = 1;
 
 /// The exit status of words that are no command line.
 const MISUSE: u8 = 2;
+
+/// Why nothing is done with a file that is emptied before it is read.
+const SAME_FILE: &str = "Input and output are the same file";
 
 /// Tells of a fault.
 fn fault(rt: &HostRuntime, words: &str) -> u8 {
@@ -56,12 +60,24 @@ fn serve_to<R: Source>(rt: &HostRuntime, options: &Options, source: &mut R, outp
     }
 }
 
+/// Whether the output has the name of a plain file that the input is, whatever both are called.
+fn is_input(rt: &HostRuntime, input: io::Result<Metadata>, output: &str) -> bool {
+    let (Ok(input), Ok(output)) = (input, fs::metadata(rt, output)) else {
+        return false;
+    };
+    input.is_file() && input.dev() == output.dev() && input.ino() == output.ino()
+}
+
 /// A run between two files, of which `-` names a standard stream.
 fn serve_files(rt: &HostRuntime, options: &Options, input: &str, output: &str) -> u8 {
     if input == "-" {
+        if output != "-" && is_input(rt, fs::metadata(rt, "/dev/stdin"), output) {
+            return fault(rt, SAME_FILE);
+        }
         return serve_to(rt, options, &mut StdSource::new(rt.stdin()), output);
     }
     match File::open(rt, input) {
+        Ok(file) if output != "-" && is_input(rt, file.metadata(), output) => fault(rt, SAME_FILE),
         Ok(file) => serve_to(rt, options, &mut StdSource::new(file), output),
         Err(_) => fault(rt, "Error opening input"),
     }
