@@ -5,7 +5,7 @@ mod check;
 mod format;
 mod show;
 mod told;
-mod whole;
+pub(crate) mod whole;
 
 use crate::FAULT;
 use cbor_edn::file_options::FileCommand;

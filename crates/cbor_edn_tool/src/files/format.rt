@@ -17,8 +17,10 @@ pub(super) fn format_file(
     }
     let target = plain_file(rt, name)?;
     let bytes = bytes_behind(rt, name, target.as_str())?;
-    if let Some(words) = why_no_edn(name, &bytes) {
-        return Err(tell(rt, name, words));
+    if !options.force {
+        if let Some(words) = why_no_edn(name, &bytes) {
+            return Err(tell(rt, name, words));
+        }
     }
     let text = text_of(rt, options, name, &bytes)?;
     if text == bytes {
@@ -35,7 +37,7 @@ pub(super) fn format_file(
 /// Why a file is none to lay out, whatever the grammar says of it.
 fn why_no_edn(name: &str, bytes: &[u8]) -> Option<&'static str> {
     if name.ends_with(".cbor") {
-        Some("Named as CBOR, not as EDN")
+        Some("Named as CBOR, not as EDN: --force lays it out")
     } else if bytes.contains(&0) {
         Some("No text: it holds a NUL byte")
     } else if str::from_utf8(bytes).is_err() {

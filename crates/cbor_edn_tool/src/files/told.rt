@@ -10,7 +10,7 @@ const STANDARD_INPUT: &str = "<stdin>";
 
 /// What was told.
 #[derive(Debug, Drop)]
-pub(super) enum Told {
+pub(crate) enum Told {
     /// A file is at fault, or would change.
     OfFile,
     /// Standard output takes no more.
