@@ -1,6 +1,6 @@
 #!/usr/bin/env bash
 # Runs the commands for files on files: statuses, what is told and what is left, also where permissions, links, a full disk, a file that
-# is too large, closed streams or a signal are in the way.
+# is too large, closed streams or a signal are in the way; and conversions to files, whose input may be one file with the output.
 #
 # usage: scripts/check-files.sh [PROGRAM]
 #
@@ -102,15 +102,87 @@ run as_user "$program" fmt d/a.edn; is "read-only file: status" 1 "$status"; is 
 # ---- links
 fresh; mkdir d; printf '[1,2]' > d/a.edn; ln -s d/a.edn l.edn; run "$program" fmt l.edn
 is "symbolic link stays" "d/a.edn" "$(readlink l.edn)"; is "its file is laid out" "[1, 2]" "$(cat d/a.edn)"; is "named as asked" $'cbor-edn: l.edn: Laid out\n' "$err"
+fresh; mkdir d; printf '[1,2]' > a.edn; ln -s ../a.edn d/m.edn; ln -s d/m.edn l.edn; ln -s "$PWD/l.edn" k.edn; run "$program" fmt k.edn
+is "links to links stay" "$PWD/l.edn d/m.edn ../a.edn" "$(readlink k.edn) $(readlink l.edn) $(readlink d/m.edn)"; is "the file behind them is laid out" "[1, 2]" "$(cat a.edn)"
+fresh; printf '[1,2]' > w.edn; chmod 222 w.edn; ln -s w.edn l.edn; run as_user "$program" fmt w.edn l.edn
+is "cannot be read: named as asked" $'cbor-edn: w.edn: Permission denied (os error 13)\ncbor-edn: l.edn: Permission denied (os error 13)\n' "$err"
+fresh; ln -s b.edn a.edn; ln -s a.edn b.edn; run "$program" fmt a.edn; is "links in a ring" $'1cbor-edn: a.edn: Too many levels of symbolic links (os error 40)\n' "$status$err"
 fresh; ln -s nowhere l.edn; run "$program" fmt l.edn; is "link to nothing" 1 "$status"; is "link to nothing: told" $'cbor-edn: l.edn: No such file or directory (os error 2)\n' "$err"
 
 # ---- the same file twice, what is no file
 fresh; printf '[1,2]' > a.edn; run "$program" fmt a.edn ./a.edn; is "twice: status" 0 "$status"; is "twice: told once" $'cbor-edn: a.edn: Laid out\n' "$err"
-mkdir d; run "$program" fmt d; is "folder" $'1cbor-edn: d: Not a regular file\n' "$status$err"
+mkdir d; run "$program" fmt d; is "folder" $'1cbor-edn: d: Is a directory\n' "$status$err"
 run "$program" fmt /dev/null; is "device" $'1cbor-edn: /dev/null: Not a regular file\n' "$status$err"
 : > e.edn; run "$program" fmt e.edn; is "empty file" "0" "$status$err"
 n=$'x\033[1m\n.edn'; printf '[1,2]' > "$n"; run "$program" fmt "$n"; is "control characters of a name" $'cbor-edn: x<U+001B>[1m<U+000A>.edn: Laid out\n' "$err"
 printf '[1,2]' > -x.edn; run "$program" fmt -- -x.edn; is "a name with a dash" 0 "$status"
+
+# ---- names that are not UTF-8, long names
+fresh; mkdir $'d\xff'; cd $'d\xff' || exit; printf '[1,2]' > a.edn; printf '[3,4]' > b.edn; ln -s b.edn l.edn; printf '[5,6]' > $'n\xff.edn'; ln -s $'n\xff.edn' n.edn
+run "$program" fmt a.edn l.edn; is "folder that is not UTF-8" $'0cbor-edn: a.edn: Laid out\ncbor-edn: l.edn: Laid out\n' "$status$err"; is "folder that is not UTF-8: laid out" "[1, 2] [3, 4] b.edn" "$(cat a.edn) $(cat b.edn) $(readlink l.edn)"
+run "$program" fmt n.edn; is "link to a name that is not UTF-8" $'1cbor-edn: n.edn: A link to a name that is not UTF-8\n' "$status$err"; is "link to a name that is not UTF-8: as it was" "[5,6]" "$(cat n.edn)"
+fresh; for size in 120 121 251; do n=$(printf "%${size}s" '' | tr ' ' x).edn; printf '[1,2]' > "$n"; run "$program" fmt "$n"; is "a name of $size characters" "0[1, 2]" "$status$(cat "$n")"; done; none_left "long names"
+n=$(printf '%251s' '' | tr ' ' x).edn; printf '[1,2]' > "$n"; : > long-name.cbor-edn-0; run "$program" fmt "$n"; is "a long name: another's draft" "0[1, 2]" "$status$(cat "$n")"; is "a long name: another's draft stays" "long-name.cbor-edn-0" "$(find . -name '*cbor-edn-*' -printf '%P')"
+
+# ---- files that are none to lay out
+fresh; printf '[1,2]' > a.cbor; printf '[1,\0]' > n.edn; printf '"\xff"' > u.edn; printf '[1,2]' > b.edn; sum=$(cksum a.cbor n.edn u.edn)
+run "$program" fmt a.cbor n.edn u.edn b.edn; is "no EDN: told" $'cbor-edn: a.cbor: Named as CBOR, not as EDN: --force lays it out\ncbor-edn: n.edn: No text: it holds a NUL byte\ncbor-edn: u.edn: No text: it is not UTF-8\ncbor-edn: b.edn: Laid out\n' "$err"
+is "no EDN: status" 1 "$status"; is "no EDN: as it was" "$sum" "$(cksum a.cbor n.edn u.edn)"; is "no EDN: the other is laid out" "[1, 2]" "$(cat b.edn)"
+run "$program" fmt --check a.cbor; is "no EDN: --check" $'1cbor-edn: a.cbor: Named as CBOR, not as EDN: --force lays it out\n' "$status$out$err"
+run "$program" fmt --force a.cbor n.edn u.edn; is "--force" $'1cbor-edn: a.cbor: Laid out\nn.edn:1:4: Invalid EDN\n[1,<U+0000>]\n   ^\nu.edn:1:2: Not UTF-8\n"\n ^\n' "$status$err"; is "--force: laid out" "[1, 2]" "$(cat a.cbor)"
+
+# ---- one file as input and output of a conversion
+SAME='1cbor-edn: Input and output are the same file
+'
+fresh; mkdir d; printf '81f5' > a; ln -s a l; ln a h; ln -s ../a d/m; sum=$(cksum a)
+for words in 'diag2cbor' 'cbor2diag -i hex' 'diag2diag'; do
+  for names in 'a a' 'a ./a' './a a' 'a l' 'l a' 'l l' 'a h' 'h a' 'a d/m' 'd/../a a' "a $PWD/a"; do
+    # shellcheck disable=SC2086
+    run "$program" $words $names; is "one file twice: $words $names" "$SAME" "$status$out$err"
+  done
+  # shellcheck disable=SC2086
+  run "$program" $words - l < a; is "one file twice: $words, standard input" "$SAME" "$status$out$err"
+  # shellcheck disable=SC2086
+  run "$program" $words /dev/stdin l < a; is "one file twice: $words, /dev/stdin" "$SAME" "$status$out$err"
+done
+is "one file twice: as it was" "$sum" "$(cksum a)"
+run "$program" diag2diag /dev/null /dev/null; is "a device twice" 0 "$status$out$err"
+run "$program" cbor2diag -i hex a b; is "two files" "0[true]" "$status$(cat b)"
+run "$program" cbor2diag -i hex - b < a; is "standard input and a file" "0[true]" "$status$(cat b)"
+"$program" diag2diag b >> b; is "standard output behind the input" $'0[true]\n[true]' "$?$(cat b)"
+
+# ---- -O, which replaces a file
+# The status, what is told, and the digits of a file.
+got() {
+  printf '%s|%s|%s' "$status" "$err" "$(od -An -tx1 "$1" 2> /dev/null | tr -d ' \n')"
+}
+
+fresh; mkdir d; printf '[1,2]' > a.edn; printf '[1,\n 1.5' > bad.edn
+BAD=$'cbor-edn: Error parsing input data: Invalid EDN in line 2 column 5 (byte 8)\n'
+(umask 027; "$program" diag2cbor a.edn -O a.cbor; is "-O: a new file" "0 820102 640" "$? $(od -An -tx1 a.cbor | tr -d ' ') $(stat -c %a a.cbor)")
+chmod 604 a.cbor; inode=$(stat -c %i a.cbor); run "$program" diag2cbor --output a.cbor <<< '3'; is "-O: a file that is there" "0||03" "$(got a.cbor)"; is "-O: mode kept" 604 "$(stat -c %a a.cbor)"; is "-O: another file" no "$([ "$inode" = "$(stat -c %i a.cbor)" ] || echo no)"
+run "$program" diag2cbor bad.edn -O a.cbor; is "-O: fault" "1|$BAD|03" "$(got a.cbor)"
+run "$program" diag2cbor bad.edn -O new; is "-O: fault, no file" "1|$BAD|" "$(got new)"; is "-O: fault, none is made" "" "$(find . -name new)"
+run "$program" diag2cbor nofile -O a.cbor; is "-O: no input" $'1|cbor-edn: Error opening input\n|03' "$(got a.cbor)"
+run "$program" diag2cbor d -O a.cbor; is "-O: an input that cannot be read" $'1|cbor-edn: Error reading input\n|03' "$(got a.cbor)"
+run "$program" diag2cbor bad.edn a.cbor; is "without -O: fault" "1|$BAD|" "$(got a.cbor)"
+run "$program" diag2diag a.edn -O a.edn; is "-O: its own input" "0[1, 2]" "$status$err$(cat a.edn)"
+run "$program" diag2diag - -O ./a.edn --preserve-space < a.edn; is "-O: standard input" "0[1, 2]" "$status$err$(cat a.edn)"
+run "$program" diag2diag a.edn -O -; is "-O: standard output" $'0[1, 2]\n' "$status$err$out"
+run "$program" cbor2diag -O b.edn -i hex <<< '63 e282ac'; is "-O: another command" '0"€"' "$status$err$(cat b.edn)"
+ln -s d/m l; run "$program" diag2cbor a.edn -O l; is "-O: a link to nothing" "0||820102" "$(got d/m)"; run "$program" diag2cbor -O l <<< 4; is "-O: a link" "0||04" "$(got d/m)"; is "-O: a link stays" d/m "$(readlink l)"
+n=$(printf '%255s' '' | tr ' ' x); run "$program" diag2cbor -O "$n" <<< 5; is "-O: a long name" "0||05" "$(got "$n")"
+run "$program" diag2cbor a.edn -O d; is "-O: a folder" $'1cbor-edn: d: Is a directory\n' "$status$err"
+run "$program" diag2cbor a.edn -O /dev/full; is "-O: a device" $'1cbor-edn: /dev/full: Not a regular file\n' "$status$err"
+run "$program" diag2cbor a.edn -O none/x; is "-O: no folder" $'1cbor-edn: none/x: No such file or directory (os error 2)\n' "$status$err"
+: > .e; (trap '' XFSZ; ulimit -f 8; seq 1 9000 | "$program" diag2cbor -O d/m) 2> .e; status=$? err=$(cat .e); is "-O: a file too large" "1|cbor-edn: d/m: File too large (os error 27)|04" "$(got d/m)"
+printf '6' | "$program" diag2cbor -O d/m >&- 2>&-; status=$? err=; is "-O: closed streams" "0||06" "$(got d/m)"
+printf '[' | "$program" diag2cbor -O d/m >&- 2>&-; status=$? err=; is "-O: closed streams, fault" "1||06" "$(got d/m)"
+none_left "-O"
+chmod 444 d/m; chmod 777 d; run as_user "$program" diag2cbor -O d/m <<< 7; is "-O: read-only file" $'1|cbor-edn: d/m: Permission denied (os error 13)\n|06' "$(got d/m)"
+chmod 644 d/m; chmod 555 d; run as_user "$program" diag2cbor -O d/n <<< 7; is "-O: read-only folder" $'1|cbor-edn: d/n: Permission denied (os error 13)\n|' "$(got d/n)"; chmod 755 d
+run "$program" diag2cbor a.edn b.edn -O c; is "-O and a second name" 2 "$status"; is "-O and a second name: none is made" "" "$(find . -name c)"
+: > m.cbor-edn-0; printf '8' > m; run "$program" diag2cbor -O m m; is "-O: another's draft" "0||08" "$(got m)"; is "-O: another's draft stays" "./m.cbor-edn-0" "$(find . -name '*cbor-edn-*')"
 
 # ---- drafts of earlier runs, a folder full of them
 fresh; printf '[1,2]' > a.edn; : > a.edn.cbor-edn-0; run "$program" fmt a.edn; is "a draft of another run: status" 0 "$status"; is "a draft of another run stays" "a.edn.cbor-edn-0" "$(find . -name '*cbor-edn-*' -printf '%P')"
@@ -169,6 +241,9 @@ run "$program" show -i hex --no-embedded <<< '43 a1 01 26'; is "show: digits" $'
 run "$program" show -i hex <<< 'd1 80'; is "show: names" $'017([])\n/ COSE_Mac0 /\n' "$status$out$err"
 run "$program" show -i hex --no-names <<< 'd1 80'; is "show: no names" $'017([])\n' "$status$out$err"
 run "$program" show -i hex <<< '4'; is "show: no digits" $'1<stdin>: Error decoding hexadecimal input\n' "$status$out$err"
+
+fresh; printf '\x01' > a.cbor; "$program" show a.cbor nofile a.cbor > /dev/full 2> .e; is "show: output full" "1cbor-edn: <stdout>: No space left on device (os error 28)" "$?$(cat .e)"
+printf '[1,2]' > a.edn; printf '[3,4]' > b.edn; "$program" fmt --check a.edn b.edn > /dev/full 2> .e; is "fmt --check: output full" "1cbor-edn: <stdout>: No space left on device (os error 28)" "$?$(cat .e)"
 
 # ---- words
 run "$program" fmt --nothing; is "words at fault" 2 "$status"

@@ -66,11 +66,12 @@ refuses_with() {
   refuses "${@:2}" && [ "$(head -n 1 "$work/said")" = "$1" ]
 }
 
-for command in '' diag2cbor cbor2diag diag2diag show fmt check; do
+commands='diag2cbor cbor2diag diag2diag show fmt check'
+for command in '' $commands; do
   text=scripts/help/${command:-program}.txt
-  for flag in --help -h; do
+  for words in "$command --help" "$command -h" "help $command"; do
     # shellcheck disable=SC2086
-    count "$command $flag" shows "$text" $command $flag
+    count "$words" shows "$text" $words
   done
   count "$text is too large" fits "$text"
   check_examples "$text"
@@ -85,11 +86,17 @@ while IFS= read -r line; do
   count "'$line' is refused" refuses ${words[@]+"${words[@]}"}
 done << 'END'
 
-help
 diag2edn
+help diag2edn
+help show fmt
 --max-nesting 5
 diag2cbor --version
 diag2cbor - - -
+diag2cbor - - -O out
+diag2cbor -O
+diag2cbor -O out --output out
+show -O out
+fmt --output out
 diag2cbor --hex
 diag2cbor -o
 diag2cbor -o json
@@ -130,16 +137,31 @@ show --max-nesting 513
 fmt --annotate-tags
 fmt --preserve-space
 fmt --check=yes
+fmt --force=yes
+check --force
 check --annotate ccs
 check --remove-comments
 check --max-nesting +5
 END
 
+# The fault has the usage of its command.
+has_usage() {
+  [ "$(grep '^Usage: ' "$work/said")" = "$(grep '^Usage: ' "scripts/help/$1.txt")" ]
+}
+
 # A number with a plus sign is told with its own flag.
-for words in 'diag2cbor --max-nesting' 'show --max-nesting' 'show --levels'; do
+for words in 'diag2cbor --max-nesting' 'show --max-nesting' 'show --levels' 'fmt --max-nesting'; do
   fault="error: invalid value '+5' for '${words#* } <N>': invalid digit found in string"
   # shellcheck disable=SC2086
   count "'$words' names its flag" refuses_with "$fault" $words +5
+  count "'$words' has the usage of its command" has_usage "${words%% *}"
 done
+count 'two outputs are told' refuses_with "error: the argument '--output <FILE>' cannot be used with '[OUTPUT]'" cbor2diag a b -O c
+count 'two outputs have the usage of their command' has_usage cbor2diag
+
+# No command: all are listed, those that `help` lists too.
+refuses
+count 'no command lists all' grep -qxF "  [subcommands: ${commands// /, }, help]" "$work/said"
+count 'help lists all' test "$commands help" = "$(sed -n '/^Commands:/,/^$/s/^  \([a-z0-9]*\) .*/\1/p' scripts/help/program.txt | xargs)"
 
 end

@@ -24,6 +24,7 @@ use Rattle.clap.specs.declared.parser.matches.ArgMatches.TheViews.{out-SubComman
 use Rattle.clap.proofs.OnLiterals.{clap_on_literals}
 use Rattle.clap.proofs.WalkLemmas.{first_value-rows, one_text-rows}
 use Rattle.cbor_edn_command.specs.CommandLine as line
+use Rattle.cbor_edn_command.specs.ProgramWords.{cbor2diag, check, diag2cbor, diag2diag, fmt, program, show, wants_command, with_rules}
 use Rattle.cbor_edn_command.specs.CommandLineSteps.{GrowsBy, IsArgOf, IsCommandOf, IsProgram}
 
 -- ---- entries
@@ -33,6 +34,9 @@ file_named f id name is = ap (λ o. unwrap_or o (codes "-")) (is ∙ first_value
 
 pub file_left_out : (f : Found) (id : Text) → None ≡ first_value f id → codes "-" ≡ line.file_of id (rows_of f)
 file_left_out f id is = ap (λ o. unwrap_or o (codes "-")) (is ∙ first_value-rows f id)
+
+pub outputs : (f : Found) (a b : Option Text) → a ≡ first_value f (codes "replaced") → b ≡ first_value f (codes "output") → line.output_of a b ≡ line.output_by (rows_of f)
+outputs f a b is too = ap₂ line.output_of (is ∙ first_value-rows f (codes "replaced")) (too ∙ first_value-rows f (codes "output"))
 
 abbrev names : Text → Option Text → Bool
 names value o = option_map_or (λ t. bytes_eq t value) o false
@@ -102,13 +106,13 @@ one {old} {new} {arg} {r} adds (is, local) = record {
 pub more : {old mid new : Command} {rs ss : List Rule} → GrowsBy rs old mid → GrowsBy ss mid new → GrowsBy (rs ++ ss) old new
 more {old} {mid} {new} {rs} {ss} first then = record {
   app =
-      then.app ∙ ap (λ a. line.with_rules a ss) first.app
+      then.app ∙ ap (λ a. with_rules a ss) first.app
       ∙ ap (λ (l : List Rule). record (app_of old) { top = record (app_of old).top { rules = l } }) (append_assoc (app_of old).top.rules rs ss);
   local = then.local ∙ first.local;
 }
 
-pub grown : {old new : Command} {a : App} {rs : List Rule} → IsCommandOf a old → GrowsBy rs old new → IsCommandOf (line.with_rules a rs) new
-grown {old} {new} {a} {rs} (is, local) by = (by.app ∙ ap (λ x. line.with_rules x rs) is, by.local ∙ local)
+pub grown : {old new : Command} {a : App} {rs : List Rule} → IsCommandOf a old → GrowsBy rs old new → IsCommandOf (with_rules a rs) new
+grown {old} {new} {a} {rs} (is, local) by = (by.app ∙ ap (λ x. with_rules x rs) is, by.local ∙ local)
 
 pub with_sub : (old sub new : Command) (a b : App) → IsCommandOf a old → AddsSubcommand old sub new → IsCommandOf b sub → IsCommandOf (with_subcommand a b.top) new
 with_sub old sub new a b (is, local) adds (same, leaf) = (
@@ -116,40 +120,48 @@ with_sub old sub new a b (is, local) adds (same, leaf) = (
   adds.globals ∙ or_false (out-Command old).has_globals (out-Command sub).has_globals leaf ∙ local,
 )
 
-pub whole : (one two three : line.Program) (top first second third one_more two_more new : Command) (f a : ValueParser) → line.AreFormats f → line.AreAnnotations a
-    → IsCommandOf (line.wants_command (new_app (codes "cbor-edn"))) top
-    → AddsSubcommand top first one_more → IsCommandOf (one f a) first
-    → AddsSubcommand one_more second two_more → IsCommandOf (two f a) second
-    → AddsSubcommand two_more third new → IsCommandOf (three f a) third
-    → IsProgram (λ f a. line.with_commands (one f a) (two f a) (three f a)) new
-whole one two three top first second third one_more two_more new f a are too is adds own then its adds_last last =
-    (f, a, are, too, with_sub two_more third new _ _ (with_sub one_more second two_more _ _ (with_sub top first one_more _ _ is adds own) then its) adds_last last)
+pub whole : (f a : ValueParser) → line.AreFormats f → line.AreAnnotations a → (top first second third fourth fifth sixth one_more two_more three_more four_more five_more new : Command)
+    → IsCommandOf (wants_command (new_app (codes "cbor-edn"))) top
+    → AddsSubcommand top first one_more → IsCommandOf (diag2cbor f) first
+    → AddsSubcommand one_more second two_more → IsCommandOf (cbor2diag f a) second
+    → AddsSubcommand two_more third three_more → IsCommandOf (diag2diag a) third
+    → AddsSubcommand three_more fourth four_more → IsCommandOf (show f a) fourth
+    → AddsSubcommand four_more fifth five_more → IsCommandOf fmt fifth
+    → AddsSubcommand five_more sixth new → IsCommandOf check sixth
+    → IsProgram new
+whole f a are too top first second third fourth fifth sixth one_more two_more three_more four_more five_more new is add1 is1 add2 is2 add3 is3 add4 is4 add5 is5 add6 is6 =
+    let with1 = with_sub top first one_more _ _ is add1 is1 in
+    let with2 = with_sub one_more second two_more _ _ with1 add2 is2 in
+    let with3 = with_sub two_more third three_more _ _ with2 add3 is3 in
+    let with4 = with_sub three_more fourth four_more _ _ with3 add4 is4 in
+    let with5 = with_sub four_more fifth five_more _ _ with4 add5 is5 in
+    (f, a, are, too, with_sub five_more sixth new _ _ with5 add6 is6)
+
+program_simple : (formats annotations : ValueParser) → is_simple_and_free (program formats annotations) ≡ true
+unfolding clap_on_literals
+program_simple formats annotations = refl
 
 -- ---- what is found of words, and what is refused
 
-module _ (p : line.Program) (simple : (formats annotations : ValueParser) → is_simple_and_free (p formats annotations) ≡ true) (words : List Text) (c : Command) (is_program : IsProgram p c) where
+module _ (words : List Text) (c : Command) (is_program : IsProgram c) where
   pub free : is_simple_and_free (app_of c) ≡ true
-  free = let (f, a, are, too, is) = is_program in ap is_simple_and_free is.0 ∙ simple f a
+  free = let (f, a, are, too, is) = is_program in ap is_simple_and_free is.0 ∙ program_simple f a
 
-  pub finds : (IsFound : Text × List Row → Type 0) (found : Text × List Row) → fault_of (app_of c) words ≡ [] → subcommand_of (app_of c) words ≡ Some found → IsFound found → line.Finds p words IsFound
+  pub finds : (IsFound : Text × List Row → Type 0) (found : Text × List Row) → fault_of (app_of c) words ≡ [] → subcommand_of (app_of c) words ≡ Some found → IsFound found → line.Finds words IsFound
   finds IsFound found none met h =
       let (f, a, are, too, is) = is_program in
       (f, a, found, are, too, subst (λ (x : App). fault_of x words ≡ []) is.0 none, subst (λ (x : App). subcommand_of x words ≡ Some found) is.0 met, h)
 
   module _ (IsMisread : Option (Text × List Row) → ErrorKind → Type 0) (e : Error) where
-    pub refused : HasKind (fault_of (app_of c) words) e → line.Refuses p words IsMisread e
+    pub refused : HasKind (fault_of (app_of c) words) e → line.Refuses words IsMisread e
     refused kinds =
         let (f, a, are, too, is) = is_program in
         ⊎_elim inl (λ among. inr (f, a, are, too, inl (subst (λ (x : App). IsAmong (kind_of e) (fault_of x words)) is.0 among))) kinds
 
     pub misread : (found : Option (Text × List Row)) → fault_of (app_of c) words ≡ [] → subcommand_of (app_of c) words ≡ found → (kind_of e ≡ OutOfMemory) ⊎ IsMisread found (kind_of e)
-        → line.Refuses p words IsMisread e
+        → line.Refuses words IsMisread e
     misread found none met h =
         let (f, a, are, too, is) = is_program in
         ⊎_elim inl
         (λ no_command. inr (f, a, are, too, inr (subst (λ (x : App). fault_of x words ≡ []) is.0 none, subst (λ o. IsMisread o (kind_of e)) (sym met ∙ ap (λ (x : App). subcommand_of x words) is.0) no_command)))
         h
-
-pub program_simple : (formats annotations : ValueParser) → is_simple_and_free (line.program formats annotations) ≡ true
-unfolding clap_on_literals
-program_simple formats annotations = refl

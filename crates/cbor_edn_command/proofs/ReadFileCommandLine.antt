@@ -1,15 +1,13 @@
 -- From what the calls of `clap` answer to what is read off a command line of files.
-use Rattle.std.proofs.Common.{◌≡◌, true, inl, inr, List, [], ◌∷◌, Some, None, refl, ap, ◌∙◌}
+use Rattle.std.proofs.Common.{◌≡◌, inl, inr, List, [], ◌∷◌, Some, None, ap, ◌∙◌}
 use Rattle.std.specs.Prelude.{codes, map, unwrap_or, option_map}
 use Rattle.std.specs.Borrow.{Bor}
 use Rattle.clap.specs.Matches.{matched_of, raw_values}
 use Rattle.clap.specs.declared.parser.matches.Found.{Found}
-use Rattle.clap.specs.Words.{Row, Text, is_simple_and_free, rows_of}
+use Rattle.clap.specs.Words.{Row, Text, rows_of}
 use Rattle.clap.specs.declared.error.kind.ErrorKind.{ErrorKind}
-use Rattle.clap.specs.declared.builder.value_parser.ValueParser.{ValueParser}
-use Rattle.clap.proofs.OnLiterals.{clap_on_literals}
 use Rattle.clap.proofs.WalkLemmas.{raw_values-rows}
-use Rattle.cbor_edn_command.specs.FileCommandLine.{IsMisread, program, files_of}
+use Rattle.cbor_edn_command.specs.FileCommandLine.{IsMisread, files_of}
 use Rattle.cbor_edn_command.specs.FileCommandLineSteps.{IsMisreadAs, kind_of_misread}
 use Rattle.cbor_edn_command.specs.declared.file_words.Misread.{Misread}
 use Rattle.cbor_edn_command.specs.declared.file_words.Misread.TheVariants.{Name, Limit, Levels}
@@ -26,7 +24,3 @@ pub misread_kind : (found : Text × List Row) (misread : Misread) (k : ErrorKind
 misread_kind found Name k is h = inl (is, h)
 misread_kind found (Limit word) k is h = inr (is, inl h)
 misread_kind found (Levels word) k is h = inr (is, inr h)
-
-pub program_simple : (formats annotations : ValueParser) → is_simple_and_free (program formats annotations) ≡ true
-unfolding clap_on_literals
-program_simple formats annotations = refl

@@ -1,86 +1,20 @@
--- The program's command line, as `clap` sees it, and what is read off the entries that `clap` finds for the words.
-use Rattle.std.specs.Prelude.{◌≡◌, ◌≤◌, ℕ, Bool, true, false, not, ◌⊎◌, List, [], ◌∷◌, ◌++◌, map, codes, Option, Some, None, unwrap_or, if◌then◌else◌}
+-- What is read off the entries that `clap` finds for the words of a conversion, and which words are refused.
+use Rattle.std.specs.Prelude.{◌≡◌, ◌≤◌, ℕ, Bool, true, false, not, ◌⊎◌, List, [], ◌∷◌, map, codes, Option, Some, None, unwrap_or, if◌then◌else◌}
 use Rattle.std.specs.Str.{bytes_eq}
 use Rattle.std.specs.Str.Parse.{IsNumeral, digits_value}
 use Rattle.std.specs.Option.{option_map_or}
-use Rattle.clap.specs.Words.{App, IsAmong, Row, Rule, Text, fault_of, first_of, new_app, new_rule, one_of, subcommand_of, with_subcommand}
+use Rattle.clap.specs.Words.{IsAmong, Row, Text, fault_of, first_of, one_of, subcommand_of}
 use Rattle.clap.specs.Values.{kind_of}
-use Rattle.clap.specs.declared.builder.action.ArgAction.TheVariants.{SetTrue}
 use Rattle.clap.specs.declared.builder.value_parser.ValueParser.{ValueParser}
-use Rattle.clap.specs.declared.builder.value_parser.ValueParser.TheVariants.{Names, Unsigned}
+use Rattle.clap.specs.declared.builder.value_parser.ValueParser.TheVariants.{Names}
 use Rattle.clap.specs.declared.error.Error.{Error}
 use Rattle.clap.specs.declared.error.kind.ErrorKind.{ErrorKind}
-use Rattle.clap.specs.declared.error.kind.ErrorKind.TheVariants.{InvalidSubcommand, MissingSubcommand, OutOfMemory, ValueValidation}
+use Rattle.clap.specs.declared.error.kind.ErrorKind.TheVariants.{ArgumentConflict, InvalidSubcommand, MissingSubcommand, OutOfMemory, ValueValidation}
 use Rattle.cbor_edn_parts.specs.declared.base.nesting.TheConstants.{NESTING_LIMIT}
+use Rattle.cbor_edn_command.specs.ProgramWords.{program}
 use Rattle.cbor_edn_command.specs.declared.options.Command.{Command}
 use Rattle.cbor_edn_command.specs.declared.options.Command.TheVariants.{Diag2Cbor, Cbor2Diag, Diag2Diag}
 use Rattle.cbor_edn_command.specs.declared.options.Options.{Options}
-
--- ---- the words that there are
-
--- a flag with two dashes that has no value
-abbrev pub flag : Text → Rule
-flag name = record (new_rule name) { long = Some name; action = Some SetTrue }
-
--- `--max-nesting N`
-abbrev pub max_nesting : Rule
-max_nesting = record (new_rule (codes "max-nesting")) { long = Some (codes "max-nesting"); value_names = 1; parser = Some (Unsigned 0 512) }
-
--- `-o`, `--output-format`, and `-i`, `--input-format`: one of some names
-abbrev pub format : ℕ → Text → ValueParser → Rule
-format short long names = record (new_rule (codes "format")) { short = Some short; long = Some long; value_names = 1; parser = Some names }
-
--- `--annotate`: one of some names
-abbrev pub annotate : ValueParser → Rule
-annotate names = record (new_rule (codes "annotate")) { long = Some (codes "annotate"); value_names = 1; parser = Some names }
-
--- INPUT and OUTPUT
-abbrev pub file : Text → Rule
-file id = record (new_rule id) { value_names = 1 }
-
--- what the commands that read EDN take, those that write it, and all of them
-abbrev pub edn_input : List Rule
-edn_input = flag (codes "annotate-tags") ∷ flag (codes "apply-999") ∷ []
-
-abbrev pub edn_output : ValueParser → List Rule
-edn_output annotations = flag (codes "aol-to-item") ∷ flag (codes "no-bignum-from-tags") ∷ annotate annotations ∷ []
-
-abbrev pub common : List Rule
-common = max_nesting ∷ file (codes "input") ∷ file (codes "output") ∷ []
-
--- a command that takes more
-abbrev pub with_rules : App → List Rule → App
-with_rules a more = record a { top = record a.top { rules = a.top.rules ++ more } }
-
-abbrev pub diag2cbor : ValueParser → App
-diag2cbor formats = with_rules (new_app (codes "diag2cbor")) (format 111 (codes "output-format") formats ∷ edn_input ++ common)
-
-abbrev pub cbor2diag : ValueParser → ValueParser → App
-cbor2diag formats annotations =
-    with_rules (new_app (codes "cbor2diag"))
-    (format 105 (codes "input-format") formats ∷ flag (codes "no-annotate-tags") ∷ edn_output annotations ++ common)
-
-abbrev pub diag2diag : ValueParser → App
-diag2diag annotations =
-    with_rules (new_app (codes "diag2diag"))
-    (edn_input ++ edn_output annotations ++ flag (codes "preserve-space") ∷ flag (codes "remove-comments") ∷ common)
-
--- a program with a version, of which a command is wanted, and which has no command `help`
-abbrev pub wants_command : App → App
-wants_command a = record a { top = record a.top { has_version = true; subcommand_required = true; disable_help_subcommand = true } }
-
--- `cbor-edn` with three commands
-abbrev pub with_commands : App → App → App → App
-with_commands a b c = with_subcommand (with_subcommand (with_subcommand (wants_command (new_app (codes "cbor-edn"))) a.top) b.top) c.top
-
--- A program, with the parsers of the names of formats and of annotations.
-abbrev pub Program : Type 0
-Program = ValueParser → ValueParser → App
-
-abbrev pub program : Program
-program formats annotations = with_commands (diag2cbor formats) (cbor2diag formats annotations) (diag2diag annotations)
-
--- ---- what they say
 
 abbrev pub command_named : Text → Option Command
 command_named name =
@@ -112,6 +46,16 @@ IsNoLimit = IsNoNumber NESTING_LIMIT NESTING_LIMIT
 -- the name of a file, or `-`
 abbrev pub file_of : Text → List Row → Text
 file_of id rows = unwrap_or (first_of id rows) (codes "-")
+
+-- The name of the output, and whether its file is replaced, by FILE of `-O` and by OUTPUT; none where there are both.
+abbrev pub output_of : Option Text → Option Text → Option (Text × Bool)
+output_of None None = Some (codes "-", false)
+output_of None (Some name) = Some (name, false)
+output_of (Some name) None = Some (name, true)
+output_of (Some _) (Some _) = None
+
+abbrev pub output_by : List Row → Option (Text × Bool)
+output_by rows = output_of (first_of (codes "replaced") rows) (first_of (codes "output") rows)
 
 -- An option by a command's entries: on where a flag is given. A flag that the command has is there, as `true` or `false`.
 abbrev pub IsFlag : Text → List Row → Bool → Type 0
@@ -182,13 +126,13 @@ pub record AreSet (rows : List Row) (o : Options) : Type 0 where
   pub remove_comments : RemovesComments o.command rows o.remove_comments
   pub preserve_space : PreservesSpace o.command rows o.preserve_space
 
--- The options and the two names, read off a command's name and its entries.
-pub record IsReadOff (found : Text × List Row) (o : Options) (source target : Text) : Type 0 where
+-- The options, the two names and whether the output's file is replaced, read off a command's name and its entries.
+pub record IsReadOff (found : Text × List Row) (o : Options) (source target : Text) (replaces : Bool) : Type 0 where
   pub command : command_named found.0 ≡ Some o.command
   pub flags : AreSet found.1 o
   pub limit : IsLimit (first_of (codes "max-nesting") found.1) o.limit
   pub input : source ≡ file_of (codes "input") found.1
-  pub output : target ≡ file_of (codes "output") found.1
+  pub output : output_by found.1 ≡ Some (target, replaces)
 
 -- a parser that takes these names alone
 abbrev pub AreNames : List Text → ValueParser → Type 0
@@ -201,30 +145,31 @@ AreFormats = AreNames (codes "hex" ∷ codes "binary" ∷ codes "auto" ∷ [])
 abbrev pub AreAnnotations : ValueParser → Type 0
 AreAnnotations = AreNames (codes "ccs" ∷ [])
 
--- `clap` finds no fault in the words of a program, and a command's name and entries of which this holds. Each value is one that its flag takes:
--- a format is `hex`, `binary` or `auto`, and what is annotated is `ccs`.
-abbrev pub Finds : Program → List Text → (Text × List Row → Type 0) → Type 0
-Finds p words IsFound =
+-- `clap` finds no fault in the words, and a command's name and entries of which this holds. Each value is one that its flag takes: a format is
+-- `hex`, `binary` or `auto`, and what is annotated is `ccs`.
+abbrev pub Finds : List Text → (Text × List Row → Type 0) → Type 0
+Finds words IsFound =
     (formats annotations : ValueParser) × (found : Text × List Row) × AreFormats formats × AreAnnotations annotations
-    × (fault_of (p formats annotations) words ≡ []) × (subcommand_of (p formats annotations) words ≡ Some found) × IsFound found
+    × (fault_of (program formats annotations) words ≡ []) × (subcommand_of (program formats annotations) words ≡ Some found) × IsFound found
 
--- The options and the two names, read off what is found.
-abbrev pub IsReadFrom : List Text → Options → Text → Text → Type 0
-IsReadFrom words o source target = Finds program words (λ found. IsReadOff found o source target)
+-- The options, the two names and whether the output's file is replaced, read off what is found.
+abbrev pub IsReadFrom : List Text → Options → Text → Text → Bool → Type 0
+IsReadFrom words o source target replaces = Finds words (λ found. IsReadOff found o source target replaces)
 
 -- Words are refused: memory ran out; or `clap` finds a fault of this kind, help and the version among them; or it finds none, and what it finds
 -- is no command line.
-abbrev pub Refuses : Program → List Text → (Option (Text × List Row) → ErrorKind → Type 0) → Error → Type 0
-Refuses p words IsMisread e =
+abbrev pub Refuses : List Text → (Option (Text × List Row) → ErrorKind → Type 0) → Error → Type 0
+Refuses words IsMisread e =
     (kind_of e ≡ OutOfMemory) ⊎ ((formats annotations : ValueParser) × AreFormats formats × AreAnnotations annotations
-    × (IsAmong (kind_of e) (fault_of (p formats annotations) words)
-    ⊎ ((fault_of (p formats annotations) words ≡ []) × IsMisread (subcommand_of (p formats annotations) words) (kind_of e))))
+    × (IsAmong (kind_of e) (fault_of (program formats annotations) words)
+    ⊎ ((fault_of (program formats annotations) words ≡ []) × IsMisread (subcommand_of (program formats annotations) words) (kind_of e))))
 
--- No command, none of this name, or no number of levels.
+-- No command, none of this name, no number of levels, or two outputs.
 abbrev pub IsMisread : Option (Text × List Row) → ErrorKind → Type 0
 IsMisread None kind = kind ≡ MissingSubcommand
 IsMisread (Some (name, rows)) kind =
-    ((kind ≡ InvalidSubcommand) × (command_named name ≡ None)) ⊎ ((kind ≡ ValueValidation) × IsNoLimit (first_of (codes "max-nesting") rows))
+    ((kind ≡ InvalidSubcommand) × (command_named name ≡ None))
+    ⊎ (((kind ≡ ValueValidation) × IsNoLimit (first_of (codes "max-nesting") rows)) ⊎ ((kind ≡ ArgumentConflict) × (output_by rows ≡ None)))
 
 abbrev pub IsRefusedAs : List Text → Error → Type 0
-IsRefusedAs words = Refuses program words IsMisread
+IsRefusedAs words = Refuses words IsMisread

@@ -1,55 +1,17 @@
--- The words of the commands for files, as `clap` sees them, and what is read off the entries that `clap` finds for them.
-use Rattle.std.specs.Prelude.{◌≡◌, ◌||◌, ◌⊎◌, ℕ, Bool, true, false, Option, Some, None, if◌then◌else◌, List, [], ◌∷◌, ◌++◌, codes, unwrap_or}
+-- What is read off the entries that `clap` finds for the words of a command for files, and which words are refused.
+use Rattle.std.specs.Prelude.{◌≡◌, ◌||◌, ◌⊎◌, ℕ, Bool, true, false, Option, Some, None, if◌then◌else◌, List, [], ◌∷◌, codes, unwrap_or}
 use Rattle.std.specs.Str.{bytes_eq}
-use Rattle.clap.specs.Words.{App, Row, Rule, Text, all_of, first_of, new_app, new_rule}
-use Rattle.clap.specs.declared.builder.action.ArgAction.TheVariants.{Append}
-use Rattle.clap.specs.declared.builder.value_parser.ValueParser.{ValueParser}
-use Rattle.clap.specs.declared.builder.value_parser.ValueParser.TheVariants.{Unsigned}
+use Rattle.clap.specs.Words.{Row, Text, all_of, first_of}
 use Rattle.clap.specs.declared.error.Error.{Error}
 use Rattle.clap.specs.declared.error.kind.ErrorKind.{ErrorKind}
 use Rattle.clap.specs.declared.error.kind.ErrorKind.TheVariants.{InvalidSubcommand, MissingSubcommand, ValueValidation}
-use Rattle.cbor_edn_command.specs.CommandLine.{Finds, IsFlag, IsLimit, IsNoFlag, IsNoLimit, IsNoNumber, IsNumber, IsValue, Program, Refuses, annotate, flag, format, max_nesting, with_commands, with_rules}
+use Rattle.cbor_edn_command.specs.CommandLine.{Finds, IsFlag, IsLimit, IsNoFlag, IsNoLimit, IsNoNumber, IsNumber, IsValue, Refuses}
 use Rattle.cbor_edn_command.specs.declared.file_options.FileCommand.{FileCommand}
 use Rattle.cbor_edn_command.specs.declared.file_options.FileCommand.TheVariants.{Show, Format, Check}
 use Rattle.cbor_edn_command.specs.declared.file_options.ShowOptions.{ShowOptions}
 use Rattle.cbor_edn_command.specs.declared.file_options.FormatOptions.{FormatOptions}
 use Rattle.cbor_edn_command.specs.declared.file_options.CheckOptions.{CheckOptions}
 use Rattle.cbor_edn_command.specs.declared.file_options.TheConstants.{DEFAULT_LEVELS, MOST_LEVELS}
-
--- ---- the words that there are
-
--- `--levels N`
-abbrev pub levels : Rule
-levels = record (new_rule (codes "levels")) { long = Some (codes "levels"); value_names = 1; parser = Some (Unsigned 0 255) }
-
--- `--check`, which lists files
-abbrev pub only_lists : Rule
-only_lists = record (flag (codes "list")) { long = Some (codes "check") }
-
--- FILE, as often as there are files
-abbrev pub files : Rule
-files = record (new_rule (codes "files")) { action = Some Append; value_names = 1 }
-
--- flags of `show` that leave out a step which it takes by default
-abbrev pub steps_left_out : List Rule
-steps_left_out = flag (codes "no-embedded") ∷ flag (codes "no-names") ∷ flag (codes "no-bignum-from-tags") ∷ []
-
-abbrev pub show : ValueParser → ValueParser → App
-show formats annotations =
-    with_rules (new_app (codes "show"))
-    (format 105 (codes "input-format") formats ∷ levels ∷ (steps_left_out ++ (annotate annotations ∷ max_nesting ∷ files ∷ [])))
-
-abbrev pub fmt : App
-fmt = with_rules (new_app (codes "fmt")) (only_lists ∷ flag (codes "remove-comments") ∷ max_nesting ∷ files ∷ [])
-
-abbrev pub check : App
-check = with_rules (new_app (codes "check")) (flag (codes "apply-999") ∷ flag (codes "cbor") ∷ max_nesting ∷ files ∷ [])
-
--- `cbor-edn` with these commands
-abbrev pub program : Program
-program formats annotations = with_commands (show formats annotations) fmt check
-
--- ---- what they say
 
 -- the words that name these commands
 abbrev pub is_file_command : Text → Bool
@@ -72,6 +34,7 @@ pub record IsShow (rows : List Row) (o : ShowOptions) : Type 0 where
 pub record IsFormat (rows : List Row) (o : FormatOptions) : Type 0 where
   pub only_lists : IsFlag (codes "list") rows o.only_lists
   pub remove_comments : IsFlag (codes "remove-comments") rows o.remove_comments
+  pub force : IsFlag (codes "force") rows o.force
   pub limit : IsLimit (first_of (codes "max-nesting") rows) o.limit
 
 pub record IsCheck (rows : List Row) (o : CheckOptions) : Type 0 where
@@ -94,7 +57,7 @@ files_of rows = unwrap_or (all_of (codes "files") rows) (codes "-" ∷ [])
 
 -- The command and the names, read off what is found.
 abbrev pub IsFileCommandOf : List Text → FileCommand → List Text → Type 0
-IsFileCommandOf words c names = Finds program words (λ found. IsCommand found c × (names ≡ files_of found.1))
+IsFileCommandOf words c names = Finds words (λ found. IsCommand found c × (names ≡ files_of found.1))
 
 abbrev pub AreNoLevels : List Row → Type 0
 AreNoLevels rows = IsNoNumber DEFAULT_LEVELS MOST_LEVELS (first_of (codes "levels") rows)
@@ -106,4 +69,4 @@ IsMisread (Some (name, rows)) kind =
     ((kind ≡ InvalidSubcommand) × (is_file_command name ≡ false)) ⊎ ((kind ≡ ValueValidation) × (IsNoLimit (first_of (codes "max-nesting") rows) ⊎ AreNoLevels rows))
 
 abbrev pub IsRefusedAs : List Text → Error → Type 0
-IsRefusedAs words = Refuses program words IsMisread
+IsRefusedAs words = Refuses words IsMisread

@@ -1,3 +1,4 @@
+pub mod ProgramWords
 pub mod CommandLine
 pub mod Devices
 pub mod Hexadecimal

@@ -49,6 +49,8 @@ pub struct FormatOptions {
     pub only_lists: bool,
     /// Comments are left out.
     pub remove_comments: bool,
+    /// Files are laid out whatever their names and bytes. Else one whose name ends in `.cbor`, or that is no text, is taken for none.
+    pub force: bool,
     /// How deep items may nest, in levels: each takes stack.
     pub limit: usize,
 }

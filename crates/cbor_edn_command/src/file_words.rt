@@ -1,49 +1,21 @@
 //! The words of a command line that names a command for files: `show`, `fmt` and `check`.
-ghost use Rattle.std.specs.Prelude.{◌≡◌, ◌⊎◌, IfErr, IfOk, List, Some, map, [], ◌∷◌};
+ghost use Rattle.std.specs.Prelude.{◌≡◌, ◌⊎◌, IfErr, IfOk, List, Some, map};
 ghost use Rattle.clap.specs.Values.{kind_of};
 ghost use Rattle.clap.specs.Words.{Row, Text, found_of, rows_of, subcommand_rows_of};
-ghost use Rattle.cbor_edn_command.specs.CommandLine.{max_nesting as the_limit};
-ghost use Rattle.cbor_edn_command.specs.CommandLineSteps.{GrowsBy, IsArgOf, IsCommandOf, IsProgram};
 ghost use Rattle.cbor_edn_command.specs.FileCommandLine as line;
 ghost use Rattle.cbor_edn_command.specs.FileCommandLineSteps.{AreMisread, IsMisreadAs, kind_of_misread};
 
 use crate::file_options::{
     CheckOptions, DEFAULT_LEVELS, FileCommand, FormatOptions, MOST_LEVELS, ShowOptions,
 };
-use crate::words::{
-    ANNOTATIONS, FORMATS, annotate, flag, format, is_given, is_value, limit_of, max_nesting,
-    new_command, new_program, no_number, number_of,
-};
-use clap::builder::ValueParser;
+use crate::program::program;
+use crate::words::{is_given, is_value, limit_of, no_number, number_of};
 use clap::error::ErrorKind;
-use clap::{Arg, ArgAction, ArgMatches, Error};
+use clap::{ArgMatches, Error};
 use std::alloc::{AllocError, Global};
 
-const ABOUT: &str = "Shows, lays out and checks files of the Extended Diagnostic Notation (EDN)";
-
-const SHOWING: &str = "\
-Of more than one FILE, each stands behind a comment with its name.
-Exit status: 0 done, 1 a fault of a file or device, 2 of the command line.
-
-Example:
-  echo 43a10126 | cbor-edn show -i hex   # <<{1: -7}>>";
-
-const LAYING_OUT: &str = "\
-Each FILE gets the spaces that diag2diag gives it, at once and whole: a draft
-beside it takes its place. A FILE at fault, or laid out already, stays as it is.
-Standard input is laid out to standard output.
-Exit status: 0 done, 1 a FILE is at fault or listed, 2 the command line is.
-
-Example:
-  echo '[1 /one/,2]' | cbor-edn fmt   # [1/one/, 2]";
-
-const CHECKING: &str = "\
-A fault is told behind the FILE's name, and behind line and column where these
-are known. All is well where nothing is told.
-Exit status: 0 all is well, 1 a FILE is at fault, 2 the command line is.
-
-Example:
-  echo '[1, 2' | cbor-edn check 2>&1 | head -n 1   # <stdin>:2:1: Invalid EDN";
+/// The names of files, as the usage of a command for files has them.
+const FILES: &str = "[FILE]...";
 
 /// Whether a word names a command for files. A command line with any other word is read by [`crate::words::options`].
 pub fn is_file_command(word: &str) -> bool
@@ -82,7 +54,7 @@ fn read_off<'a>(
     };
     match command_of(name, found) {
         Ok(command) => Ok((command, files_of(alloc, found)?)),
-        Err(misread) => Err(fault_of(alloc, program, misread)?),
+        Err(misread) => Err(fault_of(alloc, program, name, misread)?),
     }
 }
 
@@ -90,14 +62,15 @@ fn read_off<'a>(
 fn fault_of(
     alloc: Global,
     program: &mut clap::Command<'_>,
+    name: &str,
     misread: Misread<'_>,
 ) -> Result<Error, AllocError>
     ensures { IfOk result (λ e. kind_of e ≡ kind_of_misread misread.entry) }
 {
     match misread {
         Misread::Name => program.error(ErrorKind::InvalidSubcommand, "no such command"),
-        Misread::Limit(word) => no_number(alloc, program, "max-nesting", word),
-        Misread::Levels(word) => no_number(alloc, program, "levels", word),
+        Misread::Limit(word) => no_number(alloc, name, FILES, "max-nesting", word),
+        Misread::Levels(word) => no_number(alloc, name, FILES, "levels", word),
     }
 }
 
@@ -159,6 +132,7 @@ fn format_of<'a>(found: &ArgMatches<'a>) -> Result<FormatOptions, Misread<'a>>
     Ok(FormatOptions {
         only_lists: is_given(found, "list"),
         remove_comments: is_given(found, "remove-comments"),
+        force: is_given(found, "force"),
         limit,
     })
 }
@@ -186,108 +160,4 @@ fn files_of<'a>(alloc: Global, found: &ArgMatches<'a>) -> Result<Vec<&'a str>, A
     };
     names.extend_from_slice(given)?;
     Ok(names)
-}
-
-/// The command line of the program, where it names a command for files.
-fn program<'a>(alloc: Global) -> Result<clap::Command<'a>, AllocError>
-    ensures { IfOk result (IsProgram line.program) }
-{
-    let formats = ValueParser::Names(&FORMATS);
-    let annotations = ValueParser::Names(&ANNOTATIONS);
-    new_program(alloc, ABOUT)
-        .subcommand(show(alloc, formats, annotations)?)?
-        .subcommand(fmt(alloc)?)?
-        .subcommand(check(alloc)?)
-}
-
-fn show<'a>(
-    alloc: Global,
-    formats: ValueParser<'a>,
-    annotations: ValueParser<'a>,
-) -> Result<clap::Command<'a>, AllocError>
-    ensures { IfOk result (IsCommandOf (line.show formats.entry annotations.entry)) }
-{
-    let about = "Decodes CBOR, also in its byte strings, into items in EDN";
-    let command = new_command(alloc, "show", about, SHOWING)
-        .arg(format(alloc, 'i', "input-format", formats))?
-        .arg(levels(alloc))?;
-    let command = with_steps_left_out(alloc, command)?.arg(annotate(alloc, annotations))?;
-    with_files(alloc, command)
-}
-
-/// A command with the flags that leave out a step which `show` takes by default.
-fn with_steps_left_out<'a>(
-    alloc: Global,
-    command: clap::Command<'a>,
-) -> Result<clap::Command<'a>, AllocError>
-    ensures { IfOk result (GrowsBy line.steps_left_out command.entry) }
-{
-    let embedded = "Leave byte strings that hold CBOR as they are";
-    let bignums = "Leave bignums in tags 2 and 3";
-    command
-        .arg(flag(alloc, "no-embedded", embedded))?
-        .arg(flag(alloc, "no-names", "Leave names of COSE out"))?
-        .arg(flag(alloc, "no-bignum-from-tags", bignums))
-}
-
-fn fmt<'a>(alloc: Global) -> Result<clap::Command<'a>, AllocError>
-    ensures { IfOk result (IsCommandOf line.fmt) }
-{
-    let command = new_command(alloc, "fmt", "Lays out files of EDN in place", LAYING_OUT)
-        .arg(only_lists(alloc))?
-        .arg(flag(alloc, "remove-comments", "Leave comments out"))?;
-    with_files(alloc, command)
-}
-
-fn check<'a>(alloc: Global) -> Result<clap::Command<'a>, AllocError>
-    ensures { IfOk result (IsCommandOf line.check) }
-{
-    let others = "Turn literals that are left into tag 999";
-    let about = "Tells whether files are EDN that has an encoding, or CBOR";
-    let command = new_command(alloc, "check", about, CHECKING)
-        .arg(flag(alloc, "apply-999", others))?
-        .arg(flag(
-            alloc,
-            "cbor",
-            "Take each FILE for CBOR, not those in .cbor alone",
-        ))?;
-    with_files(alloc, command)
-}
-
-/// A command with what all of these take.
-fn with_files<'a>(
-    alloc: Global,
-    command: clap::Command<'a>,
-) -> Result<clap::Command<'a>, AllocError>
-    ensures { IfOk result (GrowsBy (the_limit ∷ line.files ∷ []) command.entry) }
-{
-    command.arg(max_nesting(alloc))?.arg(files(alloc))
-}
-
-fn levels<'a>(alloc: Global) -> Arg<'a>
-    ensures { IsArgOf line.levels result }
-{
-    Arg::new(alloc, "levels")
-        .long("levels")
-        .value_name("N")
-        .value_parser(ValueParser::Unsigned(0, 255))
-        .help("Levels of embedded CBOR, 0 to 255 [default: 8]")
-}
-
-fn only_lists<'a>(alloc: Global) -> Arg<'a>
-    ensures { IsArgOf line.only_lists result }
-{
-    Arg::new(alloc, "list")
-        .long("check")
-        .action(ArgAction::SetTrue)
-        .help("List files that would change (status 1), write nothing")
-}
-
-fn files<'a>(alloc: Global) -> Arg<'a>
-    ensures { IsArgOf line.files result }
-{
-    Arg::new(alloc, "files")
-        .value_name("FILE")
-        .action(ArgAction::Append)
-        .help("The files, or - for standard input, as where none is named")
 }

@@ -8,5 +8,6 @@ pub mod file_options;
 pub mod file_words;
 pub mod hexadecimal;
 pub mod options;
+mod program;
 pub mod transfer;
 pub mod words;

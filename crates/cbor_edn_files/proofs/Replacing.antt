@@ -1,14 +1,12 @@
 -- Moments one after the other, and those of a replacement.
-use Rattle.std.proofs.Common.{◌≡◌, ◌≢◌, ℕ, List, [], ◌∷◌, ◌++◌, None, Some, Bool, true, false, refl, ap, sym, subst, ◌∙◌, append_assoc, length-append, arith, inl, inr}
+use Rattle.std.proofs.Common.{◌≡◌, ◌≢◌, ℕ, List, [], ◌∷◌, ◌++◌, None, Some, Bool, true, false, refl, ap, sym, subst, ◌∙◌, append_assoc, arith, inl, inr}
 use Rattle.std.specs.Prelude.{◌⊎◌, Option, IfSome, Decides}
 use Rattle.std.specs.List.{AllByRecursion}
 use Rattle.std.proofs.lemmas.Slice.Eq.{bytes_eq-Decides}
 use Rattle.std.proofs.lemmas.Bool.Decides.{not_from_Decides}
-use Rattle.cbor_edn_files.specs.Moments.{State, newest, After, Ends, Holds, IsSame, IsSameBut, IsRenamed, IsMoved, IsOldOrNew, IsReplaced, EndsMoved, EndsSame, EndsSameBut, EndsReplaced, IfGone, IfLeft, IfFailed}
+use Rattle.cbor_edn_files.specs.Moments.{State, newest, After, Ends, Holds, IsSame, IsSameBut, IsRenamed, IsMoved, IsOldOrNew, IsReplaced, EndsMoved, EndsSame, EndsSameButNew, EndsReplaced, draft_of, IsDraftOf, IfGone, IfLeft, IfFailed}
 use Rattle.cbor_edn_files.specs.declared.disk.MakeError.TheVariants.{Failed}
-use Rattle.std.specs.Prelude.{Result, Ok, Err, IfOk, string_bytes, ◌<◌, length}
-use Rattle.std.specs.declared.alloc.AllocError.{AllocError}
-use Rattle.std.specs.declared.string.String.{String}
+use Rattle.std.specs.Prelude.{Err}
 use Rattle.cbor_edn_files.specs.declared.replace.DraftError.{DraftError}
 use Rattle.cbor_edn_files.specs.declared.replace.DraftError.TheVariants as drafts
 
@@ -29,22 +27,22 @@ reached : (P : State → State → Type 0) (same : Reflexive P) (xs ps : List St
 reached P same xs [] h = same (newest xs)
 reached P same xs (p ∷ ps) h = h.0
 
--- moments after others, the last of which has G
-then_known : (P Q R : State → State → Type 0) (G : State → Type 0) (same : Reflexive P) (weaker : (s t : State) → P s t → R s t) (both : (s t u : State) → P s t → G t → Q t u → R s u)
-    (xs ps : List State) (o : Option (List State)) → AllByRecursion (P (newest xs)) ps → G (newest (ps ++ xs)) → After Q (Some (ps ++ xs)) o → After R (Some xs) o
-then_known P Q R G same weaker both xs ps o h g k = (
+-- moments after others, the last of which has G, where that before them all has F
+then_known : (P Q R : State → State → Type 0) (F G : State → Type 0) (same : Reflexive P) (weaker : (s t : State) → F s → P s t → R s t) (both : (s t u : State) → F s → P s t → G t → Q t u → R s u)
+    (xs ps : List State) (o : Option (List State)) → F (newest xs) → AllByRecursion (P (newest xs)) ps → G (newest (ps ++ xs)) → After Q (Some (ps ++ xs)) o → After R (Some xs) o
+then_known P Q R F G same weaker both xs ps o f h g k = (
   k.0 ++ ps,
   k.1 ∙ ap Some (sym (append_assoc k.0 ps xs)),
   all_joined (R (newest xs)) k.0 ps
-      (all_by (Q (newest (ps ++ xs))) (R (newest xs)) (λ u q. both (newest xs) (newest (ps ++ xs)) u (reached P same xs ps h) g q) k.0 k.2)
-      (all_by (P (newest xs)) (R (newest xs)) (λ t p. weaker (newest xs) t p) ps h),
+      (all_by (Q (newest (ps ++ xs))) (R (newest xs)) (λ u q. both (newest xs) (newest (ps ++ xs)) u f (reached P same xs ps h) g q) k.0 k.2)
+      (all_by (P (newest xs)) (R (newest xs)) (λ t p. weaker (newest xs) t f p) ps h),
 )
 
-pub after_then : (P Q R : State → State → Type 0) (G : State → Type 0) (same : Reflexive P) (weaker : (s t : State) → P s t → R s t) (both : (s t u : State) → P s t → G t → Q t u → R s u)
-    (m n o : Option (List State)) → After P m n → IfSome n (λ ts. G (newest ts)) → After Q n o → After R m o
-after_then P Q R G same weaker both None n o h g k = subst (λ n. After Q n o) h k
-after_then P Q R G same weaker both (Some xs) n o h g k =
-    then_known P Q R G same weaker both xs h.0 o h.2 (subst (λ n. IfSome n (λ ts. G (newest ts))) h.1 g) (subst (λ n. After Q n o) h.1 k)
+pub after_then : (P Q R : State → State → Type 0) (F G : State → Type 0) (same : Reflexive P) (weaker : (s t : State) → F s → P s t → R s t) (both : (s t u : State) → F s → P s t → G t → Q t u → R s u)
+    (m n o : Option (List State)) → IfSome m (λ ss. F (newest ss)) → After P m n → IfSome n (λ ts. G (newest ts)) → After Q n o → After R m o
+after_then P Q R F G same weaker both None n o f h g k = subst (λ n. After Q n o) h k
+after_then P Q R F G same weaker both (Some xs) n o f h g k =
+    then_known P Q R F G same weaker both xs h.0 o f h.2 (subst (λ n. IfSome n (λ ts. G (newest ts))) h.1 g) (subst (λ n. After Q n o) h.1 k)
 
 pub ends_after : (P : State → State → Type 0) (same : Reflexive P) (m n : Option (List State)) → After P m n → Ends P m n
 ends_after P same None n h = h
@@ -97,27 +95,32 @@ module _ (name bytes draft : List ℕ) (apart : draft ≢ name) where
   other_way : name ≢ draft
   other_way = λ e. apart (sym e)
 
+  -- where the draft is not there before
+  abbrev Free : State → Type 0
+  Free s = s draft ≡ None
+
   old_itself : Reflexive (IsOldOrNew name bytes draft)
-  old_itself s = record { file = inl refl; others = λ _ _ _. refl }
+  old_itself s = record { file = inl refl; draft_was_free = inl refl; others = λ _ _ _. refl }
 
-  begun : (s t : State) → IsSameBut draft s t → IsOldOrNew name bytes draft s t
-  begun s t h = record { file = inl (h name other_way); others = λ other _ b. h other b }
+  begun : (s t : State) → Free s → IsSameBut draft s t → IsOldOrNew name bytes draft s t
+  begun s t f h = record { file = inl (h name other_way); draft_was_free = inr f; others = λ other _ b. h other b }
 
-  moved : (s t u : State) → IsSameBut draft s t → t draft ≡ Some bytes → IsMoved draft name t u → IsOldOrNew name bytes draft s u
-  moved s t u h g k = elim k [
-    | inl same ↦ record { file = inl (same name ∙ h name other_way); others = λ other _ b. same other ∙ h other b }
-    | inr r ↦ record { file = inr (r.there ∙ g); others = λ other a b. r.same other b a ∙ h other b }
+  moved : (s t u : State) → Free s → IsSameBut draft s t → t draft ≡ Some bytes → IsMoved draft name t u → IsOldOrNew name bytes draft s u
+  moved s t u f h g k = elim k [
+    | inl same ↦ record { file = inl (same name ∙ h name other_way); draft_was_free = inr f; others = λ other _ b. same other ∙ h other b }
+    | inr r ↦ record { file = inr (r.there ∙ g); draft_was_free = inr f; others = λ other a b. r.same other b a ∙ h other b }
   ]
 
-  left_off : (s t u : State) → IsOldOrNew name bytes draft s t → Any t → IsSameBut draft t u → IsOldOrNew name bytes draft s u
-  left_off s t u h _ k = record {
+  left_off : (s t u : State) → Free s → IsOldOrNew name bytes draft s t → Any t → IsSameBut draft t u → IsOldOrNew name bytes draft s u
+  left_off s t u f h _ k = record {
     file = elim h.file [ inl e ↦ inl (k name other_way ∙ e) | inr e ↦ inr (k name other_way ∙ e) ];
+    draft_was_free = inr f;
     others = λ other a b. k other b ∙ h.others other a b;
   }
 
   -- a draft is made, and gets the file's name or not
-  pub renamed_moments : (m n o : Option (List State)) → After (IsSameBut draft) m n → Holds n draft (Some bytes) → After (IsMoved draft name) n o → After (IsOldOrNew name bytes draft) m o
-  renamed_moments m n o h g k = after_then (IsSameBut draft) (IsMoved draft name) (IsOldOrNew name bytes draft) (λ t. t draft ≡ Some bytes) (same_itself draft) begun moved m n o h g k
+  pub renamed_moments : (m n o : Option (List State)) → Holds m draft None → After (IsSameBut draft) m n → Holds n draft (Some bytes) → After (IsMoved draft name) n o → After (IsOldOrNew name bytes draft) m o
+  renamed_moments m n o f h g k = after_then (IsSameBut draft) (IsMoved draft name) (IsOldOrNew name bytes draft) Free (λ t. t draft ≡ Some bytes) (same_itself draft) begun moved m n o f h g k
 
   pub renamed : (m n o : Option (List State)) → After (IsSameBut draft) m n → Holds m draft None → Holds n draft (Some bytes) → EndsMoved draft name n o → EndsReplaced name bytes m o
   renamed m n o h f g k = ends_then (λ s t. (s draft ≡ None) × (IsSameBut draft s t × (t draft ≡ Some bytes))) (IsRenamed draft name) (IsReplaced name bytes)
@@ -131,24 +134,28 @@ module _ (name bytes draft : List ℕ) (apart : draft ≢ name) where
       m n o (ends_from (λ s t. IsSameBut draft s t × (t draft ≡ Some bytes)) (λ s. s draft ≡ None) m n f (ends_to (IsSameBut draft) (λ t. t draft ≡ Some bytes) m n g (ends_after (IsSameBut draft) (same_itself draft) m n h))) k
 
   -- the draft is removed, or not
-  pub given_up_moments : (m n o : Option (List State)) → After (IsOldOrNew name bytes draft) m n → After (IsSameBut draft) n o → After (IsOldOrNew name bytes draft) m o
-  given_up_moments m n o h k = after_then (IsOldOrNew name bytes draft) (IsSameBut draft) (IsOldOrNew name bytes draft) Any old_itself (λ _ _ p. p) left_off m n o h (any n) k
+  pub given_up_moments : (m n o : Option (List State)) → Holds m draft None → After (IsOldOrNew name bytes draft) m n → After (IsSameBut draft) n o → After (IsOldOrNew name bytes draft) m o
+  given_up_moments m n o f h k = after_then (IsOldOrNew name bytes draft) (IsSameBut draft) (IsOldOrNew name bytes draft) Free Any old_itself (λ _ _ _ p. p) left_off m n o f h (any n) k
 
-  pub failed_moments : (m n o : Option (List State)) → After (IsSameBut draft) m n → After (IsSameBut draft) n o → After (IsOldOrNew name bytes draft) m o
-  failed_moments m n o h k = after_then (IsSameBut draft) (IsSameBut draft) (IsOldOrNew name bytes draft) Any (same_itself draft) begun (λ s t u p _ q. left_off s t u (begun s t p) tt q) m n o h (any n) k
+  pub failed_moments : (m n o : Option (List State)) → Holds m draft None → After (IsSameBut draft) m n → After (IsSameBut draft) n o → After (IsOldOrNew name bytes draft) m o
+  failed_moments m n o f h k = after_then (IsSameBut draft) (IsSameBut draft) (IsOldOrNew name bytes draft) Free Any (same_itself draft) begun (λ s t u f p _ q. left_off s t u f (begun s t f p) tt q) m n o f h (any n) k
 
-pub same_but_then : (draft : List ℕ) (m n o : Option (List State)) → After (IsSameBut draft) m n → After (IsSameBut draft) n o → EndsSameBut draft m o
-same_but_then draft m n o h k = ends_then (IsSameBut draft) (IsSameBut draft) (IsSameBut draft) (λ s t u p q. λ other b. q other b ∙ p other b) m n o
-    (ends_after (IsSameBut draft) (same_itself draft) m n h) (ends_after (IsSameBut draft) (same_itself draft) n o k)
+-- a draft that was not there before may be there
+left : (draft : List ℕ) (m n : Option (List State)) → Holds m draft None → Ends (IsSameBut draft) m n → EndsSameButNew draft m n
+left draft m n f h = ends_from (IsSameBut draft) (λ s. s draft ≡ None) m n f h
 
-pub same_but_between : (draft : List ℕ) (m n o p : Option (List State)) → After (IsSameBut draft) m n → EndsSame n o → After (IsSameBut draft) o p → EndsSameBut draft m p
-same_but_between draft m n o p h k l = ends_then (IsSameBut draft) (IsSameBut draft) (IsSameBut draft) (λ s t u a b. λ other c. b other c ∙ a other c) m o p
+pub same_but_then : (draft : List ℕ) (m n o : Option (List State)) → Holds m draft None → After (IsSameBut draft) m n → After (IsSameBut draft) n o → EndsSameButNew draft m o
+same_but_then draft m n o f h k = left draft m o f (ends_then (IsSameBut draft) (IsSameBut draft) (IsSameBut draft) (λ s t u p q. λ other b. q other b ∙ p other b) m n o
+    (ends_after (IsSameBut draft) (same_itself draft) m n h) (ends_after (IsSameBut draft) (same_itself draft) n o k))
+
+pub same_but_between : (draft : List ℕ) (m n o p : Option (List State)) → Holds m draft None → After (IsSameBut draft) m n → EndsSame n o → After (IsSameBut draft) o p → EndsSameButNew draft m p
+same_but_between draft m n o p f h k l = left draft m p f (ends_then (IsSameBut draft) (IsSameBut draft) (IsSameBut draft) (λ s t u a b. λ other c. b other c ∙ a other c) m o p
     (ends_then (IsSameBut draft) IsSame (IsSameBut draft) (λ s t u a b. λ other c. b other ∙ a other c) m n o (ends_after (IsSameBut draft) (same_itself draft) m n h) k)
-    (ends_after (IsSameBut draft) (same_itself draft) o p l)
+    (ends_after (IsSameBut draft) (same_itself draft) o p l))
 
-pub gone : (draft : List ℕ) (m n : Option (List State)) → Holds m draft None → Holds n draft None → EndsSameBut draft m n → EndsSame m n
-gone draft None n f g h = h
-gone draft (Some xs) n f g h = (h.0, h.1, without_draft draft (newest xs) (newest h.0) f (subst (λ n. IfSome n (λ ts. newest ts draft ≡ None)) h.1 g) h.2)
+pub gone : (draft : List ℕ) (m n : Option (List State)) → Holds n draft None → EndsSameButNew draft m n → EndsSame m n
+gone draft None n g h = h
+gone draft (Some xs) n g h = (h.0, h.1, without_draft draft (newest xs) (newest h.0) h.2.0 (subst (λ n. IfSome n (λ ts. newest ts draft ≡ None)) h.1 g) h.2.1)
 
 pub itself : (m : Option (List State)) → EndsSame m m
 itself None = refl
@@ -175,11 +182,5 @@ stays : (name bytes draft : List ℕ) (m n : Option (List State)) → n ≡ m �
 stays name bytes draft None n is = is
 stays name bytes draft (Some xs) n is = ([], is, tt)
 
-pub appended_apart : {A : Type 0} (r : Result (String A) AllocError) (name rest : List ℕ) → 0 < length rest → IfOk r (λ s. string_bytes s ≡ name ++ rest) → IfOk r (λ s. string_bytes s ≢ name)
-appended_apart (Err e) name rest some h = tt
-appended_apart (Ok s) name rest some h = λ e.
-    let l : length (name ++ rest) ≡ length name = ap length (sym h ∙ e) in
-    absurd (omega (arith, l, some, length-append name rest))
-
-pub nothing_yet : (name bytes : List ℕ) (m n : Option (List State)) → n ≡ m → (x : List ℕ) × (x ≢ name) × After (IsOldOrNew name bytes x) m n
-nothing_yet name bytes m n is = (0 ∷ name, (λ e. let l : length (0 ∷ name) ≡ length name = ap length e in absurd (omega (arith, l))), stays name bytes (0 ∷ name) m n is)
+pub nothing_yet : (name bytes : List ℕ) (m n : Option (List State)) → n ≡ m → (x : List ℕ) × IsDraftOf name x × After (IsOldOrNew name bytes x) m n
+nothing_yet name bytes m n is = (draft_of name 0, (0, omega arith, refl), stays name bytes (draft_of name 0) m n is)

@@ -1,6 +1,8 @@
 -- What files have from moment to moment.
-use Rattle.std.specs.Prelude.{◌≡◌, ◌≢◌, ◌⊎◌, ℕ, List, [], ◌∷◌, ◌++◌, string_bytes, Option, Some, None, IfSome, Result, Err}
+use Rattle.std.specs.Prelude.{◌≡◌, ◌≢◌, ◌⊎◌, ◌<◌, ℕ, List, [], ◌∷◌, ◌++◌, length, nat_lt, if◌then◌else◌, codes, string_bytes, Option, Some, None, IfSome, Result, Err}
+use Rattle.std.specs.Fmt.{decimal}
 use Rattle.std.specs.List.{AllByRecursion}
+use Rattle.std.specs.Path.{rsplit_once}
 use Rattle.cbor_edn_files.specs.declared.disk.MakeError.{MakeError}
 use Rattle.cbor_edn_files.specs.declared.disk.MakeError.TheVariants.{Taken, Refused, Failed}
 use Rattle.cbor_edn_files.specs.declared.replace.DraftError.{DraftError}
@@ -55,12 +57,17 @@ EndsMoved from to = Ends (IsRenamed from to)
 abbrev pub EndsSame : Option (List State) → Option (List State) → Type 0
 EndsSame = Ends IsSame
 
-abbrev pub EndsSameBut : List ℕ → Option (List State) → Option (List State) → Type 0
-EndsSameBut name = Ends (IsSameBut name)
+-- this name had nothing, and each other one has what it had
+abbrev pub IsSameButNew : List ℕ → State → State → Type 0
+IsSameButNew name s t = (s name ≡ None) × IsSameBut name s t
 
--- At a moment of a replacement: the file has what it had or the new bytes, and each other name but the draft's has what it had.
+abbrev pub EndsSameButNew : List ℕ → Option (List State) → Option (List State) → Type 0
+EndsSameButNew name = Ends (IsSameButNew name)
+
+-- At a moment of a replacement: the file has what it had or the new bytes, and each other name what it had, but for a draft's that had nothing.
 pub record IsOldOrNew (name bytes draft : List ℕ) (s t : State) : Type 0 where
   pub file : (t name ≡ s name) ⊎ (t name ≡ Some bytes)
+  pub draft_was_free : (t draft ≡ s draft) ⊎ (s draft ≡ None)
   pub others : (other : List ℕ) → other ≢ name → other ≢ draft → t other ≡ s other
 
 -- The file has the new bytes, and each other name what it had.
@@ -70,6 +77,19 @@ pub record IsReplaced (name bytes : List ℕ) (s t : State) : Type 0 where
 
 abbrev pub EndsReplaced : List ℕ → List ℕ → Option (List State) → Option (List State) → Type 0
 EndsReplaced name bytes = Ends (IsReplaced name bytes)
+
+-- what a draft's name begins with: the path of its file, but for a name in its folder that is too long to have a draft's length more
+abbrev pub draft_stem : List ℕ → Option (List ℕ × List ℕ) → List ℕ
+draft_stem path None = if nat_lt 120 (length path) then codes "long-name" else path
+draft_stem path (Some (folder, name)) = if nat_lt 120 (length name) then folder ++ codes "/long-name" else path
+
+-- the draft of this number beside a file
+abbrev pub draft_of : List ℕ → ℕ → List ℕ
+draft_of path number = draft_stem path (rsplit_once 47 path) ++ (codes ".cbor-edn-" ++ decimal number)
+
+-- one of the drafts that a file may have
+abbrev pub IsDraftOf : List ℕ → List ℕ → Type 0
+IsDraftOf path draft = (number : ℕ) × (number < 1000) × (draft ≡ draft_of path number)
 
 -- P, where a file was not made for one of these reasons
 abbrev pub IfTaken : {A : Type 0} → Result A MakeError → Type 0 → Type 0
@@ -97,7 +117,7 @@ abbrev pub IfLeft : DraftError → Type 0 → Type 0
 IfLeft (drafts.Left e) P = P
 IfLeft _ P = Unit {0}
 
--- each name has what it had, but for a draft that the error names
-abbrev pub EndsSameButLeft : ReplaceError → Option (List State) → Option (List State) → Type 0
-EndsSameButLeft (Left e draft) = EndsSameBut (string_bytes draft)
-EndsSameButLeft _ = EndsSame
+-- each name has what it had, but for a draft that the error names, where nothing was
+abbrev pub EndsSameButLeft : List ℕ → ReplaceError → Option (List State) → Option (List State) → Type 0
+EndsSameButLeft name (Left e draft) m n = IsDraftOf name (string_bytes draft) × (string_bytes draft ≢ name) × EndsSameButNew (string_bytes draft) m n
+EndsSameButLeft name _ m n = EndsSame m n

@@ -122,3 +122,42 @@ fn drafts_of_others(rt: HostRuntime) -> Result<(), Fail> {
     failures.holds(alloc, "and all stay", stay(alloc, &disk, DRAFTS)?)?;
     failures.end()
 }
+
+/// A name, a number and the name of the draft, where each N stands for 120 bytes.
+const NAMES: &[(&str, u32, &str)] = &[
+    ("a.edn", 0, "a.edn.cbor-edn-0"),
+    ("../d.d/a", 4294967295, "../d.d/a.cbor-edn-4294967295"),
+    ("N", 7, "N.cbor-edn-7"),
+    ("Nx", 7, "long-name.cbor-edn-7"),
+    ("/d/N", 8, "/d/N.cbor-edn-8"),
+    ("/d/Nx", 999, "/d/long-name.cbor-edn-999"),
+    ("/Nx/e", 0, "/Nx/e.cbor-edn-0"),
+    ("/Nx", 0, "/long-name.cbor-edn-0"),
+];
+
+/// A text with 120 bytes in place of each N.
+fn with_long_parts(alloc: Global, text: &str) -> Result<String, AllocError> {
+    let mut long = String::new(alloc);
+    for c in text.chars() {
+        if c == 'N' {
+            for _ in 0..40 {
+                long.push_str("\u{20ac}")?;
+            }
+        } else {
+            long.push(c)?;
+        }
+    }
+    Ok(long)
+}
+
+#[test]
+fn names_of_drafts(rt: HostRuntime) -> Result<(), Fail> {
+    let alloc = rt.alloc();
+    let mut failures = Failures::new(alloc);
+    for (name, number, wanted) in NAMES {
+        let long = with_long_parts(alloc, name)?;
+        let draft = draft_name(alloc, &long, *number)?;
+        failures.row(alloc, name, &draft, &with_long_parts(alloc, wanted)?)?;
+    }
+    failures.end()
+}

@@ -88,6 +88,7 @@ fn format(alloc: Global) -> Result<bool, Failure> {
     let options = FormatOptions {
         only_lists: false,
         remove_comments: false,
+        force: false,
         limit: NESTING_LIMIT,
     };
     is_written(

@@ -80,6 +80,7 @@ fn is_formatted() -> bool {
     let options = FormatOptions {
         only_lists: false,
         remove_comments: true,
+        force: false,
         limit: 3,
     };
     let steps = options.steps();

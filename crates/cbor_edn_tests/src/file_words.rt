@@ -20,6 +20,7 @@ const SHOW: ShowOptions = ShowOptions {
 const FORMAT: FormatOptions = FormatOptions {
     only_lists: false,
     remove_comments: false,
+    force: false,
     limit: NESTING_LIMIT,
 };
 
@@ -97,9 +98,18 @@ const ASKED: &[(&[&str], FileCommand, &[&str])] = &[
         FileCommand::Format(FormatOptions {
             only_lists: true,
             remove_comments: true,
+            force: false,
             limit: 9,
         }),
         &["a", "b"],
+    ),
+    (
+        &["cbor-edn", "fmt", "a.cbor", "--force"],
+        FileCommand::Format(FormatOptions {
+            force: true,
+            ..FORMAT
+        }),
+        &["a.cbor"],
     ),
     (&["cbor-edn", "check"], FileCommand::Check(CHECK), &["-"]),
     (
@@ -166,6 +176,8 @@ const NO_COMMANDS: &[&[&str]] = &[
     &["cbor-edn", "fmt", "--annotate-tags"],
     &["cbor-edn", "fmt", "--max-nesting", "+1"],
     &["cbor-edn", "check", "--remove-comments"],
+    &["cbor-edn", "check", "--force"],
+    &["cbor-edn", "show", "-O", "a"],
 ];
 
 #[test]

@@ -184,6 +184,7 @@ fn names_files(rt: HostRuntime) -> Result<(), Fail> {
 const FORMAT: FormatOptions = FormatOptions {
     only_lists: false,
     remove_comments: false,
+    force: false,
     limit: NESTING_LIMIT,
 };
 
@@ -204,6 +205,7 @@ const TEXTS: &[(&str, bool, &str)] = &[
 fn formatted_text(alloc: Global, remove_comments: bool, text: &str) -> Result<String, Fail> {
     let options = FormatOptions {
         remove_comments,
+        force: false,
         ..FORMAT
     };
     match formatted(alloc, &options, text.as_bytes()) {

@@ -1,7 +1,7 @@
 //! The words of a command line: the options that they ask for, the names of files, which words are refused, and help.
 use cbor_edn::NESTING_LIMIT;
 use cbor_edn::engine::{Command, Options};
-use cbor_edn::words::options;
+use cbor_edn::words::{conversion_of, options};
 use cbor_edn_expect::failures::Failures;
 use std::alloc::Global;
 use std::test::Fail;
@@ -136,6 +136,8 @@ const FLAGS: &[(&[&str], [bool; 3])] = &[
     (&["--preserve-space"], [false, false, true]),
     (&["--remove-comments"], [false, false, true]),
     (&["--max-nesting", "8"], [true, true, true]),
+    (&["-O", "out"], [true, true, true]),
+    (&["--output", "out"], [true, true, true]),
     (&["--no-aol-to-item"], [false, false, false]),
     (&["--bignum-from-tags"], [false, false, false]),
     (&["--hex"], [false, false, false]),
@@ -287,19 +289,28 @@ fn takes_flags(rt: HostRuntime) -> Result<(), Fail> {
     failures.end()
 }
 
-/// Words, and the names of the input and the output, by the repository's `README.md`.
-const NAMES: &[(&[&str], &str, &str)] = &[
-    (&["cbor-edn", "diag2cbor", "a", "b"], "a", "b"),
-    (&["cbor-edn", "diag2cbor", "a"], "a", "-"),
-    (&["cbor-edn", "diag2diag"], "-", "-"),
-    (&["cbor-edn", "cbor2diag", "-", "b"], "-", "b"),
-    (&["cbor-edn", "cbor2diag", "--", "-i"], "-i", "-"),
+/// Words, the names of the input and the output, and whether the output's file is replaced, by the repository's `README.md`.
+const NAMES: &[(&[&str], &str, &str, bool)] = &[
+    (&["cbor-edn", "diag2cbor", "a", "b"], "a", "b", false),
+    (&["cbor-edn", "diag2cbor", "a"], "a", "-", false),
+    (&["cbor-edn", "diag2diag"], "-", "-", false),
+    (&["cbor-edn", "cbor2diag", "-", "b"], "-", "b", false),
+    (&["cbor-edn", "cbor2diag", "--", "-i"], "-i", "-", false),
+    (&["cbor-edn", "diag2cbor", "a", "-O", "b"], "a", "b", true),
+    (&["cbor-edn", "cbor2diag", "--output=b"], "-", "b", true),
+    (&["cbor-edn", "diag2diag", "-Ob", "-"], "-", "b", true),
+    (&["cbor-edn", "diag2diag", "a", "-O", "a"], "a", "a", true),
+    (&["cbor-edn", "diag2diag", "--output", "-"], "-", "-", true),
 ];
 
-fn names_of<'a>(alloc: Global, words: &'a [&'a str]) -> (&'a str, &'a str) {
-    match options(alloc, words) {
-        Ok((_, first, second)) => (first, second),
-        Err(_) => ("", ""),
+/// The names and whether the file is replaced. Of these `options` tells the same names.
+fn names_of<'a>(alloc: Global, words: &'a [&'a str]) -> (&'a str, &'a str, bool) {
+    match (conversion_of(alloc, words), options(alloc, words)) {
+        (Ok(run), Ok((set, input, output)))
+            if (run.options, run.input, run.output) == (set, input, output) => {
+            (run.input, run.output, run.replaces)
+        }
+        _ => ("", "", false),
     }
 }
 
@@ -307,9 +318,9 @@ fn names_of<'a>(alloc: Global, words: &'a [&'a str]) -> (&'a str, &'a str) {
 fn names_of_files(rt: HostRuntime) -> Result<(), Fail> {
     let alloc = rt.alloc();
     let mut failures = Failures::new(alloc);
-    for &(words, input, output) in NAMES {
+    for &(words, input, output, replaces) in NAMES {
         let row = format!(in alloc; "{words:?}")?;
-        let is_named = names_of(alloc, words) == (input, output);
+        let is_named = names_of(alloc, words) == (input, output, replaces);
         failures.holds(alloc, row.as_str(), is_named)?;
     }
     failures.end()
@@ -333,6 +344,12 @@ const NO_RUNS: &[&[&str]] = &[
     &["cbor-edn", "diag2cbor", "--max-nesting=+0"],
     &["cbor-edn", "cbor2diag", "--max-nesting", ""],
     &["cbor-edn", "cbor2diag", "a", "b", "c"],
+    &["cbor-edn", "cbor2diag", "a", "b", "-O", "c"],
+    &["cbor-edn", "cbor2diag", "a", "-O"],
+    &["cbor-edn", "cbor2diag", "a", "-O", "-b"],
+    &["cbor-edn", "show", "a", "-O", "b"],
+    &["cbor-edn", "show", "a"],
+    &["cbor-edn", "help", "diag2json"],
 ];
 
 #[test]
@@ -354,6 +371,9 @@ fn shows_version(rt: HostRuntime) {
 /// Words that ask for help: of the program, and of each of its commands.
 const HELP: &[&[&str]] = &[
     &["cbor-edn", "--help"],
+    &["cbor-edn", "help"],
+    &["cbor-edn", "help", "cbor2diag"],
+    &["cbor-edn", "help", "fmt"],
     &["cbor-edn", "diag2cbor", "--help"],
     &["cbor-edn", "cbor2diag", "--help"],
     &["cbor-edn", "diag2diag", "--help"],

@@ -1,9 +1,11 @@
-//! The commands for files: each file is read whole, and one at fault does not keep the others from being looked at.
+//! The commands for files: each file is read whole, and one at fault does not keep the others from being looked at. Behind a failed
+//! standard output none is.
 
 mod check;
 mod format;
 mod show;
 mod told;
+pub(crate) mod whole;
 
 use crate::FAULT;
 use cbor_edn::file_options::FileCommand;
@@ -23,8 +25,10 @@ pub(crate) fn serve(rt: &HostRuntime, words: &[&str]) -> Result<u8, clap::Error>
             FileCommand::Format(options) => format::format_file(rt, &options, name),
             FileCommand::Check(options) => check::check_file(rt, &options, name),
         };
-        if fared.is_err() {
-            status = FAULT;
+        match fared {
+            Ok(()) => {}
+            Err(Told::OfFile) => status = FAULT,
+            Err(Told::OfOutput) => return Ok(FAULT),
         }
     }
     Ok(status)
@@ -32,12 +36,16 @@ pub(crate) fn serve(rt: &HostRuntime, words: &[&str]) -> Result<u8, clap::Error>
 
 /// All bytes of a file, or of standard input.
 fn bytes_of(rt: &HostRuntime, name: &str) -> Result<Vec<u8>, Told> {
-    let read = if name == "-" {
-        standard_input(rt)
+    if name == "-" {
+        standard_input(rt).map_err(|error| told::tell_error(rt, name, &error))
     } else {
-        fs::read(rt, name)
-    };
-    read.map_err(|error| told::tell_error(rt, name, &error))
+        bytes_behind(rt, name, name)
+    }
+}
+
+/// All bytes of a file, which is told by another name.
+fn bytes_behind(rt: &HostRuntime, name: &str, target: &str) -> Result<Vec<u8>, Told> {
+    fs::read(rt, target).map_err(|error| told::tell_error(rt, name, &error))
 }
 
 fn standard_input(rt: &HostRuntime) -> io::Result<Vec<u8>> {

@@ -1,7 +1,7 @@
 //! `show`: CBOR to standard output.
 
 use super::bytes_of;
-use super::told::{Told, spoken, tell_error, tell_no_memory, tell_refused};
+use super::told::{Told, spoken, tell_lost, tell_no_memory, tell_refused};
 use cbor_edn::show::{ShowOptions, behind_name, shown};
 use std::io::Write;
 
@@ -31,5 +31,5 @@ pub(super) fn show_file(
 pub(super) fn write(rt: &HostRuntime, text: &[u8]) -> Result<(), Told> {
     rt.stdout()
         .write_all(text)
-        .map_err(|error| tell_error(rt, "<stdout>", &error))
+        .map_err(|error| tell_lost(rt, &error))
 }

@@ -8,9 +8,14 @@ use std::io::{self, ErrorKind};
 /// What standard input is called where it is spoken of.
 const STANDARD_INPUT: &str = "<stdin>";
 
-/// A file is at fault, or would change, and that was told.
+/// What was told.
 #[derive(Debug, Drop)]
-pub(super) struct Told;
+pub(crate) enum Told {
+    /// A file is at fault, or would change.
+    OfFile,
+    /// Standard output takes no more.
+    OfOutput,
+}
 
 /// What a file is called where it is spoken of.
 pub(super) fn spoken(name: &str) -> &str {
@@ -27,7 +32,13 @@ pub(super) fn tell(rt: &HostRuntime, name: &str, words: &str) -> Told {
             let _ = eprintln!(rt; "cbor-edn: Out of memory");
         }
     }
-    Told
+    Told::OfFile
+}
+
+/// Tells that standard output took not all.
+pub(super) fn tell_lost(rt: &HostRuntime, error: &io::Error) -> Told {
+    let _ = tell_error(rt, "<stdout>", error);
+    Told::OfOutput
 }
 
 /// Tells of a call that failed.
@@ -65,7 +76,7 @@ pub(super) fn tell_finding(rt: &HostRuntime, name: &str, input: &[u8], finding: 
     match lines(rt.alloc(), spoken(name), input, finding) {
         Ok(lines) => {
             let _ = eprint!(rt; "{lines}");
-            Told
+            Told::OfFile
         }
         Err(_) => tell_no_memory(rt, name),
     }

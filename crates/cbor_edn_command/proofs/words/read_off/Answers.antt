@@ -10,10 +10,10 @@ returns-clause-ok c =
       (c.in-Some.name.now, rows),
       entered _ c.in-Some.name.now rows c.in-Some.ensures.name c.in-Some.ensures.rows,
       record {
-        command = sym c.in-Some-command_named.ensures ∙ ap Some (sym c.options_of-options.ensures.given.0);
-        flags = c.options_of-options.ensures.flags;
-        limit = subst (IsLimit _) (sym c.options_of-options.ensures.given.1) c.in-Ok.ensures.ok;
+        command = sym c.in-Some-command_named.ensures ∙ ap Some (sym c.options_of.ensures.given.0);
+        flags = c.options_of.ensures.flags;
+        limit = subst (IsLimit _) (sym c.options_of.ensures.given.1) c.in-Ok.ensures.ok;
         input = c.file_of.ensures;
-        output = c.file_of-2.ensures;
+        output = sym c.in-Some-output_of.ensures;
       },
     )

@@ -1,9 +1,0 @@
-use Rattle.std.proofs.lemmas.Result.{IfOk-weaker}
-use Rattle.cbor_edn_command.proofs.ReadCommandLine.{grown, more, one}
-use Rattle.cbor_edn_command.proofs.file_words.check.Goals as goal
-
-pub returns : goal.returns
-returns c =
-    IfOk-weaker c.with_files.result _ _
-    (λ r h. grown c.new_command.ensures (more (one c.in_ok-arg.ensures c.flag.ensures) (more (one c.in_ok-command.ensures c.flag-2.ensures) h)))
-    c.with_files.ensures

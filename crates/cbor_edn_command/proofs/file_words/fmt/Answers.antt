@@ -1,9 +1,0 @@
-use Rattle.std.proofs.lemmas.Result.{IfOk-weaker}
-use Rattle.cbor_edn_command.proofs.ReadCommandLine.{grown, more, one}
-use Rattle.cbor_edn_command.proofs.file_words.fmt.Goals as goal
-
-pub returns : goal.returns
-returns c =
-    IfOk-weaker c.with_files.result _ _
-    (λ r h. grown c.new_command.ensures (more (one c.in_ok-arg.ensures c.only_lists.ensures) (more (one c.in_ok-command.ensures c.flag.ensures) h)))
-    c.with_files.ensures

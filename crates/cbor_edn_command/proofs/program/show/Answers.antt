@@ -1,0 +1,9 @@
+use Rattle.std.proofs.lemmas.Result.{IfOk-weaker}
+use Rattle.cbor_edn_command.proofs.ReadCommandLine.{grown, more, one}
+use Rattle.cbor_edn_command.proofs.program.show.Goals as goal
+
+pub returns : goal.returns
+returns c =
+    IfOk-weaker c.with_files.result _ _
+    (λ r h. grown c.new_command.ensures (more (one c.in_ok-arg.ensures c.format.ensures) (more (one c.in_ok-command.ensures c.levels.ensures) (more c.in_ok-with_steps_left_out.ensures (more (one c.in_ok-command-2.ensures c.annotate.ensures) h)))))
+    c.with_files.ensures

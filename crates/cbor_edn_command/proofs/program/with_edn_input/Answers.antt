@@ -1,0 +1,7 @@
+use Rattle.std.proofs.lemmas.Result.{IfOk-weaker}
+use Rattle.cbor_edn_command.proofs.ReadCommandLine.{more, one}
+use Rattle.cbor_edn_command.proofs.program.with_edn_input.Goals as goal
+
+pub returns : goal.returns
+returns c =
+    IfOk-weaker c.arg-2.result _ _ (λ r h. more (one c.in_ok-arg.ensures c.flag.ensures) (one h c.flag-2.ensures)) c.arg-2.ensures

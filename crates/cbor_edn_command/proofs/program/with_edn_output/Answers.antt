@@ -1,0 +1,9 @@
+use Rattle.std.proofs.lemmas.Result.{IfOk-weaker}
+use Rattle.cbor_edn_command.proofs.ReadCommandLine.{more, one}
+use Rattle.cbor_edn_command.proofs.program.with_edn_output.Goals as goal
+
+pub returns : goal.returns
+returns c =
+    IfOk-weaker c.arg-3.result _ _
+    (λ r h. more (one c.in_ok-arg.ensures c.flag.ensures) (more (one c.in_ok-arg-2.ensures c.flag-2.ensures) (one h c.annotate.ensures)))
+    c.arg-3.ensures
