@@ -84,6 +84,7 @@ printf '[' > b.edn; run "$program" fmt --check b.edn a.edn; is "--check with a f
 
 # ---- permissions and owner
 fresh; printf '[1,2]' > a.edn; chmod 640 a.edn; run "$program" fmt a.edn; is "mode kept" "640 0" "$(stat -c %a a.edn) $status"
+is "a line feed at the end" "$(printf '[1, 2]\n' | cksum)" "$(cksum < a.edn)"
 printf '[1,2]' > a.edn; chmod 4755 a.edn; run "$program" fmt a.edn; is "all mode bits kept" "4755" "$(stat -c %a a.edn)"
 (umask 077; printf '[1,2]' > p.edn; chmod 644 p.edn; "$program" fmt p.edn 2> /dev/null; is "mode kept past a umask" 644 "$(stat -c %a p.edn)")
 if [ "$(id -u)" = 0 ]; then
