@@ -9,7 +9,7 @@ What a run proved is kept beside the toolchain by the checksums of all that it r
 them. With --anew nothing that was kept is taken.
 
 By itself `rt ci` gives a proof two processors of four, and one of two. Here the proof with the longest chain of others behind it gets all of them, and
-beside it run others with one each and a lower priority. What each crate took goes to the file of --costs, a line `NAME SECONDS GB` for each command: CPU
+beside it run others with half of them each and a lower priority. What each crate took goes to the file of --costs, a line `NAME SECONDS GB` for each command: CPU
 seconds, and the most memory. The folder of --proved gets a file of the name of each crate once it is proved, and `ended` at the end. Libraries,
 programs, and the library for C are left in the out/ of each crate. The last line is 'N passed, M failed', over the crates.
 """
@@ -80,7 +80,7 @@ def in_order(tasks):
             beside = sum(not first for _, first in running.values())
             fits = not running or sum(it for it, _ in running.values()) + needs <= memory
             if fits and (is_first or beside < max(lanes // 2, 1)):
-                return key, min(lanes, MOST_JOBS) if is_first else 1, is_first
+                return key, min(lanes, MOST_JOBS) if is_first else max(lanes // 2, 1), is_first
         return None
 
     with changed:
@@ -159,6 +159,8 @@ def main():
     said, guarded, python = Said(asked.proved and os.path.realpath(asked.proved)), rtlib.guarded, os.path.realpath("/proc/self/exe")
     costs = os.path.realpath(asked.costs)
     rtlib.guarded = lambda: [*guarded(), python, "-ISc", COUNT, costs]
+    # tests run unproved, those of a crate with proofs of its own too
+    rt.Crate.has_tests = lambda crate: False
     rt.in_lanes, rt.Crate.ci, rt.print = in_order, ci, said.print
     root = os.path.dirname(os.path.dirname(os.path.realpath(__file__)))
     os.chdir(root)
