@@ -1,14 +1,15 @@
 #!/usr/bin/env bash
-# Runs the program under a stack of 1 MB on texts and bytes that nest as deep as its limit, and one level deeper, and
-# tests of the library.
+# Runs the program under a stack of 1 MB on texts and bytes that nest as deep as its limit, and one level deeper, and tests of the
+# library.
 #
 # usage: scripts/check-stack.sh [--unproved] [PROGRAM [TESTS..]]
 #
-# Without PROGRAM it is the working tree's. TESTS are programs of tests, as of trees that are copied and compared: all
-# tests of each must pass. These are of unproved sources, whose frames are larger, and get 2 MB, as PROGRAM does with --unproved. Each input is of one kind of nesting. Of a text at the limit, diag2cbor must
-# write the bytes that stand here, with all flags that visit too, diag2diag --preserve-space the text itself, and the other ways
-# of diag2diag what they write under the largest stack there is. Of the bytes cbor2diag must write what it writes there, by its
-# flags too, and diag2cbor must read that back. What nests one level deeper must be refused. The last line is 'N passed, M failed'.
+# Without PROGRAM it is the working tree's. TESTS are programs of tests, as of trees that are copied and compared: all tests of each must
+# pass. These are of unproved sources, whose frames are larger, and get 2 MB, as PROGRAM does with --unproved. Each input is of one kind
+# of nesting. Of a text at the limit, diag2cbor must write the bytes that stand here, with all flags that visit too, diag2diag --preserve-
+# space the text itself, and the other ways of diag2diag what they write under the largest stack there is. Of the bytes cbor2diag must
+# write what it writes there, by its flags too, and diag2cbor must read that back. What nests one level deeper must be refused. The last
+# line is 'N passed, M failed'.
 set -euo pipefail
 
 cd "$(dirname "$(readlink -f "$0")")/.."

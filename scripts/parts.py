@@ -2,11 +2,13 @@
 
 usage: python3 -B scripts/parts.py quick|gate [--all]
 
-With --all the gate tries all wrong bodies, and writes down for which sources it did (scripts/check-wrong-bodies.sh), and takes no proof of an earlier run.
-A part is a command whose last line is 'N passed, M failed'. One that fails and counts no failure counts as one, and so does one that
-tests nothing. What a part printed is shown where it failed. At the end stands a table of the parts, in CPU minutes and in *cores*: one is what the proof
-of cbor_edn_core takes on the machine at hand, where it is proved in this run. `scripts/budget.txt` says what a part may take, and the table where it
-takes more. The last line is 'N passed, M failed', over all parts.
+With --all the gate tries all wrong bodies, and writes down for which sources it did (scripts/check-wrong-bodies.sh), and takes no proof of
+an earlier run.
+
+A part is a command whose last line is 'N passed, M failed'. One that fails and counts no failure counts as one, and so does one that tests
+nothing. What a part printed is shown where it failed. At the end stands a table of the parts, in CPU minutes and in *cores*: one is what
+the proof of cbor_edn_core takes on the machine at hand, where it is proved in this run. `scripts/budget.txt` says what a part may take,
+and the table where it takes more. The last line is 'N passed, M failed', over all parts.
 """
 
 import os
@@ -29,8 +31,8 @@ PROGRAM = "crates/cbor_edn_tool/out/cbor_edn_tool"
 
 @dataclass
 class Part:
-    """A command and the names of the parts that it waits for. One of a lower priority runs beside those that take the processors in turn. `shows` finds
-    the lines that are shown at once. One that only makes something counts nothing, unless it fails."""
+    """A command and the names of the parts that it waits for. One of a lower priority runs beside those that take the processors in turn.
+    `shows` finds the lines that are shown at once. One that only makes something counts nothing, unless it fails."""
 
     name: str
     words: list
@@ -62,7 +64,8 @@ class Run:
         log = f"{self.room}/{part.name.replace('/', '-').replace(' ', '-')}.log"
         lower = ["nice", "-n", str(part.lower)] if part.lower else []
         with open(log, "w", encoding="utf-8") as to:
-            started = subprocess.Popen([*lower, *part.words], stdin=subprocess.DEVNULL, stdout=subprocess.PIPE, stderr=subprocess.STDOUT, errors="replace")
+            how = {"stdin": subprocess.DEVNULL, "stdout": subprocess.PIPE, "stderr": subprocess.STDOUT, "errors": "replace"}
+            started = subprocess.Popen([*lower, *part.words], **how)
             for line in started.stdout:
                 to.write(line)
                 if part.shows and re.search(part.shows, line):
@@ -141,7 +144,7 @@ def unproved_parts(room):
 
 
 def checks(room, program, needs, is_quick):
-    """Returns the scripts that try a program, the longest first, over the program that the named part makes. For the quick tests some are shorter."""
+    """Returns the scripts that try a program, the longest first, once the named parts have made it. For the quick tests some are shorter."""
     short, unproved = ["--short"] * is_quick, ["--unproved"] * is_quick
     tests = [f"cbor_edn_core_{it}_tests" for it in ("text", "tree", "loan")]
     scripts = {
@@ -167,10 +170,11 @@ def gate(room, is_whole):
     os.mkdir(proved)
     anew, every = ["--anew"] * is_whole, ["--all"] * is_whole
     words = ["python3", "-B", "scripts/prove.py", *anew, "--costs", f"{room}/costs", "--proved", proved]
+    wrong = ["scripts/check-wrong-bodies.sh", *every, "--proved", proved]
     # The tests have ended some minutes after the start. Then the proofs have the processors, and wrong bodies what these leave.
     beside = [
         Part("proofs", words, [], 5, "^rt: |NOT PROVED|: error"),
-        Part("check-wrong-bodies", ["scripts/check-wrong-bodies.sh", *every, "--proved", proved], [], 19, r": \d+ refused, |NOT AS IT MUST BE"),
+        Part("check-wrong-bodies", wrong, [], 19, r": \d+ refused, |NOT AS IT MUST BE"),
         Part("test-wrong-bodies", ["scripts/test-wrong-bodies.sh"], [], 19),
     ]
     last = [

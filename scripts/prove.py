@@ -2,16 +2,17 @@
 
 usage: python3 -B scripts/prove.py [--anew] [--costs FILE] [--proved FOLDER] [CRATE..]
 
-Without CRATE these are all that have proofs: each of crates.txt but the tests and the calls for refused memory that have no folder proofs/, which run
-unproved (scripts/quick.sh). `rt ci` proves each from nothing, builds each program by two compilers and runs it, and looks at layout, imports, stray
-files, ignored tests, handles, and contracts that no call can meet. The looks that need no proof are at the crates that are not proved, too.
-What a run proved is kept beside the toolchain by the checksums of all that it read, so a second run proves the crates that changed and those above
-them. With --anew nothing that was kept is taken.
+Without CRATE these are all that have proofs: each of crates.txt but the tests and the calls for refused memory that have no folder
+proofs/, which run unproved (scripts/quick.sh). `rt ci` proves each from nothing, builds each program by two compilers and runs it, and
+looks at layout, imports, stray files, ignored tests, handles, and contracts that no call can meet. The looks that need no proof are at the
+crates that are not proved, too. What a run proved is kept beside the toolchain by the checksums of all that it read, so a second run
+proves the crates that changed and those above them. With --anew nothing that was kept is taken.
 
-By itself `rt ci` gives a proof two processors of four, and one of two. Here the proof with the longest chain of others behind it gets all of them, and
-beside it run others with half of them each and a lower priority. What each crate took goes to the file of --costs, a line `NAME SECONDS GB` for each command: CPU
-seconds, and the most memory. The folder of --proved gets a file of the name of each crate once it is proved, and `ended` at the end. Libraries,
-programs, and the library for C are left in the out/ of each crate. The last line is 'N passed, M failed', over the crates.
+By itself `rt ci` gives a proof two processors of four, and one of two. Here the proof with the longest chain of others behind it gets all
+of them, and beside it run others with half of them each and a lower priority. What each crate took goes to the file of --costs, a line
+`NAME SECONDS GB` for each command: CPU seconds, and the most memory. The folder of --proved gets a file of the name of each crate once it
+is proved, and `ended` at the end. Libraries, programs, and the library for C are left in the out/ of each crate. The last line is
+'N passed, M failed', over the crates.
 """
 
 import argparse
@@ -51,8 +52,8 @@ def is_proved(crate):
 
 
 def in_order(tasks):
-    """Runs the tasks of `rt ci` and returns what each gave. A task is what it waits for, its lines, the memory that it may take, and a call that gets what
-    was given and its jobs."""
+    """Runs the tasks of `rt ci` and returns what each gave. A task is what it waits for, its lines, the memory that it may take, and a call
+    that gets what was given and its jobs."""
     own, lanes, memory, behind = os.getpriority(os.PRIO_PROCESS, 0), rt.processors(), 0.85 * rt.free(), {it: 0 for it in tasks}
     for key in reversed([*tasks]):
         behind[key] += tasks[key][1]
@@ -97,7 +98,7 @@ def in_order(tasks):
 
 
 def ci(crate, flags, tests, made=rt.Crate.ci):
-    """Proves a crate as `rt ci` does. It keeps no object of a static library: here what was proved is compiled once, as of a program."""
+    """Proves a crate as `rt ci` does, which keeps no object of a static library: here what was proved is compiled, as of a program."""
     if tests or not crate.is_static:
         return made(crate, flags, tests)
     words = crate.words(flags, keeps=False)
@@ -106,8 +107,8 @@ def ci(crate, flags, tests, made=rt.Crate.ci):
         for flag in ("--logic-built", "--jobs"):
             at = words.index(flag)
             words = [*words[:at], *words[at + 2 :]]
-        more = ["--crate-checked", f"{room}/checked", "--toolchain", f"{rtlib.KIT}/toolchain", "--backend", "llvm", "-o", f"out/lib{crate.name}.a"]
-        return status or crate.call(rtlib.RATTLE, "build", *words, *more)
+        words += ["--crate-checked", f"{room}/checked", "--toolchain", f"{rtlib.KIT}/toolchain", "--backend", "llvm"]
+        return status or crate.call(rtlib.RATTLE, "build", *words, "-o", f"out/lib{crate.name}.a")
 
 
 def is_refused(crate, every):
@@ -120,7 +121,8 @@ def is_refused(crate, every):
     except SystemExit:
         return True
     code = rtlib.code_of(crate.folder)
-    looks = {"renames std": [rt.RENAMES], "has an ignored test": [rt.IGNORED], "reaches beyond HANDLES": [it for name, it in rt.REACHES.items() if name not in rt.Crate.allowed]}
+    beyond = [it for name, it in rt.REACHES.items() if name not in rt.Crate.allowed]
+    looks = {"renames std": [rt.RENAMES], "has an ignored test": [rt.IGNORED], "reaches beyond HANDLES": beyond}
     found = [what for what, words in looks.items() if any(re.search(it, code) for it in words)]
     for what in found:
         print(f"prove: {crate.name} {what}")
