@@ -223,13 +223,20 @@ writes diag2diag << 'END'
 [1 /\r\t/]|[1/\r\t/]\n
 END
 
-# Names of files are not told.
+# Names of files are not told, but for one that is to be replaced, of which no character acts on a terminal.
 for name in $'\e[31m' $'\r' $'\u202e'; do
   for words in "diag2cbor $name" "cbor2diag - $name/$name"; do
     which=input
     [ "${words#* - }" = "$words" ] || which=output
     expect "$words" '' 1 '' "cbor-edn: Error opening $which\\n"
   done
+  shown=$(printf '<U+%04X>' "'${name:0:1}")${name:1}
+  expect "cbor2diag -O $name/$name" '' 1 '' "cbor-edn: $shown/$shown: No such file or directory (os error 2)\\n"
 done
+
+# One file as input and output is not touched.
+printf '[1,2]' > "$work/same"
+expect "diag2diag $work/same $work/./same" '' 1 '' 'cbor-edn: Input and output are the same file\n'
+count 'one file as both' test "$(cat "$work/same")" = '[1,2]'
 
 end

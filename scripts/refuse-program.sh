@@ -5,9 +5,10 @@
 #
 # Without PROGRAM it is the working tree's. A small library stands in front of malloc (scripts/refuse/refusing.c): in each run it refuses
 # another allocation, from the first to the last. Such a run must have status 1, say `cbor-edn: Out of memory` in one line, with the name of
-# standard input where a command for files reads it, and write
+# standard input where a command for files reads it, or of the file that is replaced, and write
 # nothing. Some refusals are no want of memory (docs/DECISIONS.md, "Items made from values"): such a run must end as it does where none
-# is refused. The table crates/cbor_edn_tool/hints has the calls, each behind the number of such runs.
+# is refused. The table crates/cbor_edn_tool/hints has the calls, each behind the number of such runs. OUT stands there for a file that is
+# not there before; what it has counts as output.
 #
 # The last line is 'N passed, M failed', over the runs.
 set -euo pipefail
@@ -34,8 +35,15 @@ refuse() {
   local allocation=$1
   shift
   status=0
-  REFUSED=$allocation LD_PRELOAD=$work/refusing.so ALLOCATIONS=$work/allocations "$program" "$@" \
+  rm -f "$work/out"
+  REFUSED=$allocation LD_PRELOAD=$work/refusing.so ALLOCATIONS=$work/allocations "$program" "${@/#OUT/$work/out}" \
     < "$input" > "$work/output" 2> "$work/said" || status=$?
+  for file in "$work"/out*; do
+    case $file in
+      */output | */out\*) ;;
+      *) { cat "$file" && echo 'is a file'; } >> "$work/output" ;;
+    esac
+  done
 }
 
 # The input that the words of a call take.
@@ -48,7 +56,7 @@ input_of() {
 }
 
 is_out_of_memory() {
-  [ "$status" = 1 ] && [ ! -s "$work/output" ] && grep -qxE 'cbor-edn: (<stdin>: )?Out of memory' "$work/said" && [ "$(wc -l < "$work/said")" = 1 ]
+  [ "$status" = 1 ] && [ ! -s "$work/output" ] && grep -qxE "cbor-edn: ((<stdin>|$work/out): )?Out of memory" "$work/said" && [ "$(wc -l < "$work/said")" = 1 ]
 }
 
 is_as_before() {

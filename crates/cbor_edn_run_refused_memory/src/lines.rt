@@ -1,7 +1,7 @@
 //! Command lines.
 use cbor_edn::NESTING_LIMIT;
 use cbor_edn::engine::{Command, Options};
-use cbor_edn::words::options;
+use cbor_edn::words::{conversion_of, options};
 use cbor_edn_expect::memory::Failure;
 use clap::error::ErrorKind;
 use std::alloc::Global;
@@ -108,6 +108,37 @@ pub(crate) fn read(alloc: Global, line: &Line) -> Result<bool, Failure> {
         }
         (Err(error), wanted) => refused(error.kind(), wanted),
         (Ok(_), Err(_)) => Ok(false),
+    }
+}
+
+/// A name, words with the file of an output that is replaced, and why they are refused, if they are.
+pub(crate) type Replacing = (&'static str, &'static [&'static str], Option<ErrorKind>);
+
+/// By the manual page, `packaging/cbor-edn.1`.
+pub(crate) const REPLACING: &[Replacing] = &[
+    (
+        "words::conversion_of",
+        &["cbor-edn", "diag2diag", "in", "-O", "out"],
+        None,
+    ),
+    (
+        "words::conversion_of, two outputs",
+        &["cbor-edn", "diag2diag", "in", "out", "-O", "out"],
+        Some(ErrorKind::ArgumentConflict),
+    ),
+];
+
+/// Reads a command line with such a file.
+pub(crate) fn read_replacing(alloc: Global, line: &Replacing) -> Result<bool, Failure> {
+    match conversion_of(alloc, line.1) {
+        Ok(run) => {
+            let is_read = run.replaces && (run.input, run.output) == ("in", "out");
+            Ok(is_read && line.2.is_none())
+        }
+        Err(error) => match error.kind() {
+            ErrorKind::OutOfMemory => Err(Failure::Refused),
+            kind => Ok(line.2 == Some(kind)),
+        },
     }
 }
 

@@ -73,5 +73,9 @@ fn main(rt: HostRuntime) -> io::Result<()> {
         let told = word(lines::read(rt.alloc(), row));
         println!(rt; "{}: {told}", row.0)?;
     }
+    for row in lines::REPLACING {
+        let told = word(lines::read_replacing(rt.alloc(), row));
+        println!(rt; "{}: {told}", row.0)?;
+    }
     Ok(())
 }
