@@ -178,7 +178,7 @@ while (( rounds++ < 200 && still < 5 )); do
 done
 TERMINAL
   timeout 30 zsh -f "$work/terminal" "$root/usr/share/zsh/vendor-completions" "$*" \
-    | sed 's/\x1b\[[0-9;?]*[A-Za-z]//g; s/ -- .*//' | grep -oE '(^|[[:space:]])(--?[a-z0-9][a-z0-9-]*|[a-z0-9]+)' | tr -d ' \t\r'
+    | sed 's/\x1b\[[0-9;?]*[A-Za-z]//g; s/ -- .*//' | grep -oE '(^|[[:space:]])(--?[A-Za-z0-9][a-z0-9-]*|[a-z0-9]+)' | tr -d ' \t\r'
 }
 
 # What a shell offers behind a command is what the help shows.
