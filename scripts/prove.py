@@ -13,6 +13,9 @@ of them, and beside it run others with half of them each and a lower priority. W
 `NAME SECONDS GB` for each command: CPU seconds, and the most memory. The folder of --proved gets a file of the name of each crate once it
 is proved, and `ended` at the end. Libraries, programs, and the library for C are left in the out/ of each crate. The last line is
 'N passed, M failed', over the crates.
+
+This rests on names inside `rt` that no page of the toolchain promises: `ci_over`, `in_lanes` with its tasks, `Crate.ci` and `has_tests`.
+Where one is gone, Python's error names it, and nothing is proved.
 """
 
 import argparse
