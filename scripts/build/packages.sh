@@ -102,7 +102,7 @@ cp -r packaging/debian "$work"
 cat > "$work/debian/changelog" << CHANGES
 cbor-edn ($version) unstable; urgency=medium
 
-  * See CHANGELOG.md.
+  * First version.
 
  -- $(sed -n 's/^Maintainer: //p' packaging/debian/control)  $(date -R -d "@$SOURCE_DATE_EPOCH")
 CHANGES
@@ -156,7 +156,7 @@ mkdir -p "$root/usr/share/vim/vimfiles" "$root/usr/share/doc/cbor-edn"
 cp -r editors/vim/* "$root/usr/share/vim/vimfiles"
 cp -r examples "$root/usr/share/doc/cbor-edn"
 needs "$root/usr/bin/cbor-edn"
-deb cbor-edn docs/{CHANGELOG,RECIPES,SUPPORTED}.md "$work/BUILT-FROM"
+deb cbor-edn docs/{RECIPES,SUPPORTED}.md "$work/BUILT-FROM"
 
 root=$work/libcbor-edn0
 put 644 "$library/$soname" "$root/$lib/$soname"
