@@ -1,14 +1,15 @@
 -- What is told acts on nothing.
 use Rattle.std.proofs.Common.{◌≡◌, ◌≤◌, ◌<◌, ℕ, ◌/◌, ◌%◌, zero, suc, Bool, true, false, List, [], ◌∷◌, refl, ap, subst, ◌∙◌, arith}
-use Rattle.std.specs.Prelude.{◌&&◌, ◌||◌, ◌==◌, ◌^◌, ◌-◌, nat_le, encode_utf8, replicate}
+use Rattle.std.specs.Prelude.{◌&&◌, ◌||◌, ◌==◌, ◌^◌, ◌-◌, not, nat_le, encode_utf8, replicate}
 use Rattle.std.specs.List.{flat_map}
 use Rattle.std.specs.Int.{is_in_range}
+use Rattle.std.specs.Str.{NonePass}
 use Rattle.std.specs.Fmt.{digits, digits_onto, digit_glyph, format_spec, padded_integral}
-use Rattle.std.proofs.lemmas.Bool.{cond_both, and_parts, leb-true, lt-leb, and_left}
+use Rattle.std.proofs.lemmas.Bool.{cond_both, and_parts, leb-true, lt-leb, and_left, and_right}
 use Rattle.std.proofs.lemmas.Bool.Decides.{nat_tests}
 use Rattle.std.proofs.lemmas.List.{append-nil}
 use Rattle.std.proofs.lemmas.Str.{NoCharPasses-nil, NoCharPasses-append, encode_ascii}
-use Rattle.cbor_edn_terminal.specs.Terminal.{acting, is_in_one, acts_on_terminal, by_number, shown_character, shown_text, IsHarmless, ShownIsHarmless}
+use Rattle.cbor_edn_terminal.specs.Terminal.{acting, is_in_one, acts_on_terminal, by_number, shown_character, shown_text, shown_in_lines, lines_text, acts_in_lines, IsHarmless, IsHarmlessInLines, ShownIsHarmless, LinesAreHarmless}
 
 -- all ranges begin at n, or behind it
 all_from : ℕ → List (ℕ × ℕ) → Bool
@@ -48,16 +49,20 @@ glyph : (upper : Bool) (d : ℕ) → d < 16 → (32 ≤ digit_glyph upper d) × 
 glyph true d h = grind (arith, nat_tests)
 glyph false d h = grind (arith, nat_tests)
 
-digits_on : (k : ℕ) (upper : Bool) (n : ℕ) (text : List ℕ) → IsHarmless text → IsHarmless (digits_onto k 16 upper n text)
-digits_on zero upper n text is = is
-digits_on (suc k) upper n text is =
-    let digit = glyph upper (n % 16) (omega arith) in
-    let more = harmless_more (digit_glyph upper (n % 16)) text digit.0 digit.1 is in
-    cond_both (n / 16 == 0) _ _ (λ t. IsHarmless t) (λ _. more) (λ _. digits_on k upper (n / 16) _ more)
+digits_on : (k base : ℕ) (upper : Bool) (n : ℕ) (text : List ℕ) → ((m : ℕ) → m % base < 16) → IsHarmless text → IsHarmless (digits_onto k base upper n text)
+digits_on zero base upper n text small is = is
+digits_on (suc k) base upper n text small is =
+    let digit = glyph upper (n % base) (small n) in
+    let more = harmless_more (digit_glyph upper (n % base)) text digit.0 digit.1 is in
+    cond_both (n / base == 0) _ _ (λ t. IsHarmless t) (λ _. more) (λ _. digits_on k base upper (n / base) _ small more)
 
 pub harmless_digits : (upper : Bool) (n : ℕ) → IsHarmless (digits 16 upper n)
 unfolding digits
-harmless_digits upper n = digits_on 64 upper n [] (NoCharPasses-nil acts_on_terminal)
+harmless_digits upper n = digits_on 64 16 upper n [] (λ m. omega arith) (NoCharPasses-nil acts_on_terminal)
+
+pub harmless_decimal : (n : ℕ) → IsHarmless (digits 10 false n)
+unfolding digits
+harmless_decimal n = digits_on 64 10 false n [] (λ m. omega arith) (NoCharPasses-nil acts_on_terminal)
 
 zeros : (n : ℕ) → IsHarmless (replicate n 48)
 zeros zero = NoCharPasses-nil acts_on_terminal
@@ -86,3 +91,23 @@ harmless_all f each (c ∷ cs) = NoCharPasses-append acts_on_terminal (f c) (fla
 pub shown_is_harmless : ShownIsHarmless
 unfolding shown_text
 shown_is_harmless cs = harmless_all shown_character character cs
+
+-- ---- in lines
+
+none_in_lines : (cs : List ℕ) → NonePass acts_on_terminal cs → NonePass acts_in_lines cs
+none_in_lines [] h = h
+none_in_lines (c ∷ cs) h = (and_right (not (c == 10)) _ h.0, none_in_lines cs h.1)
+
+pub in_lines : (text : List ℕ) → IsHarmless text → IsHarmlessInLines text
+in_lines text (cs, is, none) = (cs, is, none_in_lines cs none)
+
+pub line_feed : IsHarmlessInLines (10 ∷ [])
+line_feed = subst IsHarmlessInLines (encode_ascii 10 (omega arith)) (10 ∷ [], append-nil (encode_utf8 10), (refl, tt))
+
+line_character : (c : ℕ) → IsHarmlessInLines (shown_in_lines c)
+line_character c = cond_both (c == 10) _ _ (λ t. IsHarmlessInLines t) (λ _. line_feed) (λ _. in_lines (shown_character c) (character c))
+
+pub lines_are_harmless : LinesAreHarmless
+unfolding lines_text
+lines_are_harmless [] = NoCharPasses-nil acts_in_lines
+lines_are_harmless (c ∷ cs) = NoCharPasses-append acts_in_lines (shown_in_lines c) (lines_text cs) (line_character c) (lines_are_harmless cs)

@@ -48,6 +48,13 @@ shown_character c = if c == 9 then 32 ∷ [] else if acts_on_terminal c then by_
 unfoldable pub shown_text : List ℕ → List ℕ
 shown_text cs = flat_map shown_character cs
 
+-- the same of a text of lines, where line feeds stay
+abbrev pub shown_in_lines : ℕ → List ℕ
+shown_in_lines c = if c == 10 then 10 ∷ [] else shown_character c
+
+unfoldable pub lines_text : List ℕ → List ℕ
+lines_text cs = flat_map shown_in_lines cs
+
 -- ---- texts that act on nothing
 
 -- no character of the text acts on a terminal,
@@ -61,6 +68,10 @@ acts_in_lines c = not (c == 10) && acts_on_terminal c
 abbrev pub IsHarmlessInLines : List ℕ → Type 0
 IsHarmlessInLines text = NoCharPasses acts_in_lines text
 
--- Whatever is told acts on nothing.
+-- Whatever is told acts on nothing,
 abbrev pub ShownIsHarmless : Type 0
 ShownIsHarmless = (cs : List ℕ) → IsHarmless (shown_text cs)
+
+-- and what is told in lines by its line feeds alone.
+abbrev pub LinesAreHarmless : Type 0
+LinesAreHarmless = (cs : List ℕ) → IsHarmlessInLines (lines_text cs)

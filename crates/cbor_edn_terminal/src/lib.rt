@@ -4,7 +4,7 @@
 ghost use Rattle.std.specs.Prelude.{◌≡◌, ◌++◌, IfOk, OnOk, string_bytes};
 ghost use Rattle.std.specs.Str.{chars};
 ghost use Rattle.cbor_edn_terminal.specs.Terminal as terminal;
-ghost use Rattle.cbor_edn_terminal.specs.Terminal.{shown_character, shown_text, ShownIsHarmless};
+ghost use Rattle.cbor_edn_terminal.specs.Terminal.{shown_character, shown_text, shown_in_lines, lines_text, ShownIsHarmless, LinesAreHarmless};
 
 use std::alloc::{AllocError, Global};
 
@@ -62,7 +62,28 @@ pub fn shown(alloc: Global, text: &str) -> Result<String, AllocError>
     Ok(out)
 }
 
+fn push_in_lines(out: &mut String, character: char) -> Result<(), AllocError>
+    ensures { OnOk result (string_bytes out.new ≡ string_bytes out.old ++ shown_in_lines character) }
+{
+    if character == '\n' {
+        return out.push('\n');
+    }
+    push_shown(out, character)
+}
+
+/// A message of some lines as it is told: its line feeds stay.
+pub fn shown_lines(alloc: Global, text: &str) -> Result<String, AllocError>
+    ensures { IfOk result (λ s. string_bytes s ≡ lines_text (chars text.now)) }
+{
+    let mut out = String::new(alloc);
+    for character in text.chars() {
+        push_in_lines(&mut out, character)?;
+    }
+    Ok(out)
+}
+
 /// Whatever is told acts on nothing. The body does nothing.
 pub fn shown_is_harmless()
-    ensures { ShownIsHarmless }
+    ensures whole { ShownIsHarmless }
+    ensures lines { LinesAreHarmless }
 {}
