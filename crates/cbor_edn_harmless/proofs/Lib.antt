@@ -1,0 +1,9 @@
+pub mod Characters
+pub mod Walks
+pub mod Spaces
+pub mod Literals
+pub mod Tokens
+pub mod Trees
+pub mod Meanings
+pub mod Kept
+pub mod Notes

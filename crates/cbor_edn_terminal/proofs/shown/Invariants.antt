@@ -1,0 +1,7 @@
+use Rattle.std.proofs.Common.{◌≡◌}
+use Rattle.std.specs.Prelude.{string_bytes}
+use Rattle.cbor_edn_terminal.specs.Terminal.{shown_text}
+use Rattle.cbor_edn_terminal.proofs.shown.Given as goal
+
+abbrev pub invariant-loop-character : goal.invariant-loop-character
+invariant-loop-character l = string_bytes l.out ≡ shown_text l.yielded
