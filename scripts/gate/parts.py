@@ -148,7 +148,7 @@ def unproved_parts(room):
     memory = [Part(it, ["scripts/gate/refuse-memory.sh", it]) for it in names_in("_refused_memory$")]
     # those of the highest crates take longest, and begin first
     tests = [Part(it, ["scripts/gate/run-tests.sh", it, f"{room}/{it}"]) for it in reversed(names_in("_tests$"))]
-    return [*memory, *tests, script("reads.sh"), script("surface.py")]
+    return [*memory, *tests, script("reads.sh"), script("surface.py"), script("pages.py")]
 
 
 def trials(room, program, needs, is_quick):
@@ -182,6 +182,7 @@ def gate(room, is_whole):
         script("bindings.sh", ["--after-ci"], ["proofs"]),
         script("launcher.sh", [PROGRAM], ["proofs"]),
         script("packages.sh", ["--after-ci"], ["bindings.sh"]),
+        script("door.py", needs=["proofs"]),
     ]
     return [*first, *beside, *last, *trials(room, PROGRAM, ["proofs"], False)]
 

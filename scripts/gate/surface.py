@@ -2,7 +2,7 @@
 *_memory, in which scripts/gate/refuse-memory.sh refuses allocations, makes each of those that take memory. Those that take none stand in its
 file free.rt, in which all requests are refused, but for what prints or moves bytes by something of the caller's.
 
-usage: python3 -B scripts/gate/surface.py [--list]
+usage: python3 -B scripts/gate/surface.py [--list | --words]
 
 Public are the functions, and the methods of the types and traits, that cbor_edn hands on, from whichever library, and each
 implementation of a trait for such a type, the words of its derived error among them. A call takes memory where it has a parameter
@@ -10,7 +10,8 @@ implementation of a trait for such a type, the words of its derived error among 
 implementation in a test. Whose a method is, is read off parameters, `let`s, and what calls answer; SHAPES says it of the others, and of
 what a trait gives. It prints a line for each call that is missing, with --list one for each that stands too, and 'N passed, M failed'
 last. What it can't read is a failure: names handed on that it does not find or that are not written out (`*`, `as`, a whole crate),
-modules without files of their own, `pub .. fn` that it does not take. It must find calls, and each that CALLING.md lists.
+modules without files of their own, `pub .. fn` that it does not take. It must find calls, and each that CALLING.md lists. With --words it
+prints each word that a contract of a call or a law takes from definitions of ours, behind its module, and looks at nothing else.
 
 Tests run unproved, so a call with a premise (`requires`) also needs a proved caller, which shows that it can be met: of what cbor_edn
 hands on one in cbor_edn_examples, and of any other public function one in a proved crate, its own too, since a caller's proof knows its
@@ -132,6 +133,7 @@ alias = {a: b for text in texts.values() for a, b in re.findall(r"^pub type (\w+
 defined = {name for text in texts.values() for name in re.findall(r"^(?:pub(?:\(\w+\))? )?(?:struct|enum|trait|type) (\w+)", text, re.M)}
 surface, handed, types = {}, set(), set()  # a call's name: its signature and the names by which it is imported
 premises, owed = set(), set()  # those whose callers owe something: their names, and where they stand
+contracts = set()  # what callers rest on, laws too: the file of a function, and its text up to its body
 problems = []  # what of the sources this script can't read
 
 
@@ -173,6 +175,8 @@ def hand_on(path):
     handed.add(path)
     stem, crate = os.path.basename(path)[:-3], path.split("/")[0]
     for owner, name, public, signature, text in files[path]:
+        if public and owner is None:
+            rest_on(path, text)
         if public and owner is None and not is_law(text):
             add(name, stem, signature, {stem, crate} if crate != "cbor_edn" else {stem}, path, text)
     for name in re.findall(r"^pub (?:struct|enum|trait|type) (\w+)", texts[path], re.M):
@@ -193,6 +197,24 @@ def add(name, stem, signature, imports, path, text):
     owe(called, path, None, name, text)
 
 
+# Notes what is said of a function.
+def rest_on(path, text):
+    contracts.add((path, re.split(r"(?m)^ *\{$| \{$", text, maxsplit=1)[0]))
+
+
+# The words of contracts that stand in definitions of ours, each behind the module that has it.
+def words():
+    for path, contract in contracts:
+        clauses = "\n".join(re.split(r"\n *(?=requires\b|ensures\b)", contract)[1:])
+        imports = re.findall(r"(?m)^ghost use Rattle\.(cbor_edn\w*\.specs[\w.]*?)(?:\.\{([^}]*)\}| as (\w+));", open(path).read())
+        for module, names, alias in imports:
+            if alias:
+                yield from ((module, word) for word in re.findall(rf"(?<![\w.]){alias}\.([\w-]+)", clauses))
+            for name, own in (re.fullmatch(r"\s*(\S+)(?: as (\S+))?\s*", it).groups() for it in names.split(",") if it.strip()):
+                if re.search(rf"(?<![\w.]){re.escape((own or name).strip('◌'))}(?!\w)", clauses):
+                    yield module, name
+
+
 # Notes a call whose caller owes something.
 def owe(called, path, owner, name, text):
     if has_premise(text):
@@ -210,6 +232,8 @@ def take(path, base, name, stem):
     else:
         crate = found[0].split("/")[0]
         for owner, function, public, signature, text in files[found[0]]:
+            if owner is None and function == name and public:
+                rest_on(found[0], text)
             if owner is None and function == name and public and not is_law(text):
                 add(name, stem, signature, {stem, base[0], crate}, found[0], text)
         if re.search(rf"^pub (?:struct|enum|trait|type) {name}\b", texts[found[0]], re.M):
@@ -223,6 +247,7 @@ def take_type(name, crate):
         for owner, function, public, signature, text in found:
             if owner and owner[1] in (name, alias.get(name)) and not owner[2] and path.startswith(crate + "/") and (public or owner[0] == "trait"):
                 surface[f"{name}::{function}"] = (signature, owner[0])
+                rest_on(path, text)
                 owe(f"{name}::{function}", path, owner[1], function, text)
 
 
@@ -263,12 +288,16 @@ if not surface:
 take_traits()
 for name in [name for name, (_, how) in surface.items() if how == "shape" and name not in SHAPES]:
     problems.append(f"{name}: SHAPES does not say what its calls look like")
+if "--words" in sys.argv:
+    print("\n".join(f"{module} {name}" for module, name in sorted(set(words()))))
+    sys.exit()
 problems += [f"SHAPES has {name}, which is no public call" for name in SHAPES if name not in surface]
 # Of a method, what it is called on tells whose it is: a type that calls answer, where they succeed.
 TREES = rf"\b({'|'.join(types - {'Fault'} - {name.removeprefix('Display for ') for name in surface})})\b"
 shared = {name.split("::")[1] for name, (_, how) in surface.items() if how == "impl"}
 
-listed = re.findall(r"^fn ([\w:]+)", open("../CALLING.md").read(), re.M)
+calling = "".join(re.findall(r"(?ms)^```text\n(.*?)^```$", open("../CALLING.md").read()))
+listed = re.findall(r"^fn ([\w:]+)", calling, re.M)
 if not listed:
     problems.append("CALLING.md lists no call")
 last_words = {name.split("::")[-1] for name in surface}

@@ -25,3 +25,12 @@ mod NestedSteps
 mod EntriesRead
 mod LongArrayTexts
 mod LongArrays
+-- What callers' proofs take: what a visit leaves, by the calls that it makes.
+pub use Rattle.cbor_edn_application.proofs.ElementVisits
+pub use Rattle.cbor_edn_application.proofs.KnownResults
+pub use Rattle.cbor_edn_application.proofs.Lists
+pub use Rattle.cbor_edn_application.proofs.MapVisits
+pub use Rattle.cbor_edn_application.proofs.Told
+pub use Rattle.cbor_edn_application.proofs.VisitChains
+pub use Rattle.cbor_edn_conversions.proofs.nesting.TagDepths
+pub use Rattle.cbor_edn_core.proofs.lemmas.visit.SoughtChains

@@ -1,16 +1,16 @@
 -- A callback by a function that leaves no item that nests deeper.
 use Rattle.std.proofs.Common.{◌≤◌, ℕ, Result, MutBor, sym, subst, arith}
 use Rattle.std.specs.Fn.{Called}
-use Rattle.cbor_edn_parts.specs.declared.base.error.CallbackError.{CallbackError}
-use Rattle.cbor_edn_model.specs.tree.Trees.{Tree, OneItem}
-use Rattle.cbor_edn_model.specs.visit.Depth.{depth}
-use Rattle.cbor_edn_model.specs.visit.Seeking.{CallArguments, number}
-use Rattle.cbor_edn_model.specs.visit.Visits.{Answer, fine, comment, no_memory}
-use Rattle.cbor_edn_core.specs.visit.Sought.{LeavesNoneDeeper, TagCallback, sought_answer}
-use Rattle.cbor_edn_core.specs.tree.View.{Item, item_tree}
-use Rattle.cbor_edn_core.proofs.lemmas.visit.SoughtChains.{none_deeper}
-use Rattle.cbor_edn_conversions.proofs.nesting.TagDepths.{NoDeeper}
-use Rattle.cbor_edn_application.specs.Acts.{Act, ActsBy}
+use Rattle.cbor_edn.specs.CallbackError.{CallbackError}
+use Rattle.cbor_edn.specs.Trees.{Tree, OneItem}
+use Rattle.cbor_edn.specs.Depth.{depth}
+use Rattle.cbor_edn.specs.Seeking.{CallArguments, number}
+use Rattle.cbor_edn.specs.Visits.{Answer, fine, comment, no_memory}
+use Rattle.cbor_edn.specs.Sought.{LeavesNoneDeeper, TagCallback, sought_answer}
+use Rattle.cbor_edn.specs.View.{Item, item_tree}
+use Rattle.cbor_edn.proofs.SoughtChains.{none_deeper}
+use Rattle.cbor_edn.proofs.TagDepths.{NoDeeper}
+use Rattle.cbor_edn.specs.Acts.{Act, ActsBy}
 
 module _ (act : Act) (no_deeper : (a : CallArguments) → NoDeeper (act a)) where
   left_no_deeper : (a : CallArguments) (w v : Tree OneItem) (r : Answer) → ActsBy act a w r v → depth v ≤ depth w

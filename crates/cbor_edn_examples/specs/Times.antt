@@ -1,11 +1,11 @@
 -- What a caller does at the values of a map.
 use Rattle.std.specs.Prelude.{Option, Some}
-use Rattle.cbor_edn_model.specs.cbor.Decoded.{alone}
-use Rattle.cbor_edn_model.specs.tree.Constructed.{tagged_tree}
-use Rattle.cbor_edn_model.specs.tree.Trees.{Tree, OneItem}
-use Rattle.cbor_edn_model.specs.visit.Visits.{fine}
-use Rattle.cbor_edn_conversions.specs.Claims.{KeyReply}
-use Rattle.cbor_edn_conversions.specs.Conversions.{Reply}
+use Rattle.cbor_edn.specs.Decoded.{alone}
+use Rattle.cbor_edn.specs.Constructed.{tagged_tree}
+use Rattle.cbor_edn.specs.Trees.{Tree, OneItem}
+use Rattle.cbor_edn.specs.Visits.{fine}
+use Rattle.cbor_edn.specs.Claims.{KeyReply}
+use Rattle.cbor_edn.specs.Conversions.{Reply}
 
 -- a value in a tag 1: `1(5)` of `5`
 abbrev pub as_time : Tree OneItem → Reply

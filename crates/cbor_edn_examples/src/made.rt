@@ -1,10 +1,10 @@
 //! Items and sequences of what iterators give: a `Vec` ends, as each of these calls asks.
 ghost use Rattle.std.specs.Prelude.{◌≡◌, map, IfOk};
-ghost use Rattle.cbor_edn_model.specs.tree.Constructed.{comma_inside, comma_sequence};
-ghost use Rattle.cbor_edn_model.specs.tree.Items.{Array, Map};
-ghost use Rattle.cbor_edn_model.specs.tree.Trees.{ListTree};
-ghost use Rattle.cbor_edn_core.specs.tree.Constructed.{element_tree, pair_tree};
-ghost use Rattle.cbor_edn_core.specs.tree.View.{item_tree, sequence_tree};
+ghost use Rattle.cbor_edn.specs.Constructed.{comma_inside, comma_sequence};
+ghost use Rattle.cbor_edn.specs.Items.{Array, Map};
+ghost use Rattle.cbor_edn.specs.Trees.{ListTree};
+ghost use Rattle.cbor_edn.specs.Made.{element_tree, pair_tree};
+ghost use Rattle.cbor_edn.specs.View.{item_tree, sequence_tree};
 
 use cbor_edn::{Item, Sequence};
 use std::alloc::{AllocError, Global};

@@ -1,16 +1,16 @@
 //! Visits by callbacks of a caller: each callback may be called wherever the visit asks it.
 ghost use Rattle.std.specs.Prelude.{◌≡◌, OnOk, codes, option_map};
-ghost use Rattle.cbor_edn_model.specs.visit.Seeking.{IsTag, IsApplication};
-ghost use Rattle.cbor_edn_model.specs.visit.Visits.{comment};
-ghost use Rattle.cbor_edn_core.specs.visit.Callbacks.{answer_of, key_answer, handler_of, ending};
-ghost use Rattle.cbor_edn_core.specs.tree.View.{item_tree, sequence_tree};
-ghost use Rattle.cbor_edn_conversions.specs.Bignums.{pretty_bignum};
-ghost use Rattle.cbor_edn_conversions.specs.Claims.{with_keys};
-ghost use Rattle.cbor_edn_conversions.specs.Cose.{with_elements};
-ghost use Rattle.cbor_edn_conversions.specs.EmbeddedItems.{show_embedded as embedded_shown};
-ghost use Rattle.cbor_edn_conversions.specs.Times.{pretty_time, resolve_time};
-ghost use Rattle.cbor_edn_application.specs.Acts.{IsVisited};
-ghost use Rattle.cbor_edn_application.specs.Handlers.{KeyAnswers, ValueAnswers};
+ghost use Rattle.cbor_edn.specs.Seeking.{IsTag, IsApplication};
+ghost use Rattle.cbor_edn.specs.Visits.{comment};
+ghost use Rattle.cbor_edn.specs.Callbacks.{answer_of, key_answer, handler_of, ending};
+ghost use Rattle.cbor_edn.specs.View.{item_tree, sequence_tree};
+ghost use Rattle.cbor_edn.specs.Bignums.{pretty_bignum};
+ghost use Rattle.cbor_edn.specs.Claims.{with_keys};
+ghost use Rattle.cbor_edn.specs.Cose.{with_elements};
+ghost use Rattle.cbor_edn.specs.EmbeddedItems.{show_embedded as embedded_shown};
+ghost use Rattle.cbor_edn.specs.Times.{pretty_time, resolve_time};
+ghost use Rattle.cbor_edn.specs.Acts.{IsVisited};
+ghost use Rattle.cbor_edn.specs.Handlers.{KeyAnswers, ValueAnswers};
 ghost use Rattle.cbor_edn_examples.specs.Times.{as_time, at_any_key};
 
 use cbor_edn::application::{dt_aol_to_item, dt_tag_to_aol, show_embedded, tag23_to_edn_integer};
@@ -73,9 +73,9 @@ fn seconds(alloc: Global, element: &mut Item<'_>) -> Result<Option<String>, Call
 pub struct AsTime;
 
 impl<'a> MapValueHandler<'a> for AsTime {
-    ghost use Rattle.cbor_edn_core.specs.visit.Callbacks.{answer_of};
-    ghost use Rattle.cbor_edn_core.specs.tree.View.{item_tree};
-    ghost use Rattle.cbor_edn_application.specs.Handlers.{ValueAnswers};
+    ghost use Rattle.cbor_edn.specs.Callbacks.{answer_of};
+    ghost use Rattle.cbor_edn.specs.View.{item_tree};
+    ghost use Rattle.cbor_edn.specs.Handlers.{ValueAnswers};
     ghost use Rattle.cbor_edn_examples.specs.Times.{as_time};
 
     ghost handles = { λ h x r y. ValueAnswers as_time (item_tree x) (answer_of r) (item_tree y) };

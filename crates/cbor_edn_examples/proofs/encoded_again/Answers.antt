@@ -1,10 +1,10 @@
 use Rattle.std.proofs.Common.{◌≡◌, Some, refl}
-use Rattle.cbor_edn_core.specs.tree.View.{standalone_tree}
-use Rattle.cbor_edn_model.specs.cbor.Meaning.{means}
-use Rattle.cbor_edn_model.specs.cbor.Value.{Value, Enc}
-use Rattle.cbor_edn_model.specs.tree.Trees.{Tree, Standalone, items}
-use Rattle.cbor_edn_model.specs.visit.Visits.{whole}
-use Rattle.cbor_edn_application.proofs.Told.{told_weaker}
+use Rattle.cbor_edn.specs.View.{standalone_tree}
+use Rattle.cbor_edn.specs.Meaning.{means}
+use Rattle.cbor_edn.specs.Value.{Value, Enc}
+use Rattle.cbor_edn.specs.Trees.{Tree, Standalone, items}
+use Rattle.cbor_edn.specs.Visits.{whole}
+use Rattle.cbor_edn.proofs.Told.{told_weaker}
 use Rattle.cbor_edn_examples.proofs.Outcomes.{ok_again, none_again}
 use Rattle.cbor_edn_examples.proofs.encoded_again.Goals as goal
 

@@ -1,6 +1,6 @@
 use Rattle.std.proofs.Common.{rules}
-use Rattle.cbor_edn_application.proofs.VisitChains.{tags_visited}
-use Rattle.cbor_edn_conversions.specs.All.{pretty_all}
+use Rattle.cbor_edn.proofs.VisitChains.{tags_visited}
+use Rattle.cbor_edn.specs.All.{pretty_all}
 use Rattle.cbor_edn_examples.proofs.prettified.Goals as goal
 
 pub returns : goal.returns

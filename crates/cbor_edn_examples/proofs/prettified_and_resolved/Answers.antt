@@ -1,6 +1,6 @@
 use Rattle.std.proofs.Common.{refl}
-use Rattle.cbor_edn_core.specs.tree.View.{sequence_tree}
-use Rattle.cbor_edn_model.specs.visit.Visits.{whole}
+use Rattle.cbor_edn.specs.View.{sequence_tree}
+use Rattle.cbor_edn.specs.Visits.{whole}
 use Rattle.cbor_edn_examples.proofs.prettified_and_resolved.Goals as goal
 
 pub returns-clause-visits : goal.returns-clause-visits

@@ -1,4 +1,4 @@
-use Rattle.cbor_edn_model.specs.tree.TreeLeaves.{texts}
+use Rattle.cbor_edn.specs.TreeLeaves.{texts}
 use Rattle.cbor_edn_examples.proofs.LoanExamples.{where_lent}
 use Rattle.cbor_edn_examples.proofs.replaced.Goals as goal
 

@@ -1,6 +1,6 @@
 use Rattle.std.proofs.Common.{rules}
-use Rattle.cbor_edn_application.proofs.VisitChains.{literals_visited}
-use Rattle.cbor_edn_conversions.specs.All.{resolve_all}
+use Rattle.cbor_edn.proofs.VisitChains.{literals_visited}
+use Rattle.cbor_edn.specs.All.{resolve_all}
 use Rattle.cbor_edn_examples.proofs.resolved.Goals as goal
 
 pub returns : goal.returns

@@ -1,11 +1,11 @@
 use Rattle.std.proofs.Common.{rules, ◌≡◌, map, ◌∙◌}
 use Rattle.std.proofs.lemmas.Result.{IfOk-weaker}
-use Rattle.cbor_edn_model.specs.tree.Constructed.{comma_inside}
-use Rattle.cbor_edn_model.specs.tree.Items.{Array}
-use Rattle.cbor_edn_model.specs.tree.Trees.{ListTree}
-use Rattle.cbor_edn_core.specs.tree.Constructed.{element_tree}
-use Rattle.cbor_edn_core.specs.tree.View.{item_tree}
-use Rattle.cbor_edn_application.proofs.Lists.{all_of_vec}
+use Rattle.cbor_edn.specs.Constructed.{comma_inside}
+use Rattle.cbor_edn.specs.Items.{Array}
+use Rattle.cbor_edn.specs.Trees.{ListTree}
+use Rattle.cbor_edn.specs.Made.{element_tree}
+use Rattle.cbor_edn.specs.View.{item_tree}
+use Rattle.cbor_edn.proofs.Lists.{all_of_vec}
 use Rattle.cbor_edn_examples.proofs.made.gathered.Goals as goal
 
 pub returns : goal.returns

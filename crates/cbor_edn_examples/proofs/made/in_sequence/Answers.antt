@@ -1,9 +1,9 @@
 use Rattle.std.proofs.Common.{rules, ◌≡◌, map, ◌∙◌}
 use Rattle.std.proofs.lemmas.Result.{IfOk-weaker}
-use Rattle.cbor_edn_model.specs.tree.Constructed.{comma_sequence}
-use Rattle.cbor_edn_core.specs.tree.Constructed.{element_tree}
-use Rattle.cbor_edn_core.specs.tree.View.{sequence_tree}
-use Rattle.cbor_edn_application.proofs.Lists.{all_of_vec}
+use Rattle.cbor_edn.specs.Constructed.{comma_sequence}
+use Rattle.cbor_edn.specs.Made.{element_tree}
+use Rattle.cbor_edn.specs.View.{sequence_tree}
+use Rattle.cbor_edn.proofs.Lists.{all_of_vec}
 use Rattle.cbor_edn_examples.proofs.made.in_sequence.Goals as goal
 
 pub returns : goal.returns

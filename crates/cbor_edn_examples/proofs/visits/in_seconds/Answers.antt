@@ -1,7 +1,7 @@
 use Rattle.std.proofs.Common.{rules, refl, codes}
-use Rattle.cbor_edn_model.specs.visit.Visits.{comment}
-use Rattle.cbor_edn_application.proofs.ElementVisits.{elements_whole}
-use Rattle.cbor_edn_application.proofs.KnownResults.{on_visited}
+use Rattle.cbor_edn.specs.Visits.{comment}
+use Rattle.cbor_edn.proofs.ElementVisits.{elements_whole}
+use Rattle.cbor_edn.proofs.KnownResults.{on_visited}
 use Rattle.cbor_edn_examples.proofs.visits.in_seconds.Goals as goal
 
 pub returns : goal.returns

@@ -1,6 +1,6 @@
 use Rattle.std.proofs.Common.{rules, refl, ◌≡◌}
-use Rattle.cbor_edn_application.proofs.VisitChains.{items_visited}
-use Rattle.cbor_edn_conversions.specs.EmbeddedItems.{show_embedded}
+use Rattle.cbor_edn.proofs.VisitChains.{items_visited}
+use Rattle.cbor_edn.specs.EmbeddedItems.{show_embedded}
 use Rattle.cbor_edn_examples.proofs.visits.opened.Goals as goal
 
 pub returns : goal.returns

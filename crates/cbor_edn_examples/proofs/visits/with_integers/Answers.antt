@@ -1,7 +1,7 @@
 use Rattle.std.proofs.Common.{rules, refl}
-use Rattle.cbor_edn_application.proofs.VisitChains.{tags_visited}
-use Rattle.cbor_edn_conversions.proofs.nesting.TagDepths.{bignums_no_deeper}
-use Rattle.cbor_edn_conversions.specs.Bignums.{pretty_bignum}
+use Rattle.cbor_edn.proofs.VisitChains.{tags_visited}
+use Rattle.cbor_edn.proofs.TagDepths.{bignums_no_deeper}
+use Rattle.cbor_edn.specs.Bignums.{pretty_bignum}
 use Rattle.cbor_edn_examples.proofs.DepthsKept.{act_leaves}
 use Rattle.cbor_edn_examples.proofs.visits.with_integers.Goals as goal
 

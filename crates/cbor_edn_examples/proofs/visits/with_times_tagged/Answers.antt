@@ -1,6 +1,6 @@
 use Rattle.std.proofs.Common.{rules, refl}
-use Rattle.cbor_edn_application.proofs.KnownResults.{on_visited}
-use Rattle.cbor_edn_application.proofs.MapVisits.{map_whole}
+use Rattle.cbor_edn.proofs.KnownResults.{on_visited}
+use Rattle.cbor_edn.proofs.MapVisits.{map_whole}
 use Rattle.cbor_edn_examples.specs.Times.{as_time, at_any_key}
 use Rattle.cbor_edn_examples.proofs.visits.with_times_tagged.Goals as goal
 

@@ -1,6 +1,6 @@
 use Rattle.std.proofs.Common.{rules}
-use Rattle.cbor_edn_application.proofs.VisitChains.{literals_visited}
-use Rattle.cbor_edn_conversions.specs.Times.{resolve_time}
+use Rattle.cbor_edn.proofs.VisitChains.{literals_visited}
+use Rattle.cbor_edn.specs.Times.{resolve_time}
 use Rattle.cbor_edn_examples.proofs.visits.without_times.Goals as goal
 
 pub returns : goal.returns
