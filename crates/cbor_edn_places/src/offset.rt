@@ -46,8 +46,8 @@ fn text_with<'a>(
     copy.serialize(alloc)
 }
 
-/// Where the item to which a path leads begins in the text of a sequence, in bytes; the length of the text where it leads to none. With two
-/// items in its place that begin otherwise, the texts agree up to there.
+/// Where the item to which a path leads begins in the text of a sequence, in bytes. With two items in its place that begin otherwise, the
+/// texts agree up to there.
 pub fn offset_of(
     alloc: Global,
     sequence: &Sequence<'_>,

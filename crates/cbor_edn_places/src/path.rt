@@ -191,8 +191,8 @@ fn with_reason(
 }
 
 /// The path of the first item that means no value while each place in it means one, and why: none where all items mean values. Such an item
-/// is looked for among the items, and then in the first that means no value. It is all that is left of the sequence then. Takes time in the
-/// size of the text times the depth.
+/// is looked for among the items, and then in the first that means no value. Nothing may be used of what is left of the sequence. Takes
+/// time in the size of the text times the depth.
 pub fn first_valueless(
     alloc: Global,
     sequence: &mut Sequence<'_>,
