@@ -3,6 +3,7 @@ use Rattle.std.specs.Prelude.{◌≡◌, ◌≤◌, ℕ, List, Some, Ok}
 use Rattle.cbor_edn_model.specs.tree.Items.{nesting}
 use Rattle.cbor_edn_model.specs.tree.Trees.{Tree, OneItem, Seq, items}
 use Rattle.cbor_edn_conversions.specs.Conversions.{Reply}
+use Rattle.cbor_edn_terminal.specs.Terminal.{IsHarmlessInLines}
 use Rattle.cbor_edn_command.specs.Hexadecimal.{input_bytes}
 use Rattle.cbor_edn_command.specs.declared.options.Options.{Options}
 use Rattle.cbor_edn_command.specs.declared.file_options.ShowOptions.{ShowOptions}
@@ -33,3 +34,7 @@ abbrev pub ShownReadsBack : Type 0
 ShownReadsBack =
     (s : ShowOptions) (back : Options) (input bytes out : List ℕ) → input_bytes s.hex input ≡ Ok bytes → Encodes back → back.limit ≡ s.limit
     → IsShown s input out → IsOutput back out bytes × ((b : List ℕ) → IsOutput back out b → b ≡ bytes)
+
+-- What is shown acts on a terminal by no character but its line feeds,
+abbrev pub ShownActsOnNothing : Type 0
+ShownActsOnNothing = (s : ShowOptions) (input out : List ℕ) → IsShown s input out → IsHarmlessInLines out
