@@ -26,7 +26,7 @@ import sys
 import tempfile
 import threading
 
-import kit
+from gate import kit
 
 rt = kit.load()
 rtlib = rt.rtlib

@@ -11,4 +11,4 @@ set -euo pipefail
 
 cd "$(dirname "$(readlink -f "$0")")/.."
 command -v rt > /dev/null || { echo "quick: the Rattle toolchain (the command rt) must be on the PATH" >&2; exit 1; }
-exec python3 -B scripts/parts.py quick
+exec python3 -B scripts/gate/parts.py quick

@@ -7,9 +7,9 @@
 #
 # usage: scripts/test.sh [--all]
 #
-# With --all it takes no proof of an earlier run, tries all wrong bodies, and writes the record of those (scripts/check-wrong-bodies.sh).
+# With --all it takes no proof of an earlier run, tries all wrong bodies, and writes the record of those (scripts/gate/wrong_bodies.py).
 set -euo pipefail
 
 cd "$(dirname "$(readlink -f "$0")")/.."
 command -v rt > /dev/null || { echo "test: the Rattle toolchain (the command rt) must be on the PATH" >&2; exit 1; }
-exec python3 -B scripts/parts.py gate "$@"
+exec python3 -B scripts/gate/parts.py gate "$@"

@@ -65,7 +65,7 @@ _NO_OFFSET = ctypes.c_size_t(-1).value
 # Takes each message.
 _MESSAGE_ROOM = 160
 
-# The system's library, by the name that `scripts/build-c.sh` gives it.
+# The system's library, by the name that `scripts/build/c.sh` gives it.
 _SONAME = "libcbor_edn.so.0"
 
 
@@ -112,7 +112,7 @@ def _load():
         convert = ctypes.CDLL(file).cbor_edn_convert
     except (OSError, AttributeError) as error:
         raise ImportError(
-            f"{error}. Install the package libcbor-edn0, or make the library by scripts/build-c.sh of cbor-edn"
+            f"{error}. Install the package libcbor-edn0, or make the library by scripts/build/c.sh of cbor-edn"
             " and let CBOR_EDN_LIBRARY name its out/c/libcbor_edn.so"
         ) from None
     convert.restype = ctypes.c_uint32

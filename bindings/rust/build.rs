@@ -18,7 +18,7 @@ fn main() {
     println!("cargo:rerun-if-changed={}", archive.display());
     if !archive.exists() {
         stop(&format!(
-            "{} is missing: build it by scripts/build-c.sh, or install libcbor-edn-dev, and set CBOR_EDN_LIB to its folder",
+            "{} is missing: build it by scripts/build/c.sh, or install libcbor-edn-dev, and set CBOR_EDN_LIB to its folder",
             archive.display()
         ));
     }

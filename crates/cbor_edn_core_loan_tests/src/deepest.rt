@@ -1,4 +1,4 @@
-//! Paths and visits where trees nest as deep as texts may. `scripts/check-stack.sh` runs them under a small stack.
+//! Paths and visits where trees nest as deep as texts may. `scripts/gate/stack.sh` runs them under a small stack.
 use crate::common::standalone_of;
 use cbor_edn_core::tree::{NESTING_LIMIT, StandaloneItem};
 use cbor_edn_expect::failures::Failures;

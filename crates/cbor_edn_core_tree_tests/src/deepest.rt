@@ -1,4 +1,4 @@
-//! Trees that nest as deep as texts may: copies, encodings, spaces, indicators and visits. `scripts/check-stack.sh` runs
+//! Trees that nest as deep as texts may: copies, encodings, spaces, indicators and visits. `scripts/gate/stack.sh` runs
 //! them under a small stack.
 ghost use Rattle.std.specs.Prelude.{⊤};
 

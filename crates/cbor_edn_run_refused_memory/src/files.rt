@@ -85,10 +85,7 @@ fn show_digits(alloc: Global) -> Result<bool, Failure> {
 
 /// U+202E in a text.
 fn show_acting(alloc: Global) -> Result<bool, Failure> {
-    is_written(
-        shown(alloc, &SHOW, b"\x63\xe2\x80\xae"),
-        b"\"\\u{202e}\"\n",
-    )
+    is_written(shown(alloc, &SHOW, b"\x63\xe2\x80\xae"), b"\"\\u{202e}\"\n")
 }
 
 fn name(alloc: Global) -> Result<bool, Failure> {
