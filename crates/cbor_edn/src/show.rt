@@ -62,8 +62,8 @@ fn shown_text(
 ) -> Result<Vec<u8>, AllocError>
     ensures { IfOk result (λ out. (v : Tree Seq) × ShowGives options.now (sequence_tree sequence.old) v × IsWritten v out.items) }
 {
-    let text = printed(alloc, options, sequence)?;
-    let mut text = harmless_text(alloc, text)?;
+    let plain = printed(alloc, options, sequence)?;
+    let mut text = harmless_text(alloc, plain)?;
     end_line(&mut text)?;
     Ok(text)
 }
