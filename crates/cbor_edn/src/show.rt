@@ -2,7 +2,7 @@
 ghost use Rattle.std.specs.Prelude.{◌≡◌, ◌++◌, ◌&&◌, ◌||◌, IfOk, IfErr, OnOk};
 ghost use Rattle.std.specs.Str.{chars};
 ghost use Rattle.cbor_edn_parts.specs.space.Notes.{noted};
-ghost use Rattle.cbor_edn_terminal.specs.Terminal.{shown_text as told_text, IsHarmlessInLines};
+ghost use Rattle.cbor_edn_terminal.specs.Terminal.{shown_text as told_text};
 ghost use Rattle.cbor_edn_parts.specs.space.Spacing.{indented};
 ghost use Rattle.cbor_edn_core.specs.tree.View.{sequence_tree};
 ghost use Rattle.cbor_edn_model.specs.tree.Trees.{Tree, Seq};
@@ -154,8 +154,7 @@ fn name_messages(
 /// What is written of one file among several: a comment line with its name, as it is told, and what is shown of it. So what is written of
 /// all of them is one sequence.
 pub fn behind_name(alloc: Global, name: &str, text: &[u8]) -> Result<Vec<u8>, AllocError>
-    ensures named { IfOk result (λ out. out.items ≡ ended (ended (noted (told_text (chars name.now))) ++ text.now)) }
-    ensures acts_on_nothing { IfOk result (λ out. IsHarmlessInLines text.now → IsHarmlessInLines out.items) }
+    ensures { IfOk result (λ out. out.items ≡ ended (ended (noted (told_text (chars name.now))) ++ text.now)) }
 {
     let note = Space::note(alloc, &told(alloc, name)?)?;
     let mut out = Vec::new(alloc);

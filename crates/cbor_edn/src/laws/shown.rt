@@ -9,7 +9,7 @@ ghost use Rattle.cbor_edn_conversions.specs.Cose.{comment_cose};
 ghost use Rattle.cbor_edn_conversions.specs.CoseKeys.{with_key_names};
 ghost use Rattle.cbor_edn_conversions.specs.MessageClaims.{message_claims};
 ghost use Rattle.cbor_edn_conversions.specs.Times.{pretty_time};
-ghost use Rattle.cbor_edn.specs.ShowLaws.{ShownOnce, ShownOrFault, NeverDeepens, ShownNestsWithin, ShownActsOnNothing, ShownReadsBack};
+ghost use Rattle.cbor_edn.specs.ShowLaws.{ShownOnce, ShownOrFault, NeverDeepens, ShownNestsWithin, ShownActsOnNothing, NamedActsOnNothing, ShownReadsBack};
 
 /// An input is shown in one way, or it has a fault.
 pub fn shown_once()
@@ -37,5 +37,6 @@ pub fn shown_reads_back()
 
 /// What is shown acts on a terminal by its line feeds alone.
 pub fn shown_acts_on_nothing()
-    ensures { ShownActsOnNothing }
+    ensures shown { ShownActsOnNothing }
+    ensures named { NamedActsOnNothing }
 {}
