@@ -1,6 +1,6 @@
 -- What is shown, as the calls answer it, and its laws.
-use Rattle.std.proofs.Common.{◌≡◌, ℕ, List, sym, ap, subst, ◌∙◌}
-use Rattle.std.specs.Prelude.{◌-◌, not, Result, Ok, Err, IfOk, OnOk}
+use Rattle.std.proofs.Common.{◌≡◌, ◌≤◌, ℕ, Bool, true, false, List, [], ◌∷◌, ◌++◌, sym, ap, subst, ◌∙◌, arith}
+use Rattle.std.specs.Prelude.{◌-◌, if◌then◌else◌, not, Result, Ok, Err, IfOk, OnOk}
 use Rattle.std.specs.Str.{IsUtf8}
 use Rattle.std.specs.declared.alloc.AllocError.{AllocError}
 use Rattle.std.specs.declared.alloc.Global.{Global}
@@ -25,6 +25,15 @@ use Rattle.cbor_edn_conversions.proofs.conversions.MessagesKept.{message_claims_
 use Rattle.cbor_edn_conversions.proofs.embedded.ShownMeanings.{shown_means}
 use Rattle.cbor_edn_conversions.proofs.embedded.ShownVisits.{shown_at_once}
 use Rattle.cbor_edn_conversions.proofs.resolving.Resolved.{more_means}
+use Rattle.std.specs.Str.{chars}
+use Rattle.cbor_edn_parts.specs.space.Notes.{noted}
+use Rattle.cbor_edn_terminal.specs.Terminal.{shown_text, acts_in_lines, IsHarmlessInLines}
+use Rattle.cbor_edn_terminal.proofs.Harmless.{line_feed, shown_is_harmless}
+use Rattle.cbor_edn_harmless.specs.Harmless.{harmless}
+use Rattle.cbor_edn_harmless.specs.HarmlessLaws.{IsHarmlessText}
+use Rattle.cbor_edn_harmless.proofs.Kept.{harmless_keeps}
+use Rattle.cbor_edn_harmless.proofs.Notes.{note_acts_on_nothing}
+use Rattle.std.proofs.lemmas.Str.{NoCharPasses-append}
 use Rattle.cbor_edn_application.specs.Acts.{IsVisited}
 use Rattle.cbor_edn_application.proofs.VisitsTurn.{visit_keeps}
 use Rattle.cbor_edn_command.specs.FileOptions.{show_steps}
@@ -35,8 +44,8 @@ use Rattle.cbor_edn.specs.Format.{ended, is_ended}
 use Rattle.cbor_edn.specs.RunLaws.{Encodes, Fault, NoText, NoItems, NoEncodings, NoDigits, NoMeaning}
 use Rattle.cbor_edn.specs.RunSteps.{Where, IsLaidOut, TagsVisited}
 use Rattle.cbor_edn.specs.Runs.{IsDecodedAs, IsOutput, IsPrintedAs}
-use Rattle.cbor_edn.specs.Show.{AreShown, EmbeddedShown, IsShown, IsWritten, ShowGives}
-use Rattle.cbor_edn.specs.ShowLaws.{ShownOnce, ShownOrFault, ShownReadsBack}
+use Rattle.cbor_edn.specs.Show.{AreShown, EmbeddedShown, IsHarmlessOf, IsShown, IsWritten, ShowGives}
+use Rattle.cbor_edn.specs.ShowLaws.{ShownOnce, ShownOrFault, ShownActsOnNothing, ShownReadsBack}
 use Rattle.cbor_edn.proofs.Faults.{Faulty, faulty, digits_or_none}
 use Rattle.cbor_edn.proofs.LineFeeds.{spelled_ended, utf8_ended}
 use Rattle.cbor_edn.proofs.Returns.{printed_spells, spelled_again}
@@ -59,8 +68,12 @@ IsPrintedOf s w out = (v : Tree Seq) × ShowGives s w v × IsPrintedAs v out
 abbrev pub IsShownOf : ShowOptions → Tree Seq → List ℕ → Type 0
 IsShownOf s w out = (v : Tree Seq) × ShowGives s w v × IsWritten v out
 
-pub ended_text : (s : ShowOptions) (w : Tree Seq) (text out : List ℕ) → IsPrintedOf s w text → out ≡ ended text → IsShownOf s w out
-ended_text s w text out (v, gives, printed) is = (v, gives, (text, printed, is))
+pub ended_text : (s : ShowOptions) (w : Tree Seq) (text shown out : List ℕ) → IsPrintedOf s w text → ((v : Tree Seq) → IsPrintedAs v text → IsHarmlessOf v shown) → out ≡ ended shown → IsShownOf s w out
+ended_text s w text shown out (v, gives, printed) made is = (v, gives, (shown, made v printed, is))
+
+-- what a call makes of a text
+pub made_harmless : (written : List ℕ) (out : List ℕ) → IsHarmlessText written out → (v : Tree Seq) → IsPrintedAs v written → IsHarmlessOf v out
+made_harmless written out made v printed = (printed.0, subst IsUtf8 printed.2 printed.1, made v printed.0 (sym printed.2))
 
 pub printed_text : (s : ShowOptions) (o : Options) (w : Tree Seq) (between : Sequence) (r : Result (Vec ℕ Global) AllocError) → o ≡ show_steps s
     → ((v : Tree Seq) → IsLaidOut indented (sequence_tree between) v → ShowGives s w v)
@@ -81,7 +94,7 @@ shown_once s input a b (x, is, (w, v, decoded, gives, printed)) (y, also, (t, u,
     let bytes : x ≡ y = ok_same x y (sym is ∙ also) in
     let loaded : w ≡ t = decoded_once s.limit y w t (subst (λ z. IsDecodedAs s.limit z w) bytes decoded) read in
     let made : v ≡ u = gives_once s t v u (subst (λ z. ShowGives s z v) loaded gives) give in
-    let (text, texts, is_out) = subst (λ z. IsWritten z a) made printed in
+    let (shown, texts, is_out) = subst (λ z. IsWritten z a) made printed in
     let (other, others, is_other) = print in
     is_out ∙ (ap ended (texts.2 ∙ sym others.2) ∙ sym is_other)
 
@@ -116,13 +129,36 @@ gives_mean s bytes w v d gives =
     gives_kept (Means values) s (shown_kept values s) w v gives (more_means literal_resolver all_no_content (items w) values d.0.meant)
 
 again : (s : ShowOptions) (back : Options) (bytes out : List ℕ) → Encodes back → back.limit ≡ s.limit → AreShown s bytes out → IsOutput back out bytes
-again s back bytes out encodes same_limit (w, v, decoded, gives, (text, printed, is)) =
-    let spelled : SpellsSequence (items v) out = subst (SpellsSequence (items v)) (sym is) (spelled_ended (is_ended text) (items v) text (printed_spells v text printed)) in
-    let utf8 : IsUtf8 out = subst IsUtf8 (sym is) (utf8_ended (is_ended text) text printed.1) in
-    spelled_again back bytes out (items v) decoded.0.values s.limit encodes same_limit (gives_mean s bytes w v decoded gives) (shown_within s bytes w v decoded gives) decoded.0.encoded spelled utf8
+again s back bytes out encodes same_limit (w, v, decoded, gives, (shown, made, is)) =
+    let u = harmless v in
+    let h = harmless_keeps v made.0 made.1 in
+    let printed : IsPrintedAs u shown = (h.valid, subst IsUtf8 (sym made.2) h.utf8, made.2) in
+    let spelled : SpellsSequence (items u) out = subst (SpellsSequence (items u)) (sym is) (spelled_ended (is_ended shown) (items u) shown (printed_spells u shown printed)) in
+    let utf8 : IsUtf8 out = subst IsUtf8 (sym is) (utf8_ended (is_ended shown) shown printed.1) in
+    let meant : Means decoded.0.values (items u) = h.meaning ∙ gives_mean s bytes w v decoded gives in
+    let within : nesting (items u) ≤ s.limit = omega (arith, h.nested, shown_within s bytes w v decoded gives) in
+    spelled_again back bytes out (items u) decoded.0.values s.limit encodes same_limit meant within decoded.0.encoded spelled utf8
 
 pub shown_reads_back : ShownReadsBack
 shown_reads_back s back input bytes out is encodes same_limit (x, read, shown) =
     let same : x ≡ bytes = ok_same x bytes (sym read ∙ is) in
     let output = again s back bytes out encodes same_limit (subst (λ z. AreShown s z out) same shown) in
     (output, λ b other. one_output back out b bytes other output)
+
+-- ---- on a terminal
+
+ended_in_lines : (b : Bool) (text : List ℕ) → IsHarmlessInLines text → IsHarmlessInLines (if b then text else text ++ (10 ∷ []))
+ended_in_lines true text h = h
+ended_in_lines false text h = NoCharPasses-append acts_in_lines text (10 ∷ []) h line_feed
+
+pub shown_acts_on_nothing : ShownActsOnNothing
+shown_acts_on_nothing s input out (x, read, (w, v, decoded, gives, (shown, made, is))) =
+    let quiet : IsHarmlessInLines shown = subst IsHarmlessInLines (sym made.2) (harmless_keeps v made.0 made.1).acts_on_nothing in
+    subst IsHarmlessInLines (sym is) (ended_in_lines (is_ended shown) shown quiet)
+
+-- one file among several, behind its name
+pub named_acts_on_nothing : (name text : List ℕ) → IsHarmlessInLines text → IsHarmlessInLines (ended (ended (noted (shown_text (chars name))) ++ text))
+named_acts_on_nothing name text h =
+    let note = noted (shown_text (chars name)) in
+    let told = ended_in_lines (is_ended note) note (note_acts_on_nothing (shown_text (chars name)) (shown_is_harmless (chars name))) in
+    ended_in_lines (is_ended (ended note ++ text)) (ended note ++ text) (NoCharPasses-append acts_in_lines (ended note) text told h)

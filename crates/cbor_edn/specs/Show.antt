@@ -1,8 +1,9 @@
 -- What `show` writes of some CBOR.
 use Rattle.std.specs.Prelude.{◌≡◌, ℕ, ◌-◌, List, Ok}
+use Rattle.std.specs.Str.{IsUtf8}
 use Rattle.cbor_edn_parts.specs.space.Spacing.{indented}
 use Rattle.cbor_edn_model.specs.tree.Items.{nesting}
-use Rattle.cbor_edn_model.specs.tree.Trees.{Tree, Seq, items}
+use Rattle.cbor_edn_model.specs.tree.Trees.{Tree, Seq, Valid, items, text}
 use Rattle.cbor_edn_conversions.specs.Bignums.{pretty_bignum}
 use Rattle.cbor_edn_conversions.specs.Cose.{comment_cose}
 use Rattle.cbor_edn_conversions.specs.CoseKeys.{with_key_names}
@@ -12,9 +13,10 @@ use Rattle.cbor_edn_application.specs.Sequences.{with_each}
 use Rattle.cbor_edn_command.specs.FileOptions.{show_steps}
 use Rattle.cbor_edn_command.specs.Hexadecimal.{input_bytes}
 use Rattle.cbor_edn_command.specs.declared.file_options.ShowOptions.{ShowOptions}
+use Rattle.cbor_edn_harmless.specs.Harmless.{harmless}
 use Rattle.cbor_edn.specs.Format.{ended}
 use Rattle.cbor_edn.specs.RunSteps.{Step, Where, InTurn, IsLaidOut, TagsVisited, HasClaims, AnnotatesTags}
-use Rattle.cbor_edn.specs.Runs.{IsDecodedAs, IsPrintedAs, IsRefused}
+use Rattle.cbor_edn.specs.Runs.{IsDecodedAs, IsRefused}
 use Rattle.cbor_edn.specs.declared.engine.RunError.{RunError}
 
 -- ---- the steps
@@ -45,9 +47,13 @@ ShowGives s =
 
 -- ---- what is written
 
--- the text of a tree, with a line feed at its end
+-- the text of a tree without what acts on a terminal
+abbrev pub IsHarmlessOf : Tree Seq → List ℕ → Type 0
+IsHarmlessOf v out = Valid v × IsUtf8 (text v) × (out ≡ text (harmless v))
+
+-- the same with a line feed at its end
 abbrev pub IsWritten : Tree Seq → List ℕ → Type 0
-IsWritten v out = (text : List ℕ) × IsPrintedAs v text × (out ≡ ended text)
+IsWritten v out = (shown : List ℕ) × IsHarmlessOf v shown × (out ≡ ended shown)
 
 -- the text that is written of some bytes
 abbrev pub AreShown : ShowOptions → List ℕ → List ℕ → Type 0

@@ -1,11 +1,15 @@
 -- The laws of `show`, as contracts name them.
-use Rattle.std.specs.Prelude.{◌≡◌, ◌≤◌, ℕ, List, Some, Ok}
+use Rattle.std.specs.Prelude.{◌≡◌, ◌≤◌, ◌++◌, ℕ, List, Some, Ok}
 use Rattle.cbor_edn_model.specs.tree.Items.{nesting}
 use Rattle.cbor_edn_model.specs.tree.Trees.{Tree, OneItem, Seq, items}
 use Rattle.cbor_edn_conversions.specs.Conversions.{Reply}
+use Rattle.cbor_edn_terminal.specs.Terminal.{shown_text, IsHarmlessInLines}
 use Rattle.cbor_edn_command.specs.Hexadecimal.{input_bytes}
 use Rattle.cbor_edn_command.specs.declared.options.Options.{Options}
 use Rattle.cbor_edn_command.specs.declared.file_options.ShowOptions.{ShowOptions}
+use Rattle.std.specs.Str.{chars}
+use Rattle.cbor_edn_parts.specs.space.Notes.{noted}
+use Rattle.cbor_edn.specs.Format.{ended}
 use Rattle.cbor_edn.specs.RunLaws.{Encodes, Fault, fault_of}
 use Rattle.cbor_edn.specs.Runs.{IsDecodedAs, IsOutput}
 use Rattle.cbor_edn.specs.Show.{IsShown, IsUnshown, ShowGives}
@@ -33,3 +37,11 @@ abbrev pub ShownReadsBack : Type 0
 ShownReadsBack =
     (s : ShowOptions) (back : Options) (input bytes out : List ℕ) → input_bytes s.hex input ≡ Ok bytes → Encodes back → back.limit ≡ s.limit
     → IsShown s input out → IsOutput back out bytes × ((b : List ℕ) → IsOutput back out b → b ≡ bytes)
+
+-- What is shown acts on a terminal by no character but its line feeds,
+abbrev pub ShownActsOnNothing : Type 0
+ShownActsOnNothing = (s : ShowOptions) (input out : List ℕ) → IsShown s input out → IsHarmlessInLines out
+
+-- and so does what is written of a file behind its name.
+abbrev pub NamedActsOnNothing : Type 0
+NamedActsOnNothing = (name text : List ℕ) → IsHarmlessInLines text → IsHarmlessInLines (ended (ended (noted (shown_text (chars name))) ++ text))

@@ -1,6 +1,8 @@
 //! CBOR as it is shown, with the CBOR in its byte strings and with the names of COSE.
 ghost use Rattle.std.specs.Prelude.{◌≡◌, ◌++◌, ◌&&◌, ◌||◌, IfOk, IfErr, OnOk};
+ghost use Rattle.std.specs.Str.{chars};
 ghost use Rattle.cbor_edn_parts.specs.space.Notes.{noted};
+ghost use Rattle.cbor_edn_terminal.specs.Terminal.{shown_text as told_text};
 ghost use Rattle.cbor_edn_parts.specs.space.Spacing.{indented};
 ghost use Rattle.cbor_edn_core.specs.tree.View.{sequence_tree};
 ghost use Rattle.cbor_edn_model.specs.tree.Trees.{Tree, Seq};
@@ -9,7 +11,7 @@ ghost use Rattle.cbor_edn_command.specs.FileOptions.{show_steps};
 ghost use Rattle.cbor_edn.specs.Format.{ended};
 ghost use Rattle.cbor_edn.specs.RunSteps.{Where, IsLaidOut, TagsVisited};
 ghost use Rattle.cbor_edn.specs.Runs.{IsPrintedAs};
-ghost use Rattle.cbor_edn.specs.Show.{AreShown, ClaimsAnnotated, EmbeddedShown, IsShown, IsUnshown, IsWritten, ShowGives};
+ghost use Rattle.cbor_edn.specs.Show.{AreShown, ClaimsAnnotated, EmbeddedShown, IsHarmlessOf, IsShown, IsUnshown, IsWritten, ShowGives};
 ghost use Rattle.cbor_edn.specs.OptionSteps.{IsUndiagnosed};
 
 use crate::boxed::boxed;
@@ -22,11 +24,13 @@ use cbor_edn_application::visits::{
 pub use cbor_edn_command::file_options::ShowOptions;
 use cbor_edn_command::hexadecimal;
 use cbor_edn_core::tree::Sequence;
+use cbor_edn_harmless::harmless;
 use cbor_edn_parts::space::Space;
+use cbor_edn_terminal::shown as told;
 use std::alloc::{AllocError, Global};
 
-/// All that `show` writes for an input, which is CBOR, or digits of CBOR where `hex` is set. It ends in a line feed. Fails with `Cbor`,
-/// with `Hex` and with `Memory`, where a run of `Cbor2Diag` does; no other error comes.
+/// All that `show` writes for an input, which is CBOR, or digits of CBOR where `hex` is set. It ends in a line feed, and acts on a terminal
+/// by no other character. Fails with `Cbor`, with `Hex` and with `Memory`, where a run of `Cbor2Diag` does; no other error comes.
 pub fn shown(alloc: Global, options: &ShowOptions, input: &[u8]) -> Result<Vec<u8>, RunError>
     ensures ok { IfOk result (λ out. IsShown options.now input.now out.items) }
     ensures err { IfErr result (IsUnshown options.now input.now) }
@@ -58,9 +62,20 @@ fn shown_text(
 ) -> Result<Vec<u8>, AllocError>
     ensures { IfOk result (λ out. (v : Tree Seq) × ShowGives options.now (sequence_tree sequence.old) v × IsWritten v out.items) }
 {
-    let mut text = printed(alloc, options, sequence)?;
+    let plain = printed(alloc, options, sequence)?;
+    let mut text = harmless_text(alloc, plain)?;
     end_line(&mut text)?;
     Ok(text)
+}
+
+/// A text of items without what acts on a terminal.
+fn harmless_text(alloc: Global, text: Vec<u8>) -> Result<Vec<u8>, AllocError>
+    ensures { IfOk result (λ out. (v : Tree Seq) → IsPrintedAs v text.items → IsHarmlessOf v out.items) }
+{
+    match String::from_utf8(text) {
+        Ok(text) => Ok(harmless(alloc, text)?.into_bytes()),
+        Err(fault) => Ok(fault.into_bytes()),
+    }
 }
 
 /// The text of items that were decoded, without a line feed at its end, where it ends in a comment.
@@ -136,12 +151,12 @@ fn name_messages(
     }
 }
 
-/// What is written of one file among several: a comment line with its name, and what is shown of it. So what is written of all of them is
-/// one sequence.
+/// What is written of one file among several: a comment line with its name, as it is told, and what is shown of it. So what is written of
+/// all of them is one sequence.
 pub fn behind_name(alloc: Global, name: &str, text: &[u8]) -> Result<Vec<u8>, AllocError>
-    ensures { IfOk result (λ out. out.items ≡ ended (ended (noted name.now) ++ text.now)) }
+    ensures { IfOk result (λ out. out.items ≡ ended (ended (noted (told_text (chars name.now))) ++ text.now)) }
 {
-    let note = Space::note(alloc, name)?;
+    let note = Space::note(alloc, &told(alloc, name)?)?;
     let mut out = Vec::new(alloc);
     out.extend_from_slice(note.as_str().as_bytes())?;
     end_line(&mut out)?;

@@ -3,3 +3,4 @@ mod Completions
 mod FirstOffsets
 mod FoundOffsets
 pub mod ToldPlaces
+mod ToldLines

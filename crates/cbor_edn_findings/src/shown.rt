@@ -1,11 +1,12 @@
 //! The lines that tell of what is found, for people: nothing of an input acts on a terminal.
-ghost use Rattle.std.specs.Prelude.{◌≡◌, ◌++◌, IfOk, OnOk, string_bytes};
+ghost use Rattle.std.specs.Prelude.{◌≡◌, IfOk, OnOk, replicate, string_bytes};
 ghost use Rattle.std.specs.Str.{chars};
 ghost use Rattle.cbor_edn_findings.specs.Findings.{IsValidPart};
-ghost use Rattle.cbor_edn_findings.specs.Shown as words;
-ghost use Rattle.cbor_edn_findings.specs.Shown.{shown_character, shown_text, IsTold};
+ghost use Rattle.cbor_edn_findings.specs.Shown.{AreShown, IsMarked, IsTold};
+ghost use Rattle.cbor_edn_terminal.specs.Terminal.{shown_text, IsHarmlessInLines};
 
 use crate::finding::Finding;
+use cbor_edn_terminal::{push_shown, shown};
 use std::alloc::{AllocError, Global};
 use std::str::from_utf8;
 
@@ -31,88 +32,69 @@ pub(crate) fn valid_part(input: &[u8]) -> &str
     }
 }
 
-/// Whether a terminal may act on a character, or turns or hides text by it.
-fn is_unsafe(character: char) -> bool
-    ensures { result ≡ words.is_unsafe character }
-{
-    character.is_control()
-        || matches!(character, '\u{200b}'..='\u{200f}' | '\u{2028}'..='\u{202e}' | '\u{2060}'..='\u{206f}' | '\u{feff}')
-}
-
-/// A tab as one space, so that a caret stands below its place, and what is unsafe by its number.
-fn push_shown(out: &mut String, character: char) -> Result<(), AllocError>
-    ensures { OnOk result (string_bytes out.new ≡ string_bytes out.old ++ shown_character character) }
-{
-    if character == '\t' {
-        return out.push(' ');
-    }
-    if is_unsafe(character) {
-        let number = u32::from(character);
-        let number = format!(in *out.allocator(); "<U+{number:04X}>")?;
-        return out.push_str(&number);
-    }
-    out.push(character)
-}
-
-/// A name or a message as it is shown: characters that a terminal may act on stand as `<U+001B>`, and a tab as a space.
-pub fn shown(alloc: Global, text: &str) -> Result<String, AllocError>
-    ensures { IfOk result (λ s. string_bytes s ≡ shown_text (chars text.now)) }
-{
-    let mut out = String::new(alloc);
-    for character in text.chars() {
-        push_shown(&mut out, character)?;
-    }
-    Ok(out)
-}
-
 /// A line by its number from 1, without what ends it.
 fn line_of(text: &str, number: usize) -> &str {
     let line = text.split('\n').nth(number.saturating_sub(1)).unwrap_or("");
     line.strip_suffix('\r').unwrap_or(line)
 }
 
-/// So many spaces.
-fn push_spaces(out: &mut String, count: usize) -> Result<(), AllocError> {
-    for _ in 0..count {
-        out.push(' ')?;
+/// A character of a line, where it is near the place.
+fn push_near(out: &mut String, is_near: bool, character: char) -> Result<(), AllocError>
+    ensures { OnOk result (AreShown (string_bytes out.old) → AreShown (string_bytes out.new)) }
+{
+    if is_near {
+        push_shown(out, character)
+    } else {
+        Ok(())
     }
-    Ok(())
+}
+
+/// What stands for characters that are left out, where some are.
+fn cut_mark(alloc: Global, is_cut: bool) -> Result<String, AllocError>
+    ensures { IfOk result (λ s. AreShown (string_bytes s)) }
+{
+    shown(alloc, if is_cut { CUT } else { "" })
 }
 
 /// The characters of a line near a column, and the column's place among what is shown.
-fn cut_line(alloc: Global, line: &str, column: usize) -> Result<(String, usize), AllocError> {
+fn cut_line(alloc: Global, line: &str, column: usize) -> Result<(String, usize), AllocError>
+    ensures { IfOk result (λ cut. AreShown (string_bytes cut.0)) }
+{
     let first = column.saturating_sub(BEFORE);
     let last = column.saturating_add(BEHIND);
-    let mut out = String::from_str(alloc, if first > 1 { CUT } else { "" })?;
+    let mut out = cut_mark(alloc, first > 1)?;
+    let mut at: usize = 0;
     let mut place = None;
-    for (at, c) in line.chars().enumerate() {
-        if at >= last {
-            out.push_str(CUT)?;
-            break;
+    for character in line.chars() {
+        at = at.saturating_add(1);
+        if at == column {
+            place = Some(out.chars().count());
         }
-        if at.saturating_add(1) >= first {
-            if at.saturating_add(1) == column {
-                place = Some(out.chars().count());
-            }
-            push_shown(&mut out, c)?;
-        }
+        push_near(&mut out, at >= first && at <= last, character)?;
     }
     let place = place.unwrap_or(out.chars().count());
+    out.push_str(&cut_mark(alloc, at > last)?)?;
     Ok((out, place))
 }
 
-/// The line of a place, cut to what stands near it, and a caret below the place.
-fn marked_line(
-    alloc: Global,
-    text: &str,
-    line: usize,
-    column: usize,
-) -> Result<String, AllocError> {
-    let (mut out, place) = cut_line(alloc, line_of(text, line), column)?;
-    out.push('\n')?;
-    push_spaces(&mut out, place)?;
-    out.push_str("^\n")?;
+/// So many spaces.
+fn spaces(alloc: Global, count: usize) -> Result<String, AllocError>
+    ensures { IfOk result (λ s. string_bytes s ≡ replicate count 32) }
+{
+    let mut out = String::new(alloc);
+    for _ in 0..count {
+        out.push(' ')?;
+    }
     Ok(out)
+}
+
+/// The line of a place, cut to what stands near it, and a caret below the place.
+fn marked_line(alloc: Global, text: &str, line: usize, column: usize) -> Result<String, AllocError>
+    ensures { IfOk result (λ s. IsMarked (string_bytes s)) }
+{
+    let (near, place) = cut_line(alloc, line_of(text, line), column)?;
+    let spaces = spaces(alloc, place)?;
+    format!(in alloc; "{near}\n{spaces}^\n")
 }
 
 /// The lines that tell of a finding in an input of this name, each ended: `NAME:LINE:COLUMN: WORDS`, the line of the text and a caret below
@@ -123,7 +105,8 @@ pub fn lines(
     input: &[u8],
     finding: &Finding,
 ) -> Result<String, AllocError>
-    ensures { IfOk result (λ s. IsTold (shown_text (chars name.now)) finding.now (string_bytes s)) }
+    ensures told { IfOk result (λ s. IsTold (shown_text (chars name.now)) finding.now (string_bytes s)) }
+    ensures acts_on_nothing { IfOk result (λ s. IsHarmlessInLines (string_bytes s)) }
 {
     let name = shown(alloc, name)?;
     match finding {
@@ -133,12 +116,17 @@ pub fn lines(
             column,
             ..
         } => {
+            let words = shown(alloc, words)?;
             let marked = marked_line(alloc, valid_part(input), *line, *column)?;
             format!(in alloc; "{name}:{line}:{column}: {words}\n{marked}")
         }
         Finding::InBytes { words, offset } => {
+            let words = shown(alloc, words)?;
             format!(in alloc; "{name}: {words} (byte {offset})\n")
         }
-        Finding::Nowhere { words } => format!(in alloc; "{name}: {words}\n"),
+        Finding::Nowhere { words } => {
+            let words = shown(alloc, words)?;
+            format!(in alloc; "{name}: {words}\n")
+        }
     }
 }

@@ -4,7 +4,7 @@ use cbor_edn::NESTING_LIMIT;
 use cbor_edn::engine::{Command, Options};
 use cbor_edn_expect::failures::Failures;
 use cbor_edn_findings::finding::in_input;
-use cbor_edn_findings::shown::{lines, shown};
+use cbor_edn_findings::shown::lines;
 use std::alloc::{AllocError, Global};
 use std::test::Fail;
 
@@ -38,6 +38,11 @@ const TEXTS: &[(&str, &str)] = &[
     (
         "\"\t\" \"\u{1b}\"",
         "f:1:2: Invalid EDN\n\" \" \"<U+001B>\"\n ^\n",
+    ),
+    // what turns text, in front of the place
+    (
+        "[\"\u{61c}\u{ad}\", 1.5]",
+        "f:1:8: Number has no encoding\n[\"<U+061C><U+00AD>\", 1.5]\n                     ^\n",
     ),
     (
         "{1: dt'1970-01-01T00:00:23Z',\n 2: [3, <<4, 1.5>>]}\n",
@@ -130,19 +135,5 @@ fn bytes(rt: HostRuntime) -> Result<(), Fail> {
         let answer = told(alloc, &options, &input)?;
         failures.row(alloc, digits, &answer, wanted)?;
     }
-    failures.end()
-}
-
-/// A line that is cut, and a name with a control character (ECMA-48).
-#[test]
-fn terminals(rt: HostRuntime) -> Result<(), Fail> {
-    let alloc = rt.alloc();
-    let mut failures = Failures::new(alloc);
-    failures.row(
-        alloc,
-        "a name",
-        &shown(alloc, "a\u{1b}\u{202e}b")?,
-        "a<U+001B><U+202E>b",
-    )?;
     failures.end()
 }

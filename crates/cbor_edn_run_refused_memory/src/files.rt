@@ -14,6 +14,7 @@ use std::alloc::Global;
 pub(crate) enum Call {
     Show,
     ShowDigits,
+    ShowActing,
     Name,
     Format,
     Read,
@@ -24,6 +25,7 @@ pub(crate) enum Call {
 pub(crate) const CALLS: &[(&str, Call)] = &[
     ("show::shown", Call::Show),
     ("show::shown, digits", Call::ShowDigits),
+    ("show::shown, what acts on a terminal", Call::ShowActing),
     ("show::behind_name", Call::Name),
     ("format::formatted", Call::Format),
     ("file_words::file_command", Call::Read),
@@ -35,6 +37,7 @@ pub(crate) fn called(alloc: Global, call: Call) -> Result<bool, Failure> {
     match call {
         Call::Show => show(alloc),
         Call::ShowDigits => show_digits(alloc),
+        Call::ShowActing => show_acting(alloc),
         Call::Name => name(alloc),
         Call::Format => format(alloc),
         Call::Read => read(alloc),
@@ -80,8 +83,14 @@ fn show_digits(alloc: Global) -> Result<bool, Failure> {
     is_written(shown(alloc, &options, b"43 a1 01 26"), b"<<{1: -7}>>\n")
 }
 
+/// U+202E in a text.
+fn show_acting(alloc: Global) -> Result<bool, Failure> {
+    is_written(shown(alloc, &SHOW, b"\x63\xe2\x80\xae"), b"\"\\u{202e}\"\n")
+}
+
 fn name(alloc: Global) -> Result<bool, Failure> {
-    Ok(behind_name(alloc, "d/a", b"1")?.as_slice() == b"# d/a\n1\n".as_slice())
+    let text = behind_name(alloc, "d/\u{1b}", b"1")?;
+    Ok(text.as_slice() == b"# d/<U+001B>\n1\n".as_slice())
 }
 
 fn format(alloc: Global) -> Result<bool, Failure> {

@@ -1,5 +1,5 @@
 //! What `show` and `fmt` write of an input.
-use cbor_edn::engine::{Command, RunError};
+use cbor_edn::engine::{Command, Options, RunError, converted};
 use cbor_edn::file_options::{CheckOptions, FormatOptions, ShowOptions};
 use cbor_edn::format::formatted;
 use cbor_edn::show::{behind_name, shown};
@@ -117,6 +117,24 @@ const ROWS: &[(&str, ShowOptions, &str)] = &[
     ),
 ];
 
+/// Digits of CBOR with texts that act on a terminal, and how they are shown: U+202E, U+061C, U+00AD, DEL, U+0085 and U+2028 by their
+/// numbers. A line feed and a variation selector stay.
+const ACTING: &[(&str, &str)] = &[
+    ("63e280ae", "\"\\u{202e}\"\n"),
+    ("62d89c", "\"\\u{61c}\"\n"),
+    ("62c2ad", "\"\\u{ad}\"\n"),
+    ("617f", "\"\\u{7f}\"\n"),
+    ("62c285", "\"\\u{85}\"\n"),
+    ("63e280a8", "\"\\u{2028}\"\n"),
+    ("64f3a08181", "\"\\u{e0041}\"\n"),
+    ("620a0d", "\"\n\\r\"\n"),
+    ("66e29da4efb88f", "\"\u{2764}\u{fe0f}\"\n"),
+    ("a163e280ae617f", "{\"\\u{202e}\": \"\\u{7f}\"}\n"),
+    ("7f62c285617fff", "(_ \"\\u{85}\", \"\\u{7f}\")\n"),
+    ("d820617f", "32(\"\\u{7f}\")\n"),
+    ("448162c29b", "<<[\"\\u{9b}\"]>>\n"),
+];
+
 fn text_of(alloc: Global, options: &ShowOptions, input: &[u8]) -> Result<String, Fail> {
     match shown(alloc, options, input) {
         Ok(bytes) => Ok(String::from_utf8(bytes)?),
@@ -135,6 +153,39 @@ fn shows(rt: HostRuntime) -> Result<(), Fail> {
             text_of(alloc, options, digits.as_bytes()),
             wanted,
         )?;
+    }
+    failures.end()
+}
+
+const BACK: Options = Options {
+    command: Command::Diag2Cbor,
+    hex: true,
+    annotate_tags: false,
+    apply_999: false,
+    aol_to_item: false,
+    bignum_from_tags: false,
+    annotate_ccs: false,
+    remove_comments: false,
+    preserve_space: true,
+    limit: NESTING_LIMIT,
+};
+
+/// What is shown is encoded as the bytes again (RFC 8949).
+fn read_back(alloc: Global, text: &str) -> Result<String, Fail> {
+    match converted(alloc, &BACK, text.as_bytes()) {
+        Ok(bytes) => Ok(String::from_str(alloc, String::from_utf8(bytes)?.trim())?),
+        Err(fault) => Ok(fault.to_string(alloc)?),
+    }
+}
+
+#[test]
+fn acts_on_nothing(rt: HostRuntime) -> Result<(), Fail> {
+    let alloc = rt.alloc();
+    let mut failures = Failures::new(alloc);
+    for (digits, wanted) in ACTING {
+        let text = text_of(alloc, &SHOW, digits.as_bytes())?;
+        failures.row(alloc, digits, &text, wanted)?;
+        failures.told(alloc, digits, read_back(alloc, &text), digits)?;
     }
     failures.end()
 }
@@ -166,7 +217,8 @@ fn refuses_what_is_not_shown(rt: HostRuntime) {
 const NAMED: &[(&str, &str, &str)] = &[
     ("a.cbor", "[1]\n", "/ a.cbor /\n[1]\n"),
     ("d/a.cbor", "[1]\n", "# d/a.cbor\n[1]\n"),
-    ("a\u{1b}\nb", "1/c/", "/ a \nb /\n1/c/\n"),
+    ("a\u{1b}\nb", "1/c/", "/ a<U+001B><U+000A>b /\n1/c/\n"),
+    ("a\u{202e}.cbor", "1\n", "/ a<U+202E>.cbor /\n1\n"),
     ("", "", "/  /\n"),
 ];
 

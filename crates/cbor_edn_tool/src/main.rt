@@ -6,6 +6,7 @@ mod files;
 use cbor_edn::engine::{Options, RunError, Source, StdSink, StdSource, run, serve};
 use cbor_edn::file_words::is_file_command;
 use cbor_edn::words::{Conversion, conversion_of};
+use cbor_edn_terminal::shown_lines;
 use files::whole::put_output;
 use std::env;
 use std::fs::{self, File, Metadata, OpenFile, OpenOptions};
@@ -116,10 +117,26 @@ fn shown(rt: &HostRuntime, error: &clap::Error) -> u8 {
         return fault(rt, OUT_OF_MEMORY);
     }
     let status = u8::try_from(error.exit_code()).unwrap_or(MISUSE);
+    if status != 0 {
+        return misused(rt, error, status);
+    }
     match error.print(rt) {
         Ok(()) => status,
-        Err(_) if status == 0 => fault(rt, "Error writing output"),
-        Err(_) => status,
+        Err(_) => fault(rt, "Error writing output"),
+    }
+}
+
+/// Tells of words that are no command line. They may stand in the message, and act on no terminal.
+fn misused(rt: &HostRuntime, error: &clap::Error, status: u8) -> u8 {
+    let Ok(message) = error.to_string(rt.alloc()) else {
+        return fault(rt, OUT_OF_MEMORY);
+    };
+    match shown_lines(rt.alloc(), &message) {
+        Ok(message) => {
+            let _ = eprint!(rt; "{message}");
+            status
+        }
+        Err(_) => fault(rt, OUT_OF_MEMORY),
     }
 }
 

@@ -8,7 +8,7 @@ import cbor
 
 BLANKS = "\t\n\r "
 # what comments and quoted texts are made of: brackets and quotes, controls that may stand there, other planes, marks of direction
-CHARACTERS = "abcXYZ019 _-+.,:;/\\\"'#()[]{}<>=%\n\n\t\r\b\f\0\x1b\x7f\u0080\u009b\u00a0é\u202e\u2066\ufeff\uffff\U0001f600\U0010ffff"
+CHARACTERS = "abcXYZ019 _-+.,:;/\\\"'#()[]{}<>=%\n\n\t\r\b\f\0\x1b\x7f\u0080\u009b\u00a0\u00adé\u061c\u2028\u202e\u2066\ufe0f\ufeff\uffff\U0001f600\U000e0041\U0010ffff"
 ESCAPES = {"\b": "\\b", "\f": "\\f", "\n": "\\n", "\r": "\\r", "\t": "\\t", "/": "\\/", "\\": "\\\\"}
 INDICATORS = [None] * 12 + ["", "i", "0", "1", "2", "3"]
 DAMAGE = b"[]{}()<>\"'\\/#_+-.,:0159abehiptux \n\r\t\0\x1b\x7f\x80\xc3\xe2\xf0\xff"

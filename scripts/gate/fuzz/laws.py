@@ -13,6 +13,12 @@ from runs import Problem, expect, expect_place, expect_place_of_file, fault, fau
 
 LIMIT = 512
 LINE = 64
+# What acts on a terminal, turns text or hides it, but line feeds: Unicode's Cc, Bidi_Control, Zl, Zp and Default_Ignorable_Code_Point without
+# the variation selectors up to U+FE0F, and U+FFF9 to U+FFFB.
+ACTING = re.compile(
+    "[\0-\t\x0b-\x1f\x7f-\x9f\xad\u034f\u061c\u115f\u1160\u17b4\u17b5\u180b-\u180f\u200b-\u200f\u2028-\u202e\u2060-\u206f"
+    "\u3164\ufeff\uffa0\ufff0-\ufffb\U0001bca0-\U0001bca3\U0001d173-\U0001d17a\U000e0000-\U000e0fff]"
+)
 MARK = re.compile(r"[\[{(]|<<")
 # With these flags `diag2diag` changes nothing.
 EXACT = ["--preserve-space", "--no-bignum-from-tags"]
@@ -178,7 +184,12 @@ def show(data, limit, flags):
     expect(written(data), run(["diag2cbor", *limited(limit)], ended.output))
     _, _, claims, bignums = steps(flags, True)
     items = cose.shown(embedded.shown(items, levels(flags), limit), claims, "--no-names" not in flags, bignums)
-    expect(written(with_line_feed(layout.laid_out(",".join(map(layout.text_of, items)))).encode()), ended)
+    expect(written(escaped(with_line_feed(layout.laid_out(",".join(map(layout.text_of, items))))).encode()), ended)
+
+
+def escaped(text):
+    """A text in which line feeds alone act on a terminal: the other characters that do stand in quotes."""
+    return ACTING.sub(lambda found: f"\\u{{{ord(found[0]):x}}}", text)
 
 
 def with_line_feed(text):

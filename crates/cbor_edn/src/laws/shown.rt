@@ -9,7 +9,7 @@ ghost use Rattle.cbor_edn_conversions.specs.Cose.{comment_cose};
 ghost use Rattle.cbor_edn_conversions.specs.CoseKeys.{with_key_names};
 ghost use Rattle.cbor_edn_conversions.specs.MessageClaims.{message_claims};
 ghost use Rattle.cbor_edn_conversions.specs.Times.{pretty_time};
-ghost use Rattle.cbor_edn.specs.ShowLaws.{ShownOnce, ShownOrFault, NeverDeepens, ShownNestsWithin, ShownReadsBack};
+ghost use Rattle.cbor_edn.specs.ShowLaws.{ShownOnce, ShownOrFault, NeverDeepens, ShownNestsWithin, ShownActsOnNothing, NamedActsOnNothing, ShownReadsBack};
 
 /// An input is shown in one way, or it has a fault.
 pub fn shown_once()
@@ -33,4 +33,10 @@ pub fn shown_within()
 /// What is shown of some bytes, `Diag2Cbor` encodes as these bytes again.
 pub fn shown_reads_back()
     ensures { ShownReadsBack }
+{}
+
+/// What is shown acts on a terminal by its line feeds alone.
+pub fn shown_acts_on_nothing()
+    ensures shown { ShownActsOnNothing }
+    ensures named { NamedActsOnNothing }
 {}

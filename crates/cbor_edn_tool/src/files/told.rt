@@ -2,7 +2,8 @@
 
 use cbor_edn::engine::{Options, RunError};
 use cbor_edn_findings::finding::{Finding, of_run};
-use cbor_edn_findings::shown::{lines, shown};
+use cbor_edn_findings::shown::lines;
+use cbor_edn_terminal::shown;
 use std::io::{self, ErrorKind};
 
 /// What standard input is called where it is spoken of.

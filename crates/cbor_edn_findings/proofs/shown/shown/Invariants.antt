@@ -1,7 +1,0 @@
-use Rattle.std.proofs.Common.{◌≡◌}
-use Rattle.std.specs.Prelude.{string_bytes}
-use Rattle.cbor_edn_findings.specs.Shown.{shown_text}
-use Rattle.cbor_edn_findings.proofs.shown.shown.Given as goal
-
-abbrev pub invariant-loop-character : goal.invariant-loop-character
-invariant-loop-character l = string_bytes l.out ≡ shown_text l.yielded
