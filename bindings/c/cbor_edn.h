@@ -72,7 +72,8 @@ extern "C" {
 /* The place in a text is that of the first item that has no encoding while all in it has one, or of what is no EDN or nests too
  * deep. A string that embeds more than 64 items is looked at as a whole. The offset in CBOR, or in the bytes that digits stand for,
  * is that of the first head (RFC 8949, section 3) that is not whole, may not stand there or nests too deep, or the end of the bytes
- * where an item is missing. At CBOR_EDN_NO_ENCODING a call takes up to as many times longer as items nest. */
+ * where an item is missing. At CBOR_EDN_NO_ENCODING a call takes up to some 10 times as long as one that encodes, and as many times
+ * longer as items nest where a string has no encoding for the bytes that it embeds. */
 typedef struct {
   size_t output_len;  /* in bytes, at CBOR_EDN_DONE and CBOR_EDN_NO_ROOM, else 0 */
   size_t message_len; /* of a fault's whole message, in bytes, else 0. It is 0 too where memory ran out for it */

@@ -421,6 +421,30 @@ def check_shown():
         count(f"show of {name}, {depth} deep", seconds if ended.status == 0 else f"status {ended.status}, said {ended.said[:200]!r}")
 
 
+# An item without an encoding behind much else that has one, deep in other items: what stands in front is encoded once, whatever the depth.
+DEEP_FAULTS = [
+    ("arrays", "[", "]"),
+    ("values of maps", "{1:", "}"),
+    ("tags", "1([", "])"),
+    ("embedded sequences", "<<", ">>"),
+]
+DEPTH_OF_FAULT, EMPTY_IN_FRONT, MOST_TIMES_FAULT = 255, 300_000 // LESS, 10 * MORE
+
+
+def check_places():
+    for name, opening, closing in DEEP_FAULTS:
+        text = f"{opening * DEPTH_OF_FAULT}[{'[],' * EMPTY_IN_FRONT}%s]{closing * DEPTH_OF_FAULT}"
+        encoded = min(run(["diag2cbor"], (text % "1").encode()).seconds for _ in range(3))
+        ended = quickest(["check"], (text % "1.5").encode(), encoded * MOST_TIMES_FAULT)
+        column = len(opening) * DEPTH_OF_FAULT + 3 * EMPTY_IN_FRONT + 2
+        problem = None
+        if ended.status != 1 or not ended.said.startswith(f"<stdin>:1:{column}: Number has no encoding\n"):
+            problem = f"status {ended.status}, said {ended.said[:200]!r}"
+        elif ended.seconds > encoded * MOST_TIMES_FAULT:
+            problem = f"it takes {ended.seconds:.2f} seconds, {ended.seconds / encoded:.1f} times diag2cbor of one with an encoding"
+        count(f"check of {name}, {DEPTH_OF_FAULT} deep", problem)
+
+
 # Lists in brackets, again and again, each too long for its line: bytes of those that stand round it are read again for each, as far as
 # these may fit. Twenty brackets indent by a whole line. By the heads of RFC 8949, section 3: what opens, what closes, and the list inside.
 READ_AGAIN = [
@@ -488,6 +512,7 @@ check_starved()
 check_endless()
 check_slowest()
 check_shown()
+check_places()
 check_read_again()
 check_indentation()
 print(f"{passed} passed, {failed} failed")

@@ -108,7 +108,7 @@ at_more [] k x = kept (slice_get (items_in x) k)
 at_more (i ∷ path) k x = more_by (at (path ++ (k ∷ []))) (at path) (λ y. slice_get (items_in y) k) (λ c. at_more path k c) (slice_get (items_in x) i)
 
 -- where one number more leads
-behind : (path : List ℕ) (k : ℕ) (w : Tree Seq) → at_sequence (path ++ (k ∷ [])) w ≡ slice_get (items_behind path w) k
+pub behind : (path : List ℕ) (k : ℕ) (w : Tree Seq) → at_sequence (path ++ (k ∷ [])) w ≡ slice_get (items_behind path w) k
 behind [] k w = kept (slice_get (items_in w) k)
 behind (i ∷ path) k w = more_by (at (path ++ (k ∷ []))) (at path) (λ y. slice_get (items_in y) k) (λ c. at_more path k c) (slice_get (items_in w) i) ∙ got_by k (option_and_then (at path) (slice_get (items_in w) i))
 
@@ -133,7 +133,7 @@ none_by : (o : Option (Tree OneItem)) → is_open_there o ≡ false → places_t
 none_by None e = refl
 none_by (Some x) e = ap (λ b. if b then items_in x else []) e
 
-all_places : (path : List ℕ) (w : Tree Seq) → is_open_at path w ≡ true → items_behind path w ≡ places_behind path w
+pub all_places : (path : List ℕ) (w : Tree Seq) → is_open_at path w ≡ true → items_behind path w ≡ places_behind path w
 all_places [] w e = refl
 all_places (i ∷ path) w e = places_by (at_sequence (i ∷ path) w) e
 

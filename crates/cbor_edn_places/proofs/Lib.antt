@@ -1,6 +1,8 @@
 mod Around
 pub mod Cuts
 mod FirstPlaces
+mod KnownPaths
+mod Lacking
 pub mod MeantItems
 mod Offsets
 pub mod PathsOnItems

@@ -5,7 +5,7 @@ use Rattle.cbor_edn_model.specs.tree.Trees.{Tree, OneItem, Seq, LastTree, Elemen
 use Rattle.cbor_edn_model.specs.cbor.Value.{Value}
 use Rattle.cbor_edn_model.specs.cbor.Meaning.{means}
 use Rattle.cbor_edn_model.specs.access.Paths.{items_in, at_sequence}
-use Rattle.cbor_edn_places.specs.Places.{is_open, places_in, AllMean, IsFirstAt}
+use Rattle.cbor_edn_places.specs.Places.{is_open, places_in, AllMean, IsFirstAt, IsFirstPath}
 use Rattle.cbor_edn_places.specs.declared.path.Found.{Found}
 use Rattle.cbor_edn_places.specs.declared.path.Found.TheVariants.{Nowhere, Valued, Valueless}
 
@@ -68,3 +68,31 @@ alone x = SequenceTree [] (LastTree (ElementTree x) [])
 -- where the path leads to an item, it is all that is left
 abbrev pub IsLeft : List ℕ → Tree Seq → Tree Seq → Type 0
 IsLeft path w v = (x : Tree OneItem) → at_sequence path w ≡ Some x → v ≡ alone x
+
+-- ---- of a path that is known
+
+-- The items behind a path are places, and none in front of the k-th means nothing.
+abbrev pub AreFrontValued : List ℕ → ℕ → Tree Seq → Type 0
+AreFrontValued path k w = (is_open_at path w ≡ true) × NoneBefore w path k
+
+-- the item where a path leads, which is all that is left
+abbrev pub IsPart : List ℕ → Tree Seq → Tree Seq → Type 0
+IsPart path w v = (x : Tree OneItem) × (at_sequence path w ≡ Some x) × (v ≡ alone x)
+
+abbrev pub IsEntered : List ℕ → ℕ → Tree Seq → Tree Seq → Type 0
+IsEntered path k w v = AreFrontValued path k w × IsPart (path ++ (k ∷ [])) w v
+
+-- An item means nothing, while each place in it means a value.
+abbrev pub IsOwn : List ℕ → Tree Seq → Type 0
+IsOwn path w = IsValueless w path × AllMean (places_behind path w)
+
+-- An item means nothing, and the path in it leads to the first that does.
+abbrev pub IsReasonAt : List ℕ → Tree OneItem → Type 0
+IsReasonAt path x = (means (items x) ≡ None) × IsFirstPath (places_in x) path
+
+-- the same of the one item of a sequence
+abbrev pub IsReasonIn : List ℕ → Tree Seq → Type 0
+IsReasonIn path w = (x : Tree OneItem) → w ≡ alone x → IsReasonAt path x
+
+abbrev pub IsReasonOf : List ℕ → Tree Seq → Type 0
+IsReasonOf path w = (path ≢ []) × IsFirstPath (items_in w) path

@@ -3,7 +3,7 @@ use Rattle.cbor_edn_core.specs.tree.View.{sequence_tree}
 use Rattle.cbor_edn_model.specs.access.Paths.{items_in}
 use Rattle.cbor_edn_places.specs.internal.Levels.{places_behind}
 use Rattle.cbor_edn_places.proofs.FirstPlaces.{Leads, next_level, finished, not_empty}
-use Rattle.cbor_edn_places.proofs.path.first_valueless.Goals as goal
+use Rattle.cbor_edn_places.proofs.path.search.Goals as goal
 
 pub returns-in_default : goal.returns-in_default
 returns-in_default c =
