@@ -1,3 +1,12 @@
 mod Examples
+mod Faults
+mod Insides
 mod Leads
 mod Lookups
+mod Numbers
+mod PlaceTexts
+mod PrintedPaths
+mod Readings
+mod Runs
+mod Slices
+mod Turns

@@ -3,8 +3,13 @@ use Rattle.std.specs.Prelude.{ℕ, ◌≡◌, List, [], ◌∷◌, Option, Some,
 use Rattle.cbor_edn_model.specs.access.Accessed.{entries_inside, key_and_value}
 use Rattle.cbor_edn_model.specs.tree.Items.{Item, Items, Map, Node}
 use Rattle.cbor_edn_model.specs.tree.Trees.{Tree, OneItem, Inside, items}
-use Rattle.cbor_edn_paths.specs.Steps.{Step}
+use Rattle.cbor_edn_paths.specs.Steps.{Step, Path}
+use Rattle.cbor_edn_paths.specs.Spelling.{IsPath, Spells, path_text}
 use Rattle.cbor_edn_paths.specs.Found.{below, pairs_in, found_in, Found, At, Missed}
+
+-- A text is that of one path at most. So what is printed of a path is read as that path, and as no other.
+abbrev pub PathsReadBack : Type 0
+PathsReadBack = (p q : Path) → IsPath p → Spells (path_text p) q → q ≡ p
 
 -- the item where numbers lead, each of which counts the items right below
 abbrev pub at_items : List ℕ → Node Item → Option (Node Item)

@@ -22,3 +22,8 @@ pub data Step (K : Type 0) : Type 0 where
   Content : Option ℕ → Step K
   -- an item embedded in a string, from 0: <0>
   Embedded : ℕ → Step K
+
+-- A path as it is written: the item of a sequence where it begins, from 0, or none where there is one item alone; and its steps.
+pub record Path : Type 0 where
+  pub start : Option ℕ
+  pub steps : List (Step Key)

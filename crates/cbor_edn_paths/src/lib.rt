@@ -1,5 +1,8 @@
-//! Where paths lead by which people name one item, as `.server{4}[0]`. It knows no Rattle tree.
+//! Paths by which people name one item of a text, as `.server{4}[0]`: their grammar, a reader, a printer, and where they lead.
 #![tactic(auto)]
 
 pub mod laws;
+mod place;
+pub mod print;
+pub mod read;
 pub mod step;
