@@ -156,7 +156,8 @@ const FAULTS: &[(&str, usize)] = &[
 ];
 
 #[test]
-fn paths_are_read(alloc: Global) -> Result<(), Fail> {
+fn paths_are_read(rt: HostRuntime) -> Result<(), Fail> {
+    let alloc = rt.alloc();
     let mut failures = Failures::new(alloc);
     for (text, wanted) in PATHS {
         failures.told(alloc, text, told(alloc, text), wanted)?;
@@ -165,7 +166,8 @@ fn paths_are_read(alloc: Global) -> Result<(), Fail> {
 }
 
 #[test]
-fn paths_are_printed(alloc: Global) -> Result<(), Fail> {
+fn paths_are_printed(rt: HostRuntime) -> Result<(), Fail> {
+    let alloc = rt.alloc();
     let mut failures = Failures::new(alloc);
     for (text, _) in PATHS {
         failures.told(alloc, text, printed_again(alloc, text), text)?;
@@ -174,7 +176,8 @@ fn paths_are_printed(alloc: Global) -> Result<(), Fail> {
 }
 
 #[test]
-fn faults_have_columns(alloc: Global) -> Result<(), Fail> {
+fn faults_have_columns(rt: HostRuntime) -> Result<(), Fail> {
+    let alloc = rt.alloc();
     let mut failures = Failures::new(alloc);
     for (text, column) in FAULTS {
         let wanted = format!(in alloc; "column {column}")?;
@@ -184,7 +187,8 @@ fn faults_have_columns(alloc: Global) -> Result<(), Fail> {
 }
 
 #[test]
-fn a_path_is_made_by_its_parts(alloc: Global) -> Result<(), Fail> {
+fn a_path_is_made_by_its_parts(rt: HostRuntime) -> Result<(), Fail> {
+    let alloc = rt.alloc();
     let mut steps = Vec::new(alloc);
     steps.push(Step::Value(Key::Name("a"), Some(1)))?;
     steps.push(Step::Value(Key::Quoted("b c"), None))?;
