@@ -89,7 +89,10 @@ const PATHS: &[(&str, &str)] = &[
     ("[18446744073709551615]", "element 18446744073709551615; "),
     ("[+]", "past the last; "),
     ("()[0]", "content; element 0; "),
-    ("(18)[0]<0>{1}", "content of 18; element 0; embedded 0; braced 1; "),
+    (
+        "(18)[0]<0>{1}",
+        "content of 18; element 0; embedded 0; braced 1; ",
+    ),
     ("<2>", "embedded 2; "),
     ("@0", "from 0; "),
     ("@2.a", "from 2; name a; "),
